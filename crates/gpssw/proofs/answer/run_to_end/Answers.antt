@@ -1,0 +1,12 @@
+use Rattle.std.proofs.Common.{◌∙◌, arith}
+use Rattle.gpssw.proofs.Stepping.{went_on}
+use Rattle.gpssw.proofs.answer.run_to_end.Goals as goal
+
+pub loop-preserved : goal.loop-preserved
+loop-preserved c =
+    let next = went_on c.in_ok-status.status c.loop.sim.job c.loop.sim.state c.step.new.self.state c.in-Running.is c.in_ok-status.ensures.made in
+    record {
+      job = c.in_ok-status.ensures.job ∙ c.loop.invariant.job;
+      steps = omega (arith, next.0, c.loop.invariant.steps);
+      running = λ _. next.1;
+    }

@@ -1,0 +1,12 @@
+-- Reading a part of the input.
+use Rattle.std.specs.Prelude.{◌≡◌, ◌≤◌, ◌+◌, ℕ, List, ◌++◌, length, Option}
+use Rattle.std.specs.Io.KnownBytes.{Consumes, IsAtEnd}
+
+-- n bytes, at most so many, went from the reader to the input; none where it is at its end
+pub record TakesSome (n most : ℕ) (old new : List ℕ) (before after : Option (List ℕ)) : Type 0 where
+  pub bytes : List ℕ
+  pub count : length bytes ≡ n
+  pub bound : n ≤ most
+  pub grown : new ≡ old ++ bytes
+  pub taken : Consumes before after bytes
+  pub end : n ≡ 0 → IsAtEnd after

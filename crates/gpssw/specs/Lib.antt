@@ -1,0 +1,9 @@
+pub mod Words
+pub mod Status
+pub mod Refusal
+pub mod Answer
+pub mod Conclusion
+pub mod Finding
+pub mod Output
+pub mod Input
+pub mod Laws

@@ -1,0 +1,150 @@
+//! From the bytes of an object to a text and a status.
+
+ghost use Rattle.std.specs.Prelude.{◌≡◌, IfOk};
+ghost use Rattle.gw_scan.specs.Job.{Alone};
+ghost use Rattle.gpssw.specs.Status.{refused as refused_status};
+ghost use Rattle.gpssw.specs.Refusal.{refusal_line};
+ghost use Rattle.gw_object.specs.Reading.{first_fault};
+ghost use Rattle.gpssw.specs.Answer.{verified, made, job_of, Concludes, IsAnswer};
+ghost use Rattle.gpssw.specs.Finding.{Finds};
+ghost use Rattle.gpssw.specs.Conclusion.{IsOver};
+
+use crate::refusal::Refusal;
+use crate::status::{ENDED, REFUSED};
+use gw_object::{Memory, Object, codes, read};
+use gw_report::{report, stopped_report};
+use gw_scan::{Sim, Spec, Status};
+use gw_verify::{Verified, verify};
+use std::alloc::Global;
+
+/// At most how many steps a run makes.
+pub const BUDGET: u64 = 1_000_000_000;
+
+/// A text to write, and the status to end with.
+#[derive(Debug, Drop)]
+pub struct Answer {
+    pub text: Vec<u8>,
+    pub status: u8,
+}
+
+/// Makes steps until a named end stands or the job is stuck.
+fn run_to_end(sim: &mut Sim) -> Result<Status, Memory>
+    requires { sim.old.job.budget ≡ BUDGET }
+    ensures job { sim.new.job ≡ sim.old.job }
+    ensures alone { Alone sim.new.job sim.new.state.steps sim.new.state }
+    ensures over { IfOk result (λ status. IsOver status sim.new) }
+{
+    for _ in 0..BUDGET {
+        match sim.step()? {
+            Status::Running => {}
+            status => return Ok(status),
+        }
+    }
+    Ok(sim.status())
+}
+
+/// The report of a job whose run is over, and the status.
+fn concluded(alloc: Global, sim: &Sim, status: Status) -> Result<Answer, Memory>
+    requires alone { Alone sim.now.job sim.now.state.steps sim.now.state }
+    requires over { IsOver status sim.now }
+    ensures { IfOk result (λ a. Concludes sim.now.job a.text.items a.status) }
+{
+    match status {
+        Status::Stopped(stop) => Ok(Answer {
+            text: stopped_report(alloc, sim, stop)?,
+            status: REFUSED,
+        }),
+        _ => Ok(Answer {
+            text: report(alloc, sim)?,
+            status: ENDED,
+        }),
+    }
+}
+
+/// Runs a job to its end.
+fn answer_of_job(alloc: Global, spec: Spec) -> Result<Answer, Memory>
+    requires { spec.budget ≡ BUDGET }
+    ensures { IfOk result (λ a. Concludes spec a.text.items a.status) }
+{
+    match Sim::start(alloc, spec) {
+        Ok(mut sim) => {
+            let status = run_to_end(&mut sim)?;
+            concluded(alloc, &sim, status)
+        }
+        Err(_) => Err(Memory),
+    }
+}
+
+/// The line of a refusal.
+fn refused(alloc: Global, refusal: Refusal) -> Result<Answer, Memory>
+    ensures { IfOk result (λ a. (a.text.items ≡ refusal_line refusal.0) × (a.status ≡ refused_status)) }
+{
+    let line = format!(in alloc; "{refusal}\n")?;
+    Ok(Answer {
+        text: Vec::from_slice(alloc, line.as_bytes())?,
+        status: REFUSED,
+    })
+}
+
+/// Why an object has no job.
+enum NoJob {
+    /// Something was refused.
+    Refused(Refusal),
+    /// Memory ran out.
+    OutOfMemory,
+}
+
+/// Reads the object that the bytes spell.
+fn object_in(alloc: Global, input: &[u8]) -> Result<Object, NoJob>
+    ensures { Finds result (first_fault input.now) }
+{
+    match read(alloc, input) {
+        Ok(object) => Ok(object),
+        Err(fault) if fault.code == codes::MEMORY => Err(NoJob::OutOfMemory),
+        Err(fault) => Err(NoJob::Refused(Refusal(fault))),
+    }
+}
+
+fn verified_object(object: Object) -> Result<Verified, NoJob>
+    ensures { Finds result (verified object) }
+{
+    match verify(object) {
+        Ok(verified) => Ok(verified),
+        Err((_, fault)) => Err(NoJob::Refused(Refusal(fault))),
+    }
+}
+
+/// A job with this one seed and this count; 0 means the object's own.
+fn spec_with(verified: Verified, seed: u32, count: u64) -> Result<Spec, NoJob>
+    ensures found { Finds result (made seed count verified) }
+    ensures budget { IfOk result (λ spec. spec.budget ≡ BUDGET) }
+{
+    let given = [seed];
+    let seeds: &[u32] = if seed == 0 { &[] } else { &given };
+    match Spec::new(verified, seeds, count, BUDGET) {
+        Ok(spec) => Ok(spec),
+        Err((_, fault)) => Err(NoJob::Refused(Refusal::from(fault))),
+    }
+}
+
+/// The job of the object that the bytes spell.
+#[tactic(auto, unfolding(crate::specs::Answer::job_of))]
+fn spec_of(alloc: Global, seed: u32, count: u64, input: &[u8]) -> Result<Spec, NoJob>
+    ensures found { Finds result (job_of seed count input.now) }
+    ensures budget { IfOk result (λ spec. spec.budget ≡ BUDGET) }
+{
+    let object = object_in(alloc, input)?;
+    let verified = verified_object(object)?;
+    spec_with(verified, seed, count)
+}
+
+/// The text that is to be written for these bytes, this seed and this count, and the status.
+pub fn answer_to(alloc: Global, seed: u32, count: u64, input: &[u8]) -> Result<Answer, Memory>
+    ensures { IfOk result (λ a. IsAnswer seed count input.now a.text.items a.status) }
+{
+    match spec_of(alloc, seed, count, input) {
+        Ok(spec) => answer_of_job(alloc, spec),
+        Err(NoJob::Refused(refusal)) => refused(alloc, refusal),
+        Err(NoJob::OutOfMemory) => Err(Memory),
+    }
+}

@@ -1,0 +1,49 @@
+//! Reading the input.
+
+ghost use Rattle.std.specs.Prelude.{◌≡◌, ◌≤◌, ◌<◌, ◌+◌, ◌-◌, ◌++◌, ℕ, take, drop, length, IfOk, IfErr, IfSome, ◌⊎◌};
+ghost use Rattle.std.specs.Io.KnownBytes.{Consumes, IsAtEnd};
+ghost use Rattle.gpssw.specs.Input.{TakesSome};
+
+use crate::fault::ProgramFault;
+use gw_object::MOST_BYTES;
+use std::alloc::Global;
+use std::io::Read;
+
+/// One read of at most so many bytes, which are appended to the input. It answers how many came; 0 is the end.
+fn read_some<R: Read>(
+    reader: &mut R,
+    most: usize,
+    input: &mut Vec<u8>,
+) -> Result<usize, ProgramFault>
+    requires { 0 < most }
+    ensures taken { IfOk result (λ n. TakesSome n most input.old.items input.new.items (R.remaining reader.old) (R.remaining reader.new)) }
+    ensures faults { IfErr result (λ fault. (fault ≡ ProgramFault.Read) ⊎ (fault ≡ ProgramFault.Memory)) }
+{
+    let mut chunk = [0; 4096];
+    let room = most.min(chunk.len());
+    match reader.read(&mut chunk[..room]) {
+        Ok(count) => match input.extend_from_slice(&chunk[..count]) {
+            Ok(()) => Ok(count),
+            Err(_) => Err(ProgramFault::Memory),
+        },
+        Err(_) => Err(ProgramFault::Read),
+    }
+}
+
+/// Reads to the end, but at most one byte more than an object may have: the limit and one, in bytes. A read that fails
+/// ends it, an interrupted one too.
+pub fn read_input<R: Read>(alloc: Global, reader: &mut R) -> Result<Vec<u8>, ProgramFault>
+    ensures front { IfOk result (λ input. IfSome (R.remaining reader.old) (λ bytes. input.items ≡ take (MOST_BYTES + 1) bytes)) }
+    ensures within { IfOk result (λ input. length input.items ≤ MOST_BYTES + 1) }
+    ensures taken { IfOk result (λ input. Consumes (R.remaining reader.old) (R.remaining reader.new) input.items) }
+    ensures faults { IfErr result (λ fault. (fault ≡ ProgramFault.Read) ⊎ (fault ≡ ProgramFault.Memory)) }
+{
+    let mut input = Vec::new(alloc);
+    while input.len() <= MOST_BYTES {
+        let most = MOST_BYTES + 1 - input.len();
+        if read_some(reader, most, &mut input)? == 0 {
+            return Ok(input);
+        }
+    }
+    Ok(input)
+}

@@ -1,0 +1,42 @@
+//! The program `gpssw`: simulates queueing models in GPSS World (docs/program.md).
+#![tactic(auto)]
+
+pub mod answer;
+pub mod fault;
+pub mod input;
+pub mod laws;
+pub mod output;
+pub mod program;
+pub mod refusal;
+pub mod status;
+#[cfg(test)]
+mod tests;
+pub mod words;
+
+use fault::ProgramFault;
+use program::{deliver, dispatch};
+use std::alloc::AllocError;
+use std::process::ExitCode;
+use std::{env, io};
+
+/// The program over standard input and output. Words that aren't text are wrong words.
+fn main(rt: HostRuntime) -> ExitCode {
+    let mut reader = rt.reader();
+    let mut writer = io::writer(&rt);
+    let status = match env::args(&rt) {
+        Ok(mut args) => {
+            let _ = args.next();
+            let words: Result<Vec<String>, AllocError> = args.collect(rt.alloc());
+            match words {
+                Ok(words) => dispatch(rt.alloc(), &words, &mut reader, &mut writer),
+                Err(_) => deliver(&mut writer, Err(ProgramFault::Memory)),
+            }
+        }
+        Err(error) if error.kind() == io::ErrorKind::OutOfMemory => deliver(
+            &mut writer,
+            Err(ProgramFault::Memory),
+        ),
+        Err(_) => dispatch(rt.alloc(), &Vec::new(rt.alloc()), &mut reader, &mut writer),
+    };
+    ExitCode::from(status)
+}

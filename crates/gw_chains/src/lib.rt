@@ -1,0 +1,23 @@
+//! The chains of a simulation: lists of transactions, each kept in its order.
+//!
+//! Contracts see a chain as the list of its members and the room that is reserved for more.
+//! Only `reserve` takes memory; an insertion asks for room and can't fail.
+#![tactic(auto)]
+
+mod cec;
+mod entry;
+mod fec;
+mod queue;
+#[cfg(test)]
+mod tests;
+mod tx;
+mod user_chains;
+mod waits;
+
+pub use cec::Cec;
+pub use fec::Fec;
+/// The answer where there was no memory.
+pub use std::alloc::AllocError as Memory;
+pub use tx::{Event, Member, Tx};
+pub use user_chains::UserChains;
+pub use waits::Waits;

@@ -1,0 +1,12 @@
+//! Whole numbers and random numbers: arithmetic that gives the mathematical value or a named fault, and streams of
+//! random numbers from one fixed generator. No call takes memory. The rules are ours: docs/numbers.md.
+#![tactic(auto)]
+
+mod arithmetic;
+pub mod laws;
+mod stream;
+#[cfg(test)]
+mod tests;
+
+pub use arithmetic::{NumFault, add, div, mul, neg, pow, rem, sub};
+pub use stream::Stream;

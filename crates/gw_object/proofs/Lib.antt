@@ -1,0 +1,4 @@
+pub mod Exact
+pub mod ObjectLaws
+pub mod Loop
+pub mod Sizes

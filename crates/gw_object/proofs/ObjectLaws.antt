@@ -1,0 +1,339 @@
+-- The object grammar is exact: each of its fields, the object, and reading as a whole.
+use Rattle.std.proofs.Common.{rules, ◌≡◌, ◌≢◌, ℕ, zero, suc, ◌-◌, ◌+◌, ◌^◌, ◌<◌, ◌≤◌, ℤ, pos, negsuc, Bool, true, false, cond, eqb, ltb, leb, ◌&&◌, IsTrue, List, [], ◌∷◌, ◌++◌, length, get_or, Option, Some, None, Result, Ok, Err, refl, sym, ap, subst, ◌∙◌, append_assoc, arith, inl, inr, ◌⊎◌, slice_get}
+use Rattle.std.specs.Prelude.{IfOk}
+use Rattle.std.specs.List.{All, flat_map}
+use Rattle.std.specs.Int.{w16, w32, w64}
+use Rattle.std.proofs.lemmas.Bool.{cases_lt, eqb-true, ne_eqb, ltb-true, lt-ltb, le-ltb}
+use Rattle.std.proofs.lemmas.List.{append-nil, nil_from_length}
+use Rattle.gw_object.specs.declared.fault.Fault.{Fault}
+use Rattle.gw_object.specs.Codes as codes
+use Rattle.gw_object.specs.Limits.{most_bytes, most_seeds, greatest_seed, greatest_count, most_blocks, greatest_weight}
+use Rattle.gw_object.specs.declared.parts.Operand.{Operand}
+use Rattle.gw_object.specs.declared.parts.Operand.TheVariants.{Constant}
+use Rattle.gw_object.specs.declared.parts.Block.{Block}
+use Rattle.gw_object.specs.declared.parts.Block.TheVariants.{Generate, Terminate, Advance}
+use Rattle.gw_object.specs.declared.parts.TableState.{TableState}
+use Rattle.gw_object.specs.declared.parts.Parts.{Parts}
+use Rattle.gw_object.specs.declared.reading.error.Bad.{Bad}
+use Rattle.gw_object.specs.Fields.{◌>>=◌, Read, Field, bad, byte, number, signed, read_as, made, tested, and_then, both, fitting, constant, ranged, optional, count, Element, plain, last_tested, ElementsFit, elements, listed}
+use Rattle.gw_object.specs.Grammar.{OperandFits, constant_of, operand, is_zero, IsZero, zero_operand, SpreadFits, spread, GenerateFits, generate, BlockFits, block_spelling, block_read, block, no_elements, state, weight, tables, head, seed, start_count, object, spelling, IsWithinLimits, IsCanonical, HasSpelling, Spells}
+use Rattle.gw_object.specs.Reading.{whole_read, with_place, first_fault, out_of_memory}
+use Rattle.gw_object.proofs.Exact.{IsBytes, IsBytes-from_All, Takes, Takes-shorter, IsExact, IsExactElement, tag_takes, tag_within, IsBytes-rest, bind_ok, bind_err, chosen, ok_is, err_is, not_both, byte_exact, wide16, wide32, wide64, number_exact, signed_exact, made_exact, tested_exact, and_then_exact, both_exact, fitting_exact, constant_exact, ranged_exact, optional_exact, count_exact, plain_exact, last_tested_exact, elements_exact, listed_exact}
+
+-- ---- operands
+
+constant_is : (x : Operand) → Constant (constant_of x) ≡ x
+constant_is (Constant n) = refl
+
+tag_exact : IsExact (constant 0 codes.tag byte)
+tag_exact = constant_exact 0 codes.tag byte (omega arith) byte_exact
+
+operand_fits : (x : Operand) → Unit {0} × OperandFits (Constant (constant_of x)) → OperandFits x
+operand_fits (Constant n) h = h.1
+
+fits_operand : (x : Operand) → OperandFits x → Unit {0} × OperandFits (Constant (constant_of x))
+fits_operand (Constant n) h = (tt, h)
+
+pub operand_exact : IsExact operand
+unfolding operand
+operand_exact = fitting_exact OperandFits _ operand_fits fits_operand
+    (made_exact (λ x. Constant x.1) (λ x. (tt, constant_of x)) _ (λ x h. refl) (λ x h. constant_is x) (both_exact _ _ tag_exact (signed_exact w64 wide64)))
+
+is_zero-true : (n : ℤ) → is_zero n ≡ true → n ≡ pos 0
+is_zero-true (pos zero) e = refl
+is_zero-true (pos (suc n)) e = absurd cc
+is_zero-true (negsuc n) e = absurd cc
+
+zero_fits : (x : Operand) → Unit {0} × (OperandFits (Constant (constant_of x)) × IsTrue (is_zero (constant_of x))) → IsZero x
+zero_fits (Constant n) h = ap (λ m. Constant m) (is_zero-true n h.1.1)
+
+fits_zero : (x : Operand) → IsZero x → Unit {0} × (OperandFits (Constant (constant_of x)) × IsTrue (is_zero (constant_of x)))
+fits_zero x h = rw h (tt, (search rules, refl))
+
+pub zero_operand_exact : IsExact zero_operand
+unfolding zero_operand
+zero_operand_exact = fitting_exact IsZero _ zero_fits fits_zero
+    (made_exact (λ x. Constant x.1) (λ x. (tt, constant_of x)) _ (λ x h. refl) (λ x h. constant_is x) (both_exact _ _ tag_exact (tested_exact is_zero codes.limit (signed w64) (signed_exact w64 wide64))))
+
+pub spread_exact : IsExact spread
+unfolding spread operand zero_operand
+spread_exact = fitting_exact SpreadFits _ (λ s h. record { mean = h.0; half = h.1 }) (λ s h. (h.mean, h.half))
+    (made_exact _ _ _ (λ x h. refl) (λ s h. refl) (both_exact _ _ operand_exact zero_operand_exact))
+
+-- ---- blocks
+
+pub generate_exact : IsExact generate
+unfolding generate spread
+generate_exact = fitting_exact GenerateFits _
+    (λ g h. record { interval = h.0; first = h.1.0; limit = h.1.1.0; priority = h.1.1.1 })
+    (λ g h. (h.interval, (h.first, (h.limit, h.priority))))
+    (made_exact _ _ _ (λ x h. refl) (λ g h. refl)
+    (both_exact _ _ spread_exact (both_exact _ _ (optional_exact _ (signed_exact w64 wide64)) (both_exact _ _ (optional_exact _ (number_exact w32 wide32)) (signed_exact w32 wide32)))))
+
+abbrev generate_read : List ℕ → Read Block
+generate_read = read_as (λ g. Generate g) generate
+
+abbrev terminate_read : List ℕ → Read Block
+terminate_read = read_as (λ n. Terminate n) operand
+
+abbrev advance_read : List ℕ → Read Block
+advance_read = read_as (λ s. Advance s) spread
+
+abbrev no_block : ℕ → List ℕ → Read Block
+no_block tag rest = Err (bad codes.tag (tag ∷ rest))
+
+block_takes : (bytes : List ℕ) (x : Block × List ℕ) → IsBytes bytes → block_read bytes ≡ Ok x → Takes bytes (block_spelling x.0) x.1 × BlockFits x.0
+unfolding block_read generate operand spread
+block_takes [] x fits e = absurd (not_both x (bad codes.truncated []) (sym e))
+block_takes (tag ∷ rest) x fits e =
+    let rest_fits = IsBytes-rest tag rest fits in
+    let Taken : ℕ → Block → Type 0 = λ n b. Takes (n ∷ rest) (block_spelling b) x.1 × BlockFits b in
+    elim (chosen (eqb tag 1) (generate_read rest) (cond (eqb tag 2) (terminate_read rest) (cond (eqb tag 3) (advance_read rest) (no_block tag rest))) (Ok x) e) [
+      | inl is ↦ let t = tag_takes 1 generate (λ g. Generate g) generate_exact rest x rest_fits is.1 in rw (eqb-true tag 1 is.0) (subst (Taken 1) t.is (t.taken, t.fit))
+      | inr not_1 ↦
+          elim (chosen (eqb tag 2) (terminate_read rest) (cond (eqb tag 3) (advance_read rest) (no_block tag rest)) (Ok x) not_1.1) [
+            | inl is ↦ let t = tag_takes 2 operand (λ n. Terminate n) operand_exact rest x rest_fits is.1 in rw (eqb-true tag 2 is.0) (subst (Taken 2) t.is (t.taken, t.fit))
+            | inr not_2 ↦
+                elim (chosen (eqb tag 3) (advance_read rest) (no_block tag rest) (Ok x) not_2.1) [
+                  | inl is ↦ let t = tag_takes 3 spread (λ s. Advance s) spread_exact rest x rest_fits is.1 in rw (eqb-true tag 3 is.0) (subst (Taken 3) t.is (t.taken, t.fit))
+                  | inr none ↦ not_both x (bad codes.tag (tag ∷ rest)) (sym none.1)
+                ]
+          ]
+    ]
+
+block_again : (b : Block) (rest : List ℕ) → BlockFits b → block_read (block_spelling b ++ rest) ≡ Ok (b, rest)
+unfolding block_read generate operand spread
+block_again (Generate g) rest fits = rw (generate_exact.again g rest fits) refl
+block_again (Terminate n) rest fits = rw (operand_exact.again n rest fits) refl
+block_again (Advance s) rest fits = rw (spread_exact.again s rest fits) refl
+
+block_within : (bytes : List ℕ) (e : Bad) → IsBytes bytes → block_read bytes ≡ Err e → e.left ≤ length bytes
+unfolding block_read
+block_within [] e fits h = rw (← err_is (bad codes.truncated []) e h) (omega arith)
+block_within (tag ∷ rest) e fits h =
+    let rest_fits = IsBytes-rest tag rest fits in
+    elim (chosen (eqb tag 1) (generate_read rest) (cond (eqb tag 2) (terminate_read rest) (cond (eqb tag 3) (advance_read rest) (no_block tag rest))) (Err e) h) [
+      | inl is ↦ tag_within tag generate (λ g. Generate g) generate_exact rest e rest_fits is.1
+      | inr not_1 ↦
+          elim (chosen (eqb tag 2) (terminate_read rest) (cond (eqb tag 3) (advance_read rest) (no_block tag rest)) (Err e) not_1.1) [
+            | inl is ↦ tag_within tag operand (λ n. Terminate n) operand_exact rest e rest_fits is.1
+            | inr not_2 ↦
+                elim (chosen (eqb tag 3) (advance_read rest) (no_block tag rest) (Err e) not_2.1) [
+                  | inl is ↦ tag_within tag spread (λ s. Advance s) spread_exact rest e rest_fits is.1
+                  | inr none ↦ rw (← err_is (bad codes.tag (tag ∷ rest)) e none.1) (omega arith)
+                ]
+          ]
+    ]
+
+pub block_exact : IsExact block
+block_exact = record { takes = block_takes; again = block_again; within = block_within }
+
+-- ---- what stands for each block
+
+no_elements_exact : IsExact no_elements
+no_elements_exact = made_exact (λ _. tt) (λ _. 0) (count 0) (λ n h. omega arith) (λ y h. refl) (count_exact 0 (omega arith))
+
+pub state_exact : IsExact state
+unfolding state
+state_exact = fitting_exact (λ _. Unit {0}) _ (λ s h. tt) (λ s h. (omega arith, (omega arith, omega arith)))
+    (made_exact _ _ _ (λ x h. refl) (λ s h. refl) (both_exact _ _ no_elements_exact (both_exact _ _ no_elements_exact no_elements_exact)))
+
+weight_exact : IsExact weight
+weight_exact = ranged_exact 1 greatest_weight (number w32) (λ n h. omega arith) (number_exact w32 wide32)
+
+pub tables_exact : (n : ℕ) → IsExact (tables n)
+unfolding tables
+tables_exact n = both_exact _ _ no_elements_exact (both_exact _ _ (elements_exact _ n (plain_exact _ (optional_exact _ state_exact))) (elements_exact _ n (plain_exact _ weight_exact)))
+
+-- ---- the object
+
+pub head_exact : IsExact head
+unfolding head
+head_exact = both_exact _ _ (constant_exact 0x4750_534f codes.magic (number w32) (omega arith) (number_exact w32 wide32)) (constant_exact 1 codes.version (number w16) (omega arith) (number_exact w16 wide16))
+
+seed_exact : IsExactElement seed
+seed_exact = last_tested_exact (ltb 0) codes.not_canonical _ (ranged_exact 0 greatest_seed (number w32) (λ n h. omega arith) (number_exact w32 wide32))
+
+start_count_exact : IsExact start_count
+start_count_exact = ranged_exact 1 greatest_count (number w64) (λ n h. omega arith) (number_exact w64 wide64)
+
+pub object_exact : IsExact object
+unfolding object
+object_exact =
+    made_exact _ _ _ (λ x h. refl) (λ p h. refl)
+    (both_exact _ _ head_exact (both_exact _ _ (listed_exact most_seeds seed (omega arith) seed_exact) (both_exact _ _ start_count_exact (both_exact _ _ no_elements_exact (both_exact _ _ no_elements_exact
+    (and_then_exact _ _ (listed_exact most_blocks (plain block) (omega arith) (plain_exact block block_exact)) (λ blocks. tables_exact (length blocks))))))))
+
+-- ---- what fits the object is what has a spelling
+
+All-from_fit : {A : Type 0} (F : A → Type 0) (xs front : List A) → ElementsFit (λ _ _. F) front xs → All F xs
+All-from_fit F [] front h k d lt = absurd (omega arith)
+All-from_fit F (x ∷ xs) front h zero d lt = h.0
+All-from_fit F (x ∷ xs) front h (suc k) d lt = All-from_fit F xs (front ++ x ∷ []) h.1 k d (omega arith)
+
+fit-from_All : {A : Type 0} (F : A → Type 0) (xs front : List A) → All F xs → ElementsFit (λ _ _. F) front xs
+fit-from_All F [] front h = tt
+fit-from_All F (x ∷ xs) front h = (h 0 x (omega arith), fit-from_All F xs (front ++ x ∷ []) (λ k d lt. h (suc k) d (omega arith)))
+
+abbrev IsSeed : ℕ → Type 0
+IsSeed seed = seed ≤ greatest_seed
+
+abbrev LastSeed : List ℕ → Type 0
+LastSeed seeds = slice_get seeds (length seeds - 1) ≢ Some 0
+
+seeds_are : (xs front : List ℕ) → ElementsFit seed.Fits front xs → All IsSeed xs
+seeds_are [] front h k d lt = absurd (omega arith)
+seeds_are (x ∷ xs) front h zero d lt = h.0.0.1
+seeds_are (x ∷ xs) front h (suc k) d lt = seeds_are xs (front ++ x ∷ []) h.1 k d (omega arith)
+
+-- the last seed of two or more is the last of those behind the first
+last_of_rest : (x y : ℕ) (ys : List ℕ) → slice_get (x ∷ y ∷ ys) (length (x ∷ y ∷ ys) - 1) ≡ slice_get (y ∷ ys) (length (y ∷ ys) - 1)
+last_of_rest x y ys =
+    let back : length (x ∷ y ∷ ys) - 1 ≡ suc (length (y ∷ ys) - 1) = omega arith in
+    ap (slice_get (x ∷ y ∷ ys)) back
+
+last_seed_is : (xs front : List ℕ) → ElementsFit seed.Fits front xs → LastSeed xs
+last_seed_is [] front h e = cc
+last_seed_is (x ∷ []) front h e = let zero_seed : x ≡ 0 = cc in absurd (omega (arith, ltb-true 0 x h.0.1, zero_seed))
+last_seed_is (x ∷ y ∷ ys) front h e = last_seed_is (y ∷ ys) (front ++ x ∷ []) h.1 (sym (last_of_rest x y ys) ∙ e)
+
+seeds_fit : (xs front : List ℕ) → All IsSeed xs → LastSeed xs → ElementsFit seed.Fits front xs
+seeds_fit [] front each last = tt
+seeds_fit (zero ∷ []) front each last = absurd (last refl)
+seeds_fit (suc x ∷ []) front each last = (((omega arith, each 0 (suc x) (omega arith)), lt-ltb 0 (suc x) (omega arith)), tt)
+seeds_fit (x ∷ y ∷ ys) front each last =
+    let more : eqb (length (y ∷ ys)) 0 ≡ false = ne_eqb _ _ (λ e. omega arith) in
+    (((omega arith, each 0 x (omega arith)), rw more refl), seeds_fit (y ∷ ys) (front ++ x ∷ []) (λ k d lt. each (suc k) d (omega arith)) (λ e. last (last_of_rest x y ys ∙ e)))
+
+states_fit : (xs front : List (Option TableState)) → ElementsFit (plain (optional state)).Fits front xs
+unfolding state
+states_fit [] front = tt
+states_fit (None ∷ xs) front = (tt, states_fit xs (front ++ None ∷ []))
+states_fit (Some s ∷ xs) front = (tt, states_fit xs (front ++ Some s ∷ []))
+
+pub spelled_fits : (p : Parts) → HasSpelling p → object.Fits p
+unfolding object head tables
+spelled_fits p h =
+    let limits = h.limits in (
+      (tt, tt),
+      (
+        (limits.seeds, seeds_fit p.seeds [] limits.each_seed h.canonical.last_seed),
+        (
+          (limits.count_least, limits.count_most),
+          (
+            omega arith,
+            (
+              omega arith,
+              (
+                (limits.blocks, fit-from_All BlockFits p.blocks [] limits.each_block),
+                (omega arith, ((limits.states, states_fit p.states []), (limits.weights, fit-from_All (λ weight. (1 ≤ weight) × (weight ≤ greatest_weight)) p.weights [] limits.each_weight))),
+              ),
+            ),
+          ),
+        ),
+      ),
+    )
+
+pub fits_spelled : (p : Parts) → object.Fits p → length (spelling p) ≤ most_bytes → HasSpelling p
+unfolding object head tables
+fits_spelled p (h, (seeds, (count, (e, (q, (blocks, (r, (states, weights)))))))) size = record {
+  limits = record {
+    seeds = seeds.0;
+    each_seed = seeds_are p.seeds [] seeds.1;
+    count_least = count.0;
+    count_most = count.1;
+    blocks = blocks.0;
+    each_block = All-from_fit BlockFits p.blocks [] blocks.1;
+    states = states.0;
+    weights = weights.0;
+    each_weight = All-from_fit (λ weight. (1 ≤ weight) × (weight ≤ greatest_weight)) p.weights [] weights.1;
+    size = size;
+  };
+  canonical = record { last_seed = last_seed_is p.seeds [] seeds.1 };
+}
+
+-- ---- reading as a whole
+
+whole_takes : (bytes : List ℕ) (p : Parts) → IsBytes bytes → whole_read bytes ≡ Ok p → object.Fits p × (bytes ≡ spelling p)
+unfolding whole_read spelling
+whole_takes bytes p fits e =
+    let a = bind_ok (object.read bytes) (λ p. cond (eqb (length p.1) 0) (Ok p.0) (Err (bad codes.trailing p.1))) p e in
+    let taken = object_exact.takes bytes a.0 fits a.1 in
+    elim (chosen (eqb (length a.0.1) 0) (Ok a.0.0) (Err (bad codes.trailing a.0.1)) (Ok p) a.2) [
+      | inl done ↦
+          let nothing : a.0.1 ≡ [] = nil_from_length a.0.1 (eqb-true _ _ done.0) in
+          let whole : bytes ≡ object.spell a.0.0 = taken.0.parts ∙ ap (λ (r : List ℕ). object.spell a.0.0 ++ r) nothing ∙ append-nil (object.spell a.0.0) in
+          subst (λ (q : Parts). object.Fits q × (bytes ≡ object.spell q)) (ok_is a.0.0 p done.1) (taken.1, whole)
+      | inr more ↦ not_both p (bad codes.trailing a.0.1) (sym more.1)
+    ]
+
+whole_again : (p : Parts) → object.Fits p → whole_read (spelling p) ≡ Ok p
+unfolding whole_read spelling
+whole_again p fits =
+    let read : object.read (object.spell p) ≡ Ok (p, []) = ap object.read (sym (append-nil (object.spell p))) ∙ object_exact.again p [] fits in
+    rw read refl
+
+-- a fault lies in the bytes
+pub whole_within : (bytes : List ℕ) (e : Bad) → IsBytes bytes → whole_read bytes ≡ Err e → e.left ≤ length bytes
+unfolding whole_read
+whole_within bytes e fits h =
+    elim (bind_err (object.read bytes) (λ p. cond (eqb (length p.1) 0) (Ok p.0) (Err (bad codes.trailing p.1))) e h) [
+      | inl first ↦ object_exact.within bytes e fits first
+      | inr a ↦
+          let taken = object_exact.takes bytes a.0 fits a.1 in
+          elim (chosen (eqb (length a.0.1) 0) (Ok a.0.0) (Err (bad codes.trailing a.0.1)) (Err e) a.2) [
+            | inl done ↦ not_both a.0.0 e done.1
+            | inr more ↦ rw (← err_is (bad codes.trailing a.0.1) e more.1) (Takes-shorter bytes (object.spell a.0.0) a.0.1 taken.0)
+          ]
+    ]
+
+-- what all of the bytes spell, where they aren't too many
+pub whole_spelled : (bytes : List ℕ) (p : Parts) → IsBytes bytes → length bytes ≤ most_bytes → whole_read bytes ≡ Ok p → Spells bytes p
+whole_spelled bytes p fits short e =
+    let whole = whole_takes bytes p fits e in
+    record { fits = fits_spelled p whole.0 (rw (← whole.1) short); is = whole.1 }
+
+placed_ok : (total : ℕ) (r : Result Parts Bad) (p : Parts) → with_place total r ≡ Ok p → r ≡ Ok p
+placed_ok total (Ok q) p e = cc
+placed_ok total (Err d) p e = absurd cc
+
+-- what is read is spelled so
+pub found : (bytes : List ℕ) (p : Parts) → IsBytes bytes → first_fault bytes ≡ Ok p → Spells bytes p
+unfolding first_fault
+found bytes p fits e =
+    elim (cases_lt most_bytes (length bytes)) [
+      | inl long ↦ let tested : ltb most_bytes (length bytes) ≡ true = lt-ltb _ _ long in let refused = rw tested at e in absurd cc
+      | inr short ↦
+          let tested : ltb most_bytes (length bytes) ≡ false = le-ltb _ _ short in
+          whole_spelled bytes p fits short (placed_ok (length bytes) (whole_read bytes) p (rw tested at e))
+    ]
+
+-- what is spelled so is read
+pub only : (bytes : List ℕ) (p : Parts) → Spells bytes p → first_fault bytes ≡ Ok p
+unfolding first_fault
+only bytes p spelled =
+    let short : ltb most_bytes (length (spelling p)) ≡ false = le-ltb _ _ spelled.fits.limits.size in
+    rw (spelled.is, short, whole_again p (spelled_fits p spelled.fits)) refl
+
+-- what a reader answers that gives the first fault or wants memory
+pub found_or : (bytes : List ℕ) (r : Result Parts Fault) → IsBytes bytes → (r ≡ first_fault bytes) ⊎ (r ≡ Err out_of_memory) → IfOk r (Spells bytes)
+found_or bytes (Ok p) fits (inl read) = found bytes p fits (sym read)
+found_or bytes (Ok p) fits (inr full) = absurd cc
+found_or bytes (Err f) fits h = tt
+
+pub only_or : (bytes : List ℕ) (r : Result Parts Fault) → (r ≡ first_fault bytes) ⊎ (r ≡ Err out_of_memory) → (p : Parts) → Spells bytes p → (r ≡ Ok p) ⊎ (r ≡ Err out_of_memory)
+only_or bytes r (inl read) p spelled = inl (read ∙ only bytes p spelled)
+only_or bytes r (inr full) p spelled = inr full
+
+-- ---- laws
+
+-- the bytes of two objects with anything behind them are alike only where all is alike
+pub apart : (p q : Parts) (a b x y : List ℕ) → Spells a p → Spells b q → a ++ x ≡ b ++ y → (p ≡ q) × (a ≡ b) × (x ≡ y)
+unfolding spelling
+apart p q a b x y one two e =
+    let read_p : object.read (a ++ x) ≡ Ok (p, x) = rw one.is (object_exact.again p x (spelled_fits p one.fits)) in
+    let read_q : object.read (b ++ y) ≡ Ok (q, y) = rw two.is (object_exact.again q y (spelled_fits q two.fits)) in
+    let same = ok_is (p, x) (q, y) (sym read_p ∙ ap object.read e ∙ read_q) in
+    let p_is : p ≡ q = ap (λ z. z.0) same in
+    let x_is : x ≡ y = ap (λ z. z.1) same in
+    (p_is, one.is ∙ ap spelling p_is ∙ sym two.is, x_is)

@@ -1,0 +1,67 @@
+-- How long spellings are at most.
+use Rattle.std.proofs.Common.{◌≡◌, ℕ, zero, suc, ◌+◌, ◌*◌, ◌≤◌, Bool, true, false, cond, ltb, List, [], ◌∷◌, ◌++◌, length, Option, Some, None, refl, ap, arith, length-append, ◌∙◌}
+use Rattle.std.specs.List.{flat_map}
+use Rattle.std.specs.Int.{w32, w64, to_be_bytes}
+use Rattle.std.proofs.lemmas.List.Concat.{flat_map-cons}
+use Rattle.gw_object.specs.Limits.{most_bytes, most_seeds, most_blocks}
+use Rattle.gw_object.specs.declared.parts.Operand.{Operand}
+use Rattle.gw_object.specs.declared.parts.Spread.{Spread}
+use Rattle.gw_object.specs.declared.parts.Generate.{Generate as GenerateOperands}
+use Rattle.gw_object.specs.declared.parts.Block.{Block}
+use Rattle.gw_object.specs.declared.parts.Block.TheVariants.{Generate, Terminate, Advance}
+use Rattle.gw_object.specs.declared.parts.TableState.{TableState}
+use Rattle.gw_object.specs.declared.parts.Parts.{Parts}
+use Rattle.gw_object.specs.Fields.{Field, count_spelling, optional, optional_spelling, number, signed}
+use Rattle.gw_object.specs.Grammar.{operand, zero_operand, spread, generate, block, block_spelling, state, head, tables, object, spelling}
+
+-- a list whose elements take at most so many bytes each
+flat_map_size : {A : Type 0} (f : A → List ℕ) (most : ℕ) → ((x : A) → length (f x) ≤ most) → (xs : List A) → length (flat_map f xs) ≤ most * length xs
+flat_map_size f most h [] = omega arith
+flat_map_size f most h (x ∷ xs) = rw (flat_map-cons f x xs) (omega (arith, length-append (f x) (flat_map f xs), h x, flat_map_size f most h xs))
+
+count_size : (n : ℕ) → length (count_spelling n) ≤ 5
+count_size n = elim (ltb n 255) as (λ b. length (cond b (n ∷ []) (255 ∷ to_be_bytes w32 n)) ≤ 5) [ true ↦ omega arith | false ↦ omega arith ]
+
+operand_size : (x : Operand) → length (operand.spell x) ≤ 9
+unfolding operand
+operand_size x = omega arith
+
+zero_operand_size : (x : Operand) → length (zero_operand.spell x) ≤ 9
+unfolding zero_operand
+zero_operand_size x = omega arith
+
+spread_size : (s : Spread) → length (spread.spell s) ≤ 18
+unfolding spread
+spread_size s = omega (arith, length-append (operand.spell s.mean) (zero_operand.spell s.half), operand_size s.mean, zero_operand_size s.half)
+
+optional_size : {A : Type 0} (f : Field A) (most : ℕ) → ((x : A) → length (f.spell x) ≤ most) → (o : Option A) → length ((optional f).spell o) ≤ most + 1
+optional_size f most h None = omega arith
+optional_size f most h (Some x) = omega (arith, h x)
+
+state_size : (s : TableState) → length (state.spell s) ≤ 3
+unfolding state
+state_size s = omega arith
+
+generate_size : (g : GenerateOperands) → length (generate.spell g) ≤ 36
+unfolding generate
+generate_size g =
+    simp length-append (omega (arith, spread_size g.interval, optional_size (signed w64) 8 (λ z. omega arith) g.first, optional_size (number w32) 4 (λ n. omega arith) g.limit))
+
+block_size : (b : Block) → length (block.spell b) ≤ 37
+block_size (Generate g) = omega (arith, generate_size g)
+block_size (Terminate decrement) = omega (arith, operand_size decrement)
+block_size (Advance time) = omega (arith, spread_size time)
+
+-- within the other limits no parts take more than 1 MiB
+pub size_fits : (p : Parts) → length p.seeds ≤ most_seeds → length p.blocks ≤ most_blocks → length p.states ≡ length p.blocks → length p.weights ≡ length p.blocks → length (spelling p) ≤ most_bytes
+unfolding spelling object head tables
+size_fits p seeds blocks states weights =
+    simp length-append (omega (
+      arith,
+      count_size (length p.seeds),
+      flat_map_size (number w32).spell 4 (λ n. omega arith) p.seeds,
+      count_size (length p.blocks),
+      flat_map_size block.spell 37 block_size p.blocks,
+      flat_map_size (optional state).spell 4 (optional_size state 3 state_size) p.states,
+      flat_map_size (number w32).spell 4 (λ n. omega arith) p.weights,
+    ))

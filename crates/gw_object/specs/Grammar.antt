@@ -1,0 +1,158 @@
+-- The object grammar: which parts have a spelling, and which bytes spell them.
+use Rattle.std.specs.Prelude.{◌≡◌, ◌≢◌, ◌⊎◌, ℕ, zero, suc, ◌-◌, ◌≤◌, ◌<◌, ◌^◌, ℤ, pos, negsuc, FitsSigned, Bool, true, false, List, [], ◌∷◌, ◌++◌, length, slice_get, Option, Some, None, IfSome, Result, Ok, Err, if◌then◌else◌, ◌==◌, nat_lt}
+use Rattle.std.specs.List.{All}
+use Rattle.std.specs.Int.{w16, w32, w64}
+use Rattle.gw_object.specs.Codes as codes
+use Rattle.gw_object.specs.Limits.{most_bytes, most_seeds, greatest_seed, greatest_count, most_blocks, greatest_weight}
+use Rattle.gw_object.specs.declared.parts.Operand.{Operand}
+use Rattle.gw_object.specs.declared.parts.Operand.TheVariants.{Constant}
+use Rattle.gw_object.specs.declared.parts.Spread.{Spread}
+use Rattle.gw_object.specs.declared.parts.Generate.{Generate as GenerateOperands}
+use Rattle.gw_object.specs.declared.parts.Block.{Block}
+use Rattle.gw_object.specs.declared.parts.Block.TheVariants.{Generate, Terminate, Advance}
+use Rattle.gw_object.specs.declared.parts.TableState.{TableState}
+use Rattle.gw_object.specs.declared.parts.Parts.{Parts}
+use Rattle.gw_object.specs.Fields.{◌>>=◌, Read, Field, bad, byte, byte_read, number, signed, read_as, made, tested, both, and_then, constant, fitting, ranged, optional, count, Element, plain, last_tested, elements, listed}
+
+-- ---- operands
+
+abbrev pub constant_of : Operand → ℤ
+constant_of (Constant n) = n
+
+abbrev pub OperandFits : Operand → Type 0
+OperandFits (Constant n) = FitsSigned w64 n
+
+-- 00 and the number
+unfoldable pub operand : Field Operand
+operand = fitting OperandFits (made (λ x. Constant x.1) (λ x. (tt, constant_of x)) (both (constant 0 codes.tag byte) (signed w64)))
+
+abbrev pub is_zero : ℤ → Bool
+is_zero (pos zero) = true
+is_zero (pos (suc n)) = false
+is_zero (negsuc n) = false
+
+abbrev pub IsZero : Operand → Type 0
+IsZero x = x ≡ Constant (pos 0)
+
+-- 00 and the number 0
+unfoldable pub zero_operand : Field Operand
+zero_operand = fitting IsZero (made (λ x. Constant x.1) (λ x. (tt, constant_of x)) (both (constant 0 codes.tag byte) (tested is_zero codes.limit (signed w64))))
+
+pub record SpreadFits (s : Spread) : Type 0 where
+  pub mean : OperandFits s.mean
+  pub half : IsZero s.half
+
+-- the mean and half the range
+unfoldable pub spread : Field Spread
+spread = fitting SpreadFits (made (λ (mean, half). record { mean = mean; half = half }) (λ s. (s.mean, s.half)) (both operand zero_operand))
+
+-- ---- blocks
+
+pub record GenerateFits (g : GenerateOperands) : Type 0 where
+  pub interval : SpreadFits g.interval
+  pub first : IfSome g.first (FitsSigned w64)
+  pub limit : IfSome g.limit (λ n. n < 2 ^ 32)
+  pub priority : FitsSigned w32 g.priority
+
+-- the interval, the first arrival, the limit and the priority
+unfoldable pub generate : Field GenerateOperands
+generate = fitting GenerateFits (made
+    (λ (interval, (first, (limit, priority))). record { interval = interval; first = first; limit = limit; priority = priority })
+    (λ g. (g.interval, (g.first, (g.limit, g.priority))))
+    (both spread (both (optional (signed w64)) (both (optional (number w32)) (signed w32)))))
+
+abbrev pub BlockFits : Block → Type 0
+BlockFits (Generate g) = GenerateFits g
+BlockFits (Terminate decrement) = OperandFits decrement
+BlockFits (Advance time) = SpreadFits time
+
+abbrev pub block_spelling : Block → List ℕ
+block_spelling (Generate g) = 1 ∷ generate.spell g
+block_spelling (Terminate decrement) = 2 ∷ operand.spell decrement
+block_spelling (Advance time) = 3 ∷ spread.spell time
+
+unfoldable pub block_read : List ℕ → Read Block
+block_read bytes = byte_read bytes >>= λ tag.
+    if tag.0 == 1 then read_as (λ g. Generate g) generate tag.1
+    else if tag.0 == 2 then read_as (λ decrement. Terminate decrement) operand tag.1
+    else if tag.0 == 3 then read_as (λ time. Advance time) spread tag.1
+    else Err (bad codes.tag bytes)
+
+-- the tag and the operands
+abbrev pub block : Field Block
+block = record { spell = block_spelling; read = block_read; Fits = BlockFits }
+
+-- ---- what stands for each block
+
+-- a list that has no elements yet
+abbrev pub no_elements : Field (Unit {0})
+no_elements = made (λ _. tt) (λ _. 0) (count 0)
+
+-- parameters, facilities and units: none yet
+unfoldable pub state : Field TableState
+state = fitting (λ _. Unit {0}) (made (λ _. record {}) (λ _. (tt, (tt, tt))) (both no_elements (both no_elements no_elements)))
+
+abbrev pub weight : Field ℕ
+weight = ranged 1 greatest_weight (number w32)
+
+-- return rows (none yet), and for each of so many blocks its row of the state table and its weight
+unfoldable pub tables : ℕ → Field (Unit {0} × (List (Option TableState) × List ℕ))
+tables n = both no_elements (both (elements (plain (optional state)) n) (elements (plain weight) n))
+
+-- ---- the object
+
+-- the letters GPSO and the version
+unfoldable pub head : Field (Unit {0} × Unit {0})
+head = both (constant 0x4750_534f codes.magic (number w32)) (constant 1 codes.version (number w16))
+
+-- a seed; the last isn't 0
+abbrev pub seed : Element ℕ
+seed = last_tested (nat_lt 0) codes.not_canonical (ranged 0 greatest_seed (number w32))
+
+abbrev pub start_count : Field ℕ
+start_count = ranged 1 greatest_count (number w64)
+
+-- the head, seeds, termination count, entities and procedures (none yet), blocks, and what stands for each block
+unfoldable pub object : Field Parts
+object = made
+    (λ (_, (seeds, (count, (_, (_, (blocks, (_, (states, weights)))))))). record { seeds = seeds; count = count; blocks = blocks; states = states; weights = weights })
+    (λ p. ((tt, tt), (p.seeds, (p.count, (tt, (tt, (p.blocks, (tt, (p.states, p.weights)))))))))
+    (both head (both (listed most_seeds seed) (both start_count (both no_elements (both no_elements
+    (and_then (listed most_blocks (plain block)) (λ blocks. tables (length blocks))))))))
+
+-- the bytes that spell parts
+unfoldable pub spelling : Parts → List ℕ
+spelling p = object.spell p
+
+-- ---- the rules of parts, by the code of their breach
+
+-- 5: parts keep the limits of the format
+pub record IsWithinLimits (p : Parts) : Type 0 where
+  pub seeds : length p.seeds ≤ most_seeds
+  pub each_seed : All (λ seed. seed ≤ greatest_seed) p.seeds
+  pub count_least : 1 ≤ p.count
+  pub count_most : p.count ≤ greatest_count
+  pub blocks : length p.blocks ≤ most_blocks
+  pub each_block : All BlockFits p.blocks
+  pub states : length p.states ≡ length p.blocks
+  pub weights : length p.weights ≡ length p.blocks
+  pub each_weight : All (λ weight. (1 ≤ weight) × (weight ≤ greatest_weight)) p.weights
+  pub size : length (spelling p) ≤ most_bytes
+
+-- 6: parts are the one form of what they say
+pub record IsCanonical (p : Parts) : Type 0 where
+  pub last_seed : slice_get p.seeds (length p.seeds - 1) ≢ Some 0
+
+-- parts have a spelling
+pub record HasSpelling (p : Parts) : Type 0 where
+  pub limits : IsWithinLimits p
+  pub canonical : IsCanonical p
+
+-- the code of parts that have no spelling: the lowest that applies anywhere in them
+abbrev pub Refuses : ℕ → Parts → Type 0
+Refuses code p = ((code ≡ codes.limit) × ¬ IsWithinLimits p) ⊎ ((code ≡ codes.not_canonical) × IsWithinLimits p × ¬ IsCanonical p)
+
+-- these bytes spell these parts
+pub record Spells (bytes : List ℕ) (p : Parts) : Type 0 where
+  pub fits : HasSpelling p
+  pub is : bytes ≡ spelling p

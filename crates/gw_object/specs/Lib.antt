@@ -1,0 +1,5 @@
+pub mod Codes
+pub mod Fields
+pub mod Grammar
+pub mod Limits
+pub mod Reading

@@ -1,0 +1,23 @@
+-- The limits of the object format.
+use Rattle.std.specs.Prelude.{ℕ, ◌^◌}
+
+-- bytes of a spelling: 1 MiB
+abbrev pub most_bytes : ℕ
+most_bytes = 2 ^ 20
+
+-- seeds: one for each stream
+abbrev pub most_seeds : ℕ
+most_seeds = 16
+
+abbrev pub greatest_seed : ℕ
+greatest_seed = 2147483646
+
+-- the termination count
+abbrev pub greatest_count : ℕ
+greatest_count = 2 ^ 40
+
+abbrev pub most_blocks : ℕ
+most_blocks = 4096
+
+abbrev pub greatest_weight : ℕ
+greatest_weight = 1000000000

@@ -1,0 +1,28 @@
+//! The object: its parts, and the one spelling of them in bytes.
+#![tactic(auto)]
+
+pub mod codes;
+mod elements;
+mod fault;
+mod items;
+pub mod laws;
+mod limits;
+mod object;
+mod parts;
+mod reading;
+mod rules;
+mod writing;
+
+pub use fault::{Fault, Place};
+pub use items::Items;
+pub use limits::{
+    GREATEST_COUNT, GREATEST_SEED, GREATEST_WEIGHT, MOST_BLOCKS, MOST_BYTES, MOST_SEEDS,
+};
+pub use object::Object;
+pub use parts::{Block, Generate, Operand, Parts, Spread, TableState};
+pub use reading::read;
+pub use std::alloc::AllocError as Memory;
+pub use writing::write;
+
+#[cfg(test)]
+mod tests;

@@ -1,0 +1,19 @@
+//! The limits of the object format.
+
+/// The most bytes that spell an object: 1 MiB.
+pub const MOST_BYTES: usize = 1_048_576;
+
+/// The most seeds: one for each stream.
+pub const MOST_SEEDS: usize = 16;
+
+/// The greatest seed.
+pub const GREATEST_SEED: u32 = 2_147_483_646;
+
+/// The greatest termination count.
+pub const GREATEST_COUNT: u64 = 1_099_511_627_776;
+
+/// The most blocks.
+pub const MOST_BLOCKS: usize = 4_096;
+
+/// The greatest weight of a block.
+pub const GREATEST_WEIGHT: u32 = 1_000_000_000;

@@ -1,0 +1,138 @@
+//! Reading an object from left to right, up to the first fault.
+
+ghost use Rattle.std.specs.Prelude.{◌≡◌, ◌≤◌, ◌<◌, ◌^◌, ◌⊎◌, IfOk, Ok, Err};
+ghost use Rattle.gw_object.specs.declared.parts.Parts.{Parts};
+ghost use Rattle.gw_object.specs.Grammar.{head, tables, object, Spells};
+ghost use Rattle.gw_object.specs.Reading.{Gives, whole_read, placed, first_fault, out_of_memory};
+
+pub mod blocks;
+pub mod error;
+pub mod lists;
+pub mod numbers;
+
+use crate::codes::*;
+use crate::elements::*;
+use crate::fault::{Fault, Place};
+use crate::items::Items;
+use crate::limits::*;
+use crate::object::Object;
+use crate::parts::{Parts, TableState};
+use error::*;
+use lists::*;
+use numbers::*;
+use std::alloc::Global;
+
+/// The letters `GPSO`.
+const LETTERS: u32 = 0x4750_534f;
+
+/// The letters `GPSO` and the version.
+#[tactic(auto, unfolding(crate::specs::Grammar::head))]
+fn read_head(bytes: &[u8]) -> Result<&[u8], ReadError>
+    ensures { Gives (λ rest. ((tt, tt), rest.now)) result (head.read bytes.now) }
+{
+    let (letters, rest) = read_u32(bytes)?;
+    if letters != LETTERS {
+        return Err(fault(MAGIC, bytes));
+    }
+    let (version, after) = read_u16(rest)?;
+    if version != 1 {
+        return Err(fault(VERSION, rest));
+    }
+    Ok(after)
+}
+
+/// What stands for each of so many blocks: its row of the state table, and its weight.
+#[tactic(auto, unfolding(crate::specs::Grammar::tables))]
+fn read_tables(
+    alloc: Global,
+    count: usize,
+    bytes: &[u8],
+) -> Result<((Vec<Option<TableState>>, Vec<u32>), &[u8]), ReadError>
+    ensures { Gives (λ x. ((tt, (x.0.0.items, x.0.1.items)), x.1.now)) result ((tables count).read bytes.now) }
+{
+    let (_rows, rest) = read_count(bytes, 0)?;
+    let (states, rest) = read_elements::<States>(alloc, count, rest)?;
+    let (weights, rest) = read_elements::<Weights>(alloc, count, rest)?;
+    Ok(((states, weights), rest))
+}
+
+/// The parts of an object, and the bytes after it.
+#[tactic(auto, unfolding(crate::specs::Grammar::object))]
+fn read_parts(alloc: Global, bytes: &[u8]) -> Result<(Parts, &[u8]), ReadError>
+    ensures { Gives (λ x. (x.0, x.1.now)) result (object.read bytes.now) }
+{
+    let rest = read_head(bytes)?;
+    let (seeds, rest) = read_listed::<Seeds>(alloc, MOST_SEEDS, rest)?;
+    let (count, rest) = read_ranged_u64(rest, 1, GREATEST_COUNT)?;
+    let (_entities, rest) = read_count(rest, 0)?;
+    let (_procedures, rest) = read_count(rest, 0)?;
+    let (blocks, rest) = read_listed::<Blocks>(alloc, MOST_BLOCKS, rest)?;
+    let ((states, weights), rest) = read_tables(alloc, blocks.len(), rest)?;
+    let parts = Parts {
+        seeds: Items::from_vec(seeds),
+        count,
+        blocks: Items::from_vec(blocks),
+        states: Items::from_vec(states),
+        weights: Items::from_vec(weights),
+    };
+    Ok((parts, rest))
+}
+
+/// The parts that all of the bytes spell.
+#[tactic(auto, unfolding(crate::specs::Reading::whole_read))]
+fn read_whole(alloc: Global, bytes: &[u8]) -> Result<Parts, ReadError>
+    ensures { Gives (λ parts. parts) result (whole_read bytes.now) }
+{
+    let (parts, rest) = read_parts(alloc, bytes)?;
+    if !rest.is_empty() {
+        return Err(fault(TRAILING, rest));
+    }
+    Ok(parts)
+}
+
+/// A fault in so many bytes, by its field's first byte.
+fn placed_fault(total: usize, fault: Bad) -> Fault
+    requires within { fault.left ≤ total }
+    requires short { total < 2 ^ 32 }
+    ensures { result ≡ placed total fault }
+{
+    Fault {
+        code: fault.code,
+        place: Place::Byte((total - fault.left) as u32),
+    }
+}
+
+/// The object that the bytes spell, or the first fault.
+#[tactic(auto, unfolding(crate::specs::Reading::first_fault))]
+fn read_object(alloc: Global, bytes: &[u8]) -> Result<Object, Fault>
+    ensures { (result ≡ first_fault bytes.now) ⊎ (result ≡ Err out_of_memory) }
+{
+    if bytes.len() > MOST_BYTES {
+        return Err(Fault {
+            code: LIMIT,
+            place: Place::Byte(0),
+        });
+    }
+    match read_whole(alloc, bytes) {
+        Ok(parts) => Ok(Object::of(parts)),
+        Err(ReadError::OutOfMemory) => Err(Fault {
+            code: MEMORY,
+            place: Place::Nowhere,
+        }),
+        Err(ReadError::Wrong(fault)) => Err(placed_fault(bytes.len(), fault)),
+    }
+}
+
+/// The object that the bytes spell, all of the bytes. Else the first fault from the left: its code, the lowest
+/// that applies to its field, and the field's first byte. More than 1 MiB are 5 at byte 0 before all else.
+/// 8 Memory at Nowhere where memory runs out.
+pub fn read(alloc: Global, bytes: &[u8]) -> Result<Object, Fault>
+    // What is read is spelled so.
+    ensures found { IfOk result (λ p. Spells bytes.now p) }
+    // What is spelled so is read.
+    ensures only { (p : Parts) → Spells bytes.now p → (result ≡ Ok p) ⊎ (result ≡ Err out_of_memory) }
+    // A refusal names the first fault.
+    ensures exact { (result ≡ first_fault bytes.now) ⊎ (result ≡ Err out_of_memory) }
+{
+    read_object(alloc, bytes)
+}

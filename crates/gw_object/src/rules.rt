@@ -1,0 +1,81 @@
+//! Whether parts keep the rules of the object format.
+
+ghost use Rattle.std.specs.Prelude.{◌≡◌, ◌↔◌, ◌≤◌, IsTrue};
+ghost use Rattle.std.specs.List.{All};
+ghost use Rattle.gw_object.specs.Limits.{greatest_seed, greatest_weight};
+ghost use Rattle.gw_object.specs.Grammar.{IsZero, BlockFits, IsWithinLimits, IsCanonical};
+
+use crate::limits::*;
+use crate::parts::*;
+
+/// Whether an operand is the constant 0.
+fn is_zero(operand: Operand) -> bool
+    ensures { IsTrue result ↔ IsZero operand }
+{
+    match operand {
+        Operand::Constant(number) => number == 0,
+    }
+}
+
+/// Whether a block's operands keep their limits.
+fn block_fits(block: Block) -> bool
+    ensures { IsTrue result ↔ BlockFits block }
+{
+    match block {
+        Block::Generate(generate) => is_zero(generate.interval.half),
+        Block::Terminate(_) => true,
+        Block::Advance(time) => is_zero(time.half),
+    }
+}
+
+/// Whether each seed is in range.
+fn seeds_fit(seeds: &[u32]) -> bool
+    ensures { IsTrue result ↔ All (λ seed. seed ≤ greatest_seed) seeds.now }
+{
+    seeds.iter().all(|seed| *seed <= GREATEST_SEED)
+}
+
+/// Whether each block keeps its limits.
+fn blocks_fit(blocks: &[Block]) -> bool
+    ensures { IsTrue result ↔ All BlockFits blocks.now }
+{
+    blocks.iter().all(|block| block_fits(*block))
+}
+
+/// Whether each weight is in range.
+fn weights_fit(weights: &[u32]) -> bool
+    ensures { IsTrue result ↔ All (λ weight. (1 ≤ weight) × (weight ≤ greatest_weight)) weights.now }
+{
+    weights
+        .iter()
+        .all(|weight| 1 <= *weight && *weight <= GREATEST_WEIGHT)
+}
+
+/// Whether parts keep the limits of the format. At most 4,096 blocks without lists of their own are spelled
+/// in less than 1 MiB.
+#[tactic(auto, using(crate::proofs::Sizes::size_fits))]
+pub fn is_within_limits(parts: &Parts) -> bool
+    ensures { IsTrue result ↔ IsWithinLimits parts.now }
+{
+    let seeds = parts.seeds.as_slice();
+    let blocks = parts.blocks.as_slice();
+    let states = parts.states.as_slice();
+    let weights = parts.weights.as_slice();
+    if seeds.len() > MOST_SEEDS || blocks.len() > MOST_BLOCKS {
+        return false;
+    }
+    if states.len() != blocks.len() || weights.len() != blocks.len() {
+        return false;
+    }
+    if parts.count < 1 || parts.count > GREATEST_COUNT {
+        return false;
+    }
+    seeds_fit(seeds) && blocks_fit(blocks) && weights_fit(weights)
+}
+
+/// Whether parts are the one form of what they say: the last seed isn't 0.
+pub fn is_canonical(parts: &Parts) -> bool
+    ensures { IsTrue result ↔ IsCanonical parts.now }
+{
+    parts.seeds.as_slice().last() != Some(&0)
+}

@@ -1,0 +1,99 @@
+-- What the elementary changes make of a machine.
+use Rattle.std.proofs.Common.{◌≡◌, ℕ, ◌+◌, ◌<◌, ℤ, List, map, length, Some, None, option_map, sym, ap, ◌∙◌, subst, get_or}
+use Rattle.std.specs.Prelude.{int_le, slice_set}
+use Rattle.gw_chains.specs.Chain.{in_time}
+use Rattle.gw_chains.specs.declared.tx.Tx.{Tx}
+use Rattle.gw_chains.specs.declared.tx.Member.{Member}
+use Rattle.gw_chains.specs.declared.tx.Event.{Event}
+use Rattle.gw_transactions.specs.declared.Transaction.{Transaction}
+use Rattle.gw_transactions.specs.Table.{at, put}
+use Rattle.gw_transactions.specs.Transactions.{Holds, IsSound}
+use Rattle.gw_transactions.proofs.Tables.{at-put, set-put, at-get_or_any}
+use Rattle.gw_transactions.proofs.Populations.{transaction_of}
+use Rattle.gw_scan.specs.declared.machine.Machine.{Machine}
+use Rattle.gw_scan.specs.State.{FutureEvent, priority_of, raised}
+use Rattle.gw_scan.specs.Standing.{StandsOnce, times}
+use Rattle.gw_scan.specs.Step.{entered, destroyed, rests_until, arrives}
+use Rattle.gw_scan.specs.View.{state_of, event_of}
+use Rattle.gw_scan.specs.Coherence.{Linked, IsHeld, Carries, Every, Others}
+use Rattle.gw_scan.proofs.Lists.{all_placed, map-placed, all_same, map-map}
+use Rattle.gw_scan.proofs.Standings.{stands-entered, stands-destroyed, stands-rests, stands-arrives, alone}
+use Rattle.gw_scan.proofs.Handles.{active_carried, members_carried, events_carried, every, others, carries-set, carries-insert, carries-remove}
+
+-- one more at a place, as the code writes it
+pub raised_is : (counts : List ℕ) (place was : ℕ) → place < length counts → was ≡ get_or counts place was → slice_set counts place (was + 1) ≡ raised place counts
+raised_is counts place was within is =
+    set-put 0 counts place (was + 1) within
+    ∙ ap (λ n. put 0 counts place (n + 1)) (is ∙ sym (at-get_or_any 0 was counts place within))
+
+-- the future events chain with one more member
+pub events-in_time : (tx : Tx) (time : ℤ) (xs : List Event) → map event_of (in_time (λ (e : Event). e.time) (record { tx = tx; time = time }) xs) ≡ in_time (λ (e : FutureEvent). e.time) (record { time = time; number = tx.number }) (map event_of xs)
+events-in_time tx time xs = map-placed event_of (λ (y : Event). int_le y.time time) (λ (y : FutureEvent). int_le y.time time) (record { tx = tx; time = time }) xs (all_same (λ (y : Event). int_le y.time time) xs)
+
+-- the members of a machine's lists after a change of its transactions that carries every handle
+pub linked-carried : (m new : Machine) → Carries Every m.transactions new.transactions → IsSound new.transactions → new.active ≡ m.active → new.current_events.items ≡ m.current_events.items → new.future_events.items ≡ m.future_events.items → StandsOnce (state_of new) → Linked m → Linked new
+linked-carried m new c sound a cs fs stands l = record {
+  active = rw a (active_carried m.transactions new.transactions c m.active l.active);
+  current_events = rw cs (members_carried Every m.transactions new.transactions c m.current_events.items (every (λ (x : Member). x.tx.number) m.current_events.items) l.current_events);
+  future_events = rw fs (events_carried Every m.transactions new.transactions c m.future_events.items (every (λ (x : Event). x.tx.number) m.future_events.items) l.future_events);
+  sound = sound;
+  stands = stands;
+}
+
+pub linked-entered : (m new : Machine) (tx : Tx) (t : Transaction) (next : ℕ)
+    → new.transactions.txs ≡ put None m.transactions.txs tx.number (Some (record t { current = t.next; next = next })) → new.transactions.places ≡ m.transactions.places → IsSound new.transactions
+    → new.active ≡ m.active → new.current_events.items ≡ m.current_events.items → new.future_events.items ≡ m.future_events.items
+    → state_of new ≡ entered tx.number t next (state_of m) → Holds m.transactions tx → priority_of m.transactions.txs tx.number ≡ t.priority → Linked m → Linked new
+linked-entered m new tx t next ts ps sound a cs fs is held pr l =
+    let u = transaction_of m.transactions l.sound tx held in
+    linked-carried m new (carries-set m.transactions new.transactions tx.number (record t { current = t.next; next = next }) ts ps pr) sound a cs fs
+    (subst StandsOnce (sym is) (stands-entered tx.number t u.0 next (state_of m) u.1 l.stands)) l
+
+pub linked-destroyed : (m new : Machine) (tx : Tx) (t : Transaction)
+    → new.transactions.txs ≡ put None m.transactions.txs tx.number None → new.transactions.places ≡ put None m.transactions.places tx.number None → IsSound new.transactions
+    → m.active ≡ Some tx → new.active ≡ None → new.current_events.items ≡ m.current_events.items → new.future_events.items ≡ m.future_events.items
+    → state_of new ≡ destroyed tx.number t (state_of m) → Holds m.transactions tx → Linked m → Linked new
+linked-destroyed m new tx t ts ps sound was a cs fs is held l =
+    let n = tx.number in
+    let u = transaction_of m.transactions l.sound tx held in
+    let active : (state_of m).lists.active ≡ Some n = ap (option_map (λ (x : Tx). x.number)) was in
+    let c = carries-remove m.transactions new.transactions n ts ps in
+    let none = alone n (state_of m) active l.stands in
+    record {
+      active = rw a tt;
+      current_events = rw cs (members_carried (Others n) m.transactions new.transactions c m.current_events.items (others (λ (x : Member). x.tx.number) n m.current_events.items none.0) l.current_events);
+      future_events = rw fs (events_carried (Others n) m.transactions new.transactions c m.future_events.items (others (λ (x : Event). x.tx.number) n m.future_events.items (sym (ap (times n) (map-map (λ (e : FutureEvent). e.number) event_of m.future_events.items)) ∙ none.1)) l.future_events);
+      sound = sound;
+      stands = subst StandsOnce (sym is) (stands-destroyed n t u.0 (state_of m) active u.1 l.stands);
+    }
+
+pub linked-rested : (m new : Machine) (tx : Tx) (time : ℤ)
+    → new.transactions ≡ m.transactions → m.active ≡ Some tx → new.active ≡ None → new.current_events.items ≡ m.current_events.items → new.future_events.items ≡ in_time (λ (e : Event). e.time) (record { tx = tx; time = time }) m.future_events.items
+    → state_of new ≡ rests_until tx.number time (state_of m) → Holds m.transactions tx → Linked m → Linked new
+linked-rested m new tx time ps was a cs fs is held l =
+    let active : (state_of m).lists.active ≡ Some tx.number = ap (option_map (λ (x : Tx). x.number)) was in
+    record {
+      active = rw a tt;
+      current_events = rw (ps, cs) l.current_events;
+      future_events = rw (ps, fs) (all_placed (IsHeld m.transactions) (λ (y : Event). int_le y.time time) (record { tx = tx; time = time }) m.future_events.items held l.future_events);
+      sound = rw ps l.sound;
+      stands = subst StandsOnce (sym is) (stands-rests tx.number time (state_of m) active l.stands);
+    }
+
+pub linked-arrived : (m new : Machine) (tx : Tx) (t : Transaction) (b : ℕ) (priority time : ℤ)
+    → new.transactions.txs ≡ put None m.transactions.txs (length m.transactions.txs) (Some t) → new.transactions.places ≡ put None m.transactions.places (length m.transactions.txs) (Some tx.place) → tx.number ≡ length m.transactions.txs → IsSound new.transactions
+    → new.active ≡ m.active → new.current_events.items ≡ m.current_events.items → new.future_events.items ≡ in_time (λ (e : Event). e.time) (record { tx = tx; time = time }) m.future_events.items
+    → state_of new ≡ arrives b priority time (state_of m) → Linked m → Linked new
+linked-arrived m new tx t b priority time ts ps ns sound a cs fs is l =
+    let p = m.transactions in
+    let q = new.transactions in
+    let c = carries-insert p q t tx.place l.sound ts ps in
+    let held : Holds q tx = ap (λ xs. at None xs tx.number) ps ∙ ap (λ k. at None (put None p.places k (Some tx.place)) tx.number) (sym ns) ∙ at-put None p.places tx.number (Some tx.place) in
+    record {
+      active = rw a (active_carried p q c m.active l.active);
+      current_events = rw cs (members_carried Every p q c m.current_events.items (every (λ (x : Member). x.tx.number) m.current_events.items) l.current_events);
+      future_events = rw fs (all_placed (IsHeld q) (λ (y : Event). int_le y.time time) (record { tx = tx; time = time }) m.future_events.items held
+          (events_carried Every p q c m.future_events.items (every (λ (x : Event). x.tx.number) m.future_events.items) l.future_events));
+      sound = sound;
+      stands = subst StandsOnce (sym is) (stands-arrives b priority time (state_of m) l.stands);
+    }

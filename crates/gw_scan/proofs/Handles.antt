@@ -1,0 +1,75 @@
+-- The handles of a machine through a change of its transactions.
+use Rattle.std.proofs.Common.{◌≡◌, ℕ, List, [], ◌∷◌, map, length, Option, Some, None, IfSome, sym, ap, ◌∙◌, arith, inl, inr}
+use Rattle.std.specs.List.{AllByRecursion}
+use Rattle.std.proofs.lemmas.Bool.{cases_eq}
+use Rattle.gw_chains.specs.declared.tx.Tx.{Tx}
+use Rattle.gw_chains.specs.declared.tx.Member.{Member}
+use Rattle.gw_chains.specs.declared.tx.Event.{Event}
+use Rattle.gw_transactions.specs.declared.Transaction.{Transaction}
+use Rattle.gw_transactions.specs.Table.{at, put}
+use Rattle.gw_transactions.specs.Transactions.{Population, Holds, IsSound}
+use Rattle.gw_transactions.proofs.Tables.{at-put, at-put_other}
+use Rattle.gw_scan.specs.State.{priority_in, priority_of}
+use Rattle.gw_scan.specs.Standing.{times}
+use Rattle.gw_scan.specs.Coherence.{IsRanked, IsHeld, Carries, Every, Others}
+use Rattle.gw_scan.proofs.Standings.{same_number}
+
+pub active_carried : (p q : Population) → Carries Every p q → (a : Option Tx) → IfSome a (Holds p) → IfSome a (Holds q)
+active_carried p q c None h = tt
+active_carried p q c (Some tx) h = c.held tx tt h
+
+pub members_carried : (these : ℕ → Type 0) (p q : Population) → Carries these p q → (xs : List Member) → AllByRecursion (λ (x : Member). these x.tx.number) xs → AllByRecursion (IsRanked p) xs → AllByRecursion (IsRanked q) xs
+members_carried these p q c [] ts h = tt
+members_carried these p q c (x ∷ xs) ts h = (
+  record { held = c.held x.tx ts.0 h.0.held; rank = c.rank x.tx ts.0 h.0.held ∙ h.0.rank },
+  members_carried these p q c xs ts.1 h.1,
+)
+
+pub events_carried : (these : ℕ → Type 0) (p q : Population) → Carries these p q → (xs : List Event) → AllByRecursion (λ (x : Event). these x.tx.number) xs → AllByRecursion (IsHeld p) xs → AllByRecursion (IsHeld q) xs
+events_carried these p q c [] ts h = tt
+events_carried these p q c (x ∷ xs) ts h = (c.held x.tx ts.0 h.0, events_carried these p q c xs ts.1 h.1)
+
+pub every : {A : Type 0} (f : A → ℕ) (xs : List A) → AllByRecursion (λ x. Every (f x)) xs
+every f [] = tt
+every f (x ∷ xs) = (tt, every f xs)
+
+-- a number that doesn't stand in a list is none of its members'
+pub others : {A : Type 0} (f : A → ℕ) (n : ℕ) (xs : List A) → times n (map f xs) ≡ 0 → AllByRecursion (λ x. Others n (f x)) xs
+others f n [] h = tt
+others f n (x ∷ xs) h = (
+  (λ e. absurd (omega (arith, same_number (f x) n e, h))),
+  others f n xs (omega (arith, h)),
+)
+
+-- WHAT EACH CALL CARRIES
+
+-- nothing but room changed
+pub carries-same : (p q : Population) → q.txs ≡ p.txs → q.places ≡ p.places → Carries Every p q
+carries-same p q ts ps = record {
+  held = λ h _ is. ap (λ xs. at None xs h.number) ps ∙ is;
+  rank = λ h _ is. ap (λ xs. priority_of xs h.number) ts;
+}
+
+-- one transaction was written, with the priority that it had
+pub carries-set : (p q : Population) (n : ℕ) (t : Transaction) → q.txs ≡ put None p.txs n (Some t) → q.places ≡ p.places → priority_of p.txs n ≡ t.priority → Carries Every p q
+carries-set p q n t ts ps pr = record {
+  held = λ h _ is. ap (λ xs. at None xs h.number) ps ∙ is;
+  rank = λ h _ is. elim (cases_eq h.number n) [
+    | inl e ↦ ap (λ xs. priority_of xs h.number) ts ∙ ap (priority_of (put None p.txs n (Some t))) e ∙ ap priority_in (at-put None p.txs n (Some t)) ∙ sym (ap (priority_of p.txs) e ∙ pr)
+    | inr e ↦ ap (λ xs. priority_of xs h.number) ts ∙ ap priority_in (at-put_other None p.txs n h.number (Some t) e)
+  ];
+}
+
+-- one was made
+pub carries-insert : (p q : Population) (t : Transaction) (place : ℕ) → IsSound p → q.txs ≡ put None p.txs (length p.txs) (Some t) → q.places ≡ put None p.places (length p.txs) (Some place) → Carries Every p q
+carries-insert p q t place sound ts ps = record {
+  held = λ h _ is. ap (λ xs. at None xs h.number) ps ∙ at-put_other None p.places (length p.txs) h.number (Some place) (λ e. absurd (omega (arith, sound.below h.number h.place is, e))) ∙ is;
+  rank = λ h _ is. ap (λ xs. priority_of xs h.number) ts ∙ ap priority_in (at-put_other None p.txs (length p.txs) h.number (Some t) (λ e. absurd (omega (arith, sound.below h.number h.place is, e))));
+}
+
+-- one was taken out
+pub carries-remove : (p q : Population) (n : ℕ) → q.txs ≡ put None p.txs n None → q.places ≡ put None p.places n None → Carries (Others n) p q
+carries-remove p q n ts ps = record {
+  held = λ h other is. ap (λ xs. at None xs h.number) ps ∙ at-put_other None p.places n h.number None other ∙ is;
+  rank = λ h other is. ap (λ xs. priority_of xs h.number) ts ∙ ap priority_in (at-put_other None p.txs n h.number None other);
+}

@@ -1,0 +1,11 @@
+pub mod Slices
+pub mod Fits
+pub mod Lists
+pub mod Standings
+pub mod Handles
+pub mod Changes
+pub mod Due
+pub mod Moves
+pub mod Steps
+pub mod Starting
+pub mod Reached

@@ -1,0 +1,113 @@
+-- Each elementary change keeps that each live transaction stands exactly once.
+use Rattle.std.proofs.Common.{◌≡◌, ◌≢◌, ℕ, ◌+◌, ◌≤◌, ℤ, List, [], ◌∷◌, map, length, Option, Some, None, Bool, true, false, if◌then◌else◌, ◌==◌, is_some, refl, sym, ap, ◌∙◌, arith, inl, inr}
+use Rattle.std.specs.Prelude.{int_le}
+use Rattle.std.proofs.lemmas.Bool.{cases_eq, eq-eqb, ne_eqb}
+use Rattle.gw_chains.specs.Chain.{all_behind, due}
+use Rattle.gw_transactions.specs.declared.Transaction.{Transaction}
+use Rattle.gw_transactions.specs.Table.{at, put}
+use Rattle.gw_transactions.proofs.Tables.{at-put, at-put_other, at_past}
+use Rattle.gw_scan.specs.State.{FutureEvent, State, priority_of}
+use Rattle.gw_scan.specs.Standing.{times, active_numbers, standing, StandsOnce}
+use Rattle.gw_scan.specs.Step.{entered, destroyed, rests_until, arrives, clock_moves, numbers}
+use Rattle.gw_scan.proofs.Lists.{times-placed, times-all_behind, times-due}
+
+-- 1 where it is there
+abbrev pub one_if : Bool → ℕ
+one_if b = if b then 1 else 0
+
+at_most_one : (b : Bool) → one_if b ≤ 1
+at_most_one true = omega arith
+at_most_one false = omega arith
+
+pub same_number : (m n : ℕ) → m ≡ n → one_if (m == n) ≡ 1
+same_number m n e = ap one_if (eq-eqb m n e)
+
+other_number : (m n : ℕ) → m ≢ n → one_if (m == n) ≡ 0
+other_number m n e = ap one_if (ne_eqb m n e)
+
+-- a table of options where one entry is written
+written_here : (xs : List (Option Transaction)) (n : ℕ) (v : Option Transaction) (k : ℕ) → k ≡ n → one_if (is_some (at None (put None xs n v) k)) ≡ one_if (is_some v)
+written_here xs n v k e = ap (λ j. one_if (is_some (at None (put None xs n v) j))) e ∙ ap (λ o. one_if (is_some o)) (at-put None xs n v)
+
+written_other : (xs : List (Option Transaction)) (n : ℕ) (v : Option Transaction) (k : ℕ) → k ≢ n → one_if (is_some (at None (put None xs n v) k)) ≡ one_if (is_some (at None xs k))
+written_other xs n v k e = ap (λ o. one_if (is_some o)) (at-put_other None xs n k v e)
+
+-- who is active stands on no list
+pub alone : (n : ℕ) (s : State) → s.lists.active ≡ Some n → StandsOnce s → (times n s.lists.current_events ≡ 0) × (times n (map (λ (e : FutureEvent). e.number) s.lists.future_events) ≡ 0)
+alone n s active h =
+    let a : times n (active_numbers s.lists.active) ≡ one_if (n == n) + 0 = ap (λ o. times n (active_numbers o)) active in
+    let one = same_number n n refl in
+    let before : standing s.lists n ≡ one_if (is_some (at None s.transactions n)) = h n in
+    let most : one_if (is_some (at None s.transactions n)) ≤ 1 = at_most_one (is_some (at None s.transactions n)) in
+    (omega (arith, a, one, before, most), omega (arith, a, one, before, most))
+
+pub stands-entered : (n : ℕ) (t u : Transaction) (next : ℕ) (s : State) → at None s.transactions n ≡ Some u → StandsOnce s → StandsOnce (entered n t next s)
+stands-entered n t u next s there h k =
+    elim (cases_eq k n) [
+      | inl e ↦ h k ∙ ap (λ j. one_if (is_some (at None s.transactions j))) e ∙ ap (λ o. one_if (is_some o)) there ∙ sym (written_here s.transactions n (Some (record t { current = t.next; next = next })) k e)
+      | inr e ↦ h k ∙ sym (written_other s.transactions n (Some (record t { current = t.next; next = next })) k e)
+    ]
+
+pub stands-destroyed : (n : ℕ) (t u : Transaction) (s : State) → s.lists.active ≡ Some n → at None s.transactions n ≡ Some u → StandsOnce s → StandsOnce (destroyed n t s)
+stands-destroyed n t u s active there h k =
+    let before : standing s.lists k ≡ one_if (is_some (at None s.transactions k)) = h k in
+    let a : times k (active_numbers s.lists.active) ≡ one_if (n == k) + 0 = ap (λ o. times k (active_numbers o)) active in
+    elim (cases_eq k n) [
+      | inl e ↦
+          let one : one_if (is_some (at None s.transactions k)) ≡ 1 = ap (λ j. one_if (is_some (at None s.transactions j))) e ∙ ap (λ o. one_if (is_some o)) there in
+          let gone = written_here s.transactions n None k e in
+          let here = same_number n k (sym e) in
+          omega (arith, before, a, one, gone, here)
+      | inr e ↦
+          let kept = written_other s.transactions n None k e in
+          let other = other_number n k (λ d. e (sym d)) in
+          omega (arith, before, a, kept, other)
+    ]
+
+pub stands-rests : (n : ℕ) (time : ℤ) (s : State) → s.lists.active ≡ Some n → StandsOnce s → StandsOnce (rests_until n time s)
+stands-rests n time s active h k =
+    let before : standing s.lists k ≡ one_if (is_some (at None s.transactions k)) = h k in
+    let a : times k (active_numbers s.lists.active) ≡ one_if (n == k) + 0 = ap (λ o. times k (active_numbers o)) active in
+    let f = times-placed k (λ (e : FutureEvent). e.number) (λ (y : FutureEvent). int_le y.time time) (record { time = time; number = n }) s.lists.future_events in
+    omega (arith, before, a, f)
+
+pub stands-arrives : (b : ℕ) (priority time : ℤ) (s : State) → StandsOnce s → StandsOnce (arrives b priority time s)
+stands-arrives b priority time s h k =
+    let n = length s.transactions in
+    let t : Option Transaction = Some (record { current = 0; next = b; priority = priority; mark = s.clock; set = length s.transactions }) in
+    let before : standing s.lists k ≡ one_if (is_some (at None s.transactions k)) = h k in
+    let f = times-placed k (λ (e : FutureEvent). e.number) (λ (y : FutureEvent). int_le y.time time) (record { time = time; number = n }) s.lists.future_events in
+    elim (cases_eq k n) [
+      | inl e ↦
+          let none : one_if (is_some (at None s.transactions k)) ≡ 0 = ap (λ o. one_if (is_some o)) (at_past None s.transactions k (omega (arith, e))) in
+          let new = written_here s.transactions n t k e in
+          let here = same_number n k (sym e) in
+          omega (arith, before, f, none, new, here)
+      | inr e ↦
+          let kept = written_other s.transactions n t k e in
+          let other = other_number n k (λ d. e (sym d)) in
+          omega (arith, before, f, kept, other)
+    ]
+
+-- the first of the current events chain becomes active
+pub stands-active : (n : ℕ) (ns : List ℕ) (s : State) → s.lists.active ≡ None → s.lists.current_events ≡ n ∷ ns → StandsOnce s → StandsOnce (record s { lists = record s.lists { active = Some n; current_events = ns } })
+stands-active n ns s nobody first h k =
+    let before : standing s.lists k ≡ one_if (is_some (at None s.transactions k)) = h k in
+    let a : times k (active_numbers s.lists.active) ≡ 0 = ap (λ o. times k (active_numbers o)) nobody in
+    let c : times k s.lists.current_events ≡ one_if (n == k) + times k ns = ap (times k) first in
+    omega (arith, before, a, c)
+
+map-same : (ns : List ℕ) → map (λ (n : ℕ). n) ns ≡ ns
+map-same [] = refl
+map-same (n ∷ ns) = ap (λ ms. n ∷ ms) (map-same ns)
+
+pub stands-clock : (time : ℤ) (s : State) → StandsOnce s → StandsOnce (clock_moves time s)
+stands-clock time s h k =
+    let soon = due (λ (e : FutureEvent). e.time) time s.lists.future_events in
+    let joined = all_behind (priority_of s.transactions) (numbers soon) s.lists.current_events in
+    let before : standing s.lists k ≡ one_if (is_some (at None s.transactions k)) = h k in
+    let c : times k joined ≡ times k (numbers soon) + times k s.lists.current_events =
+    ap (times k) (sym (map-same joined)) ∙ times-all_behind k (λ (n : ℕ). n) (priority_of s.transactions) (numbers soon) s.lists.current_events
+    ∙ ap (λ ns. times k ns + times k (map (λ (n : ℕ). n) s.lists.current_events)) (map-same (numbers soon)) ∙ ap (λ ns. times k (numbers soon) + times k ns) (map-same s.lists.current_events) in
+    let f = times-due k (λ (e : FutureEvent). e.number) (λ (e : FutureEvent). e.time) time s.lists.future_events in
+    omega (arith, before, c, f)

@@ -1,0 +1,41 @@
+-- The first arrivals, block after block.
+use Rattle.std.proofs.Common.{◌≡◌, ℕ, suc, ◌+◌, ◌≤◌, ◌<◌, List, [], length, drop, drop-cons, get_or, Option, Some, None, is_some, true, false, refl, sym, ap, ◌∙◌, arith}
+use Rattle.std.proofs.lemmas.List.{drop_all}
+use Rattle.gw_object.specs.declared.parts.Block.{Block}
+use Rattle.gw_scan.specs.declared.ends.End.{End}
+use Rattle.gw_scan.specs.Outcome.{Outcome, Gives, EndsBy, ◌>>=◌}
+use Rattle.gw_scan.specs.State.{State}
+use Rattle.gw_scan.specs.Start.{first_arrival, first_arrivals}
+use Rattle.gw_scan.specs.Makes.{Schedules}
+
+add_one : (i : ℕ) → i + 1 ≡ suc i
+add_one i = omega arith
+
+module _ (bs : List Block) (s : State) (i : ℕ) (d : Block) (below : i < length bs) where
+  one : first_arrivals (i + 1) (drop i bs) s ≡ (first_arrival (i + 1) (get_or bs i d) s >>= first_arrivals (i + 1 + 1) (drop (i + 1) bs))
+  unfolding first_arrivals
+  one =
+      ap (λ (xs : List Block). first_arrivals (i + 1) xs s) (drop-cons bs i d below)
+      ∙ ap (λ k. first_arrival (i + 1) (get_or bs i d) s >>= first_arrivals (i + 1 + 1) (drop k bs)) (sym (add_one i))
+
+  goes_on : (t : State) → first_arrival (i + 1) (get_or bs i d) s ≡ Gives t → first_arrivals (i + 1) (drop i bs) s ≡ first_arrivals (i + 1 + 1) (drop (i + 1) bs) t
+  goes_on t h = one ∙ ap (λ o. o >>= first_arrivals (i + 1 + 1) (drop (i + 1) bs)) h
+
+  ends : (end : End) → first_arrival (i + 1) (get_or bs i d) s ≡ EndsBy end → first_arrivals (i + 1) (drop i bs) s ≡ EndsBy end
+  ends end h = one ∙ ap (λ o. o >>= first_arrivals (i + 1 + 1) (drop (i + 1) bs)) h
+
+  -- a block that ends the job ends it whatever comes after
+  pub stops : (end : Option End) (t new : State) (total : Outcome State) → is_some end ≡ true → Schedules end (first_arrival (i + 1) (get_or bs i d) s) t → first_arrivals (i + 1) (drop i bs) s ≡ total → Schedules end total new
+  stops None t new total there h so_far = absurd cc
+  stops (Some end) t new total there h so_far = sym so_far ∙ ends end h
+
+  pub continues : (end : Option End) (t : State) (total : Outcome State) → is_some end ≡ false → Schedules end (first_arrival (i + 1) (get_or bs i d) s) t → first_arrivals (i + 1) (drop i bs) s ≡ total → first_arrivals (i + 1 + 1) (drop (i + 1) bs) t ≡ total
+  continues None t total there h so_far = sym (goes_on t h) ∙ so_far
+  continues (Some end) t total there h so_far = absurd cc
+
+none_left : (b : ℕ) (s : State) → first_arrivals b [] s ≡ Gives s
+unfolding first_arrivals
+none_left b s = refl
+
+pub is_done : (bs : List Block) (s : State) (i : ℕ) (total : Outcome State) → length bs ≤ i → first_arrivals (i + 1) (drop i bs) s ≡ total → total ≡ Gives s
+is_done bs s i total past so_far = sym so_far ∙ ap (λ (xs : List Block). first_arrivals (i + 1) xs s) (drop_all i bs past) ∙ none_left (i + 1) s

@@ -1,0 +1,31 @@
+-- The laws of steps: there is one at most, and slices don't matter.
+use Rattle.std.specs.Prelude.{◌≡◌, ℕ, zero, suc, List, [], ◌∷◌, sum, Some, None}
+use Rattle.gw_scan.specs.State.{State}
+use Rattle.gw_scan.specs.Step.{step}
+use Rattle.gw_scan.specs.Job.{Job, Step, Alone, start_of}
+
+-- each state has at most one step
+abbrev pub AtMostOneStep : Type 0
+AtMostOneStep = (j : Job) (s t u : State) → Step j s t → Step j s u → t ≡ u
+
+-- the lone run has one state at most after so many steps
+abbrev pub OneLoneState : Type 0
+OneLoneState = (j : Job) (n : ℕ) (s t : State) → Alone j n s → Alone j n t → s ≡ t
+
+-- the state that a slice of so many steps leaves, or of fewer where the job has no further step
+unfoldable pub slice : Job → ℕ → State → State
+slice j zero s = s
+slice j (suc n) s = elim (step j.parts.blocks j.budget s) [ None ↦ s | Some t ↦ slice j n t ]
+
+-- the state that slices of so many steps leave, one after the other
+unfoldable pub slices : Job → List ℕ → State → State
+slices j [] s = s
+slices j (n ∷ ns) s = slices j ns (slice j n s)
+
+-- cutting a run into slices in any way reaches the same state
+abbrev pub SlicesReachTheSame : Type 0
+SlicesReachTheSame = (j : Job) (ns : List ℕ) (s : State) → slices j ns s ≡ slice j (sum ns) s
+
+-- and it is the state of the lone run
+abbrev pub SlicesAreAlone : Type 0
+SlicesAreAlone = (j : Job) (ns : List ℕ) (s : State) → Alone j (sum ns) s → slices j ns (start_of j) ≡ s

@@ -1,0 +1,17 @@
+-- WHAT A JOB IS AND DOES
+pub mod State
+pub mod Outcome
+pub mod Step
+pub mod Start
+pub mod Job
+pub mod Laws
+-- WHAT THE CALLS ANSWER
+pub mod Making
+pub mod Answers
+-- HOW THE MACHINE KEEPS A STATE
+pub mod View
+pub mod Standing
+pub mod Coherence
+pub mod Makes
+pub mod JobView
+pub mod SimView

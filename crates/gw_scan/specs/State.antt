@@ -1,0 +1,59 @@
+-- The simulation state.
+use Rattle.std.specs.Prelude.{ℕ, ◌+◌, ℤ, pos, List, Option, Some, None, Bool, true, false}
+use Rattle.gw_object.specs.declared.parts.Block.{Block}
+use Rattle.gw_object.specs.declared.parts.Block.TheVariants as blocks
+use Rattle.gw_transactions.specs.declared.Transaction.{Transaction}
+use Rattle.gw_transactions.specs.Table.{at, put}
+use Rattle.gw_scan.specs.declared.ends.End.{End}
+
+-- a member of the future events chain: a transaction's number, and the clock time that it waits for
+pub record FutureEvent : Type 0 where
+  pub time : ℤ
+  pub number : ℕ
+
+-- who stands where, in order; transactions are given by their numbers
+pub record Lists : Type 0 where
+  -- the active transaction, if there is one
+  pub active : Option ℕ
+  pub current_events : List ℕ
+  pub future_events : List FutureEvent
+
+-- the state of a job; a table has an entry at each number, that of a block or of a transaction, from 1
+pub record State : Type 0 where
+  -- in clock units
+  pub clock : ℤ
+  -- the termination count
+  pub count : ℤ
+  -- the steps made
+  pub steps : ℕ
+  -- the streams, from the first on, each by the number that it is at
+  pub streams : List ℕ
+  -- for each GENERATE block, the arrivals scheduled so far
+  pub scheduled : List ℕ
+  -- the live transactions; a fresh number is the table's length
+  pub transactions : List (Option Transaction)
+  pub lists : Lists
+  -- for each block, the entries so far
+  pub entries : List ℕ
+  -- the named end, if the job has ended
+  pub ended : Option End
+
+-- a move may lead here: the block exists and isn't GENERATE
+abbrev pub may_enter : Option Block → Bool
+may_enter None = false
+may_enter (Some (blocks.Generate g)) = false
+may_enter (Some (blocks.Terminate by)) = true
+may_enter (Some (blocks.Advance time)) = true
+
+-- the priority of a transaction, if it is there
+abbrev pub priority_in : Option Transaction → ℤ
+priority_in None = pos 0
+priority_in (Some t) = t.priority
+
+-- the priority of the transaction of a number
+abbrev pub priority_of : List (Option Transaction) → ℕ → ℤ
+priority_of transactions n = priority_in (at None transactions n)
+
+-- a table of counts with one more at a number
+abbrev pub raised : ℕ → List ℕ → List ℕ
+raised b counts = put 0 counts b (at 0 counts b + 1)

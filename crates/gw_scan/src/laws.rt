@@ -1,0 +1,17 @@
+//! The laws of steps, each as the contract of a function that does nothing.
+
+ghost use Rattle.gw_scan.specs.Laws.{AtMostOneStep, OneLoneState, SlicesReachTheSame, SlicesAreAlone};
+
+/// Each state has at most one step, and so a job has at most one state after so many steps.
+#[tactic(auto, using(crate::proofs::Slices::one_step, crate::proofs::Slices::one_state))]
+pub fn steps_are_determined()
+    ensures steps { AtMostOneStep }
+    ensures states { OneLoneState }
+{}
+
+/// Cutting a run into slices in any way reaches the same state, which is that of the lone run.
+#[tactic(auto, using(crate::proofs::Slices::slices_same, crate::proofs::Slices::slices_alone))]
+pub fn slices_reach_the_same()
+    ensures same { SlicesReachTheSame }
+    ensures alone { SlicesAreAlone }
+{}

@@ -1,0 +1,16 @@
+//! The step machine: a job, its simulation state, and its steps.
+#![tactic(auto)]
+
+mod blocks;
+mod ends;
+mod laws;
+mod machine;
+mod scan;
+mod sim;
+mod spec;
+mod start;
+
+pub use ends::{End, Stop};
+pub use laws::{slices_reach_the_same, steps_are_determined};
+pub use sim::{Sim, Status};
+pub use spec::{Spec, StartFault};

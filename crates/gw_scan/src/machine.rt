@@ -1,0 +1,178 @@
+//! The state of a job in memory, and the elementary changes of it.
+
+ghost use Rattle.std.specs.Prelude.{◌≡◌, ◌≤◌, ◌<◌, ◌+◌, ◌^◌, Some, None, length, vec_len, sum, OnOk, OnErr, pos, ◌<ℤ◌, ◌≤ℤ◌};
+ghost use Rattle.gw_transactions.specs.Table.{at};
+ghost use Rattle.gw_transactions.specs.Transactions.{Holds};
+ghost use Rattle.gw_scan.specs.State.{priority_of, raised};
+ghost use Rattle.gw_scan.specs.Step as model;
+ghost use Rattle.gw_scan.specs.View.{state_of};
+ghost use Rattle.gw_scan.specs.Coherence.{Linked, Carries, Every};
+
+use crate::ends::{End, Stop};
+use gw_chains::{Cec, Fec, Memory, Tx};
+use gw_transactions::{Transaction, Transactions};
+
+/// What a call made: a change of the state, or nothing but the name of an end or of an error stop.
+#[derive(Clone, Copy, Debug, PartialEq, Eq)]
+pub(crate) enum Made {
+    Step,
+    Ends(End),
+    Stops(Stop),
+}
+
+/// The state of a job: transactions lie in a slab, and the chains hold handles to them.
+#[derive(Drop)]
+pub(crate) struct Machine {
+    /// In clock units.
+    pub clock: i64,
+    /// The termination count.
+    pub count: i64,
+    pub steps: u64,
+    /// The streams, from the first on.
+    pub streams: [u32; 16],
+    /// The arrivals scheduled so far, at each GENERATE block's number.
+    pub scheduled: Vec<u64>,
+    pub transactions: Transactions,
+    pub active: Option<Tx>,
+    pub current_events: Cec,
+    pub future_events: Fec,
+    /// The entries of each block, at its number.
+    pub entries: Vec<u64>,
+    pub ended: Option<End>,
+}
+
+/// One more at a place.
+fn raise(counts: &mut Vec<u64>, place: usize)
+    requires there { place < vec_len counts.old }
+    requires few { sum counts.old.items < 2 ^ 60 }
+    ensures { counts.new.items ≡ raised place counts.old.items }
+{
+    counts[place] += 1;
+}
+
+/// The end that a termination count brings.
+fn end_of(count: i64) -> Option<End>
+    ensures { result ≡ model.end_at count }
+{
+    if 0 < count { None } else { Some(End::Done) }
+}
+
+/// The count at a place, or 0 where there is none.
+fn entry_or_none(counts: &[u64], place: usize) -> u64
+    ensures { result ≡ at 0 counts.now place }
+{
+    counts.get(place).copied().unwrap_or(0)
+}
+
+impl Machine {
+    /// The transaction enters its next block, and has a next block again.
+    pub fn enter(&mut self, tx: Tx, transaction: Transaction, next: u16)
+        requires held { Holds self.old.transactions tx }
+        requires rank { priority_of self.old.transactions.txs tx.number ≡ transaction.priority }
+        requires block { transaction.next < vec_len self.old.entries }
+        requires few { sum self.old.entries.items < 2 ^ 60 }
+        ensures state { state_of self.new ≡ model.entered tx.number transaction next (state_of self.old) }
+        ensures linked { Linked self.old → Linked self.new }
+        ensures held { Holds self.new.transactions tx }
+        ensures frame { self.new ≡ record self.old { entries = self.new.entries; transactions = self.new.transactions } }
+    {
+        raise(&mut self.entries, transaction.next as usize);
+        let mut entered = transaction;
+        entered.current = transaction.next;
+        entered.next = next;
+        self.transactions.set(tx, entered);
+    }
+
+    /// The active transaction enters its next block and is destroyed.
+    pub fn destroy(&mut self, tx: Tx, transaction: Transaction)
+        requires linked { Linked self.old }
+        requires active { self.old.active ≡ Some tx }
+        requires held { Holds self.old.transactions tx }
+        requires block { transaction.next < vec_len self.old.entries }
+        requires few { sum self.old.entries.items < 2 ^ 60 }
+        ensures state { state_of self.new ≡ model.destroyed tx.number transaction (state_of self.old) }
+        ensures linked { Linked self.new }
+    {
+        raise(&mut self.entries, transaction.next as usize);
+        let _ = self.transactions.remove(tx);
+        self.active = None;
+    }
+
+    /// The active transaction rests on the future events chain until a time.
+    pub fn rest_until(&mut self, tx: Tx, time: i64)
+        requires linked { Linked self.old }
+        requires active { self.old.active ≡ Some tx }
+        requires held { Holds self.old.transactions tx }
+        requires room { 0 < self.old.future_events.room }
+        ensures state { state_of self.new ≡ model.rests_until tx.number time (state_of self.old) }
+        ensures linked { Linked self.new }
+    {
+        self.active = None;
+        self.future_events.schedule(tx, time);
+    }
+
+    /// A new transaction is scheduled to arrive at its GENERATE block.
+    pub fn arrive(&mut self, block: u16, priority: i32, time: i64)
+        requires linked { Linked self.old }
+        requires room { (0 < self.old.transactions.room) × (0 < self.old.future_events.room) }
+        requires block { block < vec_len self.old.scheduled }
+        requires few { (length self.old.transactions.txs < 2 ^ 60) × (sum self.old.scheduled.items < 2 ^ 60) }
+        ensures state { state_of self.new ≡ model.arrives block priority time (state_of self.old) }
+        ensures linked { Linked self.new }
+        ensures carries { Carries Every self.old.transactions self.new.transactions }
+        ensures frame { (self.new.clock ≡ self.old.clock) × (self.new.entries ≡ self.old.entries) }
+    {
+        let number = self.transactions.next_number();
+        let mark = self.clock;
+        let tx = self.transactions.insert(Transaction {
+            current: 0,
+            next: block,
+            priority,
+            mark,
+            set: number,
+        });
+        self.future_events.schedule(tx, time);
+        raise(&mut self.scheduled, block as usize);
+    }
+
+    /// The termination count falls.
+    pub fn count_down(&mut self, by: i64)
+        requires least { pos 0 <ℤ self.old.count }
+        requires by { pos 0 ≤ℤ by }
+        ensures state { state_of self.new ≡ model.counted by (state_of self.old) }
+        ensures linked { Linked self.old → Linked self.new }
+    {
+        let count = self.count - by;
+        self.count = count;
+        self.ended = end_of(count);
+    }
+
+    /// Makes room for one more future event.
+    pub fn reserve_event(&mut self) -> Result<(), Memory>
+        ensures state { state_of self.new ≡ state_of self.old }
+        ensures linked { Linked self.old → Linked self.new }
+        ensures room { OnOk result (0 < self.new.future_events.room) }
+        ensures frame { self.new ≡ record self.old { future_events = self.new.future_events } }
+    {
+        self.future_events.reserve(1)
+    }
+
+    /// Makes room for one more transaction and its arrival.
+    pub fn reserve_arrival(&mut self) -> Result<(), Memory>
+        ensures state { state_of self.new ≡ state_of self.old }
+        ensures linked { Linked self.old → Linked self.new }
+        ensures room { OnOk result ((0 < self.new.transactions.room) × (0 < self.new.future_events.room)) }
+        ensures carries { Carries Every self.old.transactions self.new.transactions }
+        ensures frame { self.new ≡ record self.old { transactions = self.new.transactions; future_events = self.new.future_events } }
+    {
+        self.transactions.reserve(1)?;
+        self.future_events.reserve(1)
+    }
+
+    /// The entries of a block, by its number from 1; 0 where there is no such block.
+    pub fn entries_at(&self, block: u16) -> u64
+        ensures { result ≡ at 0 self.now.entries.items block }
+    {
+        entry_or_none(&self.entries, block as usize)
+    }
+}

@@ -1,0 +1,151 @@
+//! The scan: who is active next, and one step.
+
+ghost use Rattle.std.specs.Prelude.{◌≡◌, ◌≤◌, ◌<◌, ◌+◌, ◌^◌, ℕ, List, [], ◌∷◌, length, OnOk, OnErr, IfOk, IsTrue, false};
+ghost use Rattle.std.specs.List.{AllByRecursion};
+ghost use Rattle.gw_chains.specs.Chain.{all_behind, due, later};
+ghost use Rattle.gw_scan.specs.Step as model;
+ghost use Rattle.gw_scan.specs.View.{state_of, lists_of};
+ghost use Rattle.gw_scan.specs.Coherence.{Linked, IsHeld, IsRunning, ranked};
+ghost use Rattle.gw_scan.specs.Makes.{Makes, MakesStep};
+
+use crate::ends::{End, Stop};
+use crate::machine::{Machine, Made};
+use gw_chains::{Cec, Fec, Memory};
+use gw_object::Block;
+use gw_transactions::Transactions;
+
+/// All that are due join the current events chain, each behind its peers. There is room.
+fn move_due(
+    transactions: &Transactions,
+    future_events: &mut Fec,
+    current_events: &mut Cec,
+    time: i64,
+)
+    requires held { AllByRecursion (IsHeld transactions.now) future_events.old.items }
+    requires room { length future_events.old.items ≤ current_events.old.room }
+    ensures current { current_events.new.items ≡ all_behind (λ m. m.priority) (ranked transactions.now (due (λ e. e.time) time future_events.old.items)) current_events.old.items }
+    ensures future { future_events.new.items ≡ later (λ e. e.time) time future_events.old.items }
+{
+    while let Some(tx) = future_events.pop_due(time) {
+        let priority = transactions.get(tx).priority;
+        current_events.insert_behind(tx, priority);
+    }
+}
+
+impl Machine {
+    /// The clock goes to a time, and all that are due join the current events chain.
+    fn move_clock(&mut self, time: i64) -> Result<(), Memory>
+        requires { Linked self.old }
+        ensures ok { OnOk result (state_of self.new ≡ model.clock_moves time (state_of self.old)) }
+        ensures err { OnErr result (state_of self.new ≡ state_of self.old) }
+        ensures linked { Linked self.new }
+    {
+        self.current_events.reserve(self.future_events.len())?;
+        move_due(
+            &self.transactions,
+            &mut self.future_events,
+            &mut self.current_events,
+            time,
+        );
+        self.clock = time;
+        Ok(())
+    }
+
+    /// Nobody is active: the first of the current events chain becomes so; else the clock moves; else nothing is left.
+    fn next_active(&mut self) -> Result<Made, Memory>
+        requires linked { Linked self.old }
+        requires nobody { self.old.active ≡ None }
+        ensures made { IfOk result (λ made. Makes made (model.next_active (state_of self.old).lists.current_events (state_of self.old)) (state_of self.old) (state_of self.new)) }
+        ensures err { OnErr result (state_of self.new ≡ state_of self.old) }
+        ensures linked { Linked self.new }
+    {
+        if self.activate_first() {
+            return Ok(Made::Step);
+        }
+        match self.future_events.first_time() {
+            Some(time) => {
+                self.move_clock(time)?;
+                Ok(Made::Step)
+            }
+            None => Ok(Made::Ends(End::NoMoreEvents)),
+        }
+    }
+
+    /// The first of the current events chain becomes active, if there is one.
+    fn activate_first(&mut self) -> bool
+        requires linked { Linked self.old }
+        requires nobody { self.old.active ≡ None }
+        ensures first { IsTrue result → (n : ℕ) × (ns : List ℕ) × ((state_of self.old).lists.current_events ≡ n ∷ ns) × (state_of self.new ≡ record (state_of self.old) { lists = record (lists_of self.old) { active = Some n; current_events = ns } }) }
+        ensures none { result ≡ false → ((state_of self.old).lists.current_events ≡ []) × (state_of self.new ≡ state_of self.old) × (self.new.future_events ≡ self.old.future_events) }
+        ensures linked { Linked self.new }
+    {
+        match self.current_events.pop_first() {
+            Some(tx) => {
+                self.active = Some(tx);
+                true
+            }
+            None => false,
+        }
+    }
+
+    /// What a step does, but for the count of steps.
+    fn scan(&mut self, blocks: &[Block]) -> Result<Made, Memory>
+        requires { IsRunning (length blocks.now) self.old }
+        ensures made { IfOk result (λ made. Makes made (model.scan blocks.now (state_of self.old).lists.active (state_of self.old)) (state_of self.old) (state_of self.new)) }
+        ensures err { OnErr result (state_of self.new ≡ state_of self.old) }
+        ensures linked { Linked self.new }
+    {
+        let tx = match self.active {
+            Some(tx) => tx,
+            None => return self.next_active(),
+        };
+        let transaction = *self.transactions.get(tx);
+        if transaction.next == 0 || transaction.next as usize > blocks.len() {
+            return Ok(Made::Stops(Stop::NoBlock));
+        }
+        self.act(
+            blocks,
+            tx,
+            transaction,
+            blocks[transaction.next as usize - 1],
+        )
+    }
+
+    /// One more step is counted; where it is the last of the budget, the running job ends.
+    fn count_step(&mut self, budget: u64)
+        requires { self.old.steps < 2 ^ 60 }
+        ensures state { state_of self.new ≡ model.within_budget budget (record (state_of self.old) { steps = self.old.steps + 1 }) }
+        ensures linked { Linked self.old → Linked self.new }
+    {
+        self.steps += 1;
+        if self.ended.is_none() && self.steps == budget {
+            self.ended = Some(End::Budget);
+        }
+    }
+
+    /// The job ends by a name, and nothing else changes but the count of steps.
+    fn end_by(&mut self, end: End)
+        requires { self.old.steps < 2 ^ 60 }
+        ensures state { state_of self.new ≡ record (state_of self.old) { steps = self.old.steps + 1; ended = Some end } }
+        ensures linked { Linked self.old → Linked self.new }
+    {
+        self.steps += 1;
+        self.ended = Some(end);
+    }
+
+    /// One step of a running job, or the error stop for which it has none; nothing changes then.
+    pub fn step(&mut self, blocks: &[Block], budget: u64) -> Result<Option<Stop>, Memory>
+        requires running { IsRunning (length blocks.now) self.old }
+        requires runs { (self.old.ended ≡ None) × (self.old.steps < 2 ^ 60) }
+        ensures made { IfOk result (λ stop. MakesStep stop blocks.now budget (state_of self.old) (state_of self.new)) }
+        ensures err { OnErr result (state_of self.new ≡ state_of self.old) }
+        ensures linked { Linked self.new }
+    {
+        match self.scan(blocks)? {
+            Made::Step => self.count_step(budget),
+            Made::Ends(end) => self.end_by(end),
+            Made::Stops(stop) => return Ok(Some(stop)),
+        }
+        Ok(None)
+    }
+}

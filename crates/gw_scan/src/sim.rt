@@ -1,0 +1,139 @@
+//! One job.
+
+ghost use Rattle.std.specs.Prelude.{◌≡◌, sum, IfOk, IfErr, IsOk, OnErr};
+ghost use Rattle.gw_transactions.specs.Table.{at};
+ghost use Rattle.gw_transactions.specs.Transactions.{here_count};
+ghost use Rattle.gw_scan.specs.Job.{Alone, IsFinal, start_of};
+
+use crate::ends::{End, Stop};
+use crate::machine::Machine;
+use crate::spec::{Spec, StartFault};
+use gw_chains::Memory;
+use std::alloc::Global;
+use std::marker::Model;
+
+/// How a job stands.
+#[derive(Clone, Copy, Debug, PartialEq, Eq)]
+pub enum Status {
+    Running,
+    /// A named end stands.
+    Ended(End),
+    /// It met an error stop: it runs, and has no step.
+    Stopped(Stop),
+}
+
+/// A job and its state, which is the one that its lone run has after as many steps.
+#[derive(Drop)]
+pub struct Sim {
+    spec: Spec,
+    machine: Machine,
+}
+
+impl Model for Sim {
+    ghost use Rattle.gw_scan.specs.Job.{Progress};
+
+    ghost Value = { Progress };
+
+    ghost use Rattle.gw_scan.specs.SimView.{progress_of, HasReached};
+
+    ghost view = { progress_of };
+
+    ghost invariant = { HasReached };
+}
+
+impl Sim {
+    ghost use Rattle.gw_scan.specs.Job.{IsReached};
+    ghost use Rattle.gw_scan.specs.Answers.{Answers, status_at};
+
+    /// A job before its first step. Only want of memory refuses it (53), and hands the spec back.
+    pub fn start(alloc: Global, spec: Spec) -> Result<Sim, (Spec, StartFault)>
+        ensures started { IfOk result (λ sim. (sim.job ≡ spec) × (sim.state ≡ start_of spec)) }
+        ensures refused { IfErr result (λ e. (e.0 ≡ spec) × (e.1 ≡ StartFault.Memory)) }
+    {
+        let blocks = spec.verified().object().parts().blocks.as_slice();
+        match Machine::start(alloc, blocks, spec.count(), spec.streams()) {
+            Ok(machine) => Ok(Sim { spec, machine }),
+            Err(_) => Err((spec, StartFault::Memory)),
+        }
+    }
+
+    /// One step. On an ended job nothing changes, and its end is answered. Nothing changes either where the job is
+    /// stuck, or where memory ran out.
+    pub fn step(&mut self) -> Result<Status, Memory>
+        ensures job { self.new.job ≡ self.old.job }
+        ensures made { IfOk result (λ status. Answers status self.old.job self.old.state self.new.state) }
+        ensures err { OnErr result (self.new.state ≡ self.old.state) }
+        ensures ended { IsFinal self.old.state → IsOk result }
+        ensures alone { Alone self.new.job self.new.state.steps self.new.state }
+    {
+        if let Some(end) = self.machine.ended {
+            return Ok(Status::Ended(end));
+        }
+        let blocks = self.spec.verified().object().parts().blocks.as_slice();
+        let budget = self.spec.budget();
+        match self.machine.step(blocks, budget)? {
+            Some(stop) => Ok(Status::Stopped(stop)),
+            None => Ok(self.status()),
+        }
+    }
+
+    /// Running, or the named end that stands.
+    pub fn status(&self) -> Status
+        ensures value { result ≡ status_at self.now.state.ended }
+        ensures reached { IsReached self.now }
+    {
+        match self.machine.ended {
+            None => Status::Running,
+            Some(end) => Status::Ended(end),
+        }
+    }
+
+    /// The clock, in clock units.
+    pub fn clock(&self) -> i64
+        ensures { result ≡ self.now.state.clock }
+    {
+        self.machine.clock
+    }
+
+    /// The steps made.
+    pub fn steps(&self) -> u64
+        ensures { result ≡ self.now.state.steps }
+    {
+        self.machine.steps
+    }
+
+    /// The termination count.
+    pub fn count(&self) -> i64
+        ensures { result ≡ self.now.state.count }
+    {
+        self.machine.count
+    }
+
+    /// The entries of all blocks.
+    pub fn entries(&self) -> u64
+        ensures { result ≡ sum self.now.state.entries }
+    {
+        self.machine.entries.iter().sum()
+    }
+
+    /// The entries of a block, by its number from 1; 0 where there is no such block.
+    pub fn entries_at(&self, block: u16) -> u64
+        ensures { result ≡ at 0 self.now.state.entries block }
+    {
+        self.machine.entries_at(block)
+    }
+
+    /// How many live transactions have this block as their current one; 0 stands for those before their first block.
+    pub fn here(&self, block: u16) -> usize
+        ensures { result ≡ here_count block self.now.state.transactions }
+    {
+        self.machine.transactions.here(block)
+    }
+
+    /// What it runs.
+    pub fn spec(&self) -> &Spec
+        ensures { result.now ≡ self.now.job }
+    {
+        &self.spec
+    }
+}

@@ -1,0 +1,165 @@
+//! What a job runs.
+
+ghost use Rattle.std.specs.Prelude.{◌≡◌, nat_le, slice_index_or, IfOk, IfErr, Some, None};
+ghost use Rattle.std.specs.List.{list_all};
+ghost use Rattle.gw_scan.specs.Job as job;
+ghost use Rattle.gw_scan.specs.Making as model;
+
+use gw_object::{GREATEST_SEED, MOST_SEEDS};
+use gw_verify::Verified;
+use std::marker::Model;
+
+/// Why a job can't be made of an object, or can't be started.
+#[derive(Clone, Copy, Debug, PartialEq, Eq)]
+pub enum StartFault {
+    /// 50: more than 16 seeds, or one above 2147483646.
+    Seed,
+    /// 51: a termination count above 2^40.
+    Count,
+    /// 52: a budget of 0 steps, or above 2^40.
+    Budget,
+    /// 53: no memory.
+    Memory,
+}
+
+/// The greatest termination count, and the greatest budget of steps.
+const GREATEST: u64 = 1 << 40;
+
+/// What a job runs: an object that the verifier accepted, the seeds of its 16 streams, the termination count, and the
+/// budget, which is at most how many steps it makes.
+#[derive(Debug, Drop)]
+pub struct Spec {
+    verified: Verified,
+    streams: [u32; 16],
+    count: u64,
+    budget: u64,
+}
+
+impl Model for Spec {
+    ghost use Rattle.gw_scan.specs.Job.{Job};
+
+    ghost Value = { Job };
+
+    ghost use Rattle.gw_scan.specs.JobView.{job_of, IsJob};
+
+    ghost view = { job_of };
+
+    ghost invariant = { IsJob };
+}
+
+/// The seeds of the 16 streams, where these are given.
+fn streams_of(seeds: &[u32]) -> [u32; 16]
+    ensures { result ≡ job.streams_of seeds.now }
+{
+    let mut streams = [0; 16];
+    for i in 0..16 {
+        let given = seed_or_none(seeds, i);
+        streams[i] = if given == 0 { i as u32 + 1 } else { given };
+    }
+    streams
+}
+
+/// The seed at a place, or 0 where there is none.
+fn seed_or_none(seeds: &[u32], i: usize) -> u32
+    ensures { result ≡ slice_index_or seeds.now i 0 }
+{
+    seeds.get(i).copied().unwrap_or(0)
+}
+
+/// The seeds that are given, or the object's own where none is.
+fn seeds_or<'a>(seeds: &'a [u32], own: &'a [u32]) -> &'a [u32]
+    ensures { result.now ≡ model.seeds_or seeds.now own.now }
+{
+    match seeds {
+        [] => own,
+        [_, ..] => seeds,
+    }
+}
+
+/// The count that is given, or the object's own where that is 0.
+fn count_or(count: u64, own: u64) -> u64
+    ensures { result ≡ model.count_or count own }
+{
+    if count == 0 { own } else { count }
+}
+
+fn are_seeds(seeds: &[u32]) -> bool
+    ensures { result ≡ list_all (λ seed. nat_le seed 2147483646) seeds.now }
+{
+    seeds.iter().all(|seed| *seed <= GREATEST_SEED)
+}
+
+/// Whether these seeds may be given.
+fn seeds_fit(seeds: &[u32]) -> bool
+    ensures { result ≡ model.seeds_fit seeds.now }
+{
+    seeds.len() <= MOST_SEEDS && are_seeds(seeds)
+}
+
+impl Spec {
+    ghost use Rattle.gw_verify.specs.Checks.{Checked};
+    ghost use Rattle.gw_scan.specs.Job.{JobFits};
+    ghost use Rattle.gw_scan.specs.Making.{job_from, spec_fault};
+
+    /// A job of this object. An empty list of seeds, and a count of 0, mean the object's own; a seed of 0, or none, is
+    /// the stream's own number. A refusal names the first of 50, 51 and 52 that applies, and hands the object back.
+    pub fn new(
+        verified: Verified,
+        seeds: &[u32],
+        count: u64,
+        budget: u64,
+    ) -> Result<Spec, (Verified, StartFault)>
+        ensures made { IfOk result (λ spec. (spec ≡ job_from verified seeds.now count budget) × (spec_fault seeds.now count budget ≡ None)) }
+        ensures refused { IfErr result (λ e. (e.0 ≡ verified) × (spec_fault seeds.now count budget ≡ Some e.1)) }
+    {
+        if !seeds_fit(seeds) {
+            return Err((verified, StartFault::Seed));
+        }
+        if count > GREATEST {
+            return Err((verified, StartFault::Count));
+        }
+        if budget == 0 || budget > GREATEST {
+            return Err((verified, StartFault::Budget));
+        }
+        let parts = verified.object().parts();
+        let streams = streams_of(seeds_or(seeds, parts.seeds.as_slice()));
+        let count = count_or(count, parts.count);
+        Ok(Spec {
+            verified,
+            streams,
+            count,
+            budget,
+        })
+    }
+
+    /// The object that it runs.
+    pub fn verified(&self) -> &Verified
+        ensures value { result.now ≡ self.now.parts }
+        ensures fits { JobFits self.now }
+    {
+        &self.verified
+    }
+
+    /// The seeds of its 16 streams, from the first on.
+    pub(crate) fn streams(&self) -> [u32; 16]
+        ensures { result ≡ self.now.streams }
+    {
+        self.streams
+    }
+
+    /// The termination count, 1 to 2^40.
+    pub(crate) fn count(&self) -> u64
+        ensures value { result ≡ self.now.count }
+        ensures fits { JobFits self.now }
+    {
+        self.count
+    }
+
+    /// At most how many steps it makes, 1 to 2^40.
+    pub(crate) fn budget(&self) -> u64
+        ensures value { result ≡ self.now.budget }
+        ensures fits { JobFits self.now }
+    {
+        self.budget
+    }
+}

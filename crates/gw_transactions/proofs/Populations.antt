@@ -1,0 +1,176 @@
+-- What the fields tell of the population, before a call and after it.
+use Rattle.std.proofs.Common.{◌≡◌, ℕ, ◌+◌, ◌^◌, ◌<◌, ◌==◌, List, [], ◌∷◌, length, set, Option, Some, None, is_some, Bool, false, cond, count_by, refl, sym, ap, ◌∙◌, subst, arith}
+use Rattle.std.specs.Option.{option_map_or}
+use Rattle.std.proofs.lemmas.List.Sums.{sum_by-cons}
+use Rattle.slab.specs.Slab.{Slab, get, Updates, slab_len, with_value, entries_from}
+use Rattle.gw_chains.specs.declared.tx.Tx.{Tx}
+use Rattle.gw_transactions.specs.declared.Transaction.{Transaction}
+use Rattle.gw_transactions.specs.declared.Transactions.TheInside.{Inside}
+use Rattle.gw_transactions.specs.Table.{at, put}
+use Rattle.gw_transactions.specs.Transactions.{Population, Holds, IsSound, live_count, here_count}
+use Rattle.gw_transactions.specs.Slots.{by_number, population_of, AreNumbered}
+use Rattle.gw_transactions.proofs.Tables.{at_some, at-get_or, at_past, put-at, count_by-put}
+use Rattle.gw_transactions.proofs.Slots.{same_slot, own_number, entry_of, by_number-set, by_number-next, numbered-set, numbered-next, at-by_number, at-by_number_free, slot_of, length-by_number, count_by-by_number}
+
+-- A SOUND POPULATION
+
+abbrev HasValue : {X : Type 0} → Option X → Type 0
+HasValue {X} o = (x : X) × (o ≡ Some x)
+
+-- what is there where something of the other kind is
+some_as : {X Y : Type 0} (a : Option X) (b : Option Y) → is_some a ≡ is_some b → HasValue a → HasValue b
+some_as None b same value = absurd (cc)
+some_as (Some x) None same value = absurd (cc)
+some_as (Some x) (Some y) same value = (y, refl)
+
+same_some : {X Y : Type 0} (a : Option X) (b : Option Y) → (HasValue a → HasValue b) → (HasValue b → HasValue a) → is_some a ≡ is_some b
+same_some None None to from = refl
+same_some None (Some y) to from = let value = (from (y, refl)).1 in absurd (cc)
+same_some (Some x) None to from = let value = (to (x, refl)).1 in absurd (cc)
+same_some (Some x) (Some y) to from = refl
+
+-- the place of a number that has a transaction
+pub place_of : (p : Population) → IsSound p → (number : ℕ) (t : Transaction) → at None p.txs number ≡ Some t → (place : ℕ) × (at None p.places number ≡ Some place)
+place_of p sound number t there = some_as (at None p.txs number) (at None p.places number) (sym (sound.placed number)) (t, there)
+
+-- the transaction of a handle
+pub transaction_of : (p : Population) → IsSound p → (tx : Tx) → Holds p tx → (t : Transaction) × (at None p.txs tx.number ≡ Some t)
+transaction_of p sound tx holds = some_as (at None p.places tx.number) (at None p.txs tx.number) (sound.placed tx.number) (tx.place, holds)
+
+-- THE TABLES OF A SLAB
+
+module _ (s : Slab (ℕ × Transaction)) (next : ℕ) where
+  slot_of_tx : (number : ℕ) (t : Transaction) → at None (population_of s next).txs number ≡ Some t → (p : ℕ) × (get s p ≡ Some (number, t))
+  slot_of_tx number t there =
+      let slot = slot_of (λ place transaction. transaction) next 0 number s.slots t there in
+      (slot.0, slot.2 ∙ ap (λ x. Some (number, x)) (sym slot.3))
+
+  slot_at : (number place : ℕ) → at None (population_of s next).places number ≡ Some place → (t : Transaction) × (get s place ≡ Some (number, t))
+  slot_at number place there =
+      let slot = slot_of (λ place transaction. place) next 0 number s.slots place there in
+      let here : slot.0 ≡ place = omega (arith, slot.3) in
+      (slot.1, ap (get s) (sym here) ∙ slot.2)
+
+  module _ (num : AreNumbered s.slots next) where
+    tx-slot : (p number : ℕ) (t : Transaction) → get s p ≡ Some (number, t) → at None (population_of s next).txs number ≡ Some t
+    tx-slot p number t there = at-by_number (λ place transaction. transaction) next 0 p s.slots (number, t) num there
+
+    place-slot : (p number : ℕ) (t : Transaction) → get s p ≡ Some (number, t) → at None (population_of s next).places number ≡ Some p
+    place-slot p number t there =
+        let here : 0 + p ≡ p = omega arith in
+        rw here at (at-by_number (λ place transaction. place) next 0 p s.slots (number, t) num there)
+
+    pub length-txs : length (population_of s next).txs ≡ next
+    length-txs = length-by_number (λ place transaction. transaction) next 0 s.slots num
+
+    sound_from : 0 < next → IsSound (population_of s next)
+    sound_from begun =
+        record {
+          begun = omega (arith, length-txs, begun);
+          few = omega (arith, length-txs, num.few);
+          nobody = at-by_number_free (λ place transaction. transaction) next 0 0 s.slots (λ p a there zero_is. absurd (omega (arith, zero_is, (num.given p a there).0)));
+          lengths = length-by_number (λ place transaction. place) next 0 s.slots num ∙ sym length-txs;
+          placed = λ number.
+              same_some (at None (population_of s next).places number) (at None (population_of s next).txs number)
+              (λ place. let slot = slot_at number place.0 place.1 in (slot.0, tx-slot place.0 number slot.0 slot.1))
+              (λ t. let slot = slot_of_tx number t.0 t.1 in (slot.0, place-slot slot.0 number t.0 slot.1));
+          below = λ number place there. let slot = slot_at number place there in omega (arith, length-txs, (num.given place (number, slot.0) slot.1).1);
+          apart = λ m n place at_m at_n.
+              let a = slot_at m place at_m in
+              let b = slot_at n place at_n in
+              ap (λ (x : ℕ × Transaction). x.0) (same_slot (m, a.0) (n, b.0) (sym a.1 ∙ b.1));
+        }
+
+    live_count-slots : live_count (population_of s next).txs ≡ slab_len s
+    live_count-slots = count_by-by_number (λ place transaction. transaction) next 0 s.slots is_some is_some num refl refl (λ p a. refl)
+
+    pub here_count-slots : (block : ℕ) → here_count block (population_of s next).txs ≡ count_by (λ o. option_map_or (λ (a : ℕ × Transaction). a.1.current == block) o false) s.slots
+    here_count-slots block = count_by-by_number (λ place transaction. transaction) next 0 s.slots _ _ num refl refl (λ p a. refl)
+
+pub sound : (s : Slab (ℕ × Transaction)) (created : ℕ) → AreNumbered s.slots (created + 1) → IsSound (population_of s (created + 1))
+sound s created num = sound_from s (created + 1) num (omega arith)
+
+-- a test of the values counts alike over the slots and over the entries
+pub count_by-entries : {X : Type 0} (test : X → Bool) (key : ℕ) (slots : List (Option X)) → count_by (λ (e : ℕ × X). test e.1) (entries_from key slots) ≡ count_by (λ o. option_map_or test o false) slots
+count_by-entries test key [] = refl
+count_by-entries {X} test key (None ∷ slots) =
+    omega (arith, sum_by-cons (λ (o : Option X). cond (option_map_or test o false) 1 0) None slots, count_by-entries test (key + 1) slots)
+count_by-entries {X} test key (Some x ∷ slots) =
+    omega (arith, sum_by-cons (λ (o : Option X). cond (option_map_or test o false) 1 0) (Some x) slots, sum_by-cons (λ (e : ℕ × X). cond (test e.1) 1 0) (key, x) (entries_from (key + 1) slots), count_by-entries test (key + 1) slots)
+
+-- THE POPULATION THAT THE FIELDS SHOW
+
+module _ (inside : Inside) (num : AreNumbered inside.slots.slots (inside.created + 1)) (p : Population) (is : population_of inside.slots (inside.created + 1) ≡ p) where
+  pub sound_of : IsSound p
+  sound_of = subst IsSound is (sound inside.slots inside.created num)
+
+  pub next_is : inside.created + 1 ≡ length p.txs
+  next_is = sym (length-txs inside.slots (inside.created + 1) num) ∙ ap (λ (q : Population). length q.txs) is
+
+  pub live_is : slab_len inside.slots ≡ live_count p.txs
+  live_is = sym (live_count-slots inside.slots (inside.created + 1) num) ∙ ap (λ (q : Population). live_count q.txs) is
+
+  -- the slot of a handle
+  pub held : (tx : Tx) → Holds p tx → (t : Transaction) × (get inside.slots tx.place ≡ Some (tx.number, t)) × (at None p.txs tx.number ≡ Some t)
+  held tx holds =
+      let slot = slot_at inside.slots (inside.created + 1) tx.number tx.place (subst (λ (q : Population). Holds q tx) (sym is) holds) in
+      (slot.0, slot.1, subst (λ (q : Population). at None q.txs tx.number ≡ Some slot.0) is (tx-slot inside.slots (inside.created + 1) num tx.place tx.number slot.0 slot.1))
+
+  -- EITHER TABLE
+
+  module _ {Y : Type 0} (entry : ℕ → Transaction → Y) (table : Population → List (Option Y)) (is_table : table (population_of inside.slots (inside.created + 1)) ≡ by_number entry (inside.created + 1) 0 inside.slots.slots) where
+    was : by_number entry (inside.created + 1) 0 inside.slots.slots ≡ table p
+    was = sym is_table ∙ ap table is
+
+    -- the slot of a handle is written under its number, or emptied
+    pub table-set : (tx : Tx) (v : Option (ℕ × Transaction)) → Holds p tx → ((b : ℕ × Transaction) → v ≡ Some b → b.0 ≡ tx.number) → by_number entry (inside.created + 1) 0 (set inside.slots.slots tx.place v) ≡ put None (table p) tx.number (entry_of entry tx.place v)
+    table-set tx v holds own =
+        let slot = held tx holds in
+        let here : 0 + tx.place ≡ tx.place = omega arith in
+        rw here at (by_number-set entry (inside.created + 1) 0 tx.place inside.slots.slots (tx.number, slot.0) v num slot.1 own)
+        ∙ ap (λ ys. put None ys tx.number (entry_of entry tx.place v)) was
+
+    -- a slot that was empty takes the next number
+    pub table-next : (new : Slab (ℕ × Transaction)) (place : ℕ) (t : Transaction) → length p.txs < 2 ^ 62 → get inside.slots place ≡ None → Updates inside.slots new place (Some (inside.created + 1, t)) → by_number entry (inside.created + 1 + 1) 0 new.slots ≡ put None (table p) (length p.txs) (Some (entry place t))
+    table-next new place t few vacant updates =
+        by_number-next entry (inside.created + 1) place inside.slots.slots new.slots t (omega arith) (omega (arith, few, next_is)) num vacant updates.changed updates.others
+        ∙ ap (λ ys. put None ys (inside.created + 1) (Some (entry place t))) was
+        ∙ ap (λ n. put None (table p) n (Some (entry place t))) next_is
+
+  -- THE NUMBERS
+
+  pub numbered-set_of : (tx : Tx) (v : Option (ℕ × Transaction)) → Holds p tx → ((b : ℕ × Transaction) → v ≡ Some b → b.0 ≡ tx.number) → AreNumbered (set inside.slots.slots tx.place v) (inside.created + 1)
+  numbered-set_of tx v holds own =
+      let slot = held tx holds in
+      numbered-set inside.slots.slots (inside.created + 1) tx.place (tx.number, slot.0) v (at_some inside.slots.slots tx.place (tx.number, slot.0) (at-get_or None inside.slots.slots tx.place ∙ slot.1)) slot.1 own num
+
+  pub numbered-next_of : (new : Slab (ℕ × Transaction)) (place : ℕ) (t : Transaction) → length p.txs < 2 ^ 62 → Updates inside.slots new place (Some (inside.created + 1, t)) → AreNumbered new.slots (inside.created + 1 + 1)
+  numbered-next_of new place t few updates =
+      numbered-next inside.slots.slots new.slots (inside.created + 1) place t (omega arith) (omega (arith, few, next_is)) updates.changed updates.others num
+
+  -- the place of a handle is there already
+  pub places-put : (tx : Tx) → Holds p tx → put None p.places tx.number (Some tx.place) ≡ p.places
+  places-put tx holds = ap (put None p.places tx.number) (sym holds) ∙ put-at None p.places tx.number (at_some p.places tx.number tx.place holds)
+
+  -- HOW MANY ARE LIVE
+
+  live_count-put : (number : ℕ) (was now : Option Transaction) → at None p.txs number ≡ was → live_count (put None p.txs number now) + cond (is_some was) 1 0 ≡ live_count p.txs + cond (is_some now) 1 0
+  live_count-put number was now there =
+      ap (λ t. live_count (put None p.txs number now) + cond (is_some t) 1 0) (sym there) ∙ count_by-put None is_some p.txs number now refl
+
+  pub live_count-write : (tx : Tx) (t : Transaction) → Holds p tx → live_count (put None p.txs tx.number (Some t)) ≡ live_count p.txs
+  live_count-write tx t holds = let slot = held tx holds in omega (arith, live_count-put tx.number (Some slot.0) (Some t) slot.2)
+
+  pub live_count-remove : (tx : Tx) → Holds p tx → live_count (put None p.txs tx.number None) + 1 ≡ live_count p.txs
+  live_count-remove tx holds = let slot = held tx holds in omega (arith, live_count-put tx.number (Some slot.0) None slot.2)
+
+  pub live_count-insert : (t : Transaction) → live_count (put None p.txs (length p.txs) (Some t)) ≡ live_count p.txs + 1
+  live_count-insert t = omega (arith, live_count-put (length p.txs) None (Some t) (at_past None p.txs (length p.txs) (omega arith)))
+
+  -- a write leaves as many slots taken
+  pub slab_len-write : (tx : Tx) (t : Transaction) → Holds p tx → slab_len (with_value inside.slots tx.place (tx.number, t)) ≡ slab_len inside.slots
+  slab_len-write tx t holds =
+      sym (live_count-slots (with_value inside.slots tx.place (tx.number, t)) (inside.created + 1) (numbered-set_of tx (Some (tx.number, t)) holds (own_number _ _)))
+      ∙ ap live_count (table-set (λ place transaction. transaction) (λ q. q.txs) refl tx (Some (tx.number, t)) holds (own_number _ _))
+      ∙ live_count-write tx t holds
+      ∙ sym live_is

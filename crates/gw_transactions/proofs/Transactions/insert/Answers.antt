@@ -1,0 +1,57 @@
+use Rattle.std.proofs.Common.{refl, length, Some, None, rules, ◌≡◌, ◌<◌, ◌+◌, ◌-◌, ◌^◌, ◌∙◌, ap, arith}
+use Rattle.slab.specs.Slab.{slab_len}
+use Rattle.gw_transactions.specs.Transactions.{Population, live_count}
+use Rattle.gw_transactions.specs.Table.{at, put}
+use Rattle.gw_transactions.proofs.Tables.{at-put, at-put_past}
+use Rattle.gw_transactions.proofs.Populations.{length-txs, next_is, table-next, numbered-next_of, live_count-insert, sound_of, sound}
+use Rattle.gw_transactions.proofs.Transactions.insert.Goals as goal
+
+pub overflow_add-self : goal.overflow_add-self
+overflow_add-self c =
+    let few : (c.self.inside.created + 1) < 2 ^ 62 = omega (arith, next_is c.self.inside c.self.invariant.0 _ c.self.view_is, c.requires.few) in
+    search (rules, few)
+
+pub invariant_of-self : goal.invariant_of-self
+invariant_of-self c =
+    let room : c.self.inside.slots.capacity - slab_len c.self.inside.slots ≡ c.args.self.now.room = ap (λ (p : Population). p.room) c.self.view_is in (
+      numbered-next_of c.self.inside c.self.invariant.0 _ c.self.view_is c.insert_reserved-place.new.self c.insert_reserved-place.result c.args.transaction c.requires.few c.insert_reserved-place.ensures.updates,
+      omega (arith, room, c.requires.room, c.insert_reserved-place.ensures.len, c.insert_reserved-place.ensures.capacity),
+    )
+
+pub returns-clause-number : goal.returns-clause-number
+returns-clause-number c = next_is c.self.inside c.self.invariant.0 _ c.self.view_is
+
+pub returns-clause-txs : goal.returns-clause-txs
+returns-clause-txs c =
+    table-next c.self.inside c.self.invariant.0 _ c.self.view_is (λ place transaction. transaction) (λ p. p.txs) refl c.insert_reserved-place.new.self c.insert_reserved-place.result c.args.transaction c.requires.few c.insert_reserved-place.ensures.was_vacant c.insert_reserved-place.ensures.updates
+
+pub returns-clause-places : goal.returns-clause-places
+returns-clause-places c =
+    table-next c.self.inside c.self.invariant.0 _ c.self.view_is (λ place transaction. place) (λ p. p.places) refl c.insert_reserved-place.new.self c.insert_reserved-place.result c.args.transaction c.requires.few c.insert_reserved-place.ensures.was_vacant c.insert_reserved-place.ensures.updates
+
+pub returns-clause-made : goal.returns-clause-made
+returns-clause-made c =
+    omega (arith, next_is c.self.inside c.self.invariant.0 _ c.self.view_is, length-txs c.insert_reserved-place.new.self (c.self.inside.created + 1 + 1) (invariant_of-self c).0)
+
+pub returns-clause-live : goal.returns-clause-live
+returns-clause-live c =
+    ap live_count (returns-clause-txs c) ∙ live_count-insert c.self.inside c.self.invariant.0 _ c.self.view_is c.args.transaction
+
+pub returns-clause-held : goal.returns-clause-held
+returns-clause-held c =
+    ap (λ places. at None places (c.self.inside.created + 1)) (returns-clause-places c)
+    ∙ ap (at None (put None c.args.self.now.places (length c.args.self.now.txs) (Some c.insert_reserved-place.result))) (returns-clause-number c)
+    ∙ at-put None c.args.self.now.places (length c.args.self.now.txs) (Some c.insert_reserved-place.result)
+
+pub returns-clause-handles : goal.returns-clause-handles
+returns-clause-handles c =
+    λ tx holds.
+    let lengths = (sound_of c.self.inside c.self.invariant.0 _ c.self.view_is).lengths in
+    ap (λ places. at None places tx.number) (returns-clause-places c)
+    ∙ at-put_past c.args.self.now.places (length c.args.self.now.txs) tx.number (Some c.insert_reserved-place.result) tx.place (omega (arith, lengths)) holds
+
+pub returns-clause-was_sound : goal.returns-clause-was_sound
+returns-clause-was_sound c = sound_of c.self.inside c.self.invariant.0 _ c.self.view_is
+
+pub returns-clause-sound : goal.returns-clause-sound
+returns-clause-sound c = sound c.insert_reserved-place.new.self (c.self.inside.created + 1) (invariant_of-self c).0

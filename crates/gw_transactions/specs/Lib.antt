@@ -1,0 +1,3 @@
+pub mod Table
+pub mod Transactions
+pub mod Slots

@@ -1,0 +1,183 @@
+//! The transactions of a job: each is kept under a number of its own, and contracts see tables by number.
+#![tactic(auto)]
+
+#[cfg(test)]
+mod tests;
+
+ghost use Rattle.std.specs.Prelude.{◌≡◌, ◌≤◌, ◌<◌, ◌+◌, ◌^◌, ◌∷◌, [], length, OnOk, OnErr};
+ghost use Rattle.gw_transactions.specs.Table.{at, put};
+
+use gw_chains::{Memory, Tx};
+use slab::Slab;
+use std::alloc::Global;
+use std::marker::Model;
+
+/// A transaction: what moves through the blocks of a model, with the attributes that the GPSS World Reference Manual
+/// lists for it in its chapter on entities.
+#[derive(Clone, Copy, Debug, PartialEq, Eq)]
+pub struct Transaction {
+    /// The number of the block that it is in, from 1, or 0 before its first.
+    pub current: u16,
+    /// The number of the block that it tries to enter next, from 1.
+    pub next: u16,
+    /// Its priority: a greater one goes before a smaller one.
+    pub priority: i32,
+    /// Its mark time, in clock units.
+    pub mark: i64,
+    /// The number of its assembly set, which is the number of the set's first transaction.
+    pub set: u64,
+}
+
+/// The live transactions of a job, each under a number of its own: 1 for the first, then 2, and no number twice.
+///
+/// A handle, `Tx`, has a transaction's number and its place in memory; from `insert` to `remove` it serves to read
+/// and write the transaction. Contracts see two tables by number, the transactions and their places, and how many
+/// more fit with no allocation.
+#[derive(Debug, Drop)]
+pub struct Transactions {
+    // Each transaction with its number.
+    slots: Slab<(u64, Transaction)>,
+    // How many were made so far.
+    created: u64,
+}
+
+impl Model for Transactions {
+    ghost use Rattle.gw_transactions.specs.Transactions.{Population};
+
+    ghost Value = { Population };
+
+    ghost use Rattle.std.specs.Prelude.{◌+◌, ◌≤◌};
+    ghost use Rattle.slab.specs.Slab.{slab_len};
+    ghost use Rattle.gw_transactions.specs.Slots.{population_of, AreNumbered};
+
+    ghost view = { λ t. population_of t.slots (t.created + 1) };
+
+    ghost invariant = { λ t. AreNumbered t.slots.slots (t.created + 1) × (slab_len t.slots ≤ t.slots.capacity) };
+}
+
+impl Transactions {
+    ghost use Rattle.gw_transactions.specs.Transactions.{Holds, KeepsHandles, KeepsOtherHandles, IsSound, live_count, here_count};
+
+    /// None yet: nothing is allocated, and the first number is 1.
+    pub fn new(alloc: Global) -> Self
+        ensures txs { result.txs ≡ None ∷ [] }
+        ensures places { result.places ≡ None ∷ [] }
+        ensures sound { IsSound result }
+    {
+        Transactions {
+            slots: Slab::new(alloc),
+            created: 0,
+        }
+    }
+
+    /// Makes room for so many more transactions, so that `insert` needs no memory.
+    ///
+    /// It fails for want of memory, only where there was not that much room, and then leaves the transactions as they were.
+    pub fn reserve(&mut self, more: usize) -> Result<(), Memory>
+        ensures txs { self.new.txs ≡ self.old.txs }
+        ensures places { self.new.places ≡ self.old.places }
+        ensures room { OnOk result (more ≤ self.new.room) }
+        ensures kept { self.old.room ≤ self.new.room }
+        ensures refused { OnErr result (self.old.room < more) }
+
+        // What follows for callers.
+        ensures handles { KeepsHandles self.old self.new }
+        ensures sound { IsSound self.new }
+    {
+        self.slots.reserve(more)
+    }
+
+    /// The number of the next transaction, from 1: how many were made so far, and one.
+    pub fn next_number(&self) -> u64
+        ensures number { result ≡ length self.now.txs }
+        ensures sound { IsSound self.now }
+    {
+        self.created + 1
+    }
+
+    /// How many transactions there are now, those included that wait for their first block.
+    pub fn live(&self) -> usize
+        ensures { result ≡ live_count self.now.txs }
+    {
+        self.slots.len()
+    }
+
+    /// How many transactions have this block as their current one: a block's number, from 1, or 0 for those that were in
+    /// none yet. It looks at each transaction.
+    pub fn here(&self, block: u16) -> usize
+        ensures { result ≡ here_count block self.now.txs }
+    {
+        let mut count = 0;
+        for (_, slot) in &self.slots {
+            if slot.1.current == block {
+                count += 1;
+            }
+        }
+        count
+    }
+
+    /// Puts a transaction under the next number, in room that `reserve` made.
+    pub fn insert(&mut self, transaction: Transaction) -> Tx
+        requires room { 0 < self.old.room }
+        requires few { length self.old.txs < 2 ^ 62 }
+        ensures number { result.number ≡ length self.old.txs }
+        ensures txs { self.new.txs ≡ put None self.old.txs (length self.old.txs) (Some transaction) }
+        ensures places { self.new.places ≡ put None self.old.places (length self.old.txs) (Some result.place) }
+        ensures room { self.old.room ≤ self.new.room + 1 }
+
+        // What follows for callers.
+        ensures made { length self.new.txs ≡ length self.old.txs + 1 }
+        ensures live { live_count self.new.txs ≡ live_count self.old.txs + 1 }
+        ensures held { Holds self.new result }
+        ensures handles { KeepsHandles self.old self.new }
+        ensures was_sound { IsSound self.old }
+        ensures sound { IsSound self.new }
+    {
+        self.created += 1;
+        let number = self.created;
+        let place = self.slots.insert_reserved((number, transaction));
+        Tx { place, number }
+    }
+
+    /// The transaction of a handle.
+    pub fn get(&self, tx: Tx) -> &Transaction
+        requires { Holds self.now tx }
+        ensures value { at None self.now.txs tx.number ≡ Some result.now }
+        ensures sound { IsSound self.now }
+    {
+        &self.slots[tx.place].1
+    }
+
+    /// Writes the transaction of a handle.
+    pub fn set(&mut self, tx: Tx, transaction: Transaction)
+        requires { Holds self.old tx }
+        ensures txs { self.new.txs ≡ put None self.old.txs tx.number (Some transaction) }
+        ensures places { self.new.places ≡ self.old.places }
+        ensures room { self.old.room ≤ self.new.room }
+
+        // What follows for callers.
+        ensures made { length self.new.txs ≡ length self.old.txs }
+        ensures live { live_count self.new.txs ≡ live_count self.old.txs }
+        ensures handles { KeepsHandles self.old self.new }
+        ensures sound { IsSound self.new }
+    {
+        self.slots[tx.place] = (tx.number, transaction);
+    }
+
+    /// Takes the transaction of a handle out. Its number is not given out again.
+    pub fn remove(&mut self, tx: Tx) -> Transaction
+        requires { Holds self.old tx }
+        ensures value { at None self.old.txs tx.number ≡ Some result }
+        ensures txs { self.new.txs ≡ put None self.old.txs tx.number None }
+        ensures places { self.new.places ≡ put None self.old.places tx.number None }
+        ensures room { self.old.room < self.new.room }
+
+        // What follows for callers.
+        ensures made { length self.new.txs ≡ length self.old.txs }
+        ensures live { live_count self.new.txs + 1 ≡ live_count self.old.txs }
+        ensures handles { KeepsOtherHandles tx.number self.old self.new }
+        ensures sound { IsSound self.new }
+    {
+        self.slots.remove(tx.place).1
+    }
+}

@@ -1,0 +1,10 @@
+//! The verifier: it accepts, before any run, only objects that every check holds of.
+#![tactic(auto)]
+
+mod checks;
+mod verified;
+
+pub use verified::{Verified, verify};
+
+#[cfg(test)]
+mod tests;

@@ -1,0 +1,83 @@
+//! An object that was accepted.
+
+ghost use Rattle.std.specs.Prelude.{◌≡◌, IfOk, IfErr, Some, length, List, ℕ};
+ghost use Rattle.gw_object.specs.Grammar.{HasSpelling};
+ghost use Rattle.gw_verify.specs.Checks.{Checked, fault_of, heaviest as heaviest_of};
+
+use crate::checks::check;
+use gw_object::{Fault, Object};
+use std::marker::Model;
+
+/// An object that every check holds of.
+#[derive(Debug, Drop)]
+pub struct Verified {
+    object: Object,
+}
+
+impl Model for Verified {
+    ghost use Rattle.gw_object.specs.declared.parts.Parts.{Parts};
+    ghost use Rattle.gw_verify.specs.Checks.{Checked};
+
+    ghost Value = { Parts };
+
+    ghost view = { λ v. v.object };
+
+    ghost invariant = { λ v. Checked v.object };
+}
+
+/// Accepts an object exactly where every check holds of it; else hands it back with the first fault: kinds (13
+/// EntersGenerate, 14 FallsOff, 15 BadConstant) before flow (25 EdgeState), and block by block (ours: docs/refusals.md).
+#[tactic(auto, unfolding(crate::specs::Checks::fault_of))]
+pub fn verify(object: Object) -> Result<Verified, (Object, Fault)>
+    ensures accepted { IfOk result (λ v. (v ≡ object) × Checked object) }
+    ensures refused { IfErr result (λ e. (e.0 ≡ object) × (fault_of object ≡ Some e.1)) }
+{
+    match check(object.parts()) {
+        Ok(()) => Ok(Verified { object }),
+        Err(fault) => Err((object, fault)),
+    }
+}
+
+impl Verified {
+    /// The object, as it was handed in.
+    pub fn object(&self) -> &Object
+        ensures value { result.now ≡ self.now }
+        ensures checked { Checked self.now }
+    {
+        &self.object
+    }
+
+    /// The object, given back.
+    pub fn into_object(self) -> Object
+        ensures value { result ≡ self }
+        ensures checked { Checked self }
+    {
+        let Verified { object } = self;
+        object
+    }
+
+    /// How many blocks there are.
+    pub fn blocks(&self) -> u16
+        ensures { result ≡ length self.now.blocks }
+    {
+        self.object.parts().blocks.as_slice().len() as u16
+    }
+
+    /// How many procedures there are: none yet.
+    pub fn procedures(&self) -> u16
+        ensures { result ≡ 0 }
+    {
+        0
+    }
+
+    /// The greatest weight of a block, or 0 where there is no block.
+    pub fn heaviest(&self) -> u32
+        ensures { result ≡ heaviest_of self.now.weights }
+    {
+        let mut heaviest = 0;
+        for weight in self.object.parts().weights.as_slice() {
+            heaviest = heaviest.max(*weight);
+        }
+        heaviest
+    }
+}
