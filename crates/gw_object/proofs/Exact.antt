@@ -1,16 +1,16 @@
 -- Exact fields: what is read is spelled so, what is spelled so is read, and a fault lies in the bytes.
-use Rattle.std.proofs.Common.{◌≡◌, ℕ, zero, suc, ◌-◌, ◌+◌, ◌*◌, ◌^◌, ◌<◌, ◌≤◌, ℤ, Bool, true, false, cond, eqb, ltb, leb, ◌&&◌, IsTrue, List, [], ◌∷◌, ◌++◌, length, get_or, take, drop, Option, Some, None, Result, Ok, Err, refl, sym, ap, subst, ◌∙◌, append_assoc, arith, inl, inr, ◌⊎◌}
+use Rattle.std.proofs.Common.{◌≡◌, ℕ, zero, suc, ◌+◌, ◌^◌, ◌<◌, ◌≤◌, ℤ, Bool, true, false, cond, eqb, ltb, leb, ◌&&◌, IsTrue, List, [], ◌∷◌, ◌++◌, length, get_or, take, drop, Option, Some, None, Result, Ok, Err, refl, sym, ap, subst, ◌∙◌, append_assoc, arith, inl, inr, ◌⊎◌}
 use Rattle.std.specs.Prelude.{IfSome, FitsSigned}
 use Rattle.std.specs.List.{All, flat_map}
 use Rattle.std.specs.Int.{Width, w16, w32, w64, byte_len, from_be_bytes, to_be_bytes, cast_signed, cast_unsigned}
 use Rattle.std.proofs.lemmas.Bool.{cases_lt, ltb-false, le-ltb, lt-ltb, leb-true, le-leb, eqb-true, eq-eqb}
 use Rattle.std.proofs.lemmas.Int.{to_z-of_z, of_z-to_z}
 use Rattle.std.proofs.Math.Facts.{sfits_to_z, Fits-of_lt, Fits-of_z}
-use Rattle.std.proofs.lemmas.List.{append-nil, take_at, drop_at, take-append-drop, length-append, length-take, length-drop, get_or-drop, get_or-take, get_or_past}
+use Rattle.std.proofs.lemmas.List.{append-nil, take_at, drop_at, take-append-drop, length-append, length-take, get_or-drop, get_or-take, get_or_past}
 use Rattle.std.proofs.lemmas.List.Concat.{flat_map-cons}
 use Rattle.std.proofs.lemmas.Nat.{be_bytes_2, be_bytes_4, be_bytes_8, from_be_bytes-to_be_bytes_2, from_be_bytes-to_be_bytes_4, from_be_bytes-to_be_bytes_8}
 use Rattle.gw_object.specs.Codes as codes
-use Rattle.gw_object.specs.declared.reading.error.Bad.{Bad}
+use Rattle.gw_object.specs.declared.error.Bad.{Bad}
 use Rattle.gw_object.specs.Fields.{◌>>=◌, Read, Field, bad, byte, byte_read, number, signed, read_as, made, tested, and_then, both, fitting, constant, ranged, optional, count, count_spelling, count_read, long_count_read, Element, plain, last_tested, elements_read, ElementsFit, elements, listed, listed_read}
 
 -- ---- bytes
@@ -292,7 +292,7 @@ pub record Tagged {A B : Type 0} (tag : ℕ) (f : Field B) (make : B → A) (res
   pub taken : Takes (tag ∷ rest) (tag ∷ f.spell value) x.1
   pub fit : f.Fits value
 
-pub tag_takes : {A B : Type 0} (tag : ℕ) (f : Field B) (make : B → A) → IsExact f → (rest : List ℕ) (x : A × List ℕ) → IsBytes rest → read_as make f rest ≡ Ok x → Tagged tag f make rest x
+pub tag_takes : {A B : Type 0} (tag : ℕ) (f : Field B) (make : B → A) → IsExact f → (rest : List ℕ) (x : A × List ℕ) → IsBytes rest → read_as make f.read rest ≡ Ok x → Tagged tag f make rest x
 tag_takes tag f make exact rest x fits e =
     let a = bind_ok (f.read rest) (λ y. Ok (make y.0, y.1)) x e in
     let p = exact.takes rest a.0 fits a.1 in
@@ -304,7 +304,7 @@ tag_takes tag f make exact rest x fits e =
       fit = p.1;
     }
 
-pub tag_within : {A B : Type 0} (tag : ℕ) (f : Field B) (make : B → A) → IsExact f → (rest : List ℕ) (e : Bad) → IsBytes rest → read_as make f rest ≡ Err e → e.left ≤ length (tag ∷ rest)
+pub tag_within : {A B : Type 0} (tag : ℕ) (f : Field B) (make : B → A) → IsExact f → (rest : List ℕ) (e : Bad) → IsBytes rest → read_as make f.read rest ≡ Err e → e.left ≤ length (tag ∷ rest)
 tag_within tag f make exact rest e fits h =
     elim (bind_err (f.read rest) (λ y. Ok (make y.0, y.1)) e h) [
       | inl first ↦ omega (arith, exact.within rest e fits first)
@@ -315,7 +315,7 @@ tag_within tag f make exact rest e fits h =
 
 -- what stands behind a flag that is not 00
 abbrev some_read : {A : Type 0} → Field A → ℕ → List ℕ → Read (Option A)
-some_read f flag bytes = cond (eqb flag 1) (read_as (λ y. Some y) f bytes) (Err (bad codes.tag (flag ∷ bytes)))
+some_read f flag bytes = cond (eqb flag 1) (read_as (λ y. Some y) f.read bytes) (Err (bad codes.tag (flag ∷ bytes)))
 
 optional_takes : {A : Type 0} (f : Field A) → IsExact f → (bytes : List ℕ) (x : Option A × List ℕ) → IsBytes bytes → (optional f).read bytes ≡ Ok x → Takes bytes ((optional f).spell x.0) x.1 × IfSome x.0 f.Fits
 optional_takes f exact [] x fits e = absurd (not_both x (bad codes.truncated []) (sym e))
@@ -325,7 +325,7 @@ optional_takes {A} f exact (flag ∷ bytes) x fits e =
       | inl none ↦
           rw (eqb-true flag 0 none.0) (subst (λ (z : Option A × List ℕ). Takes (0 ∷ bytes) ((optional f).spell z.0) z.1 × IfSome z.0 f.Fits) (ok_is (None, bytes) x none.1) (record { parts = refl; rest_fits = rest_fits }, tt))
       | inr some ↦
-          elim (chosen (eqb flag 1) (read_as (λ y. Some y) f bytes) (Err (bad codes.tag (flag ∷ bytes))) (Ok x) some.1) [
+          elim (chosen (eqb flag 1) (read_as (λ y. Some y) f.read bytes) (Err (bad codes.tag (flag ∷ bytes))) (Ok x) some.1) [
             | inl one ↦
                 let t = tag_takes 1 f (λ y. Some y) exact bytes x rest_fits one.1 in
                 rw (eqb-true flag 1 one.0) (subst (λ (o : Option A). Takes (1 ∷ bytes) ((optional f).spell o) x.1 × IfSome o f.Fits) t.is (t.taken, t.fit))
@@ -343,7 +343,7 @@ optional_within f exact (flag ∷ bytes) e fits h =
     elim (chosen (eqb flag 0) (Ok (None, bytes)) (some_read f flag bytes) (Err e) h) [
       | inl none ↦ not_both (None, bytes) e none.1
       | inr some ↦
-          elim (chosen (eqb flag 1) (read_as (λ y. Some y) f bytes) (Err (bad codes.tag (flag ∷ bytes))) (Err e) some.1) [
+          elim (chosen (eqb flag 1) (read_as (λ y. Some y) f.read bytes) (Err (bad codes.tag (flag ∷ bytes))) (Err e) some.1) [
             | inl one ↦ tag_within flag f (λ y. Some y) exact bytes e (IsBytes-rest flag bytes fits) one.1
             | inr other ↦ rw (← err_is (bad codes.tag (flag ∷ bytes)) e other.1) (omega arith)
           ]

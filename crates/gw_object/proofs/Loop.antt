@@ -1,8 +1,8 @@
 -- Reading the elements of a list one after the other, as a loop does.
-use Rattle.std.proofs.Common.{◌≡◌, ℕ, suc, ◌-◌, ◌+◌, ◌≤◌, ◌<◌, List, [], ◌∷◌, ◌++◌, Result, Ok, Err, refl, sym, ◌∙◌, arith}
-use Rattle.gw_object.specs.declared.reading.error.ReadError.{ReadError}
-use Rattle.gw_object.specs.declared.reading.error.ReadError.TheVariants.{OutOfMemory, Wrong}
-use Rattle.gw_object.specs.Fields.{◌>>=◌, Read, elements_read}
+use Rattle.std.proofs.Common.{◌≡◌, ℕ, suc, ◌-◌, ◌+◌, ◌≤◌, ◌<◌, List, [], ◌∷◌, ◌++◌, Ok, Err, refl, sym, ◌∙◌, arith}
+use Rattle.gw_object.specs.declared.error.ReadError.{ReadError}
+use Rattle.gw_object.specs.declared.error.ReadError.TheVariants.{OutOfMemory, Wrong}
+use Rattle.gw_object.specs.Fields.{Read, elements_read}
 use Rattle.gw_object.specs.Reading.{Fails}
 
 -- after one more element the rest is still to be read

@@ -1,7 +1,7 @@
 -- The object grammar is exact: each of its fields, the object, and reading as a whole.
-use Rattle.std.proofs.Common.{rules, ◌≡◌, ◌≢◌, ℕ, zero, suc, ◌-◌, ◌+◌, ◌^◌, ◌<◌, ◌≤◌, ℤ, pos, negsuc, Bool, true, false, cond, eqb, ltb, leb, ◌&&◌, IsTrue, List, [], ◌∷◌, ◌++◌, length, get_or, Option, Some, None, Result, Ok, Err, refl, sym, ap, subst, ◌∙◌, append_assoc, arith, inl, inr, ◌⊎◌, slice_get}
+use Rattle.std.proofs.Common.{rules, ◌≡◌, ◌≢◌, ℕ, zero, suc, ◌-◌, ◌≤◌, ℤ, pos, negsuc, true, false, cond, eqb, ltb, IsTrue, List, [], ◌∷◌, ◌++◌, length, Option, Some, None, Result, Ok, Err, refl, sym, ap, subst, ◌∙◌, arith, inl, inr, ◌⊎◌, slice_get}
 use Rattle.std.specs.Prelude.{IfOk}
-use Rattle.std.specs.List.{All, flat_map}
+use Rattle.std.specs.List.{All}
 use Rattle.std.specs.Int.{w16, w32, w64}
 use Rattle.std.proofs.lemmas.Bool.{cases_lt, eqb-true, ne_eqb, ltb-true, lt-ltb, le-ltb}
 use Rattle.std.proofs.lemmas.List.{append-nil, nil_from_length}
@@ -14,11 +14,11 @@ use Rattle.gw_object.specs.declared.parts.Block.{Block}
 use Rattle.gw_object.specs.declared.parts.Block.TheVariants.{Generate, Terminate, Advance}
 use Rattle.gw_object.specs.declared.parts.TableState.{TableState}
 use Rattle.gw_object.specs.declared.parts.Parts.{Parts}
-use Rattle.gw_object.specs.declared.reading.error.Bad.{Bad}
-use Rattle.gw_object.specs.Fields.{◌>>=◌, Read, Field, bad, byte, number, signed, read_as, made, tested, and_then, both, fitting, constant, ranged, optional, count, Element, plain, last_tested, ElementsFit, elements, listed}
-use Rattle.gw_object.specs.Grammar.{OperandFits, constant_of, operand, is_zero, IsZero, zero_operand, SpreadFits, spread, GenerateFits, generate, BlockFits, block_spelling, block_read, block, no_elements, state, weight, tables, head, seed, start_count, object, spelling, IsWithinLimits, IsCanonical, HasSpelling, Spells}
+use Rattle.gw_object.specs.declared.error.Bad.{Bad}
+use Rattle.gw_object.specs.Fields.{Read, bad, byte, number, signed, read_as, constant, optional, count, plain, ElementsFit}
+use Rattle.gw_object.specs.Grammar.{OperandFits, constant_of, operand, is_zero, IsZero, zero_operand, SpreadFits, spread, GenerateFits, generate, BlockFits, block_spelling, block_read, block, no_elements, state, weight, tables, head, seed, start_count, object, spelling, HasSpelling, Spells}
 use Rattle.gw_object.specs.Reading.{whole_read, with_place, first_fault, out_of_memory}
-use Rattle.gw_object.proofs.Exact.{IsBytes, IsBytes-from_All, Takes, Takes-shorter, IsExact, IsExactElement, tag_takes, tag_within, IsBytes-rest, bind_ok, bind_err, chosen, ok_is, err_is, not_both, byte_exact, wide16, wide32, wide64, number_exact, signed_exact, made_exact, tested_exact, and_then_exact, both_exact, fitting_exact, constant_exact, ranged_exact, optional_exact, count_exact, plain_exact, last_tested_exact, elements_exact, listed_exact}
+use Rattle.gw_object.proofs.Exact.{IsBytes, Takes, Takes-shorter, IsExact, IsExactElement, tag_takes, tag_within, IsBytes-rest, bind_ok, bind_err, chosen, ok_is, err_is, not_both, byte_exact, wide16, wide32, wide64, number_exact, signed_exact, made_exact, tested_exact, and_then_exact, both_exact, fitting_exact, constant_exact, ranged_exact, optional_exact, count_exact, plain_exact, last_tested_exact, elements_exact, listed_exact}
 
 -- ---- operands
 
@@ -71,13 +71,13 @@ generate_exact = fitting_exact GenerateFits _
     (both_exact _ _ spread_exact (both_exact _ _ (optional_exact _ (signed_exact w64 wide64)) (both_exact _ _ (optional_exact _ (number_exact w32 wide32)) (signed_exact w32 wide32)))))
 
 abbrev generate_read : List ℕ → Read Block
-generate_read = read_as (λ g. Generate g) generate
+generate_read = read_as (λ g. Generate g) generate.read
 
 abbrev terminate_read : List ℕ → Read Block
-terminate_read = read_as (λ n. Terminate n) operand
+terminate_read = read_as (λ n. Terminate n) operand.read
 
 abbrev advance_read : List ℕ → Read Block
-advance_read = read_as (λ s. Advance s) spread
+advance_read = read_as (λ s. Advance s) spread.read
 
 abbrev no_block : ℕ → List ℕ → Read Block
 no_block tag rest = Err (bad codes.tag (tag ∷ rest))

@@ -1,5 +1,5 @@
 -- How long spellings are at most.
-use Rattle.std.proofs.Common.{◌≡◌, ℕ, zero, suc, ◌+◌, ◌*◌, ◌≤◌, Bool, true, false, cond, ltb, List, [], ◌∷◌, ◌++◌, length, Option, Some, None, refl, ap, arith, length-append, ◌∙◌}
+use Rattle.std.proofs.Common.{◌≡◌, ℕ, ◌+◌, ◌*◌, ◌≤◌, true, false, cond, ltb, List, [], ◌∷◌, length, Option, Some, None, arith, length-append}
 use Rattle.std.specs.List.{flat_map}
 use Rattle.std.specs.Int.{w32, w64, to_be_bytes}
 use Rattle.std.proofs.lemmas.List.Concat.{flat_map-cons}
@@ -11,8 +11,8 @@ use Rattle.gw_object.specs.declared.parts.Block.{Block}
 use Rattle.gw_object.specs.declared.parts.Block.TheVariants.{Generate, Terminate, Advance}
 use Rattle.gw_object.specs.declared.parts.TableState.{TableState}
 use Rattle.gw_object.specs.declared.parts.Parts.{Parts}
-use Rattle.gw_object.specs.Fields.{Field, count_spelling, optional, optional_spelling, number, signed}
-use Rattle.gw_object.specs.Grammar.{operand, zero_operand, spread, generate, block, block_spelling, state, head, tables, object, spelling}
+use Rattle.gw_object.specs.Fields.{Field, count_spelling, optional, number, signed}
+use Rattle.gw_object.specs.Grammar.{operand, zero_operand, spread, generate, block, state, head, tables, object, spelling}
 
 -- a list whose elements take at most so many bytes each
 flat_map_size : {A : Type 0} (f : A → List ℕ) (most : ℕ) → ((x : A) → length (f x) ≤ most) → (xs : List A) → length (flat_map f xs) ≤ most * length xs

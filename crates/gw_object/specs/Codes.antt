@@ -1,5 +1,5 @@
--- The codes of refusals that reading and building an object answer, and their names.
-use Rattle.std.specs.Prelude.{ℕ, List, Option, Some, None, if◌then◌else◌, ◌==◌, codes}
+-- The codes of refusals that reading and building an object answer.
+use Rattle.std.specs.Prelude.{ℕ}
 
 -- the bytes end before a field does
 abbrev pub truncated : ℕ
@@ -32,16 +32,3 @@ trailing = 7
 -- memory ran out
 abbrev pub memory : ℕ
 memory = 8
-
--- the name of a code
-abbrev pub name_of : ℕ → Option (List ℕ)
-name_of code =
-    if code == truncated then Some (codes "Truncated")
-    else if code == magic then Some (codes "Magic")
-    else if code == version then Some (codes "Version")
-    else if code == tag then Some (codes "Tag")
-    else if code == limit then Some (codes "Limit")
-    else if code == not_canonical then Some (codes "NotCanonical")
-    else if code == trailing then Some (codes "Trailing")
-    else if code == memory then Some (codes "Memory")
-    else None

@@ -1,9 +1,9 @@
 -- Fields of a format: how a value is spelled in bytes, how it is read, and which values have a spelling.
-use Rattle.std.specs.Prelude.{◌≡◌, ℕ, zero, suc, ◌≤◌, ◌<◌, ◌^◌, ℤ, FitsSigned, Bool, true, false, IsTrue, if◌then◌else◌, ◌==◌, nat_lt, nat_le, ◌&&◌, List, [], ◌∷◌, ◌++◌, length, take, drop, Option, Some, None, IfSome, Result, Ok, Err}
+use Rattle.std.specs.Prelude.{◌≡◌, ℕ, zero, suc, ◌≤◌, ◌<◌, ◌^◌, ℤ, FitsSigned, Bool, true, IsTrue, if◌then◌else◌, ◌==◌, nat_lt, nat_le, ◌&&◌, List, [], ◌∷◌, ◌++◌, length, take, drop, Option, Some, None, IfSome, Result, Ok, Err}
 use Rattle.std.specs.List.{flat_map}
 use Rattle.std.specs.Int.{Width, w32, byte_len, to_be_bytes, from_be_bytes, cast_signed, cast_unsigned}
 use Rattle.gw_object.specs.Codes as codes
-use Rattle.gw_object.specs.declared.reading.error.Bad.{Bad}
+use Rattle.gw_object.specs.declared.error.Bad.{Bad}
 
 -- what was read and the bytes after it, or the first fault
 abbrev pub Read : Type 0 → Type 0
@@ -30,6 +30,7 @@ pub record Field (A : Type 0) : Type 1 where
 
 -- ---- numbers
 
+-- the first byte
 abbrev pub byte_read : List ℕ → Read ℕ
 byte_read [] = Err (bad codes.truncated [])
 byte_read (b ∷ rest) = Ok (b, rest)
@@ -57,14 +58,14 @@ signed w = record {
 -- ---- ways to make a field of others
 
 -- a field's value, made into another
-abbrev pub read_as : {A B : Type 0} → (A → B) → Field A → List ℕ → Read B
-read_as make f bytes = f.read bytes >>= λ x. Ok (make x.0, x.1)
+abbrev pub read_as : {A B : Type 0} → (A → B) → (List ℕ → Read A) → List ℕ → Read B
+read_as make read bytes = read bytes >>= λ x. Ok (make x.0, x.1)
 
 -- a field's value under another type
 abbrev pub made : {A B : Type 0} → (A → B) → (B → A) → Field A → Field B
 made make back f = record {
   spell = λ y. f.spell (back y);
-  read = read_as make f;
+  read = read_as make f.read;
   Fits = λ y. f.Fits (back y);
 }
 
@@ -100,23 +101,25 @@ constant value code f = fitting (λ _. Unit {0}) (made (λ _. tt) (λ _. value) 
 abbrev pub ranged : ℕ → ℕ → Field ℕ → Field ℕ
 ranged least most f = fitting (λ n. (least ≤ n) × (n ≤ most)) (tested (λ n. nat_le least n && nat_le n most) codes.limit f)
 
-abbrev pub optional_spelling : {A : Type 0} → Field A → Option A → List ℕ
-optional_spelling f None = 0 ∷ []
-optional_spelling f (Some x) = 1 ∷ f.spell x
+-- a flag, and the value where there is one
+abbrev pub optional_spelling : {A : Type 0} → (A → List ℕ) → Option A → List ℕ
+optional_spelling spell None = 0 ∷ []
+optional_spelling spell (Some x) = 1 ∷ spell x
+
+-- by the flag; another flag is a fault
+abbrev pub optional_read : {A : Type 0} → (List ℕ → Read A) → List ℕ → Read (Option A)
+optional_read read bytes = byte_read bytes >>= λ flag.
+    if flag.0 == 0 then Ok (None, flag.1)
+    else if flag.0 == 1 then read_as (λ x. Some x) read flag.1
+    else Err (bad codes.tag bytes)
 
 -- 00, or 01 and a value
 abbrev pub optional : {A : Type 0} → Field A → Field (Option A)
-optional f = record {
-  spell = optional_spelling f;
-  read = λ bytes. byte_read bytes >>= λ flag.
-      if flag.0 == 0 then Ok (None, flag.1)
-      else if flag.0 == 1 then read_as (λ x. Some x) f flag.1
-      else Err (bad codes.tag bytes);
-  Fits = λ o. IfSome o f.Fits;
-}
+optional f = record { spell = optional_spelling f.spell; read = optional_read f.read; Fits = λ o. IfSome o f.Fits }
 
 -- ---- lists
 
+-- the shorter form where it holds the count
 abbrev pub count_spelling : ℕ → List ℕ
 count_spelling n = if nat_lt n 255 then n ∷ [] else 255 ∷ to_be_bytes w32 n
 
@@ -129,6 +132,7 @@ long_count_read most bytes rest =
     else if nat_lt n.0 255 then Err (bad codes.not_canonical bytes)
     else Ok n
 
+-- the form by its first byte
 unfoldable pub count_read : ℕ → List ℕ → Read ℕ
 count_read most bytes = byte_read bytes >>= λ first.
     if nat_lt first.0 255 then (if nat_lt most first.0 then Err (bad codes.limit bytes) else Ok first)
@@ -172,6 +176,7 @@ elements e n = record {
   Fits = λ xs. (length xs ≡ n) × ElementsFit e.Fits [] xs;
 }
 
+-- a count, and as many elements
 abbrev pub listed_read : {A : Type 0} → (List A → ℕ → List ℕ → Read A) → ℕ → List ℕ → Read (List A)
 listed_read read most bytes = count_read most bytes >>= λ n. elements_read read n.0 [] n.1
 

@@ -1,5 +1,5 @@
 -- The object grammar: which parts have a spelling, and which bytes spell them.
-use Rattle.std.specs.Prelude.{◌≡◌, ◌≢◌, ◌⊎◌, ℕ, zero, suc, ◌-◌, ◌≤◌, ◌<◌, ◌^◌, ℤ, pos, negsuc, FitsSigned, Bool, true, false, List, [], ◌∷◌, ◌++◌, length, slice_get, Option, Some, None, IfSome, Result, Ok, Err, if◌then◌else◌, ◌==◌, nat_lt}
+use Rattle.std.specs.Prelude.{◌≡◌, ◌≢◌, ◌⊎◌, ℕ, zero, suc, ◌-◌, ◌≤◌, ◌<◌, ◌^◌, ℤ, pos, negsuc, FitsSigned, Bool, true, false, List, ◌∷◌, length, slice_get, Option, Some, IfSome, Err, if◌then◌else◌, ◌==◌, nat_lt}
 use Rattle.std.specs.List.{All}
 use Rattle.std.specs.Int.{w16, w32, w64}
 use Rattle.gw_object.specs.Codes as codes
@@ -16,9 +16,11 @@ use Rattle.gw_object.specs.Fields.{◌>>=◌, Read, Field, bad, byte, byte_read,
 
 -- ---- operands
 
+-- the number of a constant
 abbrev pub constant_of : Operand → ℤ
 constant_of (Constant n) = n
 
+-- the number takes at most eight bytes
 abbrev pub OperandFits : Operand → Type 0
 OperandFits (Constant n) = FitsSigned w64 n
 
@@ -26,11 +28,13 @@ OperandFits (Constant n) = FitsSigned w64 n
 unfoldable pub operand : Field Operand
 operand = fitting OperandFits (made (λ x. Constant x.1) (λ x. (tt, constant_of x)) (both (constant 0 codes.tag byte) (signed w64)))
 
+-- the number is 0
 abbrev pub is_zero : ℤ → Bool
 is_zero (pos zero) = true
 is_zero (pos (suc n)) = false
 is_zero (negsuc n) = false
 
+-- the operand is the constant 0
 abbrev pub IsZero : Operand → Type 0
 IsZero x = x ≡ Constant (pos 0)
 
@@ -38,6 +42,7 @@ IsZero x = x ≡ Constant (pos 0)
 unfoldable pub zero_operand : Field Operand
 zero_operand = fitting IsZero (made (λ x. Constant x.1) (λ x. (tt, constant_of x)) (both (constant 0 codes.tag byte) (tested is_zero codes.limit (signed w64))))
 
+-- half the range is 0 yet
 pub record SpreadFits (s : Spread) : Type 0 where
   pub mean : OperandFits s.mean
   pub half : IsZero s.half
@@ -48,6 +53,7 @@ spread = fitting SpreadFits (made (λ (mean, half). record { mean = mean; half =
 
 -- ---- blocks
 
+-- each operand fits
 pub record GenerateFits (g : GenerateOperands) : Type 0 where
   pub interval : SpreadFits g.interval
   pub first : IfSome g.first (FitsSigned w64)
@@ -61,24 +67,27 @@ generate = fitting GenerateFits (made
     (λ g. (g.interval, (g.first, (g.limit, g.priority))))
     (both spread (both (optional (signed w64)) (both (optional (number w32)) (signed w32)))))
 
+-- the operands of a block fit
 abbrev pub BlockFits : Block → Type 0
 BlockFits (Generate g) = GenerateFits g
 BlockFits (Terminate decrement) = OperandFits decrement
 BlockFits (Advance time) = SpreadFits time
 
+-- the tag, and the operands behind it
 abbrev pub block_spelling : Block → List ℕ
 block_spelling (Generate g) = 1 ∷ generate.spell g
 block_spelling (Terminate decrement) = 2 ∷ operand.spell decrement
 block_spelling (Advance time) = 3 ∷ spread.spell time
 
+-- by its tag; another tag is a fault
 unfoldable pub block_read : List ℕ → Read Block
 block_read bytes = byte_read bytes >>= λ tag.
-    if tag.0 == 1 then read_as (λ g. Generate g) generate tag.1
-    else if tag.0 == 2 then read_as (λ decrement. Terminate decrement) operand tag.1
-    else if tag.0 == 3 then read_as (λ time. Advance time) spread tag.1
+    if tag.0 == 1 then read_as (λ g. Generate g) generate.read tag.1
+    else if tag.0 == 2 then read_as (λ decrement. Terminate decrement) operand.read tag.1
+    else if tag.0 == 3 then read_as (λ time. Advance time) spread.read tag.1
     else Err (bad codes.tag bytes)
 
--- the tag and the operands
+-- a block
 abbrev pub block : Field Block
 block = record { spell = block_spelling; read = block_read; Fits = BlockFits }
 
@@ -92,6 +101,7 @@ no_elements = made (λ _. tt) (λ _. 0) (count 0)
 unfoldable pub state : Field TableState
 state = fitting (λ _. Unit {0}) (made (λ _. record {}) (λ _. (tt, (tt, tt))) (both no_elements (both no_elements no_elements)))
 
+-- a certified weight
 abbrev pub weight : Field ℕ
 weight = ranged 1 greatest_weight (number w32)
 
@@ -109,6 +119,7 @@ head = both (constant 0x4750_534f codes.magic (number w32)) (constant 1 codes.ve
 abbrev pub seed : Element ℕ
 seed = last_tested (nat_lt 0) codes.not_canonical (ranged 0 greatest_seed (number w32))
 
+-- the termination count
 abbrev pub start_count : Field ℕ
 start_count = ranged 1 greatest_count (number w64)
 

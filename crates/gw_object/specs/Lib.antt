@@ -2,4 +2,5 @@ pub mod Codes
 pub mod Fields
 pub mod Grammar
 pub mod Limits
+pub mod Names
 pub mod Reading

@@ -9,6 +9,7 @@ most_bytes = 2 ^ 20
 abbrev pub most_seeds : ℕ
 most_seeds = 16
 
+-- a seed
 abbrev pub greatest_seed : ℕ
 greatest_seed = 2147483646
 
@@ -16,8 +17,10 @@ greatest_seed = 2147483646
 abbrev pub greatest_count : ℕ
 greatest_count = 2 ^ 40
 
+-- blocks
 abbrev pub most_blocks : ℕ
 most_blocks = 4096
 
+-- a weight
 abbrev pub greatest_weight : ℕ
 greatest_weight = 1000000000

@@ -2,7 +2,7 @@
 
 ghost use Rattle.std.specs.Prelude.{◌≡◌};
 ghost use Rattle.std.specs.Option.{option_copied};
-ghost use Rattle.gw_object.specs.Codes.{name_of};
+ghost use Rattle.gw_object.specs.Names.{name_of};
 
 /// The bytes end before a field does.
 pub const TRUNCATED: u16 = 1;

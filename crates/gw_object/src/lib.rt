@@ -1,16 +1,20 @@
-//! The object: its parts, and the one spelling of them in bytes.
+//! The object: its parts, and the one spelling of them in bytes (docs/object-format.md).
 #![tactic(auto)]
 
+mod blocks;
 pub mod codes;
-mod elements;
+mod error;
 mod fault;
 mod items;
 pub mod laws;
 mod limits;
+mod lists;
+mod numbers;
 mod object;
 mod parts;
 mod reading;
 mod rules;
+mod spelled;
 mod writing;
 
 pub use fault::{Fault, Place};

@@ -1,4 +1,5 @@
-//! The parts of an object, as a plain record.
+//! The parts of an object, as a plain record. Their limits are the object format's (docs/object-format.md);
+//! what the blocks mean is in the GPSS World Reference Manual, chapter 7.
 
 use crate::items::Items;
 
@@ -12,7 +13,9 @@ pub enum Operand {
 /// A random time in clock units: the mean, and how far it may lie to either side (half the range).
 #[derive(Clone, Copy, Debug, PartialEq, Eq)]
 pub struct Spread {
+    /// The mean, in clock units.
     pub mean: Operand,
+    /// Half the range, in clock units: the constant 0 yet.
     pub half: Operand,
 }
 
@@ -23,7 +26,7 @@ pub struct Generate {
     pub interval: Spread,
     /// When the first arrival comes, in clock units; without it after a drawn interval.
     pub first: Option<i64>,
-    /// How many arrivals there are at most.
+    /// How many arrivals there are at most; without it there is no such limit.
     pub limit: Option<u32>,
     /// The priority of the arrivals.
     pub priority: i32,
@@ -44,17 +47,17 @@ pub enum Block {
 #[derive(Clone, Copy, Debug, PartialEq, Eq)]
 pub struct TableState {}
 
-/// The parts of an object.
+/// The parts of an object. Comparing them takes no memory.
 #[derive(Debug, Drop, PartialEq, Eq)]
 pub struct Parts {
-    /// The seeds of the streams from the first on; 0 is the stream's own number.
+    /// The seeds of the streams from the first on, at most 16; 0 is the stream's own number.
     pub seeds: Items<u32>,
-    /// The termination count.
+    /// The termination count, from 1 to 2^40.
     pub count: u64,
-    /// The blocks; the first has the number 1.
+    /// The blocks, at most 4,096; the first has the number 1.
     pub blocks: Items<Block>,
     /// For each block its row of the state table, if it has one.
     pub states: Items<Option<TableState>>,
-    /// For each block its certified weight.
+    /// For each block its certified weight, from 1 to 1,000,000,000.
     pub weights: Items<u32>,
 }

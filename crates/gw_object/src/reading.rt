@@ -5,21 +5,16 @@ ghost use Rattle.gw_object.specs.declared.parts.Parts.{Parts};
 ghost use Rattle.gw_object.specs.Grammar.{head, tables, object, Spells};
 ghost use Rattle.gw_object.specs.Reading.{Gives, whole_read, placed, first_fault, out_of_memory};
 
-pub mod blocks;
-pub mod error;
-pub mod lists;
-pub mod numbers;
-
 use crate::codes::*;
-use crate::elements::*;
+use crate::error::*;
 use crate::fault::{Fault, Place};
 use crate::items::Items;
 use crate::limits::*;
+use crate::lists::*;
+use crate::numbers::*;
 use crate::object::Object;
-use crate::parts::{Parts, TableState};
-use error::*;
-use lists::*;
-use numbers::*;
+use crate::parts::*;
+use crate::spelled::Spelled;
 use std::alloc::Global;
 
 /// The letters `GPSO`.
@@ -27,14 +22,14 @@ const LETTERS: u32 = 0x4750_534f;
 
 /// The letters `GPSO` and the version.
 #[tactic(auto, unfolding(crate::specs::Grammar::head))]
-fn read_head(bytes: &[u8]) -> Result<&[u8], ReadError>
+fn read_head(alloc: Global, bytes: &[u8]) -> Result<&[u8], ReadError>
     ensures { Gives (λ rest. ((tt, tt), rest.now)) result (head.read bytes.now) }
 {
-    let (letters, rest) = read_u32(bytes)?;
+    let (letters, rest) = u32::read(alloc, bytes)?;
     if letters != LETTERS {
         return Err(fault(MAGIC, bytes));
     }
-    let (version, after) = read_u16(rest)?;
+    let (version, after) = u16::read(alloc, rest)?;
     if version != 1 {
         return Err(fault(VERSION, rest));
     }
@@ -50,8 +45,8 @@ fn read_tables(
 ) -> Result<((Vec<Option<TableState>>, Vec<u32>), &[u8]), ReadError>
     ensures { Gives (λ x. ((tt, (x.0.0.items, x.0.1.items)), x.1.now)) result ((tables count).read bytes.now) }
 {
-    let (_rows, rest) = read_count(bytes, 0)?;
-    let (states, rest) = read_elements::<States>(alloc, count, rest)?;
+    let (_rows, rest) = read_count(alloc, bytes, 0)?;
+    let (states, rest) = read_elements::<Plain<Option<TableState>>>(alloc, count, rest)?;
     let (weights, rest) = read_elements::<Weights>(alloc, count, rest)?;
     Ok(((states, weights), rest))
 }
@@ -61,12 +56,12 @@ fn read_tables(
 fn read_parts(alloc: Global, bytes: &[u8]) -> Result<(Parts, &[u8]), ReadError>
     ensures { Gives (λ x. (x.0, x.1.now)) result (object.read bytes.now) }
 {
-    let rest = read_head(bytes)?;
+    let rest = read_head(alloc, bytes)?;
     let (seeds, rest) = read_listed::<Seeds>(alloc, MOST_SEEDS, rest)?;
-    let (count, rest) = read_ranged_u64(rest, 1, GREATEST_COUNT)?;
-    let (_entities, rest) = read_count(rest, 0)?;
-    let (_procedures, rest) = read_count(rest, 0)?;
-    let (blocks, rest) = read_listed::<Blocks>(alloc, MOST_BLOCKS, rest)?;
+    let (count, rest) = read_ranged_u64(alloc, rest, 1, GREATEST_COUNT)?;
+    let (_entities, rest) = read_count(alloc, rest, 0)?;
+    let (_procedures, rest) = read_count(alloc, rest, 0)?;
+    let (blocks, rest) = read_listed::<Plain<Block>>(alloc, MOST_BLOCKS, rest)?;
     let ((states, weights), rest) = read_tables(alloc, blocks.len(), rest)?;
     let parts = Parts {
         seeds: Items::from_vec(seeds),

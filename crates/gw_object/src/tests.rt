@@ -203,7 +203,7 @@ fn seeds_that_end_in_0_are_handed_back(rt: HostRuntime) -> Result<(), Fail> {
     assert_eq!(rt; fault.code, NOT_CANONICAL);
     assert_eq!(rt; fault.place, Place::Nowhere);
     assert_eq!(rt; again.seeds.as_slice(), [0].as_slice());
-    assert_eq!(rt; again.weights.as_slice(), [2, 1, 1].as_slice());
+    assert_eq!(rt; again.weights.into_vec().as_slice(), [2, 1, 1].as_slice());
     Ok(())
 }
 

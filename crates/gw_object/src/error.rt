@@ -1,7 +1,8 @@
 //! Why reading stopped.
 
 ghost use Rattle.std.specs.Prelude.{◌≡◌};
-ghost use Rattle.gw_object.specs.declared.reading.error.ReadError.TheVariants.{OutOfMemory};
+ghost use Rattle.gw_object.specs.Fields.{bad};
+ghost use Rattle.gw_object.specs.declared.error.ReadError.TheVariants.{OutOfMemory};
 
 use std::alloc::{AllocError, AllocFailed};
 
@@ -33,4 +34,14 @@ impl<T: Drop> From<AllocFailed<T>> for ReadError {
     fn from(_e: AllocFailed<T>) -> ReadError {
         ReadError::OutOfMemory
     }
+}
+
+/// A fault of the field that begins here.
+pub fn fault(code: u16, bytes: &[u8]) -> ReadError
+    ensures { result ≡ ReadError.Wrong (bad code bytes.now) }
+{
+    ReadError::Wrong(Bad {
+        code,
+        left: bytes.len(),
+    })
 }

@@ -1,0 +1,168 @@
+//! Lists: so many elements, one after the other.
+
+ghost use Rattle.std.specs.Prelude.{◌≡◌, ℕ, List, [], ◌<◌, ◌^◌, ◌++◌, OnOk, length};
+ghost use Rattle.std.specs.List.{flat_map};
+ghost use Rattle.gw_object.specs.Fields.{Read, plain, count_spelling, elements_read, listed_read};
+ghost use Rattle.gw_object.specs.Grammar.{seed, weight};
+ghost use Rattle.gw_object.specs.Reading.{Gives};
+
+use crate::Memory;
+use crate::codes::*;
+use crate::error::*;
+use crate::limits::*;
+use crate::numbers::*;
+use crate::spelled::Spelled;
+use std::alloc::Global;
+use std::marker::PhantomData;
+
+/// A list of the format, by how an element of it is put and read. Reading one may depend on the elements
+/// before it and on how many come after it.
+pub trait Elements {
+    type Item: Drop;
+
+    /// The bytes that spell an element.
+    ghost element_spelling: { Self.Item → List ℕ };
+
+    /// The element that the front of the bytes spells behind those at the front and with so many after it, and
+    /// the bytes after it, or the first fault.
+    ghost element_reading: { List Self.Item → ℕ → List ℕ → Read Self.Item };
+
+    /// Puts the bytes of an element at the end.
+    fn put_element(out: &mut Vec<u8>, element: &Self::Item) -> Result<(), Memory>
+        ensures { OnOk result (out.new.items ≡ out.old.items ++ element_spelling element.now) };
+
+    /// The element at the front of the bytes, and the bytes after it.
+    fn read_element<'a>(
+        alloc: Global,
+        front: &[Self::Item],
+        left: usize,
+        bytes: &'a [u8],
+    ) -> Result<(Self::Item, &'a [u8]), ReadError>
+        ensures { Gives (λ x. (x.0, x.1.now)) result (element_reading front.now left bytes.now) };
+}
+
+/// Puts the bytes of elements at the end.
+pub fn put_elements<L: Elements>(out: &mut Vec<u8>, elements: &[L::Item]) -> Result<(), Memory>
+    ensures { OnOk result (out.new.items ≡ out.old.items ++ flat_map L.element_spelling elements.now) }
+{
+    for element in elements {
+        L::put_element(out, element)?;
+    }
+    Ok(())
+}
+
+/// So many elements.
+pub fn read_elements<L: Elements>(
+    alloc: Global,
+    count: usize,
+    bytes: &[u8],
+) -> Result<(Vec<L::Item>, &[u8]), ReadError>
+    ensures { Gives (λ x. (x.0.items, x.1.now)) result (elements_read L.element_reading count [] bytes.now) }
+{
+    let mut items = Vec::new(alloc);
+    let mut rest = bytes;
+    for i in 0..count {
+        let left = count - 1 - i;
+        let (item, after) = L::read_element(alloc, items.as_slice(), left, rest)?;
+        items.push(item)?;
+        rest = after;
+    }
+    Ok((items, rest))
+}
+
+/// Puts the count of elements at the end, and their bytes.
+pub fn put_listed<L: Elements>(out: &mut Vec<u8>, elements: &[L::Item]) -> Result<(), Memory>
+    requires { length elements.now < 2 ^ 32 }
+    ensures { OnOk result (out.new.items ≡ out.old.items ++ (count_spelling (length elements.now) ++ flat_map L.element_spelling elements.now)) }
+{
+    put_count(out, elements.len())?;
+    put_elements::<L>(out, elements)
+}
+
+/// A count of at most so many elements, and as many elements.
+pub fn read_listed<L: Elements>(
+    alloc: Global,
+    most: usize,
+    bytes: &[u8],
+) -> Result<(Vec<L::Item>, &[u8]), ReadError>
+    ensures { Gives (λ x. (x.0.items, x.1.now)) result (listed_read L.element_reading most bytes.now) }
+{
+    let (count, rest) = read_count(alloc, bytes, most)?;
+    read_elements::<L>(alloc, count, rest)
+}
+
+/// A list whose elements depend on no others.
+pub struct Plain<T>(PhantomData<T>);
+
+impl<T: Spelled> Elements for Plain<T> {
+    type Item = T;
+
+    ghost element_spelling = { T.spelling };
+
+    ghost element_reading = { λ front left. T.reading };
+
+    fn put_element(out: &mut Vec<u8>, element: &T) -> Result<(), Memory> {
+        element.put(out)
+    }
+
+    fn read_element<'a>(
+        alloc: Global,
+        _front: &[T],
+        _left: usize,
+        bytes: &'a [u8],
+    ) -> Result<(T, &'a [u8]), ReadError> {
+        T::read(alloc, bytes)
+    }
+}
+
+/// The seeds; the last isn't 0.
+pub struct Seeds;
+
+impl Elements for Seeds {
+    type Item = u32;
+
+    ghost element_spelling = { seed.spell };
+
+    ghost element_reading = { seed.read };
+
+    fn put_element(out: &mut Vec<u8>, seed: &u32) -> Result<(), Memory> {
+        seed.put(out)
+    }
+
+    fn read_element<'a>(
+        alloc: Global,
+        _front: &[u32],
+        left: usize,
+        bytes: &'a [u8],
+    ) -> Result<(u32, &'a [u8]), ReadError> {
+        let (seed, rest) = read_ranged_u32(alloc, bytes, 0, GREATEST_SEED)?;
+        if left == 0 && seed == 0 {
+            return Err(fault(NOT_CANONICAL, bytes));
+        }
+        Ok((seed, rest))
+    }
+}
+
+/// The weights, one for each block.
+pub struct Weights;
+
+impl Elements for Weights {
+    type Item = u32;
+
+    ghost element_spelling = { weight.spell };
+
+    ghost element_reading = { (plain weight).read };
+
+    fn put_element(out: &mut Vec<u8>, weight: &u32) -> Result<(), Memory> {
+        weight.put(out)
+    }
+
+    fn read_element<'a>(
+        alloc: Global,
+        _front: &[u32],
+        _left: usize,
+        bytes: &'a [u8],
+    ) -> Result<(u32, &'a [u8]), ReadError> {
+        read_ranged_u32(alloc, bytes, 1, GREATEST_WEIGHT)
+    }
+}

@@ -1,0 +1,26 @@
+//! Values that stand in bytes, each in one way.
+
+ghost use Rattle.std.specs.Prelude.{◌≡◌, ℕ, List, ◌++◌, OnOk};
+ghost use Rattle.gw_object.specs.Fields.{Read};
+ghost use Rattle.gw_object.specs.Reading.{Gives};
+
+use crate::Memory;
+use crate::error::ReadError;
+use std::alloc::Global;
+
+/// A value that stands in bytes in one way.
+pub trait Spelled: Drop {
+    /// The bytes that spell a value.
+    ghost spelling: { Self → List ℕ };
+
+    /// The value that the front of the bytes spells and the bytes after it, or the first fault.
+    ghost reading: { List ℕ → Read Self };
+
+    /// Puts the bytes of a value at the end.
+    fn put(&self, out: &mut Vec<u8>) -> Result<(), Memory>
+        ensures { OnOk result (out.new.items ≡ out.old.items ++ spelling self.now) };
+
+    /// The value at the front of the bytes, and the bytes after it.
+    fn read(alloc: Global, bytes: &[u8]) -> Result<(Self, &[u8]), ReadError>
+        ensures { Gives (λ x. (x.0, x.1.now)) result (reading bytes.now) };
+}
