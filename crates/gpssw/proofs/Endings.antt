@@ -1,5 +1,5 @@
 -- A lone run has at most one state without a step.
-use Rattle.std.proofs.Common.{◌≡◌, ◌+◌, ◌<◌, ◌-◌, ℕ, zero, suc, Option, Some, None, Bool, true, false, IsTrue, is_some, is_none, if◌then◌else◌, nat_lt, arith, refl, sym, ap, ◌∙◌}
+use Rattle.std.proofs.Common.{◌≡◌, ◌+◌, ◌<◌, ◌-◌, ℕ, zero, suc, Option, Some, None, Bool, true, false, IsTrue, is_some, is_none, nat_lt, arith, refl, ap, ◌∙◌}
 use Rattle.std.proofs.lemmas.Bool.Decides.{nat_tests}
 use Rattle.gw_scan.specs.declared.ends.End.{End}
 use Rattle.gw_scan.specs.State.{State}

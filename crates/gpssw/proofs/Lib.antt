@@ -6,3 +6,5 @@ pub mod Whole
 pub mod Outputs
 pub mod Endings
 pub mod OneAnswers
+pub mod Conclusions
+pub mod SomeAnswers

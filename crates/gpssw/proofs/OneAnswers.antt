@@ -1,14 +1,13 @@
 -- Bytes, a seed and a count have at most one answer.
-use Rattle.std.proofs.Common.{◌≡◌, ◌⊎◌, ℕ, List, Option, Some, None, Result, Ok, Err, MatchResult, IsTrue, is_some, inl, inr, refl, sym, ap, ◌∙◌, subst}
+use Rattle.std.proofs.Common.{◌≡◌, ℕ, List, Option, Some, None, Result, Ok, Err, MatchResult, IsTrue, is_some, inl, inr, sym, ap, ◌∙◌}
 use Rattle.gw_object.specs.declared.fault.Fault.{Fault}
 use Rattle.gw_scan.specs.declared.ends.End.{End}
-use Rattle.gw_scan.specs.declared.ends.Stop.{Stop}
 use Rattle.gw_scan.specs.State.{State}
-use Rattle.gw_scan.specs.Job.{Job, Progress, IsFinal, stop_of, start_of}
+use Rattle.gw_scan.specs.Job.{Job, Progress, start_of}
 use Rattle.gw_report.specs.Report.{report_of, stopped_report_of}
 use Rattle.gpssw.specs.Status.{refused}
 use Rattle.gpssw.specs.Refusal.{refusal_line}
-use Rattle.gpssw.specs.Answer.{Ends, Stops, Concludes, IsAnswer, job_of}
+use Rattle.gpssw.specs.Answer.{Ends, Stops, Concludes, job_of}
 use Rattle.gpssw.specs.Laws.{OneAnswer}
 use Rattle.gpssw.proofs.Endings.{one_ending, final_has_no_step}
 

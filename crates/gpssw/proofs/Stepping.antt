@@ -1,6 +1,5 @@
 -- A step raises the count of steps by one, and none follows a named end or an error stop.
-use Rattle.std.proofs.Common.{◌≡◌, ◌+◌, ℕ, List, Option, Some, None, Bool, true, false, is_none, ◌&&◌, ◌==◌, if◌then◌else◌, refl, ap, sym, ◌∙◌}
-use Rattle.gw_object.specs.declared.parts.Block.{Block}
+use Rattle.std.proofs.Common.{◌≡◌, ◌+◌, ℕ, Option, Some, None, Bool, true, false, is_none, ◌&&◌, ◌==◌, if◌then◌else◌, refl, ap, sym, ◌∙◌}
 use Rattle.gw_scan.specs.declared.ends.End.TheVariants.{Budget}
 use Rattle.gw_scan.specs.Outcome.{Outcome, Gives, EndsBy, StopsBy}
 use Rattle.gw_scan.specs.State.{State}
@@ -11,7 +10,7 @@ use Rattle.gw_scan.specs.declared.sim.Status.{Status}
 use Rattle.gw_scan.specs.declared.sim.Status.TheVariants.{Running}
 use Rattle.gw_scan.specs.Answers.{Answers, AnswersFrom}
 
-budgeted : (used_up : Bool) (s : State) → (if used_up then record s { ended = Some Budget } else s).steps ≡ s.steps
+pub budgeted : (used_up : Bool) (s : State) → (if used_up then record s { ended = Some Budget } else s).steps ≡ s.steps
 budgeted true s = refl
 budgeted false s = refl
 

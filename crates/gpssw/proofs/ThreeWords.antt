@@ -1,5 +1,5 @@
 -- The words of a command, one by one.
-use Rattle.std.proofs.Common.{◌≡◌, ◌≤◌, ◌<◌, ◌^◌, ℕ, List, [], ◌∷◌, length, map, true, Global, codes, arith, get_or, if◌then◌else◌, sym, ap, ◌∙◌, refl, String}
+use Rattle.std.proofs.Common.{◌≡◌, ◌≤◌, ◌<◌, ◌^◌, List, [], ◌∷◌, length, map, true, Global, codes, arith, get_or, refl, String}
 use Rattle.std.specs.Str.{bytes_eq}
 use Rattle.std.specs.String.{string_bytes}
 use Rattle.gpssw.specs.Words.{number_below, run_of, command_in}

@@ -1,8 +1,7 @@
 -- The answer to a front of the bytes that is one byte longer than an object is the answer to all of them.
-use Rattle.std.proofs.Common.{◌≡◌, ◌≤◌, ◌<◌, ◌+◌, ℕ, List, length, take, nat_lt, Bool, true, false, Option, Some, None, IfSome, Result, Ok, Err, if◌then◌else◌, arith, refl, sym, ap, ◌∙◌, subst}
+use Rattle.std.proofs.Common.{◌≡◌, ◌≤◌, ◌+◌, ℕ, List, length, take, nat_lt, Bool, true, false, Option, Some, None, IfSome, Err, arith, refl, sym, ap, ◌∙◌}
 use Rattle.std.proofs.lemmas.List.{take_all, length-take-le}
 use Rattle.std.proofs.lemmas.Bool.Decides.{nat_tests}
-use Rattle.gw_object.specs.declared.fault.Fault.{Fault}
 use Rattle.gw_object.specs.declared.fault.Place.TheVariants.{Byte}
 use Rattle.gw_object.specs.declared.codes.TheConstants.{LIMIT}
 use Rattle.gw_object.specs.declared.limits.TheConstants.{MOST_BYTES}

@@ -1,5 +1,5 @@
 -- How a refusal is printed: its code, its name and its place.
-use Rattle.std.specs.Prelude.{ℕ, List, [], ◌++◌, codes, Option, unwrap_or, ◌==◌, if◌then◌else◌}
+use Rattle.std.specs.Prelude.{ℕ, List, [], ◌++◌, codes, unwrap_or, ◌==◌, if◌then◌else◌}
 use Rattle.std.specs.Fmt.{decimal}
 use Rattle.gw_object.specs.declared.fault.Fault.{Fault}
 use Rattle.gw_object.specs.declared.fault.Place.{Place}

@@ -87,6 +87,7 @@ fn refused(alloc: Global, refusal: Refusal) -> Result<Answer, Memory>
 }
 
 /// Why an object has no job.
+#[derive(Drop)]
 enum NoJob {
     /// Something was refused.
     Refused(Refusal),

@@ -1,9 +1,10 @@
-//! The laws of answers, each as the contract of a function that does nothing.
+//! The laws of answers, as the contract of a function that does nothing.
 
-ghost use Rattle.gpssw.specs.Laws.{OneAnswer};
+ghost use Rattle.gpssw.specs.Laws.{SomeAnswer, OneAnswer};
 
-/// Bytes, a seed and a count have at most one text and status.
-#[tactic(auto, using(crate::proofs::OneAnswers::one_answer))]
+/// Bytes, a seed and a count have exactly one text and status, so that what `run` has to write is a function of them.
+#[tactic(auto, using(crate::proofs::SomeAnswers::some_answer, crate::proofs::OneAnswers::one_answer))]
 pub fn answers_are_determined()
-    ensures { OneAnswer }
+    ensures some { SomeAnswer }
+    ensures one { OneAnswer }
 {}

@@ -9,6 +9,8 @@ mod scan;
 mod sim;
 mod spec;
 mod start;
+#[cfg(test)]
+mod tests;
 
 pub use ends::{End, Stop};
 pub use laws::{slices_reach_the_same, steps_are_determined};

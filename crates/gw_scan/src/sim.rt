@@ -136,4 +136,12 @@ impl Sim {
     {
         &self.spec
     }
+
+    /// The number of the active transaction, if there is one.
+    #[cfg(test)]
+    pub(crate) fn active(&self) -> Option<u64>
+        ensures { result ≡ self.now.state.lists.active }
+    {
+        self.machine.active.map(|tx| tx.number)
+    }
 }
