@@ -1,7 +1,7 @@
 //! Reading the input.
 
-ghost use Rattle.std.specs.Prelude.{◌≡◌, ◌≤◌, ◌<◌, ◌+◌, ◌-◌, ◌++◌, ℕ, take, drop, length, IfOk, IfErr, IfSome, ◌⊎◌};
-ghost use Rattle.std.specs.Io.KnownBytes.{Consumes, IsAtEnd};
+ghost use Rattle.std.specs.Prelude.{◌≡◌, ◌≤◌, ◌<◌, ◌+◌, ◌⊎◌, take, length, IfOk, IfErr, IfSome};
+ghost use Rattle.std.specs.Io.KnownBytes.{Consumes};
 ghost use Rattle.gpssw.specs.Input.{TakesSome};
 
 use crate::fault::ProgramFault;
@@ -16,8 +16,10 @@ fn read_some<R: Read>(
     input: &mut Vec<u8>,
 ) -> Result<usize, ProgramFault>
     requires { 0 < most }
-    ensures taken { IfOk result (λ n. TakesSome n most input.old.items input.new.items (R.remaining reader.old) (R.remaining reader.new)) }
-    ensures faults { IfErr result (λ fault. (fault ≡ ProgramFault.Read) ⊎ (fault ≡ ProgramFault.Memory)) }
+    ensures taken { IfOk result (λ n.
+        TakesSome n most input.old.items input.new.items (R.remaining reader.old) (R.remaining reader.new)) }
+    ensures faults { IfErr result (λ fault.
+        (fault ≡ ProgramFault.Read) ⊎ (fault ≡ ProgramFault.Memory)) }
 {
     let mut chunk = [0; 4096];
     let room = most.min(chunk.len());
@@ -33,10 +35,13 @@ fn read_some<R: Read>(
 /// Reads to the end, but at most one byte more than an object may have: the limit and one, in bytes. A read that fails
 /// ends it, an interrupted one too.
 pub fn read_input<R: Read>(alloc: Global, reader: &mut R) -> Result<Vec<u8>, ProgramFault>
-    ensures front { IfOk result (λ input. IfSome (R.remaining reader.old) (λ bytes. input.items ≡ take (MOST_BYTES + 1) bytes)) }
+    ensures front { IfOk result (λ input.
+        IfSome (R.remaining reader.old) (λ bytes. input.items ≡ take (MOST_BYTES + 1) bytes)) }
     ensures within { IfOk result (λ input. length input.items ≤ MOST_BYTES + 1) }
-    ensures taken { IfOk result (λ input. Consumes (R.remaining reader.old) (R.remaining reader.new) input.items) }
-    ensures faults { IfErr result (λ fault. (fault ≡ ProgramFault.Read) ⊎ (fault ≡ ProgramFault.Memory)) }
+    ensures taken { IfOk result (λ input.
+        Consumes (R.remaining reader.old) (R.remaining reader.new) input.items) }
+    ensures faults { IfErr result (λ fault.
+        (fault ≡ ProgramFault.Read) ⊎ (fault ≡ ProgramFault.Memory)) }
 {
     let mut input = Vec::new(alloc);
     while input.len() <= MOST_BYTES {

@@ -1,6 +1,6 @@
 //! The program, over its words, a reader and a writer.
 
-ghost use Rattle.std.specs.Prelude.{◌≡◌, ◌≢◌, ◌⊎◌, map, None, IfOk, IfErr, IfSome, MatchResult, MatchOption, Contains, [], ◌∷◌};
+ghost use Rattle.std.specs.Prelude.{◌≡◌, ◌≢◌, [], ◌∷◌, map, None, IfOk, MatchResult, MatchOption, Contains};
 ghost use Rattle.std.specs.Io.KnownBytes.{Appends};
 ghost use Rattle.std.specs.String.{string_bytes};
 ghost use Rattle.gpssw.specs.Status.{ended, refused, wrong_words, failed, no_memory};
@@ -47,7 +47,8 @@ fn read_and_answer<R: Read>(
     count: u64,
     reader: &mut R,
 ) -> Result<Answer, ProgramFault>
-    ensures { IfOk result (λ a. AnswersReader seed count (R.remaining reader.old) a.text.items a.status) }
+    ensures { IfOk result (λ a.
+        AnswersReader seed count (R.remaining reader.old) a.text.items a.status) }
 {
     let input = read_input(alloc, reader)?;
     match answer_to(alloc, seed, count, &input) {
@@ -66,10 +67,14 @@ pub fn run<R: Read, W: Write>(
     reader: &mut R,
     writer: &mut W,
 ) -> u8
-    ensures output { Runs seed count (R.remaining reader.old) result (W.contents writer.old) (W.contents writer.new) }
-    ensures answered { result ≢ failed → result ≢ no_memory → WritesAnswer seed count (R.remaining reader.old) result (W.contents writer.old) (W.contents writer.new) }
-    ensures memory { result ≡ no_memory → Appends (W.contents writer.old) (W.contents writer.new) memory_line }
+    ensures answered { result ≢ failed → result ≢ no_memory →
+        WritesAnswer seed count (R.remaining reader.old) result (W.contents writer.old) (W.contents writer.new) }
+    ensures memory { result ≡ no_memory →
+        Appends (W.contents writer.old) (W.contents writer.new) memory_line }
     ensures statuses { Contains (ended ∷ refused ∷ failed ∷ no_memory ∷ []) result }
+
+    // Whatever failed: what was to be written, and how much of it was.
+    ensures output { Runs seed count (R.remaining reader.old) result (W.contents writer.old) (W.contents writer.new) }
 {
     deliver(writer, read_and_answer(alloc, seed, count, reader))
 }

@@ -9,3 +9,4 @@ pub mod Moves
 pub mod Steps
 pub mod Starting
 pub mod Reached
+pub mod LeftByEnds

@@ -44,11 +44,11 @@ on_bind P (Gives a) f h = h a refl
 on_bind P (EndsBy end) f h = tt
 on_bind P (StopsBy stop) f h = tt
 
-on_test : (P : State → Type 0) (b : Bool) (o : Outcome State) → OnGives P o → OnGives P (unless_stopped b NoBlock o)
+pub on_test : (P : State → Type 0) (b : Bool) (o : Outcome State) → OnGives P o → OnGives P (unless_stopped b NoBlock o)
 on_test P true o h = h
 on_test P false o h = tt
 
-on_if : (P : State → Type 0) (b : Bool) (o p : Outcome State) → OnGives P o → OnGives P p → OnGives P (if b then o else p)
+pub on_if : (P : State → Type 0) (b : Bool) (o p : Outcome State) → OnGives P o → OnGives P p → OnGives P (if b then o else p)
 on_if P true o p h k = h
 on_if P false o p h k = k
 

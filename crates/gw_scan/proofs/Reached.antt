@@ -25,7 +25,7 @@ unfolding after
 one_more j n s t h next = let e : n + 1 ≡ suc n = omega arith in ap (λ k. after j k (start_of j)) e ∙ ap (then_step j) h ∙ next
 
 -- the budget ends a job or leaves it as it is
-by_budget : (P : State → Type 0) (budget : ℕ) (v : State) → (v.ended ≡ None → v.steps ≡ budget → P (record v { ended = Some Budget })) → ((v.ended ≡ None → v.steps ≢ budget) → P v) → P (within_budget budget v)
+pub by_budget : (P : State → Type 0) (budget : ℕ) (v : State) → (v.ended ≡ None → v.steps ≡ budget → P (record v { ended = Some Budget })) → ((v.ended ≡ None → v.steps ≢ budget) → P v) → P (within_budget budget v)
 by_budget P budget v used left = by_ended v.ended refl
   where
     by_steps : (b : Bool) → v.steps == budget ≡ b → v.ended ≡ None → P (if b then record v { ended = Some Budget } else v)
@@ -73,10 +73,10 @@ bounded_ended j s end b runs = record {
   scheduled_table = b.scheduled_table;
 }
 
-counts_more : (budget : ℕ) (s u : State) → (within_budget budget (record u { steps = s.steps + 1 })).steps ≡ s.steps + 1
+pub counts_more : (budget : ℕ) (s u : State) → (within_budget budget (record u { steps = s.steps + 1 })).steps ≡ s.steps + 1
 counts_more budget s u = by_budget (λ (v : State). v.steps ≡ s.steps + 1) budget (record u { steps = s.steps + 1 }) (λ _ _. refl) (λ _. refl)
 
-some_is : {A : Type 0} (a b : A) → Some a ≡ Some b → a ≡ b
+pub some_is : {A : Type 0} (a b : A) → Some a ≡ Some b → a ≡ b
 some_is a b h = cc
 
 -- what a step leads to

@@ -1,5 +1,7 @@
--- The laws of steps: there is one at most, and slices don't matter.
-use Rattle.std.specs.Prelude.{◌≡◌, ℕ, zero, suc, List, [], ◌∷◌, sum, Some, None}
+-- The laws of steps: there is one at most, ends leave the rest as it was, and slices don't matter.
+use Rattle.std.specs.Prelude.{◌≡◌, ◌≢◌, ℕ, zero, suc, ◌+◌, List, [], ◌∷◌, sum, Some, None}
+use Rattle.gw_scan.specs.declared.ends.End.{End}
+use Rattle.gw_scan.specs.declared.ends.End.TheVariants.{Done, Budget}
 use Rattle.gw_scan.specs.State.{State}
 use Rattle.gw_scan.specs.Step.{step}
 use Rattle.gw_scan.specs.Job.{Job, Step, Alone, start_of}
@@ -7,6 +9,18 @@ use Rattle.gw_scan.specs.Job.{Job, Step, Alone, start_of}
 -- each state has at most one step
 abbrev pub AtMostOneStep : Type 0
 AtMostOneStep = (j : Job) (s t u : State) → Step j s t → Step j s u → t ≡ u
+
+-- a step makes the count of steps one more
+abbrev pub StepsAreCounted : Type 0
+StepsAreCounted = (j : Job) (s t : State) → Step j s t → t.steps ≡ s.steps + 1
+
+-- an ended job has no further step
+abbrev pub EndsAreFinal : Type 0
+EndsAreFinal = (j : Job) (s t : State) → Step j s t → s.ended ≡ None
+
+-- each named end but Done and Budget leaves all as before the step, but for the steps and the end
+abbrev pub EndsLeaveTheRest : Type 0
+EndsLeaveTheRest = (j : Job) (s t : State) (end : End) → Step j s t → t.ended ≡ Some end → end ≢ Done → end ≢ Budget → t ≡ record s { steps = s.steps + 1; ended = Some end }
 
 -- the lone run has one state at most after so many steps
 abbrev pub OneLoneState : Type 0

@@ -1,27 +1,28 @@
 //! How a job ends.
 
-/// The named ends of a job.
+/// The named ends of a job. All but `Done` and `Budget` leave the state as it was before the step that brought them, but
+/// for the count of steps and the end (ours: docs/machine.md).
 #[derive(Clone, Copy, Debug, PartialEq, Eq)]
 pub enum End {
-    /// The termination count fell to 0 or below.
+    /// The termination count is 0 or less after a TERMINATE, whose effect stands.
     Done,
-    /// A value left the range of an i64.
+    /// A value can't be held by an i64: the clock and a time, or a termination count that would rise.
     Number,
     /// A division by 0.
     ZeroDivisor,
-    /// A drawn time below 0.
+    /// A drawn time is below 0.
     NegativeTime,
     /// A loop of PLUS code went round more often than it may.
     LoopLimit,
-    /// Both events chains were empty.
+    /// Nobody is active, and both events chains are empty.
     NoMoreEvents,
-    /// The steps reached the budget.
+    /// The steps are as many as the budget; the effect of the last stands.
     Budget,
-    /// One more transaction would have been more than 65,536.
+    /// One more transaction would be more than 65,536 live ones, scheduled arrivals included.
     Live,
 }
 
-/// The error stops: no rule says what the step of such a state is.
+/// The error stops: a state that no rule gives a step. The verifier refuses the objects that could come to one.
 #[derive(Clone, Copy, Debug, PartialEq, Eq)]
 pub enum Stop {
     /// A transaction's next block isn't there, or is a GENERATE block.

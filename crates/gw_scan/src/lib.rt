@@ -13,6 +13,6 @@ mod start;
 mod tests;
 
 pub use ends::{End, Stop};
-pub use laws::{slices_reach_the_same, steps_are_determined};
+pub use laws::{ends_leave_the_rest, slices_reach_the_same, steps_are_determined};
 pub use sim::{Sim, Status};
 pub use spec::{Spec, StartFault};

@@ -12,32 +12,42 @@ use crate::ends::{End, Stop};
 use gw_chains::{Cec, Fec, Memory, Tx};
 use gw_transactions::{Transaction, Transactions};
 
-/// What a call made: a change of the state, or nothing but the name of an end or of an error stop.
+/// What a call of the machine made.
 #[derive(Clone, Copy, Debug, PartialEq, Eq)]
 pub(crate) enum Made {
+    /// The change that it is for.
     Step,
+    /// No change: it comes to a named end.
     Ends(End),
+    /// No change: it comes to an error stop.
     Stops(Stop),
 }
 
-/// The state of a job: transactions lie in a slab, and the chains hold handles to them.
+/// The state of a job in memory: transactions lie in a slab, and the chains hold handles to them. A table of blocks has
+/// an entry at each block's number, and one at 0.
 #[derive(Drop)]
 pub(crate) struct Machine {
     /// In clock units.
     pub clock: i64,
     /// The termination count.
     pub count: i64,
+    /// The steps made.
     pub steps: u64,
     /// The streams, from the first on.
     pub streams: [u32; 16],
-    /// The arrivals scheduled so far, at each GENERATE block's number.
+    /// The arrivals scheduled so far, for each GENERATE block.
     pub scheduled: Vec<u64>,
+    /// The live transactions, scheduled arrivals included.
     pub transactions: Transactions,
+    /// The one that moves, if there is one.
     pub active: Option<Tx>,
+    /// Who may move at this clock time.
     pub current_events: Cec,
+    /// Who waits for a later time.
     pub future_events: Fec,
-    /// The entries of each block, at its number.
+    /// The entries so far, for each block.
     pub entries: Vec<u64>,
+    /// The named end, if one stands.
     pub ended: Option<End>,
 }
 
@@ -50,7 +60,7 @@ fn raise(counts: &mut Vec<u64>, place: usize)
     counts[place] += 1;
 }
 
-/// The end that a termination count brings.
+/// The end that a termination count brings: `Done` where it is 0 or less.
 fn end_of(count: i64) -> Option<End>
     ensures { result ≡ model.end_at count }
 {
@@ -65,7 +75,7 @@ fn entry_or_none(counts: &[u64], place: usize) -> u64
 }
 
 impl Machine {
-    /// The transaction enters its next block, and has a next block again.
+    /// The transaction enters its next block; the one after is now `next`.
     pub fn enter(&mut self, tx: Tx, transaction: Transaction, next: u16)
         requires held { Holds self.old.transactions tx }
         requires rank { priority_of self.old.transactions.txs tx.number ≡ transaction.priority }
@@ -135,7 +145,7 @@ impl Machine {
         raise(&mut self.scheduled, block as usize);
     }
 
-    /// The termination count falls.
+    /// The termination count falls; where it is then 0 or less, the job is done.
     pub fn count_down(&mut self, by: i64)
         requires least { pos 0 <ℤ self.old.count }
         requires by { pos 0 ≤ℤ by }

@@ -15,14 +15,15 @@ use std::marker::Model;
 /// How a job stands.
 #[derive(Clone, Copy, Debug, PartialEq, Eq)]
 pub enum Status {
+    /// It has a further step.
     Running,
     /// A named end stands.
     Ended(End),
-    /// It met an error stop: it runs, and has no step.
+    /// It met an error stop: no named end stands, and it has no further step.
     Stopped(Stop),
 }
 
-/// A job and its state, which is the one that its lone run has after as many steps.
+/// A job and its state, which is the one that the job's lone run has after as many steps.
 #[derive(Drop)]
 pub struct Sim {
     spec: Spec,
@@ -45,7 +46,9 @@ impl Sim {
     ghost use Rattle.gw_scan.specs.Job.{IsReached};
     ghost use Rattle.gw_scan.specs.Answers.{Answers, status_at};
 
-    /// A job before its first step. Only want of memory refuses it (53), and hands the spec back.
+    /// A job before its first step: at clock 0, with one arrival scheduled for each GENERATE block; or with a named end to
+    /// which a first arrival came, and nothing scheduled (docs/machine.md). Only want of memory refuses it, as `Memory`,
+    /// and hands the spec back.
     pub fn start(alloc: Global, spec: Spec) -> Result<Sim, (Spec, StartFault)>
         ensures started { IfOk result (λ sim. (sim.job ≡ spec) × (sim.state ≡ start_of spec)) }
         ensures refused { IfErr result (λ e. (e.0 ≡ spec) × (e.1 ≡ StartFault.Memory)) }
@@ -57,8 +60,9 @@ impl Sim {
         }
     }
 
-    /// One step. On an ended job nothing changes, and its end is answered. Nothing changes either where the job is
-    /// stuck, or where memory ran out.
+    /// Makes one step, and answers how the job stands then. On an ended job nothing changes, and its end is answered; that
+    /// takes no memory. Where the job is stuck nothing changes, and the error stop is answered. On `Memory` nothing
+    /// changes, and the step may be tried again.
     pub fn step(&mut self) -> Result<Status, Memory>
         ensures job { self.new.job ≡ self.old.job }
         ensures made { IfOk result (λ status. Answers status self.old.job self.old.state self.new.state) }
@@ -77,7 +81,7 @@ impl Sim {
         }
     }
 
-    /// Running, or the named end that stands.
+    /// Running, or the named end that stands. It doesn't tell whether the job is stuck: `step` does.
     pub fn status(&self) -> Status
         ensures value { result ≡ status_at self.now.state.ended }
         ensures reached { IsReached self.now }
@@ -95,42 +99,43 @@ impl Sim {
         self.machine.clock
     }
 
-    /// The steps made.
+    /// The steps made, at most the budget.
     pub fn steps(&self) -> u64
         ensures { result ≡ self.now.state.steps }
     {
         self.machine.steps
     }
 
-    /// The termination count.
+    /// The termination count: what is left to count down; 0 or less where the job is done.
     pub fn count(&self) -> i64
         ensures { result ≡ self.now.state.count }
     {
         self.machine.count
     }
 
-    /// The entries of all blocks.
+    /// The entries of all blocks so far.
     pub fn entries(&self) -> u64
         ensures { result ≡ sum self.now.state.entries }
     {
         self.machine.entries.iter().sum()
     }
 
-    /// The entries of a block, by its number from 1; 0 where there is no such block.
+    /// The entries of a block so far, by its number from 1; 0 where there is no such block.
     pub fn entries_at(&self, block: u16) -> u64
         ensures { result ≡ at 0 self.now.state.entries block }
     {
         self.machine.entries_at(block)
     }
 
-    /// How many live transactions have this block as their current one; 0 stands for those before their first block.
+    /// How many live transactions have the block of this number, from 1, as their current one. Number 0 asks for those
+    /// that were in no block yet: the scheduled arrivals. It looks at each transaction.
     pub fn here(&self, block: u16) -> usize
         ensures { result ≡ here_count block self.now.state.transactions }
     {
         self.machine.transactions.here(block)
     }
 
-    /// What it runs.
+    /// What it runs, as it was started.
     pub fn spec(&self) -> &Spec
         ensures { result.now ≡ self.now.job }
     {

@@ -9,7 +9,7 @@ use gw_object::{GREATEST_SEED, MOST_SEEDS};
 use gw_verify::Verified;
 use std::marker::Model;
 
-/// Why a job can't be made of an object, or can't be started.
+/// Why a job can't be made of an object, or can't be started, each with the code of its refusal (ours: docs/refusals.md).
 #[derive(Clone, Copy, Debug, PartialEq, Eq)]
 pub enum StartFault {
     /// 50: more than 16 seeds, or one above 2147483646.
@@ -101,8 +101,11 @@ impl Spec {
     ghost use Rattle.gw_scan.specs.Job.{JobFits};
     ghost use Rattle.gw_scan.specs.Making.{job_from, spec_fault};
 
-    /// A job of this object. An empty list of seeds, and a count of 0, mean the object's own; a seed of 0, or none, is
-    /// the stream's own number. A refusal names the first of 50, 51 and 52 that applies, and hands the object back.
+    /// A job of this object, with at most `budget` steps. An empty list of seeds, and a count of 0, mean the object's own;
+    /// a seed of 0, or none, is the stream's own number, from 1 (ours: docs/machine.md).
+    ///
+    /// It hands the object back with the first of these that applies: `Seed` for more than 16 seeds or one above
+    /// 2147483646, `Count` for a count above 2^40, `Budget` for a budget of 0 or above 2^40. It takes no memory.
     pub fn new(
         verified: Verified,
         seeds: &[u32],
