@@ -5,9 +5,9 @@ use Rattle.gw_object.specs.declared.parts.Block.TheVariants as blocks
 use Rattle.gw_scan.specs.declared.ends.End.{End}
 use Rattle.gw_scan.specs.declared.ends.End.TheVariants.{Budget}
 use Rattle.gw_scan.specs.declared.ends.Stop.{Stop}
-use Rattle.gw_scan.specs.Outcome.{Outcome, Gives, EndsBy, StopsBy, ◌>>=◌}
+use Rattle.gw_scan.specs.Outcome.{Outcome, Gives, EndsBy, StopsBy, ◌>>=◌, stop_in}
 use Rattle.gw_scan.specs.State.{State}
-use Rattle.gw_scan.specs.Step.{step, stepped, within_budget, scan, stop_in, arrives}
+use Rattle.gw_scan.specs.Step.{step, stepped, within_budget, scan, arrives}
 use Rattle.gw_scan.specs.Start.{nothing, first_time, first_arrival, first_arrivals, started}
 use Rattle.gw_scan.specs.Job.{Job, Step, Alone, after, then_step, start_of, stop_of}
 use Rattle.gw_report.specs.Report.{report_of, stopped_report_of}
@@ -33,7 +33,7 @@ timed s (EndsBy end) f h = tt
 timed s (StopsBy stop) f h = tt
 
 one_arrival : (b : ℕ) (block : Block) (s : State) → KeepsSteps s (first_arrival b block s)
-one_arrival b (blocks.Generate g) s = timed s (first_time g g.first s.clock) (λ time. arrives b g.priority time s) (λ time. refl)
+one_arrival b (blocks.Generate g) s = timed s (first_time g s.clock) (λ time. arrives b g.priority time s) (λ time. refl)
 one_arrival b (blocks.Terminate by) s = refl
 one_arrival b (blocks.Advance time) s = refl
 
