@@ -1,3 +1,4 @@
 pub mod Division
 pub mod Draws
 pub mod Powers
+pub mod Tables

@@ -11,7 +11,7 @@ use Rattle.std.proofs.lemmas.List.Concat.{flat_map-cons}
 use Rattle.std.proofs.lemmas.Nat.{be_bytes_2, be_bytes_4, be_bytes_8, from_be_bytes-to_be_bytes_2, from_be_bytes-to_be_bytes_4, from_be_bytes-to_be_bytes_8}
 use Rattle.gw_object.specs.Codes as codes
 use Rattle.gw_object.specs.declared.error.Bad.{Bad}
-use Rattle.gw_object.specs.Fields.{◌>>=◌, Read, Field, bad, byte, byte_read, number, signed, read_as, made, tested, and_then, both, fitting, constant, ranged, optional, count, count_spelling, count_read, long_count_read, Element, plain, last_tested, elements_read, ElementsFit, elements, listed, listed_read}
+use Rattle.gw_object.specs.Fields.{◌>>=◌, Read, Field, bad, byte, byte_read, number, signed, read_as, made, tested, and_then, both, fitting, constant, is_within, ranged, nothing, optional, Form, behind, form_read, by_tag, count, count_spelling, count_read, long_count_read, Element, plain, last_tested, elements_read, ElementsFit, elements, listed, listed_read}
 
 -- ---- bytes
 
@@ -276,12 +276,25 @@ and_true : (a b : Bool) → (a && b) ≡ true → (a ≡ true) × (b ≡ true)
 and_true true b e = (refl, e)
 and_true false b e = absurd cc
 
+within_tells : (least most n : ℕ) → is_within least most n ≡ true → (least ≤ n) × (n ≤ most)
+within_tells least most n e = let both = and_true (leb least n) (leb n most) e in (leb-true least n both.0, leb-true n most both.1)
+
+is_within-true : (least most n : ℕ) → (least ≤ n) × (n ≤ most) → is_within least most n ≡ true
+is_within-true least most n h = rw (le-leb least n h.0, le-leb n most h.1) refl
+
 pub ranged_exact : (least most : ℕ) (f : Field ℕ) → ((n : ℕ) → n ≤ most → f.Fits n) → IsExact f → IsExact (ranged least most f)
 ranged_exact least most f fits exact =
-    fitting_exact (λ n. (least ≤ n) × (n ≤ most)) (tested (λ n. leb least n && leb n most) codes.limit f)
-    (λ n h. let both = and_true (leb least n) (leb n most) h.1 in (leb-true least n both.0, leb-true n most both.1))
-    (λ n h. (fits n h.1, rw (le-leb least n h.0, le-leb n most h.1) refl))
-    (tested_exact (λ n. leb least n && leb n most) codes.limit f exact)
+    fitting_exact (λ n. (least ≤ n) × (n ≤ most)) (tested (is_within least most) codes.limit f)
+    (λ n h. within_tells least most n h.1)
+    (λ n h. (fits n h.1, is_within-true least most n h))
+    (tested_exact (is_within least most) codes.limit f exact)
+
+pub nothing_exact : IsExact nothing
+nothing_exact = record {
+  takes = λ bytes x fits e. subst (λ (y : Unit {0} × List ℕ). Takes bytes [] y.1 × Unit {0}) (ok_is (tt, bytes) x e) (record { parts = refl; rest_fits = fits }, tt);
+  again = λ x rest fits. refl;
+  within = λ bytes e fits h. not_both (tt, bytes) e h;
+}
 
 -- ---- a value behind its tag
 
@@ -310,6 +323,52 @@ tag_within tag f make exact rest e fits h =
       | inl first ↦ omega (arith, exact.within rest e fits first)
       | inr second ↦ not_both (make second.0.0, second.0.1) e second.2
     ]
+
+-- ---- one of several forms, by a tag
+
+-- what a form reads behind its tag is spelled so with the tag, and a fault lies in the bytes
+pub record IsExactForm {A : Type 0} (spell : A → List ℕ) (Fits : A → Type 0) (form : Form A) : Type 0 where
+  pub takes : (rest : List ℕ) (x : A × List ℕ) → IsBytes rest → form.1 rest ≡ Ok x → Takes (form.0 ∷ rest) (spell x.0) x.1 × Fits x.0
+  pub within : (rest : List ℕ) (e : Bad) → IsBytes rest → form.1 rest ≡ Err e → e.left ≤ length (form.0 ∷ rest)
+
+-- a field behind a tag, and what is made of it
+pub behind_exact : {A B : Type 0} (spell : A → List ℕ) (Fits : A → Type 0) (tag : ℕ) (make : B → A) (f : Field B) → ((y : B) → tag ∷ f.spell y ≡ spell (make y)) → ((y : B) → f.Fits y → Fits (make y)) → IsExact f → IsExactForm spell Fits (behind tag make f)
+behind_exact {A} spell Fits tag make f spelled fit exact = record {
+  takes = λ rest x fits e.
+      let t = tag_takes tag f make exact rest x fits e in
+      let taken : Takes (tag ∷ rest) (spell (make t.value)) x.1 = subst (λ (text : List ℕ). Takes (tag ∷ rest) text x.1) (spelled t.value) t.taken in
+      subst (λ (y : A). Takes (tag ∷ rest) (spell y) x.1 × Fits y) t.is (taken, fit t.value t.fit);
+  within = λ rest e fits h. tag_within tag f make exact rest e fits h;
+}
+
+abbrev pub AreExactForms : {A : Type 0} → (A → List ℕ) → (A → Type 0) → List (Form A) → Type 0
+AreExactForms spell Fits [] = Unit {0}
+AreExactForms spell Fits (f ∷ forms) = IsExactForm spell Fits f × AreExactForms spell Fits forms
+
+form_takes : {A : Type 0} (spell : A → List ℕ) (Fits : A → Type 0) (forms : List (Form A)) → AreExactForms spell Fits forms → (tag : ℕ) (rest : List ℕ) (x : A × List ℕ) → IsBytes rest → form_read forms tag (tag ∷ rest) rest ≡ Ok x
+    → Takes (tag ∷ rest) (spell x.0) x.1 × Fits x.0
+form_takes spell Fits [] exact tag rest x fits e = not_both x (bad codes.tag (tag ∷ rest)) (sym e)
+form_takes spell Fits (f ∷ forms) exact tag rest x fits e =
+    elim (chosen (eqb tag f.0) (f.1 rest) (form_read forms tag (tag ∷ rest) rest) (Ok x) e) [
+      | inl is ↦ rw (eqb-true tag f.0 is.0) (exact.0.takes rest x fits is.1)
+      | inr other ↦ form_takes spell Fits forms exact.1 tag rest x fits other.1
+    ]
+
+form_within : {A : Type 0} (spell : A → List ℕ) (Fits : A → Type 0) (forms : List (Form A)) → AreExactForms spell Fits forms → (tag : ℕ) (rest : List ℕ) (e : Bad) → IsBytes rest → form_read forms tag (tag ∷ rest) rest ≡ Err e → e.left ≤ length (tag ∷ rest)
+form_within spell Fits [] exact tag rest e fits h = rw (← err_is (bad codes.tag (tag ∷ rest)) e h) (omega arith)
+form_within spell Fits (f ∷ forms) exact tag rest e fits h =
+    elim (chosen (eqb tag f.0) (f.1 rest) (form_read forms tag (tag ∷ rest) rest) (Err e) h) [
+      | inl is ↦ exact.0.within rest e fits is.1
+      | inr other ↦ form_within spell Fits forms exact.1 tag rest e fits other.1
+    ]
+
+pub by_tag_takes : {A : Type 0} (spell : A → List ℕ) (Fits : A → Type 0) (forms : List (Form A)) → AreExactForms spell Fits forms → (bytes : List ℕ) (x : A × List ℕ) → IsBytes bytes → by_tag forms bytes ≡ Ok x → Takes bytes (spell x.0) x.1 × Fits x.0
+by_tag_takes spell Fits forms exact [] x fits e = not_both x (bad codes.truncated []) (sym e)
+by_tag_takes spell Fits forms exact (tag ∷ rest) x fits e = form_takes spell Fits forms exact tag rest x (IsBytes-rest tag rest fits) e
+
+pub by_tag_within : {A : Type 0} (spell : A → List ℕ) (Fits : A → Type 0) (forms : List (Form A)) → AreExactForms spell Fits forms → (bytes : List ℕ) (e : Bad) → IsBytes bytes → by_tag forms bytes ≡ Err e → e.left ≤ length bytes
+by_tag_within spell Fits forms exact [] e fits h = rw (← err_is (bad codes.truncated []) e h) (omega arith)
+by_tag_within spell Fits forms exact (tag ∷ rest) e fits h = form_within spell Fits forms exact tag rest e (IsBytes-rest tag rest fits) h
 
 -- ---- 00, or 01 and a value
 
@@ -354,49 +413,53 @@ optional_exact f exact = record { takes = optional_takes f exact; again = option
 
 -- ---- counts
 
-long_count_takes : (most : ℕ) (bytes rest : List ℕ) (x : ℕ × List ℕ) → IsBytes rest → long_count_read most bytes rest ≡ Ok x → Takes (255 ∷ rest) (count_spelling x.0) x.1 × (x.0 ≤ most)
-long_count_takes most bytes rest x fits e =
-    let judged = λ (n : ℕ × List ℕ). cond (ltb most n.0) (Err (bad codes.limit bytes)) (cond (ltb n.0 255) (Err (bad codes.not_canonical bytes)) (Ok n)) in
+-- what is judged of the number behind ff
+abbrev long_count_judged : ℕ → ℕ → List ℕ → ℕ × List ℕ → Read ℕ
+long_count_judged least most bytes n = cond (is_within least most n.0) (cond (ltb n.0 255) (Err (bad codes.not_canonical bytes)) (Ok n)) (Err (bad codes.limit bytes))
+
+long_count_takes : (least most : ℕ) (bytes rest : List ℕ) (x : ℕ × List ℕ) → IsBytes rest → long_count_read least most bytes rest ≡ Ok x → Takes (255 ∷ rest) (count_spelling x.0) x.1 × ((least ≤ x.0) × (x.0 ≤ most))
+long_count_takes least most bytes rest x fits e =
+    let judged = long_count_judged least most bytes in
     elim (chosen (ltb (length rest) 4) (Err (bad codes.truncated bytes)) ((number w32).read rest >>= judged) (Ok x) e) [
       | inl cut ↦ not_both x (bad codes.truncated bytes) (sym cut.1)
       | inr whole ↦
           let a = bind_ok ((number w32).read rest) judged x whole.1 in
           let p = number_takes w32 wide32 rest a.0 fits a.1 in
-          elim (chosen (ltb most a.0.0) (Err (bad codes.limit bytes)) (cond (ltb a.0.0 255) (Err (bad codes.not_canonical bytes)) (Ok a.0)) (Ok x) a.2) [
-            | inl above ↦ not_both x (bad codes.limit bytes) (sym above.1)
-            | inr kept ↦
+          elim (chosen (is_within least most a.0.0) (cond (ltb a.0.0 255) (Err (bad codes.not_canonical bytes)) (Ok a.0)) (Err (bad codes.limit bytes)) (Ok x) a.2) [
+            | inl kept ↦
                 elim (chosen (ltb a.0.0 255) (Err (bad codes.not_canonical bytes)) (Ok a.0) (Ok x) kept.1) [
                   | inl short ↦ not_both x (bad codes.not_canonical bytes) (sym short.1)
                   | inr long ↦
-                      subst (λ (z : ℕ × List ℕ). Takes (255 ∷ rest) (count_spelling z.0) z.1 × (z.0 ≤ most)) (ok_is a.0 x long.1)
-                      (rw long.0 (record { parts = ap (λ (t : List ℕ). 255 ∷ t) p.0.parts; rest_fits = p.0.rest_fits }), ltb-false _ _ kept.0)
+                      subst (λ (z : ℕ × List ℕ). Takes (255 ∷ rest) (count_spelling z.0) z.1 × ((least ≤ z.0) × (z.0 ≤ most))) (ok_is a.0 x long.1)
+                      (rw long.0 (record { parts = ap (λ (t : List ℕ). 255 ∷ t) p.0.parts; rest_fits = p.0.rest_fits }), within_tells least most a.0.0 kept.0)
                 ]
+            | inr outside ↦ not_both x (bad codes.limit bytes) (sym outside.1)
           ]
     ]
 
-count_takes : (most : ℕ) (bytes : List ℕ) (x : ℕ × List ℕ) → IsBytes bytes → count_read most bytes ≡ Ok x → Takes bytes (count_spelling x.0) x.1 × (x.0 ≤ most)
+count_takes : (least most : ℕ) (bytes : List ℕ) (x : ℕ × List ℕ) → IsBytes bytes → count_read least most bytes ≡ Ok x → Takes bytes (count_spelling x.0) x.1 × ((least ≤ x.0) × (x.0 ≤ most))
 unfolding count_read
-count_takes most [] x fits e = absurd (not_both x (bad codes.truncated []) (sym e))
-count_takes most (first ∷ rest) x fits e =
+count_takes least most [] x fits e = absurd (not_both x (bad codes.truncated []) (sym e))
+count_takes least most (first ∷ rest) x fits e =
     let bytes = first ∷ rest in
-    let short : Read ℕ = cond (ltb most first) (Err (bad codes.limit bytes)) (Ok (first, rest)) in
-    elim (chosen (ltb first 255) short (long_count_read most bytes rest) (Ok x) e) [
+    let short : Read ℕ = cond (is_within least most first) (Ok (first, rest)) (Err (bad codes.limit bytes)) in
+    elim (chosen (ltb first 255) short (long_count_read least most bytes rest) (Ok x) e) [
       | inl one ↦
-          elim (chosen (ltb most first) (Err (bad codes.limit bytes)) (Ok (first, rest)) (Ok x) one.1) [
-            | inl above ↦ not_both x (bad codes.limit bytes) (sym above.1)
-            | inr kept ↦
-                subst (λ (z : ℕ × List ℕ). Takes bytes (count_spelling z.0) z.1 × (z.0 ≤ most)) (ok_is (first, rest) x kept.1)
-                (rw one.0 (record { parts = refl; rest_fits = IsBytes-rest first rest fits }), ltb-false _ _ kept.0)
+          elim (chosen (is_within least most first) (Ok (first, rest)) (Err (bad codes.limit bytes)) (Ok x) one.1) [
+            | inl kept ↦
+                subst (λ (z : ℕ × List ℕ). Takes bytes (count_spelling z.0) z.1 × ((least ≤ z.0) × (z.0 ≤ most))) (ok_is (first, rest) x kept.1)
+                (rw one.0 (record { parts = refl; rest_fits = IsBytes-rest first rest fits }), within_tells least most first kept.0)
+            | inr outside ↦ not_both x (bad codes.limit bytes) (sym outside.1)
           ]
       | inr four ↦
           let is_255 : first ≡ 255 = omega (arith, ltb-false _ _ four.0, fits 0) in
-          rw is_255 (long_count_takes most bytes rest x (IsBytes-rest first rest fits) four.1)
+          rw is_255 (long_count_takes least most bytes rest x (IsBytes-rest first rest fits) four.1)
     ]
 
-count_again : (most : ℕ) → most < 256 ^ 4 → (n : ℕ) (rest : List ℕ) → n ≤ most → count_read most (count_spelling n ++ rest) ≡ Ok (n, rest)
+count_again : (least most : ℕ) → most < 256 ^ 4 → (n : ℕ) (rest : List ℕ) → (least ≤ n) × (n ≤ most) → count_read least most (count_spelling n ++ rest) ≡ Ok (n, rest)
 unfolding count_read
-count_again most wide n rest fits =
-    let kept : ltb most n ≡ false = le-ltb _ _ fits in
+count_again least most wide n rest fits =
+    let kept : is_within least most n ≡ true = is_within-true least most n fits in
     elim (cases_lt n 255) [
       | inl lt ↦ let short : ltb n 255 ≡ true = lt-ltb _ _ lt in rw (short, short, kept) refl
       | inr le ↦
@@ -405,43 +468,43 @@ count_again most wide n rest fits =
           rw (long, number_again w32 wide32 n rest (omega arith), enough, kept, long) refl
     ]
 
-long_count_within : (most : ℕ) (bytes rest : List ℕ) (e : Bad) → IsBytes rest → length rest ≤ length bytes → long_count_read most bytes rest ≡ Err e → e.left ≤ length bytes
-long_count_within most bytes rest e fits shorter h =
-    let judged = λ (n : ℕ × List ℕ). cond (ltb most n.0) (Err (bad codes.limit bytes)) (cond (ltb n.0 255) (Err (bad codes.not_canonical bytes)) (Ok n)) in
+long_count_within : (least most : ℕ) (bytes rest : List ℕ) (e : Bad) → IsBytes rest → length rest ≤ length bytes → long_count_read least most bytes rest ≡ Err e → e.left ≤ length bytes
+long_count_within least most bytes rest e fits shorter h =
+    let judged = long_count_judged least most bytes in
     elim (chosen (ltb (length rest) 4) (Err (bad codes.truncated bytes)) ((number w32).read rest >>= judged) (Err e) h) [
       | inl cut ↦ rw (← err_is (bad codes.truncated bytes) e cut.1) (omega arith)
       | inr whole ↦
           elim (bind_err ((number w32).read rest) judged e whole.1) [
             | inl first ↦ omega (arith, number_within w32 rest e fits first)
             | inr n ↦
-                elim (chosen (ltb most n.0.0) (Err (bad codes.limit bytes)) (cond (ltb n.0.0 255) (Err (bad codes.not_canonical bytes)) (Ok n.0)) (Err e) n.2) [
-                  | inl above ↦ rw (← err_is (bad codes.limit bytes) e above.1) (omega arith)
-                  | inr kept ↦
+                elim (chosen (is_within least most n.0.0) (cond (ltb n.0.0 255) (Err (bad codes.not_canonical bytes)) (Ok n.0)) (Err (bad codes.limit bytes)) (Err e) n.2) [
+                  | inl kept ↦
                       elim (chosen (ltb n.0.0 255) (Err (bad codes.not_canonical bytes)) (Ok n.0) (Err e) kept.1) [
                         | inl short ↦ rw (← err_is (bad codes.not_canonical bytes) e short.1) (omega arith)
                         | inr long ↦ not_both n.0 e long.1
                       ]
+                  | inr outside ↦ rw (← err_is (bad codes.limit bytes) e outside.1) (omega arith)
                 ]
           ]
     ]
 
-count_within : (most : ℕ) (bytes : List ℕ) (e : Bad) → IsBytes bytes → count_read most bytes ≡ Err e → e.left ≤ length bytes
+count_within : (least most : ℕ) (bytes : List ℕ) (e : Bad) → IsBytes bytes → count_read least most bytes ≡ Err e → e.left ≤ length bytes
 unfolding count_read
-count_within most [] e fits h = rw (← err_is (bad codes.truncated []) e h) (omega arith)
-count_within most (first ∷ rest) e fits h =
+count_within least most [] e fits h = rw (← err_is (bad codes.truncated []) e h) (omega arith)
+count_within least most (first ∷ rest) e fits h =
     let bytes = first ∷ rest in
-    let short : Read ℕ = cond (ltb most first) (Err (bad codes.limit bytes)) (Ok (first, rest)) in
-    elim (chosen (ltb first 255) short (long_count_read most bytes rest) (Err e) h) [
+    let short : Read ℕ = cond (is_within least most first) (Ok (first, rest)) (Err (bad codes.limit bytes)) in
+    elim (chosen (ltb first 255) short (long_count_read least most bytes rest) (Err e) h) [
       | inl one ↦
-          elim (chosen (ltb most first) (Err (bad codes.limit bytes)) (Ok (first, rest)) (Err e) one.1) [
-            | inl above ↦ rw (← err_is (bad codes.limit bytes) e above.1) (omega arith)
-            | inr kept ↦ not_both (first, rest) e kept.1
+          elim (chosen (is_within least most first) (Ok (first, rest)) (Err (bad codes.limit bytes)) (Err e) one.1) [
+            | inl kept ↦ not_both (first, rest) e kept.1
+            | inr outside ↦ rw (← err_is (bad codes.limit bytes) e outside.1) (omega arith)
           ]
-      | inr four ↦ long_count_within most bytes rest e (IsBytes-rest first rest fits) (omega arith) four.1
+      | inr four ↦ long_count_within least most bytes rest e (IsBytes-rest first rest fits) (omega arith) four.1
     ]
 
-pub count_exact : (most : ℕ) → most < 256 ^ 4 → IsExact (count most)
-count_exact most wide = record { takes = count_takes most; again = count_again most wide; within = count_within most }
+pub count_exact : (least most : ℕ) → most < 256 ^ 4 → IsExact (count least most)
+count_exact least most wide = record { takes = count_takes least most; again = count_again least most wide; within = count_within least most }
 
 -- ---- lists
 
@@ -510,22 +573,33 @@ elements_exact {A} e n exact = record {
   within = elements_within e exact n [];
 }
 
-pub listed_exact : {A : Type 0} (most : ℕ) (e : Element A) → most < 256 ^ 4 → IsExactElement e → IsExact (listed most e)
-listed_exact {A} most e wide exact = record {
+pub listed_exact : {A : Type 0} (least most : ℕ) (e : Element A) → most < 256 ^ 4 → IsExactElement e → IsExact (listed least most e)
+listed_exact {A} least most e wide exact = record {
   takes = λ bytes x fits h.
-      let n = bind_ok (count_read most bytes) (λ n. elements_read e.read n.0 [] n.1) x h in
-      let p = count_takes most bytes n.0 fits n.1 in
+      let n = bind_ok (count_read least most bytes) (λ n. elements_read e.read n.0 [] n.1) x h in
+      let p = count_takes least most bytes n.0 fits n.1 in
       let a = elements_take e exact n.0.0 [] n.0.1 x p.0.rest_fits n.2 in
       let spelled : Takes bytes (count_spelling (length a.added) ++ flat_map e.spell a.added) x.1 = rw a.len (Takes-then bytes (count_spelling n.0.0) n.0.1 (flat_map e.spell a.added) x.1 p.0 a.taken) in
-      rw a.all (spelled, (omega (arith, a.len, p.1), a.fit));
+      rw a.all (spelled, (omega (arith, a.len, p.1.0), omega (arith, a.len, p.1.1), a.fit));
   again = λ xs rest fits.
-      ap (listed_read e.read most) (append_assoc (count_spelling (length xs)) (flat_map e.spell xs) rest)
-      ∙ rw (count_again most wide (length xs) (flat_map e.spell xs ++ rest) fits.0) (elements_again e exact xs [] rest fits.1);
+      ap (listed_read e.read least most) (append_assoc (count_spelling (length xs)) (flat_map e.spell xs) rest)
+      ∙ rw (count_again least most wide (length xs) (flat_map e.spell xs ++ rest) (fits.0, fits.1)) (elements_again e exact xs [] rest fits.2);
   within = λ bytes d fits h.
-      elim (bind_err (count_read most bytes) (λ n. elements_read e.read n.0 [] n.1) d h) [
-        | inl first ↦ count_within most bytes d fits first
+      elim (bind_err (count_read least most bytes) (λ n. elements_read e.read n.0 [] n.1) d h) [
+        | inl first ↦ count_within least most bytes d fits first
         | inr n ↦
-            let p = count_takes most bytes n.0 fits n.1 in
+            let p = count_takes least most bytes n.0 fits n.1 in
             omega (arith, Takes-shorter bytes (count_spelling n.0.0) n.0.1 p.0, elements_within e exact n.0.0 [] n.0.1 d p.0.rest_fits n.2)
       ];
 }
+
+-- what fits a list, told of each of its elements
+pub All-from_fit : {A : Type 0} (Fits : List A → ℕ → A → Type 0) (P : A → Type 0) → ((front : List A) (left : ℕ) (x : A) → Fits front left x → P x) → (xs front : List A) → ElementsFit Fits front xs → All P xs
+All-from_fit Fits P tells [] front h k d lt = absurd (omega arith)
+All-from_fit Fits P tells (x ∷ xs) front h zero d lt = tells front (length xs) x h.0
+All-from_fit Fits P tells (x ∷ xs) front h (suc k) d lt = All-from_fit Fits P tells xs (front ++ x ∷ []) h.1 k d (omega arith)
+
+-- elements that look at no others fit their list
+pub fit-from_All : {A : Type 0} (P : A → Type 0) (xs front : List A) → All P xs → ElementsFit (λ _ _. P) front xs
+fit-from_All P [] front h = tt
+fit-from_All P (x ∷ xs) front h = (h 0 x (omega arith), fit-from_All P xs (front ++ x ∷ []) (λ k d lt. h (suc k) d (omega arith)))

@@ -1,3 +1,4 @@
+pub mod EntityLaws
 pub mod Exact
 pub mod ObjectLaws
 pub mod Loop

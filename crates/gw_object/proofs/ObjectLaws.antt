@@ -7,7 +7,7 @@ use Rattle.std.proofs.lemmas.Bool.{cases_lt, eqb-true, ne_eqb, ltb-true, lt-ltb,
 use Rattle.std.proofs.lemmas.List.{append-nil, nil_from_length}
 use Rattle.gw_object.specs.declared.fault.Fault.{Fault}
 use Rattle.gw_object.specs.Codes as codes
-use Rattle.gw_object.specs.Limits.{most_bytes, most_seeds, greatest_seed, greatest_count, most_blocks, greatest_weight}
+use Rattle.gw_object.specs.Limits.{most_bytes, most_seeds, greatest_seed, greatest_count, most_entities, most_blocks, greatest_weight}
 use Rattle.gw_object.specs.declared.parts.Operand.{Operand}
 use Rattle.gw_object.specs.declared.parts.Operand.TheVariants.{Constant}
 use Rattle.gw_object.specs.declared.parts.Block.{Block}
@@ -15,10 +15,12 @@ use Rattle.gw_object.specs.declared.parts.Block.TheVariants.{Generate, Terminate
 use Rattle.gw_object.specs.declared.parts.TableState.{TableState}
 use Rattle.gw_object.specs.declared.parts.Parts.{Parts}
 use Rattle.gw_object.specs.declared.error.Bad.{Bad}
-use Rattle.gw_object.specs.Fields.{Read, bad, byte, number, signed, read_as, constant, optional, count, plain, ElementsFit}
-use Rattle.gw_object.specs.Grammar.{OperandFits, constant_of, operand, is_zero, IsZero, zero_operand, SpreadFits, spread, GenerateFits, generate, BlockFits, block_spelling, block_read, block, no_elements, state, weight, tables, head, seed, start_count, object, spelling, HasSpelling, Spells}
+use Rattle.gw_object.specs.Fields.{bad, byte, number, signed, constant, optional, count, plain, ElementsFit}
+use Rattle.gw_object.specs.Grammar.{OperandFits, constant_of, operand, is_zero, IsZero, zero_operand, SpreadFits, spread, GenerateFits, generate, BlockFits, block_spelling, block_forms, block_read, block, no_elements, state, weight, tables, head, seed, start_count, object, spelling, HasSpelling, Spells}
+use Rattle.gw_object.specs.Entities.{entity}
 use Rattle.gw_object.specs.Reading.{whole_read, with_place, first_fault, out_of_memory}
-use Rattle.gw_object.proofs.Exact.{IsBytes, Takes, Takes-shorter, IsExact, IsExactElement, tag_takes, tag_within, IsBytes-rest, bind_ok, bind_err, chosen, ok_is, err_is, not_both, byte_exact, wide16, wide32, wide64, number_exact, signed_exact, made_exact, tested_exact, and_then_exact, both_exact, fitting_exact, constant_exact, ranged_exact, optional_exact, count_exact, plain_exact, last_tested_exact, elements_exact, listed_exact}
+use Rattle.gw_object.proofs.EntityLaws.{entity_exact, entities_fit, entities_are}
+use Rattle.gw_object.proofs.Exact.{AreExactForms, behind_exact, by_tag_takes, by_tag_within, IsBytes, Takes-shorter, IsExact, IsExactElement, bind_ok, bind_err, chosen, ok_is, err_is, not_both, byte_exact, wide16, wide32, wide64, number_exact, signed_exact, made_exact, tested_exact, and_then_exact, both_exact, fitting_exact, constant_exact, ranged_exact, optional_exact, count_exact, plain_exact, last_tested_exact, elements_exact, listed_exact, All-from_fit, fit-from_All}
 
 -- ---- operands
 
@@ -70,36 +72,15 @@ generate_exact = fitting_exact GenerateFits _
     (made_exact _ _ _ (λ x h. refl) (λ g h. refl)
     (both_exact _ _ spread_exact (both_exact _ _ (optional_exact _ (signed_exact w64 wide64)) (both_exact _ _ (optional_exact _ (number_exact w32 wide32)) (signed_exact w32 wide32)))))
 
-abbrev generate_read : List ℕ → Read Block
-generate_read = read_as (λ g. Generate g) generate.read
-
-abbrev terminate_read : List ℕ → Read Block
-terminate_read = read_as (λ n. Terminate n) operand.read
-
-abbrev advance_read : List ℕ → Read Block
-advance_read = read_as (λ s. Advance s) spread.read
-
-abbrev no_block : ℕ → List ℕ → Read Block
-no_block tag rest = Err (bad codes.tag (tag ∷ rest))
-
-block_takes : (bytes : List ℕ) (x : Block × List ℕ) → IsBytes bytes → block_read bytes ≡ Ok x → Takes bytes (block_spelling x.0) x.1 × BlockFits x.0
-unfolding block_read generate operand spread
-block_takes [] x fits e = absurd (not_both x (bad codes.truncated []) (sym e))
-block_takes (tag ∷ rest) x fits e =
-    let rest_fits = IsBytes-rest tag rest fits in
-    let Taken : ℕ → Block → Type 0 = λ n b. Takes (n ∷ rest) (block_spelling b) x.1 × BlockFits b in
-    elim (chosen (eqb tag 1) (generate_read rest) (cond (eqb tag 2) (terminate_read rest) (cond (eqb tag 3) (advance_read rest) (no_block tag rest))) (Ok x) e) [
-      | inl is ↦ let t = tag_takes 1 generate (λ g. Generate g) generate_exact rest x rest_fits is.1 in rw (eqb-true tag 1 is.0) (subst (Taken 1) t.is (t.taken, t.fit))
-      | inr not_1 ↦
-          elim (chosen (eqb tag 2) (terminate_read rest) (cond (eqb tag 3) (advance_read rest) (no_block tag rest)) (Ok x) not_1.1) [
-            | inl is ↦ let t = tag_takes 2 operand (λ n. Terminate n) operand_exact rest x rest_fits is.1 in rw (eqb-true tag 2 is.0) (subst (Taken 2) t.is (t.taken, t.fit))
-            | inr not_2 ↦
-                elim (chosen (eqb tag 3) (advance_read rest) (no_block tag rest) (Ok x) not_2.1) [
-                  | inl is ↦ let t = tag_takes 3 spread (λ s. Advance s) spread_exact rest x rest_fits is.1 in rw (eqb-true tag 3 is.0) (subst (Taken 3) t.is (t.taken, t.fit))
-                  | inr none ↦ not_both x (bad codes.tag (tag ∷ rest)) (sym none.1)
-                ]
-          ]
-    ]
+block_forms_exact : AreExactForms block_spelling BlockFits block_forms
+unfolding generate operand spread
+block_forms_exact = (
+  behind_exact block_spelling BlockFits 1 (λ g. Generate g) generate (λ g. refl) (λ g h. h) generate_exact,
+  (
+    behind_exact block_spelling BlockFits 2 (λ n. Terminate n) operand (λ n. refl) (λ n h. h) operand_exact,
+    (behind_exact block_spelling BlockFits 3 (λ s. Advance s) spread (λ s. refl) (λ s h. h) spread_exact, tt),
+  ),
+)
 
 block_again : (b : Block) (rest : List ℕ) → BlockFits b → block_read (block_spelling b ++ rest) ≡ Ok (b, rest)
 unfolding block_read generate operand spread
@@ -107,35 +88,25 @@ block_again (Generate g) rest fits = rw (generate_exact.again g rest fits) refl
 block_again (Terminate n) rest fits = rw (operand_exact.again n rest fits) refl
 block_again (Advance s) rest fits = rw (spread_exact.again s rest fits) refl
 
-block_within : (bytes : List ℕ) (e : Bad) → IsBytes bytes → block_read bytes ≡ Err e → e.left ≤ length bytes
-unfolding block_read
-block_within [] e fits h = rw (← err_is (bad codes.truncated []) e h) (omega arith)
-block_within (tag ∷ rest) e fits h =
-    let rest_fits = IsBytes-rest tag rest fits in
-    elim (chosen (eqb tag 1) (generate_read rest) (cond (eqb tag 2) (terminate_read rest) (cond (eqb tag 3) (advance_read rest) (no_block tag rest))) (Err e) h) [
-      | inl is ↦ tag_within tag generate (λ g. Generate g) generate_exact rest e rest_fits is.1
-      | inr not_1 ↦
-          elim (chosen (eqb tag 2) (terminate_read rest) (cond (eqb tag 3) (advance_read rest) (no_block tag rest)) (Err e) not_1.1) [
-            | inl is ↦ tag_within tag operand (λ n. Terminate n) operand_exact rest e rest_fits is.1
-            | inr not_2 ↦
-                elim (chosen (eqb tag 3) (advance_read rest) (no_block tag rest) (Err e) not_2.1) [
-                  | inl is ↦ tag_within tag spread (λ s. Advance s) spread_exact rest e rest_fits is.1
-                  | inr none ↦ rw (← err_is (bad codes.tag (tag ∷ rest)) e none.1) (omega arith)
-                ]
-          ]
-    ]
-
 pub block_exact : IsExact block
-block_exact = record { takes = block_takes; again = block_again; within = block_within }
+unfolding block_read
+block_exact = record {
+  takes = by_tag_takes block_spelling BlockFits block_forms block_forms_exact;
+  again = block_again;
+  within = by_tag_within block_spelling BlockFits block_forms block_forms_exact;
+}
 
 -- ---- what stands for each block
 
 no_elements_exact : IsExact no_elements
-no_elements_exact = made_exact (λ _. tt) (λ _. 0) (count 0) (λ n h. omega arith) (λ y h. refl) (count_exact 0 (omega arith))
+no_elements_exact = made_exact (λ _. tt) (λ _. 0) (count 0 0) (λ n h. omega arith) (λ y h. refl) (count_exact 0 0 (omega arith))
+
+none : (0 ≤ 0) × (0 ≤ 0)
+none = (omega arith, omega arith)
 
 pub state_exact : IsExact state
 unfolding state
-state_exact = fitting_exact (λ _. Unit {0}) _ (λ s h. tt) (λ s h. (omega arith, (omega arith, omega arith)))
+state_exact = fitting_exact (λ _. Unit {0}) _ (λ s h. tt) (λ s h. (none, (none, none)))
     (made_exact _ _ _ (λ x h. refl) (λ s h. refl) (both_exact _ _ no_elements_exact (both_exact _ _ no_elements_exact no_elements_exact)))
 
 weight_exact : IsExact weight
@@ -161,19 +132,10 @@ pub object_exact : IsExact object
 unfolding object
 object_exact =
     made_exact _ _ _ (λ x h. refl) (λ p h. refl)
-    (both_exact _ _ head_exact (both_exact _ _ (listed_exact most_seeds seed (omega arith) seed_exact) (both_exact _ _ start_count_exact (both_exact _ _ no_elements_exact (both_exact _ _ no_elements_exact
-    (and_then_exact _ _ (listed_exact most_blocks (plain block) (omega arith) (plain_exact block block_exact)) (λ blocks. tables_exact (length blocks))))))))
+    (both_exact _ _ head_exact (both_exact _ _ (listed_exact 0 most_seeds seed (omega arith) seed_exact) (both_exact _ _ start_count_exact (both_exact _ _ (listed_exact 0 most_entities entity (omega arith) entity_exact) (both_exact _ _ no_elements_exact
+    (and_then_exact _ _ (listed_exact 0 most_blocks (plain block) (omega arith) (plain_exact block block_exact)) (λ blocks. tables_exact (length blocks))))))))
 
 -- ---- what fits the object is what has a spelling
-
-All-from_fit : {A : Type 0} (F : A → Type 0) (xs front : List A) → ElementsFit (λ _ _. F) front xs → All F xs
-All-from_fit F [] front h k d lt = absurd (omega arith)
-All-from_fit F (x ∷ xs) front h zero d lt = h.0
-All-from_fit F (x ∷ xs) front h (suc k) d lt = All-from_fit F xs (front ++ x ∷ []) h.1 k d (omega arith)
-
-fit-from_All : {A : Type 0} (F : A → Type 0) (xs front : List A) → All F xs → ElementsFit (λ _ _. F) front xs
-fit-from_All F [] front h = tt
-fit-from_All F (x ∷ xs) front h = (h 0 x (omega arith), fit-from_All F xs (front ++ x ∷ []) (λ k d lt. h (suc k) d (omega arith)))
 
 abbrev IsSeed : ℕ → Type 0
 IsSeed seed = seed ≤ greatest_seed
@@ -182,9 +144,7 @@ abbrev LastSeed : List ℕ → Type 0
 LastSeed seeds = slice_get seeds (length seeds - 1) ≢ Some 0
 
 seeds_are : (xs front : List ℕ) → ElementsFit seed.Fits front xs → All IsSeed xs
-seeds_are [] front h k d lt = absurd (omega arith)
-seeds_are (x ∷ xs) front h zero d lt = h.0.0.1
-seeds_are (x ∷ xs) front h (suc k) d lt = seeds_are xs (front ++ x ∷ []) h.1 k d (omega arith)
+seeds_are = All-from_fit seed.Fits IsSeed (λ front left x h. h.0.1)
 
 -- the last seed of two or more is the last of those behind the first
 last_of_rest : (x y : ℕ) (ys : List ℕ) → slice_get (x ∷ y ∷ ys) (length (x ∷ y ∷ ys) - 1) ≡ slice_get (y ∷ ys) (length (y ∷ ys) - 1)
@@ -217,16 +177,16 @@ spelled_fits p h =
     let limits = h.limits in (
       (tt, tt),
       (
-        (limits.seeds, seeds_fit p.seeds [] limits.each_seed h.canonical.last_seed),
+        (omega arith, limits.seeds, seeds_fit p.seeds [] limits.each_seed h.canonical.last_seed),
         (
           (limits.count_least, limits.count_most),
           (
-            omega arith,
+            (omega arith, limits.entities, entities_fit p.entities h.letters.names limits.each_entity h.canonical.own_names),
             (
-              omega arith,
+              none,
               (
-                (limits.blocks, fit-from_All BlockFits p.blocks [] limits.each_block),
-                (omega arith, ((limits.states, states_fit p.states []), (limits.weights, fit-from_All (λ weight. (1 ≤ weight) × (weight ≤ greatest_weight)) p.weights [] limits.each_weight))),
+                (omega arith, limits.blocks, fit-from_All BlockFits p.blocks [] limits.each_block),
+                (none, ((limits.states, states_fit p.states []), (limits.weights, fit-from_All weight.Fits p.weights [] limits.each_weight))),
               ),
             ),
           ),
@@ -236,21 +196,25 @@ spelled_fits p h =
 
 pub fits_spelled : (p : Parts) → object.Fits p → length (spelling p) ≤ most_bytes → HasSpelling p
 unfolding object head tables
-fits_spelled p (h, (seeds, (count, (e, (q, (blocks, (r, (states, weights)))))))) size = record {
-  limits = record {
-    seeds = seeds.0;
-    each_seed = seeds_are p.seeds [] seeds.1;
-    count_least = count.0;
-    count_most = count.1;
-    blocks = blocks.0;
-    each_block = All-from_fit BlockFits p.blocks [] blocks.1;
-    states = states.0;
-    weights = weights.0;
-    each_weight = All-from_fit (λ weight. (1 ≤ weight) × (weight ≤ greatest_weight)) p.weights [] weights.1;
-    size = size;
-  };
-  canonical = record { last_seed = last_seed_is p.seeds [] seeds.1 };
-}
+fits_spelled p (h, (seeds, (count, (entities, (q, (blocks, (r, (states, weights)))))))) size =
+    let each_entity = entities_are p.entities entities.2 in record {
+      letters = record { names = each_entity.letters };
+      limits = record {
+        seeds = seeds.1;
+        each_seed = seeds_are p.seeds [] seeds.2;
+        count_least = count.0;
+        count_most = count.1;
+        entities = entities.1;
+        each_entity = each_entity.limits;
+        blocks = blocks.1;
+        each_block = All-from_fit (λ front left. BlockFits) BlockFits (λ front left b h. h) p.blocks [] blocks.2;
+        states = states.0;
+        weights = weights.0;
+        each_weight = All-from_fit (λ front left. weight.Fits) weight.Fits (λ front left w h. h) p.weights [] weights.1;
+        size = size;
+      };
+      canonical = record { last_seed = last_seed_is p.seeds [] seeds.2; own_names = each_entity.own };
+    }
 
 -- ---- reading as a whole
 

@@ -97,9 +97,17 @@ fitting Fits f = record { spell = f.spell; read = f.read; Fits = Fits }
 abbrev pub constant : ℕ → ℕ → Field ℕ → Field (Unit {0})
 constant value code f = fitting (λ _. Unit {0}) (made (λ _. tt) (λ _. value) (tested (λ n. n == value) code f))
 
+-- whether a number lies from least to most
+abbrev pub is_within : ℕ → ℕ → ℕ → Bool
+is_within least most n = nat_le least n && nat_le n most
+
 -- a number from least to most
 abbrev pub ranged : ℕ → ℕ → Field ℕ → Field ℕ
-ranged least most f = fitting (λ n. (least ≤ n) × (n ≤ most)) (tested (λ n. nat_le least n && nat_le n most) codes.limit f)
+ranged least most f = fitting (λ n. (least ≤ n) × (n ≤ most)) (tested (is_within least most) codes.limit f)
+
+-- no bytes
+abbrev pub nothing : Field (Unit {0})
+nothing = record { spell = λ _. []; read = λ bytes. Ok (tt, bytes); Fits = λ _. Unit {0} }
 
 -- a flag, and the value where there is one
 abbrev pub optional_spelling : {A : Type 0} → (A → List ℕ) → Option A → List ℕ
@@ -117,6 +125,25 @@ optional_read read bytes = byte_read bytes >>= λ flag.
 abbrev pub optional : {A : Type 0} → Field A → Field (Option A)
 optional f = record { spell = optional_spelling f.spell; read = optional_read f.read; Fits = λ o. IfSome o f.Fits }
 
+-- ---- one of several forms, by a tag
+
+-- a form of a value: its tag, and how what stands behind the tag is read
+abbrev pub Form : Type 0 → Type 0
+Form A = ℕ × (List ℕ → Read A)
+
+-- the form that is made of a field behind this tag
+abbrev pub behind : {A B : Type 0} → ℕ → (B → A) → Field B → Form A
+behind tag make f = (tag, read_as make f.read)
+
+-- by the first form that has the tag; another tag is a fault of the bytes that begin with it
+abbrev pub form_read : {A : Type 0} → List (Form A) → ℕ → List ℕ → List ℕ → Read A
+form_read [] tag bytes rest = Err (bad codes.tag bytes)
+form_read (f ∷ forms) tag bytes rest = if tag == f.0 then f.1 rest else form_read forms tag bytes rest
+
+-- a tag, and what stands behind it
+abbrev pub by_tag : {A : Type 0} → List (Form A) → List ℕ → Read A
+by_tag forms bytes = byte_read bytes >>= λ tag. form_read forms tag.0 bytes tag.1
+
 -- ---- lists
 
 -- the shorter form where it holds the count
@@ -124,23 +151,22 @@ abbrev pub count_spelling : ℕ → List ℕ
 count_spelling n = if nat_lt n 255 then n ∷ [] else 255 ∷ to_be_bytes w32 n
 
 -- the four bytes behind ff; their faults are faults of the count as a whole, which begins at the ff
-abbrev pub long_count_read : ℕ → List ℕ → List ℕ → Read ℕ
-long_count_read most bytes rest =
+abbrev pub long_count_read : ℕ → ℕ → List ℕ → List ℕ → Read ℕ
+long_count_read least most bytes rest =
     if nat_lt (length rest) 4 then Err (bad codes.truncated bytes)
     else (number w32).read rest >>= λ n.
-    if nat_lt most n.0 then Err (bad codes.limit bytes)
-    else if nat_lt n.0 255 then Err (bad codes.not_canonical bytes)
-    else Ok n
+    if is_within least most n.0 then (if nat_lt n.0 255 then Err (bad codes.not_canonical bytes) else Ok n)
+    else Err (bad codes.limit bytes)
 
 -- the form by its first byte
-unfoldable pub count_read : ℕ → List ℕ → Read ℕ
-count_read most bytes = byte_read bytes >>= λ first.
-    if nat_lt first.0 255 then (if nat_lt most first.0 then Err (bad codes.limit bytes) else Ok first)
-    else long_count_read most bytes first.1
+unfoldable pub count_read : ℕ → ℕ → List ℕ → Read ℕ
+count_read least most bytes = byte_read bytes >>= λ first.
+    if nat_lt first.0 255 then (if is_within least most first.0 then Ok first else Err (bad codes.limit bytes))
+    else long_count_read least most bytes first.1
 
--- how many, up to a limit: one byte below ff for itself, or ff and four bytes
-abbrev pub count : ℕ → Field ℕ
-count most = record { spell = count_spelling; read = count_read most; Fits = λ n. n ≤ most }
+-- how many, within limits: one byte below ff for itself, or ff and four bytes
+abbrev pub count : ℕ → ℕ → Field ℕ
+count least most = record { spell = count_spelling; read = count_read least most; Fits = λ n. (least ≤ n) × (n ≤ most) }
 
 -- an element of a list: its reading and its fit may look at the elements before it, and at how many come after it
 pub record Element (A : Type 0) : Type 1 where
@@ -177,13 +203,13 @@ elements e n = record {
 }
 
 -- a count, and as many elements
-abbrev pub listed_read : {A : Type 0} → (List A → ℕ → List ℕ → Read A) → ℕ → List ℕ → Read (List A)
-listed_read read most bytes = count_read most bytes >>= λ n. elements_read read n.0 [] n.1
+abbrev pub listed_read : {A : Type 0} → (List A → ℕ → List ℕ → Read A) → ℕ → ℕ → List ℕ → Read (List A)
+listed_read read least most bytes = count_read least most bytes >>= λ n. elements_read read n.0 [] n.1
 
--- a count up to a limit, and as many elements
-abbrev pub listed : {A : Type 0} → ℕ → Element A → Field (List A)
-listed most e = record {
+-- a count within limits, and as many elements
+abbrev pub listed : {A : Type 0} → ℕ → ℕ → Element A → Field (List A)
+listed least most e = record {
   spell = λ xs. count_spelling (length xs) ++ flat_map e.spell xs;
-  read = listed_read e.read most;
-  Fits = λ xs. (length xs ≤ most) × ElementsFit e.Fits [] xs;
+  read = listed_read e.read least most;
+  Fits = λ xs. (least ≤ length xs) × (length xs ≤ most) × ElementsFit e.Fits [] xs;
 }

@@ -1,9 +1,9 @@
 -- The object grammar: which parts have a spelling, and which bytes spell them.
-use Rattle.std.specs.Prelude.{◌≡◌, ◌≢◌, ◌⊎◌, ℕ, zero, suc, ◌-◌, ◌≤◌, ◌<◌, ◌^◌, ℤ, pos, negsuc, FitsSigned, Bool, true, false, List, ◌∷◌, length, slice_get, Option, Some, IfSome, Err, if◌then◌else◌, ◌==◌, nat_lt}
-use Rattle.std.specs.List.{All}
+use Rattle.std.specs.Prelude.{◌≡◌, ◌≢◌, ◌⊎◌, ℕ, zero, suc, ◌-◌, ◌≤◌, ◌<◌, ◌^◌, ℤ, pos, negsuc, FitsSigned, Bool, true, false, List, [], ◌∷◌, length, slice_get, Option, Some, IfSome, nat_lt}
+use Rattle.std.specs.List.{All, AllPairs}
 use Rattle.std.specs.Int.{w16, w32, w64}
 use Rattle.gw_object.specs.Codes as codes
-use Rattle.gw_object.specs.Limits.{most_bytes, most_seeds, greatest_seed, greatest_count, most_blocks, greatest_weight}
+use Rattle.gw_object.specs.Limits.{most_bytes, most_seeds, greatest_seed, greatest_count, most_entities, most_blocks, greatest_weight}
 use Rattle.gw_object.specs.declared.parts.Operand.{Operand}
 use Rattle.gw_object.specs.declared.parts.Operand.TheVariants.{Constant}
 use Rattle.gw_object.specs.declared.parts.Spread.{Spread}
@@ -12,7 +12,8 @@ use Rattle.gw_object.specs.declared.parts.Block.{Block}
 use Rattle.gw_object.specs.declared.parts.Block.TheVariants.{Generate, Terminate, Advance}
 use Rattle.gw_object.specs.declared.parts.TableState.{TableState}
 use Rattle.gw_object.specs.declared.parts.Parts.{Parts}
-use Rattle.gw_object.specs.Fields.{◌>>=◌, Read, Field, bad, byte, byte_read, number, signed, read_as, made, tested, both, and_then, constant, fitting, ranged, optional, count, Element, plain, last_tested, elements, listed}
+use Rattle.gw_object.specs.Fields.{Read, Field, byte, number, signed, made, tested, both, and_then, constant, fitting, ranged, optional, Form, behind, by_tag, count, Element, plain, last_tested, elements, listed}
+use Rattle.gw_object.specs.Entities.{entity, EntityFits, IsLettered, AreNamesakes}
 
 -- ---- operands
 
@@ -79,13 +80,17 @@ block_spelling (Generate g) = 1 ∷ generate.spell g
 block_spelling (Terminate decrement) = 2 ∷ operand.spell decrement
 block_spelling (Advance time) = 3 ∷ spread.spell time
 
+-- the blocks
+abbrev pub block_forms : List (Form Block)
+block_forms =
+    behind 1 (λ g. Generate g) generate
+    ∷ behind 2 (λ decrement. Terminate decrement) operand
+    ∷ behind 3 (λ time. Advance time) spread
+    ∷ []
+
 -- by its tag; another tag is a fault
 unfoldable pub block_read : List ℕ → Read Block
-block_read bytes = byte_read bytes >>= λ tag.
-    if tag.0 == 1 then read_as (λ g. Generate g) generate.read tag.1
-    else if tag.0 == 2 then read_as (λ decrement. Terminate decrement) operand.read tag.1
-    else if tag.0 == 3 then read_as (λ time. Advance time) spread.read tag.1
-    else Err (bad codes.tag bytes)
+block_read = by_tag block_forms
 
 -- a block
 abbrev pub block : Field Block
@@ -95,7 +100,7 @@ block = record { spell = block_spelling; read = block_read; Fits = BlockFits }
 
 -- a list that has no elements yet
 abbrev pub no_elements : Field (Unit {0})
-no_elements = made (λ _. tt) (λ _. 0) (count 0)
+no_elements = made (λ _. tt) (λ _. 0) (count 0 0)
 
 -- parameters, facilities and units: none yet
 unfoldable pub state : Field TableState
@@ -123,13 +128,13 @@ seed = last_tested (nat_lt 0) codes.not_canonical (ranged 0 greatest_seed (numbe
 abbrev pub start_count : Field ℕ
 start_count = ranged 1 greatest_count (number w64)
 
--- the head, seeds, termination count, entities and procedures (none yet), blocks, and what stands for each block
+-- the head, seeds, termination count, entities, procedures (none yet), blocks, and what stands for each block
 unfoldable pub object : Field Parts
 object = made
-    (λ (_, (seeds, (count, (_, (_, (blocks, (_, (states, weights)))))))). record { seeds = seeds; count = count; blocks = blocks; states = states; weights = weights })
-    (λ p. ((tt, tt), (p.seeds, (p.count, (tt, (tt, (p.blocks, (tt, (p.states, p.weights)))))))))
-    (both head (both (listed most_seeds seed) (both start_count (both no_elements (both no_elements
-    (and_then (listed most_blocks (plain block)) (λ blocks. tables (length blocks))))))))
+    (λ (_, (seeds, (count, (entities, (_, (blocks, (_, (states, weights)))))))). record { seeds = seeds; count = count; entities = entities; blocks = blocks; states = states; weights = weights })
+    (λ p. ((tt, tt), (p.seeds, (p.count, (p.entities, (tt, (p.blocks, (tt, (p.states, p.weights)))))))))
+    (both head (both (listed 0 most_seeds seed) (both start_count (both (listed 0 most_entities entity) (both no_elements
+    (and_then (listed 0 most_blocks (plain block)) (λ blocks. tables (length blocks))))))))
 
 -- the bytes that spell parts
 unfoldable pub spelling : Parts → List ℕ
@@ -137,12 +142,18 @@ spelling p = object.spell p
 
 -- ---- the rules of parts, by the code of their breach
 
+-- 4: each byte is among those that its field lists
+pub record HasLetters (p : Parts) : Type 0 where
+  pub names : All IsLettered p.entities
+
 -- 5: parts keep the limits of the format
 pub record IsWithinLimits (p : Parts) : Type 0 where
   pub seeds : length p.seeds ≤ most_seeds
   pub each_seed : All (λ seed. seed ≤ greatest_seed) p.seeds
   pub count_least : 1 ≤ p.count
   pub count_most : p.count ≤ greatest_count
+  pub entities : length p.entities ≤ most_entities
+  pub each_entity : All EntityFits p.entities
   pub blocks : length p.blocks ≤ most_blocks
   pub each_block : All BlockFits p.blocks
   pub states : length p.states ≡ length p.blocks
@@ -153,15 +164,20 @@ pub record IsWithinLimits (p : Parts) : Type 0 where
 -- 6: parts are the one form of what they say
 pub record IsCanonical (p : Parts) : Type 0 where
   pub last_seed : slice_get p.seeds (length p.seeds - 1) ≢ Some 0
+  pub own_names : AllPairs (λ a b. ¬ AreNamesakes a b) p.entities
 
 -- parts have a spelling
 pub record HasSpelling (p : Parts) : Type 0 where
+  pub letters : HasLetters p
   pub limits : IsWithinLimits p
   pub canonical : IsCanonical p
 
 -- the code of parts that have no spelling: the lowest that applies anywhere in them
 abbrev pub Refuses : ℕ → Parts → Type 0
-Refuses code p = ((code ≡ codes.limit) × ¬ IsWithinLimits p) ⊎ ((code ≡ codes.not_canonical) × IsWithinLimits p × ¬ IsCanonical p)
+Refuses code p =
+    ((code ≡ codes.tag) × ¬ HasLetters p)
+    ⊎ ((code ≡ codes.limit) × HasLetters p × ¬ IsWithinLimits p)
+    ⊎ ((code ≡ codes.not_canonical) × HasLetters p × IsWithinLimits p × ¬ IsCanonical p)
 
 -- these bytes spell these parts
 pub record Spells (bytes : List ℕ) (p : Parts) : Type 0 where

@@ -17,6 +17,18 @@ greatest_seed = 2147483646
 abbrev pub greatest_count : ℕ
 greatest_count = 2 ^ 40
 
+-- entities
+abbrev pub most_entities : ℕ
+most_entities = 1024
+
+-- letters of a name
+abbrev pub most_letters : ℕ
+most_letters = 32
+
+-- a capacity, in units
+abbrev pub greatest_capacity : ℕ
+greatest_capacity = 2147483647
+
 -- blocks
 abbrev pub most_blocks : ℕ
 most_blocks = 4096

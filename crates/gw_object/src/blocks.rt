@@ -162,9 +162,9 @@ impl Spelled for TableState {
     /// Parameters, facilities and units: none yet.
     #[tactic(auto, unfolding(crate::specs::Grammar::state))]
     fn read(alloc: Global, bytes: &[u8]) -> Result<(TableState, &[u8]), ReadError> {
-        let (_parameters, rest) = read_count(alloc, bytes, 0)?;
-        let (_facilities, rest) = read_count(alloc, rest, 0)?;
-        let (_units, rest) = read_count(alloc, rest, 0)?;
+        let (_parameters, rest) = read_count(alloc, bytes, 0, 0)?;
+        let (_facilities, rest) = read_count(alloc, rest, 0, 0)?;
+        let (_units, rest) = read_count(alloc, rest, 0, 0)?;
         Ok((TableState {}, rest))
     }
 }

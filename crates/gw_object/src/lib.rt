@@ -3,6 +3,7 @@
 
 mod blocks;
 pub mod codes;
+mod entities;
 mod error;
 mod fault;
 mod items;
@@ -20,10 +21,11 @@ mod writing;
 pub use fault::{Fault, Place};
 pub use items::Items;
 pub use limits::{
-    GREATEST_COUNT, GREATEST_SEED, GREATEST_WEIGHT, MOST_BLOCKS, MOST_BYTES, MOST_SEEDS,
+    GREATEST_CAPACITY, GREATEST_COUNT, GREATEST_SEED, GREATEST_WEIGHT, MOST_BLOCKS, MOST_BYTES,
+    MOST_ENTITIES, MOST_LETTERS, MOST_SEEDS,
 };
 pub use object::Object;
-pub use parts::{Block, Generate, Operand, Parts, Spread, TableState};
+pub use parts::{Block, Entity, Generate, Kind, Operand, Parts, Spread, TableState};
 pub use reading::read;
 pub use std::alloc::AllocError as Memory;
 pub use writing::write;

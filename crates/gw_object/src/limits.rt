@@ -12,6 +12,15 @@ pub const GREATEST_SEED: u32 = 2_147_483_646;
 /// The greatest termination count.
 pub const GREATEST_COUNT: u64 = 1_099_511_627_776;
 
+/// The most entities.
+pub const MOST_ENTITIES: usize = 1_024;
+
+/// The most letters of an entity's name.
+pub const MOST_LETTERS: usize = 32;
+
+/// The greatest capacity of a storage, in units.
+pub const GREATEST_CAPACITY: u32 = 2_147_483_647;
+
 /// The most blocks.
 pub const MOST_BLOCKS: usize = 4_096;
 

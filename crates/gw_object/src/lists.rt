@@ -1,7 +1,7 @@
 //! Lists: so many elements, one after the other.
 
 ghost use Rattle.std.specs.Prelude.{◌≡◌, ℕ, List, [], ◌<◌, ◌^◌, ◌++◌, OnOk, length};
-ghost use Rattle.std.specs.List.{flat_map};
+ghost use Rattle.std.specs.List.{All, flat_map};
 ghost use Rattle.gw_object.specs.Fields.{Read, plain, count_spelling, elements_read, listed_read};
 ghost use Rattle.gw_object.specs.Grammar.{seed, weight};
 ghost use Rattle.gw_object.specs.Reading.{Gives};
@@ -27,8 +27,12 @@ pub trait Elements {
     /// the bytes after it, or the first fault.
     ghost element_reading: { List Self.Item → ℕ → List ℕ → Read Self.Item };
 
+    /// An element may be put: lists of its own are short enough to be counted.
+    ghost can_put: { Self.Item → Type 0 } = { λ _. Unit {0} };
+
     /// Puts the bytes of an element at the end.
     fn put_element(out: &mut Vec<u8>, element: &Self::Item) -> Result<(), Memory>
+        requires { can_put element.now }
         ensures { OnOk result (out.new.items ≡ out.old.items ++ element_spelling element.now) };
 
     /// The element at the front of the bytes, and the bytes after it.
@@ -43,6 +47,7 @@ pub trait Elements {
 
 /// Puts the bytes of elements at the end.
 pub fn put_elements<L: Elements>(out: &mut Vec<u8>, elements: &[L::Item]) -> Result<(), Memory>
+    requires { All L.can_put elements.now }
     ensures { OnOk result (out.new.items ≡ out.old.items ++ flat_map L.element_spelling elements.now) }
 {
     for element in elements {
@@ -72,22 +77,24 @@ pub fn read_elements<L: Elements>(
 
 /// Puts the count of elements at the end, and their bytes.
 pub fn put_listed<L: Elements>(out: &mut Vec<u8>, elements: &[L::Item]) -> Result<(), Memory>
-    requires { length elements.now < 2 ^ 32 }
+    requires count { length elements.now < 2 ^ 32 }
+    requires each { All L.can_put elements.now }
     ensures { OnOk result (out.new.items ≡ out.old.items ++ (count_spelling (length elements.now) ++ flat_map L.element_spelling elements.now)) }
 {
     put_count(out, elements.len())?;
     put_elements::<L>(out, elements)
 }
 
-/// A count of at most so many elements, and as many elements.
+/// A count within two limits, and as many elements.
 pub fn read_listed<L: Elements>(
     alloc: Global,
-    most: usize,
     bytes: &[u8],
+    least: usize,
+    most: usize,
 ) -> Result<(Vec<L::Item>, &[u8]), ReadError>
-    ensures { Gives (λ x. (x.0.items, x.1.now)) result (listed_read L.element_reading most bytes.now) }
+    ensures { Gives (λ x. (x.0.items, x.1.now)) result (listed_read L.element_reading least most bytes.now) }
 {
-    let (count, rest) = read_count(alloc, bytes, most)?;
+    let (count, rest) = read_count(alloc, bytes, least, most)?;
     read_elements::<L>(alloc, count, rest)
 }
 

@@ -193,15 +193,20 @@ pub fn put_count(out: &mut Vec<u8>, count: usize) -> Result<(), Memory>
     Ok(())
 }
 
-/// A count of at most so many elements.
+/// A count within two limits.
 #[tactic(auto, unfolding(crate::specs::Fields::count_read))]
-pub fn read_count(alloc: Global, bytes: &[u8], most: usize) -> Result<(usize, &[u8]), ReadError>
-    ensures { Gives (λ x. (x.0, x.1.now)) result ((count most).read bytes.now) }
+pub fn read_count(
+    alloc: Global,
+    bytes: &[u8],
+    least: usize,
+    most: usize,
+) -> Result<(usize, &[u8]), ReadError>
+    ensures { Gives (λ x. (x.0, x.1.now)) result ((count least most).read bytes.now) }
 {
     let (first, rest) = u8::read(alloc, bytes)?;
     if first < 255 {
         let count = first as usize;
-        if most < count {
+        if count < least || most < count {
             return Err(fault(LIMIT, bytes));
         }
         return Ok((count, rest));
@@ -211,7 +216,7 @@ pub fn read_count(alloc: Global, bytes: &[u8], most: usize) -> Result<(usize, &[
     }
     let (count, rest) = u32::read(alloc, rest)?;
     let count = count as usize;
-    if most < count {
+    if count < least || most < count {
         return Err(fault(LIMIT, bytes));
     }
     if count < 255 {

@@ -3,10 +3,9 @@
 ghost use Rattle.std.specs.Prelude.{◌≡◌, IfOk, IfErr, Ok};
 ghost use Rattle.gw_object.specs.Grammar.{HasSpelling, Refuses};
 
-use crate::codes::*;
 use crate::fault::{Fault, Place};
 use crate::parts::Parts;
-use crate::rules::{is_canonical, is_within_limits};
+use crate::rules::broken_rule;
 use std::marker::Model;
 
 /// An object: parts that keep every rule of the object format, so that they have exactly one spelling.
@@ -36,31 +35,20 @@ impl Object {
     }
 
     /// The object of these parts. Parts that have no spelling are handed back with the lowest code that
-    /// applies to any of them: 5 (a limit or a list's length), 6 (not the one form); the place is Nowhere.
+    /// applies anywhere in them: 4 (a byte of a name that isn't listed), 5 (a limit or a list's length), 6 (not
+    /// the one form); the place is Nowhere.
     pub fn build(parts: Parts) -> Result<Object, (Parts, Fault)>
         ensures accepted { IfOk result (λ o. (o ≡ parts) × HasSpelling parts) }
         ensures exactly { HasSpelling parts → result ≡ Ok parts }
         ensures refused { IfErr result (λ e. (e.0 ≡ parts) × (e.1.place ≡ Place.Nowhere) × Refuses e.1.code parts) }
     {
-        if !is_within_limits(&parts) {
-            return Err((
-                parts,
-                Fault {
-                    code: LIMIT,
-                    place: Place::Nowhere,
-                },
-            ));
+        match broken_rule(&parts) {
+            None => Ok(Object::of(parts)),
+            Some(code) => {
+                let place = Place::Nowhere;
+                Err((parts, Fault { code, place }))
+            }
         }
-        if !is_canonical(&parts) {
-            return Err((
-                parts,
-                Fault {
-                    code: NOT_CANONICAL,
-                    place: Place::Nowhere,
-                },
-            ));
-        }
-        Ok(Object::of(parts))
     }
 
     /// Its parts.

@@ -3,6 +3,26 @@
 
 use crate::items::Items;
 
+/// What an entity is.
+#[derive(Clone, Copy, Debug, PartialEq, Eq)]
+pub enum Kind {
+    /// Owned by one transaction at a time.
+    Facility,
+    /// Holds units, at most its capacity: from 1 to 2^31 - 1.
+    Storage(u32),
+    /// Counts units, without a limit.
+    Queue,
+}
+
+/// An entity: a facility, a storage or a queue.
+#[derive(Debug, Drop, PartialEq, Eq)]
+pub struct Entity {
+    /// Its name: 1 to 32 letters `A` to `Z`, digits and `_`. No two entities of a kind have one name.
+    pub name: Items<u8>,
+    /// What it is.
+    pub kind: Kind,
+}
+
 /// An operand of a block.
 #[derive(Clone, Copy, Debug, PartialEq, Eq)]
 pub enum Operand {
@@ -54,6 +74,8 @@ pub struct Parts {
     pub seeds: Items<u32>,
     /// The termination count, from 1 to 2^40.
     pub count: u64,
+    /// The entities, at most 1,024; the first has the number 0.
+    pub entities: Items<Entity>,
     /// The blocks, at most 4,096; the first has the number 1.
     pub blocks: Items<Block>,
     /// For each block its row of the state table, if it has one.

@@ -6,6 +6,7 @@ ghost use Rattle.gw_object.specs.Grammar.{head, tables, object, Spells};
 ghost use Rattle.gw_object.specs.Reading.{Gives, whole_read, placed, first_fault, out_of_memory};
 
 use crate::codes::*;
+use crate::entities::Entities;
 use crate::error::*;
 use crate::fault::{Fault, Place};
 use crate::items::Items;
@@ -45,7 +46,7 @@ fn read_tables(
 ) -> Result<((Vec<Option<TableState>>, Vec<u32>), &[u8]), ReadError>
     ensures { Gives (λ x. ((tt, (x.0.0.items, x.0.1.items)), x.1.now)) result ((tables count).read bytes.now) }
 {
-    let (_rows, rest) = read_count(alloc, bytes, 0)?;
+    let (_rows, rest) = read_count(alloc, bytes, 0, 0)?;
     let (states, rest) = read_elements::<Plain<Option<TableState>>>(alloc, count, rest)?;
     let (weights, rest) = read_elements::<Weights>(alloc, count, rest)?;
     Ok(((states, weights), rest))
@@ -57,15 +58,16 @@ fn read_parts(alloc: Global, bytes: &[u8]) -> Result<(Parts, &[u8]), ReadError>
     ensures { Gives (λ x. (x.0, x.1.now)) result (object.read bytes.now) }
 {
     let rest = read_head(alloc, bytes)?;
-    let (seeds, rest) = read_listed::<Seeds>(alloc, MOST_SEEDS, rest)?;
+    let (seeds, rest) = read_listed::<Seeds>(alloc, rest, 0, MOST_SEEDS)?;
     let (count, rest) = read_ranged_u64(alloc, rest, 1, GREATEST_COUNT)?;
-    let (_entities, rest) = read_count(alloc, rest, 0)?;
-    let (_procedures, rest) = read_count(alloc, rest, 0)?;
-    let (blocks, rest) = read_listed::<Plain<Block>>(alloc, MOST_BLOCKS, rest)?;
+    let (entities, rest) = read_listed::<Entities>(alloc, rest, 0, MOST_ENTITIES)?;
+    let (_procedures, rest) = read_count(alloc, rest, 0, 0)?;
+    let (blocks, rest) = read_listed::<Plain<Block>>(alloc, rest, 0, MOST_BLOCKS)?;
     let ((states, weights), rest) = read_tables(alloc, blocks.len(), rest)?;
     let parts = Parts {
         seeds: Items::from_vec(seeds),
         count,
+        entities: Items::from_vec(entities),
         blocks: Items::from_vec(blocks),
         states: Items::from_vec(states),
         weights: Items::from_vec(weights),

@@ -1,10 +1,12 @@
 //! Whether parts keep the rules of the object format.
 
-ghost use Rattle.std.specs.Prelude.{◌≡◌, ◌↔◌, ◌≤◌, IsTrue};
+ghost use Rattle.std.specs.Prelude.{◌≡◌, ◌↔◌, ◌≤◌, IsTrue, MatchOption};
 ghost use Rattle.std.specs.List.{All};
 ghost use Rattle.gw_object.specs.Limits.{greatest_seed, greatest_weight};
-ghost use Rattle.gw_object.specs.Grammar.{IsZero, BlockFits, IsWithinLimits, IsCanonical};
+ghost use Rattle.gw_object.specs.Grammar.{IsZero, BlockFits, HasLetters, IsWithinLimits, IsCanonical, HasSpelling, Refuses};
 
+use crate::codes::*;
+use crate::entities::{are_lettered, entities_fit, names_are_own};
 use crate::limits::*;
 use crate::parts::*;
 
@@ -51,17 +53,25 @@ fn weights_fit(weights: &[u32]) -> bool
         .all(|weight| 1 <= *weight && *weight <= GREATEST_WEIGHT)
 }
 
+/// Whether each byte in parts is among those that its field lists: the letters of names.
+fn has_letters(parts: &Parts) -> bool
+    ensures { IsTrue result ↔ HasLetters parts.now }
+{
+    are_lettered(parts.entities.as_slice())
+}
+
 /// Whether parts keep the limits of the format. At most 4,096 blocks without lists of their own are spelled
 /// in less than 1 MiB.
 #[tactic(auto, using(crate::proofs::Sizes::size_fits))]
-pub fn is_within_limits(parts: &Parts) -> bool
+fn is_within_limits(parts: &Parts) -> bool
     ensures { IsTrue result ↔ IsWithinLimits parts.now }
 {
     let seeds = parts.seeds.as_slice();
+    let entities = parts.entities.as_slice();
     let blocks = parts.blocks.as_slice();
     let states = parts.states.as_slice();
     let weights = parts.weights.as_slice();
-    if seeds.len() > MOST_SEEDS || blocks.len() > MOST_BLOCKS {
+    if seeds.len() > MOST_SEEDS || entities.len() > MOST_ENTITIES || blocks.len() > MOST_BLOCKS {
         return false;
     }
     if states.len() != blocks.len() || weights.len() != blocks.len() {
@@ -70,12 +80,29 @@ pub fn is_within_limits(parts: &Parts) -> bool
     if parts.count < 1 || parts.count > GREATEST_COUNT {
         return false;
     }
-    seeds_fit(seeds) && blocks_fit(blocks) && weights_fit(weights)
+    seeds_fit(seeds) && entities_fit(entities) && blocks_fit(blocks) && weights_fit(weights)
 }
 
-/// Whether parts are the one form of what they say: the last seed isn't 0.
-pub fn is_canonical(parts: &Parts) -> bool
+/// Whether parts are the one form of what they say: the last seed isn't 0, and each entity has a name of its
+/// own.
+fn is_canonical(parts: &Parts) -> bool
     ensures { IsTrue result ↔ IsCanonical parts.now }
 {
-    parts.seeds.as_slice().last() != Some(&0)
+    parts.seeds.as_slice().last() != Some(&0) && names_are_own(parts.entities.as_slice())
+}
+
+/// The lowest code that applies anywhere in parts that have no spelling.
+pub fn broken_rule(parts: &Parts) -> Option<u16>
+    ensures { MatchOption result (HasSpelling parts.now) (λ code. Refuses code parts.now) }
+{
+    if !has_letters(parts) {
+        return Some(TAG);
+    }
+    if !is_within_limits(parts) {
+        return Some(LIMIT);
+    }
+    if !is_canonical(parts) {
+        return Some(NOT_CANONICAL);
+    }
+    None
 }

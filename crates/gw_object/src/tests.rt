@@ -3,6 +3,8 @@ use crate::codes::*;
 use std::alloc::Global;
 use std::test::Fail;
 
+mod entities;
+
 /// `GENERATE 10 / ADVANCE 3 / TERMINATE 1` with termination count 2.
 const THREE_BLOCKS: [u8; 97] = [
     0x47, 0x50, 0x53, 0x4f, 0x00, 0x01, 0x00, 0x00, 0x00, 0x00, 0x00, 0x00, 0x00, 0x00, 0x02, 0x00,
@@ -32,10 +34,16 @@ fn at(code: u16, byte: u32) -> Option<Fault> {
     })
 }
 
-/// The bytes of the three blocks, with some others from a place on in place of as many as `old`.
-fn changed(alloc: Global, place: usize, old: usize, new: &[u8]) -> Result<Vec<u8>, Memory> {
+/// These bytes, with some others from a place on in place of as many as `old`.
+fn changed(
+    alloc: Global,
+    whole: &[u8],
+    place: usize,
+    old: usize,
+    new: &[u8],
+) -> Result<Vec<u8>, Memory> {
     let mut bytes = Vec::new(alloc);
-    let (front, rest) = THREE_BLOCKS.split_at(place.min(97));
+    let (front, rest) = whole.split_at(place.min(whole.len()));
     bytes.extend_from_slice(front)?;
     bytes.extend_from_slice(new)?;
     bytes.extend_from_slice(rest.split_at(old.min(rest.len())).1)?;
@@ -98,7 +106,7 @@ fn each_fault_is_named_by_its_code_and_place(rt: HostRuntime) -> Result<(), Fail
             LIMIT,
             7,
         ),
-        (15, 1, &[0x01], LIMIT, 15),
+        (15, 1, &[0xff, 0x00, 0x00, 0x04, 0x01], LIMIT, 15),
         (16, 1, &[0x01], LIMIT, 16),
         (17, 1, &[0xff, 0x00, 0x00, 0x10, 0x01], LIMIT, 17),
         (17, 1, &[0xff, 0x00, 0x00, 0x00, 0xfe], NOT_CANONICAL, 17),
@@ -118,7 +126,7 @@ fn each_fault_is_named_by_its_code_and_place(rt: HostRuntime) -> Result<(), Fail
         (17, 1, &[0x02], LIMIT, 62),
     ];
     for (place, old, new, code, byte) in faults {
-        let bytes = changed(rt.alloc(), place, old, new)?;
+        let bytes = changed(rt.alloc(), &THREE_BLOCKS, place, old, new)?;
         assert_eq!(rt; refusal(rt.alloc(), &bytes), at(code, byte), "at {place}");
     }
     Ok(())
@@ -153,6 +161,7 @@ fn two_blocks(alloc: Global) -> Result<Parts, Memory> {
     Ok(Parts {
         seeds: Items::from_vec(Vec::from_slice(alloc, &[5, 0, 2_147_483_646])?),
         count: 1_099_511_627_776,
+        entities: Items::from_vec(Vec::new(alloc)),
         blocks: Items::from_vec(Vec::from_slice(alloc, &[generate, terminate])?),
         states: Items::from_vec(Vec::from_slice(alloc, &[Some(TableState {}), None])?),
         weights: Items::from_vec(Vec::from_slice(alloc, &[1_000_000_000, 1])?),
@@ -251,6 +260,7 @@ fn counts_outside_their_limits_are_not_built(rt: HostRuntime) -> Result<(), Fail
         let parts = Parts {
             seeds: Items::from_vec(Vec::new(rt.alloc())),
             count: 1,
+            entities: Items::from_vec(Vec::new(rt.alloc())),
             blocks: Items::from_vec(vec![in rt.alloc(); block; blocks]?),
             states: Items::from_vec(vec![in rt.alloc(); None; blocks]?),
             weights: Items::from_vec(vec![in rt.alloc(); 1; blocks]?),

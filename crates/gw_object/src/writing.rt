@@ -4,6 +4,7 @@ ghost use Rattle.std.specs.Prelude.{◌≡◌, ◌++◌, OnOk, IfOk, length};
 ghost use Rattle.gw_object.specs.Grammar.{HasSpelling, head, tables, spelling};
 
 use crate::Memory;
+use crate::entities::Entities;
 use crate::lists::*;
 use crate::numbers::*;
 use crate::object::Object;
@@ -45,7 +46,7 @@ fn put_parts(out: &mut Vec<u8>, parts: &Parts) -> Result<(), Memory>
     put_head(out)?;
     put_listed::<Seeds>(out, parts.seeds.as_slice())?;
     parts.count.put(out)?;
-    put_count(out, 0)?;
+    put_listed::<Entities>(out, parts.entities.as_slice())?;
     put_count(out, 0)?;
     put_listed::<Plain<Block>>(out, parts.blocks.as_slice())?;
     put_tables(out, parts.states.as_slice(), parts.weights.as_slice())?;

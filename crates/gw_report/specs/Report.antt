@@ -3,7 +3,7 @@ use Rattle.std.specs.Prelude.{ℕ, ◌+◌, List, [], ◌∷◌, ◌++◌, codes
 use Rattle.std.specs.Fmt.{decimal, signed_decimal}
 use Rattle.gw_object.specs.declared.parts.Block.{Block}
 use Rattle.gw_object.specs.declared.parts.Block.TheVariants.{Generate, Terminate, Advance}
-use Rattle.gw_transactions.specs.Table.{at}
+use Rattle.gw_num.specs.Table.{at}
 use Rattle.gw_transactions.specs.Transactions.{here_count}
 use Rattle.gw_scan.specs.declared.ends.End.TheVariants.{Done, Number, ZeroDivisor, NegativeTime, LoopLimit, NoMoreEvents, Budget, Live}
 use Rattle.gw_scan.specs.State.{State}

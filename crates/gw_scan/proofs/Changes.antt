@@ -6,9 +6,9 @@ use Rattle.gw_chains.specs.declared.tx.Tx.{Tx}
 use Rattle.gw_chains.specs.declared.tx.Member.{Member}
 use Rattle.gw_chains.specs.declared.tx.Event.{Event}
 use Rattle.gw_transactions.specs.declared.Transaction.{Transaction}
-use Rattle.gw_transactions.specs.Table.{at, put}
+use Rattle.gw_num.specs.Table.{at, put}
 use Rattle.gw_transactions.specs.Transactions.{Holds, IsSound}
-use Rattle.gw_transactions.proofs.Tables.{at-put, set-put, at-get_or_any}
+use Rattle.gw_num.proofs.Tables.{at-put, set-put, at-get_or_any}
 use Rattle.gw_transactions.proofs.Populations.{transaction_of}
 use Rattle.gw_scan.specs.declared.machine.Machine.{Machine}
 use Rattle.gw_scan.specs.State.{FutureEvent, priority_of, raised}

@@ -6,9 +6,9 @@ use Rattle.gw_chains.specs.declared.tx.Tx.{Tx}
 use Rattle.gw_chains.specs.declared.tx.Member.{Member}
 use Rattle.gw_chains.specs.declared.tx.Event.{Event}
 use Rattle.gw_transactions.specs.declared.Transaction.{Transaction}
-use Rattle.gw_transactions.specs.Table.{at, put}
+use Rattle.gw_num.specs.Table.{at, put}
 use Rattle.gw_transactions.specs.Transactions.{Population, Holds, IsSound}
-use Rattle.gw_transactions.proofs.Tables.{at-put, at-put_other}
+use Rattle.gw_num.proofs.Tables.{at-put, at-put_other}
 use Rattle.gw_scan.specs.State.{priority_in, priority_of}
 use Rattle.gw_scan.specs.Standing.{times}
 use Rattle.gw_scan.specs.Coherence.{IsRanked, IsHeld, Carries, Every, Others}

@@ -6,7 +6,7 @@ use Rattle.gw_object.specs.declared.parts.Block.{Block}
 use Rattle.gw_object.specs.declared.parts.Block.TheVariants as blocks
 use Rattle.gw_verify.specs.Checks.{block_at}
 use Rattle.gw_transactions.specs.declared.Transaction.{Transaction}
-use Rattle.gw_transactions.specs.Table.{at}
+use Rattle.gw_num.specs.Table.{at}
 use Rattle.gw_transactions.specs.Transactions.{live_count}
 use Rattle.gw_scan.specs.declared.ends.End.{End}
 use Rattle.gw_scan.specs.declared.ends.End.TheVariants.{Done, Budget, Live}

@@ -5,9 +5,9 @@ use Rattle.gw_object.specs.declared.parts.Generate.{Generate}
 use Rattle.gw_object.specs.declared.parts.Block.{Block}
 use Rattle.gw_object.specs.declared.parts.Block.TheVariants as blocks
 use Rattle.gw_transactions.specs.declared.Transaction.{Transaction}
-use Rattle.gw_transactions.specs.Table.{at}
+use Rattle.gw_num.specs.Table.{at}
 use Rattle.gw_transactions.specs.Transactions.{live_count}
-use Rattle.gw_transactions.proofs.Tables.{length-put, length-put_next, sum_by-put, at_some}
+use Rattle.gw_num.proofs.Tables.{length-put, length-put_next, sum_by-put, at_some}
 use Rattle.std.proofs.lemmas.Float.{T_from_true}
 use Rattle.gw_scan.specs.declared.ends.End.TheVariants.{Done, Number, Live}
 use Rattle.gw_scan.specs.declared.ends.Stop.TheVariants.{NoBlock}

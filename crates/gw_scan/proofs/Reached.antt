@@ -6,7 +6,7 @@ use Rattle.std.proofs.lemmas.List.{length-replicate}
 use Rattle.std.proofs.lemmas.Int.{ints}
 use Rattle.gw_object.specs.declared.parts.Block.{Block}
 use Rattle.gw_object.specs.declared.parts.Block.TheVariants as blocks
-use Rattle.gw_transactions.proofs.Tables.{sum_by-replicate}
+use Rattle.gw_num.proofs.Tables.{sum_by-replicate}
 use Rattle.gw_scan.specs.declared.ends.End.{End}
 use Rattle.gw_scan.specs.declared.ends.End.TheVariants.{Budget}
 use Rattle.gw_scan.specs.Outcome.{Outcome, Gives, EndsBy, StopsBy}

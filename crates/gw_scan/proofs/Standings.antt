@@ -4,8 +4,8 @@ use Rattle.std.specs.Prelude.{int_le}
 use Rattle.std.proofs.lemmas.Bool.{cases_eq, eq-eqb, ne_eqb}
 use Rattle.gw_chains.specs.Chain.{all_behind, due}
 use Rattle.gw_transactions.specs.declared.Transaction.{Transaction}
-use Rattle.gw_transactions.specs.Table.{at, put}
-use Rattle.gw_transactions.proofs.Tables.{at-put, at-put_other, at_past}
+use Rattle.gw_num.specs.Table.{at, put}
+use Rattle.gw_num.proofs.Tables.{at-put, at-put_other, at_past}
 use Rattle.gw_scan.specs.State.{FutureEvent, State, priority_of}
 use Rattle.gw_scan.specs.Standing.{times, active_numbers, standing, StandsOnce}
 use Rattle.gw_scan.specs.Step.{entered, destroyed, rests_until, arrives, clock_moves, numbers}

@@ -1,6 +1,6 @@
 -- Where each transaction stands.
 use Rattle.std.specs.Prelude.{◌≡◌, ℕ, ◌+◌, List, [], ◌∷◌, Option, Some, None, is_some, if◌then◌else◌, ◌==◌}
-use Rattle.gw_transactions.specs.Table.{at}
+use Rattle.gw_num.specs.Table.{at}
 use Rattle.gw_scan.specs.State.{Lists, State}
 use Rattle.gw_scan.specs.Step.{numbers}
 

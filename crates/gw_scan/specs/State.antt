@@ -3,7 +3,7 @@ use Rattle.std.specs.Prelude.{ℕ, ◌+◌, ℤ, pos, List, Option, Some, None, 
 use Rattle.gw_object.specs.declared.parts.Block.{Block}
 use Rattle.gw_object.specs.declared.parts.Block.TheVariants as blocks
 use Rattle.gw_transactions.specs.declared.Transaction.{Transaction}
-use Rattle.gw_transactions.specs.Table.{at, put}
+use Rattle.gw_num.specs.Table.{at, put}
 use Rattle.gw_scan.specs.declared.ends.End.{End}
 
 -- a member of the future events chain: a transaction's number, and the clock time that it waits for

@@ -2,7 +2,7 @@
 
 ghost use Rattle.std.specs.Prelude.{◌≡◌, ◌≤◌, ◌<◌, ◌+◌, ◌^◌, sum, length, vec_len, OnOk, OnErr, IfOk};
 ghost use Rattle.gw_verify.specs.Checks.{block_at};
-ghost use Rattle.gw_transactions.specs.Table.{at};
+ghost use Rattle.gw_num.specs.Table.{at};
 ghost use Rattle.gw_transactions.specs.Transactions.{Holds};
 ghost use Rattle.gw_scan.specs.Outcome.{outcome_of, Gives};
 ghost use Rattle.gw_scan.specs.State as state;

@@ -1,7 +1,7 @@
 //! The state of a job in memory, and the elementary changes of it.
 
 ghost use Rattle.std.specs.Prelude.{◌≡◌, ◌≤◌, ◌<◌, ◌+◌, ◌^◌, Some, None, length, vec_len, sum, OnOk, OnErr, pos, ◌<ℤ◌, ◌≤ℤ◌};
-ghost use Rattle.gw_transactions.specs.Table.{at};
+ghost use Rattle.gw_num.specs.Table.{at};
 ghost use Rattle.gw_transactions.specs.Transactions.{Holds};
 ghost use Rattle.gw_scan.specs.State.{priority_of, raised};
 ghost use Rattle.gw_scan.specs.Step as model;

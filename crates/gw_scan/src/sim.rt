@@ -1,7 +1,7 @@
 //! One job.
 
 ghost use Rattle.std.specs.Prelude.{◌≡◌, sum, IfOk, IfErr, IsOk, OnErr};
-ghost use Rattle.gw_transactions.specs.Table.{at};
+ghost use Rattle.gw_num.specs.Table.{at};
 ghost use Rattle.gw_transactions.specs.Transactions.{here_count};
 ghost use Rattle.gw_scan.specs.Job.{Alone, IsFinal, start_of};
 

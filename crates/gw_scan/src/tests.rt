@@ -54,6 +54,7 @@ fn object(alloc: Global, seeds: &[u32], count: u64, blocks: &[Block]) -> Result<
     let parts = Parts {
         seeds: Items::from_vec(own_seeds),
         count,
+        entities: Items::from_vec(Vec::new(alloc)),
         blocks: Items::from_vec(own_blocks),
         states: Items::from_vec(vec![in alloc; Some(TableState {}); blocks.len()]?),
         weights: Items::from_vec(vec![in alloc; 1u32; blocks.len()]?),

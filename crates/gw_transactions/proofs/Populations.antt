@@ -6,10 +6,10 @@ use Rattle.slab.specs.Slab.{Slab, get, Updates, slab_len, with_value, entries_fr
 use Rattle.gw_chains.specs.declared.tx.Tx.{Tx}
 use Rattle.gw_transactions.specs.declared.Transaction.{Transaction}
 use Rattle.gw_transactions.specs.declared.Transactions.TheInside.{Inside}
-use Rattle.gw_transactions.specs.Table.{at, put}
+use Rattle.gw_num.specs.Table.{at, put}
 use Rattle.gw_transactions.specs.Transactions.{Population, Holds, IsSound, live_count, here_count}
 use Rattle.gw_transactions.specs.Slots.{by_number, population_of, AreNumbered}
-use Rattle.gw_transactions.proofs.Tables.{at_some, at-get_or, at_past, put-at, count_by-put}
+use Rattle.gw_num.proofs.Tables.{at_some, at-get_or, at_past, put-at, count_by-put}
 use Rattle.gw_transactions.proofs.Slots.{same_slot, own_number, entry_of, by_number-set, by_number-next, numbered-set, numbered-next, at-by_number, at-by_number_free, slot_of, length-by_number, count_by-by_number}
 
 -- A SOUND POPULATION

@@ -3,9 +3,9 @@ use Rattle.std.proofs.Common.{◌≡◌, ◌≢◌, ℕ, zero, suc, ◌+◌, ◌
 use Rattle.std.proofs.lemmas.Bool.{cases_eq}
 use Rattle.std.proofs.lemmas.List.{length-replicate}
 use Rattle.std.proofs.lemmas.List.Sums.{sum_by-cons}
-use Rattle.gw_transactions.specs.Table.{at, put}
+use Rattle.gw_num.specs.Table.{at, put}
 use Rattle.gw_transactions.specs.Slots.{by_number, AreNumbered}
-use Rattle.gw_transactions.proofs.Tables.{at_some, at-get_or, at-put, at-put_other, put-put, put-put_other, put-at, length-put, at-replicate, put-replicate, count_by-put, sum_by-replicate}
+use Rattle.gw_num.proofs.Tables.{at_some, at-get_or, at-put, at-put_other, put-put, put-put_other, put-at, length-put, at-replicate, put-replicate, count_by-put, sum_by-replicate}
 
 module _ {X : Type 0} where
   pub no_slot : (a : ℕ × X) → None ≡ Some a → ⊥

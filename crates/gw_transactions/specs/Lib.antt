@@ -1,3 +1,2 @@
-pub mod Table
 pub mod Transactions
 pub mod Slots

@@ -2,7 +2,7 @@
 use Rattle.std.specs.Prelude.{◌≡◌, ℕ, suc, ◌-◌, ◌^◌, ◌<◌, ◌≤◌, List, [], ◌∷◌, replicate, Option, Some, None, slice_index_or}
 use Rattle.slab.specs.Slab.{Slab, slab_len}
 use Rattle.gw_transactions.specs.declared.Transaction.{Transaction}
-use Rattle.gw_transactions.specs.Table.{put}
+use Rattle.gw_num.specs.Table.{put}
 use Rattle.gw_transactions.specs.Transactions.{Population}
 
 module _ {X Y : Type 0} (entry : ℕ → X → Y) (next : ℕ) where

@@ -3,7 +3,7 @@ use Rattle.std.specs.Prelude.{◌≡◌, ◌≢◌, ℕ, ◌^◌, ◌<◌, ◌�
 use Rattle.std.specs.Option.{option_map_or}
 use Rattle.gw_chains.specs.declared.tx.Tx.{Tx}
 use Rattle.gw_transactions.specs.declared.Transaction.{Transaction}
-use Rattle.gw_transactions.specs.Table.{at}
+use Rattle.gw_num.specs.Table.{at}
 
 -- the transactions by number, their places by number, and how many more fit with no allocation
 pub record Population : Type 0 where

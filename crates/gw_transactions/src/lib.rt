@@ -5,7 +5,7 @@
 mod tests;
 
 ghost use Rattle.std.specs.Prelude.{◌≡◌, ◌≤◌, ◌<◌, ◌+◌, ◌^◌, ◌∷◌, [], length, OnOk, OnErr};
-ghost use Rattle.gw_transactions.specs.Table.{at, put};
+ghost use Rattle.gw_num.specs.Table.{at, put};
 
 use gw_chains::{Memory, Tx};
 use slab::Slab;

@@ -36,6 +36,7 @@ fn object(alloc: Global, blocks: &[Block], rows: &[bool]) -> Result<Object, Fail
     let parts = Parts {
         seeds: Items::from_vec(Vec::new(alloc)),
         count: 1,
+        entities: Items::from_vec(Vec::new(alloc)),
         blocks: Items::from_vec(Vec::from_slice(alloc, blocks)?),
         states: Items::from_vec(states),
         weights: Items::from_vec(weights),

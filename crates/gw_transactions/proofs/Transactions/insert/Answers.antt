@@ -1,8 +1,8 @@
 use Rattle.std.proofs.Common.{refl, length, Some, None, rules, ◌≡◌, ◌<◌, ◌+◌, ◌-◌, ◌^◌, ◌∙◌, ap, arith}
 use Rattle.slab.specs.Slab.{slab_len}
 use Rattle.gw_transactions.specs.Transactions.{Population, live_count}
-use Rattle.gw_transactions.specs.Table.{at, put}
-use Rattle.gw_transactions.proofs.Tables.{at-put, at-put_past}
+use Rattle.gw_num.specs.Table.{at, put}
+use Rattle.gw_num.proofs.Tables.{at-put, at-put_past}
 use Rattle.gw_transactions.proofs.Populations.{length-txs, next_is, table-next, numbered-next_of, live_count-insert, sound_of, sound}
 use Rattle.gw_transactions.proofs.Transactions.insert.Goals as goal
 

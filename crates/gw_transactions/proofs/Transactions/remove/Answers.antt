@@ -3,8 +3,8 @@ use Rattle.std.proofs.lemmas.Grind.{common_steps}
 use Rattle.gw_transactions.specs.Transactions.{live_count}
 use Rattle.gw_transactions.specs.Slots.{AreNumbered}
 use Rattle.gw_transactions.proofs.Slots.{no_slot, same_slot}
-use Rattle.gw_transactions.specs.Table.{at}
-use Rattle.gw_transactions.proofs.Tables.{at-put_other}
+use Rattle.gw_num.specs.Table.{at}
+use Rattle.gw_num.proofs.Tables.{at-put_other}
 use Rattle.gw_transactions.proofs.Populations.{length-txs, next_is, held, table-set, numbered-set_of, live_count-remove, sound}
 use Rattle.gw_transactions.proofs.Transactions.remove.Goals as goal
 

@@ -3,7 +3,7 @@ use Rattle.std.proofs.lemmas.Grind.{common_steps}
 use Rattle.slab.specs.Slab.{with_value}
 use Rattle.gw_transactions.specs.Transactions.{live_count}
 use Rattle.gw_transactions.proofs.Slots.{own_number}
-use Rattle.gw_transactions.specs.Table.{at}
+use Rattle.gw_num.specs.Table.{at}
 use Rattle.gw_transactions.proofs.Populations.{length-txs, next_is, held, table-set, places-put, numbered-set_of, live_count-write, slab_len-write, sound}
 use Rattle.gw_transactions.proofs.Transactions.set.Goals as goal
 

@@ -3,7 +3,7 @@ use Rattle.std.proofs.lemmas.Int.{to_z-of_z}
 use Rattle.gw_chains.specs.Chain.{in_time}
 use Rattle.gw_chains.specs.declared.tx.Event.{Event}
 use Rattle.gw_transactions.specs.declared.Transaction.{Transaction}
-use Rattle.gw_transactions.specs.Table.{put}
+use Rattle.gw_num.specs.Table.{put}
 use Rattle.gw_scan.specs.State.{FutureEvent, raised}
 use Rattle.gw_scan.specs.View.{state_of, lists_of, event_of}
 use Rattle.gw_scan.proofs.Changes.{events-in_time, linked-arrived}

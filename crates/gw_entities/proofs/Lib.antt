@@ -1,0 +1,4 @@
+pub mod Averages
+pub mod Histories
+pub mod Passing
+pub mod Rules

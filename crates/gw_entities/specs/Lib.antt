@@ -1,0 +1,9 @@
+pub mod Average
+pub mod Contents
+pub mod Facility
+pub mod Storage
+pub mod Queue
+pub mod Fits
+pub mod Laws
+pub mod Numbered
+pub mod Table

@@ -1,0 +1,88 @@
+-- What a contract sees of entities: tables by entity number, with an entry at the number of each entity of the object. The
+-- entry at the number of another kind of entity is that of one to which nothing happened.
+use Rattle.std.specs.Prelude.{ℕ, ◌+◌, List, map, Result, Ok, Err}
+use Rattle.gw_num.specs.Table.{at, put}
+use Rattle.gw_object.specs.declared.parts.Entity.{Entity}
+use Rattle.gw_entities.specs.declared.contents.Contents.{Contents}
+use Rattle.gw_entities.specs.declared.facilities.Facility.{Facility}
+use Rattle.gw_entities.specs.declared.storages.Storage.{Storage}
+use Rattle.gw_entities.specs.declared.stop.Stop.{Stop}
+use Rattle.gw_entities.specs.Contents.{empty, contents_after}
+use Rattle.gw_entities.specs.Facility.{idle, facility_after}
+use Rattle.gw_entities.specs.Storage.{capacity_of, vacant, storage_after}
+
+-- FACILITIES
+
+-- the facilities, and how many clock units passed so far
+pub record FacilityTable : Type 0 where
+  pub facilities : List Facility
+  pub passed : ℕ
+
+-- the facilities of an object with these entities, at clock 0
+abbrev pub facilities_of : List Entity → FacilityTable
+facilities_of entities = record { facilities = map (λ (e : Entity). idle) entities; passed = 0 }
+
+-- the facility of a number
+abbrev pub facility_at : ℕ → FacilityTable → Facility
+facility_at f t = at idle t.facilities f
+
+-- the table with this facility at a number, and every other one as it was
+abbrev pub with_facility : ℕ → Facility → FacilityTable → FacilityTable
+with_facility f facility t = record t { facilities = put idle t.facilities f facility }
+
+-- so many clock units later
+abbrev pub facilities_after : ℕ → FacilityTable → FacilityTable
+facilities_after dt t = record { facilities = map (facility_after dt) t.facilities; passed = t.passed + dt }
+
+-- STORAGES
+
+-- the storages, and how many clock units passed so far
+pub record StorageTable : Type 0 where
+  pub storages : List Storage
+  pub passed : ℕ
+
+-- the storages of an object with these entities, at clock 0
+abbrev pub storages_of : List Entity → StorageTable
+storages_of entities = record { storages = map (λ (e : Entity). vacant (capacity_of e.kind)) entities; passed = 0 }
+
+-- the storage of a number
+abbrev pub storage_at : ℕ → StorageTable → Storage
+storage_at s t = at (vacant 0) t.storages s
+
+-- the table with this storage at a number, and every other one as it was
+abbrev pub with_storage : ℕ → Storage → StorageTable → StorageTable
+with_storage s storage t = record t { storages = put (vacant 0) t.storages s storage }
+
+-- so many clock units later
+abbrev pub storages_after : ℕ → StorageTable → StorageTable
+storages_after dt t = record { storages = map (storage_after dt) t.storages; passed = t.passed + dt }
+
+-- QUEUES
+
+-- the queues, and how many clock units passed so far
+pub record QueueTable : Type 0 where
+  pub queues : List Contents
+  pub passed : ℕ
+
+-- the queues of an object with these entities, at clock 0
+abbrev pub queues_of : List Entity → QueueTable
+queues_of entities = record { queues = map (λ (e : Entity). empty) entities; passed = 0 }
+
+-- the queue of a number
+abbrev pub queue_at : ℕ → QueueTable → Contents
+queue_at q t = at empty t.queues q
+
+-- the table with this queue at a number, and every other one as it was
+abbrev pub with_queue : ℕ → Contents → QueueTable → QueueTable
+with_queue q queue t = record t { queues = put empty t.queues q queue }
+
+-- so many clock units later
+abbrev pub queues_after : ℕ → QueueTable → QueueTable
+queues_after dt t = record { queues = map (contents_after dt) t.queues; passed = t.passed + dt }
+
+-- ANSWERS
+
+-- an answer with what it leaves of the entity; an error stop stands alone
+abbrev pub with_left : {A T : Type 0} → Result A Stop → T → Result (A × T) Stop
+with_left (Ok answer) left = Ok (answer, left)
+with_left (Err stop) left = Err stop

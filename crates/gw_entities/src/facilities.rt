@@ -1,0 +1,208 @@
+//! Facilities.
+
+ghost use Rattle.std.specs.Prelude.{◌≡◌, ◌≤◌, ◌<◌, ◌+◌, ◌^◌, ℕ, length, IfOk, OnErr, Ok, false};
+ghost use Rattle.gw_entities.specs.Average.{average};
+ghost use Rattle.gw_entities.specs.Facility as model;
+ghost use Rattle.gw_entities.specs.Fits.{FacilityFits};
+ghost use Rattle.gw_entities.specs.Table.{facilities_of, facility_at, with_facility, facilities_after, with_left};
+
+use crate::average::{Average, average_of};
+use crate::numbered::{Numbered, Timed};
+use crate::{Memory, Stop};
+use gw_object::{Kind, Object};
+use std::alloc::Global;
+use std::marker::Model;
+
+/// A facility: at most one transaction owns it (GPSS World Reference Manual, "SEIZE" and "RELEASE").
+#[derive(Clone, Copy, Debug, PartialEq, Eq)]
+pub struct Facility {
+    /// The number of the transaction that owns it, from 1, if one does.
+    pub owner: Option<u64>,
+    /// How often it was seized.
+    pub entries: u64,
+    /// How long it was owned so far, in clock units.
+    pub busy: u128,
+}
+
+impl Facility {
+    /// Whether nobody owns it.
+    fn is_idle(&self) -> bool
+        ensures { result ≡ model.is_idle self.now }
+    {
+        self.owner.is_none()
+    }
+
+    /// Whether this transaction owns it.
+    fn is_owned_by(&self, xn: u64) -> bool
+        ensures { result ≡ model.is_owned_by xn self.now }
+    {
+        self.owner == Some(xn)
+    }
+
+    /// The transaction `xn` seizes it, if it is idle.
+    fn seize(&mut self, xn: u64) -> Result<bool, Stop>
+        requires { self.old.entries < 2 ^ 62 }
+        ensures value { with_left result self.new ≡ model.seizing xn self.old }
+        ensures busy { result ≡ Ok false → self.new ≡ self.old }
+        ensures fits { (passed : ℕ) → FacilityFits passed self.old → FacilityFits passed self.new }
+    {
+        if self.is_owned_by(xn) {
+            return Err(Stop::AlreadyOwned);
+        }
+        if !self.is_idle() {
+            return Ok(false);
+        }
+        self.owner = Some(xn);
+        self.entries += 1;
+        Ok(true)
+    }
+
+    /// The transaction `xn` gives it up.
+    fn release(&mut self, xn: u64) -> Result<(), Stop>
+        ensures value { with_left result self.new ≡ model.releasing xn self.old }
+        ensures fits { (passed : ℕ) → FacilityFits passed self.old → FacilityFits passed self.new }
+    {
+        if !self.is_owned_by(xn) {
+            return Err(Stop::NotOwner);
+        }
+        self.owner = None;
+        Ok(())
+    }
+}
+
+impl Timed for Facility {
+    ghost fresh = { λ kind. model.idle };
+
+    ghost after = { model.facility_after };
+
+    ghost Fits = { FacilityFits };
+
+    fn fresh(_kind: Kind) -> Facility {
+        Facility {
+            owner: None,
+            entries: 0,
+            busy: 0,
+        }
+    }
+
+    fn pass_time(&mut self, dt: u64) {
+        if !self.is_idle() {
+            self.busy += u128::from(dt);
+        }
+    }
+}
+
+/// The facilities of a job, each by its number as an entity of the object.
+///
+/// Contracts see a table with an entry at the number of each entity, and the clock units that passed so far.
+#[derive(Debug, Drop)]
+pub struct Facilities {
+    table: Numbered<Facility>,
+}
+
+impl Model for Facilities {
+    ghost use Rattle.gw_entities.specs.Table.{FacilityTable};
+
+    ghost Value = { FacilityTable };
+
+    ghost view = { λ f. record { facilities = f.table.values; passed = f.table.passed } };
+}
+
+impl Facilities {
+    /// The facilities of this object at clock 0, all idle.
+    pub fn new(alloc: Global, object: &Object) -> Result<Facilities, Memory>
+        ensures { IfOk result (λ t. t ≡ facilities_of object.now.entities) }
+    {
+        let table = Numbered::new(alloc, object.parts().entities.as_slice())?;
+        Ok(Facilities { table })
+    }
+
+    /// The transaction `xn` seizes the facility `f`, if it is idle; false where another owns it, and nothing changes.
+    ///
+    /// `AlreadyOwned` where `xn` owns it, and nothing changes (GPSS World Reference Manual, "SEIZE"; that this is an error
+    /// stop is ours: docs/machine.md).
+    #[tactic(auto, using(crate::proofs::Rules::tables))]
+    pub fn seize(&mut self, f: u16, xn: u64) -> Result<bool, Stop>
+        requires there { f < length self.old.facilities }
+        requires few { (facility_at f self.old).entries < 2 ^ 62 }
+        ensures value { with_left result (facility_at f self.new) ≡ model.seizing xn (facility_at f self.old) }
+        ensures others { self.new ≡ with_facility f (facility_at f self.new) self.old }
+        ensures busy { result ≡ Ok false → self.new ≡ self.old }
+        ensures stopped { OnErr result (self.new ≡ self.old) }
+        ensures count { length self.new.facilities ≡ length self.old.facilities }
+    {
+        let mut facility = self.table.get(f);
+        let seized = facility.seize(xn)?;
+        self.table.set(f, facility);
+        Ok(seized)
+    }
+
+    /// The transaction `xn` gives up the facility `f`, which is then idle.
+    ///
+    /// `NotOwner` where `xn` doesn't own it, and nothing changes (GPSS World Reference Manual, "RELEASE"; that this is an
+    /// error stop is ours: docs/machine.md).
+    #[tactic(auto, using(crate::proofs::Rules::tables))]
+    pub fn release(&mut self, f: u16, xn: u64) -> Result<(), Stop>
+        requires { f < length self.old.facilities }
+        ensures value { with_left result (facility_at f self.new) ≡ model.releasing xn (facility_at f self.old) }
+        ensures others { self.new ≡ with_facility f (facility_at f self.new) self.old }
+        ensures stopped { OnErr result (self.new ≡ self.old) }
+        ensures count { length self.new.facilities ≡ length self.old.facilities }
+    {
+        let mut facility = self.table.get(f);
+        facility.release(xn)?;
+        self.table.set(f, facility);
+        Ok(())
+    }
+
+    /// Lets `dt` clock units pass: each facility that is owned was busy for as long.
+    pub fn pass_time(&mut self, dt: u64)
+        requires { self.old.passed + dt < 2 ^ 63 }
+        ensures { self.new ≡ facilities_after dt self.old }
+    {
+        self.table.pass_time(dt);
+    }
+
+    /// The facility `f`.
+    pub fn get(&self, f: u16) -> Facility
+        requires { f < length self.now.facilities }
+        ensures value { result ≡ facility_at f self.now }
+        ensures fits { FacilityFits self.now.passed result }
+    {
+        self.table.get(f)
+    }
+
+    /// The number of the transaction that owns the facility `f`, from 1, if one does.
+    pub fn owner(&self, f: u16) -> Option<u64>
+        requires { f < length self.now.facilities }
+        ensures { result ≡ (facility_at f self.now).owner }
+    {
+        self.get(f).owner
+    }
+
+    /// How often the facility `f` was seized.
+    pub fn entries(&self, f: u16) -> u64
+        requires { f < length self.now.facilities }
+        ensures { result ≡ (facility_at f self.now).entries }
+    {
+        self.get(f).entries
+    }
+
+    /// How long the facility `f` was owned so far, in clock units.
+    pub fn time_sum(&self, f: u16) -> u128
+        requires { f < length self.now.facilities }
+        ensures { result ≡ (facility_at f self.now).busy }
+    {
+        self.get(f).busy
+    }
+
+    /// The utilisation of the facility `f`: the part of the time so far for which it was owned, at most 1
+    /// (GPSS World Reference Manual, "Standard Reports"; thousandths are ours: docs/report.md).
+    pub fn average(&self, f: u16) -> Average
+        requires { f < length self.now.facilities }
+        ensures value { result ≡ average (facility_at f self.now).busy self.now.passed }
+        ensures most { result.whole ≤ 1 }
+    {
+        average_of(self.get(f).busy, self.table.passed())
+    }
+}

@@ -1,0 +1,191 @@
+//! Queues.
+
+ghost use Rattle.std.specs.Prelude.{◌≡◌, ◌≤◌, ◌<◌, ◌+◌, ◌^◌, ℕ, length, IfOk, OnErr};
+ghost use Rattle.gw_entities.specs.Average.{average};
+ghost use Rattle.gw_entities.specs.Contents as contents;
+ghost use Rattle.gw_entities.specs.Fits.{QueueFits};
+ghost use Rattle.gw_entities.specs.Queue as model;
+ghost use Rattle.gw_entities.specs.Table.{queues_of, queue_at, with_queue, queues_after, with_left};
+
+use crate::average::{Average, average_of};
+use crate::contents::Contents;
+use crate::numbered::{Numbered, Timed};
+use crate::{Memory, Stop};
+use gw_object::{Kind, Object};
+use std::alloc::Global;
+use std::marker::Model;
+
+/// The most units that a queue counts: those inside, and those that ever joined it.
+const MOST_UNITS: u64 = 1 << 62;
+
+/// Whether `n` units more can be counted.
+fn may_join(queue: &Contents, n: u32) -> bool
+    requires { (passed : ℕ) × QueueFits passed queue.now }
+    ensures { result ≡ model.may_join n queue.now }
+{
+    let n = u64::from(n);
+    queue.content + n <= MOST_UNITS && queue.entries + n <= MOST_UNITS
+}
+
+/// Lets `n` units join.
+fn join(queue: &mut Contents, n: u32) -> Result<(), Stop>
+    requires { (passed : ℕ) × QueueFits passed queue.old }
+    ensures value { with_left result queue.new ≡ model.joining n queue.old }
+    ensures fits { (passed : ℕ) → QueueFits passed queue.old → QueueFits passed queue.new }
+{
+    if !may_join(queue, n) {
+        return Err(Stop::OverCapacity);
+    }
+    queue.add(n);
+    Ok(())
+}
+
+/// Lets `n` units depart.
+fn depart(queue: &mut Contents, n: u32) -> Result<(), Stop>
+    ensures value { with_left result queue.new ≡ model.departing n queue.old }
+    ensures fits { (passed : ℕ) → QueueFits passed queue.old → QueueFits passed queue.new }
+{
+    if !queue.holds(n) {
+        return Err(Stop::TooFew);
+    }
+    queue.take(n);
+    Ok(())
+}
+
+/// A queue is what is inside, and has no capacity (GPSS World Reference Manual, "QUEUE" and "DEPART").
+impl Timed for Contents {
+    ghost fresh = { λ kind. contents.empty };
+
+    ghost after = { contents.contents_after };
+
+    ghost Fits = { QueueFits };
+
+    fn fresh(_kind: Kind) -> Contents {
+        Contents::empty()
+    }
+
+    fn pass_time(&mut self, dt: u64) {
+        self.accrue(dt);
+    }
+}
+
+/// The queues of a job, each by its number as an entity of the object.
+///
+/// Contracts see a table with an entry at the number of each entity, and the clock units that passed so far.
+#[derive(Debug, Drop)]
+pub struct Queues {
+    table: Numbered<Contents>,
+}
+
+impl Model for Queues {
+    ghost use Rattle.gw_entities.specs.Table.{QueueTable};
+
+    ghost Value = { QueueTable };
+
+    ghost view = { λ q. record { queues = q.table.values; passed = q.table.passed } };
+}
+
+impl Queues {
+    /// The queues of this object at clock 0, with nothing inside.
+    pub fn new(alloc: Global, object: &Object) -> Result<Queues, Memory>
+        ensures { IfOk result (λ t. t ≡ queues_of object.now.entities) }
+    {
+        let table = Numbered::new(alloc, object.parts().entities.as_slice())?;
+        Ok(Queues { table })
+    }
+
+    /// Lets `n` units join the queue `q`.
+    ///
+    /// `OverCapacity` where the units inside, or those that ever joined, would then be more than 2^62, and nothing changes
+    /// (GPSS World Reference Manual, "QUEUE"; the limit is ours: docs/machine.md).
+    #[tactic(auto, using(crate::proofs::Rules::tables))]
+    pub fn join_queue(&mut self, q: u16, n: u32) -> Result<(), Stop>
+        requires { q < length self.old.queues }
+        ensures value { with_left result (queue_at q self.new) ≡ model.joining n (queue_at q self.old) }
+        ensures others { self.new ≡ with_queue q (queue_at q self.new) self.old }
+        ensures stopped { OnErr result (self.new ≡ self.old) }
+        ensures count { length self.new.queues ≡ length self.old.queues }
+    {
+        let mut queue = self.table.get(q);
+        join(&mut queue, n)?;
+        self.table.set(q, queue);
+        Ok(())
+    }
+
+    /// Lets `n` units depart from the queue `q`.
+    ///
+    /// `TooFew` where fewer are inside, and nothing changes (GPSS World Reference Manual, "DEPART"; that this is an error
+    /// stop is ours: docs/machine.md).
+    #[tactic(auto, using(crate::proofs::Rules::tables))]
+    pub fn depart(&mut self, q: u16, n: u32) -> Result<(), Stop>
+        requires { q < length self.old.queues }
+        ensures value { with_left result (queue_at q self.new) ≡ model.departing n (queue_at q self.old) }
+        ensures others { self.new ≡ with_queue q (queue_at q self.new) self.old }
+        ensures stopped { OnErr result (self.new ≡ self.old) }
+        ensures count { length self.new.queues ≡ length self.old.queues }
+    {
+        let mut queue = self.table.get(q);
+        depart(&mut queue, n)?;
+        self.table.set(q, queue);
+        Ok(())
+    }
+
+    /// Lets `dt` clock units pass: each unit inside was there for as long.
+    pub fn pass_time(&mut self, dt: u64)
+        requires { self.old.passed + dt < 2 ^ 63 }
+        ensures { self.new ≡ queues_after dt self.old }
+    {
+        self.table.pass_time(dt);
+    }
+
+    /// The queue `q`.
+    pub fn get(&self, q: u16) -> Contents
+        requires { q < length self.now.queues }
+        ensures value { result ≡ queue_at q self.now }
+        ensures fits { QueueFits self.now.passed result }
+    {
+        self.table.get(q)
+    }
+
+    /// The units inside the queue `q`.
+    pub fn content(&self, q: u16) -> u64
+        requires { q < length self.now.queues }
+        ensures { result ≡ (queue_at q self.now).content }
+    {
+        self.get(q).content
+    }
+
+    /// The most units that were inside the queue `q` at one moment.
+    pub fn maximum(&self, q: u16) -> u64
+        requires { q < length self.now.queues }
+        ensures { result ≡ (queue_at q self.now).maximum }
+    {
+        self.get(q).maximum
+    }
+
+    /// The units that joined the queue `q` so far.
+    pub fn entries(&self, q: u16) -> u64
+        requires { q < length self.now.queues }
+        ensures { result ≡ (queue_at q self.now).entries }
+    {
+        self.get(q).entries
+    }
+
+    /// The sum of content times time of the queue `q` so far.
+    pub fn time_sum(&self, q: u16) -> u128
+        requires { q < length self.now.queues }
+        ensures { result ≡ (queue_at q self.now).time_sum }
+    {
+        self.get(q).time_sum
+    }
+
+    /// The average content of the queue `q` over the time so far, at most the most that were inside at one moment
+    /// (GPSS World Reference Manual, "Standard Reports"; thousandths are ours: docs/report.md).
+    pub fn average(&self, q: u16) -> Average
+        requires { q < length self.now.queues }
+        ensures value { result ≡ average (queue_at q self.now).time_sum self.now.passed }
+        ensures most { result.whole ≤ (queue_at q self.now).maximum }
+    {
+        average_of(self.get(q).time_sum, self.table.passed())
+    }
+}

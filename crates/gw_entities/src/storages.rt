@@ -1,0 +1,226 @@
+//! Storages.
+
+ghost use Rattle.std.specs.Prelude.{◌≡◌, ◌≤◌, ◌<◌, ◌+◌, ◌^◌, ℕ, length, IfOk, OnErr, Ok, false};
+ghost use Rattle.gw_entities.specs.Average.{average};
+ghost use Rattle.gw_entities.specs.Fits.{StorageFits};
+ghost use Rattle.gw_entities.specs.Storage as model;
+ghost use Rattle.gw_entities.specs.Table.{storages_of, storage_at, with_storage, storages_after, with_left};
+
+use crate::average::{Average, average_of};
+use crate::contents::Contents;
+use crate::numbered::{Numbered, Timed};
+use crate::{Memory, Stop};
+use gw_object::{Kind, Object};
+use std::alloc::Global;
+use std::marker::Model;
+
+/// A storage: at most so many units are inside (GPSS World Reference Manual, "ENTER" and "LEAVE").
+#[derive(Clone, Copy, Debug, PartialEq, Eq)]
+pub struct Storage {
+    /// The most units that may be inside at one moment.
+    pub capacity: u32,
+    /// What is inside.
+    pub contents: Contents,
+}
+
+impl Storage {
+    /// Whether `n` units are at most the whole capacity.
+    fn fits_capacity(&self, n: u32) -> bool
+        ensures { result ≡ model.fits_capacity n self.now }
+    {
+        n <= self.capacity
+    }
+
+    /// Whether there is room for `n` units more.
+    fn has_room(&self, n: u32) -> bool
+        requires { self.now.contents.content ≤ 2 ^ 62 }
+        ensures { result ≡ model.has_room n self.now }
+    {
+        self.contents.content + u64::from(n) <= u64::from(self.capacity)
+    }
+
+    /// Lets `n` units enter, if there is room.
+    fn enter(&mut self, n: u32) -> Result<bool, Stop>
+        requires fits { (passed : ℕ) × StorageFits passed self.old }
+        requires few { self.old.contents.entries + n ≤ 2 ^ 62 }
+        ensures value { with_left result self.new ≡ model.entering n self.old }
+        ensures full { result ≡ Ok false → self.new ≡ self.old }
+        ensures fits { (passed : ℕ) → StorageFits passed self.old → StorageFits passed self.new }
+    {
+        if !self.fits_capacity(n) {
+            return Err(Stop::OverCapacity);
+        }
+        if !self.has_room(n) {
+            return Ok(false);
+        }
+        self.contents.add(n);
+        Ok(true)
+    }
+
+    /// Lets `n` units leave.
+    fn leave(&mut self, n: u32) -> Result<(), Stop>
+        ensures value { with_left result self.new ≡ model.leaving n self.old }
+        ensures fits { (passed : ℕ) → StorageFits passed self.old → StorageFits passed self.new }
+    {
+        if !self.contents.holds(n) {
+            return Err(Stop::TooFew);
+        }
+        self.contents.take(n);
+        Ok(())
+    }
+}
+
+impl Timed for Storage {
+    ghost fresh = { λ kind. model.vacant (model.capacity_of kind) };
+
+    ghost after = { model.storage_after };
+
+    ghost Fits = { StorageFits };
+
+    fn fresh(kind: Kind) -> Storage {
+        let capacity = match kind {
+            Kind::Storage(capacity) => capacity,
+            _ => 0,
+        };
+        Storage {
+            capacity,
+            contents: Contents::empty(),
+        }
+    }
+
+    fn pass_time(&mut self, dt: u64) {
+        self.contents.accrue(dt);
+    }
+}
+
+/// The storages of a job, each by its number as an entity of the object.
+///
+/// Contracts see a table with an entry at the number of each entity, and the clock units that passed so far.
+#[derive(Debug, Drop)]
+pub struct Storages {
+    table: Numbered<Storage>,
+}
+
+impl Model for Storages {
+    ghost use Rattle.gw_entities.specs.Table.{StorageTable};
+
+    ghost Value = { StorageTable };
+
+    ghost view = { λ s. record { storages = s.table.values; passed = s.table.passed } };
+}
+
+impl Storages {
+    /// The storages of this object at clock 0, with nothing inside.
+    pub fn new(alloc: Global, object: &Object) -> Result<Storages, Memory>
+        ensures { IfOk result (λ t. t ≡ storages_of object.now.entities) }
+    {
+        let table = Numbered::new(alloc, object.parts().entities.as_slice())?;
+        Ok(Storages { table })
+    }
+
+    /// Lets `n` units enter the storage `s`, if there is room; false where there isn't now, and nothing changes.
+    ///
+    /// `OverCapacity` where `n` is more than the whole capacity, and nothing changes (GPSS World Reference Manual, "ENTER";
+    /// that this is an error stop is ours: docs/machine.md).
+    #[tactic(auto, using(crate::proofs::Rules::tables))]
+    pub fn enter(&mut self, s: u16, n: u32) -> Result<bool, Stop>
+        requires there { s < length self.old.storages }
+        requires few { (storage_at s self.old).contents.entries + n ≤ 2 ^ 62 }
+        ensures value { with_left result (storage_at s self.new) ≡ model.entering n (storage_at s self.old) }
+        ensures others { self.new ≡ with_storage s (storage_at s self.new) self.old }
+        ensures full { result ≡ Ok false → self.new ≡ self.old }
+        ensures stopped { OnErr result (self.new ≡ self.old) }
+        ensures count { length self.new.storages ≡ length self.old.storages }
+    {
+        let mut storage = self.table.get(s);
+        let entered = storage.enter(n)?;
+        self.table.set(s, storage);
+        Ok(entered)
+    }
+
+    /// Lets `n` units leave the storage `s`.
+    ///
+    /// `TooFew` where fewer are inside, and nothing changes (GPSS World Reference Manual, "LEAVE"; that this is an error
+    /// stop is ours: docs/machine.md).
+    #[tactic(auto, using(crate::proofs::Rules::tables))]
+    pub fn leave(&mut self, s: u16, n: u32) -> Result<(), Stop>
+        requires { s < length self.old.storages }
+        ensures value { with_left result (storage_at s self.new) ≡ model.leaving n (storage_at s self.old) }
+        ensures others { self.new ≡ with_storage s (storage_at s self.new) self.old }
+        ensures stopped { OnErr result (self.new ≡ self.old) }
+        ensures count { length self.new.storages ≡ length self.old.storages }
+    {
+        let mut storage = self.table.get(s);
+        storage.leave(n)?;
+        self.table.set(s, storage);
+        Ok(())
+    }
+
+    /// Lets `dt` clock units pass: each unit inside was there for as long.
+    pub fn pass_time(&mut self, dt: u64)
+        requires { self.old.passed + dt < 2 ^ 63 }
+        ensures { self.new ≡ storages_after dt self.old }
+    {
+        self.table.pass_time(dt);
+    }
+
+    /// The storage `s`.
+    pub fn get(&self, s: u16) -> Storage
+        requires { s < length self.now.storages }
+        ensures value { result ≡ storage_at s self.now }
+        ensures fits { StorageFits self.now.passed result }
+    {
+        self.table.get(s)
+    }
+
+    /// The capacity of the storage `s`, in units.
+    pub fn capacity(&self, s: u16) -> u32
+        requires { s < length self.now.storages }
+        ensures { result ≡ (storage_at s self.now).capacity }
+    {
+        self.get(s).capacity
+    }
+
+    /// The units inside the storage `s`.
+    pub fn content(&self, s: u16) -> u64
+        requires { s < length self.now.storages }
+        ensures value { result ≡ (storage_at s self.now).contents.content }
+        ensures most { result ≤ (storage_at s self.now).capacity }
+    {
+        self.get(s).contents.content
+    }
+
+    /// The most units that were inside the storage `s` at one moment.
+    pub fn maximum(&self, s: u16) -> u64
+        requires { s < length self.now.storages }
+        ensures { result ≡ (storage_at s self.now).contents.maximum }
+    {
+        self.get(s).contents.maximum
+    }
+
+    /// The units that entered the storage `s` so far.
+    pub fn entries(&self, s: u16) -> u64
+        requires { s < length self.now.storages }
+        ensures { result ≡ (storage_at s self.now).contents.entries }
+    {
+        self.get(s).contents.entries
+    }
+
+    /// The sum of content times time of the storage `s` so far.
+    pub fn time_sum(&self, s: u16) -> u128
+        requires { s < length self.now.storages }
+        ensures { result ≡ (storage_at s self.now).contents.time_sum }
+    {
+        self.get(s).contents.time_sum
+    }
+
+    /// The average content of the storage `s` over the time so far, at most the most that were inside at one moment
+    /// (GPSS World Reference Manual, "Standard Reports"; thousandths are ours: docs/report.md).
+    pub fn average(&self, s: u16) -> Average
+        requires { s < length self.now.storages }
+        ensures value { result ≡ average (storage_at s self.now).contents.time_sum self.now.passed }
+        ensures most { result.whole ≤ (storage_at s self.now).contents.maximum }
+    {
+        average_of(self.get(s).contents.time_sum, self.table.passed())
+    }
+}

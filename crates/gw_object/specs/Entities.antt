@@ -1,0 +1,107 @@
+-- Entities: their kinds and names, and how they stand in the bytes.
+use Rattle.std.specs.Prelude.{◌≡◌, ℕ, ◌≤◌, Bool, IsTrue, not, ◌==◌, ◌&&◌, ◌||◌, List, [], ◌∷◌, ◌++◌, length, bytes_eq}
+use Rattle.std.specs.List.{All, list_any}
+use Rattle.std.specs.Char.{is_ascii_uppercase, is_ascii_digit}
+use Rattle.std.specs.Int.{w32}
+use Rattle.gw_object.specs.Codes as codes
+use Rattle.gw_object.specs.Limits.{most_letters, greatest_capacity}
+use Rattle.gw_object.specs.declared.parts.Kind.{Kind}
+use Rattle.gw_object.specs.declared.parts.Kind.TheVariants.{Facility, Storage, Queue}
+use Rattle.gw_object.specs.declared.parts.Entity.{Entity}
+use Rattle.gw_object.specs.Fields.{Read, Field, byte, number, tested, both, fitting, ranged, nothing, Form, behind, by_tag, Element, plain, listed}
+
+-- ---- names
+
+-- a letter of a name: A to Z, 0 to 9 or _ (95)
+abbrev pub is_letter : ℕ → Bool
+is_letter b = is_ascii_uppercase b || is_ascii_digit b || b == 95
+
+-- a byte that is a letter of a name
+abbrev pub letter : Field ℕ
+letter = fitting (λ b. IsTrue (is_letter b)) (tested is_letter codes.tag byte)
+
+-- a name: at least one letter
+abbrev pub name : Field (List ℕ)
+name = listed 1 most_letters (plain letter)
+
+-- ---- kinds
+
+-- the byte that stands for a kind
+abbrev pub kind_tag : Kind → ℕ
+kind_tag Facility = 1
+kind_tag (Storage n) = 2
+kind_tag Queue = 3
+
+-- a storage's capacity, in units
+abbrev pub capacity : Field ℕ
+capacity = ranged 1 greatest_capacity (number w32)
+
+-- the fields of a kind
+abbrev pub kind_fields : Kind → List ℕ
+kind_fields Facility = []
+kind_fields (Storage n) = capacity.spell n
+kind_fields Queue = []
+
+-- the fields of a kind are within limits
+abbrev pub KindFits : Kind → Type 0
+KindFits Facility = Unit {0}
+KindFits (Storage n) = capacity.Fits n
+KindFits Queue = Unit {0}
+
+-- ---- entities
+
+-- the byte of the kind, the name, and the fields of the kind
+abbrev pub entity_spelling : Entity → List ℕ
+entity_spelling e = kind_tag e.kind ∷ (name.spell e.name ++ kind_fields e.kind)
+
+-- each byte of the name is a letter of a name
+abbrev pub IsLettered : Entity → Type 0
+IsLettered e = All (λ b. IsTrue (is_letter b)) e.name
+
+-- the length of the name and the fields of the kind are within limits
+pub record EntityFits (e : Entity) : Type 0 where
+  pub name_least : 1 ≤ length e.name
+  pub name_most : length e.name ≤ most_letters
+  pub kind : KindFits e.kind
+
+-- the kind with this byte and this name are the entity's
+abbrev pub IsNamed : ℕ → List ℕ → Entity → Type 0
+IsNamed tag name e = (kind_tag e.kind ≡ tag) × (e.name ≡ name)
+
+-- the same kind and the same name
+abbrev pub AreNamesakes : Entity → Entity → Type 0
+AreNamesakes a b = IsNamed (kind_tag b.kind) b.name a
+
+-- whether the kind with this byte and this name are the entity's
+abbrev pub is_named : ℕ → List ℕ → Entity → Bool
+is_named tag name e = kind_tag e.kind == tag && bytes_eq e.name name
+
+-- a name that no entity of the kind at the front has
+abbrev pub new_name : List Entity → ℕ → Field (List ℕ)
+new_name front tag = tested (λ n. not (list_any (is_named tag n) front)) codes.not_canonical name
+
+-- a kind: its byte, a new name, and its fields
+abbrev pub kind_form : {A : Type 0} → List Entity → ℕ → (A → Kind) → Field A → Form Entity
+kind_form front tag make fields = behind tag (λ (n, x). record { name = n; kind = make x }) (both (new_name front tag) fields)
+
+-- the kinds
+abbrev pub kind_forms : List Entity → List (Form Entity)
+kind_forms front =
+    kind_form front 1 (λ _. Facility) nothing
+    ∷ kind_form front 2 (λ n. Storage n) capacity
+    ∷ kind_form front 3 (λ _. Queue) nothing
+    ∷ []
+
+-- an entity behind those at the front, by its kind; another byte there is a fault
+unfoldable pub entity_read : List Entity → List ℕ → Read Entity
+entity_read front = by_tag (kind_forms front)
+
+-- an entity that stands behind those at the front, with a name that is its own among those of its kind
+pub record FitsBehind (front : List Entity) (e : Entity) : Type 0 where
+  pub letters : IsLettered e
+  pub limits : EntityFits e
+  pub own : All (λ other. ¬ AreNamesakes other e) front
+
+-- an entity; no earlier one of its kind has its name
+abbrev pub entity : Element Entity
+entity = record { spell = entity_spelling; read = λ front left. entity_read front; Fits = λ front left. FitsBehind front }

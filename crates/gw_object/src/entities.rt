@@ -1,0 +1,201 @@
+//! Entities, in bytes and against the rules of the object format.
+
+ghost use Rattle.std.specs.Prelude.{◌≡◌, ◌↔◌, ◌++◌, IsTrue, OnOk};
+ghost use Rattle.std.specs.List.{All, AllPairs, list_any};
+ghost use Rattle.gw_object.specs.Fields.{plain};
+ghost use Rattle.gw_object.specs.Entities.{is_letter, letter, kind_tag, kind_fields, KindFits, IsLettered, EntityFits, AreNamesakes, is_named, new_name, entity};
+ghost use Rattle.gw_object.specs.Reading.{Gives};
+
+use crate::Memory;
+use crate::codes::*;
+use crate::error::*;
+use crate::items::Items;
+use crate::limits::*;
+use crate::lists::*;
+use crate::numbers::*;
+use crate::parts::*;
+use crate::spelled::Spelled;
+use std::alloc::Global;
+
+/// Whether a byte is a letter of a name: `A` to `Z`, `0` to `9` or `_`.
+fn is_letter_of_name(byte: u8) -> bool
+    ensures { result ≡ is_letter byte }
+{
+    byte.is_ascii_uppercase() || byte.is_ascii_digit() || byte == b'_'
+}
+
+/// The byte that stands for a kind.
+fn tag_of(kind: Kind) -> u8
+    ensures { result ≡ kind_tag kind }
+{
+    match kind {
+        Kind::Facility => 1,
+        Kind::Storage(_) => 2,
+        Kind::Queue => 3,
+    }
+}
+
+/// Whether one of these entities is of the kind of this byte and has this name.
+fn has_namesake(entities: &[Entity], tag: u8, name: &[u8]) -> bool
+    ensures { result ≡ list_any (is_named tag name.now) entities.now }
+{
+    entities.iter().any(|entity| tag_of(entity.kind) == tag && entity.name.as_slice() == name)
+}
+
+/// The letters of a name.
+struct Letters;
+
+impl Elements for Letters {
+    type Item = u8;
+
+    ghost element_spelling = { letter.spell };
+
+    ghost element_reading = { (plain letter).read };
+
+    fn put_element(out: &mut Vec<u8>, letter: &u8) -> Result<(), Memory> {
+        letter.put(out)
+    }
+
+    fn read_element<'a>(
+        alloc: Global,
+        _front: &[u8],
+        _left: usize,
+        bytes: &'a [u8],
+    ) -> Result<(u8, &'a [u8]), ReadError> {
+        let (letter, rest) = u8::read(alloc, bytes)?;
+        if !is_letter_of_name(letter) {
+            return Err(fault(TAG, bytes));
+        }
+        Ok((letter, rest))
+    }
+}
+
+/// Puts the fields of a kind at the end.
+fn put_fields(out: &mut Vec<u8>, kind: Kind) -> Result<(), Memory>
+    ensures { OnOk result (out.new.items ≡ out.old.items ++ kind_fields kind) }
+{
+    match kind {
+        Kind::Facility | Kind::Queue => Ok(()),
+        Kind::Storage(capacity) => capacity.put(out),
+    }
+}
+
+/// A name that no entity of the kind of this byte has at the front.
+fn read_new_name<'a>(
+    alloc: Global,
+    front: &[Entity],
+    tag: u8,
+    bytes: &'a [u8],
+) -> Result<(Items<u8>, &'a [u8]), ReadError>
+    ensures { Gives (λ x. (x.0, x.1.now)) result ((new_name front.now tag).read bytes.now) }
+{
+    let (name, rest) = read_listed::<Letters>(alloc, bytes, 1, MOST_LETTERS)?;
+    if has_namesake(front, tag, &name) {
+        return Err(fault(NOT_CANONICAL, bytes));
+    }
+    Ok((Items::from_vec(name), rest))
+}
+
+/// The entities; no two of a kind have one name.
+pub struct Entities;
+
+impl Elements for Entities {
+    type Item = Entity;
+
+    ghost element_spelling = { entity.spell };
+
+    ghost element_reading = { entity.read };
+
+    ghost can_put = { EntityFits };
+
+    fn put_element(out: &mut Vec<u8>, entity: &Entity) -> Result<(), Memory> {
+        out.push(tag_of(entity.kind))?;
+        put_listed::<Letters>(out, entity.name.as_slice())?;
+        put_fields(out, entity.kind)
+    }
+
+    #[tactic(auto, unfolding(crate::specs::Entities::entity_read))]
+    fn read_element<'a>(
+        alloc: Global,
+        front: &[Entity],
+        _left: usize,
+        bytes: &'a [u8],
+    ) -> Result<(Entity, &'a [u8]), ReadError> {
+        let (tag, rest) = u8::read(alloc, bytes)?;
+        match tag {
+            1 => {
+                let (name, rest) = read_new_name(alloc, front, tag, rest)?;
+                let kind = Kind::Facility;
+                Ok((Entity { name, kind }, rest))
+            }
+            2 => {
+                let (name, rest) = read_new_name(alloc, front, tag, rest)?;
+                let (capacity, rest) = read_ranged_u32(alloc, rest, 1, GREATEST_CAPACITY)?;
+                let kind = Kind::Storage(capacity);
+                Ok((Entity { name, kind }, rest))
+            }
+            3 => {
+                let (name, rest) = read_new_name(alloc, front, tag, rest)?;
+                let kind = Kind::Queue;
+                Ok((Entity { name, kind }, rest))
+            }
+            _ => Err(fault(TAG, bytes)),
+        }
+    }
+}
+
+/// Whether each byte of the entity's name is a letter of a name.
+fn is_lettered(entity: &Entity) -> bool
+    ensures { IsTrue result ↔ IsLettered entity.now }
+{
+    entity
+        .name
+        .as_slice()
+        .iter()
+        .all(|letter| is_letter_of_name(*letter))
+}
+
+/// Whether each byte of each name is a letter of a name.
+pub fn are_lettered(entities: &[Entity]) -> bool
+    ensures { IsTrue result ↔ All IsLettered entities.now }
+{
+    entities.iter().all(is_lettered)
+}
+
+/// Whether a kind's fields keep their limits.
+fn kind_fits(kind: Kind) -> bool
+    ensures { IsTrue result ↔ KindFits kind }
+{
+    match kind {
+        Kind::Facility | Kind::Queue => true,
+        Kind::Storage(capacity) => 1 <= capacity && capacity <= GREATEST_CAPACITY,
+    }
+}
+
+/// Whether an entity keeps its limits.
+fn entity_fits(entity: &Entity) -> bool
+    ensures { IsTrue result ↔ EntityFits entity.now }
+{
+    let length = entity.name.as_slice().len();
+    1 <= length && length <= MOST_LETTERS && kind_fits(entity.kind)
+}
+
+/// Whether each entity keeps its limits.
+pub fn entities_fit(entities: &[Entity]) -> bool
+    ensures { IsTrue result ↔ All EntityFits entities.now }
+{
+    entities.iter().all(entity_fits)
+}
+
+/// Whether no two entities of a kind have one name.
+pub fn names_are_own(entities: &[Entity]) -> bool
+    ensures { IsTrue result ↔ AllPairs (λ a b. ¬ AreNamesakes a b) entities.now }
+{
+    for (number, entity) in entities.iter().enumerate() {
+        let tag = tag_of(entity.kind);
+        if has_namesake(&entities[..number], tag, entity.name.as_slice()) {
+            return false;
+        }
+    }
+    true
+}

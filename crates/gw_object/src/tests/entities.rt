@@ -1,0 +1,218 @@
+use super::*;
+
+/// No blocks; a storage `S` of capacity 3, a queue `DESK_1` and a facility `DESK_1`; termination count 1.
+const THREE_ENTITIES: [u8; 42] = [
+    0x47, 0x50, 0x53, 0x4f, 0x00, 0x01, 0x00, 0x00, 0x00, 0x00, 0x00, 0x00, 0x00, 0x00, 0x01, 0x03,
+    0x02, 0x01, 0x53, 0x00, 0x00, 0x00, 0x03, 0x03, 0x06, 0x44, 0x45, 0x53, 0x4b, 0x5f, 0x31, 0x01,
+    0x06, 0x44, 0x45, 0x53, 0x4b, 0x5f, 0x31, 0x00, 0x00, 0x00,
+];
+
+/// The first byte of each field of the three entities' object.
+const ENTITY_FIELDS: [u32; 28] = [
+    0, 4, 6, 7, 15, 16, 17, 18, 19, 23, 24, 25, 26, 27, 28, 29, 30, 31, 32, 33, 34, 35, 36, 37, 38,
+    39, 40, 41,
+];
+
+fn entity(alloc: Global, kind: Kind, name: &[u8]) -> Result<Entity, Memory> {
+    let name = Items::from_vec(Vec::from_slice(alloc, name)?);
+    Ok(Entity { name, kind })
+}
+
+/// Parts with these entities and no blocks.
+fn parts_of(alloc: Global, entities: Vec<Entity>) -> Parts {
+    Parts {
+        seeds: Items::from_vec(Vec::new(alloc)),
+        count: 1,
+        entities: Items::from_vec(entities),
+        blocks: Items::from_vec(Vec::new(alloc)),
+        states: Items::from_vec(Vec::new(alloc)),
+        weights: Items::from_vec(Vec::new(alloc)),
+    }
+}
+
+fn three_entities(alloc: Global) -> Result<Parts, Memory> {
+    let mut entities = Vec::new(alloc);
+    entities.push(entity(alloc, Kind::Storage(3), b"S")?)?;
+    entities.push(entity(alloc, Kind::Queue, b"DESK_1")?)?;
+    entities.push(entity(alloc, Kind::Facility, b"DESK_1")?)?;
+    Ok(parts_of(alloc, entities))
+}
+
+#[test]
+fn three_entities_are_read_and_written_again(rt: HostRuntime) -> Result<(), Fail> {
+    let object = read(rt.alloc(), &THREE_ENTITIES).ok().ok_or("an object")?;
+    assert!(rt; *object.parts() == three_entities(rt.alloc())?);
+    let bytes = write(rt.alloc(), &object)?;
+    assert_eq!(rt; bytes.as_slice(), THREE_ENTITIES.as_slice());
+    Ok(())
+}
+
+#[test]
+fn built_entities_are_written(rt: HostRuntime) -> Result<(), Fail> {
+    let object = Object::build(three_entities(rt.alloc())?)
+        .ok()
+        .ok_or("parts that have a spelling")?;
+    let bytes = write(rt.alloc(), &object)?;
+    assert_eq!(rt; bytes.as_slice(), THREE_ENTITIES.as_slice());
+    Ok(())
+}
+
+#[test]
+fn entities_of_other_names_kinds_or_capacities_differ(rt: HostRuntime) -> Result<(), Fail> {
+    let alloc = rt.alloc();
+    assert!(rt; entity(alloc, Kind::Storage(3), b"S")? == entity(alloc, Kind::Storage(3), b"S")?);
+    assert!(rt; entity(alloc, Kind::Storage(3), b"S")? != entity(alloc, Kind::Storage(4), b"S")?);
+    assert!(rt; entity(alloc, Kind::Facility, b"S")? != entity(alloc, Kind::Queue, b"S")?);
+    assert!(rt; entity(alloc, Kind::Queue, b"S")? != entity(alloc, Kind::Queue, b"S1")?);
+    Ok(())
+}
+
+#[test]
+fn each_cut_of_entities_is_truncated_at_the_cut_field(rt: HostRuntime) {
+    let mut field = 0;
+    for len in 0_u32..42 {
+        if ENTITY_FIELDS.contains(&len) {
+            field = len;
+        }
+        let (cut, _) = THREE_ENTITIES.split_at(len as usize);
+        assert_eq!(rt;
+            refusal(rt.alloc(), cut),
+            at(TRUNCATED, field),
+            "cut at {len}"
+        );
+    }
+}
+
+#[test]
+fn each_fault_of_an_entity_is_named_by_its_code_and_place(rt: HostRuntime) -> Result<(), Fail> {
+    // The place and the number of the bytes that are replaced, those that replace them, and the refusal.
+    let faults: [(usize, usize, &[u8], u16, u32); 25] = [
+        (16, 1, &[0x00], TAG, 16),
+        (16, 1, &[0x04], TAG, 16),
+        (17, 1, &[0x00], LIMIT, 17),
+        (17, 1, &[0x21], LIMIT, 17),
+        (17, 1, &[0xff, 0x00, 0x00, 0x00, 0x00], LIMIT, 17),
+        (17, 1, &[0xff, 0x00, 0x00, 0x00, 0x01], NOT_CANONICAL, 17),
+        // Before and after A to Z, before and after 0 to 9, beside _, and a lower-case letter.
+        (18, 1, b"@", TAG, 18),
+        (18, 1, b"[", TAG, 18),
+        (18, 1, b"/", TAG, 18),
+        (18, 1, b":", TAG, 18),
+        (18, 1, b"^", TAG, 18),
+        (18, 1, b"`", TAG, 18),
+        (18, 1, b"s", TAG, 18),
+        (28, 1, b"k", TAG, 28),
+        (19, 4, &[0x00, 0x00, 0x00, 0x00], LIMIT, 19),
+        (19, 4, &[0x80, 0x00, 0x00, 0x00], LIMIT, 19),
+        // The facility DESK_1 becomes a second queue, the queue a first facility.
+        (31, 1, &[0x03], NOT_CANONICAL, 32),
+        (23, 1, &[0x01], NOT_CANONICAL, 32),
+        // In place of the queue the storage S once more, of another capacity and of none.
+        (
+            23,
+            8,
+            &[0x02, 0x01, 0x53, 0x00, 0x00, 0x00, 0x04],
+            NOT_CANONICAL,
+            24,
+        ),
+        (
+            23,
+            8,
+            &[0x02, 0x01, 0x53, 0x00, 0x00, 0x00, 0x00],
+            NOT_CANONICAL,
+            24,
+        ),
+        // In place of the facility a storage DESK_1 of capacity 0.
+        (31, 8, b"\x02\x06DESK_1\x00\x00\x00\x00", LIMIT, 39),
+        // In its place a second queue: its last letter in lower case, its count in five bytes, its name cut off.
+        (31, 8, b"\x03\x06DESK_i", TAG, 38),
+        (31, 8, b"\x03\xff\x00\x00\x00\x06DESK_2", NOT_CANONICAL, 32),
+        (31, 11, b"\x03\x06DESK_", TRUNCATED, 38),
+        // With one entity less, what stands in the facility's place is the count of procedures.
+        (15, 1, &[0x02], LIMIT, 31),
+    ];
+    for (place, old, new, code, byte) in faults {
+        let bytes = changed(rt.alloc(), &THREE_ENTITIES, place, old, new)?;
+        assert_eq!(rt; refusal(rt.alloc(), &bytes), at(code, byte), "at {place}");
+    }
+    Ok(())
+}
+
+/// The code of an entity that stands behind the three, when its object is built.
+fn added_code(alloc: Global, kind: Kind, name: &[u8]) -> Result<Option<u16>, Memory> {
+    let mut parts = three_entities(alloc)?;
+    let mut entities = parts.entities.into_vec();
+    entities.push(entity(alloc, kind, name)?)?;
+    parts.entities = Items::from_vec(entities);
+    Ok(build_code(parts))
+}
+
+#[test]
+fn entities_outside_the_rules_are_not_built(rt: HostRuntime) -> Result<(), Fail> {
+    let alloc = rt.alloc();
+    assert_eq!(rt; added_code(alloc, Kind::Storage(1), b"DESK_1")?, None);
+    assert_eq!(rt;
+        added_code(alloc, Kind::Storage(2_147_483_647), &[b'Z'; 32])?,
+        None
+    );
+    assert_eq!(rt; added_code(alloc, Kind::Queue, b"desk")?, Some(TAG));
+    assert_eq!(rt; added_code(alloc, Kind::Queue, b"")?, Some(LIMIT));
+    assert_eq!(rt; added_code(alloc, Kind::Queue, &[b'Z'; 33])?, Some(LIMIT));
+    assert_eq!(rt; added_code(alloc, Kind::Storage(0), b"T")?, Some(LIMIT));
+    assert_eq!(rt;
+        added_code(alloc, Kind::Storage(2_147_483_648), b"T")?,
+        Some(LIMIT)
+    );
+    assert_eq!(rt;
+        added_code(alloc, Kind::Queue, b"DESK_1")?,
+        Some(NOT_CANONICAL)
+    );
+    assert_eq!(rt;
+        added_code(alloc, Kind::Storage(4), b"S")?,
+        Some(NOT_CANONICAL)
+    );
+    Ok(())
+}
+
+#[test]
+fn the_lowest_code_anywhere_in_the_parts_is_named(rt: HostRuntime) -> Result<(), Fail> {
+    let alloc = rt.alloc();
+    // A letter that isn't listed and a capacity of 0; a capacity of 0 and a name that is taken; then a letter,
+    // the count and the seeds.
+    assert_eq!(rt; added_code(alloc, Kind::Storage(0), b"s")?, Some(TAG));
+    assert_eq!(rt; added_code(alloc, Kind::Storage(0), b"S")?, Some(LIMIT));
+    let mut parts = three_entities(alloc)?;
+    parts.count = 0;
+    parts.seeds = Items::from_vec(Vec::from_slice(alloc, &[0])?);
+    parts.entities = Items::from_vec(vec![in alloc; entity(alloc, Kind::Queue, b"a")?]?);
+    let (again, fault) = Object::build(parts).err().ok_or("a lower-case letter")?;
+    assert_eq!(rt; fault.code, TAG);
+    assert_eq!(rt; fault.place, Place::Nowhere);
+    assert_eq!(rt; again.entities.as_slice().len(), 1);
+    Ok(())
+}
+
+/// A queue whose name is `Q` and two letters, by its number.
+fn numbered_queue(alloc: Global, number: usize) -> Result<Entity, Memory> {
+    let letters = b"0123456789ABCDEFGHIJKLMNOPQRSTUVWXYZ";
+    entity(
+        alloc,
+        Kind::Queue,
+        &[b'Q', letters[number / 36 % 36], letters[number % 36]],
+    )
+}
+
+#[test]
+fn at_most_1024_entities_are_built(rt: HostRuntime) -> Result<(), Fail> {
+    for count in [1_024, 1_025] {
+        let mut entities = Vec::new(rt.alloc());
+        for number in 0..count {
+            entities.push(numbered_queue(rt.alloc(), number)?)?;
+        }
+        assert_eq!(rt;
+            build_code(parts_of(rt.alloc(), entities)),
+            if count == 1_024 { None } else { Some(LIMIT) }
+        );
+    }
+    Ok(())
+}
