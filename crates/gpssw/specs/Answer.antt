@@ -5,7 +5,7 @@ use Rattle.gw_object.specs.declared.fault.Fault.{Fault}
 use Rattle.gw_object.specs.declared.parts.Parts.{Parts}
 use Rattle.gw_object.specs.Reading.{first_fault}
 use Rattle.gw_verify.specs.Checks.{fault_of}
-use Rattle.gw_scan.specs.declared.ends.Stop.{Stop}
+use Rattle.gw_entities.specs.declared.stop.Stop.{Stop}
 use Rattle.gw_scan.specs.State.{State}
 use Rattle.gw_scan.specs.Job.{Job, Alone, IsFinal, IsStuck, stop_of}
 use Rattle.gw_scan.specs.Making.{spec_fault, job_from}

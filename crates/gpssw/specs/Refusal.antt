@@ -4,26 +4,23 @@ use Rattle.std.specs.Fmt.{decimal}
 use Rattle.gw_object.specs.declared.fault.Fault.{Fault}
 use Rattle.gw_object.specs.declared.fault.Place.{Place}
 use Rattle.gw_object.specs.declared.fault.Place.TheVariants.{Byte, Entity, Code, Row, Block, Edge, Chain, Line, Nowhere}
-use Rattle.gw_object.specs.Names.{name_of}
+use Rattle.gw_object.specs.Names as object
+use Rattle.gw_verify.specs.Names as verifier
 use Rattle.gw_scan.specs.declared.spec.StartFault.{StartFault}
 use Rattle.gw_scan.specs.declared.spec.StartFault.TheVariants.{Seed, Count, Budget, Memory}
 
--- the names of the verifier's codes, and of those of a job's making
-abbrev pub later_name : ℕ → List ℕ
-later_name code =
-    if code == 13 then codes "EntersGenerate"
-    else if code == 14 then codes "FallsOff"
-    else if code == 15 then codes "BadConstant"
-    else if code == 25 then codes "EdgeState"
-    else if code == 50 then codes "Seed"
+-- the names of the codes of a job's making
+abbrev pub making_name : ℕ → List ℕ
+making_name code =
+    if code == 50 then codes "Seed"
     else if code == 51 then codes "Count"
     else if code == 52 then codes "Budget"
     else if code == 53 then codes "Memory"
     else codes "Unknown"
 
--- the name of a code
+-- the name of a code: of an object, of the verifier, or of a job's making
 abbrev pub code_name : ℕ → List ℕ
-code_name code = unwrap_or (name_of code) (later_name code)
+code_name code = unwrap_or (object.name_of code) (unwrap_or (verifier.name_of code) (making_name code))
 
 -- a place is its kind in lower case, and its numbers
 abbrev pub place_text : Place → List ℕ

@@ -1,10 +1,11 @@
 //! Refusals, as the program prints them.
 
 ghost use Rattle.std.specs.Prelude.{◌≡◌, Some};
-ghost use Rattle.gpssw.specs.Refusal.{code_name, later_name as later_code_name, place_text, refusal_text, start_refusal};
+ghost use Rattle.gpssw.specs.Refusal.{code_name, making_name as name_of_making, place_text, refusal_text, start_refusal};
 
-use gw_object::{Fault, Place, codes};
+use gw_object::{Fault, Place, codes as object_codes};
 use gw_scan::StartFault;
+use gw_verify::codes as verifier_codes;
 use std::fmt;
 
 /// A refusal, which prints as `refused CODE NAME at PLACE`, without a place where it has none (docs/refusals.md).
@@ -15,15 +16,11 @@ pub struct Refusal(pub Fault);
 #[derive(Drop)]
 struct At(Place);
 
-/// The name of a code of the verifier's, or of a job's making.
-fn later_name(code: u16) -> &'static str
-    ensures { result.now ≡ later_code_name code }
+/// The name of a code of a job's making.
+fn making_name(code: u16) -> &'static str
+    ensures { result.now ≡ name_of_making code }
 {
     match code {
-        13 => "EntersGenerate",
-        14 => "FallsOff",
-        15 => "BadConstant",
-        25 => "EdgeState",
         50 => "Seed",
         51 => "Count",
         52 => "Budget",
@@ -36,9 +33,12 @@ fn later_name(code: u16) -> &'static str
 fn name(code: u16) -> &'static str
     ensures { result.now ≡ code_name code }
 {
-    match codes::name(code) {
+    if let Some(name) = object_codes::name(code) {
+        return name;
+    }
+    match verifier_codes::name(code) {
         Some(name) => name,
-        None => later_name(code),
+        None => making_name(code),
     }
 }
 

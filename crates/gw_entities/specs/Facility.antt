@@ -1,6 +1,7 @@
 -- Facilities: at most one transaction owns a facility.
-use Rattle.std.specs.Prelude.{ℕ, ◌+◌, Bool, true, false, Some, None, is_none, Result, Ok, Err, ◌==◌, if◌then◌else◌}
+use Rattle.std.specs.Prelude.{ℕ, ◌+◌, List, Bool, true, false, Some, None, is_none, Result, Ok, Err, ◌==◌, if◌then◌else◌}
 use Rattle.std.specs.Option.{option_map_or}
+use Rattle.std.specs.List.{list_any}
 use Rattle.gw_entities.specs.declared.facilities.Facility.{Facility}
 use Rattle.gw_entities.specs.declared.stop.Stop.{Stop}
 use Rattle.gw_entities.specs.declared.stop.Stop.TheVariants.{AlreadyOwned, NotOwner}
@@ -16,6 +17,10 @@ is_idle f = is_none f.owner
 -- the transaction xn owns it
 abbrev pub is_owned_by : ℕ → Facility → Bool
 is_owned_by xn f = option_map_or (λ owner. owner == xn) f.owner false
+
+-- the transaction xn owns any of these
+abbrev pub owns_any : ℕ → List Facility → Bool
+owns_any xn facilities = list_any (is_owned_by xn) facilities
 
 -- xn came to own it
 abbrev pub seized : ℕ → Facility → Facility

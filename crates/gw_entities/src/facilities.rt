@@ -163,6 +163,13 @@ impl Facilities {
         self.table.pass_time(dt);
     }
 
+    /// Whether the transaction `xn` owns any facility. It looks at each.
+    pub fn owns_any(&self, xn: u64) -> bool
+        ensures { result ≡ model.owns_any xn self.now.facilities }
+    {
+        self.table.values().iter().any(|f| f.is_owned_by(xn))
+    }
+
     /// The facility `f`.
     pub fn get(&self, f: u16) -> Facility
         requires { f < length self.now.facilities }

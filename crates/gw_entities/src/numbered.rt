@@ -90,6 +90,13 @@ impl<T: Timed> Numbered<T> {
         self.values[number as usize]
     }
 
+    /// The values, by number.
+    pub fn values(&self) -> &[T]
+        ensures { result.now ≡ self.now.values }
+    {
+        self.values.as_slice()
+    }
+
     /// Gives an entity another value, or the same.
     #[tactic(auto, using(crate::proofs::Rules::tables))]
     pub fn set(&mut self, number: u16, value: T)

@@ -1,7 +1,7 @@
 //! Error stops.
 
 /// An error stop: what was missing where the rules have no case for a block's effect, so that the job has no step
-/// (ours: docs/machine.md). The verifier refuses the objects that could come to one.
+/// (ours: docs/machine.md).
 #[derive(Clone, Copy, Debug, PartialEq, Eq)]
 pub enum Stop {
     /// A parameter is used before it exists.

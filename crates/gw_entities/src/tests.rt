@@ -73,6 +73,10 @@ impl OneFacility {
         self.facilities.release(0, xn)
     }
 
+    fn owns_any(&self, xn: u64) -> bool {
+        self.facilities.owns_any(xn)
+    }
+
     fn pass_time(&mut self, rt: &impl Abort, dt: u64) {
         assert!(rt; self.clock < 100 && dt < 100);
         self.facilities.pass_time(dt);
@@ -178,6 +182,7 @@ impl OneQueue {
 fn a_facility_is_its_owners_until_it_is_released(rt: HostRuntime) -> Result<(), Fail> {
     let mut facility = OneFacility::new(rt.alloc())?;
     assert_eq!(rt; facility.seize(&rt, 7), Ok(true));
+    assert_eq!(rt; [facility.owns_any(7), facility.owns_any(8)], [true, false]);
     let tried = [facility.seize(&rt, 8), facility.seize(&rt, 7)];
     assert_eq!(rt; tried, [Ok(false), Err(Stop::AlreadyOwned)]);
     assert_eq!(rt; facility.release(8), Err(Stop::NotOwner));

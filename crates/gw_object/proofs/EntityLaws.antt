@@ -17,7 +17,7 @@ use Rattle.gw_object.specs.declared.parts.Kind.TheVariants.{Facility, Storage, Q
 use Rattle.gw_object.specs.declared.parts.Entity.{Entity}
 use Rattle.gw_object.specs.Fields.{Field, byte, number, tested, both, nothing, plain, ElementsFit}
 use Rattle.gw_object.specs.Entities.{is_letter, letter, name, kind_tag, capacity, kind_fields, KindFits, IsLettered, EntityFits, IsNamed, AreNamesakes, is_named, new_name, kind_form, kind_forms, entity_spelling, entity_read, FitsBehind, entity}
-use Rattle.gw_object.proofs.Exact.{IsExact, IsExactForm, AreExactForms, IsExactElement, behind_exact, by_tag_takes, by_tag_within, byte_exact, wide32, number_exact, tested_exact, both_exact, fitting_exact, ranged_exact, nothing_exact, plain_exact, listed_exact, All-from_fit, fit-from_All}
+use Rattle.gw_object.proofs.Exact.{◌also◌, IsExact, IsExactForm, AreExactForms, IsExactElement, behind_exact, by_tag_takes, by_tag_within, byte_exact, wide32, number_exact, tested_exact, both_exact, fitting_exact, ranged_exact, nothing_exact, plain_exact, listed_exact, All-from_fit, fit-from_All}
 
 -- ---- names
 
@@ -73,13 +73,11 @@ kind_form_exact {A} front tag make fields tags spells fits exact =
     (both_exact (new_name front tag) fields (new_name_exact front tag) exact)
 
 kind_forms_exact : (front : List Entity) → AreExactForms entity_spelling (FitsBehind front) (kind_forms front)
-kind_forms_exact front = (
-  kind_form_exact front 1 (λ _. Facility) nothing (λ x. refl) (λ x. refl) (λ x h. tt) nothing_exact,
-  (
-    kind_form_exact front 2 (λ n. Storage n) capacity (λ x. refl) (λ x. refl) (λ x h. h) capacity_exact,
-    (kind_form_exact front 3 (λ _. Queue) nothing (λ x. refl) (λ x. refl) (λ x h. tt) nothing_exact, tt),
-  ),
-)
+kind_forms_exact front =
+    kind_form_exact front 1 (λ _. Facility) nothing (λ x. refl) (λ x. refl) (λ x h. tt) nothing_exact
+    also kind_form_exact front 2 (λ n. Storage n) capacity (λ x. refl) (λ x. refl) (λ x h. h) capacity_exact
+    also kind_form_exact front 3 (λ _. Queue) nothing (λ x. refl) (λ x. refl) (λ x h. tt) nothing_exact
+    also tt
 
 -- ---- entities
 

@@ -341,9 +341,15 @@ behind_exact {A} spell Fits tag make f spelled fit exact = record {
   within = λ rest e fits h. tag_within tag f make exact rest e fits h;
 }
 
+-- each form is exact
 abbrev pub AreExactForms : {A : Type 0} → (A → List ℕ) → (A → Type 0) → List (Form A) → Type 0
 AreExactForms spell Fits [] = Unit {0}
 AreExactForms spell Fits (f ∷ forms) = IsExactForm spell Fits f × AreExactForms spell Fits forms
+
+-- one exact form, and the others
+infixr 4 ◌also◌
+abbrev pub ◌also◌ : {P Q : Type 0} → P → Q → P × Q
+p also q = (p, q)
 
 form_takes : {A : Type 0} (spell : A → List ℕ) (Fits : A → Type 0) (forms : List (Form A)) → AreExactForms spell Fits forms → (tag : ℕ) (rest : List ℕ) (x : A × List ℕ) → IsBytes rest → form_read forms tag (tag ∷ rest) rest ≡ Ok x
     → Takes (tag ∷ rest) (spell x.0) x.1 × Fits x.0

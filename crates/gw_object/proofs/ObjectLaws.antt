@@ -1,5 +1,5 @@
 -- The object grammar is exact: each of its fields, the object, and reading as a whole.
-use Rattle.std.proofs.Common.{rules, ◌≡◌, ◌≢◌, ℕ, zero, suc, ◌-◌, ◌≤◌, ℤ, pos, negsuc, true, false, cond, eqb, ltb, IsTrue, List, [], ◌∷◌, ◌++◌, length, Option, Some, None, Result, Ok, Err, refl, sym, ap, subst, ◌∙◌, arith, inl, inr, ◌⊎◌, slice_get}
+use Rattle.std.proofs.Common.{◌≡◌, ◌≢◌, ℕ, zero, suc, ◌-◌, ◌≤◌, true, false, cond, eqb, ltb, List, [], ◌∷◌, ◌++◌, length, Option, Some, None, Result, Ok, Err, refl, sym, ap, subst, ◌∙◌, arith, inl, inr, ◌⊎◌, slice_get}
 use Rattle.std.specs.Prelude.{IfOk}
 use Rattle.std.specs.List.{All}
 use Rattle.std.specs.Int.{w16, w32, w64}
@@ -11,16 +11,16 @@ use Rattle.gw_object.specs.Limits.{most_bytes, most_seeds, greatest_seed, greate
 use Rattle.gw_object.specs.declared.parts.Operand.{Operand}
 use Rattle.gw_object.specs.declared.parts.Operand.TheVariants.{Constant}
 use Rattle.gw_object.specs.declared.parts.Block.{Block}
-use Rattle.gw_object.specs.declared.parts.Block.TheVariants.{Generate, Terminate, Advance}
+use Rattle.gw_object.specs.declared.parts.Block.TheVariants.{Generate, Terminate, Advance, Seize, Release, Enter, Leave, Queue, Depart}
 use Rattle.gw_object.specs.declared.parts.TableState.{TableState}
 use Rattle.gw_object.specs.declared.parts.Parts.{Parts}
 use Rattle.gw_object.specs.declared.error.Bad.{Bad}
-use Rattle.gw_object.specs.Fields.{bad, byte, number, signed, constant, optional, count, plain, ElementsFit}
-use Rattle.gw_object.specs.Grammar.{OperandFits, constant_of, operand, is_zero, IsZero, zero_operand, SpreadFits, spread, GenerateFits, generate, BlockFits, block_spelling, block_forms, block_read, block, no_elements, state, weight, tables, head, seed, start_count, object, spelling, HasSpelling, Spells}
+use Rattle.gw_object.specs.Fields.{Field, behind, bad, byte, number, constant, optional, count, plain, ElementsFit}
+use Rattle.gw_object.specs.Grammar.{OperandFits, constant_of, operand, SpreadFits, spread, GenerateFits, generate, entity_number, UnitsFit, units, BlockFits, block_spelling, block_forms, block_read, block, no_elements, state, weight, tables, head, seed, start_count, object, spelling, HasSpelling, Spells}
 use Rattle.gw_object.specs.Entities.{entity}
 use Rattle.gw_object.specs.Reading.{whole_read, with_place, first_fault, out_of_memory}
 use Rattle.gw_object.proofs.EntityLaws.{entity_exact, entities_fit, entities_are}
-use Rattle.gw_object.proofs.Exact.{AreExactForms, behind_exact, by_tag_takes, by_tag_within, IsBytes, Takes-shorter, IsExact, IsExactElement, bind_ok, bind_err, chosen, ok_is, err_is, not_both, byte_exact, wide16, wide32, wide64, number_exact, signed_exact, made_exact, tested_exact, and_then_exact, both_exact, fitting_exact, constant_exact, ranged_exact, optional_exact, count_exact, plain_exact, last_tested_exact, elements_exact, listed_exact, All-from_fit, fit-from_All}
+use Rattle.gw_object.proofs.Exact.{◌also◌, IsExactForm, AreExactForms, behind_exact, by_tag_takes, by_tag_within, IsBytes, Takes-shorter, IsExact, IsExactElement, bind_ok, bind_err, chosen, ok_is, err_is, not_both, byte_exact, wide16, wide32, wide64, number_exact, signed_exact, made_exact, and_then_exact, both_exact, fitting_exact, constant_exact, ranged_exact, optional_exact, count_exact, plain_exact, last_tested_exact, elements_exact, listed_exact, All-from_fit, fit-from_All}
 
 -- ---- operands
 
@@ -41,26 +41,10 @@ unfolding operand
 operand_exact = fitting_exact OperandFits _ operand_fits fits_operand
     (made_exact (λ x. Constant x.1) (λ x. (tt, constant_of x)) _ (λ x h. refl) (λ x h. constant_is x) (both_exact _ _ tag_exact (signed_exact w64 wide64)))
 
-is_zero-true : (n : ℤ) → is_zero n ≡ true → n ≡ pos 0
-is_zero-true (pos zero) e = refl
-is_zero-true (pos (suc n)) e = absurd cc
-is_zero-true (negsuc n) e = absurd cc
-
-zero_fits : (x : Operand) → Unit {0} × (OperandFits (Constant (constant_of x)) × IsTrue (is_zero (constant_of x))) → IsZero x
-zero_fits (Constant n) h = ap (λ m. Constant m) (is_zero-true n h.1.1)
-
-fits_zero : (x : Operand) → IsZero x → Unit {0} × (OperandFits (Constant (constant_of x)) × IsTrue (is_zero (constant_of x)))
-fits_zero x h = rw h (tt, (search rules, refl))
-
-pub zero_operand_exact : IsExact zero_operand
-unfolding zero_operand
-zero_operand_exact = fitting_exact IsZero _ zero_fits fits_zero
-    (made_exact (λ x. Constant x.1) (λ x. (tt, constant_of x)) _ (λ x h. refl) (λ x h. constant_is x) (both_exact _ _ tag_exact (tested_exact is_zero codes.limit (signed w64) (signed_exact w64 wide64))))
-
 pub spread_exact : IsExact spread
-unfolding spread operand zero_operand
+unfolding spread operand
 spread_exact = fitting_exact SpreadFits _ (λ s h. record { mean = h.0; half = h.1 }) (λ s h. (h.mean, h.half))
-    (made_exact _ _ _ (λ x h. refl) (λ s h. refl) (both_exact _ _ operand_exact zero_operand_exact))
+    (made_exact _ _ _ (λ x h. refl) (λ s h. refl) (both_exact _ _ operand_exact operand_exact))
 
 -- ---- blocks
 
@@ -72,21 +56,43 @@ generate_exact = fitting_exact GenerateFits _
     (made_exact _ _ _ (λ x h. refl) (λ g h. refl)
     (both_exact _ _ spread_exact (both_exact _ _ (optional_exact _ (signed_exact w64 wide64)) (both_exact _ _ (optional_exact _ (number_exact w32 wide32)) (signed_exact w32 wide32)))))
 
+entity_number_exact : IsExact entity_number
+entity_number_exact = number_exact w16 wide16
+
+pub units_exact : IsExact units
+unfolding units
+units_exact = fitting_exact UnitsFit _ (λ u h. record { entity = h.0; number = h.1 }) (λ u h. (h.entity, h.number))
+    (made_exact _ _ _ (λ x h. refl) (λ u h. refl) (both_exact _ _ entity_number_exact (number_exact w32 wide32)))
+
+-- a kind of block whose operands are those of a field
+block_form_exact : {A : Type 0} (tag : ℕ) (make : A → Block) (f : Field A) → ((x : A) → tag ∷ f.spell x ≡ block_spelling (make x)) → ((x : A) → f.Fits x → BlockFits (make x)) → IsExact f → IsExactForm block_spelling BlockFits (behind tag make f)
+block_form_exact tag make f spelled fit exact = behind_exact block_spelling BlockFits tag make f spelled fit exact
+
 block_forms_exact : AreExactForms block_spelling BlockFits block_forms
-unfolding generate operand spread
-block_forms_exact = (
-  behind_exact block_spelling BlockFits 1 (λ g. Generate g) generate (λ g. refl) (λ g h. h) generate_exact,
-  (
-    behind_exact block_spelling BlockFits 2 (λ n. Terminate n) operand (λ n. refl) (λ n h. h) operand_exact,
-    (behind_exact block_spelling BlockFits 3 (λ s. Advance s) spread (λ s. refl) (λ s h. h) spread_exact, tt),
-  ),
-)
+unfolding generate operand spread units
+block_forms_exact =
+    block_form_exact 1 (λ g. Generate g) generate (λ g. refl) (λ g h. h) generate_exact
+    also block_form_exact 2 (λ n. Terminate n) operand (λ n. refl) (λ n h. h) operand_exact
+    also block_form_exact 3 (λ s. Advance s) spread (λ s. refl) (λ s h. h) spread_exact
+    also block_form_exact 4 (λ n. Seize n) entity_number (λ n. refl) (λ n h. h) entity_number_exact
+    also block_form_exact 5 (λ n. Release n) entity_number (λ n. refl) (λ n h. h) entity_number_exact
+    also block_form_exact 6 (λ u. Enter u) units (λ u. refl) (λ u h. h) units_exact
+    also block_form_exact 7 (λ u. Leave u) units (λ u. refl) (λ u h. h) units_exact
+    also block_form_exact 8 (λ u. Queue u) units (λ u. refl) (λ u h. h) units_exact
+    also block_form_exact 9 (λ u. Depart u) units (λ u. refl) (λ u h. h) units_exact
+    also tt
 
 block_again : (b : Block) (rest : List ℕ) → BlockFits b → block_read (block_spelling b ++ rest) ≡ Ok (b, rest)
-unfolding block_read generate operand spread
+unfolding block_read generate operand spread units
 block_again (Generate g) rest fits = rw (generate_exact.again g rest fits) refl
 block_again (Terminate n) rest fits = rw (operand_exact.again n rest fits) refl
 block_again (Advance s) rest fits = rw (spread_exact.again s rest fits) refl
+block_again (Seize n) rest fits = rw (entity_number_exact.again n rest fits) refl
+block_again (Release n) rest fits = rw (entity_number_exact.again n rest fits) refl
+block_again (Enter u) rest fits = rw (units_exact.again u rest fits) refl
+block_again (Leave u) rest fits = rw (units_exact.again u rest fits) refl
+block_again (Queue u) rest fits = rw (units_exact.again u rest fits) refl
+block_again (Depart u) rest fits = rw (units_exact.again u rest fits) refl
 
 pub block_exact : IsExact block
 unfolding block_read

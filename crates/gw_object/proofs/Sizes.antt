@@ -5,18 +5,19 @@ use Rattle.std.specs.Int.{w32, w64, to_be_bytes}
 use Rattle.std.proofs.lemmas.List.Concat.{flat_map-cons}
 use Rattle.gw_object.specs.Limits.{most_bytes, most_seeds, most_entities, most_blocks}
 use Rattle.gw_object.specs.declared.parts.Kind.{Kind}
-use Rattle.gw_object.specs.declared.parts.Kind.TheVariants.{Facility, Storage, Queue}
+use Rattle.gw_object.specs.declared.parts.Kind.TheVariants.{Facility, Storage, Queue as QueueKind}
 use Rattle.gw_object.specs.declared.parts.Entity.{Entity}
 use Rattle.gw_object.specs.declared.parts.Operand.{Operand}
 use Rattle.gw_object.specs.declared.parts.Spread.{Spread}
 use Rattle.gw_object.specs.declared.parts.Generate.{Generate as GenerateOperands}
 use Rattle.gw_object.specs.declared.parts.Block.{Block}
-use Rattle.gw_object.specs.declared.parts.Block.TheVariants.{Generate, Terminate, Advance}
+use Rattle.gw_object.specs.declared.parts.Units.{Units}
+use Rattle.gw_object.specs.declared.parts.Block.TheVariants.{Generate, Terminate, Advance, Seize, Release, Enter, Leave, Queue, Depart}
 use Rattle.gw_object.specs.declared.parts.TableState.{TableState}
 use Rattle.gw_object.specs.declared.parts.Parts.{Parts}
 use Rattle.gw_object.specs.Fields.{Field, count_spelling, optional, number, signed}
 use Rattle.gw_object.specs.Entities.{letter, kind_fields, EntityFits, entity}
-use Rattle.gw_object.specs.Grammar.{operand, zero_operand, spread, generate, block, state, head, tables, object, spelling}
+use Rattle.gw_object.specs.Grammar.{operand, spread, generate, units, block, state, head, tables, object, spelling}
 
 -- a list whose elements take at most so many bytes each
 flat_map_size : {A : Type 0} (f : A → List ℕ) (most : ℕ) (xs : List A) → All (λ x. length (f x) ≤ most) xs → length (flat_map f xs) ≤ most * length xs
@@ -32,13 +33,9 @@ operand_size : (x : Operand) → length (operand.spell x) ≤ 9
 unfolding operand
 operand_size x = omega arith
 
-zero_operand_size : (x : Operand) → length (zero_operand.spell x) ≤ 9
-unfolding zero_operand
-zero_operand_size x = omega arith
-
 spread_size : (s : Spread) → length (spread.spell s) ≤ 18
 unfolding spread
-spread_size s = omega (arith, length-append (operand.spell s.mean) (zero_operand.spell s.half), operand_size s.mean, zero_operand_size s.half)
+spread_size s = omega (arith, length-append (operand.spell s.mean) (operand.spell s.half), operand_size s.mean, operand_size s.half)
 
 optional_size : {A : Type 0} (f : Field A) (most : ℕ) → ((x : A) → length (f.spell x) ≤ most) → (o : Option A) → length ((optional f).spell o) ≤ most + 1
 optional_size f most h None = omega arith
@@ -53,15 +50,25 @@ unfolding generate
 generate_size g =
     simp length-append (omega (arith, spread_size g.interval, optional_size (signed w64) 8 (λ z. omega arith) g.first, optional_size (number w32) 4 (λ n. omega arith) g.limit))
 
+units_size : (u : Units) → length (units.spell u) ≤ 6
+unfolding units
+units_size u = omega arith
+
 block_size : (b : Block) → length (block.spell b) ≤ 37
 block_size (Generate g) = omega (arith, generate_size g)
 block_size (Terminate decrement) = omega (arith, operand_size decrement)
 block_size (Advance time) = omega (arith, spread_size time)
+block_size (Seize facility) = omega arith
+block_size (Release facility) = omega arith
+block_size (Enter u) = omega (arith, units_size u)
+block_size (Leave u) = omega (arith, units_size u)
+block_size (Queue u) = omega (arith, units_size u)
+block_size (Depart u) = omega (arith, units_size u)
 
 fields_size : (k : Kind) → length (kind_fields k) ≤ 4
 fields_size Facility = omega arith
 fields_size (Storage n) = omega arith
-fields_size Queue = omega arith
+fields_size QueueKind = omega arith
 
 entity_size : (e : Entity) → EntityFits e → length (entity.spell e) ≤ 42
 entity_size e fits =

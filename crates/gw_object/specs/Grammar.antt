@@ -1,5 +1,5 @@
 -- The object grammar: which parts have a spelling, and which bytes spell them.
-use Rattle.std.specs.Prelude.{◌≡◌, ◌≢◌, ◌⊎◌, ℕ, zero, suc, ◌-◌, ◌≤◌, ◌<◌, ◌^◌, ℤ, pos, negsuc, FitsSigned, Bool, true, false, List, [], ◌∷◌, length, slice_get, Option, Some, IfSome, nat_lt}
+use Rattle.std.specs.Prelude.{◌≡◌, ◌≢◌, ◌⊎◌, ℕ, ◌-◌, ◌≤◌, ◌<◌, ◌^◌, ℤ, FitsSigned, List, [], ◌∷◌, length, slice_get, Option, Some, IfSome, nat_lt}
 use Rattle.std.specs.List.{All, AllPairs}
 use Rattle.std.specs.Int.{w16, w32, w64}
 use Rattle.gw_object.specs.Codes as codes
@@ -9,10 +9,11 @@ use Rattle.gw_object.specs.declared.parts.Operand.TheVariants.{Constant}
 use Rattle.gw_object.specs.declared.parts.Spread.{Spread}
 use Rattle.gw_object.specs.declared.parts.Generate.{Generate as GenerateOperands}
 use Rattle.gw_object.specs.declared.parts.Block.{Block}
-use Rattle.gw_object.specs.declared.parts.Block.TheVariants.{Generate, Terminate, Advance}
+use Rattle.gw_object.specs.declared.parts.Units.{Units}
+use Rattle.gw_object.specs.declared.parts.Block.TheVariants.{Generate, Terminate, Advance, Seize, Release, Enter, Leave, Queue, Depart}
 use Rattle.gw_object.specs.declared.parts.TableState.{TableState}
 use Rattle.gw_object.specs.declared.parts.Parts.{Parts}
-use Rattle.gw_object.specs.Fields.{Read, Field, byte, number, signed, made, tested, both, and_then, constant, fitting, ranged, optional, Form, behind, by_tag, count, Element, plain, last_tested, elements, listed}
+use Rattle.gw_object.specs.Fields.{Read, Field, byte, number, signed, made, both, and_then, constant, fitting, ranged, optional, Form, behind, by_tag, count, Element, plain, last_tested, elements, listed}
 use Rattle.gw_object.specs.Entities.{entity, EntityFits, IsLettered, AreNamesakes}
 
 -- ---- operands
@@ -29,28 +30,14 @@ OperandFits (Constant n) = FitsSigned w64 n
 unfoldable pub operand : Field Operand
 operand = fitting OperandFits (made (λ x. Constant x.1) (λ x. (tt, constant_of x)) (both (constant 0 codes.tag byte) (signed w64)))
 
--- the number is 0
-abbrev pub is_zero : ℤ → Bool
-is_zero (pos zero) = true
-is_zero (pos (suc n)) = false
-is_zero (negsuc n) = false
-
--- the operand is the constant 0
-abbrev pub IsZero : Operand → Type 0
-IsZero x = x ≡ Constant (pos 0)
-
--- 00 and the number 0
-unfoldable pub zero_operand : Field Operand
-zero_operand = fitting IsZero (made (λ x. Constant x.1) (λ x. (tt, constant_of x)) (both (constant 0 codes.tag byte) (tested is_zero codes.limit (signed w64))))
-
--- half the range is 0 yet
+-- the mean and half the range fit
 pub record SpreadFits (s : Spread) : Type 0 where
   pub mean : OperandFits s.mean
-  pub half : IsZero s.half
+  pub half : OperandFits s.half
 
 -- the mean and half the range
 unfoldable pub spread : Field Spread
-spread = fitting SpreadFits (made (λ (mean, half). record { mean = mean; half = half }) (λ s. (s.mean, s.half)) (both operand zero_operand))
+spread = fitting SpreadFits (made (λ (mean, half). record { mean = mean; half = half }) (λ s. (s.mean, s.half)) (both operand operand))
 
 -- ---- blocks
 
@@ -68,17 +55,42 @@ generate = fitting GenerateFits (made
     (λ g. (g.interval, (g.first, (g.limit, g.priority))))
     (both spread (both (optional (signed w64)) (both (optional (number w32)) (signed w32)))))
 
+-- an entity's number
+abbrev pub entity_number : Field ℕ
+entity_number = number w16
+
+-- the entity's number and the number of units fit
+pub record UnitsFit (u : Units) : Type 0 where
+  pub entity : entity_number.Fits u.entity
+  pub number : u.number < 2 ^ 32
+
+-- the entity's number and the number of units
+unfoldable pub units : Field Units
+units = fitting UnitsFit (made (λ (entity, n). record { entity = entity; number = n }) (λ u. (u.entity, u.number)) (both entity_number (number w32)))
+
 -- the operands of a block fit
 abbrev pub BlockFits : Block → Type 0
 BlockFits (Generate g) = GenerateFits g
 BlockFits (Terminate decrement) = OperandFits decrement
 BlockFits (Advance time) = SpreadFits time
+BlockFits (Seize facility) = entity_number.Fits facility
+BlockFits (Release facility) = entity_number.Fits facility
+BlockFits (Enter u) = UnitsFit u
+BlockFits (Leave u) = UnitsFit u
+BlockFits (Queue u) = UnitsFit u
+BlockFits (Depart u) = UnitsFit u
 
 -- the tag, and the operands behind it
 abbrev pub block_spelling : Block → List ℕ
 block_spelling (Generate g) = 1 ∷ generate.spell g
 block_spelling (Terminate decrement) = 2 ∷ operand.spell decrement
 block_spelling (Advance time) = 3 ∷ spread.spell time
+block_spelling (Seize facility) = 4 ∷ entity_number.spell facility
+block_spelling (Release facility) = 5 ∷ entity_number.spell facility
+block_spelling (Enter u) = 6 ∷ units.spell u
+block_spelling (Leave u) = 7 ∷ units.spell u
+block_spelling (Queue u) = 8 ∷ units.spell u
+block_spelling (Depart u) = 9 ∷ units.spell u
 
 -- the blocks
 abbrev pub block_forms : List (Form Block)
@@ -86,6 +98,12 @@ block_forms =
     behind 1 (λ g. Generate g) generate
     ∷ behind 2 (λ decrement. Terminate decrement) operand
     ∷ behind 3 (λ time. Advance time) spread
+    ∷ behind 4 (λ facility. Seize facility) entity_number
+    ∷ behind 5 (λ facility. Release facility) entity_number
+    ∷ behind 6 (λ u. Enter u) units
+    ∷ behind 7 (λ u. Leave u) units
+    ∷ behind 8 (λ u. Queue u) units
+    ∷ behind 9 (λ u. Depart u) units
     ∷ []
 
 -- by its tag; another tag is a fault

@@ -1,7 +1,7 @@
 //! Blocks, their operands and their rows of the state table.
 
 ghost use Rattle.std.specs.Prelude.{◌≡◌};
-ghost use Rattle.gw_object.specs.Grammar.{operand, zero_operand, spread, generate, block, state};
+ghost use Rattle.gw_object.specs.Grammar.{operand, spread, generate, units, block, state};
 ghost use Rattle.gw_object.specs.Reading.{Gives};
 
 use crate::Memory;
@@ -39,28 +39,12 @@ impl Spelled for Operand {
     }
 }
 
-/// An operand that is the constant 0.
-#[tactic(auto, unfolding(crate::specs::Grammar::zero_operand))]
-fn read_zero_operand(alloc: Global, bytes: &[u8]) -> Result<(Operand, &[u8]), ReadError>
-    ensures { Gives (λ x. (x.0, x.1.now)) result (zero_operand.read bytes.now) }
-{
-    let (tag, rest) = u8::read(alloc, bytes)?;
-    if tag != 0 {
-        return Err(fault(TAG, bytes));
-    }
-    let (number, after) = i64::read(alloc, rest)?;
-    if number != 0 {
-        return Err(fault(LIMIT, rest));
-    }
-    Ok((Operand::Constant(number), after))
-}
-
 impl Spelled for Spread {
     ghost spelling = { spread.spell };
 
     ghost reading = { spread.read };
 
-    #[tactic(auto, unfolding(crate::specs::Grammar::spread, crate::specs::Grammar::operand, crate::specs::Grammar::zero_operand))]
+    #[tactic(auto, unfolding(crate::specs::Grammar::spread))]
     fn put(&self, out: &mut Vec<u8>) -> Result<(), Memory> {
         self.mean.put(out)?;
         self.half.put(out)
@@ -69,7 +53,7 @@ impl Spelled for Spread {
     #[tactic(auto, unfolding(crate::specs::Grammar::spread))]
     fn read(alloc: Global, bytes: &[u8]) -> Result<(Spread, &[u8]), ReadError> {
         let (mean, rest) = Operand::read(alloc, bytes)?;
-        let (half, rest) = read_zero_operand(alloc, rest)?;
+        let (half, rest) = Operand::read(alloc, rest)?;
         Ok((Spread { mean, half }, rest))
     }
 }
@@ -103,6 +87,25 @@ impl Spelled for Generate {
     }
 }
 
+impl Spelled for Units {
+    ghost spelling = { units.spell };
+
+    ghost reading = { units.read };
+
+    #[tactic(auto, unfolding(crate::specs::Grammar::units))]
+    fn put(&self, out: &mut Vec<u8>) -> Result<(), Memory> {
+        self.entity.put(out)?;
+        self.number.put(out)
+    }
+
+    #[tactic(auto, unfolding(crate::specs::Grammar::units))]
+    fn read(alloc: Global, bytes: &[u8]) -> Result<(Units, &[u8]), ReadError> {
+        let (entity, rest) = u16::read(alloc, bytes)?;
+        let (number, rest) = u32::read(alloc, rest)?;
+        Ok((Units { entity, number }, rest))
+    }
+}
+
 impl Spelled for Block {
     ghost spelling = { block.spell };
 
@@ -121,6 +124,30 @@ impl Spelled for Block {
             Block::Advance(time) => {
                 out.push(3)?;
                 time.put(out)?;
+            }
+            Block::Seize(facility) => {
+                out.push(4)?;
+                facility.put(out)?;
+            }
+            Block::Release(facility) => {
+                out.push(5)?;
+                facility.put(out)?;
+            }
+            Block::Enter(units) => {
+                out.push(6)?;
+                units.put(out)?;
+            }
+            Block::Leave(units) => {
+                out.push(7)?;
+                units.put(out)?;
+            }
+            Block::Queue(units) => {
+                out.push(8)?;
+                units.put(out)?;
+            }
+            Block::Depart(units) => {
+                out.push(9)?;
+                units.put(out)?;
             }
         }
         Ok(())
@@ -141,6 +168,30 @@ impl Spelled for Block {
             3 => {
                 let (time, rest) = Spread::read(alloc, rest)?;
                 Ok((Block::Advance(time), rest))
+            }
+            4 => {
+                let (facility, rest) = u16::read(alloc, rest)?;
+                Ok((Block::Seize(facility), rest))
+            }
+            5 => {
+                let (facility, rest) = u16::read(alloc, rest)?;
+                Ok((Block::Release(facility), rest))
+            }
+            6 => {
+                let (units, rest) = Units::read(alloc, rest)?;
+                Ok((Block::Enter(units), rest))
+            }
+            7 => {
+                let (units, rest) = Units::read(alloc, rest)?;
+                Ok((Block::Leave(units), rest))
+            }
+            8 => {
+                let (units, rest) = Units::read(alloc, rest)?;
+                Ok((Block::Queue(units), rest))
+            }
+            9 => {
+                let (units, rest) = Units::read(alloc, rest)?;
+                Ok((Block::Depart(units), rest))
             }
             _ => Err(fault(TAG, bytes)),
         }

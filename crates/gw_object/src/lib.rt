@@ -25,7 +25,7 @@ pub use limits::{
     MOST_ENTITIES, MOST_LETTERS, MOST_SEEDS,
 };
 pub use object::Object;
-pub use parts::{Block, Entity, Generate, Kind, Operand, Parts, Spread, TableState};
+pub use parts::{Block, Entity, Generate, Kind, Operand, Parts, Spread, TableState, Units};
 pub use reading::read;
 pub use std::alloc::AllocError as Memory;
 pub use writing::write;

@@ -35,7 +35,7 @@ pub enum Operand {
 pub struct Spread {
     /// The mean, in clock units.
     pub mean: Operand,
-    /// Half the range, in clock units: the constant 0 yet.
+    /// Half the range, in clock units.
     pub half: Operand,
 }
 
@@ -52,6 +52,15 @@ pub struct Generate {
     pub priority: i32,
 }
 
+/// Units of an entity: of a storage or a queue.
+#[derive(Clone, Copy, Debug, PartialEq, Eq)]
+pub struct Units {
+    /// The entity's number, from 0.
+    pub entity: u16,
+    /// How many units.
+    pub number: u32,
+}
+
 /// A block.
 #[derive(Clone, Copy, Debug, PartialEq, Eq)]
 pub enum Block {
@@ -61,6 +70,18 @@ pub enum Block {
     Terminate(Operand),
     /// Transactions rest for a time.
     Advance(Spread),
+    /// Transactions become the owner of a facility, which is given by its entity's number from 0.
+    Seize(u16),
+    /// Transactions give up a facility, which is given by its entity's number from 0.
+    Release(u16),
+    /// Transactions take units of a storage.
+    Enter(Units),
+    /// Transactions give units of a storage back.
+    Leave(Units),
+    /// Transactions add units to the content of a queue.
+    Queue(Units),
+    /// Transactions take units off the content of a queue.
+    Depart(Units),
 }
 
 /// What the state table says of a transaction that is about to enter a block: nothing yet.

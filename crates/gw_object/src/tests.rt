@@ -3,6 +3,7 @@ use crate::codes::*;
 use std::alloc::Global;
 use std::test::Fail;
 
+mod blocks;
 mod entities;
 
 /// `GENERATE 10 / ADVANCE 3 / TERMINATE 1` with termination count 2.
@@ -25,6 +26,24 @@ const FIELDS: [u32; 39] = [
 /// The refusal of bytes, if they are no object.
 fn refusal(alloc: Global, bytes: &[u8]) -> Option<Fault> {
     read(alloc, bytes).err()
+}
+
+/// Whether these bytes are read as an object of these parts, and written again.
+fn are_read_as(alloc: Global, bytes: &[u8], parts: &Parts) -> Result<bool, Memory> {
+    let Ok(object) = read(alloc, bytes) else {
+        return Ok(false);
+    };
+    let again = write(alloc, &object)?;
+    Ok(object.parts() == parts && again.as_slice() == bytes)
+}
+
+/// Whether an object of these parts is built, and written as these bytes.
+fn are_built_as(alloc: Global, parts: Parts, bytes: &[u8]) -> Result<bool, Memory> {
+    let Ok(object) = Object::build(parts) else {
+        return Ok(false);
+    };
+    let written = write(alloc, &object)?;
+    Ok(written.as_slice() == bytes)
 }
 
 fn at(code: u16, byte: u32) -> Option<Fault> {
@@ -62,26 +81,33 @@ fn three_blocks_are_read_and_written_again(rt: HostRuntime) -> Result<(), Fail> 
     Ok(())
 }
 
-#[test]
-fn each_cut_is_truncated_at_the_cut_field(rt: HostRuntime) {
+/// The first length at which the bytes, cut there, aren't refused as truncated at the cut field.
+fn wrong_cut(alloc: Global, whole: &[u8], fields: &[u32]) -> Option<u32> {
+    let Ok(end) = u32::try_from(whole.len()) else {
+        return Some(u32::MAX);
+    };
     let mut field = 0;
-    for len in 0_u32..97 {
-        if FIELDS.contains(&len) {
+    for len in 0..end {
+        if fields.contains(&len) {
             field = len;
         }
-        let (cut, _) = THREE_BLOCKS.split_at(len as usize);
-        assert_eq!(rt;
-            refusal(rt.alloc(), cut),
-            at(TRUNCATED, field),
-            "cut at {len}"
-        );
+        let (cut, _) = whole.split_at(len as usize);
+        if refusal(alloc, cut) != at(TRUNCATED, field) {
+            return Some(len);
+        }
     }
+    None
+}
+
+#[test]
+fn each_cut_is_truncated_at_the_cut_field(rt: HostRuntime) {
+    assert_eq!(rt; wrong_cut(rt.alloc(), &THREE_BLOCKS, &FIELDS), None);
 }
 
 #[test]
 fn each_fault_is_named_by_its_code_and_place(rt: HostRuntime) -> Result<(), Fail> {
     // The place and the number of the bytes that are replaced, those that replace them, and the refusal.
-    let faults: [(usize, usize, &[u8], u16, u32); 30] = [
+    let faults: [(usize, usize, &[u8], u16, u32); 29] = [
         (97, 0, &[0x00], TRAILING, 97),
         (0, 1, &[0x46], MAGIC, 0),
         (0, 6, &[0x47, 0x50, 0x53, 0x00, 0x00, 0x02], MAGIC, 0),
@@ -110,10 +136,9 @@ fn each_fault_is_named_by_its_code_and_place(rt: HostRuntime) -> Result<(), Fail
         (16, 1, &[0x01], LIMIT, 16),
         (17, 1, &[0xff, 0x00, 0x00, 0x10, 0x01], LIMIT, 17),
         (17, 1, &[0xff, 0x00, 0x00, 0x00, 0xfe], NOT_CANONICAL, 17),
-        (18, 1, &[0x04], TAG, 18),
+        (18, 1, &[0x0a], TAG, 18),
         (19, 1, &[0x01], TAG, 19),
         (28, 1, &[0x04], TAG, 28),
-        (36, 1, &[0x01], LIMIT, 29),
         (37, 1, &[0x02], TAG, 37),
         (38, 1, &[0xff], TAG, 38),
         (63, 1, &[0x02], TAG, 63),
@@ -152,7 +177,7 @@ fn constant_time(mean: i64, half: i64) -> Spread {
 /// Two blocks, with all operands of GENERATE, and seeds for three streams.
 fn two_blocks(alloc: Global) -> Result<Parts, Memory> {
     let generate = Block::Generate(Generate {
-        interval: constant_time(i64::MIN, 0),
+        interval: constant_time(i64::MIN, 7),
         first: Some(-1),
         limit: Some(u32::MAX),
         priority: -7,
@@ -173,20 +198,17 @@ const TWO_BLOCKS: [u8; 91] = [
     0x47, 0x50, 0x53, 0x4f, 0x00, 0x01, 0x03, 0x00, 0x00, 0x00, 0x05, 0x00, 0x00, 0x00, 0x00, 0x7f,
     0xff, 0xff, 0xfe, 0x00, 0x00, 0x01, 0x00, 0x00, 0x00, 0x00, 0x00, 0x00, 0x00, 0x02, 0x01, 0x00,
     0x80, 0x00, 0x00, 0x00, 0x00, 0x00, 0x00, 0x00, 0x00, 0x00, 0x00, 0x00, 0x00, 0x00, 0x00, 0x00,
-    0x00, 0x01, 0xff, 0xff, 0xff, 0xff, 0xff, 0xff, 0xff, 0xff, 0x01, 0xff, 0xff, 0xff, 0xff, 0xff,
+    0x07, 0x01, 0xff, 0xff, 0xff, 0xff, 0xff, 0xff, 0xff, 0xff, 0x01, 0xff, 0xff, 0xff, 0xff, 0xff,
     0xff, 0xff, 0xf9, 0x02, 0x00, 0x00, 0x00, 0x00, 0x00, 0x00, 0x00, 0x00, 0x01, 0x00, 0x01, 0x00,
     0x00, 0x00, 0x00, 0x3b, 0x9a, 0xca, 0x00, 0x00, 0x00, 0x00, 0x01,
 ];
 
 #[test]
-fn built_parts_are_written_and_read_again(rt: HostRuntime) -> Result<(), Fail> {
-    let object = Object::build(two_blocks(rt.alloc())?)
-        .ok()
-        .ok_or("parts that have a spelling")?;
-    let bytes = write(rt.alloc(), &object)?;
-    assert_eq!(rt; bytes.as_slice(), TWO_BLOCKS.as_slice());
-    let again = read(rt.alloc(), &bytes).ok().ok_or("what was written")?;
-    assert!(rt; *again.parts() == object.into_parts());
+fn two_blocks_are_read_built_and_written(rt: HostRuntime) -> Result<(), Fail> {
+    let alloc = rt.alloc();
+    let parts = two_blocks(alloc)?;
+    assert!(rt; are_read_as(alloc, &TWO_BLOCKS, &parts)?);
+    assert!(rt; are_built_as(alloc, parts, &TWO_BLOCKS)?);
     Ok(())
 }
 
@@ -235,14 +257,6 @@ fn lists_outside_their_limits_are_not_built(rt: HostRuntime) -> Result<(), Fail>
     for states in [[None].as_slice(), &[None, None, None]] {
         let mut parts = two_blocks(rt.alloc())?;
         parts.states = Items::from_vec(Vec::from_slice(rt.alloc(), states)?);
-        assert_eq!(rt; build_code(parts), Some(LIMIT));
-    }
-    for block in [
-        Block::Advance(constant_time(3, 1)),
-        Block::Advance(constant_time(3, -1)),
-    ] {
-        let mut parts = two_blocks(rt.alloc())?;
-        parts.blocks = Items::from_vec(Vec::from_slice(rt.alloc(), &[block, block])?);
         assert_eq!(rt; build_code(parts), Some(LIMIT));
     }
     Ok(())

@@ -1,13 +1,24 @@
 -- The text of a report: one line per item, words separated by one space, each ended by LF.
-use Rattle.std.specs.Prelude.{ℕ, ◌+◌, List, [], ◌∷◌, ◌++◌, codes, sum}
+use Rattle.std.specs.Prelude.{ℕ, ◌+◌, ◌/◌, ◌%◌, List, [], ◌∷◌, ◌++◌, length, codes, sum, unsigned_abs}
 use Rattle.std.specs.Fmt.{decimal, signed_decimal}
+use Rattle.std.specs.Option.{unwrap_or}
 use Rattle.gw_object.specs.declared.parts.Block.{Block}
-use Rattle.gw_object.specs.declared.parts.Block.TheVariants.{Generate, Terminate, Advance}
+use Rattle.gw_object.specs.declared.parts.Block.TheVariants.{Generate, Terminate, Advance, Seize, Release, Enter, Leave, Queue, Depart}
+use Rattle.gw_object.specs.declared.parts.Entity.{Entity}
+use Rattle.gw_object.specs.declared.parts.Kind.{Kind}
+use Rattle.gw_object.specs.declared.parts.Kind.TheVariants as kinds
 use Rattle.gw_num.specs.Table.{at}
 use Rattle.gw_transactions.specs.Transactions.{here_count}
+use Rattle.gw_entities.specs.declared.average.Average.{Average}
+use Rattle.gw_entities.specs.declared.contents.Contents.{Contents}
+use Rattle.gw_entities.specs.declared.facilities.Facility.{Facility}
+use Rattle.gw_entities.specs.declared.stop.Stop.{Stop}
+use Rattle.gw_entities.specs.Average.{average}
+use Rattle.gw_entities.specs.Contents.{empty}
+use Rattle.gw_entities.specs.Facility.{idle}
+use Rattle.gw_entities.specs.Storage.{vacant}
 use Rattle.gw_scan.specs.declared.ends.End.TheVariants.{Done, Number, ZeroDivisor, NegativeTime, LoopLimit, NoMoreEvents, Budget, Live}
-use Rattle.gw_scan.specs.State.{State}
-use Rattle.gw_scan.specs.declared.ends.Stop.{Stop}
+use Rattle.gw_scan.specs.State.{State, delay_list}
 use Rattle.gw_scan.specs.declared.sim.Status.{Status}
 use Rattle.gw_scan.specs.declared.sim.Status.TheVariants.{Running, Ended, Stopped}
 use Rattle.gw_scan.specs.Answers.{status_at}
@@ -31,6 +42,12 @@ abbrev pub block_word : Block → List ℕ
 block_word (Generate g) = codes "GENERATE"
 block_word (Terminate by) = codes "TERMINATE"
 block_word (Advance time) = codes "ADVANCE"
+block_word (Seize facility) = codes "SEIZE"
+block_word (Release facility) = codes "RELEASE"
+block_word (Enter units) = codes "ENTER"
+block_word (Leave units) = codes "LEAVE"
+block_word (Queue units) = codes "QUEUE"
+block_word (Depart units) = codes "DEPART"
 
 -- the entries of all blocks, and the termination count
 abbrev pub counts : State → List ℕ
@@ -53,9 +70,68 @@ unfoldable pub block_lines : State → ℕ → List Block → List ℕ
 block_lines s b [] = []
 block_lines s b (block ∷ rest) = block_line s b block ++ block_lines s (b + 1) rest
 
+-- an average: its whole part and the three digits of its thousandths
+abbrev pub average_text : Average → List ℕ
+average_text a =
+    decimal a.whole ++ codes "." ++ decimal (a.thousandths / 100) ++ decimal (a.thousandths / 10 % 10)
+    ++ decimal (a.thousandths % 10)
+
+-- the average over the clock of what sums up to this
+abbrev pub average_so_far : ℕ → State → List ℕ
+average_so_far time_sum s = average_text (average time_sum (unsigned_abs s.clock))
+
+-- how many wait for the entity of a number
+abbrev pub waiting_for : ℕ → State → List ℕ
+waiting_for e s = codes " WAIT " ++ decimal (length (delay_list e s))
+
+-- how often a facility was seized, and the number of the transaction that owns it: 0 where nobody does
+abbrev pub ownership_text : Facility → List ℕ
+ownership_text f = codes " ENTRIES " ++ decimal f.entries ++ codes " OWNER " ++ decimal (unwrap_or f.owner 0)
+
+-- the units that are inside, the most that were at one moment, and those that came in
+abbrev pub contents_text : Contents → List ℕ
+contents_text c =
+    codes " CONTENT " ++ decimal c.content ++ codes " MAX " ++ decimal c.maximum ++ codes " ENTRIES " ++ decimal c.entries
+
+-- the facility of a number and a name: its entries and owner, its waiters, and its utilisation
+abbrev pub facility_line : State → ℕ → List ℕ → List ℕ
+facility_line s e name =
+    let facility = at idle s.goods.facilities e in
+    codes "FACILITY " ++ name ++ ownership_text facility ++ waiting_for e s ++ codes " UTIL "
+    ++ average_so_far facility.busy s ++ codes "\n"
+
+-- the storage of a number and a name: its capacity, what is inside, its waiters, and its average content
+abbrev pub storage_line : State → ℕ → List ℕ → List ℕ
+storage_line s e name =
+    let storage = at (vacant 0) s.goods.storages e in
+    codes "STORAGE " ++ name ++ codes " CAP " ++ decimal storage.capacity ++ contents_text storage.contents
+    ++ waiting_for e s ++ codes " AVG " ++ average_so_far storage.contents.time_sum s ++ codes "\n"
+
+-- the queue of a number and a name: what is inside, and its average content
+abbrev pub queue_line : State → ℕ → List ℕ → List ℕ
+queue_line s e name =
+    let queue = at empty s.goods.queues e in
+    codes "QUEUE " ++ name ++ contents_text queue ++ codes " AVG " ++ average_so_far queue.time_sum s ++ codes "\n"
+
+-- the line of an entity of this kind, by its number and its name
+abbrev pub line_of_kind : Kind → State → ℕ → List ℕ → List ℕ
+line_of_kind kinds.Facility = facility_line
+line_of_kind (kinds.Storage capacity) = storage_line
+line_of_kind kinds.Queue = queue_line
+
+-- the line of an entity, by its number
+abbrev pub entity_line : State → ℕ → Entity → List ℕ
+entity_line s e entity = line_of_kind entity.kind s e entity.name
+
+-- the lines of these entities, the first of which has this number
+unfoldable pub entity_lines : State → ℕ → List Entity → List ℕ
+entity_lines s e [] = []
+entity_lines s e (entity ∷ rest) = entity_line s e entity ++ entity_lines s (e + 1) rest
+
 -- the report of a job that stands so
 abbrev pub report_as : Status → Progress → List ℕ
-report_as status p = end_line status p.state ++ block_lines p.state 1 p.job.parts.blocks
+report_as status p =
+    end_line status p.state ++ block_lines p.state 1 p.job.parts.blocks ++ entity_lines p.state 0 p.job.parts.entities
 
 -- the report text of a job and its state
 abbrev pub report_of : Progress → List ℕ

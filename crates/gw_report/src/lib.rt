@@ -1,23 +1,26 @@
-//! The report of a job: one line for how it stands, and one for each block.
+//! The report of a job: one line for how it stands, one for each block, and one for each entity.
 #![tactic(auto)]
 
-ghost use Rattle.std.specs.Prelude.{◌≡◌, ◌≤◌, ◌<◌, ◌+◌, ◌++◌, length, OnOk, IfOk, codes};
+mod blocks;
+mod entities;
+mod text;
+
+ghost use Rattle.std.specs.Prelude.{◌≡◌, ◌++◌, OnOk, IfOk};
 ghost use Rattle.gw_report.specs.Report.{
   status_word as word_of_status,
-  block_word as word_of_block,
   counts,
   end_line,
-  block_line,
-  block_lines,
   report_as,
   report_of,
   stopped_report_of,
 };
 
-use gw_object::{Block, Memory};
+use blocks::put_block_lines;
+use entities::put_entity_lines;
+use gw_object::Memory;
 use gw_scan::{End, Sim, Status, Stop};
-use itoa::{Buffer, Integer};
 use std::alloc::Global;
+use text::{put, put_number};
 
 /// How a job stands: the name of its end, if one stands.
 fn status_word(status: Status) -> &'static str
@@ -35,32 +38,6 @@ fn status_word(status: Status) -> &'static str
         Status::Ended(End::Budget) => "Budget",
         Status::Ended(End::Live) => "Live",
     }
-}
-
-/// The word of a block in a model text.
-fn block_word(block: &Block) -> &'static str
-    ensures { result.now ≡ word_of_block block.now }
-{
-    match block {
-        Block::Generate(_) => "GENERATE",
-        Block::Terminate(_) => "TERMINATE",
-        Block::Advance(_) => "ADVANCE",
-    }
-}
-
-fn put(out: &mut Vec<u8>, text: &str) -> Result<(), Memory>
-    ensures { OnOk result (out.new.items ≡ out.old.items ++ text.now) }
-{
-    out.extend_from_slice(text.as_bytes())
-}
-
-/// A text, and a number after it.
-fn put_number<I: Integer>(out: &mut Vec<u8>, text: &str, number: I) -> Result<(), Memory>
-    ensures { OnOk result (out.new.items ≡ out.old.items ++ text.now ++ I.text number) }
-{
-    let mut buffer = Buffer::new();
-    put(out, text)?;
-    put(out, buffer.format(number))
 }
 
 /// The entries of all blocks, and the termination count.
@@ -82,43 +59,18 @@ fn put_end_line(out: &mut Vec<u8>, sim: &Sim, status: Status) -> Result<(), Memo
     put(out, "\n")
 }
 
-fn put_block_line(out: &mut Vec<u8>, sim: &Sim, number: u16, block: &Block) -> Result<(), Memory>
-    ensures { OnOk result (out.new.items ≡ out.old.items ++ block_line sim.now.state number block.now) }
-{
-    put_number(out, "BLOCK ", number)?;
-    put(out, " ")?;
-    put(out, block_word(block))?;
-    put_number(out, " ", sim.entries_at(number))?;
-    put_number(out, " ", sim.here(number))?;
-    put(out, "\n")
-}
-
-#[tactic(auto, unfolding(crate::specs::Report::block_lines))]
-fn put_block_lines(out: &mut Vec<u8>, sim: &Sim, blocks: &[Block]) -> Result<(), Memory>
-    requires { length blocks.now ≤ 4096 }
-    ensures { OnOk result (out.new.items ≡ out.old.items ++ block_lines sim.now.state 1 blocks.now) }
-{
-    for i in 0..blocks.len() {
-        put_block_line(out, sim, (i + 1) as u16, &blocks[i])?;
-    }
-    Ok(())
-}
-
 /// The report of a job that stands so.
 fn lines(alloc: Global, sim: &Sim, status: Status) -> Result<Vec<u8>, Memory>
     ensures { IfOk result (λ text. text.items ≡ report_as status sim.now) }
 {
     let mut out = Vec::new(alloc);
     put_end_line(&mut out, sim, status)?;
-    put_block_lines(
-        &mut out,
-        sim,
-        sim.spec().verified().object().parts().blocks.as_slice(),
-    )?;
+    put_block_lines(&mut out, sim)?;
+    put_entity_lines(&mut out, sim)?;
     Ok(out)
 }
 
-/// The report of a job, in lines that each end by LF: how it stands, and its blocks (ours: docs/report.md).
+/// The report of a job, in lines that each end by LF: how it stands, its blocks, and its entities (ours: docs/report.md).
 pub fn report(alloc: Global, sim: &Sim) -> Result<Vec<u8>, Memory>
     ensures { IfOk result (λ text. text.items ≡ report_of sim.now) }
 {

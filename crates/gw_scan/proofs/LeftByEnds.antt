@@ -1,21 +1,28 @@
 -- What a step counts, and what named ends leave.
-use Rattle.std.proofs.Common.{◌≡◌, ◌≢◌, ℕ, ◌+◌, pos, List, [], ◌∷◌, Option, Some, None, Bool, true, false, if◌then◌else◌, nat_lt, refl, sym, ap, ◌∙◌, subst}
+use Rattle.std.proofs.Common.{◌≡◌, ◌≢◌, ℕ, ◌+◌, pos, List, [], ◌∷◌, Option, Some, None, Bool, true, false, not, if◌then◌else◌, nat_lt, refl, sym, ap, ◌∙◌, subst}
 use Rattle.std.specs.Prelude.{int_lt}
 use Rattle.gw_object.specs.declared.parts.Generate.{Generate}
 use Rattle.gw_object.specs.declared.parts.Block.{Block}
 use Rattle.gw_object.specs.declared.parts.Block.TheVariants as blocks
 use Rattle.gw_verify.specs.Checks.{block_at}
-use Rattle.gw_transactions.specs.declared.Transaction.{Transaction}
 use Rattle.gw_num.specs.Table.{at}
+use Rattle.gw_transactions.specs.declared.Transaction.{Transaction}
 use Rattle.gw_transactions.specs.Transactions.{live_count}
+use Rattle.gw_entities.specs.declared.stop.Stop.TheVariants.{NoBlock, NotOwner, AlreadyOwned, TooFew, OverCapacity, OwnsAtEnd}
+use Rattle.gw_entities.specs.Contents.{holds}
+use Rattle.gw_entities.specs.Facility.{is_idle, is_owned_by, owns_any}
+use Rattle.gw_entities.specs.Storage.{fits_capacity, has_room}
 use Rattle.gw_scan.specs.declared.ends.End.{End}
 use Rattle.gw_scan.specs.declared.ends.End.TheVariants.{Done, Budget, Live}
-use Rattle.gw_scan.specs.declared.ends.Stop.TheVariants.{NoBlock}
 use Rattle.gw_scan.specs.Outcome.{Outcome, Gives, EndsBy, StopsBy, ◌>>=◌, or_stop}
-use Rattle.gw_scan.specs.State.{FutureEvent, State, may_enter}
-use Rattle.gw_scan.specs.Step.{value_of, drawn_time, moment_after, entered, rests_until, arrives, falls, is_owed, within_live_limit, next_arrival, effect, next_event, next_active, scan, within_budget, stepped, step}
+use Rattle.gw_scan.specs.State.{FutureEvent, State, may_enter, first_stream, with_stream, delay_list}
+use Rattle.gw_scan.specs.Times.{value_of, drawn_moment}
+use Rattle.gw_scan.specs.Changes.{destroyed, arrives, rests_until, waits_for, facility, storage, queue, seizes, releases, takes, gives_back, joins, departs, counted, clock_moves}
+use Rattle.gw_scan.specs.Blocks.{passes, is_owed, next_arrival, hand_over, admission, effect}
+use Rattle.gw_scan.specs.Step.{next_event, next_active, scan, within_budget, stepped, step}
 use Rattle.gw_scan.specs.Laws.{StepsAreCounted, EndsAreFinal, EndsLeaveTheRest}
-use Rattle.gw_scan.proofs.Moves.{OnGives, on_bind, on_both, on_test, on_if}
+use Rattle.gw_scan.proofs.Outcomes.{OnGives, on_bind, on_both, on_test, on_if}
+use Rattle.gw_scan.proofs.Follows.{Stays, stays-same, stays-hand_over, stays-admission}
 use Rattle.gw_scan.proofs.Steps.{step-scan}
 use Rattle.gw_scan.proofs.Reached.{by_budget, counts_more, some_is}
 
@@ -35,33 +42,60 @@ by_count false end h = sym (some_end Done end h)
 
 -- BLOCKS
 
+stays-done : (s t : State) → s.ended ≡ None → Stays s t → DoneAtMost t
+stays-done s t runs h = runs_still t (h.ended ∙ runs)
+
 module _ (s : State) (runs : s.ended ≡ None) where
-  arrival_runs : (b : ℕ) (g : Generate) → OnGives (λ u. u.ended ≡ None) (next_arrival b g s)
-  arrival_runs b g =
-      on_if (λ u. u.ended ≡ None) (is_owed g.limit (at 0 s.scheduled b)) _ (Gives s)
-      (on_bind (λ u. u.ended ≡ None) (moment_after s.clock (drawn_time g.interval)) (λ time. within_live_limit s (Gives (arrives b g.priority time s)))
-      (λ time _. on_if (λ u. u.ended ≡ None) (nat_lt (live_count s.transactions) 65536) (Gives (arrives b g.priority time s)) (EndsBy Live) runs tt))
-      runs
+  still : (t : State) → Stays s t → DoneAtMost t
+  still t h = stays-done s t runs h
+
+  same : Stays s s
+  same = stays-same s
+
+  arrival_stays : (b : ℕ) (g : Generate) → OnGives (Stays s) (next_arrival b g s)
+  arrival_stays b g =
+      on_if (Stays s) (is_owed g.limit (at 0 s.scheduled b)) _ (Gives s)
+      (on_bind (Stays s) (drawn_moment g.interval s.clock (first_stream s)) _
+      (λ d _. on_if (Stays s) (nat_lt (live_count s.transactions) 65536) (Gives (arrives b g.priority d.0 (with_stream d.1 s))) (EndsBy Live) (record { clock = refl; count = refl; steps = refl; ended = refl }) tt))
+      same
 
   effect_done : (bs : List Block) (n : ℕ) (t : Transaction) (block : Block) → OnGives DoneAtMost (effect bs n t block s)
   unfolding effect
   effect_done bs n t (blocks.Generate g) =
-      on_both (λ u. u.ended ≡ None) DoneAtMost (next_arrival t.next g s) (λ after. falls bs t (Gives (entered n (record t { mark = s.clock }) (t.next + 1) after))) (arrival_runs t.next g)
-      (λ after still. on_test DoneAtMost (may_enter (block_at bs (t.next + 1))) (Gives (entered n (record t { mark = s.clock }) (t.next + 1) after)) (λ end h. absurd cc))
+      on_both (Stays s) DoneAtMost (next_arrival t.next g s) _ (arrival_stays t.next g)
+      (λ u h. on_test DoneAtMost (may_enter (block_at bs (t.next + 1))) NoBlock (Gives (passes n (record t { mark = s.clock }) u)) (runs_still (passes n (record t { mark = s.clock }) u) (h.ended ∙ runs)))
   effect_done bs n t (blocks.Terminate by) =
-      on_if DoneAtMost (int_lt (value_of by) (pos 0)) (EndsBy _) _ tt (λ end h. by_count _ end h)
+      on_if DoneAtMost (int_lt (value_of by) (pos 0)) (EndsBy _) _ tt (on_test DoneAtMost (not (owns_any n s.goods.facilities)) OwnsAtEnd (Gives (counted (value_of by) (destroyed n t s))) (λ end h. by_count _ end h))
   effect_done bs n t (blocks.Advance time) =
-      on_bind DoneAtMost (moment_after s.clock (drawn_time time)) (λ moment. falls bs t (if int_lt (pos 0) (drawn_time time) then Gives (rests_until n moment (entered n t (t.next + 1) s)) else Gives (entered n t (t.next + 1) s)))
-      (λ moment _. on_test DoneAtMost (may_enter (block_at bs (t.next + 1))) _
-      (on_if DoneAtMost (int_lt (pos 0) (drawn_time time)) (Gives (rests_until n moment (entered n t (t.next + 1) s))) (Gives (entered n t (t.next + 1) s)) (runs_still (rests_until n moment (entered n t (t.next + 1) s)) runs) (runs_still (entered n t (t.next + 1) s) runs)))
+      on_bind DoneAtMost (drawn_moment time s.clock (first_stream s)) _
+      (λ d _. on_test DoneAtMost (may_enter (block_at bs (t.next + 1))) NoBlock _
+      (on_if DoneAtMost (int_lt s.clock d.0) (Gives (rests_until n d.0 (passes n t (with_stream d.1 s)))) (Gives (passes n t (with_stream d.1 s))) (runs_still (rests_until n d.0 (passes n t (with_stream d.1 s))) runs) (runs_still (passes n t (with_stream d.1 s)) runs)))
+  effect_done bs n t (blocks.Seize f) =
+      on_test DoneAtMost (may_enter (block_at bs (t.next + 1))) NoBlock _ (on_test DoneAtMost (not (is_owned_by n (facility f s))) AlreadyOwned _
+      (on_if DoneAtMost (is_idle (facility f s)) (Gives (seizes f n (passes n t s))) (Gives (waits_for f n s)) (runs_still (seizes f n (passes n t s)) runs) (runs_still (waits_for f n s) runs)))
+  effect_done bs n t (blocks.Release f) =
+      let u : State = releases f (passes n t s) in
+      on_test DoneAtMost (may_enter (block_at bs (t.next + 1))) NoBlock _ (on_test DoneAtMost (is_owned_by n (facility f s)) NotOwner (Gives (hand_over bs f (delay_list f s) u))
+      (stays-done u (hand_over bs f (delay_list f s) u) runs (stays-hand_over bs u f (delay_list f s))))
+  effect_done bs n t (blocks.Enter u) =
+      on_test DoneAtMost (may_enter (block_at bs (t.next + 1))) NoBlock _ (on_test DoneAtMost (fits_capacity u.number (storage u.entity s)) OverCapacity _
+      (on_if DoneAtMost (has_room u.number (storage u.entity s)) (Gives (takes u (passes n t s))) (Gives (waits_for u.entity n s)) (runs_still (takes u (passes n t s)) runs) (runs_still (waits_for u.entity n s) runs)))
+  effect_done bs n t (blocks.Leave u) =
+      let v : State = gives_back u (passes n t s) in
+      on_test DoneAtMost (may_enter (block_at bs (t.next + 1))) NoBlock _ (on_test DoneAtMost (holds u.number (storage u.entity s).contents) TooFew (Gives (admission bs u.entity (delay_list u.entity s) v))
+      (stays-done v (admission bs u.entity (delay_list u.entity s) v) runs (stays-admission bs u.entity (delay_list u.entity s) v)))
+  effect_done bs n t (blocks.Queue u) =
+      on_test DoneAtMost (may_enter (block_at bs (t.next + 1))) NoBlock (Gives (joins u (passes n t s))) (runs_still (joins u (passes n t s)) runs)
+  effect_done bs n t (blocks.Depart u) =
+      on_test DoneAtMost (may_enter (block_at bs (t.next + 1))) NoBlock _ (on_test DoneAtMost (holds u.number (queue u.entity s)) TooFew (Gives (departs u (passes n t s))) (runs_still (departs u (passes n t s)) runs))
 
   event_done : (es : List FutureEvent) → OnGives DoneAtMost (next_event es s)
   event_done [] = tt
-  event_done (e ∷ es) = λ end h. absurd cc
+  event_done (e ∷ es) = runs_still (clock_moves e.time s) runs
 
   next_done : (ns : List ℕ) → OnGives DoneAtMost (next_active ns s)
   next_done [] = event_done s.lists.future_events
-  next_done (n ∷ ns) = λ end h. absurd cc
+  next_done (n ∷ ns) = runs_still (record s { lists = record s.lists { active = Some n; current_events = ns } }) runs
 
   scan_done : (bs : List Block) (a : Option ℕ) → OnGives DoneAtMost (scan bs a s)
   scan_done bs None = next_done s.lists.current_events

@@ -1,14 +1,15 @@
 -- Each elementary change keeps that each live transaction stands exactly once.
-use Rattle.std.proofs.Common.{◌≡◌, ◌≢◌, ℕ, ◌+◌, ◌≤◌, ℤ, List, [], ◌∷◌, map, length, Option, Some, None, Bool, true, false, if◌then◌else◌, ◌==◌, is_some, refl, sym, ap, ◌∙◌, arith, inl, inr}
-use Rattle.std.specs.Prelude.{int_le}
+use Rattle.std.proofs.Common.{◌≡◌, ◌≢◌, ℕ, zero, suc, ◌+◌, ◌≤◌, ℤ, List, [], ◌∷◌, map, length, Option, Some, None, Bool, true, false, if◌then◌else◌, ◌==◌, is_some, refl, sym, ap, ◌∙◌, arith, inl, inr}
+use Rattle.std.specs.Prelude.{int_le, sum_by}
 use Rattle.std.proofs.lemmas.Bool.{cases_eq, eq-eqb, ne_eqb}
-use Rattle.gw_chains.specs.Chain.{all_behind, due}
+use Rattle.gw_chains.specs.Chain.{behind, all_behind, due}
 use Rattle.gw_transactions.specs.declared.Transaction.{Transaction}
 use Rattle.gw_num.specs.Table.{at, put}
-use Rattle.gw_num.proofs.Tables.{at-put, at-put_other, at_past}
-use Rattle.gw_scan.specs.State.{FutureEvent, State, priority_of}
+use Rattle.std.proofs.lemmas.List.Sums.{sum_by-cons}
+use Rattle.gw_num.proofs.Tables.{at-put, at-put_other, at_past, sum_by-put}
+use Rattle.gw_scan.specs.State.{FutureEvent, State, priority_of, delay_list, without}
 use Rattle.gw_scan.specs.Standing.{times, active_numbers, standing, StandsOnce}
-use Rattle.gw_scan.specs.Step.{entered, destroyed, rests_until, arrives, clock_moves, numbers}
+use Rattle.gw_scan.specs.Changes.{entered, destroyed, rests_until, arrives, waits_for, called_from, clock_moves, numbers}
 use Rattle.gw_scan.proofs.Lists.{times-placed, times-all_behind, times-due}
 
 -- 1 where it is there
@@ -32,14 +33,37 @@ written_here xs n v k e = ap (λ j. one_if (is_some (at None (put None xs n v) j
 written_other : (xs : List (Option Transaction)) (n : ℕ) (v : Option Transaction) (k : ℕ) → k ≢ n → one_if (is_some (at None (put None xs n v) k)) ≡ one_if (is_some (at None xs k))
 written_other xs n v k e = ap (λ o. one_if (is_some o)) (at-put_other None xs n k v e)
 
+-- one of the lists of a table has no more than all of them
+pub times-one : (n : ℕ) (xs : List (List ℕ)) (e : ℕ) → times n (at [] xs e) ≤ sum_by (times n) xs
+times-one n [] e = omega arith
+times-one n (x ∷ xs) zero = omega (arith, sum_by-cons (times n) x xs)
+times-one n (x ∷ xs) (suc e) = omega (arith, sum_by-cons (times n) x xs, times-one n xs e)
+
+-- who stands on no list
+pub record Alone (n : ℕ) (s : State) : Type 0 where
+  pub current_events : times n s.lists.current_events ≡ 0
+  pub future_events : times n (map (λ (e : FutureEvent). e.number) s.lists.future_events) ≡ 0
+  pub delay_lists : (e : ℕ) → times n (delay_list e s) ≡ 0
+
 -- who is active stands on no list
-pub alone : (n : ℕ) (s : State) → s.lists.active ≡ Some n → StandsOnce s → (times n s.lists.current_events ≡ 0) × (times n (map (λ (e : FutureEvent). e.number) s.lists.future_events) ≡ 0)
+pub alone : (n : ℕ) (s : State) → s.lists.active ≡ Some n → StandsOnce s → Alone n s
 alone n s active h =
     let a : times n (active_numbers s.lists.active) ≡ one_if (n == n) + 0 = ap (λ o. times n (active_numbers o)) active in
     let one = same_number n n refl in
     let before : standing s.lists n ≡ one_if (is_some (at None s.transactions n)) = h n in
     let most : one_if (is_some (at None s.transactions n)) ≤ 1 = at_most_one (is_some (at None s.transactions n)) in
-    (omega (arith, a, one, before, most), omega (arith, a, one, before, most))
+    record {
+      current_events = omega (arith, a, one, before, most);
+      future_events = omega (arith, a, one, before, most);
+      delay_lists = λ e. omega (arith, a, one, before, most, times-one n s.lists.delay_lists e);
+    }
+
+-- nobody stands twice on a delay list
+pub waits-once : (n : ℕ) (s : State) → StandsOnce s → (e : ℕ) → times n (delay_list e s) ≤ 1
+waits-once n s h e =
+    let all : standing s.lists n ≡ one_if (is_some (at None s.transactions n)) = h n in
+    let most : one_if (is_some (at None s.transactions n)) ≤ 1 = at_most_one (is_some (at None s.transactions n)) in
+    omega (arith, all, most, times-one n s.lists.delay_lists e)
 
 pub stands-entered : (n : ℕ) (t u : Transaction) (next : ℕ) (s : State) → at None s.transactions n ≡ Some u → StandsOnce s → StandsOnce (entered n t next s)
 stands-entered n t u next s there h k =
@@ -111,3 +135,39 @@ stands-clock time s h k =
     ∙ ap (λ ns. times k ns + times k (map (λ (n : ℕ). n) s.lists.current_events)) (map-same (numbers soon)) ∙ ap (λ ns. times k (numbers soon) + times k ns) (map-same s.lists.current_events) in
     let f = times-due k (λ (e : FutureEvent). e.number) (λ (e : FutureEvent). e.time) time s.lists.future_events in
     omega (arith, before, c, f)
+
+-- DELAY LISTS
+
+-- a list with one more member, behind its peers
+pub times-joined : (k : ℕ) (priority : ℕ → ℤ) (n : ℕ) (xs : List ℕ) → times k (behind priority n xs) ≡ one_if (n == k) + times k xs
+times-joined k priority n xs =
+    ap (times k) (sym (map-same (behind priority n xs))) ∙ times-placed k (λ (m : ℕ). m) (λ m. int_le (priority n) (priority m)) n xs
+    ∙ ap (λ ns. one_if (n == k) + times k ns) (map-same xs)
+
+-- a list that one of its members left
+pub times-without : (k n : ℕ) (xs : List ℕ) → 1 ≤ times n xs → one_if (n == k) + times k (without n xs) ≡ times k xs
+times-without k n [] h = absurd (omega (arith, h))
+times-without k n (x ∷ xs) h =
+    elim (cases_eq x n) [
+      | inl e ↦ let same : without n (x ∷ xs) ≡ xs = rw (eq-eqb x n e) refl in rw (same, e) refl
+      | inr e ↦
+          let other : without n (x ∷ xs) ≡ x ∷ without n xs = rw (ne_eqb x n e) refl in
+          let rest = times-without k n xs (omega (arith, h, other_number x n e)) in
+          rw other (omega (arith, rest))
+    ]
+
+pub stands-waits : (e n : ℕ) (s : State) → s.lists.active ≡ Some n → StandsOnce s → StandsOnce (waits_for e n s)
+stands-waits e n s active h k =
+    let before : standing s.lists k ≡ one_if (is_some (at None s.transactions k)) = h k in
+    let a : times k (active_numbers s.lists.active) ≡ one_if (n == k) + 0 = ap (λ o. times k (active_numbers o)) active in
+    let joined = times-joined k (priority_of s.transactions) n (delay_list e s) in
+    let total = sum_by-put [] (times k) s.lists.delay_lists e (behind (priority_of s.transactions) n (delay_list e s)) refl in
+    omega (arith, before, a, joined, total)
+
+pub stands-called : (e n : ℕ) (s : State) → 1 ≤ times n (delay_list e s) → StandsOnce s → StandsOnce (called_from e n s)
+stands-called e n s there h k =
+    let before : standing s.lists k ≡ one_if (is_some (at None s.transactions k)) = h k in
+    let joined = times-joined k (priority_of s.transactions) n s.lists.current_events in
+    let left = times-without k n (delay_list e s) there in
+    let total = sum_by-put [] (times k) s.lists.delay_lists e (without n (delay_list e s)) refl in
+    omega (arith, before, joined, left, total)

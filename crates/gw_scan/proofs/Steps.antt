@@ -2,7 +2,7 @@
 use Rattle.std.proofs.Common.{◌≡◌, ℕ, ◌+◌, List, Some, None, refl, ap, ◌∙◌}
 use Rattle.gw_object.specs.declared.parts.Block.{Block}
 use Rattle.gw_scan.specs.declared.ends.End.{End}
-use Rattle.gw_scan.specs.declared.ends.Stop.{Stop}
+use Rattle.gw_entities.specs.declared.stop.Stop.{Stop}
 use Rattle.gw_scan.specs.Outcome.{Gives, EndsBy, StopsBy, stop_in}
 use Rattle.gw_scan.specs.State.{State}
 use Rattle.gw_scan.specs.Step.{scan, step, stepped, within_budget}

@@ -4,11 +4,12 @@ use Rattle.std.specs.List.{All, range_with_len}
 use Rattle.gw_object.specs.declared.parts.Parts.{Parts}
 use Rattle.gw_object.specs.Grammar.{HasSpelling}
 use Rattle.gw_verify.specs.Checks.{Checked}
-use Rattle.gw_scan.specs.declared.ends.Stop.{Stop}
+use Rattle.gw_entities.specs.declared.stop.Stop.{Stop}
 use Rattle.gw_scan.specs.Outcome.{stop_in}
 use Rattle.gw_scan.specs.State.{State}
 use Rattle.gw_scan.specs.Step.{step, scan}
 use Rattle.gw_scan.specs.Start.{start}
+use Rattle.gw_scan.specs.Numbers.{IsWithin}
 
 -- what a job runs: the parts of its object, the seeds of the 16 streams, the termination count, and at most how many steps
 pub record Job : Type 0 where
@@ -49,7 +50,7 @@ stop_of j s = stop_in (scan j.parts.blocks s.lists.active s)
 
 -- the start state
 abbrev pub start_of : Job → State
-start_of j = start j.parts.blocks j.count j.streams
+start_of j = start j.parts j.count j.streams
 
 -- one step more, if there is one
 abbrev pub then_step : Job → Option State → Option State
@@ -89,13 +90,8 @@ pub record IsBounded (j : Job) (s : State) : Type 0 where
   -- a running job has steps left, and a count above 0
   pub runs : s.ended ≡ None → s.steps < j.budget
   pub counts : s.ended ≡ None → pos 0 <ℤ s.count
-  -- a step makes no more entries, transactions and arrivals than may live; the start makes one arrival for each block
-  pub entries : sum s.entries ≤ s.steps * 65536
-  pub made : length s.transactions ≤ s.steps * 65536 + 4097
-  pub scheduled : sum s.scheduled ≤ s.steps * 65536 + 4096
-  -- tables of blocks have an entry at each block's number
-  pub entries_table : length s.entries ≡ length j.parts.blocks + 1
-  pub scheduled_table : length s.scheduled ≡ length j.parts.blocks + 1
+  -- a step makes one entry or one waiter at most, and one arrival
+  pub numbers : IsWithin (length j.parts.blocks) (length j.parts.entities) s.steps s.steps s
 
 -- a state that its job reaches: the lone run has it after as many steps
 pub record IsReached (p : Progress) : Type 0 where

@@ -1,10 +1,11 @@
 -- The laws of steps: there is one at most, ends leave the rest as it was, and slices don't matter.
-use Rattle.std.specs.Prelude.{◌≡◌, ◌≢◌, ℕ, zero, suc, ◌+◌, List, [], ◌∷◌, sum, Some, None}
+use Rattle.std.specs.Prelude.{◌≡◌, ◌≢◌, ◌⊎◌, ◌<◌, ℕ, zero, suc, ◌+◌, List, [], ◌∷◌, sum, Some, None}
+use Rattle.gw_entities.specs.declared.stop.Stop.{Stop}
 use Rattle.gw_scan.specs.declared.ends.End.{End}
 use Rattle.gw_scan.specs.declared.ends.End.TheVariants.{Done, Budget}
 use Rattle.gw_scan.specs.State.{State}
 use Rattle.gw_scan.specs.Step.{step}
-use Rattle.gw_scan.specs.Job.{Job, Step, Alone, start_of}
+use Rattle.gw_scan.specs.Job.{Job, Step, IsFinal, IsStuck, stop_of, Alone, start_of}
 
 -- each state has at most one step
 abbrev pub AtMostOneStep : Type 0
@@ -25,6 +26,17 @@ EndsLeaveTheRest = (j : Job) (s t : State) (end : End) → Step j s t → t.ende
 -- the lone run has one state at most after so many steps
 abbrev pub OneLoneState : Type 0
 OneLoneState = (j : Job) (n : ℕ) (s t : State) → Alone j n s → Alone j n t → s ≡ t
+
+-- where a lone run rests: after so many steps a named end stands, or the job is stuck at an error stop
+pub record Rest (j : Job) : Type 0 where
+  pub steps : ℕ
+  pub state : State
+  pub alone : Alone j steps state
+  pub over : IsFinal state ⊎ (IsStuck j state × ((stop : Stop) × (stop_of j state ≡ Some stop)))
+
+-- each job comes to rest
+abbrev pub AllComeToRest : Type 0
+AllComeToRest = (j : Job) → 0 < j.budget → Rest j
 
 -- the state that a slice of so many steps leaves, or of fewer where the job has no further step
 unfoldable pub slice : Job → ℕ → State → State

@@ -1,8 +1,13 @@
 -- WHAT A JOB IS AND DOES
 pub mod State
 pub mod Outcome
+pub mod Times
+pub mod Changes
+pub mod Blocks
 pub mod Step
 pub mod Start
+pub mod Numbers
+pub mod Operands
 pub mod Job
 pub mod Laws
 -- WHAT THE CALLS ANSWER

@@ -1,7 +1,7 @@
 -- What an evaluation, or the effect of a block, comes to.
 use Rattle.std.specs.Prelude.{Bool, true, false, Option, Some, None, Result, Ok, Err}
 use Rattle.gw_scan.specs.declared.ends.End.{End}
-use Rattle.gw_scan.specs.declared.ends.Stop.{Stop}
+use Rattle.gw_entities.specs.declared.stop.Stop.{Stop}
 
 -- a value; or a named end of the job; or an error stop, where the rules have no case
 pub data Outcome (A : Type 0) : Type 0 where

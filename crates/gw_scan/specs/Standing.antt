@@ -1,8 +1,8 @@
 -- Where each transaction stands.
-use Rattle.std.specs.Prelude.{◌≡◌, ℕ, ◌+◌, List, [], ◌∷◌, Option, Some, None, is_some, if◌then◌else◌, ◌==◌}
+use Rattle.std.specs.Prelude.{◌≡◌, ℕ, ◌+◌, sum_by, List, [], ◌∷◌, Option, Some, None, is_some, if◌then◌else◌, ◌==◌}
 use Rattle.gw_num.specs.Table.{at}
 use Rattle.gw_scan.specs.State.{Lists, State}
-use Rattle.gw_scan.specs.Step.{numbers}
+use Rattle.gw_scan.specs.Changes.{numbers}
 
 -- how often a number stands in a list
 abbrev pub times : ℕ → List ℕ → ℕ
@@ -16,7 +16,7 @@ active_numbers (Some n) = n ∷ []
 
 -- how often a number stands among all lists
 abbrev pub standing : Lists → ℕ → ℕ
-standing l n = times n (active_numbers l.active) + times n l.current_events + times n (numbers l.future_events)
+standing l n = times n (active_numbers l.active) + times n l.current_events + times n (numbers l.future_events) + sum_by (times n) l.delay_lists
 
 -- each live transaction stands exactly once, and no other number stands
 abbrev pub StandsOnce : State → Type 0

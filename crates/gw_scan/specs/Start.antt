@@ -1,41 +1,59 @@
 -- The state before the first step.
-use Rattle.std.specs.Prelude.{ℕ, ◌+◌, ℤ, pos, List, [], ◌∷◌, length, replicate, Option, Some, None}
-use Rattle.gw_object.specs.declared.parts.Generate.{Generate}
+use Rattle.std.specs.Prelude.{ℕ, ◌+◌, ℤ, pos, List, [], ◌∷◌, map, length, replicate, Option, Some, None}
+use Rattle.gw_object.specs.declared.parts.Spread.{Spread}
 use Rattle.gw_object.specs.declared.parts.Block.{Block}
 use Rattle.gw_object.specs.declared.parts.Block.TheVariants as blocks
+use Rattle.gw_object.specs.declared.parts.Entity.{Entity}
+use Rattle.gw_object.specs.declared.parts.Parts.{Parts}
+use Rattle.gw_entities.specs.Contents.{empty}
+use Rattle.gw_entities.specs.Facility.{idle}
+use Rattle.gw_entities.specs.Storage.{vacant, capacity_of}
 use Rattle.gw_scan.specs.Outcome.{Outcome, Gives, EndsBy, StopsBy, ◌>>=◌}
-use Rattle.gw_scan.specs.State.{State}
-use Rattle.gw_scan.specs.Step.{drawn_time, moment_after, arrives}
+use Rattle.gw_scan.specs.State.{Goods, State, first_stream, with_stream}
+use Rattle.gw_scan.specs.Times.{drawn_moment}
+use Rattle.gw_scan.specs.Changes.{arrives}
 
--- nothing is scheduled: so many blocks, this termination count, these streams
-abbrev pub nothing : ℕ → ℕ → List ℕ → State
-nothing blocks count streams =
+-- every facility is idle, and every storage and queue is empty
+abbrev pub untouched : List Entity → Goods
+untouched entities =
+    record {
+      facilities = map (λ _. idle) entities;
+      storages = map (λ (e : Entity). vacant (capacity_of e.kind)) entities;
+      queues = map (λ _. empty) entities;
+    }
+
+-- nothing is scheduled: an object, this termination count, these streams
+abbrev pub nothing : Parts → ℕ → List ℕ → State
+nothing parts count streams =
     record {
       clock = pos 0;
       count = pos count;
       steps = 0;
       streams = streams;
-      scheduled = replicate (blocks + 1) 0;
+      scheduled = replicate (length parts.blocks + 1) 0;
       transactions = None ∷ [];
-      lists = record { active = None; current_events = []; future_events = [] };
-      entries = replicate (blocks + 1) 0;
+      lists = record { active = None; current_events = []; future_events = []; delay_lists = replicate (length parts.entities) [] };
+      goods = untouched parts.entities;
+      entries = replicate (length parts.blocks + 1) 0;
       ended = None;
     }
 
--- the time that is given; else what an evaluation comes to
-abbrev pub given_or : Option ℤ → Outcome ℤ → Outcome ℤ
-given_or (Some time) outcome = Gives time
-given_or None outcome = outcome
-
--- when the first arrival of a GENERATE block comes: at the time that the block gives, else after a drawn time
-abbrev pub first_time : Generate → ℤ → Outcome ℤ
-first_time g clock = given_or g.first (moment_after clock (drawn_time g.interval))
+-- when the first arrival of a GENERATE block comes: at the time that the block gives, which draws nothing, else at a drawn moment
+abbrev pub first_moment : Option ℤ → Spread → State → Outcome (ℤ × ℕ)
+first_moment (Some time) interval s = Gives (time, first_stream s)
+first_moment None interval s = drawn_moment interval s.clock (first_stream s)
 
 -- the first arrival of a block, b, if it is a GENERATE
 abbrev pub first_arrival : ℕ → Block → State → Outcome State
-first_arrival b (blocks.Generate g) s = first_time g s.clock >>= λ time. Gives (arrives b g.priority time s)
+first_arrival b (blocks.Generate g) s = first_moment g.first g.interval s >>= λ d. Gives (arrives b g.priority d.0 (with_stream d.1 s))
 first_arrival b (blocks.Terminate by) s = Gives s
 first_arrival b (blocks.Advance time) s = Gives s
+first_arrival b (blocks.Seize f) s = Gives s
+first_arrival b (blocks.Release f) s = Gives s
+first_arrival b (blocks.Enter u) s = Gives s
+first_arrival b (blocks.Leave u) s = Gives s
+first_arrival b (blocks.Queue u) s = Gives s
+first_arrival b (blocks.Depart u) s = Gives s
 
 -- one for each GENERATE, in ascending order; the first of these blocks has the number b
 unfoldable pub first_arrivals : ℕ → List Block → State → Outcome State
@@ -48,6 +66,6 @@ started s (Gives t) = t
 started s (EndsBy end) = record s { ended = Some end }
 started s (StopsBy stop) = s
 
--- the start state of these blocks, this termination count and these streams
-abbrev pub start : List Block → ℕ → List ℕ → State
-start bs count streams = started (nothing (length bs) count streams) (first_arrivals 1 bs (nothing (length bs) count streams))
+-- the start state of an object, this termination count and these streams
+abbrev pub start : Parts → ℕ → List ℕ → State
+start parts count streams = started (nothing parts count streams) (first_arrivals 1 parts.blocks (nothing parts count streams))

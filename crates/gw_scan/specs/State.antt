@@ -1,9 +1,12 @@
 -- The simulation state.
-use Rattle.std.specs.Prelude.{ℕ, ◌+◌, ℤ, pos, List, Option, Some, None, Bool, true, false}
+use Rattle.std.specs.Prelude.{ℕ, ◌+◌, ℤ, pos, List, [], ◌∷◌, Option, Some, None, Bool, true, not, ◌&&◌, ◌==◌, if◌then◌else◌, is_some}
 use Rattle.gw_object.specs.declared.parts.Block.{Block}
-use Rattle.gw_object.specs.declared.parts.Block.TheVariants as blocks
-use Rattle.gw_transactions.specs.declared.Transaction.{Transaction}
+use Rattle.gw_verify.specs.Checks.{is_generate}
 use Rattle.gw_num.specs.Table.{at, put}
+use Rattle.gw_transactions.specs.declared.Transaction.{Transaction}
+use Rattle.gw_entities.specs.declared.facilities.Facility.{Facility}
+use Rattle.gw_entities.specs.declared.storages.Storage.{Storage}
+use Rattle.gw_entities.specs.declared.contents.Contents.{Contents}
 use Rattle.gw_scan.specs.declared.ends.End.{End}
 
 -- a member of the future events chain: a transaction's number, and the clock time that it waits for
@@ -17,6 +20,14 @@ pub record Lists : Type 0 where
   pub active : Option ℕ
   pub current_events : List ℕ
   pub future_events : List FutureEvent
+  -- for each entity, by its number from 0, its delay list
+  pub delay_lists : List (List ℕ)
+
+-- what the entities hold; each table is by the entity's number from 0
+pub record Goods : Type 0 where
+  pub facilities : List Facility
+  pub storages : List Storage
+  pub queues : List Contents
 
 -- the state of a job; a table has an entry at each number, that of a block or of a transaction, from 1
 pub record State : Type 0 where
@@ -33,6 +44,7 @@ pub record State : Type 0 where
   -- the live transactions; a fresh number is the table's length
   pub transactions : List (Option Transaction)
   pub lists : Lists
+  pub goods : Goods
   -- for each block, the entries so far
   pub entries : List ℕ
   -- the named end, if the job has ended
@@ -40,10 +52,7 @@ pub record State : Type 0 where
 
 -- a move may lead here: the block exists and isn't GENERATE
 abbrev pub may_enter : Option Block → Bool
-may_enter None = false
-may_enter (Some (blocks.Generate g)) = false
-may_enter (Some (blocks.Terminate by)) = true
-may_enter (Some (blocks.Advance time)) = true
+may_enter block = is_some block && not (is_generate block)
 
 -- the priority of a transaction, if it is there
 abbrev pub priority_in : Option Transaction → ℤ
@@ -57,3 +66,20 @@ priority_of transactions n = priority_in (at None transactions n)
 -- a table of counts with one more at a number
 abbrev pub raised : ℕ → List ℕ → List ℕ
 raised b counts = put 0 counts b (at 0 counts b + 1)
+
+-- where the first stream is, from which times are drawn
+abbrev pub first_stream : State → ℕ
+first_stream s = at 1 s.streams 0
+
+-- the first stream is now here
+abbrev pub with_stream : ℕ → State → State
+with_stream stream s = record s { streams = put 1 s.streams 0 stream }
+
+-- the delay list of an entity
+abbrev pub delay_list : ℕ → State → List ℕ
+delay_list e s = at [] s.lists.delay_lists e
+
+-- a list without a number, where it stands first
+abbrev pub without : ℕ → List ℕ → List ℕ
+without n [] = []
+without n (m ∷ ms) = if m == n then ms else m ∷ without n ms

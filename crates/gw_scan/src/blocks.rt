@@ -1,124 +1,46 @@
 //! What the active transaction does at its next block.
 
-ghost use Rattle.std.specs.Prelude.{◌≡◌, ◌≤◌, ◌<◌, ◌+◌, ◌^◌, sum, length, vec_len, OnOk, OnErr, IfOk};
+ghost use Rattle.std.specs.Prelude.{◌≡◌, ◌≤◌, ◌<◌, ◌+◌, ◌^◌, true, not, nat_lt, sum, length, vec_len, OnOk, OnErr, IfOk};
 ghost use Rattle.gw_verify.specs.Checks.{block_at};
 ghost use Rattle.gw_num.specs.Table.{at};
-ghost use Rattle.gw_transactions.specs.Transactions.{Holds};
-ghost use Rattle.gw_scan.specs.Outcome.{outcome_of, Gives};
+ghost use Rattle.gw_transactions.specs.Transactions.{Holds, live_count};
+ghost use Rattle.gw_scan.specs.Outcome.{Gives};
 ghost use Rattle.gw_scan.specs.State as state;
-ghost use Rattle.gw_scan.specs.Step as model;
+ghost use Rattle.gw_scan.specs.Changes as change;
+ghost use Rattle.gw_scan.specs.Blocks as model;
 ghost use Rattle.gw_scan.specs.View.{state_of};
-ghost use Rattle.gw_scan.specs.Coherence.{Linked, IsActive};
+ghost use Rattle.gw_scan.specs.Operands.{OperandsFit, UnitsFit};
+ghost use Rattle.gw_chains.specs.Lists.{list_of};
+ghost use Rattle.gw_entities.specs.Facility.{is_idle as is_idle_now};
+ghost use Rattle.gw_scan.specs.Coherence.{Linked, IsActive, IsPassing};
 ghost use Rattle.gw_scan.specs.Makes.{Makes};
 
-use crate::ends::{End, Stop};
+use crate::ends::End;
 use crate::machine::{Machine, Made};
+use crate::times::{drawn_moment, value_of};
+use crate::transfers::block_of;
 use gw_chains::{Memory, Tx};
-use gw_object::{Block, Generate, Operand, Spread};
+use gw_entities::Stop;
+use gw_num::Stream;
+use gw_object::{Block, Generate, Spread, Units};
 use gw_transactions::Transaction;
 
 /// The most live transactions, scheduled arrivals included (ours: docs/machine.md).
 const MOST_LIVE: usize = 65_536;
 
-/// An operand's value.
-pub(crate) fn value_of(operand: Operand) -> i64
-    ensures { result ≡ model.value_of operand }
-{
-    match operand {
-        Operand::Constant(number) => number,
-    }
-}
-
-/// A drawn time, in clock units: the mean, since half the range is 0 so far and nothing is drawn.
-pub(crate) fn drawn_time(spread: Spread) -> i64
-    ensures { result ≡ model.drawn_time spread }
-{
-    value_of(spread.mean)
-}
-
-/// The clock so much later, in clock units. A time below 0, and a moment that an i64 can't hold, are named ends.
-pub(crate) fn moment_after(clock: i64, time: i64) -> Result<i64, End>
-    ensures { outcome_of result ≡ model.moment_after clock time }
-{
-    if time < 0 {
-        return Err(End::NegativeTime);
-    }
-    match clock.checked_add(time) {
-        Some(moment) => Ok(moment),
-        None => Err(End::Number),
-    }
-}
-
 /// Whether a move may lead to the block of this number: it exists and isn't GENERATE.
-fn may_enter(blocks: &[Block], number: u16) -> bool
+pub(crate) fn may_enter(blocks: &[Block], number: u16) -> bool
     ensures { result ≡ state.may_enter (block_at blocks.now number) }
 {
-    if number == 0 {
-        return false;
-    }
-    match blocks.get(number as usize - 1) {
+    match block_of(blocks, number) {
         None => false,
         Some(Block::Generate(_)) => false,
-        Some(Block::Terminate(_)) => true,
-        Some(Block::Advance(_)) => true,
+        Some(_) => true,
     }
 }
 
 impl Machine {
-    /// TERMINATE: the transaction is destroyed, and the termination count falls. Less than 0 is a named end.
-    fn terminate(&mut self, tx: Tx, transaction: Transaction, by: i64) -> Made
-        requires { IsActive self.old tx transaction }
-        ensures made { Makes result (model.terminate tx.number transaction by (state_of self.old)) (state_of self.old) (state_of self.new) }
-        ensures linked { Linked self.new }
-    {
-        if by < 0 {
-            return Made::Ends(End::Number);
-        }
-        self.destroy(tx, transaction);
-        self.count_down(by);
-        Made::Step
-    }
-
-    /// The transaction enters its next block, and rests there until a time.
-    fn pass_until(&mut self, tx: Tx, transaction: Transaction, time: i64) -> Result<(), Memory>
-        requires { IsActive self.old tx transaction }
-        ensures ok { OnOk result (state_of self.new ≡ model.rests_until tx.number time (model.entered tx.number transaction (transaction.next + 1) (state_of self.old))) }
-        ensures err { OnErr result (state_of self.new ≡ state_of self.old) }
-        ensures linked { Linked self.new }
-    {
-        self.reserve_event()?;
-        self.enter(tx, transaction, transaction.next + 1);
-        self.rest_until(tx, time);
-        Ok(())
-    }
-
-    /// ADVANCE: the transaction rests for a time; a time of 0 passes at once.
-    fn advance(
-        &mut self,
-        blocks: &[Block],
-        tx: Tx,
-        transaction: Transaction,
-        time: i64,
-    ) -> Result<Made, Memory>
-        requires { IsActive self.old tx transaction }
-        ensures made { IfOk result (λ made. Makes made (model.advance blocks.now tx.number transaction time (state_of self.old)) (state_of self.old) (state_of self.new)) }
-        ensures err { OnErr result (state_of self.new ≡ state_of self.old) }
-        ensures linked { Linked self.new }
-    {
-        let moment = match moment_after(self.clock, time) {
-            Ok(moment) => moment,
-            Err(end) => return Ok(Made::Ends(end)),
-        };
-        if !may_enter(blocks, transaction.next + 1) {
-            return Ok(Made::Stops(Stop::NoBlock));
-        }
-        if time <= 0 {
-            self.enter(tx, transaction, transaction.next + 1);
-            return Ok(Made::Step);
-        }
-        self.pass_until(tx, transaction, moment)?;
-        Ok(Made::Step)
-    }
+    // TIME
 
     /// Whether one more arrival is owed at a GENERATE block.
     fn owes(&self, block: u16, limit: Option<u32>) -> bool
@@ -131,13 +53,20 @@ impl Machine {
         }
     }
 
+    /// Whether as many transactions live as may.
+    fn is_full(&self) -> bool
+        ensures { result ≡ not (nat_lt (live_count self.now.transactions.txs) 65536) }
+    {
+        self.transactions.live() >= MOST_LIVE
+    }
+
     /// The transaction enters the model by its GENERATE block: its mark time is the clock.
     fn enter_model(&mut self, tx: Tx, transaction: Transaction)
         requires held { Holds self.old.transactions tx }
         requires rank { state.priority_of self.old.transactions.txs tx.number ≡ transaction.priority }
         requires block { (transaction.next < vec_len self.old.entries) × (transaction.next ≤ 4096) }
         requires few { sum self.old.entries.items < 2 ^ 60 }
-        ensures state { state_of self.new ≡ model.entered tx.number (record transaction { mark = self.old.clock }) (transaction.next + 1) (state_of self.old) }
+        ensures state { state_of self.new ≡ model.passes tx.number (record transaction { mark = self.old.clock }) (state_of self.old) }
         ensures linked { Linked self.old → Linked self.new }
     {
         let mut marked = transaction;
@@ -145,29 +74,32 @@ impl Machine {
         self.enter(tx, marked, transaction.next + 1);
     }
 
-    /// GENERATE, with the next arrival at a time.
+    /// GENERATE, with the next arrival at a moment, after which the first stream is here.
     fn generate_and_arrive(
         &mut self,
+        blocks: &[Block],
         tx: Tx,
         transaction: Transaction,
         priority: i32,
-        time: i64,
+        moment: i64,
+        stream: Stream,
     ) -> Result<(), Memory>
-        requires { IsActive self.old tx transaction }
-        ensures ok { OnOk result (state_of self.new ≡ model.entered tx.number (record transaction { mark = self.old.clock }) (transaction.next + 1) (model.arrives transaction.next priority time (state_of self.old))) }
+        requires { IsActive blocks.now self.old tx transaction }
+        ensures ok { OnOk result (state_of self.new ≡ model.passes tx.number (record transaction { mark = self.old.clock }) (change.arrives transaction.next priority moment (state.with_stream stream (state_of self.old)))) }
         ensures err { OnErr result (state_of self.new ≡ state_of self.old) }
         ensures linked { Linked self.new }
     {
         self.reserve_arrival()?;
-        self.arrive(transaction.next, priority, time);
+        self.set_stream(stream);
+        self.arrive(transaction.next, priority, moment);
         self.enter_model(tx, transaction);
         Ok(())
     }
 
     /// GENERATE where no arrival is owed: the transaction enters the model.
     fn generate_last(&mut self, blocks: &[Block], tx: Tx, transaction: Transaction) -> Made
-        requires { IsActive self.old tx transaction }
-        ensures made { Makes result (model.falls blocks.now transaction (Gives (model.entered tx.number (record transaction { mark = self.old.clock }) (transaction.next + 1) (state_of self.old)))) (state_of self.old) (state_of self.new) }
+        requires { IsActive blocks.now self.old tx transaction }
+        ensures made { Makes result (model.falls blocks.now transaction (Gives (model.passes tx.number (record transaction { mark = self.old.clock }) (state_of self.old)))) (state_of self.old) (state_of self.new) }
         ensures linked { Linked self.new }
     {
         if !may_enter(blocks, transaction.next + 1) {
@@ -185,7 +117,7 @@ impl Machine {
         transaction: Transaction,
         g: Generate,
     ) -> Result<Made, Memory>
-        requires { IsActive self.old tx transaction }
+        requires { IsActive blocks.now self.old tx transaction }
         ensures made { IfOk result (λ made. Makes made (model.generate blocks.now tx.number transaction g (state_of self.old)) (state_of self.old) (state_of self.new)) }
         ensures err { OnErr result (state_of self.new ≡ state_of self.old) }
         ensures linked { Linked self.new }
@@ -193,22 +125,275 @@ impl Machine {
         if !self.owes(transaction.next, g.limit) {
             return Ok(self.generate_last(blocks, tx, transaction));
         }
-        let time = match moment_after(self.clock, drawn_time(g.interval)) {
-            Ok(time) => time,
+        let (moment, stream) = match drawn_moment(g.interval, self.clock, self.streams[0]) {
+            Ok(drawn) => drawn,
             Err(end) => return Ok(Made::Ends(end)),
         };
-        if self.transactions.live() >= MOST_LIVE {
+        if self.is_full() {
             return Ok(Made::Ends(End::Live));
         }
         if !may_enter(blocks, transaction.next + 1) {
             return Ok(Made::Stops(Stop::NoBlock));
         }
-        self.generate_and_arrive(tx, transaction, g.priority, time)?;
+        self.generate_and_arrive(blocks, tx, transaction, g.priority, moment, stream)?;
         Ok(Made::Step)
     }
 
+    /// The transaction enters its next block, and rests there until a moment; the first stream is now here.
+    fn pass_until(
+        &mut self,
+        blocks: &[Block],
+        tx: Tx,
+        transaction: Transaction,
+        moment: i64,
+        stream: Stream,
+    ) -> Result<(), Memory>
+        requires { IsActive blocks.now self.old tx transaction }
+        ensures ok { OnOk result (state_of self.new ≡ change.rests_until tx.number moment (model.passes tx.number transaction (state.with_stream stream (state_of self.old)))) }
+        ensures err { OnErr result (state_of self.new ≡ state_of self.old) }
+        ensures linked { Linked self.new }
+    {
+        self.reserve_event()?;
+        self.set_stream(stream);
+        self.enter(tx, transaction, transaction.next + 1);
+        self.rest_until(tx, moment);
+        Ok(())
+    }
+
+    /// ADVANCE: the transaction rests until a drawn moment; one that is now passes at once.
+    fn advance(
+        &mut self,
+        blocks: &[Block],
+        tx: Tx,
+        transaction: Transaction,
+        time: Spread,
+    ) -> Result<Made, Memory>
+        requires { IsActive blocks.now self.old tx transaction }
+        ensures made { IfOk result (λ made. Makes made (model.advance blocks.now tx.number transaction time (state_of self.old)) (state_of self.old) (state_of self.new)) }
+        ensures err { OnErr result (state_of self.new ≡ state_of self.old) }
+        ensures linked { Linked self.new }
+    {
+        let (moment, stream) = match drawn_moment(time, self.clock, self.streams[0]) {
+            Ok(drawn) => drawn,
+            Err(end) => return Ok(Made::Ends(end)),
+        };
+        if !may_enter(blocks, transaction.next + 1) {
+            return Ok(Made::Stops(Stop::NoBlock));
+        }
+        if moment <= self.clock {
+            self.set_stream(stream);
+            self.enter(tx, transaction, transaction.next + 1);
+            return Ok(Made::Step);
+        }
+        self.pass_until(blocks, tx, transaction, moment, stream)?;
+        Ok(Made::Step)
+    }
+
+    // FACILITIES
+
+    /// The transaction waits for an entity that refused it.
+    fn wait_for(
+        &mut self,
+        blocks: &[Block],
+        entity: u16,
+        tx: Tx,
+        transaction: Transaction,
+    ) -> Result<(), Memory>
+        requires active { IsActive blocks.now self.old tx transaction }
+        requires entity { entity < length self.old.facilities.facilities }
+        ensures ok { OnOk result (state_of self.new ≡ change.waits_for entity tx.number (state_of self.old)) }
+        ensures err { OnErr result (state_of self.new ≡ state_of self.old) }
+        ensures linked { Linked self.new }
+    {
+        self.reserve_waiter()?;
+        self.rest_for(entity, tx, transaction.priority);
+        Ok(())
+    }
+
+    /// SEIZE: the transaction owns an idle facility from now on, and waits for one that another owns.
+    fn seize(
+        &mut self,
+        blocks: &[Block],
+        tx: Tx,
+        transaction: Transaction,
+        f: u16,
+    ) -> Result<Made, Memory>
+        requires active { IsActive blocks.now self.old tx transaction }
+        requires there { f < length self.old.facilities.facilities }
+        ensures made { IfOk result (λ made. Makes made (model.seize blocks.now tx.number transaction f (state_of self.old)) (state_of self.old) (state_of self.new)) }
+        ensures err { OnErr result (state_of self.new ≡ state_of self.old) }
+        ensures linked { Linked self.new }
+    {
+        if !may_enter(blocks, transaction.next + 1) {
+            return Ok(Made::Stops(Stop::NoBlock));
+        }
+        match self.seize_facility(f, tx.number) {
+            Ok(true) => self.enter(tx, transaction, transaction.next + 1),
+            Ok(false) => self.wait_for(blocks, f, tx, transaction)?,
+            Err(stop) => return Ok(Made::Stops(stop)),
+        }
+        Ok(Made::Step)
+    }
+
+    /// RELEASE where the facility was given up: the transaction enters, and the facility is handed over.
+    fn pass_and_hand_over(&mut self, blocks: &[Block], tx: Tx, transaction: Transaction, f: u16)
+        requires passing { IsPassing blocks.now self.old tx transaction }
+        requires there { f < length self.old.facilities.facilities }
+        requires idle { is_idle_now (change.facility f (state_of self.old)) ≡ true }
+        requires room { 0 < self.old.current_events.room }
+        ensures state { state_of self.new ≡ model.hand_over blocks.now f (state.delay_list f (state_of self.old)) (model.passes tx.number transaction (state_of self.old)) }
+        ensures linked { Linked self.new }
+    {
+        self.enter(tx, transaction, transaction.next + 1);
+        self.hand_over(blocks, f);
+    }
+
+    /// RELEASE: its owner gives a facility up, and it is handed over.
+    fn release(
+        &mut self,
+        blocks: &[Block],
+        tx: Tx,
+        transaction: Transaction,
+        f: u16,
+    ) -> Result<Made, Memory>
+        requires active { IsActive blocks.now self.old tx transaction }
+        requires there { f < length self.old.facilities.facilities }
+        ensures made { IfOk result (λ made. Makes made (model.release blocks.now tx.number transaction f (state_of self.old)) (state_of self.old) (state_of self.new)) }
+        ensures err { OnErr result (state_of self.new ≡ state_of self.old) }
+        ensures linked { Linked self.new }
+    {
+        if !may_enter(blocks, transaction.next + 1) {
+            return Ok(Made::Stops(Stop::NoBlock));
+        }
+        self.reserve_current(1)?;
+        match self.release_facility(f, tx.number) {
+            Ok(()) => self.pass_and_hand_over(blocks, tx, transaction, f),
+            Err(stop) => return Ok(Made::Stops(stop)),
+        }
+        Ok(Made::Step)
+    }
+
+    // STORAGES
+
+    /// ENTER: units are taken where they are free; else the transaction waits.
+    fn enter_storage(
+        &mut self,
+        blocks: &[Block],
+        tx: Tx,
+        transaction: Transaction,
+        u: Units,
+    ) -> Result<Made, Memory>
+        requires active { IsActive blocks.now self.old tx transaction }
+        requires units { UnitsFit (length self.old.facilities.facilities) u }
+        ensures made { IfOk result (λ made. Makes made (model.enter blocks.now tx.number transaction u (state_of self.old)) (state_of self.old) (state_of self.new)) }
+        ensures err { OnErr result (state_of self.new ≡ state_of self.old) }
+        ensures linked { Linked self.new }
+    {
+        if !may_enter(blocks, transaction.next + 1) {
+            return Ok(Made::Stops(Stop::NoBlock));
+        }
+        match self.take(u) {
+            Ok(true) => self.enter(tx, transaction, transaction.next + 1),
+            Ok(false) => self.wait_for(blocks, u.entity, tx, transaction)?,
+            Err(stop) => return Ok(Made::Stops(stop)),
+        }
+        Ok(Made::Step)
+    }
+
+    /// LEAVE where the units were given back: the transaction enters, and waiters are admitted.
+    fn pass_and_admit(&mut self, blocks: &[Block], tx: Tx, transaction: Transaction, e: u16)
+        requires passing { IsPassing blocks.now self.old tx transaction }
+        requires there { e < length self.old.facilities.facilities }
+        requires room { length (list_of e self.old.waits.waiters) ≤ self.old.current_events.room }
+        ensures state { state_of self.new ≡ model.admission blocks.now e (state.delay_list e (state_of self.old)) (model.passes tx.number transaction (state_of self.old)) }
+        ensures linked { Linked self.new }
+    {
+        self.enter(tx, transaction, transaction.next + 1);
+        self.admit(blocks, e);
+    }
+
+    /// LEAVE: units are given back, and waiters are admitted.
+    fn leave(
+        &mut self,
+        blocks: &[Block],
+        tx: Tx,
+        transaction: Transaction,
+        u: Units,
+    ) -> Result<Made, Memory>
+        requires active { IsActive blocks.now self.old tx transaction }
+        requires units { UnitsFit (length self.old.facilities.facilities) u }
+        ensures made { IfOk result (λ made. Makes made (model.leave blocks.now tx.number transaction u (state_of self.old)) (state_of self.old) (state_of self.new)) }
+        ensures err { OnErr result (state_of self.new ≡ state_of self.old) }
+        ensures linked { Linked self.new }
+    {
+        if !may_enter(blocks, transaction.next + 1) {
+            return Ok(Made::Stops(Stop::NoBlock));
+        }
+        let waiting = self.waiting(u.entity);
+        self.reserve_current(waiting)?;
+        match self.give_back(u) {
+            Ok(()) => self.pass_and_admit(blocks, tx, transaction, u.entity),
+            Err(stop) => return Ok(Made::Stops(stop)),
+        }
+        Ok(Made::Step)
+    }
+
+    // QUEUES
+
+    /// QUEUE: units join a queue.
+    fn join_queue(&mut self, blocks: &[Block], tx: Tx, transaction: Transaction, u: Units) -> Made
+        requires active { IsActive blocks.now self.old tx transaction }
+        requires units { UnitsFit (length self.old.facilities.facilities) u }
+        ensures made { Makes result (model.join_queue blocks.now tx.number transaction u (state_of self.old)) (state_of self.old) (state_of self.new) }
+        ensures linked { Linked self.new }
+    {
+        if !may_enter(blocks, transaction.next + 1) {
+            return Made::Stops(Stop::NoBlock);
+        }
+        self.join(u);
+        self.enter(tx, transaction, transaction.next + 1);
+        Made::Step
+    }
+
+    /// DEPART: units depart from a queue.
+    fn depart(&mut self, blocks: &[Block], tx: Tx, transaction: Transaction, u: Units) -> Made
+        requires active { IsActive blocks.now self.old tx transaction }
+        requires units { UnitsFit (length self.old.facilities.facilities) u }
+        ensures made { Makes result (model.depart blocks.now tx.number transaction u (state_of self.old)) (state_of self.old) (state_of self.new) }
+        ensures linked { Linked self.new }
+    {
+        if !may_enter(blocks, transaction.next + 1) {
+            return Made::Stops(Stop::NoBlock);
+        }
+        match self.depart_units(u) {
+            Ok(()) => self.enter(tx, transaction, transaction.next + 1),
+            Err(stop) => return Made::Stops(stop),
+        }
+        Made::Step
+    }
+
+    // THE END OF A TRANSACTION
+
+    /// TERMINATE: the transaction, which owns nothing, is destroyed, and the termination count falls. Less than 0 is a
+    /// named end.
+    fn terminate(&mut self, blocks: &[Block], tx: Tx, transaction: Transaction, by: i64) -> Made
+        requires { IsActive blocks.now self.old tx transaction }
+        ensures made { Makes result (model.terminate tx.number transaction by (state_of self.old)) (state_of self.old) (state_of self.new) }
+        ensures linked { Linked self.new }
+    {
+        if by < 0 {
+            return Made::Ends(End::Number);
+        }
+        if self.facilities.owns_any(tx.number) {
+            return Made::Stops(Stop::OwnsAtEnd);
+        }
+        self.destroy(tx, transaction);
+        self.count_down(by);
+        Made::Step
+    }
+
     /// What the active transaction does at its next block; on Memory, nothing.
-    #[tactic(auto, unfolding(crate::specs::Step::effect))]
+    #[tactic(auto, unfolding(crate::specs::Blocks::effect))]
     pub fn act(
         &mut self,
         blocks: &[Block],
@@ -216,15 +401,22 @@ impl Machine {
         transaction: Transaction,
         block: Block,
     ) -> Result<Made, Memory>
-        requires { IsActive self.old tx transaction }
+        requires active { IsActive blocks.now self.old tx transaction }
+        requires operands { OperandsFit (length self.old.facilities.facilities) block }
         ensures made { IfOk result (λ made. Makes made (model.effect blocks.now tx.number transaction block (state_of self.old)) (state_of self.old) (state_of self.new)) }
         ensures err { OnErr result (state_of self.new ≡ state_of self.old) }
         ensures linked { Linked self.new }
     {
         match block {
             Block::Generate(g) => self.generate(blocks, tx, transaction, g),
-            Block::Terminate(by) => Ok(self.terminate(tx, transaction, value_of(by))),
-            Block::Advance(time) => self.advance(blocks, tx, transaction, drawn_time(time)),
+            Block::Terminate(by) => Ok(self.terminate(blocks, tx, transaction, value_of(by))),
+            Block::Advance(time) => self.advance(blocks, tx, transaction, time),
+            Block::Seize(f) => self.seize(blocks, tx, transaction, f),
+            Block::Release(f) => self.release(blocks, tx, transaction, f),
+            Block::Enter(units) => self.enter_storage(blocks, tx, transaction, units),
+            Block::Leave(units) => self.leave(blocks, tx, transaction, units),
+            Block::Queue(units) => Ok(self.join_queue(blocks, tx, transaction, units)),
+            Block::Depart(units) => Ok(self.depart(blocks, tx, transaction, units)),
         }
     }
 }

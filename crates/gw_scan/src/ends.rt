@@ -21,10 +21,3 @@ pub enum End {
     /// One more transaction would be more than 65,536 live ones, scheduled arrivals included.
     Live,
 }
-
-/// The error stops: a state that no rule gives a step. The verifier refuses the objects that could come to one.
-#[derive(Clone, Copy, Debug, PartialEq, Eq)]
-pub enum Stop {
-    /// A transaction's next block isn't there, or is a GENERATE block.
-    NoBlock,
-}

@@ -6,6 +6,7 @@ ghost use Rattle.gw_scan.specs.Laws.{
   StepsAreCounted,
   EndsAreFinal,
   EndsLeaveTheRest,
+  AllComeToRest,
   SlicesReachTheSame,
   SlicesAreAlone,
 };
@@ -30,4 +31,10 @@ pub fn ends_leave_the_rest()
 pub fn slices_reach_the_same()
     ensures same { SlicesReachTheSame }
     ensures alone { SlicesAreAlone }
+{}
+
+/// Each job comes to a named end within its budget, or is stuck at an error stop.
+#[tactic(auto, using(crate::proofs::Rests::all_come_to_rest))]
+pub fn all_jobs_come_to_rest()
+    ensures { AllComeToRest }
 {}

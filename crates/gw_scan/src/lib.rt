@@ -2,7 +2,9 @@
 #![tactic(auto)]
 
 mod blocks;
+mod delays;
 mod ends;
+mod entities;
 mod laws;
 mod machine;
 mod scan;
@@ -11,8 +13,13 @@ mod spec;
 mod start;
 #[cfg(test)]
 mod tests;
+mod times;
+mod transfers;
 
-pub use ends::{End, Stop};
-pub use laws::{ends_leave_the_rest, slices_reach_the_same, steps_are_determined};
+pub use ends::End;
+pub use gw_entities::Stop;
+pub use laws::{
+    all_jobs_come_to_rest, ends_leave_the_rest, slices_reach_the_same, steps_are_determined,
+};
 pub use sim::{Sim, Status};
 pub use spec::{Spec, StartFault};

@@ -3,13 +3,15 @@
 ghost use Rattle.std.specs.Prelude.{◌≡◌, ◌≤◌, ◌<◌, ◌+◌, ◌^◌, Some, None, length, vec_len, sum, OnOk, OnErr, pos, ◌<ℤ◌, ◌≤ℤ◌};
 ghost use Rattle.gw_num.specs.Table.{at};
 ghost use Rattle.gw_transactions.specs.Transactions.{Holds};
-ghost use Rattle.gw_scan.specs.State.{priority_of, raised};
-ghost use Rattle.gw_scan.specs.Step as model;
+ghost use Rattle.gw_scan.specs.State.{priority_of, raised, with_stream};
+ghost use Rattle.gw_scan.specs.Changes as model;
 ghost use Rattle.gw_scan.specs.View.{state_of};
 ghost use Rattle.gw_scan.specs.Coherence.{Linked, Carries, Every};
 
-use crate::ends::{End, Stop};
-use gw_chains::{Cec, Fec, Memory, Tx};
+use crate::ends::End;
+use gw_chains::{Cec, Fec, Memory, Tx, Waits};
+use gw_entities::{Facilities, Queues, Stop, Storages};
+use gw_num::Stream;
 use gw_transactions::{Transaction, Transactions};
 
 /// What a call of the machine made.
@@ -34,7 +36,7 @@ pub(crate) struct Machine {
     /// The steps made.
     pub steps: u64,
     /// The streams, from the first on.
-    pub streams: [u32; 16],
+    pub streams: [Stream; 16],
     /// The arrivals scheduled so far, for each GENERATE block.
     pub scheduled: Vec<u64>,
     /// The live transactions, scheduled arrivals included.
@@ -45,6 +47,14 @@ pub(crate) struct Machine {
     pub current_events: Cec,
     /// Who waits for a later time.
     pub future_events: Fec,
+    /// Who waits on the delay list of a facility or storage.
+    pub waits: Waits,
+    /// The facilities, each by its number as an entity.
+    pub facilities: Facilities,
+    /// The storages, each by its number as an entity.
+    pub storages: Storages,
+    /// The queues, each by its number as an entity.
+    pub queues: Queues,
     /// The entries so far, for each block.
     pub entries: Vec<u64>,
     /// The named end, if one stands.
@@ -130,7 +140,7 @@ impl Machine {
         ensures state { state_of self.new ≡ model.arrives block priority time (state_of self.old) }
         ensures linked { Linked self.new }
         ensures carries { Carries Every self.old.transactions self.new.transactions }
-        ensures frame { (self.new.clock ≡ self.old.clock) × (self.new.entries ≡ self.old.entries) }
+        ensures frame { self.new ≡ record self.old { transactions = self.new.transactions; future_events = self.new.future_events; scheduled = self.new.scheduled } }
     {
         let number = self.transactions.next_number();
         let mark = self.clock;
@@ -143,6 +153,15 @@ impl Machine {
         });
         self.future_events.schedule(tx, time);
         raise(&mut self.scheduled, block as usize);
+    }
+
+    /// The first stream is now here.
+    pub fn set_stream(&mut self, stream: Stream)
+        ensures state { state_of self.new ≡ with_stream stream (state_of self.old) }
+        ensures linked { Linked self.old → Linked self.new }
+        ensures frame { self.new ≡ record self.old { streams = self.new.streams } }
+    {
+        self.streams[0] = stream;
     }
 
     /// The termination count falls; where it is then 0 or less, the job is done.

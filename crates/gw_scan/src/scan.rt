@@ -1,16 +1,19 @@
 //! The scan: who is active next, and one step.
 
-ghost use Rattle.std.specs.Prelude.{◌≡◌, ◌≤◌, ◌<◌, ◌+◌, ◌^◌, ℕ, List, [], ◌∷◌, length, OnOk, OnErr, IfOk, IsTrue, false};
+ghost use Rattle.std.specs.Prelude.{◌≡◌, ◌≤◌, ◌<◌, ◌+◌, ◌^◌, ℕ, List, [], ◌∷◌, pos, ◌≤ℤ◌, length, OnOk, OnErr, IfOk, IsTrue, false};
 ghost use Rattle.std.specs.List.{AllByRecursion};
 ghost use Rattle.gw_chains.specs.Chain.{all_behind, due, later};
+ghost use Rattle.gw_scan.specs.Changes as change;
 ghost use Rattle.gw_scan.specs.Step as model;
 ghost use Rattle.gw_scan.specs.View.{state_of, lists_of};
 ghost use Rattle.gw_scan.specs.Coherence.{Linked, IsHeld, IsRunning, ranked};
 ghost use Rattle.gw_scan.specs.Makes.{Makes, MakesStep};
 
-use crate::ends::{End, Stop};
+use crate::ends::End;
 use crate::machine::{Machine, Made};
+use crate::transfers::block_of;
 use gw_chains::{Cec, Fec, Memory};
+use gw_entities::Stop;
 use gw_object::Block;
 use gw_transactions::Transactions;
 
@@ -35,8 +38,9 @@ fn move_due(
 impl Machine {
     /// The clock goes to a time, and all that are due join the current events chain.
     fn move_clock(&mut self, time: i64) -> Result<(), Memory>
-        requires { Linked self.old }
-        ensures ok { OnOk result (state_of self.new ≡ model.clock_moves time (state_of self.old)) }
+        requires linked { Linked self.old }
+        requires later { (pos 0 ≤ℤ self.old.clock) × (self.old.clock ≤ℤ time) }
+        ensures ok { OnOk result (state_of self.new ≡ change.clock_moves time (state_of self.old)) }
         ensures err { OnErr result (state_of self.new ≡ state_of self.old) }
         ensures linked { Linked self.new }
     {
@@ -47,13 +51,17 @@ impl Machine {
             &mut self.current_events,
             time,
         );
+        let passed = time.abs_diff(self.clock);
+        self.facilities.pass_time(passed);
+        self.storages.pass_time(passed);
+        self.queues.pass_time(passed);
         self.clock = time;
         Ok(())
     }
 
     /// Nobody is active: the first of the current events chain becomes so; else the clock moves; else nothing is left.
-    fn next_active(&mut self) -> Result<Made, Memory>
-        requires linked { Linked self.old }
+    fn next_active(&mut self, blocks: &[Block]) -> Result<Made, Memory>
+        requires running { IsRunning blocks.now self.old }
         requires nobody { self.old.active ≡ None }
         ensures made { IfOk result (λ made. Makes made (model.next_active (state_of self.old).lists.current_events (state_of self.old)) (state_of self.old) (state_of self.new)) }
         ensures err { OnErr result (state_of self.new ≡ state_of self.old) }
@@ -90,25 +98,20 @@ impl Machine {
 
     /// What a step does, but for the count of steps.
     fn scan(&mut self, blocks: &[Block]) -> Result<Made, Memory>
-        requires { IsRunning (length blocks.now) self.old }
+        requires { IsRunning blocks.now self.old }
         ensures made { IfOk result (λ made. Makes made (model.scan blocks.now (state_of self.old).lists.active (state_of self.old)) (state_of self.old) (state_of self.new)) }
         ensures err { OnErr result (state_of self.new ≡ state_of self.old) }
         ensures linked { Linked self.new }
     {
         let tx = match self.active {
             Some(tx) => tx,
-            None => return self.next_active(),
+            None => return self.next_active(blocks),
         };
         let transaction = *self.transactions.get(tx);
-        if transaction.next == 0 || transaction.next as usize > blocks.len() {
-            return Ok(Made::Stops(Stop::NoBlock));
+        match block_of(blocks, transaction.next) {
+            Some(block) => self.act(blocks, tx, transaction, block),
+            None => Ok(Made::Stops(Stop::NoBlock)),
         }
-        self.act(
-            blocks,
-            tx,
-            transaction,
-            blocks[transaction.next as usize - 1],
-        )
     }
 
     /// One more step is counted; where it is the last of the budget, the running job ends.
@@ -135,7 +138,7 @@ impl Machine {
 
     /// One step of a running job, or the error stop for which it has none; nothing changes then.
     pub fn step(&mut self, blocks: &[Block], budget: u64) -> Result<Option<Stop>, Memory>
-        requires running { IsRunning (length blocks.now) self.old }
+        requires running { IsRunning blocks.now self.old }
         requires runs { (self.old.ended ≡ None) × (self.old.steps < 2 ^ 60) }
         ensures made { IfOk result (λ stop. MakesStep stop blocks.now budget (state_of self.old) (state_of self.new)) }
         ensures err { OnErr result (state_of self.new ≡ state_of self.old) }

@@ -1,14 +1,16 @@
 //! One job.
 
-ghost use Rattle.std.specs.Prelude.{◌≡◌, sum, IfOk, IfErr, IsOk, OnErr};
+ghost use Rattle.std.specs.Prelude.{◌≡◌, ◌<◌, pos, length, sum, IfOk, IfErr, IsOk, OnErr};
 ghost use Rattle.gw_num.specs.Table.{at};
 ghost use Rattle.gw_transactions.specs.Transactions.{here_count};
+ghost use Rattle.gw_scan.specs.State.{delay_list};
 ghost use Rattle.gw_scan.specs.Job.{Alone, IsFinal, start_of};
 
-use crate::ends::{End, Stop};
+use crate::ends::End;
 use crate::machine::Machine;
 use crate::spec::{Spec, StartFault};
 use gw_chains::Memory;
+use gw_entities::{Facilities, Queues, Stop, Storages};
 use std::alloc::Global;
 use std::marker::Model;
 
@@ -53,8 +55,12 @@ impl Sim {
         ensures started { IfOk result (λ sim. (sim.job ≡ spec) × (sim.state ≡ start_of spec)) }
         ensures refused { IfErr result (λ e. (e.0 ≡ spec) × (e.1 ≡ StartFault.Memory)) }
     {
-        let blocks = spec.verified().object().parts().blocks.as_slice();
-        match Machine::start(alloc, blocks, spec.count(), spec.streams()) {
+        match Machine::start(
+            alloc,
+            spec.verified().object(),
+            spec.count(),
+            spec.streams(),
+        ) {
             Ok(machine) => Ok(Sim { spec, machine }),
             Err(_) => Err((spec, StartFault::Memory)),
         }
@@ -133,6 +139,41 @@ impl Sim {
         ensures { result ≡ here_count block self.now.state.transactions }
     {
         self.machine.transactions.here(block)
+    }
+
+    /// The facilities, each by its number as an entity. The clock units that passed over them are the clock.
+    pub fn facilities(&self) -> &Facilities
+        ensures facilities { result.now.facilities ≡ self.now.state.goods.facilities }
+        ensures count { length result.now.facilities ≡ length self.now.job.parts.entities }
+        ensures clock { pos result.now.passed ≡ self.now.state.clock }
+    {
+        &self.machine.facilities
+    }
+
+    /// The storages, each by its number as an entity. The clock units that passed over them are the clock.
+    pub fn storages(&self) -> &Storages
+        ensures storages { result.now.storages ≡ self.now.state.goods.storages }
+        ensures count { length result.now.storages ≡ length self.now.job.parts.entities }
+        ensures clock { pos result.now.passed ≡ self.now.state.clock }
+    {
+        &self.machine.storages
+    }
+
+    /// The queues, each by its number as an entity. The clock units that passed over them are the clock.
+    pub fn queues(&self) -> &Queues
+        ensures queues { result.now.queues ≡ self.now.state.goods.queues }
+        ensures count { length result.now.queues ≡ length self.now.job.parts.entities }
+        ensures clock { pos result.now.passed ≡ self.now.state.clock }
+    {
+        &self.machine.queues
+    }
+
+    /// How many transactions wait for an entity, by its number from 0: the length of its delay list.
+    pub fn waiting(&self, entity: u16) -> usize
+        requires { entity < length self.now.job.parts.entities }
+        ensures { result ≡ length (delay_list entity self.now.state) }
+    {
+        self.machine.waiting(entity)
     }
 
     /// What it runs, as it was started.

@@ -1,10 +1,11 @@
 //! What a job runs.
 
-ghost use Rattle.std.specs.Prelude.{◌≡◌, nat_le, slice_index_or, IfOk, IfErr, Some, None};
-ghost use Rattle.std.specs.List.{list_all};
+ghost use Rattle.std.specs.Prelude.{◌≡◌, ◌≤◌, ◌<◌, nat_le, slice_index_or, IfOk, IfErr, Some, None};
+ghost use Rattle.std.specs.List.{All, list_all};
 ghost use Rattle.gw_scan.specs.Job as job;
 ghost use Rattle.gw_scan.specs.Making as model;
 
+use gw_num::Stream;
 use gw_object::{GREATEST_SEED, MOST_SEEDS};
 use gw_verify::Verified;
 use std::marker::Model;
@@ -30,7 +31,7 @@ const GREATEST: u64 = 1 << 40;
 #[derive(Debug, Drop)]
 pub struct Spec {
     verified: Verified,
-    streams: [u32; 16],
+    streams: [Stream; 16],
     count: u64,
     budget: u64,
 }
@@ -47,16 +48,30 @@ impl Model for Spec {
     ghost invariant = { IsJob };
 }
 
-/// The seeds of the 16 streams, where these are given.
-fn streams_of(seeds: &[u32]) -> [u32; 16]
+/// The 16 streams, each at its seed, where these are given.
+fn streams_of(seeds: &[u32]) -> [Stream; 16]
+    requires { All (λ seed. seed ≤ 2147483646) seeds.now }
     ensures { result ≡ job.streams_of seeds.now }
 {
-    let mut streams = [0; 16];
+    let mut streams = [stream_at(seeds, 0); 16];
     for i in 0..16 {
-        let given = seed_or_none(seeds, i);
-        streams[i] = if given == 0 { i as u32 + 1 } else { given };
+        streams[i] = stream_at(seeds, i);
     }
     streams
+}
+
+/// The stream at a place, at its seed, where these are given.
+fn stream_at(seeds: &[u32], i: usize) -> Stream
+    requires seeds { All (λ seed. seed ≤ 2147483646) seeds.now }
+    requires place { i < 16 }
+    ensures { result ≡ job.seed_at seeds.now i }
+{
+    let given = seed_or_none(seeds, i);
+    let seed = if given == 0 { i as u32 + 1 } else { given };
+    match Stream::new(seed) {
+        Some(stream) => stream,
+        None => unreachable!(),
+    }
 }
 
 /// The seed at a place, or 0 where there is none.
@@ -143,8 +158,8 @@ impl Spec {
         &self.verified
     }
 
-    /// The seeds of its 16 streams, from the first on.
-    pub(crate) fn streams(&self) -> [u32; 16]
+    /// Its 16 streams, each at its seed, from the first on.
+    pub(crate) fn streams(&self) -> [Stream; 16]
         ensures { result ≡ self.now.streams }
     {
         self.streams

@@ -1,28 +1,37 @@
 //! The state before the first step.
 
 ghost use Rattle.std.specs.Prelude.{◌≡◌, ◌≤◌, ◌<◌, ◌+◌, ◌^◌, length, sum, replicate, IfOk, OnOk};
+ghost use Rattle.gw_object.specs.Grammar.{HasSpelling};
 ghost use Rattle.gw_scan.specs.Outcome.{outcome_of};
+ghost use Rattle.gw_scan.specs.State.{State, first_stream};
 ghost use Rattle.gw_scan.specs.Start as model;
 ghost use Rattle.gw_scan.specs.View.{state_of};
-ghost use Rattle.gw_scan.specs.Coherence.{Linked, Grows};
+ghost use Rattle.gw_scan.specs.Coherence.{Linked};
 ghost use Rattle.gw_scan.specs.Makes.{Schedules};
 
-use crate::blocks::{drawn_time, moment_after};
 use crate::ends::End;
 use crate::machine::Machine;
-use gw_chains::{Cec, Fec, Memory};
-use gw_object::{Block, Generate};
+use crate::times::drawn_moment;
+use gw_chains::{Cec, Fec, Memory, Waits};
+use gw_entities::{Facilities, Queues, Storages};
+use gw_num::Stream;
+use gw_object::{Block, Object, Spread};
 use gw_transactions::Transactions;
 use std::alloc::Global;
 
-/// When the first arrival of a GENERATE block comes, in clock units: at the time that the block gives, else after a
-/// drawn time, which may be a named end.
-fn first_time(g: &Generate, clock: i64) -> Result<i64, End>
-    ensures { outcome_of result ≡ model.first_time g.now clock }
+/// When the first arrival of a GENERATE block comes, in clock units, and where the first stream then is: at the time that
+/// the block gives, which draws nothing, else after a drawn time, which may be a named end.
+fn first_moment(
+    first: Option<i64>,
+    interval: Spread,
+    clock: i64,
+    stream: Stream,
+) -> Result<(i64, Stream), End>
+    ensures { (s : State) → s.clock ≡ clock → first_stream s ≡ stream → outcome_of result ≡ model.first_moment first interval s }
 {
-    match g.first {
-        Some(time) => Ok(time),
-        None => moment_after(clock, drawn_time(g.interval)),
+    match first {
+        Some(time) => Ok((time, stream)),
+        None => drawn_moment(interval, clock, stream),
     }
 }
 
@@ -34,19 +43,23 @@ fn zeros(alloc: Global, n: usize) -> Result<Vec<u64>, Memory>
 }
 
 impl Machine {
-    /// A machine in which nothing is scheduled, for so many blocks.
+    /// A machine in which nothing is scheduled, for the blocks and entities of an object.
     fn nothing(
         alloc: Global,
-        blocks: usize,
+        object: &Object,
         count: u64,
-        streams: [u32; 16],
+        streams: [Stream; 16],
     ) -> Result<Machine, Memory>
-        requires few { (blocks ≤ 4096) × (count ≤ 2 ^ 40) }
-        ensures state { IfOk result (λ m. state_of m ≡ model.nothing blocks count streams) }
+        requires few { count ≤ 2 ^ 40 }
+        ensures state { IfOk result (λ m. state_of m ≡ model.nothing object.now count streams) }
         ensures linked { IfOk result Linked }
     {
+        let blocks = object.parts().blocks.as_slice().len();
         let scheduled = zeros(alloc, blocks + 1)?;
         let entries = zeros(alloc, blocks + 1)?;
+        let facilities = Facilities::new(alloc, object)?;
+        let storages = Storages::new(alloc, object)?;
+        let queues = Queues::new(alloc, object)?;
         Ok(Machine {
             clock: 0,
             count: count as i64,
@@ -57,6 +70,10 @@ impl Machine {
             active: None,
             current_events: Cec::new(alloc),
             future_events: Fec::new(alloc),
+            waits: Waits::new(alloc),
+            facilities,
+            storages,
+            queues,
             entries,
             ended: None,
         })
@@ -69,17 +86,18 @@ impl Machine {
         requires few { (length self.old.transactions.txs < 2 ^ 60) × (sum self.old.scheduled.items < 2 ^ 60) }
         ensures made { IfOk result (λ end. Schedules end (model.first_arrival number block.now (state_of self.old)) (state_of self.new)) }
         ensures linked { OnOk result (Linked self.new) }
-        ensures grows { OnOk result (Grows (state_of self.old) (state_of self.new)) }
+        ensures scheduled { OnOk result ((length self.new.scheduled.items ≡ length self.old.scheduled.items) × (sum self.new.scheduled.items ≤ sum self.old.scheduled.items + 1)) }
+        ensures made_by { OnOk result (length self.new.transactions.txs ≤ length self.old.transactions.txs + 1) }
     {
         let g = match block {
             Block::Generate(g) => g,
-            Block::Terminate(_) => return Ok(None),
-            Block::Advance(_) => return Ok(None),
+            _ => return Ok(None),
         };
-        match first_time(g, self.clock) {
-            Ok(time) => {
+        match first_moment(g.first, g.interval, self.clock, self.streams[0]) {
+            Ok((moment, stream)) => {
                 self.reserve_arrival()?;
-                self.arrive(number, g.priority, time);
+                self.set_stream(stream);
+                self.arrive(number, g.priority, moment);
                 Ok(None)
             }
             Err(end) => Ok(Some(end)),
@@ -106,19 +124,19 @@ impl Machine {
     /// The start state: the first arrivals are scheduled; or a named end stands, and nothing is.
     pub fn start(
         alloc: Global,
-        blocks: &[Block],
+        object: &Object,
         count: u64,
-        streams: [u32; 16],
+        streams: [Stream; 16],
     ) -> Result<Machine, Memory>
-        requires few { (length blocks.now ≤ 4096) × (count ≤ 2 ^ 40) }
-        ensures state { IfOk result (λ m. state_of m ≡ model.start blocks.now count streams) }
+        requires few { count ≤ 2 ^ 40 }
+        ensures state { IfOk result (λ m. state_of m ≡ model.start object.now count streams) }
         ensures linked { IfOk result Linked }
     {
-        let mut machine = Machine::nothing(alloc, blocks.len(), count, streams)?;
-        match machine.first_arrivals(blocks)? {
+        let mut machine = Machine::nothing(alloc, object, count, streams)?;
+        match machine.first_arrivals(object.parts().blocks.as_slice())? {
             None => Ok(machine),
             Some(end) => {
-                let mut ended = Machine::nothing(alloc, blocks.len(), count, streams)?;
+                let mut ended = Machine::nothing(alloc, object, count, streams)?;
                 ended.ended = Some(end);
                 Ok(ended)
             }

@@ -1,1 +1,3 @@
 pub mod Broken
+pub mod BlockByBlock
+pub mod CheckedBlocks

@@ -2,8 +2,13 @@
 #![tactic(auto)]
 
 mod checks;
+pub mod codes;
+mod flow;
+mod kinds;
+pub mod laws;
 mod verified;
 
+pub use kinds::EntityKind;
 pub use verified::{Verified, verify};
 
 #[cfg(test)]

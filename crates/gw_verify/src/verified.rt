@@ -4,7 +4,7 @@ ghost use Rattle.std.specs.Prelude.{◌≡◌, IfOk, IfErr, Some, length, List, 
 ghost use Rattle.gw_object.specs.Grammar.{HasSpelling};
 ghost use Rattle.gw_verify.specs.Checks.{Checked, fault_of, heaviest as heaviest_of};
 
-use crate::checks::check;
+use crate::checks::check_parts;
 use gw_object::{Fault, Object};
 use std::marker::Model;
 
@@ -25,14 +25,15 @@ impl Model for Verified {
     ghost invariant = { λ v. Checked v.object };
 }
 
-/// Accepts an object exactly where every check holds of it; else hands it back with the first fault: kinds (13
-/// EntersGenerate, 14 FallsOff, 15 BadConstant) before flow (25 EdgeState), and block by block (ours: docs/refusals.md).
+/// Accepts an object exactly where every check holds of it; else hands it back with the first fault: kinds (10 WrongKind,
+/// 11 NoEntity, 13 EntersGenerate, 14 FallsOff, 15 BadConstant) before flow (25 EdgeState), and block by block (ours:
+/// docs/refusals.md).
 #[tactic(auto, unfolding(crate::specs::Checks::fault_of))]
 pub fn verify(object: Object) -> Result<Verified, (Object, Fault)>
     ensures accepted { IfOk result (λ v. (v ≡ object) × Checked object) }
     ensures refused { IfErr result (λ e. (e.0 ≡ object) × (fault_of object ≡ Some e.1)) }
 {
-    match check(object.parts()) {
+    match check_parts(object.parts()) {
         Ok(()) => Ok(Verified { object }),
         Err(fault) => Err((object, fault)),
     }

@@ -39,48 +39,37 @@ fn three_entities(alloc: Global) -> Result<Parts, Memory> {
 }
 
 #[test]
-fn three_entities_are_read_and_written_again(rt: HostRuntime) -> Result<(), Fail> {
-    let object = read(rt.alloc(), &THREE_ENTITIES).ok().ok_or("an object")?;
-    assert!(rt; *object.parts() == three_entities(rt.alloc())?);
-    let bytes = write(rt.alloc(), &object)?;
-    assert_eq!(rt; bytes.as_slice(), THREE_ENTITIES.as_slice());
-    Ok(())
-}
-
-#[test]
-fn built_entities_are_written(rt: HostRuntime) -> Result<(), Fail> {
-    let object = Object::build(three_entities(rt.alloc())?)
-        .ok()
-        .ok_or("parts that have a spelling")?;
-    let bytes = write(rt.alloc(), &object)?;
-    assert_eq!(rt; bytes.as_slice(), THREE_ENTITIES.as_slice());
+fn three_entities_are_read_built_and_written(rt: HostRuntime) -> Result<(), Fail> {
+    let alloc = rt.alloc();
+    let parts = three_entities(alloc)?;
+    assert!(rt; are_read_as(alloc, &THREE_ENTITIES, &parts)?);
+    assert!(rt; are_built_as(alloc, parts, &THREE_ENTITIES)?);
     Ok(())
 }
 
 #[test]
 fn entities_of_other_names_kinds_or_capacities_differ(rt: HostRuntime) -> Result<(), Fail> {
-    let alloc = rt.alloc();
-    assert!(rt; entity(alloc, Kind::Storage(3), b"S")? == entity(alloc, Kind::Storage(3), b"S")?);
-    assert!(rt; entity(alloc, Kind::Storage(3), b"S")? != entity(alloc, Kind::Storage(4), b"S")?);
-    assert!(rt; entity(alloc, Kind::Facility, b"S")? != entity(alloc, Kind::Queue, b"S")?);
-    assert!(rt; entity(alloc, Kind::Queue, b"S")? != entity(alloc, Kind::Queue, b"S1")?);
+    let cases: [(Kind, &[u8], bool); 5] = [
+        (Kind::Storage(3), b"S", true),
+        (Kind::Storage(4), b"S", false),
+        (Kind::Queue, b"S", false),
+        (Kind::Storage(3), b"T", false),
+        (Kind::Storage(3), b"S1", false),
+    ];
+    let storage = entity(rt.alloc(), Kind::Storage(3), b"S")?;
+    for (kind, name, is_same) in cases {
+        let other = entity(rt.alloc(), kind, name)?;
+        assert_eq!(rt; storage == other, is_same);
+    }
     Ok(())
 }
 
 #[test]
 fn each_cut_of_entities_is_truncated_at_the_cut_field(rt: HostRuntime) {
-    let mut field = 0;
-    for len in 0_u32..42 {
-        if ENTITY_FIELDS.contains(&len) {
-            field = len;
-        }
-        let (cut, _) = THREE_ENTITIES.split_at(len as usize);
-        assert_eq!(rt;
-            refusal(rt.alloc(), cut),
-            at(TRUNCATED, field),
-            "cut at {len}"
-        );
-    }
+    assert_eq!(rt;
+        wrong_cut(rt.alloc(), &THREE_ENTITIES, &ENTITY_FIELDS),
+        None
+    );
 }
 
 #[test]
@@ -149,46 +138,34 @@ fn added_code(alloc: Global, kind: Kind, name: &[u8]) -> Result<Option<u16>, Mem
 
 #[test]
 fn entities_outside_the_rules_are_not_built(rt: HostRuntime) -> Result<(), Fail> {
-    let alloc = rt.alloc();
-    assert_eq!(rt; added_code(alloc, Kind::Storage(1), b"DESK_1")?, None);
-    assert_eq!(rt;
-        added_code(alloc, Kind::Storage(2_147_483_647), &[b'Z'; 32])?,
-        None
-    );
-    assert_eq!(rt; added_code(alloc, Kind::Queue, b"desk")?, Some(TAG));
-    assert_eq!(rt; added_code(alloc, Kind::Queue, b"")?, Some(LIMIT));
-    assert_eq!(rt; added_code(alloc, Kind::Queue, &[b'Z'; 33])?, Some(LIMIT));
-    assert_eq!(rt; added_code(alloc, Kind::Storage(0), b"T")?, Some(LIMIT));
-    assert_eq!(rt;
-        added_code(alloc, Kind::Storage(2_147_483_648), b"T")?,
-        Some(LIMIT)
-    );
-    assert_eq!(rt;
-        added_code(alloc, Kind::Queue, b"DESK_1")?,
-        Some(NOT_CANONICAL)
-    );
-    assert_eq!(rt;
-        added_code(alloc, Kind::Storage(4), b"S")?,
-        Some(NOT_CANONICAL)
-    );
+    let cases: [(Kind, &[u8], Option<u16>); 11] = [
+        (Kind::Storage(1), b"DESK_1", None),
+        (Kind::Storage(2_147_483_647), &[b'Z'; 32], None),
+        (Kind::Queue, b"desk", Some(TAG)),
+        (Kind::Queue, b"", Some(LIMIT)),
+        (Kind::Queue, &[b'Z'; 33], Some(LIMIT)),
+        (Kind::Storage(0), b"T", Some(LIMIT)),
+        (Kind::Storage(2_147_483_648), b"T", Some(LIMIT)),
+        (Kind::Queue, b"DESK_1", Some(NOT_CANONICAL)),
+        (Kind::Storage(4), b"S", Some(NOT_CANONICAL)),
+        // A capacity of 0, with a letter that isn't listed, and with a name that is taken.
+        (Kind::Storage(0), b"s", Some(TAG)),
+        (Kind::Storage(0), b"S", Some(LIMIT)),
+    ];
+    for (kind, name, code) in cases {
+        assert_eq!(rt; added_code(rt.alloc(), kind, name)?, code);
+    }
     Ok(())
 }
 
 #[test]
-fn the_lowest_code_anywhere_in_the_parts_is_named(rt: HostRuntime) -> Result<(), Fail> {
+fn a_letter_is_named_before_the_count_and_the_seeds(rt: HostRuntime) -> Result<(), Fail> {
     let alloc = rt.alloc();
-    // A letter that isn't listed and a capacity of 0; a capacity of 0 and a name that is taken; then a letter,
-    // the count and the seeds.
-    assert_eq!(rt; added_code(alloc, Kind::Storage(0), b"s")?, Some(TAG));
-    assert_eq!(rt; added_code(alloc, Kind::Storage(0), b"S")?, Some(LIMIT));
     let mut parts = three_entities(alloc)?;
     parts.count = 0;
     parts.seeds = Items::from_vec(Vec::from_slice(alloc, &[0])?);
     parts.entities = Items::from_vec(vec![in alloc; entity(alloc, Kind::Queue, b"a")?]?);
-    let (again, fault) = Object::build(parts).err().ok_or("a lower-case letter")?;
-    assert_eq!(rt; fault.code, TAG);
-    assert_eq!(rt; fault.place, Place::Nowhere);
-    assert_eq!(rt; again.entities.as_slice().len(), 1);
+    assert_eq!(rt; build_code(parts), Some(TAG));
     Ok(())
 }
 

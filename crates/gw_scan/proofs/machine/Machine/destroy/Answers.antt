@@ -6,4 +6,4 @@ pub returns-clause-state : goal.returns-clause-state
 returns-clause-state c = search rules
 
 pub returns-clause-linked : goal.returns-clause-linked
-returns-clause-linked c = linked-destroyed c.args.self.now _ c.args.tx c.args.transaction c.remove.ensures.txs c.remove.ensures.places c.remove.ensures.sound c.requires.active refl refl refl (returns-clause-state c) c.requires.held c.requires.linked
+returns-clause-linked c = linked-destroyed c.args.self.now _ c.args.tx c.args.transaction c.remove.ensures.txs c.remove.ensures.places c.remove.ensures.sound c.requires.active refl refl refl (record { waits = refl; facilities = refl; storages = refl; queues = refl; clock = refl }) (returns-clause-state c) c.requires.held c.requires.linked

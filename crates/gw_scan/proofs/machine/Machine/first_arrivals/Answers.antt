@@ -11,9 +11,9 @@ pub loop-i-preserved : goal.loop-i-preserved
 loop-i-preserved c = record {
   made = continues c.args.blocks.now (state_of c.loop-i.self) c.loop-i.i _ c.loop-i-test.true c.in_ok-end.end (state_of c.first_arrival.new.self) _ (sym c.if-is_some.ensures) c.in_ok-end.ensures.made c.loop-i.invariant.made;
   linked = c.in_ok-end.ensures.linked;
-  table = omega (arith, c.in_ok-end.ensures.grows.table);
-  txs = omega (arith, c.in_ok-end.ensures.grows.made);
-  scheduled = omega (arith, c.in_ok-end.ensures.grows.scheduled);
+  table = omega (arith, c.in_ok-end.ensures.scheduled.0);
+  txs = omega (arith, c.in_ok-end.ensures.made_by);
+  scheduled = omega (arith, c.in_ok-end.ensures.scheduled.1);
 }
 
 pub returns-clause-made : goal.returns-clause-made

@@ -1,4 +1,7 @@
-use Rattle.std.proofs.Common.{rules, ◌≡◌, None}
+use Rattle.std.proofs.Common.{rules, ◌≡◌, List, None, sym, subst}
+use Rattle.gw_object.specs.declared.parts.Block.{Block}
+use Rattle.gw_scan.specs.Coherence.{IsRunning}
+use Rattle.gw_scan.proofs.Running.{running}
 use Rattle.gw_scan.specs.Job.{Step}
 use Rattle.gw_scan.specs.View.{state_of}
 use Rattle.gw_scan.proofs.Reached.{reached_more}
@@ -15,3 +18,9 @@ invariant_of-self-in-None c = record {
   reached = reached_more c.self.inside.spec (state_of c.self.inside.machine) (state_of c.step.new.self) c.self.invariant.reached (runs c) (makes c);
   linked = c.in_ok-stop.ensures.linked;
 }
+
+pub step-requires-clause-running : goal.step-requires-clause-running
+step-requires-clause-running c =
+    let blocks : c.as_slice-blocks.result.now ≡ c.self.inside.spec.parts.blocks = search rules in
+    let runs : c.self.inside.machine.ended ≡ None = search rules in
+    subst (λ (bs : List Block). IsRunning bs c.self.inside.machine) (sym blocks) (running c.self.inside.spec c.self.inside.machine c.self.invariant.reached c.self.invariant.linked runs)

@@ -1,0 +1,95 @@
+use super::*;
+
+/// `ADVANCE 10,5 / ADVANCE 0,-1`, then SEIZE of entity 0, RELEASE of 65535, ENTER of 2 units of 1, LEAVE of
+/// none of 1, QUEUE of 4294967295 of 1024 and DEPART of 1450744508 of 4660; no entities, no states, weights 1.
+const EIGHT_BLOCKS: [u8; 131] = [
+    0x47, 0x50, 0x53, 0x4f, 0x00, 0x01, 0x00, 0x00, 0x00, 0x00, 0x00, 0x00, 0x00, 0x00, 0x01, 0x00,
+    0x00, 0x08, 0x03, 0x00, 0x00, 0x00, 0x00, 0x00, 0x00, 0x00, 0x00, 0x0a, 0x00, 0x00, 0x00, 0x00,
+    0x00, 0x00, 0x00, 0x00, 0x05, 0x03, 0x00, 0x00, 0x00, 0x00, 0x00, 0x00, 0x00, 0x00, 0x00, 0x00,
+    0xff, 0xff, 0xff, 0xff, 0xff, 0xff, 0xff, 0xff, 0x04, 0x00, 0x00, 0x05, 0xff, 0xff, 0x06, 0x00,
+    0x01, 0x00, 0x00, 0x00, 0x02, 0x07, 0x00, 0x01, 0x00, 0x00, 0x00, 0x00, 0x08, 0x04, 0x00, 0xff,
+    0xff, 0xff, 0xff, 0x09, 0x12, 0x34, 0x56, 0x78, 0x9a, 0xbc, 0x00, 0x00, 0x00, 0x00, 0x00, 0x00,
+    0x00, 0x00, 0x00, 0x00, 0x00, 0x00, 0x01, 0x00, 0x00, 0x00, 0x01, 0x00, 0x00, 0x00, 0x01, 0x00,
+    0x00, 0x00, 0x01, 0x00, 0x00, 0x00, 0x01, 0x00, 0x00, 0x00, 0x01, 0x00, 0x00, 0x00, 0x01, 0x00,
+    0x00, 0x00, 0x01,
+];
+
+/// The first byte of each field of the eight blocks.
+const BLOCK_FIELDS: [u32; 50] = [
+    0, 4, 6, 7, 15, 16, 17, 18, 19, 20, 28, 29, 37, 38, 39, 47, 48, 56, 57, 59, 60, 62, 63, 65, 69,
+    70, 72, 76, 77, 79, 83, 84, 86, 90, 91, 92, 93, 94, 95, 96, 97, 98, 99, 103, 107, 111, 115,
+    119, 123, 127,
+];
+
+fn eight_blocks(alloc: Global) -> Result<Parts, Memory> {
+    let units = |entity, number| Units { entity, number };
+    let blocks = [
+        Block::Advance(constant_time(10, 5)),
+        Block::Advance(constant_time(0, -1)),
+        Block::Seize(0),
+        Block::Release(65_535),
+        Block::Enter(units(1, 2)),
+        Block::Leave(units(1, 0)),
+        Block::Queue(units(1_024, 4_294_967_295)),
+        Block::Depart(units(4_660, 1_450_744_508)),
+    ];
+    Ok(Parts {
+        seeds: Items::from_vec(Vec::new(alloc)),
+        count: 1,
+        entities: Items::from_vec(Vec::new(alloc)),
+        blocks: Items::from_vec(Vec::from_slice(alloc, &blocks)?),
+        states: Items::from_vec(vec![in alloc; None; 8]?),
+        weights: Items::from_vec(vec![in alloc; 1; 8]?),
+    })
+}
+
+#[test]
+fn eight_blocks_are_read_built_and_written(rt: HostRuntime) -> Result<(), Fail> {
+    let alloc = rt.alloc();
+    let parts = eight_blocks(alloc)?;
+    assert!(rt; are_read_as(alloc, &EIGHT_BLOCKS, &parts)?);
+    assert!(rt; are_built_as(alloc, parts, &EIGHT_BLOCKS)?);
+    Ok(())
+}
+
+#[test]
+fn blocks_of_other_words_entities_or_units_differ(rt: HostRuntime) {
+    let units = |entity, number| Units { entity, number };
+    assert!(rt; Block::Enter(units(1, 2)) == Block::Enter(units(1, 2)));
+    assert!(rt; Block::Enter(units(1, 2)) != Block::Leave(units(1, 2)));
+    assert!(rt; Block::Enter(units(1, 2)) != Block::Enter(units(2, 2)));
+    assert!(rt; Block::Enter(units(1, 2)) != Block::Enter(units(1, 1)));
+    assert!(rt; Block::Seize(1) != Block::Release(1));
+    assert!(rt; Block::Seize(1) != Block::Seize(2));
+}
+
+#[test]
+fn each_cut_of_blocks_is_truncated_at_the_cut_field(rt: HostRuntime) {
+    assert_eq!(rt; wrong_cut(rt.alloc(), &EIGHT_BLOCKS, &BLOCK_FIELDS), None);
+}
+
+#[test]
+fn each_fault_of_a_block_is_named_by_its_code_and_place(rt: HostRuntime) -> Result<(), Fail> {
+    // The place of the byte that is replaced, the byte in its place, and the refusal.
+    let faults: [(usize, u8, u16, u32); 8] = [
+        (18, 0x00, TAG, 18),
+        (18, 0x0a, TAG, 18),
+        (28, 0x01, TAG, 28),
+        (56, 0x0a, TAG, 56),
+        // A SEIZE that is called ENTER takes four bytes more: 05 and ff ff of the RELEASE, and the 06.
+        (56, 0x06, TAG, 63),
+        // An ENTER that is called SEIZE takes four bytes less: 00 stands where a tag is due.
+        (62, 0x04, TAG, 65),
+        (90, 0x01, LIMIT, 90),
+        (91, 0x02, TAG, 91),
+    ];
+    for (place, byte, code, at_byte) in faults {
+        let bytes = changed(rt.alloc(), &EIGHT_BLOCKS, place, 1, &[byte])?;
+        assert_eq!(rt;
+            refusal(rt.alloc(), &bytes),
+            at(code, at_byte),
+            "at {place}"
+        );
+    }
+    Ok(())
+}

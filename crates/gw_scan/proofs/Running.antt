@@ -1,0 +1,35 @@
+-- A running sim has a running machine.
+use Rattle.std.proofs.Common.{◌≡◌, ℕ, ◌^◌, ◌<◌, ◌≤◌, List, length, None, refl, sym, ap, ◌∙◌, subst, arith}
+use Rattle.gw_object.specs.declared.parts.Block.{Block}
+use Rattle.gw_scan.specs.declared.machine.Machine.{Machine}
+use Rattle.gw_scan.specs.State.{delay_list}
+use Rattle.gw_scan.specs.Numbers.{IsWithin}
+use Rattle.gw_scan.specs.Operands.{BlocksFit}
+use Rattle.gw_scan.specs.Job.{Job, IsReached}
+use Rattle.gw_scan.specs.View.{state_of, member_number}
+use Rattle.gw_scan.specs.Coherence.{Linked, IsRunning}
+use Rattle.gw_chains.specs.Lists.{list_of}
+use Rattle.std.proofs.lemmas.List.{length-map}
+use Rattle.gw_scan.proofs.Operands.{blocks_fit}
+use Rattle.gw_scan.proofs.Changes.{delay_list-at}
+
+pub running : (j : Job) (m : Machine) → IsReached (record { job = j; state = state_of m }) → Linked m → m.ended ≡ None → IsRunning j.parts.blocks m
+running j m r linked runs =
+    let numbers = r.bounded.numbers in
+    let entities : length m.facilities.facilities ≡ length j.parts.entities = numbers.whole.facilities in
+    let few : m.steps < 2 ^ 41 = omega (arith, r.bounded.steps, r.fits.budget_most) in
+    record {
+      steady = record {
+        linked = linked;
+        fit = subst (λ (n : ℕ). BlocksFit n j.parts.blocks) (sym entities) (blocks_fit j.parts r.fits.checked r.fits.spelled);
+        within = subst (λ (n : ℕ). IsWithin (length j.parts.blocks) n m.steps m.steps (state_of m)) (sym entities) numbers;
+        few = omega (arith, few);
+      };
+      few = few;
+      runs = r.bounded.counts runs;
+    }
+
+pub waiting-of : (j : Job) (m : Machine) (e : ℕ) → IsReached (record { job = j; state = state_of m }) → e < length j.parts.entities → length (list_of e m.waits.waiters) ≡ length (delay_list e (state_of m))
+waiting-of j m e r below =
+    let entities : length m.facilities.facilities ≡ length j.parts.entities = r.bounded.numbers.whole.facilities in
+    sym (ap length (delay_list-at m e (omega (arith, entities, below))) ∙ length-map (list_of e m.waits.waiters) member_number)

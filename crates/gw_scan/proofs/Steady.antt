@@ -1,0 +1,94 @@
+-- A steady machine through the changes of one block.
+use Rattle.std.proofs.Common.{◌≡◌, ℕ, suc, ◌+◌, ◌^◌, ◌≤◌, ◌<◌, List, length, Some, None, true, refl, sym, ap, ◌∙◌, subst, arith}
+use Rattle.gw_object.specs.declared.parts.Units.{Units}
+use Rattle.gw_object.specs.declared.parts.Block.{Block}
+use Rattle.gw_chains.specs.declared.tx.Tx.{Tx}
+use Rattle.gw_num.specs.Table.{at}
+use Rattle.gw_num.proofs.Tables.{at-put, at_some}
+use Rattle.gw_transactions.specs.declared.Transaction.{Transaction}
+use Rattle.gw_entities.specs.Facility.{idle, is_idle, released}
+use Rattle.gw_entities.specs.Table.{FacilityTable}
+use Rattle.gw_scan.specs.declared.machine.Machine.{Machine}
+use Rattle.gw_scan.specs.State.{State}
+use Rattle.gw_scan.specs.Changes.{facility, releases, gives_back}
+use Rattle.gw_scan.specs.Blocks.{passes}
+use Rattle.gw_scan.specs.Numbers.{IsWithin}
+use Rattle.gw_scan.specs.View.{state_of}
+use Rattle.gw_scan.specs.Coherence.{Linked, IsSteady, IsActive, IsPassing}
+use Rattle.gw_scan.proofs.Within.{raises-same, within-entered, within-more}
+use Rattle.gw_scan.proofs.Follows.{within-released, within-given_back}
+
+-- a machine whose state keeps its numbers, and whose entities are as many as before
+pub steady-now : (bs : List Block) (k l : ℕ) (m new : Machine) → IsSteady bs k m → l ≤ k + 1 → length new.facilities.facilities ≡ length m.facilities.facilities → Linked new → IsWithin (length bs) (length m.facilities.facilities) l l (state_of new) → l ≤ 2 ^ 41 → IsSteady bs l new
+steady-now bs k l m new s le count linked within few = record {
+  linked = linked;
+  fit = rw count s.fit;
+  within = subst (λ (n : ℕ). IsWithin (length bs) n l l (state_of new)) (sym count) within;
+  few = few;
+}
+
+-- the transaction has entered
+pub steady-entered : (bs : List Block) (m new : Machine) (tx : Tx) (t : Transaction) → IsSteady bs m.steps m → m.steps < 2 ^ 41 → t.next ≤ length bs → at None m.transactions.txs tx.number ≡ Some t
+    → state_of new ≡ passes tx.number t (state_of m) → new.facilities ≡ m.facilities → Linked new → IsSteady bs (m.steps + 1) new
+steady-entered bs m new tx t s few block live is fac linked =
+    let es = length m.facilities.facilities in
+    let w = within-entered (length bs) es m.steps m.steps (state_of m) s.within tx.number t (t.next + 1) (state_of m).goods block (at_some m.transactions.txs tx.number t live) (raises-same (state_of m).goods) in
+    let e : suc m.steps ≡ m.steps + 1 = omega arith in
+    let v = within-more (length bs) es (suc m.steps) m.steps (passes tx.number t (state_of m)) w (m.steps + 1) (m.steps + 1) (omega arith) (omega arith) in
+    steady-now bs m.steps (m.steps + 1) m new s (omega arith) (ap (λ (f : FacilityTable). length f.facilities) fac) linked
+    (subst (λ (x : State). IsWithin (length bs) es (m.steps + 1) (m.steps + 1) x) (sym is) v) (omega (arith, few))
+
+-- a facility was given up
+pub steady-released : (bs : List Block) (k : ℕ) (m new : Machine) (f : ℕ) → IsSteady bs k m → f < length m.facilities.facilities → state_of new ≡ releases f (state_of m) → length new.facilities.facilities ≡ length m.facilities.facilities → Linked new → IsSteady bs k new
+steady-released bs k m new f s here is count linked =
+    steady-now bs k k m new s (omega arith) count linked
+    (subst (λ (x : State). IsWithin (length bs) (length m.facilities.facilities) k k x) (sym is) (within-released (length bs) (length m.facilities.facilities) k k (state_of m) s.within f here)) s.few
+
+-- units were given back
+pub steady-given_back : (bs : List Block) (k : ℕ) (m new : Machine) (u : Units) → IsSteady bs k m → u.entity < length m.facilities.facilities → state_of new ≡ gives_back u (state_of m) → new.facilities ≡ m.facilities → Linked new → IsSteady bs k new
+steady-given_back bs k m new u s here is fac linked =
+    steady-now bs k k m new s (omega arith) (ap (λ (f : FacilityTable). length f.facilities) fac) linked
+    (subst (λ (x : State). IsWithin (length bs) (length m.facilities.facilities) k k x) (sym is) (within-given_back (length bs) (length m.facilities.facilities) k k (state_of m) s.within u here)) s.few
+
+-- nothing but room changed
+pub steady-same : (bs : List Block) (k : ℕ) (m new : Machine) → IsSteady bs k m → state_of new ≡ state_of m → new.facilities ≡ m.facilities → Linked new → IsSteady bs k new
+steady-same bs k m new s is fac linked =
+    steady-now bs k k m new s (omega arith) (ap (λ (f : FacilityTable). length f.facilities) fac) linked
+    (subst (λ (x : State). IsWithin (length bs) (length m.facilities.facilities) k k x) (sym is) s.within) s.few
+
+-- ONE BLOCK
+
+-- the block of the active transaction has changed an entity
+pub passing-from : (bs : List Block) (m new : Machine) (tx : Tx) (t : Transaction) → IsActive bs m tx t → new.steps ≡ m.steps → new.transactions ≡ m.transactions → IsSteady bs m.steps new → IsPassing bs new tx t
+passing-from bs m new tx t a steps ts steady = record {
+  steady = subst (λ k. IsSteady bs k new) (sym steps) steady;
+  few = rw steps a.few;
+  held = rw ts a.held;
+  found = rw ts a.found;
+  next = a.next;
+}
+
+pub passing-released : (bs : List Block) (m mid new : Machine) (tx : Tx) (t : Transaction) (f : ℕ) → IsActive bs m tx t → f < length m.facilities.facilities
+    → state_of mid ≡ state_of m → Linked mid → mid ≡ record m { current_events = mid.current_events }
+    → state_of new ≡ releases f (state_of mid) → Linked new → new ≡ record mid { facilities = new.facilities } → length new.facilities.facilities ≡ length mid.facilities.facilities → IsPassing bs new tx t
+passing-released bs m mid new tx t f a here same linked frame is linked_new frame_new count =
+    let fac : mid.facilities ≡ m.facilities = ap (λ (x : Machine). x.facilities) frame in
+    let steady = steady-same bs m.steps m mid a.steady same fac linked in
+    passing-from bs m new tx t a
+    (ap (λ (x : Machine). x.steps) frame_new ∙ ap (λ (x : Machine). x.steps) frame)
+    (ap (λ (x : Machine). x.transactions) frame_new ∙ ap (λ (x : Machine). x.transactions) frame)
+    (steady-released bs m.steps mid new f steady (rw fac here) is count linked_new)
+
+pub passing-given_back : (bs : List Block) (m mid new : Machine) (tx : Tx) (t : Transaction) (u : Units) → IsActive bs m tx t → u.entity < length m.facilities.facilities
+    → state_of mid ≡ state_of m → Linked mid → mid ≡ record m { current_events = mid.current_events }
+    → state_of new ≡ gives_back u (state_of mid) → Linked new → new ≡ record mid { storages = new.storages } → IsPassing bs new tx t
+passing-given_back bs m mid new tx t u a here same linked frame is linked_new frame_new =
+    let fac : mid.facilities ≡ m.facilities = ap (λ (x : Machine). x.facilities) frame in
+    let steady = steady-same bs m.steps m mid a.steady same fac linked in
+    passing-from bs m new tx t a
+    (ap (λ (x : Machine). x.steps) frame_new ∙ ap (λ (x : Machine). x.steps) frame)
+    (ap (λ (x : Machine). x.transactions) frame_new ∙ ap (λ (x : Machine). x.transactions) frame)
+    (steady-given_back bs m.steps mid new u steady (rw fac here) is (ap (λ (x : Machine). x.facilities) frame_new) linked_new)
+
+pub idle-released : (f : ℕ) (s : State) → is_idle (facility f (releases f s)) ≡ true
+idle-released f s = ap is_idle (at-put idle s.goods.facilities f (released (facility f s)))

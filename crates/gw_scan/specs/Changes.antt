@@ -1,0 +1,155 @@
+-- The elementary changes of a state.
+use Rattle.std.specs.Prelude.{ℕ, ◌+◌, ℤ, pos, ◌-ℤ◌, unsigned_abs, List, [], map, length, Option, Some, None, if◌then◌else◌, int_lt}
+use Rattle.gw_object.specs.declared.parts.Units.{Units}
+use Rattle.gw_chains.specs.Chain.{behind, in_time, all_behind, due, later}
+use Rattle.gw_num.specs.Table.{at, put}
+use Rattle.gw_transactions.specs.declared.Transaction.{Transaction}
+use Rattle.gw_entities.specs.declared.facilities.Facility.{Facility}
+use Rattle.gw_entities.specs.declared.storages.Storage.{Storage}
+use Rattle.gw_entities.specs.declared.contents.Contents.{Contents}
+use Rattle.gw_entities.specs.Contents.{empty, contents_after}
+use Rattle.gw_entities.specs.Facility.{idle, seized, released, facility_after}
+use Rattle.gw_entities.specs.Storage as storages
+use Rattle.gw_entities.specs.Queue.{joined, departed}
+use Rattle.gw_scan.specs.declared.ends.End.{End}
+use Rattle.gw_scan.specs.declared.ends.End.TheVariants.{Done}
+use Rattle.gw_scan.specs.State.{FutureEvent, Goods, State, priority_of, raised, delay_list, without}
+
+-- ENTRIES
+
+-- the transaction n, which is t, enters its next block; the one after is now next
+abbrev pub entered : ℕ → Transaction → ℕ → State → State
+entered n t next s =
+    record s {
+      entries = raised t.next s.entries;
+      transactions = put None s.transactions n (Some (record t { current = t.next; next = next }));
+    }
+
+-- the active transaction n, which is t, enters its next block and is destroyed
+abbrev pub destroyed : ℕ → Transaction → State → State
+destroyed n t s =
+    record s {
+      entries = raised t.next s.entries;
+      transactions = put None s.transactions n None;
+      lists = record s.lists { active = None };
+    }
+
+-- a new transaction with a fresh number, scheduled to arrive at its GENERATE block, b, at a time
+abbrev pub arrives : ℕ → ℤ → ℤ → State → State
+arrives b priority time s =
+    record s {
+      scheduled = raised b s.scheduled;
+      transactions = put None s.transactions (length s.transactions) (Some (record { current = 0; next = b; priority = priority; mark = s.clock; set = length s.transactions }));
+      lists = record s.lists { future_events = in_time (λ (e : FutureEvent). e.time) (record { time = time; number = length s.transactions }) s.lists.future_events };
+    }
+
+-- PLACES
+
+-- the active transaction n rests on the future events chain until a time
+abbrev pub rests_until : ℕ → ℤ → State → State
+rests_until n time s =
+    record s {
+      lists = record s.lists { active = None; future_events = in_time (λ (e : FutureEvent). e.time) (record { time = time; number = n }) s.lists.future_events };
+    }
+
+-- the active transaction n rests on the delay list of an entity, behind its peers
+abbrev pub waits_for : ℕ → ℕ → State → State
+waits_for e n s =
+    record s {
+      lists = record s.lists { active = None; delay_lists = put [] s.lists.delay_lists e (behind (priority_of s.transactions) n (delay_list e s)) };
+    }
+
+-- the transaction n leaves the delay list of an entity and joins the current events chain, behind its peers
+abbrev pub called_from : ℕ → ℕ → State → State
+called_from e n s =
+    record s {
+      lists = record s.lists {
+        current_events = behind (priority_of s.transactions) n s.lists.current_events;
+        delay_lists = put [] s.lists.delay_lists e (without n (delay_list e s));
+      };
+    }
+
+-- ENTITIES
+
+-- a facility of a state
+abbrev pub facility : ℕ → State → Facility
+facility f s = at idle s.goods.facilities f
+
+-- a storage of a state
+abbrev pub storage : ℕ → State → Storage
+storage e s = at (storages.vacant 0) s.goods.storages e
+
+-- what is inside a queue of a state
+abbrev pub queue : ℕ → State → Contents
+queue q s = at empty s.goods.queues q
+
+-- the facility of this number is now this one
+abbrev pub with_facility : ℕ → Facility → State → State
+with_facility f v s = record s { goods = record s.goods { facilities = put idle s.goods.facilities f v } }
+
+-- the storage of this number is now this one
+abbrev pub with_storage : ℕ → Storage → State → State
+with_storage e v s = record s { goods = record s.goods { storages = put (storages.vacant 0) s.goods.storages e v } }
+
+-- the queue of this number is now this one
+abbrev pub with_queue : ℕ → Contents → State → State
+with_queue q v s = record s { goods = record s.goods { queues = put empty s.goods.queues q v } }
+
+-- the transaction n owns a facility
+abbrev pub seizes : ℕ → ℕ → State → State
+seizes f n s = with_facility f (seized n (facility f s)) s
+
+-- nobody owns a facility
+abbrev pub releases : ℕ → State → State
+releases f s = with_facility f (released (facility f s)) s
+
+-- units of a storage are taken
+abbrev pub takes : Units → State → State
+takes u s = with_storage u.entity (storages.entered u.number (storage u.entity s)) s
+
+-- units of a storage are given back
+abbrev pub gives_back : Units → State → State
+gives_back u s = with_storage u.entity (storages.left u.number (storage u.entity s)) s
+
+-- units join a queue
+abbrev pub joins : Units → State → State
+joins u s = with_queue u.entity (joined u.number (queue u.entity s)) s
+
+-- units depart from a queue
+abbrev pub departs : Units → State → State
+departs u s = with_queue u.entity (departed u.number (queue u.entity s)) s
+
+-- so many clock units pass: what stands in an entity is added up over them
+abbrev pub time_passes : ℕ → Goods → Goods
+time_passes time g =
+    record {
+      facilities = map (facility_after time) g.facilities;
+      storages = map (storages.storage_after time) g.storages;
+      queues = map (contents_after time) g.queues;
+    }
+
+-- COUNTS AND THE CLOCK
+
+-- the end that a termination count brings: where it is 0 or less the job is done
+abbrev pub end_at : ℤ → Option End
+end_at count = if int_lt (pos 0) count then None else Some Done
+
+-- the termination count falls
+abbrev pub counted : ℤ → State → State
+counted by s = record s { count = s.count -ℤ by; ended = end_at (s.count -ℤ by) }
+
+-- the transactions of future events, in their order
+abbrev pub numbers : List FutureEvent → List ℕ
+numbers events = map (λ (e : FutureEvent). e.number) events
+
+-- the clock goes to a time, and all that are due then join the current events chain, each behind its peers
+abbrev pub clock_moves : ℤ → State → State
+clock_moves time s =
+    record s {
+      clock = time;
+      goods = time_passes (unsigned_abs (time -ℤ s.clock)) s.goods;
+      lists = record s.lists {
+        current_events = all_behind (priority_of s.transactions) (numbers (due (λ (e : FutureEvent). e.time) time s.lists.future_events)) s.lists.current_events;
+        future_events = later (λ (e : FutureEvent). e.time) time s.lists.future_events;
+      };
+    }

@@ -1,0 +1,134 @@
+//! Each way in which a job ends.
+
+use super::*;
+
+/// The greatest clock time.
+const LAST: i64 = 9_223_372_036_854_775_807;
+
+/// How jobs of these blocks come to rest, each with a count of 1.
+fn ends_of(alloc: Global, jobs: &[&[Block]]) -> Result<Vec<Stand>, Fail> {
+    let mut ends = Vec::new(alloc);
+    for blocks in jobs {
+        ends.push(end_of(alloc, 1, blocks)?)?;
+    }
+    Ok(ends)
+}
+
+/// How the job of the three blocks comes to rest with this budget.
+fn end_within(alloc: Global, budget: u64) -> Result<Stand, Fail> {
+    let mut sim = started(alloc, 2, budget, &three_blocks())?;
+    let status = run(&mut sim, 1_000)?;
+    Ok((status, numbers(&sim)))
+}
+
+#[test]
+fn budget_of_5_ends_at_clock_13(rt: HostRuntime) -> Result<(), Fail> {
+    let end = end_within(rt.alloc(), 5)?;
+    assert_eq!(rt; end, (Status::Ended(End::Budget), (13, 5, 2, 2)));
+    Ok(())
+}
+
+#[test]
+fn no_block_ends_after_one_step(rt: HostRuntime) -> Result<(), Fail> {
+    let end = end_of(rt.alloc(), 1, &[])?;
+    assert_eq!(rt; end, (Status::Ended(End::NoMoreEvents), (0, 1, 0, 1)));
+    Ok(())
+}
+
+/// GENERATE 5 / TERMINATE 1 / GENERATE -1,0,,1 / TERMINATE 1.
+fn one_good_and_one_early() -> [Block; 4] {
+    [
+        generate(5, None, None, 0),
+        terminate(1),
+        generate(-1, None, Some(1), 0),
+        terminate(1),
+    ]
+}
+
+/// How many transactions are scheduled before the first step.
+fn scheduled(alloc: Global, blocks: &[Block]) -> Result<usize, Fail> {
+    let sim = started(alloc, 1, AMPLE, blocks)?;
+    Ok(sim.here(0))
+}
+
+#[test]
+fn negative_first_arrival_ends_the_job_at_its_start(rt: HostRuntime) -> Result<(), Fail> {
+    // The first GENERATE alone could be scheduled. A step of the ended job changes nothing.
+    let blocks = one_good_and_one_early();
+    let stands = stands(rt.alloc(), 1, &blocks, &[0, 1])?;
+    let early = (Status::Ended(End::NegativeTime), (0, 0, 0, 1));
+    assert!(rt; stands.as_slice() == [early, early].as_slice());
+    assert_eq!(rt; scheduled(rt.alloc(), &blocks)?, 0);
+    Ok(())
+}
+
+/// GENERATE 1,0,C,1.
+fn late(first: i64) -> Block {
+    generate(1, Some(first), Some(1), 0)
+}
+
+/// GENERATE 1,0,C,1 / ADVANCE A / TERMINATE 1.
+fn rests(first: i64, time: i64) -> [Block; 3] {
+    [late(first), advance(time), terminate(1)]
+}
+
+#[test]
+fn times_below_0_and_past_the_last_moment_are_named_ends(rt: HostRuntime) -> Result<(), Fail> {
+    let next_arrival_past = [generate(8, Some(LAST - 7), None, 0), terminate(1)];
+    let ends = ends_of(
+        rt.alloc(),
+        &[
+            &rests(0, -1),
+            &rests(0, 0),
+            &rests(LAST - 5, 5),
+            &rests(LAST - 5, 6),
+            &next_arrival_past,
+        ],
+    )?;
+    let expected = [
+        (Status::Ended(End::NegativeTime), (0, 4, 1, 1)),
+        (Status::Ended(End::Done), (0, 5, 3, 0)),
+        (Status::Ended(End::Done), (LAST, 7, 3, 0)),
+        (Status::Ended(End::Number), (LAST - 5, 4, 1, 1)),
+        (Status::Ended(End::Number), (LAST - 7, 3, 0, 1)),
+    ];
+    assert!(rt; ends.as_slice() == expected.as_slice());
+    Ok(())
+}
+
+#[test]
+fn terminate_by_less_than_0_is_a_named_end(rt: HostRuntime) -> Result<(), Fail> {
+    let blocks = [generate(0, None, Some(1), 0), terminate(-1)];
+    let end = end_of(rt.alloc(), 1, &blocks)?;
+    assert_eq!(rt; end, (Status::Ended(End::Number), (0, 4, 1, 1)));
+    let rows = rows(rt.alloc(), 1, &blocks, &[100])?;
+    assert!(rt; rows.as_slice() == [(0, Some(1), [1, 0, 0], [1, 0, 0], 1)].as_slice());
+    Ok(())
+}
+
+#[test]
+fn terminate_by_more_than_the_count_is_done(rt: HostRuntime) -> Result<(), Fail> {
+    let end = end_of(rt.alloc(), 2, &[generate(10, None, None, 0), terminate(5)])?;
+    assert_eq!(rt; end, (Status::Ended(End::Done), (10, 4, 2, -3)));
+    Ok(())
+}
+
+#[test]
+fn arrivals_beyond_65536_live_are_a_named_end(rt: HostRuntime) -> Result<(), Fail> {
+    // Each arrival takes four steps and enters two blocks, until 65,536 live at clock 65,536, the active one among them.
+    let blocks = [generate(1, None, None, 0), advance(100_000), terminate(1)];
+    let end = end_of(rt.alloc(), 1, &blocks)?;
+    assert_eq!(rt;
+        end,
+        (Status::Ended(End::Live), (65_536, 262_143, 131_070, 1))
+    );
+    Ok(())
+}
+
+#[test]
+fn ended_job_stays_as_it_is(rt: HostRuntime) -> Result<(), Fail> {
+    let stands = stands(rt.alloc(), 2, &three_blocks(), &[14, 1, 1])?;
+    let done = (Status::Ended(End::Done), (23, 14, 6, 0));
+    assert!(rt; stands.as_slice() == [done, done, done].as_slice());
+    Ok(())
+}
