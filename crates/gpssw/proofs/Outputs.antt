@@ -1,11 +1,35 @@
 -- What a run writes, by what stands in the place of its answer.
-use Rattle.std.proofs.Common.{ℕ, List, [], Option, Result, Ok, Err, IfOk, MatchResult, inl, inr, refl}
+use Rattle.std.proofs.Common.{◌≡◌, ◌≢◌, ◌⊎◌, ◌<◌, ℕ, List, [], ◌∷◌, Option, Result, Ok, Err, IfOk, MatchResult, Contains, inl, inr, refl, sym, subst, arith}
+use Rattle.gw_object.specs.declared.fault.Fault.{Fault}
+use Rattle.gw_scan.specs.Job.{Job}
 use Rattle.gpssw.specs.declared.answer.Answer.{Answer}
 use Rattle.gpssw.specs.declared.fault.ProgramFault.{ProgramFault}
 use Rattle.gpssw.specs.declared.fault.ProgramFault.TheVariants.{Read, Write, Memory}
-use Rattle.gpssw.specs.Status.{failed, no_memory}
-use Rattle.gpssw.specs.Output.{AnswersReader, memory_line, Writes, Fails, Runs}
+use Rattle.gpssw.specs.Status.{ended, refused, failed, no_memory}
+use Rattle.gpssw.specs.Refusal.{refusal_line}
+use Rattle.gpssw.specs.Answer.{Concludes, IsAnswer, job_of}
+use Rattle.gpssw.specs.Output.{AnswersReader, memory_line, Writes, Fails, Runs, WritesAnswer}
 use Rattle.gpssw.proofs.Bytes.{kept}
+
+-- the status of an answer
+answer_status : (r : Result Job Fault) (text : List ℕ) (status : ℕ) → MatchResult r (λ j. Concludes j text status) (λ fault. (status ≡ refused) × (text ≡ refusal_line fault)) → (status ≡ ended) ⊎ (status ≡ refused)
+answer_status (Ok j) text status (inl h) = inl h.0
+answer_status (Ok j) text status (inr h) = inr h.0
+answer_status (Err fault) text status h = inr h.0
+
+-- the statuses of a run
+abbrev Statuses : ℕ → Type 0
+Statuses status = Contains (ended ∷ refused ∷ failed ∷ no_memory ∷ []) status
+
+of_answer : (status : ℕ) → (status ≡ ended) ⊎ (status ≡ refused) → Statuses status
+of_answer status (inl h) = (0, omega arith, sym h)
+of_answer status (inr h) = (1, omega arith, sym h)
+
+of_failed : (status : ℕ) → status ≡ failed → Statuses status
+of_failed status h = (2, omega arith, sym h)
+
+of_memory : (status : ℕ) → status ≡ no_memory → Statuses status
+of_memory status h = (3, omega arith, sym h)
 
 module _ (seed count : ℕ) (known : Option (List ℕ)) (status : ℕ) (old new : Option (List ℕ)) where
   pub output : (r : Result Answer ProgramFault) → IfOk r (λ a. AnswersReader seed count known a.text.items a.status)
@@ -14,3 +38,22 @@ module _ (seed count : ℕ) (known : Option (List ℕ)) (status : ℕ) (old new 
   output (Err Memory) answer h = (memory_line, no_memory, inr (inl (refl, refl)), h)
   output (Err Read) answer h = ([], failed, inr (inr (refl, refl)), inl (h.0, kept old new h.1))
   output (Err Write) answer h = ([], failed, inr (inr (refl, refl)), inl (h.0, kept old new h.1))
+
+  pub answered : (r : Result Answer ProgramFault) → IfOk r (λ a. AnswersReader seed count known a.text.items a.status)
+      → MatchResult r (λ a. Writes a.text.items a.status status old new) (λ fault. Fails fault status old new)
+      → status ≢ failed → status ≢ no_memory → WritesAnswer seed count known status old new
+  answered (Ok a) answer (inl h) whole enough = (a.text.items, subst (λ s. AnswersReader seed count known a.text.items s) (sym h.0) answer, h.1)
+  answered (Ok a) answer (inr h) whole enough = absurd (whole h.0)
+  answered (Err Memory) answer (inl h) whole enough = absurd (enough h.0)
+  answered (Err Memory) answer (inr h) whole enough = absurd (whole h.0)
+  answered (Err Read) answer h whole enough = absurd (whole h.0)
+  answered (Err Write) answer h whole enough = absurd (whole h.0)
+
+  pub statuses : (r : Result Answer ProgramFault) → IfOk r (λ a. AnswersReader seed count known a.text.items a.status)
+      → MatchResult r (λ a. Writes a.text.items a.status status old new) (λ fault. Fails fault status old new) → Statuses status
+  statuses (Ok a) answer (inl h) = subst Statuses (sym h.0) (of_answer a.status (answer_status (job_of seed count answer.0) a.text.items a.status answer.2))
+  statuses (Ok a) answer (inr h) = of_failed status h.0
+  statuses (Err Memory) answer (inl h) = of_memory status h.0
+  statuses (Err Memory) answer (inr h) = of_failed status h.0
+  statuses (Err Read) answer h = of_failed status h.0
+  statuses (Err Write) answer h = of_failed status h.0

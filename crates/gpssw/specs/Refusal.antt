@@ -5,7 +5,8 @@ use Rattle.gw_object.specs.declared.fault.Fault.{Fault}
 use Rattle.gw_object.specs.declared.fault.Place.{Place}
 use Rattle.gw_object.specs.declared.fault.Place.TheVariants.{Byte, Entity, Code, Row, Block, Edge, Chain, Line, Nowhere}
 use Rattle.gw_object.specs.Names as object
-use Rattle.gw_verify.specs.Names as verifier
+use Rattle.gw_kinds.specs.Names as kinds
+use Rattle.gw_flow.specs.Names as flow
 use Rattle.gw_scan.specs.declared.spec.StartFault.{StartFault}
 use Rattle.gw_scan.specs.declared.spec.StartFault.TheVariants.{Seed, Count, Budget, Memory}
 
@@ -18,21 +19,37 @@ making_name code =
     else if code == 53 then codes "Memory"
     else codes "Unknown"
 
--- the name of a code: of an object, of the verifier, or of a job's making
+-- the name of a code: of an object, of kinds, of flow, or of a job's making
 abbrev pub code_name : ℕ → List ℕ
-code_name code = unwrap_or (object.name_of code) (unwrap_or (verifier.name_of code) (making_name code))
+code_name code = unwrap_or (object.name_of code) (unwrap_or (kinds.name_of code) (unwrap_or (flow.name_of code) (making_name code)))
+
+-- what stands before the numbers of a place: its kind in lower case
+abbrev pub place_front : Place → List ℕ
+place_front (Byte byte) = codes " at byte "
+place_front (Entity entity) = codes " at entity "
+place_front (Code procedure instruction) = codes " at code "
+place_front (Row row) = codes " at row "
+place_front (Block block) = codes " at block "
+place_front (Edge from to) = codes " at edge "
+place_front (Chain chain) = codes " at chain "
+place_front (Line line) = codes " at line "
+place_front Nowhere = []
+
+-- the numbers of a place, with a blank between them
+abbrev pub place_numbers : Place → List ℕ
+place_numbers (Byte byte) = decimal byte
+place_numbers (Entity entity) = decimal entity
+place_numbers (Code procedure instruction) = decimal procedure ++ codes " " ++ decimal instruction
+place_numbers (Row row) = decimal row
+place_numbers (Block block) = decimal block
+place_numbers (Edge from to) = decimal from ++ codes " " ++ decimal to
+place_numbers (Chain chain) = decimal chain
+place_numbers (Line line) = decimal line
+place_numbers Nowhere = []
 
 -- a place is its kind in lower case, and its numbers
 abbrev pub place_text : Place → List ℕ
-place_text (Byte byte) = codes " at byte " ++ decimal byte
-place_text (Entity entity) = codes " at entity " ++ decimal entity
-place_text (Code procedure instruction) = codes " at code " ++ decimal procedure ++ codes " " ++ decimal instruction
-place_text (Row row) = codes " at row " ++ decimal row
-place_text (Block block) = codes " at block " ++ decimal block
-place_text (Edge from to) = codes " at edge " ++ decimal from ++ codes " " ++ decimal to
-place_text (Chain chain) = codes " at chain " ++ decimal chain
-place_text (Line line) = codes " at line " ++ decimal line
-place_text Nowhere = []
+place_text place = place_front place ++ place_numbers place
 
 -- a refusal: its code, its name, and its place, if it has one
 abbrev pub refusal_text : Fault → List ℕ

@@ -106,11 +106,13 @@ fn object_in(alloc: Global, input: &[u8]) -> Result<Object, NoJob>
     }
 }
 
-fn verified_object(object: Object) -> Result<Verified, NoJob>
+/// Accepts an object, or refuses it.
+fn verified_object(alloc: Global, object: Object) -> Result<Verified, NoJob>
     ensures { Finds result (verified object) }
 {
-    match verify(object) {
+    match verify(alloc, object) {
         Ok(verified) => Ok(verified),
+        Err((_, fault)) if fault.code == codes::MEMORY => Err(NoJob::OutOfMemory),
         Err((_, fault)) => Err(NoJob::Refused(Refusal(fault))),
     }
 }
@@ -135,7 +137,7 @@ fn spec_of(alloc: Global, seed: u32, count: u64, input: &[u8]) -> Result<Spec, N
     ensures budget { IfOk result (λ spec. spec.budget ≡ BUDGET) }
 {
     let object = object_in(alloc, input)?;
-    let verified = verified_object(object)?;
+    let verified = verified_object(alloc, object)?;
     spec_with(verified, seed, count)
 }
 

@@ -1,20 +1,21 @@
 //! Refusals, as the program prints them.
 
 ghost use Rattle.std.specs.Prelude.{◌≡◌, Some};
-ghost use Rattle.gpssw.specs.Refusal.{code_name, making_name as name_of_making, place_text, refusal_text, start_refusal};
+ghost use Rattle.gpssw.specs.Refusal.{code_name, making_name as name_of_making, place_front, place_numbers, refusal_text, start_refusal};
 
+use gw_flow::codes as flow_codes;
+use gw_kinds::codes as kinds_codes;
 use gw_object::{Fault, Place, codes as object_codes};
 use gw_scan::StartFault;
-use gw_verify::codes as verifier_codes;
 use std::fmt;
 
 /// A refusal, which prints as `refused CODE NAME at PLACE`, without a place where it has none (docs/refusals.md).
 #[derive(Clone, Copy, Debug, PartialEq, Eq)]
 pub struct Refusal(pub Fault);
 
-/// A place, which prints as ` at KIND NUMBERS`, or as nothing.
+/// The numbers of a place, which print with a blank between them.
 #[derive(Drop)]
-struct At(Place);
+struct Numbers(Place);
 
 /// The name of a code of a job's making.
 fn making_name(code: u16) -> &'static str
@@ -36,10 +37,13 @@ fn name(code: u16) -> &'static str
     if let Some(name) = object_codes::name(code) {
         return name;
     }
-    match verifier_codes::name(code) {
-        Some(name) => name,
-        None => making_name(code),
+    if let Some(name) = kinds_codes::name(code) {
+        return name;
     }
+    if let Some(name) = flow_codes::name(code) {
+        return name;
+    }
+    making_name(code)
 }
 
 impl From<StartFault> for Refusal {
@@ -59,19 +63,35 @@ impl From<StartFault> for Refusal {
     }
 }
 
-impl fmt::Display for At {
-    ghost output = { λ at. Some (place_text at.0) };
+/// What stands before the numbers of a place: ` at KIND `, or nothing.
+fn front(place: Place) -> &'static str
+    ensures { result.now ≡ place_front place }
+{
+    match place {
+        Place::Byte(_) => " at byte ",
+        Place::Entity(_) => " at entity ",
+        Place::Code(_, _) => " at code ",
+        Place::Row(_) => " at row ",
+        Place::Block(_) => " at block ",
+        Place::Edge(_, _) => " at edge ",
+        Place::Chain(_) => " at chain ",
+        Place::Line(_) => " at line ",
+        Place::Nowhere => "",
+    }
+}
+
+impl fmt::Display for Numbers {
+    ghost output = { λ numbers. Some (place_numbers numbers.0) };
 
     fn fmt<W: fmt::Write>(&self, f: &mut fmt::Formatter<W>) -> fmt::Result {
         match self.0 {
-            Place::Byte(byte) => write!(f, " at byte {byte}"),
-            Place::Entity(entity) => write!(f, " at entity {entity}"),
-            Place::Code(procedure, instruction) => write!(f, " at code {procedure} {instruction}"),
-            Place::Row(row) => write!(f, " at row {row}"),
-            Place::Block(block) => write!(f, " at block {block}"),
-            Place::Edge(from, to) => write!(f, " at edge {from} {to}"),
-            Place::Chain(chain) => write!(f, " at chain {chain}"),
-            Place::Line(line) => write!(f, " at line {line}"),
+            Place::Byte(n) | Place::Line(n) => write!(f, "{n}"),
+            Place::Entity(n) | Place::Row(n) | Place::Block(n) | Place::Chain(n) => {
+                write!(f, "{n}")
+            }
+            Place::Code(first, second) | Place::Edge(first, second) => {
+                write!(f, "{first} {second}")
+            }
             Place::Nowhere => Ok(()),
         }
     }
@@ -83,7 +103,8 @@ impl fmt::Display for Refusal {
     fn fmt<W: fmt::Write>(&self, f: &mut fmt::Formatter<W>) -> fmt::Result {
         let code = self.0.code;
         let name = name(code);
-        let place = At(self.0.place);
-        write!(f, "refused {code} {name}{place}")
+        let front = front(self.0.place);
+        let numbers = Numbers(self.0.place);
+        write!(f, "refused {code} {name}{front}{numbers}")
     }
 }

@@ -2,4 +2,4 @@ pub mod EntityLaws
 pub mod Exact
 pub mod ObjectLaws
 pub mod Loop
-pub mod Sizes
+pub mod StateLaws

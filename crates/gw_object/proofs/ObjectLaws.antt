@@ -1,5 +1,5 @@
 -- The object grammar is exact: each of its fields, the object, and reading as a whole.
-use Rattle.std.proofs.Common.{◌≡◌, ◌≢◌, ℕ, zero, suc, ◌-◌, ◌≤◌, true, false, cond, eqb, ltb, List, [], ◌∷◌, ◌++◌, length, Option, Some, None, Result, Ok, Err, refl, sym, ap, subst, ◌∙◌, arith, inl, inr, ◌⊎◌, slice_get}
+use Rattle.std.proofs.Common.{◌≡◌, ◌≢◌, ℕ, zero, suc, ◌-◌, ◌≤◌, true, false, cond, eqb, ltb, List, [], ◌∷◌, ◌++◌, length, Some, Result, Ok, Err, refl, sym, ap, subst, ◌∙◌, arith, inl, inr, ◌⊎◌, slice_get}
 use Rattle.std.specs.Prelude.{IfOk}
 use Rattle.std.specs.List.{All}
 use Rattle.std.specs.Int.{w16, w32, w64}
@@ -11,16 +11,16 @@ use Rattle.gw_object.specs.Limits.{most_bytes, most_seeds, greatest_seed, greate
 use Rattle.gw_object.specs.declared.parts.Operand.{Operand}
 use Rattle.gw_object.specs.declared.parts.Operand.TheVariants.{Constant}
 use Rattle.gw_object.specs.declared.parts.Block.{Block}
-use Rattle.gw_object.specs.declared.parts.Block.TheVariants.{Generate, Terminate, Advance, Seize, Release, Enter, Leave, Queue, Depart}
-use Rattle.gw_object.specs.declared.parts.TableState.{TableState}
+use Rattle.gw_object.specs.declared.parts.Block.TheVariants.{Generate, Terminate, Advance, Seize, Release, Enter, Leave, Queue, Depart, Transfer, TransferByFraction}
 use Rattle.gw_object.specs.declared.parts.Parts.{Parts}
 use Rattle.gw_object.specs.declared.error.Bad.{Bad}
-use Rattle.gw_object.specs.Fields.{Field, behind, bad, byte, number, constant, optional, count, plain, ElementsFit}
-use Rattle.gw_object.specs.Grammar.{OperandFits, constant_of, operand, SpreadFits, spread, GenerateFits, generate, entity_number, UnitsFit, units, BlockFits, block_spelling, block_forms, block_read, block, no_elements, state, weight, tables, head, seed, start_count, object, spelling, HasSpelling, Spells}
+use Rattle.gw_object.specs.Fields.{Field, behind, bad, byte, number, constant, count, plain, ElementsFit}
+use Rattle.gw_object.specs.Grammar.{OperandFits, constant_of, operand, SpreadFits, spread, GenerateFits, generate, entity_number, UnitsFit, units, block_number, FractionFits, fraction, BlockFits, block_spelling, block_forms, block_read, block, weight, tables, head, seed, start_count, object, spelling, HasSpelling, Spells}
 use Rattle.gw_object.specs.Entities.{entity}
 use Rattle.gw_object.specs.Reading.{whole_read, with_place, first_fault, out_of_memory}
 use Rattle.gw_object.proofs.EntityLaws.{entity_exact, entities_fit, entities_are}
-use Rattle.gw_object.proofs.Exact.{◌also◌, IsExactForm, AreExactForms, behind_exact, by_tag_takes, by_tag_within, IsBytes, Takes-shorter, IsExact, IsExactElement, bind_ok, bind_err, chosen, ok_is, err_is, not_both, byte_exact, wide16, wide32, wide64, number_exact, signed_exact, made_exact, and_then_exact, both_exact, fitting_exact, constant_exact, ranged_exact, optional_exact, count_exact, plain_exact, last_tested_exact, elements_exact, listed_exact, All-from_fit, fit-from_All}
+use Rattle.gw_object.proofs.StateLaws.{entity_number_exact, no_elements_exact, none, state_exact, rows_fit, rows_keep}
+use Rattle.gw_object.proofs.Exact.{◌also◌, IsExactForm, AreExactForms, behind_exact, by_tag_takes, by_tag_within, IsBytes, Takes-shorter, IsExact, IsExactElement, bind_ok, bind_err, chosen, ok_is, err_is, not_both, byte_exact, wide16, wide32, wide64, number_exact, signed_exact, made_exact, and_then_exact, both_exact, fitting_exact, constant_exact, ranged_exact, optional_exact, plain_exact, last_tested_exact, elements_exact, listed_exact, All-from_fit, fit-from_All}
 
 -- ---- operands
 
@@ -56,20 +56,27 @@ generate_exact = fitting_exact GenerateFits _
     (made_exact _ _ _ (λ x h. refl) (λ g h. refl)
     (both_exact _ _ spread_exact (both_exact _ _ (optional_exact _ (signed_exact w64 wide64)) (both_exact _ _ (optional_exact _ (number_exact w32 wide32)) (signed_exact w32 wide32)))))
 
-entity_number_exact : IsExact entity_number
-entity_number_exact = number_exact w16 wide16
-
 pub units_exact : IsExact units
 unfolding units
 units_exact = fitting_exact UnitsFit _ (λ u h. record { entity = h.0; number = h.1 }) (λ u h. (h.entity, h.number))
     (made_exact _ _ _ (λ x h. refl) (λ u h. refl) (both_exact _ _ entity_number_exact (number_exact w32 wide32)))
+
+block_number_exact : IsExact block_number
+block_number_exact = number_exact w16 wide16
+
+pub fraction_exact : IsExact fraction
+unfolding fraction
+fraction_exact = fitting_exact FractionFits _
+    (λ f h. record { thousandths = h.0; otherwise = h.1.0; target = h.1.1 })
+    (λ f h. (h.thousandths, (h.otherwise, h.target)))
+    (made_exact _ _ _ (λ x h. refl) (λ f h. refl) (both_exact _ _ (number_exact w16 wide16) (both_exact _ _ (optional_exact _ block_number_exact) block_number_exact)))
 
 -- a kind of block whose operands are those of a field
 block_form_exact : {A : Type 0} (tag : ℕ) (make : A → Block) (f : Field A) → ((x : A) → tag ∷ f.spell x ≡ block_spelling (make x)) → ((x : A) → f.Fits x → BlockFits (make x)) → IsExact f → IsExactForm block_spelling BlockFits (behind tag make f)
 block_form_exact tag make f spelled fit exact = behind_exact block_spelling BlockFits tag make f spelled fit exact
 
 block_forms_exact : AreExactForms block_spelling BlockFits block_forms
-unfolding generate operand spread units
+unfolding generate operand spread units fraction
 block_forms_exact =
     block_form_exact 1 (λ g. Generate g) generate (λ g. refl) (λ g h. h) generate_exact
     also block_form_exact 2 (λ n. Terminate n) operand (λ n. refl) (λ n h. h) operand_exact
@@ -80,10 +87,12 @@ block_forms_exact =
     also block_form_exact 7 (λ u. Leave u) units (λ u. refl) (λ u h. h) units_exact
     also block_form_exact 8 (λ u. Queue u) units (λ u. refl) (λ u h. h) units_exact
     also block_form_exact 9 (λ u. Depart u) units (λ u. refl) (λ u h. h) units_exact
+    also block_form_exact 13 (λ n. Transfer n) block_number (λ n. refl) (λ n h. h) block_number_exact
+    also block_form_exact 14 (λ f. TransferByFraction f) fraction (λ f. refl) (λ f h. h) fraction_exact
     also tt
 
 block_again : (b : Block) (rest : List ℕ) → BlockFits b → block_read (block_spelling b ++ rest) ≡ Ok (b, rest)
-unfolding block_read generate operand spread units
+unfolding block_read generate operand spread units fraction
 block_again (Generate g) rest fits = rw (generate_exact.again g rest fits) refl
 block_again (Terminate n) rest fits = rw (operand_exact.again n rest fits) refl
 block_again (Advance s) rest fits = rw (spread_exact.again s rest fits) refl
@@ -93,6 +102,8 @@ block_again (Enter u) rest fits = rw (units_exact.again u rest fits) refl
 block_again (Leave u) rest fits = rw (units_exact.again u rest fits) refl
 block_again (Queue u) rest fits = rw (units_exact.again u rest fits) refl
 block_again (Depart u) rest fits = rw (units_exact.again u rest fits) refl
+block_again (Transfer n) rest fits = rw (block_number_exact.again n rest fits) refl
+block_again (TransferByFraction f) rest fits = rw (fraction_exact.again f rest fits) refl
 
 pub block_exact : IsExact block
 unfolding block_read
@@ -103,17 +114,6 @@ block_exact = record {
 }
 
 -- ---- what stands for each block
-
-no_elements_exact : IsExact no_elements
-no_elements_exact = made_exact (λ _. tt) (λ _. 0) (count 0 0) (λ n h. omega arith) (λ y h. refl) (count_exact 0 0 (omega arith))
-
-none : (0 ≤ 0) × (0 ≤ 0)
-none = (omega arith, omega arith)
-
-pub state_exact : IsExact state
-unfolding state
-state_exact = fitting_exact (λ _. Unit {0}) _ (λ s h. tt) (λ s h. (none, (none, none)))
-    (made_exact _ _ _ (λ x h. refl) (λ s h. refl) (both_exact _ _ no_elements_exact (both_exact _ _ no_elements_exact no_elements_exact)))
 
 weight_exact : IsExact weight
 weight_exact = ranged_exact 1 greatest_weight (number w32) (λ n h. omega arith) (number_exact w32 wide32)
@@ -171,12 +171,6 @@ seeds_fit (x ∷ y ∷ ys) front each last =
     let more : eqb (length (y ∷ ys)) 0 ≡ false = ne_eqb _ _ (λ e. omega arith) in
     (((omega arith, each 0 x (omega arith)), rw more refl), seeds_fit (y ∷ ys) (front ++ x ∷ []) (λ k d lt. each (suc k) d (omega arith)) (λ e. last (last_of_rest x y ys ∙ e)))
 
-states_fit : (xs front : List (Option TableState)) → ElementsFit (plain (optional state)).Fits front xs
-unfolding state
-states_fit [] front = tt
-states_fit (None ∷ xs) front = (tt, states_fit xs (front ++ None ∷ []))
-states_fit (Some s ∷ xs) front = (tt, states_fit xs (front ++ Some s ∷ []))
-
 pub spelled_fits : (p : Parts) → HasSpelling p → object.Fits p
 unfolding object head tables
 spelled_fits p h =
@@ -192,7 +186,7 @@ spelled_fits p h =
               none,
               (
                 (omega arith, limits.blocks, fit-from_All BlockFits p.blocks [] limits.each_block),
-                (none, ((limits.states, states_fit p.states []), (limits.weights, fit-from_All weight.Fits p.weights [] limits.each_weight))),
+                (none, ((limits.states, rows_fit p.states limits.each_state h.canonical.each_state), (limits.weights, fit-from_All weight.Fits p.weights [] limits.each_weight))),
               ),
             ),
           ),
@@ -203,7 +197,8 @@ spelled_fits p h =
 pub fits_spelled : (p : Parts) → object.Fits p → length (spelling p) ≤ most_bytes → HasSpelling p
 unfolding object head tables
 fits_spelled p (h, (seeds, (count, (entities, (q, (blocks, (r, (states, weights)))))))) size =
-    let each_entity = entities_are p.entities entities.2 in record {
+    let each_entity = entities_are p.entities entities.2 in
+    let each_row = rows_keep p.states states.1 in record {
       letters = record { names = each_entity.letters };
       limits = record {
         seeds = seeds.1;
@@ -215,11 +210,12 @@ fits_spelled p (h, (seeds, (count, (entities, (q, (blocks, (r, (states, weights)
         blocks = blocks.1;
         each_block = All-from_fit (λ front left. BlockFits) BlockFits (λ front left b h. h) p.blocks [] blocks.2;
         states = states.0;
+        each_state = λ k d lt. (each_row k d lt).0;
         weights = weights.0;
         each_weight = All-from_fit (λ front left. weight.Fits) weight.Fits (λ front left w h. h) p.weights [] weights.1;
         size = size;
       };
-      canonical = record { last_seed = last_seed_is p.seeds [] seeds.2; own_names = each_entity.own };
+      canonical = record { last_seed = last_seed_is p.seeds [] seeds.2; own_names = each_entity.own; each_state = λ k d lt. (each_row k d lt).1 };
     }
 
 -- ---- reading as a whole

@@ -1,6 +1,7 @@
 -- Fields of a format: how a value is spelled in bytes, how it is read, and which values have a spelling.
-use Rattle.std.specs.Prelude.{◌≡◌, ℕ, zero, suc, ◌≤◌, ◌<◌, ◌^◌, ℤ, FitsSigned, Bool, true, IsTrue, if◌then◌else◌, ◌==◌, nat_lt, nat_le, ◌&&◌, List, [], ◌∷◌, ◌++◌, length, take, drop, Option, Some, None, IfSome, Result, Ok, Err}
+use Rattle.std.specs.Prelude.{◌≡◌, ℕ, zero, suc, ◌-◌, ◌≤◌, ◌<◌, ◌^◌, ℤ, FitsSigned, Bool, true, IsTrue, if◌then◌else◌, ◌==◌, nat_lt, nat_le, ◌&&◌, List, [], ◌∷◌, ◌++◌, length, take, drop, slice_get, Option, Some, None, IfSome, SomeIff, Result, Ok, Err}
 use Rattle.std.specs.List.{flat_map}
+use Rattle.std.specs.Option.{option_map}
 use Rattle.std.specs.Int.{Width, w32, byte_len, to_be_bytes, from_be_bytes, cast_signed, cast_unsigned}
 use Rattle.gw_object.specs.Codes as codes
 use Rattle.gw_object.specs.declared.error.Bad.{Bad}
@@ -54,6 +55,12 @@ signed w = record {
   read = λ bytes. (number w).read bytes >>= λ n. Ok (cast_signed w n.0, n.1);
   Fits = FitsSigned w;
 }
+
+-- ---- room
+
+-- how many bytes of a room are left behind these, if they fit into it
+abbrev pub Leaves : List ℕ → ℕ → Option ℕ → Type 0
+Leaves bytes room left = SomeIff left (length bytes ≤ room) (room - length bytes)
 
 -- ---- ways to make a field of others
 
@@ -183,6 +190,18 @@ abbrev pub last_tested : {A : Type 0} → (A → Bool) → ℕ → Field A → E
 last_tested test code f =
     let at = λ (left : ℕ). tested (λ x. if left == 0 then test x else true) code f in
     record { spell = f.spell; read = λ front left. (at left).read; Fits = λ front left. (at left).Fits }
+
+-- whether a key is above the one before it, if there is one
+abbrev pub is_above : Option ℕ → ℕ → Bool
+is_above None key = true
+is_above (Some before) key = nat_lt before key
+
+-- an element that begins with a key, above that of the last element at the front; else the key is a fault
+abbrev pub ascending : {A B : Type 0} → (ℕ × B → A) → (A → ℕ × B) → Field ℕ → Field B → Element A
+ascending {A} make back key f =
+    let last = λ (front : List A). option_map (λ x. (back x).0) (slice_get front (length front - 1)) in
+    let at = λ (front : List A). made make back (both (tested (is_above (last front)) codes.not_canonical key) f) in
+    record { spell = (made make back (both key f)).spell; read = λ front left. (at front).read; Fits = λ front left. (at front).Fits }
 
 -- so many elements behind those at the front
 unfoldable pub elements_read : {A : Type 0} → (List A → ℕ → List ℕ → Read A) → ℕ → List A → List ℕ → Read (List A)

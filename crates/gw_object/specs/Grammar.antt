@@ -3,17 +3,18 @@ use Rattle.std.specs.Prelude.{◌≡◌, ◌≢◌, ◌⊎◌, ℕ, ◌-◌, ◌
 use Rattle.std.specs.List.{All, AllPairs}
 use Rattle.std.specs.Int.{w16, w32, w64}
 use Rattle.gw_object.specs.Codes as codes
-use Rattle.gw_object.specs.Limits.{most_bytes, most_seeds, greatest_seed, greatest_count, most_entities, most_blocks, greatest_weight}
+use Rattle.gw_object.specs.Limits.{most_bytes, most_seeds, greatest_seed, greatest_count, most_entities, greatest_units, most_blocks, greatest_weight}
 use Rattle.gw_object.specs.declared.parts.Operand.{Operand}
 use Rattle.gw_object.specs.declared.parts.Operand.TheVariants.{Constant}
 use Rattle.gw_object.specs.declared.parts.Spread.{Spread}
 use Rattle.gw_object.specs.declared.parts.Generate.{Generate as GenerateOperands}
 use Rattle.gw_object.specs.declared.parts.Block.{Block}
 use Rattle.gw_object.specs.declared.parts.Units.{Units}
-use Rattle.gw_object.specs.declared.parts.Block.TheVariants.{Generate, Terminate, Advance, Seize, Release, Enter, Leave, Queue, Depart}
+use Rattle.gw_object.specs.declared.parts.Fraction.{Fraction}
+use Rattle.gw_object.specs.declared.parts.Block.TheVariants.{Generate, Terminate, Advance, Seize, Release, Enter, Leave, Queue, Depart, Transfer, TransferByFraction}
 use Rattle.gw_object.specs.declared.parts.TableState.{TableState}
 use Rattle.gw_object.specs.declared.parts.Parts.{Parts}
-use Rattle.gw_object.specs.Fields.{Read, Field, byte, number, signed, made, both, and_then, constant, fitting, ranged, optional, Form, behind, by_tag, count, Element, plain, last_tested, elements, listed}
+use Rattle.gw_object.specs.Fields.{Read, Field, byte, number, signed, made, both, and_then, constant, fitting, ranged, optional, Form, behind, by_tag, nothing, count, Element, plain, last_tested, ascending, elements, listed}
 use Rattle.gw_object.specs.Entities.{entity, EntityFits, IsLettered, AreNamesakes}
 
 -- ---- operands
@@ -68,6 +69,23 @@ pub record UnitsFit (u : Units) : Type 0 where
 unfoldable pub units : Field Units
 units = fitting UnitsFit (made (λ (entity, n). record { entity = entity; number = n }) (λ u. (u.entity, u.number)) (both entity_number (number w32)))
 
+-- a block's number
+abbrev pub block_number : Field ℕ
+block_number = number w16
+
+-- each operand fits
+pub record FractionFits (f : Fraction) : Type 0 where
+  pub thousandths : f.thousandths < 2 ^ 16
+  pub otherwise : IfSome f.otherwise block_number.Fits
+  pub target : block_number.Fits f.target
+
+-- the thousandths, the block for the others, and the target
+unfoldable pub fraction : Field Fraction
+fraction = fitting FractionFits (made
+    (λ (thousandths, (otherwise, target)). record { thousandths = thousandths; otherwise = otherwise; target = target })
+    (λ f. (f.thousandths, (f.otherwise, f.target)))
+    (both (number w16) (both (optional block_number) block_number)))
+
 -- the operands of a block fit
 abbrev pub BlockFits : Block → Type 0
 BlockFits (Generate g) = GenerateFits g
@@ -79,6 +97,8 @@ BlockFits (Enter u) = UnitsFit u
 BlockFits (Leave u) = UnitsFit u
 BlockFits (Queue u) = UnitsFit u
 BlockFits (Depart u) = UnitsFit u
+BlockFits (Transfer target) = block_number.Fits target
+BlockFits (TransferByFraction f) = FractionFits f
 
 -- the tag, and the operands behind it
 abbrev pub block_spelling : Block → List ℕ
@@ -91,6 +111,8 @@ block_spelling (Enter u) = 6 ∷ units.spell u
 block_spelling (Leave u) = 7 ∷ units.spell u
 block_spelling (Queue u) = 8 ∷ units.spell u
 block_spelling (Depart u) = 9 ∷ units.spell u
+block_spelling (Transfer target) = 13 ∷ block_number.spell target
+block_spelling (TransferByFraction f) = 14 ∷ fraction.spell f
 
 -- the blocks
 abbrev pub block_forms : List (Form Block)
@@ -104,6 +126,8 @@ block_forms =
     ∷ behind 7 (λ u. Leave u) units
     ∷ behind 8 (λ u. Queue u) units
     ∷ behind 9 (λ u. Depart u) units
+    ∷ behind 13 (λ target. Transfer target) block_number
+    ∷ behind 14 (λ f. TransferByFraction f) fraction
     ∷ []
 
 -- by its tag; another tag is a fault
@@ -120,9 +144,38 @@ block = record { spell = block_spelling; read = block_read; Fits = BlockFits }
 abbrev pub no_elements : Field (Unit {0})
 no_elements = made (λ _. tt) (λ _. 0) (count 0 0)
 
--- parameters, facilities and units: none yet
+-- a facility that a transaction owns, above the one before it
+abbrev pub owned : Element ℕ
+owned = ascending (λ x. x.0) (λ facility. (facility, tt)) entity_number nothing
+
+-- units that a transaction holds, of an entity above the one before it
+abbrev pub held : Element Units
+held = ascending (λ (entity, n). record { entity = entity; number = n }) (λ u. (u.entity, u.number)) entity_number (ranged 1 greatest_units (number w32))
+
+-- the entity's number fits, and the number of units is within limits
+pub record HeldFits (u : Units) : Type 0 where
+  pub entity : entity_number.Fits u.entity
+  pub least : 1 ≤ u.number
+  pub most : u.number ≤ greatest_units
+
+-- the facilities and units are within limits
+pub record StateFits (s : TableState) : Type 0 where
+  pub facilities : length s.facilities ≤ most_entities
+  pub each_facility : All entity_number.Fits s.facilities
+  pub units : length s.units ≤ most_entities
+  pub each_unit : All HeldFits s.units
+
+-- the facilities, and the entities of the units, ascend
+pub record IsAscending (s : TableState) : Type 0 where
+  pub facilities : AllPairs (λ a b. a < b) s.facilities
+  pub units : AllPairs (λ (a b : Units). a.entity < b.entity) s.units
+
+-- parameters (none yet), facilities and units
 unfoldable pub state : Field TableState
-state = fitting (λ _. Unit {0}) (made (λ _. record {}) (λ _. (tt, (tt, tt))) (both no_elements (both no_elements no_elements)))
+state = fitting (λ s. StateFits s × IsAscending s) (made
+    (λ (_, (facilities, units)). record { facilities = facilities; units = units })
+    (λ s. (tt, (s.facilities, s.units)))
+    (both no_elements (both (listed 0 most_entities owned) (listed 0 most_entities held))))
 
 -- a certified weight
 abbrev pub weight : Field ℕ
@@ -175,6 +228,7 @@ pub record IsWithinLimits (p : Parts) : Type 0 where
   pub blocks : length p.blocks ≤ most_blocks
   pub each_block : All BlockFits p.blocks
   pub states : length p.states ≡ length p.blocks
+  pub each_state : All (λ row. IfSome row StateFits) p.states
   pub weights : length p.weights ≡ length p.blocks
   pub each_weight : All (λ weight. (1 ≤ weight) × (weight ≤ greatest_weight)) p.weights
   pub size : length (spelling p) ≤ most_bytes
@@ -183,6 +237,7 @@ pub record IsWithinLimits (p : Parts) : Type 0 where
 pub record IsCanonical (p : Parts) : Type 0 where
   pub last_seed : slice_get p.seeds (length p.seeds - 1) ≢ Some 0
   pub own_names : AllPairs (λ a b. ¬ AreNamesakes a b) p.entities
+  pub each_state : All (λ row. IfSome row IsAscending) p.states
 
 -- parts have a spelling
 pub record HasSpelling (p : Parts) : Type 0 where

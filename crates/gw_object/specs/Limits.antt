@@ -29,6 +29,10 @@ most_letters = 32
 abbrev pub greatest_capacity : ℕ
 greatest_capacity = 2147483647
 
+-- units of one entity that the state table says of a transaction
+abbrev pub greatest_units : ℕ
+greatest_units = 2147483647
+
 -- blocks
 abbrev pub most_blocks : ℕ
 most_blocks = 4096

@@ -1,13 +1,12 @@
-//! Blocks, their operands and their rows of the state table.
+//! Blocks and their operands, in bytes.
 
 ghost use Rattle.std.specs.Prelude.{◌≡◌};
-ghost use Rattle.gw_object.specs.Grammar.{operand, spread, generate, units, block, state};
+ghost use Rattle.gw_object.specs.Grammar.{operand, spread, generate, units, fraction, block};
 ghost use Rattle.gw_object.specs.Reading.{Gives};
 
 use crate::Memory;
 use crate::codes::*;
 use crate::error::*;
-use crate::numbers::*;
 use crate::parts::*;
 use crate::spelled::Spelled;
 use std::alloc::Global;
@@ -26,6 +25,14 @@ impl Spelled for Operand {
             }
         }
         Ok(())
+    }
+
+    #[tactic(auto, unfolding(crate::specs::Grammar::operand))]
+    fn room_after(&self, room: usize) -> Option<usize> {
+        let room = room.checked_sub(1)?;
+        match self {
+            Operand::Constant(number) => number.room_after(room),
+        }
     }
 
     #[tactic(auto, unfolding(crate::specs::Grammar::operand))]
@@ -51,6 +58,12 @@ impl Spelled for Spread {
     }
 
     #[tactic(auto, unfolding(crate::specs::Grammar::spread))]
+    fn room_after(&self, room: usize) -> Option<usize> {
+        let room = self.mean.room_after(room)?;
+        self.half.room_after(room)
+    }
+
+    #[tactic(auto, unfolding(crate::specs::Grammar::spread))]
     fn read(alloc: Global, bytes: &[u8]) -> Result<(Spread, &[u8]), ReadError> {
         let (mean, rest) = Operand::read(alloc, bytes)?;
         let (half, rest) = Operand::read(alloc, rest)?;
@@ -69,6 +82,14 @@ impl Spelled for Generate {
         self.first.put(out)?;
         self.limit.put(out)?;
         self.priority.put(out)
+    }
+
+    #[tactic(auto, unfolding(crate::specs::Grammar::generate))]
+    fn room_after(&self, room: usize) -> Option<usize> {
+        let room = self.interval.room_after(room)?;
+        let room = self.first.room_after(room)?;
+        let room = self.limit.room_after(room)?;
+        self.priority.room_after(room)
     }
 
     #[tactic(auto, unfolding(crate::specs::Grammar::generate))]
@@ -99,10 +120,49 @@ impl Spelled for Units {
     }
 
     #[tactic(auto, unfolding(crate::specs::Grammar::units))]
+    fn room_after(&self, room: usize) -> Option<usize> {
+        let room = self.entity.room_after(room)?;
+        self.number.room_after(room)
+    }
+
+    #[tactic(auto, unfolding(crate::specs::Grammar::units))]
     fn read(alloc: Global, bytes: &[u8]) -> Result<(Units, &[u8]), ReadError> {
         let (entity, rest) = u16::read(alloc, bytes)?;
         let (number, rest) = u32::read(alloc, rest)?;
         Ok((Units { entity, number }, rest))
+    }
+}
+
+impl Spelled for Fraction {
+    ghost spelling = { fraction.spell };
+
+    ghost reading = { fraction.read };
+
+    #[tactic(auto, unfolding(crate::specs::Grammar::fraction))]
+    fn put(&self, out: &mut Vec<u8>) -> Result<(), Memory> {
+        self.thousandths.put(out)?;
+        self.otherwise.put(out)?;
+        self.target.put(out)
+    }
+
+    #[tactic(auto, unfolding(crate::specs::Grammar::fraction))]
+    fn room_after(&self, room: usize) -> Option<usize> {
+        let room = self.thousandths.room_after(room)?;
+        let room = self.otherwise.room_after(room)?;
+        self.target.room_after(room)
+    }
+
+    #[tactic(auto, unfolding(crate::specs::Grammar::fraction))]
+    fn read(alloc: Global, bytes: &[u8]) -> Result<(Fraction, &[u8]), ReadError> {
+        let (thousandths, rest) = u16::read(alloc, bytes)?;
+        let (otherwise, rest) = Option::<u16>::read(alloc, rest)?;
+        let (target, rest) = u16::read(alloc, rest)?;
+        let fraction = Fraction {
+            thousandths,
+            otherwise,
+            target,
+        };
+        Ok((fraction, rest))
     }
 }
 
@@ -149,8 +209,32 @@ impl Spelled for Block {
                 out.push(9)?;
                 units.put(out)?;
             }
+            Block::Transfer(target) => {
+                out.push(13)?;
+                target.put(out)?;
+            }
+            Block::TransferByFraction(fraction) => {
+                out.push(14)?;
+                fraction.put(out)?;
+            }
         }
         Ok(())
+    }
+
+    fn room_after(&self, room: usize) -> Option<usize> {
+        let room = room.checked_sub(1)?;
+        match self {
+            Block::Generate(generate) => generate.room_after(room),
+            Block::Terminate(decrement) => decrement.room_after(room),
+            Block::Advance(time) => time.room_after(room),
+            Block::Seize(facility) | Block::Release(facility) => facility.room_after(room),
+            Block::Enter(units)
+            | Block::Leave(units)
+            | Block::Queue(units)
+            | Block::Depart(units) => { units.room_after(room) }
+            Block::Transfer(target) => target.room_after(room),
+            Block::TransferByFraction(fraction) => fraction.room_after(room),
+        }
     }
 
     #[tactic(auto, unfolding(crate::specs::Grammar::block_read))]
@@ -193,29 +277,15 @@ impl Spelled for Block {
                 let (units, rest) = Units::read(alloc, rest)?;
                 Ok((Block::Depart(units), rest))
             }
+            13 => {
+                let (target, rest) = u16::read(alloc, rest)?;
+                Ok((Block::Transfer(target), rest))
+            }
+            14 => {
+                let (fraction, rest) = Fraction::read(alloc, rest)?;
+                Ok((Block::TransferByFraction(fraction), rest))
+            }
             _ => Err(fault(TAG, bytes)),
         }
-    }
-}
-
-impl Spelled for TableState {
-    ghost spelling = { state.spell };
-
-    ghost reading = { state.read };
-
-    #[tactic(auto, unfolding(crate::specs::Grammar::state))]
-    fn put(&self, out: &mut Vec<u8>) -> Result<(), Memory> {
-        put_count(out, 0)?;
-        put_count(out, 0)?;
-        put_count(out, 0)
-    }
-
-    /// Parameters, facilities and units: none yet.
-    #[tactic(auto, unfolding(crate::specs::Grammar::state))]
-    fn read(alloc: Global, bytes: &[u8]) -> Result<(TableState, &[u8]), ReadError> {
-        let (_parameters, rest) = read_count(alloc, bytes, 0, 0)?;
-        let (_facilities, rest) = read_count(alloc, rest, 0, 0)?;
-        let (_units, rest) = read_count(alloc, rest, 0, 0)?;
-        Ok((TableState {}, rest))
     }
 }

@@ -1,9 +1,9 @@
 //! Entities, in bytes and against the rules of the object format.
 
-ghost use Rattle.std.specs.Prelude.{◌≡◌, ◌↔◌, ◌++◌, IsTrue, OnOk};
-ghost use Rattle.std.specs.List.{All, AllPairs, list_any};
-ghost use Rattle.gw_object.specs.Fields.{plain};
-ghost use Rattle.gw_object.specs.Entities.{is_letter, letter, kind_tag, kind_fields, KindFits, IsLettered, EntityFits, AreNamesakes, is_named, new_name, entity};
+ghost use Rattle.std.specs.Prelude.{◌≡◌, ◌↔◌, ◌++◌, length, IsTrue, OnOk};
+ghost use Rattle.std.specs.List.{All, AllPairs, flat_map, list_any};
+ghost use Rattle.gw_object.specs.Fields.{Leaves, count_spelling, plain};
+ghost use Rattle.gw_object.specs.Entities.{is_letter, letter, kind_tag, kind_fields, KindFits, IsLettered, EntityFits, AreNamesakes, is_named, new_name, entity_spelling, entity};
 ghost use Rattle.gw_object.specs.Reading.{Gives};
 
 use crate::Memory;
@@ -78,6 +78,30 @@ fn put_fields(out: &mut Vec<u8>, kind: Kind) -> Result<(), Memory>
         Kind::Facility | Kind::Queue => Ok(()),
         Kind::Storage(capacity) => capacity.put(out),
     }
+}
+
+/// How many bytes of a room are left behind those of an entity; `None` where they don't fit into it.
+fn room_after_entity(entity: &Entity, room: usize) -> Option<usize>
+    ensures { Leaves (entity_spelling entity.now) room result }
+{
+    let room = room.checked_sub(1)?;
+    let room = room_after_listed(entity.name.as_slice(), room)?;
+    match entity.kind {
+        Kind::Facility | Kind::Queue => Some(room),
+        Kind::Storage(capacity) => capacity.room_after(room),
+    }
+}
+
+/// How many bytes of a room are left behind a count of entities and theirs; `None` where they don't fit into
+/// it.
+pub fn room_after_entities(entities: &[Entity], room: usize) -> Option<usize>
+    ensures { Leaves (count_spelling (length entities.now) ++ flat_map entity_spelling entities.now) room result }
+{
+    let mut left = room_after_count(entities.len(), room)?;
+    for entity in entities {
+        left = room_after_entity(entity, left)?;
+    }
+    Some(left)
 }
 
 /// A name that no entity of the kind of this byte has at the front.

@@ -16,16 +16,19 @@ mod parts;
 mod reading;
 mod rules;
 mod spelled;
+mod states;
 mod writing;
 
 pub use fault::{Fault, Place};
 pub use items::Items;
 pub use limits::{
-    GREATEST_CAPACITY, GREATEST_COUNT, GREATEST_SEED, GREATEST_WEIGHT, MOST_BLOCKS, MOST_BYTES,
-    MOST_ENTITIES, MOST_LETTERS, MOST_SEEDS,
+    GREATEST_CAPACITY, GREATEST_COUNT, GREATEST_SEED, GREATEST_UNITS, GREATEST_WEIGHT, MOST_BLOCKS,
+    MOST_BYTES, MOST_ENTITIES, MOST_LETTERS, MOST_SEEDS,
 };
 pub use object::Object;
-pub use parts::{Block, Entity, Generate, Kind, Operand, Parts, Spread, TableState, Units};
+pub use parts::{
+    Block, Entity, Fraction, Generate, Kind, Operand, Parts, Spread, TableState, Units,
+};
 pub use reading::read;
 pub use std::alloc::AllocError as Memory;
 pub use writing::write;

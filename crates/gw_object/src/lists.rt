@@ -2,7 +2,7 @@
 
 ghost use Rattle.std.specs.Prelude.{◌≡◌, ℕ, List, [], ◌<◌, ◌^◌, ◌++◌, OnOk, length};
 ghost use Rattle.std.specs.List.{All, flat_map};
-ghost use Rattle.gw_object.specs.Fields.{Read, plain, count_spelling, elements_read, listed_read};
+ghost use Rattle.gw_object.specs.Fields.{Read, Leaves, plain, count_spelling, elements_read, listed_read};
 ghost use Rattle.gw_object.specs.Grammar.{seed, weight};
 ghost use Rattle.gw_object.specs.Reading.{Gives};
 
@@ -85,6 +85,26 @@ pub fn put_listed<L: Elements>(out: &mut Vec<u8>, elements: &[L::Item]) -> Resul
     put_elements::<L>(out, elements)
 }
 
+/// How many bytes of a room are left behind those of elements; `None` where they don't fit into it.
+pub fn room_after_elements<T: Spelled>(elements: &[T], room: usize) -> Option<usize>
+    ensures { Leaves (flat_map T.spelling elements.now) room result }
+{
+    let mut left = room;
+    for element in elements {
+        left = element.room_after(left)?;
+    }
+    Some(left)
+}
+
+/// How many bytes of a room are left behind a count of elements and theirs; `None` where they don't fit into
+/// it.
+pub fn room_after_listed<T: Spelled>(elements: &[T], room: usize) -> Option<usize>
+    ensures { Leaves (count_spelling (length elements.now) ++ flat_map T.spelling elements.now) room result }
+{
+    let room = room_after_count(elements.len(), room)?;
+    room_after_elements(elements, room)
+}
+
 /// A count within two limits, and as many elements.
 pub fn read_listed<L: Elements>(
     alloc: Global,
@@ -107,6 +127,8 @@ impl<T: Spelled> Elements for Plain<T> {
     ghost element_spelling = { T.spelling };
 
     ghost element_reading = { λ front left. T.reading };
+
+    ghost can_put = { T.can_put };
 
     fn put_element(out: &mut Vec<u8>, element: &T) -> Result<(), Memory> {
         element.put(out)

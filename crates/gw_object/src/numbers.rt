@@ -1,8 +1,8 @@
 //! Numbers, counts and optional values.
 
-ghost use Rattle.std.specs.Prelude.{◌≡◌, ◌<◌, ◌^◌, ◌++◌, OnOk};
+ghost use Rattle.std.specs.Prelude.{◌≡◌, ◌<◌, ◌^◌, ◌++◌, OnOk, IfSome};
 ghost use Rattle.std.specs.Int.{w16, w32, w64};
-ghost use Rattle.gw_object.specs.Fields.{byte, number, signed, ranged, count, count_spelling, optional_spelling, optional_read};
+ghost use Rattle.gw_object.specs.Fields.{Leaves, byte, number, signed, ranged, count, count_spelling, optional_spelling, optional_read};
 ghost use Rattle.gw_object.specs.Reading.{Gives};
 
 use crate::Memory;
@@ -21,6 +21,10 @@ impl Spelled for u8 {
         Ok(())
     }
 
+    fn room_after(&self, room: usize) -> Option<usize> {
+        room.checked_sub(1)
+    }
+
     fn read(_alloc: Global, bytes: &[u8]) -> Result<(u8, &[u8]), ReadError> {
         match bytes {
             [] => Err(fault(TRUNCATED, bytes)),
@@ -36,6 +40,10 @@ impl Spelled for u16 {
 
     fn put(&self, out: &mut Vec<u8>) -> Result<(), Memory> {
         out.extend_from_slice(&self.to_be_bytes())
+    }
+
+    fn room_after(&self, room: usize) -> Option<usize> {
+        room.checked_sub(2)
     }
 
     fn read(_alloc: Global, bytes: &[u8]) -> Result<(u16, &[u8]), ReadError> {
@@ -57,6 +65,10 @@ impl Spelled for u32 {
         out.extend_from_slice(&self.to_be_bytes())
     }
 
+    fn room_after(&self, room: usize) -> Option<usize> {
+        room.checked_sub(4)
+    }
+
     fn read(_alloc: Global, bytes: &[u8]) -> Result<(u32, &[u8]), ReadError> {
         if bytes.len() < 4 {
             return Err(fault(TRUNCATED, bytes));
@@ -74,6 +86,10 @@ impl Spelled for u64 {
 
     fn put(&self, out: &mut Vec<u8>) -> Result<(), Memory> {
         out.extend_from_slice(&self.to_be_bytes())
+    }
+
+    fn room_after(&self, room: usize) -> Option<usize> {
+        room.checked_sub(8)
     }
 
     fn read(_alloc: Global, bytes: &[u8]) -> Result<(u64, &[u8]), ReadError> {
@@ -97,6 +113,10 @@ impl Spelled for i32 {
         out.extend_from_slice(&self.to_be_bytes())
     }
 
+    fn room_after(&self, room: usize) -> Option<usize> {
+        room.checked_sub(4)
+    }
+
     fn read(alloc: Global, bytes: &[u8]) -> Result<(i32, &[u8]), ReadError> {
         let (number, rest) = u32::read(alloc, bytes)?;
         Ok((number.cast_signed(), rest))
@@ -112,6 +132,10 @@ impl Spelled for i64 {
         out.extend_from_slice(&self.to_be_bytes())
     }
 
+    fn room_after(&self, room: usize) -> Option<usize> {
+        room.checked_sub(8)
+    }
+
     fn read(alloc: Global, bytes: &[u8]) -> Result<(i64, &[u8]), ReadError> {
         let (number, rest) = u64::read(alloc, bytes)?;
         Ok((number.cast_signed(), rest))
@@ -123,6 +147,8 @@ impl<T: Spelled> Spelled for Option<T> {
 
     ghost reading = { optional_read T.reading };
 
+    ghost can_put = { λ o. IfSome o T.can_put };
+
     fn put(&self, out: &mut Vec<u8>) -> Result<(), Memory> {
         match self {
             None => out.push(0)?,
@@ -132,6 +158,14 @@ impl<T: Spelled> Spelled for Option<T> {
             }
         }
         Ok(())
+    }
+
+    fn room_after(&self, room: usize) -> Option<usize> {
+        let room = room.checked_sub(1)?;
+        match self {
+            None => Some(room),
+            Some(value) => value.room_after(room),
+        }
     }
 
     fn read(alloc: Global, bytes: &[u8]) -> Result<(Option<T>, &[u8]), ReadError> {
@@ -191,6 +225,13 @@ pub fn put_count(out: &mut Vec<u8>, count: usize) -> Result<(), Memory>
         (count as u32).put(out)?;
     }
     Ok(())
+}
+
+/// How many bytes of a room are left behind those of a count; `None` where they don't fit into it.
+pub fn room_after_count(count: usize, room: usize) -> Option<usize>
+    ensures { Leaves (count_spelling count) room result }
+{
+    room.checked_sub(if count < 255 { 1 } else { 5 })
 }
 
 /// A count within two limits.

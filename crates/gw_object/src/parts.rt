@@ -61,6 +61,17 @@ pub struct Units {
     pub number: u32,
 }
 
+/// The operands of a TRANSFER block in fractional mode.
+#[derive(Clone, Copy, Debug, PartialEq, Eq)]
+pub struct Fraction {
+    /// How many of a thousand transactions go to the target.
+    pub thousandths: u16,
+    /// The number of the block to which the others go, from 1; without it they go to the next block.
+    pub otherwise: Option<u16>,
+    /// The number of the block to which that part of them goes, from 1.
+    pub target: u16,
+}
+
 /// A block.
 #[derive(Clone, Copy, Debug, PartialEq, Eq)]
 pub enum Block {
@@ -82,11 +93,22 @@ pub enum Block {
     Queue(Units),
     /// Transactions take units off the content of a queue.
     Depart(Units),
+    /// Transactions go to a block, which is given by its number from 1: TRANSFER in unconditional mode.
+    Transfer(u16),
+    /// A part of the transactions goes to one block, the others to another: TRANSFER in fractional mode.
+    TransferByFraction(Fraction),
 }
 
-/// What the state table says of a transaction that is about to enter a block: nothing yet.
-#[derive(Clone, Copy, Debug, PartialEq, Eq)]
-pub struct TableState {}
+/// What the state table says of a transaction that is about to enter a block. (Ours:
+/// docs/object-format.md.)
+#[derive(Debug, Drop, PartialEq, Eq)]
+pub struct TableState {
+    /// The facilities that it owns, by their entities' numbers from 0, ascending; at most 1,024.
+    pub facilities: Items<u16>,
+    /// The units that it is sure to hold, of storages and queues, ascending by entity; at most 1,024, each from
+    /// 1 to 2^31 - 1.
+    pub units: Items<Units>,
+}
 
 /// The parts of an object. Comparing them takes no memory.
 #[derive(Debug, Drop, PartialEq, Eq)]

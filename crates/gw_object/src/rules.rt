@@ -1,14 +1,16 @@
 //! Whether parts keep the rules of the object format.
 
-ghost use Rattle.std.specs.Prelude.{◌≡◌, ◌↔◌, ◌≤◌, IsTrue, MatchOption};
+ghost use Rattle.std.specs.Prelude.{◌≡◌, ◌↔◌, ◌≤◌, length, IsTrue, MatchOption};
 ghost use Rattle.std.specs.List.{All};
-ghost use Rattle.gw_object.specs.Limits.{greatest_seed, greatest_weight};
-ghost use Rattle.gw_object.specs.Grammar.{BlockFits, HasLetters, IsWithinLimits, IsCanonical, HasSpelling, Refuses};
+ghost use Rattle.gw_object.specs.Limits.{most_bytes, greatest_seed, greatest_weight};
+ghost use Rattle.gw_object.specs.Grammar.{BlockFits, HasLetters, IsWithinLimits, IsCanonical, HasSpelling, Refuses, spelling};
 
 use crate::codes::*;
 use crate::entities::{are_lettered, entities_fit, names_are_own};
 use crate::limits::*;
 use crate::parts::*;
+use crate::states::{states_ascend, states_fit};
+use crate::writing::room_after_parts;
 
 /// Whether each seed is in range.
 fn seeds_fit(seeds: &[u32]) -> bool
@@ -47,9 +49,14 @@ fn has_letters(parts: &Parts) -> bool
     are_lettered(parts.entities.as_slice())
 }
 
-/// Whether parts keep the limits of the format. At most 4,096 blocks without lists of their own are spelled
-/// in less than 1 MiB.
-#[tactic(auto, using(crate::proofs::Sizes::size_fits))]
+/// Whether the spelling of parts is at most 1 MiB: its bytes are counted, and not written.
+fn size_fits(parts: &Parts) -> bool
+    ensures { IsTrue result ↔ (length (spelling parts.now) ≤ most_bytes) }
+{
+    room_after_parts(parts, MOST_BYTES).is_some()
+}
+
+/// Whether parts keep the limits of the format.
 fn is_within_limits(parts: &Parts) -> bool
     ensures { IsTrue result ↔ IsWithinLimits parts.now }
 {
@@ -67,7 +74,12 @@ fn is_within_limits(parts: &Parts) -> bool
     if parts.count < 1 || parts.count > GREATEST_COUNT {
         return false;
     }
-    seeds_fit(seeds) && entities_fit(entities) && blocks_fit(blocks) && weights_fit(weights)
+    seeds_fit(seeds)
+        && entities_fit(entities)
+        && blocks_fit(blocks)
+        && states_fit(states)
+        && weights_fit(weights)
+        && size_fits(parts)
 }
 
 /// Whether parts are the one form of what they say: the last seed isn't 0, and each entity has a name of its
@@ -75,6 +87,9 @@ fn is_within_limits(parts: &Parts) -> bool
 fn is_canonical(parts: &Parts) -> bool
     ensures { IsTrue result ↔ IsCanonical parts.now }
 {
+    if !states_ascend(parts.states.as_slice()) {
+        return false;
+    }
     parts.seeds.as_slice().last() != Some(&0) && names_are_own(parts.entities.as_slice())
 }
 

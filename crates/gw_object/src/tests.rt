@@ -5,6 +5,7 @@ use std::test::Fail;
 
 mod blocks;
 mod entities;
+mod states;
 
 /// `GENERATE 10 / ADVANCE 3 / TERMINATE 1` with termination count 2.
 const THREE_BLOCKS: [u8; 97] = [
@@ -69,15 +70,48 @@ fn changed(
     Ok(bytes)
 }
 
+/// The place of the first change of an object's bytes after which another fault is found than the one listed. A
+/// change is the place and the number of the bytes that are replaced, those that replace them, and the code and the
+/// byte of the fault.
+fn wrong_fault(
+    alloc: Global,
+    whole: &[u8],
+    changes: &[(usize, usize, &[u8], u16, u32)],
+) -> Result<Option<usize>, Memory> {
+    for (place, old, new, code, byte) in changes {
+        let bytes = changed(alloc, whole, *place, *old, new)?;
+        if refusal(alloc, &bytes) != at(*code, *byte) {
+            return Ok(Some(*place));
+        }
+    }
+    Ok(None)
+}
+
+/// The parts of the three blocks.
+fn three_blocks(alloc: Global) -> Result<Parts, Memory> {
+    let generate = Block::Generate(Generate {
+        interval: constant_time(10, 0),
+        first: None,
+        limit: None,
+        priority: 0,
+    });
+    let advance = Block::Advance(constant_time(3, 0));
+    let terminate = Block::Terminate(Operand::Constant(1));
+    Ok(Parts {
+        seeds: Items::from_vec(Vec::new(alloc)),
+        count: 2,
+        entities: Items::from_vec(Vec::new(alloc)),
+        blocks: Items::from_vec(Vec::from_slice(alloc, &[generate, advance, terminate])?),
+        states: empty_states(alloc, 3)?,
+        weights: Items::from_vec(Vec::from_slice(alloc, &[2, 1, 1])?),
+    })
+}
+
 #[test]
 fn three_blocks_are_read_and_written_again(rt: HostRuntime) -> Result<(), Fail> {
-    let object = read(rt.alloc(), &THREE_BLOCKS).ok().ok_or("an object")?;
-    let parts = object.parts();
-    assert_eq!(rt; parts.count, 2);
-    assert_eq!(rt; parts.blocks.as_slice().len(), 3);
-    assert_eq!(rt; parts.weights.as_slice(), [2, 1, 1].as_slice());
-    let bytes = write(rt.alloc(), &object)?;
-    assert_eq!(rt; bytes.as_slice(), THREE_BLOCKS.as_slice());
+    let alloc = rt.alloc();
+    let parts = three_blocks(alloc)?;
+    assert!(rt; are_read_as(alloc, &THREE_BLOCKS, &parts)?);
     Ok(())
 }
 
@@ -106,8 +140,7 @@ fn each_cut_is_truncated_at_the_cut_field(rt: HostRuntime) {
 
 #[test]
 fn each_fault_is_named_by_its_code_and_place(rt: HostRuntime) -> Result<(), Fail> {
-    // The place and the number of the bytes that are replaced, those that replace them, and the refusal.
-    let faults: [(usize, usize, &[u8], u16, u32); 29] = [
+    let faults: [(usize, usize, &[u8], u16, u32); 30] = [
         (97, 0, &[0x00], TRAILING, 97),
         (0, 1, &[0x46], MAGIC, 0),
         (0, 6, &[0x47, 0x50, 0x53, 0x00, 0x00, 0x02], MAGIC, 0),
@@ -144,26 +177,29 @@ fn each_fault_is_named_by_its_code_and_place(rt: HostRuntime) -> Result<(), Fail
         (63, 1, &[0x02], TAG, 63),
         (72, 1, &[0x01], LIMIT, 72),
         (73, 1, &[0x02], TAG, 73),
-        (75, 1, &[0x01], LIMIT, 75),
+        (74, 1, &[0x01], LIMIT, 74),
+        // A facility and no units: four bytes less for the next two states, and four are left in the end.
+        (75, 1, &[0x01], TRAILING, 93),
         (84, 1, &[0xff, 0x00, 0x00, 0x00, 0x00], NOT_CANONICAL, 84),
         (85, 4, &[0x3b, 0x9a, 0xca, 0x01], LIMIT, 85),
         (96, 1, &[0x00], LIMIT, 93),
         (17, 1, &[0x02], LIMIT, 62),
     ];
-    for (place, old, new, code, byte) in faults {
-        let bytes = changed(rt.alloc(), &THREE_BLOCKS, place, old, new)?;
-        assert_eq!(rt; refusal(rt.alloc(), &bytes), at(code, byte), "at {place}");
-    }
+    assert_eq!(rt; wrong_fault(rt.alloc(), &THREE_BLOCKS, &faults)?, None);
     Ok(())
+}
+
+/// The refusal of so many bytes 0.
+fn zeros_refusal(alloc: Global, len: usize) -> Result<Option<Fault>, Memory> {
+    let bytes = vec![in alloc; 0u8; len]?;
+    Ok(refusal(alloc, &bytes))
 }
 
 #[test]
 fn too_many_bytes_are_refused_before_all_else(rt: HostRuntime) -> Result<(), Fail> {
-    let mut bytes = vec![in rt.alloc(); 0u8; 1_048_576]?;
-    assert_eq!(rt; refusal(rt.alloc(), &bytes), at(MAGIC, 0));
-    bytes.push(0)?;
-    assert_eq!(rt; refusal(rt.alloc(), &bytes), at(LIMIT, 0));
-    assert_eq!(rt; refusal(rt.alloc(), &[]), at(TRUNCATED, 0));
+    assert_eq!(rt; zeros_refusal(rt.alloc(), 1_048_576)?, at(MAGIC, 0));
+    assert_eq!(rt; zeros_refusal(rt.alloc(), 1_048_577)?, at(LIMIT, 0));
+    assert_eq!(rt; zeros_refusal(rt.alloc(), 0)?, at(TRUNCATED, 0));
     Ok(())
 }
 
@@ -172,6 +208,32 @@ fn constant_time(mean: i64, half: i64) -> Spread {
         mean: Operand::Constant(mean),
         half: Operand::Constant(half),
     }
+}
+
+/// A state with these facilities and units.
+fn state(alloc: Global, facilities: &[u16], units: &[Units]) -> Result<TableState, Memory> {
+    Ok(TableState {
+        facilities: Items::from_vec(Vec::from_slice(alloc, facilities)?),
+        units: Items::from_vec(Vec::from_slice(alloc, units)?),
+    })
+}
+
+/// For each of so many blocks a state that owns and holds nothing.
+fn empty_states(alloc: Global, count: usize) -> Result<Items<Option<TableState>>, Memory> {
+    let mut states = Vec::new(alloc);
+    for _ in 0..count {
+        states.push(Some(state(alloc, &[], &[])?))?;
+    }
+    Ok(Items::from_vec(states))
+}
+
+/// No state for any of so many blocks.
+fn no_states(alloc: Global, count: usize) -> Result<Items<Option<TableState>>, Memory> {
+    let mut states = Vec::new(alloc);
+    for _ in 0..count {
+        states.push(None)?;
+    }
+    Ok(Items::from_vec(states))
 }
 
 /// Two blocks, with all operands of GENERATE, and seeds for three streams.
@@ -183,12 +245,15 @@ fn two_blocks(alloc: Global) -> Result<Parts, Memory> {
         priority: -7,
     });
     let terminate = Block::Terminate(Operand::Constant(1));
+    let mut states = Vec::new(alloc);
+    states.push(Some(state(alloc, &[], &[])?))?;
+    states.push(None)?;
     Ok(Parts {
         seeds: Items::from_vec(Vec::from_slice(alloc, &[5, 0, 2_147_483_646])?),
         count: 1_099_511_627_776,
         entities: Items::from_vec(Vec::new(alloc)),
         blocks: Items::from_vec(Vec::from_slice(alloc, &[generate, terminate])?),
-        states: Items::from_vec(Vec::from_slice(alloc, &[Some(TableState {}), None])?),
+        states: Items::from_vec(states),
         weights: Items::from_vec(Vec::from_slice(alloc, &[1_000_000_000, 1])?),
     })
 }
@@ -223,67 +288,114 @@ fn build_code(parts: Parts) -> Option<u16> {
     }
 }
 
-#[test]
-fn seeds_that_end_in_0_are_handed_back(rt: HostRuntime) -> Result<(), Fail> {
-    let mut parts = read(rt.alloc(), &THREE_BLOCKS)
-        .ok()
-        .ok_or("an object")?
-        .into_parts();
-    parts.seeds = Items::from_vec(Vec::from_slice(rt.alloc(), &[0])?);
-    let (again, fault) = Object::build(parts).err().ok_or("a last seed 0")?;
-    assert_eq!(rt; fault.code, NOT_CANONICAL);
-    assert_eq!(rt; fault.place, Place::Nowhere);
-    assert_eq!(rt; again.seeds.as_slice(), [0].as_slice());
-    assert_eq!(rt; again.weights.into_vec().as_slice(), [2, 1, 1].as_slice());
-    Ok(())
+/// The parts of the three blocks' object, with these seeds.
+fn with_seeds(alloc: Global, seeds: &[u32]) -> Result<Parts, Fail> {
+    let object = read(alloc, &THREE_BLOCKS).ok().ok_or("an object")?;
+    let mut parts = object.into_parts();
+    parts.seeds = Items::from_vec(Vec::from_slice(alloc, seeds)?);
+    Ok(parts)
+}
+
+/// The fault of parts that `build` refuses and hands back as these.
+fn fault_and_back(parts: Parts, same: &Parts) -> Option<Fault> {
+    match Object::build(parts) {
+        Ok(_) => None,
+        Err((back, fault)) => if back == *same { Some(fault) } else { None },
+    }
 }
 
 #[test]
-fn lists_outside_their_limits_are_not_built(rt: HostRuntime) -> Result<(), Fail> {
-    for seeds in [
-        [1_u32; 17].as_slice(),
-        &[2_147_483_647],
-        &[2_147_483_647, 0],
-    ] {
-        let mut parts = two_blocks(rt.alloc())?;
-        parts.seeds = Items::from_vec(Vec::from_slice(rt.alloc(), seeds)?);
-        assert_eq!(rt; build_code(parts), Some(LIMIT));
-    }
-    for weights in [[1_u32].as_slice(), &[1, 1, 1], &[1, 0], &[1_000_000_001, 1]] {
-        let mut parts = two_blocks(rt.alloc())?;
-        parts.weights = Items::from_vec(Vec::from_slice(rt.alloc(), weights)?);
-        assert_eq!(rt; build_code(parts), Some(LIMIT));
-    }
-    for states in [[None].as_slice(), &[None, None, None]] {
-        let mut parts = two_blocks(rt.alloc())?;
-        parts.states = Items::from_vec(Vec::from_slice(rt.alloc(), states)?);
-        assert_eq!(rt; build_code(parts), Some(LIMIT));
-    }
+fn seeds_that_end_in_0_are_handed_back(rt: HostRuntime) -> Result<(), Fail> {
+    let parts = with_seeds(rt.alloc(), &[0])?;
+    let same = with_seeds(rt.alloc(), &[0])?;
+    let fault = Fault {
+        code: NOT_CANONICAL,
+        place: Place::Nowhere,
+    };
+    assert_eq!(rt; fault_and_back(parts, &same), Some(fault));
     Ok(())
+}
+
+/// The code of the refusal to build the two blocks with these seeds.
+fn seeds_code(alloc: Global, seeds: &[u32]) -> Result<Option<u16>, Memory> {
+    let mut parts = two_blocks(alloc)?;
+    parts.seeds = Items::from_vec(Vec::from_slice(alloc, seeds)?);
+    Ok(build_code(parts))
+}
+
+#[test]
+fn seeds_outside_their_limits_are_not_built(rt: HostRuntime) -> Result<(), Fail> {
+    let limit = Some(LIMIT);
+    assert_eq!(rt; seeds_code(rt.alloc(), &[1; 17])?, limit);
+    assert_eq!(rt; seeds_code(rt.alloc(), &[2_147_483_647])?, limit);
+    assert_eq!(rt; seeds_code(rt.alloc(), &[2_147_483_647, 0])?, limit);
+    Ok(())
+}
+
+/// The code of the refusal to build the two blocks with these weights.
+fn weights_code(alloc: Global, weights: &[u32]) -> Result<Option<u16>, Memory> {
+    let mut parts = two_blocks(alloc)?;
+    parts.weights = Items::from_vec(Vec::from_slice(alloc, weights)?);
+    Ok(build_code(parts))
+}
+
+#[test]
+fn weights_outside_their_limits_are_not_built(rt: HostRuntime) -> Result<(), Fail> {
+    let limit = Some(LIMIT);
+    assert_eq!(rt; weights_code(rt.alloc(), &[1])?, limit);
+    assert_eq!(rt; weights_code(rt.alloc(), &[1, 1, 1])?, limit);
+    assert_eq!(rt; weights_code(rt.alloc(), &[1, 0])?, limit);
+    assert_eq!(rt; weights_code(rt.alloc(), &[1_000_000_001, 1])?, limit);
+    Ok(())
+}
+
+/// The code of the refusal to build the two blocks with so many states.
+fn states_code(alloc: Global, count: usize) -> Result<Option<u16>, Memory> {
+    let mut parts = two_blocks(alloc)?;
+    parts.states = no_states(alloc, count)?;
+    Ok(build_code(parts))
+}
+
+#[test]
+fn more_or_fewer_states_than_blocks_are_not_built(rt: HostRuntime) -> Result<(), Fail> {
+    assert_eq!(rt; states_code(rt.alloc(), 1)?, Some(LIMIT));
+    assert_eq!(rt; states_code(rt.alloc(), 3)?, Some(LIMIT));
+    Ok(())
+}
+
+/// The code of the refusal to build the two blocks with this termination count.
+fn count_code(alloc: Global, count: u64) -> Result<Option<u16>, Memory> {
+    let mut parts = two_blocks(alloc)?;
+    parts.count = count;
+    Ok(build_code(parts))
 }
 
 #[test]
 fn counts_outside_their_limits_are_not_built(rt: HostRuntime) -> Result<(), Fail> {
-    for count in [0, 1_099_511_627_777, u64::MAX] {
-        let mut parts = two_blocks(rt.alloc())?;
-        parts.count = count;
-        assert_eq!(rt; build_code(parts), Some(LIMIT));
-    }
-    for blocks in [4_096, 4_097] {
-        let block = Block::Terminate(Operand::Constant(0));
-        let parts = Parts {
-            seeds: Items::from_vec(Vec::new(rt.alloc())),
-            count: 1,
-            entities: Items::from_vec(Vec::new(rt.alloc())),
-            blocks: Items::from_vec(vec![in rt.alloc(); block; blocks]?),
-            states: Items::from_vec(vec![in rt.alloc(); None; blocks]?),
-            weights: Items::from_vec(vec![in rt.alloc(); 1; blocks]?),
-        };
-        assert_eq!(rt;
-            build_code(parts),
-            if blocks == 4_096 { None } else { Some(LIMIT) }
-        );
-    }
+    let limit = Some(LIMIT);
+    assert_eq!(rt; count_code(rt.alloc(), 0)?, limit);
+    assert_eq!(rt; count_code(rt.alloc(), 1_099_511_627_777)?, limit);
+    assert_eq!(rt; count_code(rt.alloc(), u64::MAX)?, limit);
+    Ok(())
+}
+
+/// The code of the refusal to build so many blocks `TERMINATE 0`.
+fn blocks_code(alloc: Global, count: usize) -> Result<Option<u16>, Memory> {
+    let block = Block::Terminate(Operand::Constant(0));
+    Ok(build_code(Parts {
+        seeds: Items::from_vec(Vec::new(alloc)),
+        count: 1,
+        entities: Items::from_vec(Vec::new(alloc)),
+        blocks: Items::from_vec(vec![in alloc; block; count]?),
+        states: no_states(alloc, count)?,
+        weights: Items::from_vec(vec![in alloc; 1; count]?),
+    }))
+}
+
+#[test]
+fn at_most_4096_blocks_are_built(rt: HostRuntime) -> Result<(), Fail> {
+    assert_eq!(rt; blocks_code(rt.alloc(), 4_096)?, None);
+    assert_eq!(rt; blocks_code(rt.alloc(), 4_097)?, Some(LIMIT));
     Ok(())
 }
 

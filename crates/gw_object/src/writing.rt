@@ -1,10 +1,12 @@
 //! Writing an object: each function puts bytes at the end.
 
-ghost use Rattle.std.specs.Prelude.{◌≡◌, ◌++◌, OnOk, IfOk, length};
-ghost use Rattle.gw_object.specs.Grammar.{HasSpelling, head, tables, spelling};
+ghost use Rattle.std.specs.Prelude.{◌≡◌, ◌++◌, OnOk, IfOk, IfSome, length};
+ghost use Rattle.std.specs.List.{All};
+ghost use Rattle.gw_object.specs.Fields.{Leaves};
+ghost use Rattle.gw_object.specs.Grammar.{HasSpelling, StateFits, head, tables, spelling};
 
 use crate::Memory;
-use crate::entities::Entities;
+use crate::entities::{Entities, room_after_entities};
 use crate::lists::*;
 use crate::numbers::*;
 use crate::object::Object;
@@ -29,6 +31,7 @@ fn put_tables(
     states: &[Option<TableState>],
     weights: &[u32],
 ) -> Result<(), Memory>
+    requires { All (λ row. IfSome row StateFits) states.now }
     ensures { OnOk result (out.new.items ≡ out.old.items ++ (tables (length states.now)).spell (tt, (states.now, weights.now))) }
 {
     put_count(out, 0)?;
@@ -51,6 +54,21 @@ fn put_parts(out: &mut Vec<u8>, parts: &Parts) -> Result<(), Memory>
     put_listed::<Plain<Block>>(out, parts.blocks.as_slice())?;
     put_tables(out, parts.states.as_slice(), parts.weights.as_slice())?;
     Ok(())
+}
+
+/// How many bytes of a room are left behind those that spell parts; `None` where they don't fit into it.
+#[tactic(auto, unfolding(crate::specs::Grammar::spelling, crate::specs::Grammar::object, crate::specs::Grammar::head, crate::specs::Grammar::tables))]
+pub fn room_after_parts(parts: &Parts, room: usize) -> Option<usize>
+    ensures { Leaves (spelling parts.now) room result }
+{
+    // The letters, the version, and the counts of procedures and return rows.
+    let room = room.checked_sub(8)?;
+    let room = room_after_listed(parts.seeds.as_slice(), room)?;
+    let room = parts.count.room_after(room)?;
+    let room = room_after_entities(parts.entities.as_slice(), room)?;
+    let room = room_after_listed(parts.blocks.as_slice(), room)?;
+    let room = room_after_elements(parts.states.as_slice(), room)?;
+    room_after_elements(parts.weights.as_slice(), room)
 }
 
 /// The one spelling of an object.

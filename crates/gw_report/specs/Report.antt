@@ -3,7 +3,7 @@ use Rattle.std.specs.Prelude.{ℕ, ◌+◌, ◌/◌, ◌%◌, List, [], ◌∷�
 use Rattle.std.specs.Fmt.{decimal, signed_decimal}
 use Rattle.std.specs.Option.{unwrap_or}
 use Rattle.gw_object.specs.declared.parts.Block.{Block}
-use Rattle.gw_object.specs.declared.parts.Block.TheVariants.{Generate, Terminate, Advance, Seize, Release, Enter, Leave, Queue, Depart}
+use Rattle.gw_object.specs.declared.parts.Block.TheVariants.{Generate, Terminate, Advance, Seize, Release, Enter, Leave, Queue, Depart, Transfer, TransferByFraction}
 use Rattle.gw_object.specs.declared.parts.Entity.{Entity}
 use Rattle.gw_object.specs.declared.parts.Kind.{Kind}
 use Rattle.gw_object.specs.declared.parts.Kind.TheVariants as kinds
@@ -48,6 +48,8 @@ block_word (Enter units) = codes "ENTER"
 block_word (Leave units) = codes "LEAVE"
 block_word (Queue units) = codes "QUEUE"
 block_word (Depart units) = codes "DEPART"
+block_word (Transfer target) = codes "TRANSFER"
+block_word (TransferByFraction fraction) = codes "TRANSFER"
 
 -- the entries of all blocks, and the termination count
 abbrev pub counts : State → List ℕ

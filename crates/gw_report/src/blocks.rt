@@ -21,6 +21,7 @@ fn block_word(block: &Block) -> &'static str
         Block::Leave(_) => "LEAVE",
         Block::Queue(_) => "QUEUE",
         Block::Depart(_) => "DEPART",
+        Block::Transfer(_) | Block::TransferByFraction(_) => "TRANSFER",
     }
 }
 

@@ -1,10 +1,9 @@
 -- A machine in which nothing is scheduled.
-use Rattle.std.proofs.Common.{◌≡◌, ℕ, zero, suc, ◌+◌, ℤ, pos, List, [], ◌∷◌, map, length, replicate, Option, Some, None, refl, sym, ap, ◌∙◌, subst, arith}
+use Rattle.std.proofs.Common.{◌≡◌, ℕ, zero, suc, ◌+◌, pos, List, [], ◌∷◌, map, length, replicate, Option, None, refl, sym, ap, ◌∙◌, subst, arith}
 use Rattle.std.proofs.lemmas.List.{length-map}
-use Rattle.std.specs.Prelude.{sum_by}
 use Rattle.gw_object.specs.declared.parts.Entity.{Entity}
 use Rattle.gw_object.specs.declared.parts.Parts.{Parts}
-use Rattle.gw_num.specs.Table.{at, tabulate}
+use Rattle.gw_num.specs.Table.{at}
 use Rattle.gw_num.proofs.Tables.{tabulate-replicate, sum_by-replicate}
 use Rattle.gw_transactions.specs.declared.Transaction.{Transaction}
 use Rattle.gw_transactions.specs.Transactions.{IsSound}
@@ -13,17 +12,16 @@ use Rattle.gw_entities.specs.Facility.{idle}
 use Rattle.gw_entities.specs.Storage.{vacant, capacity_of}
 use Rattle.gw_entities.specs.Table.{FacilityTable, StorageTable, QueueTable}
 use Rattle.gw_scan.specs.declared.machine.Machine.{Machine}
-use Rattle.gw_scan.specs.State.{State}
 use Rattle.gw_scan.specs.Start.{nothing}
 use Rattle.gw_scan.specs.Standing.{times, StandsOnce}
 use Rattle.gw_scan.specs.View.{state_of}
 use Rattle.gw_scan.specs.Coherence.{Linked}
 
-no_transaction : (n : ℕ) → at {X = Option Transaction} None (None ∷ []) n ≡ None
+pub no_transaction : (n : ℕ) → at {X = Option Transaction} None (None ∷ []) n ≡ None
 no_transaction zero = refl
 no_transaction (suc n) = refl
 
-stands-nothing : (p : Parts) (count : ℕ) (streams : List ℕ) → StandsOnce (nothing p count streams)
+pub stands-nothing : (p : Parts) (count : ℕ) (streams : List ℕ) → StandsOnce (nothing p count streams)
 stands-nothing p count streams n =
     let none = sum_by-replicate [] (times n) (length p.entities) refl in
     rw (no_transaction n) (omega (arith, none))

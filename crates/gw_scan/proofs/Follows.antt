@@ -1,18 +1,19 @@
 -- What one scan keeps.
-use Rattle.std.proofs.Common.{◌≡◌, ◌≢◌, ℕ, zero, suc, ◌+◌, ◌-◌, ◌*◌, ◌^◌, ◌≤◌, ◌<◌, ℤ, pos, ◌<ℤ◌, ◌≤ℤ◌, ◌+ℤ◌, ◌-ℤ◌, Ok, Err, List, [], ◌∷◌, map, length, Option, Some, None, Bool, true, false, not, if◌then◌else◌, ◌==◌, nat_lt, refl, sym, ap, ◌∙◌, subst, arith, inl, inr}
+use Rattle.std.proofs.Common.{◌≡◌, ◌≢◌, ℕ, zero, suc, ◌+◌, ◌-◌, ◌*◌, ◌^◌, ◌≤◌, ◌<◌, ℤ, pos, ◌<ℤ◌, ◌≤ℤ◌, ◌+ℤ◌, ◌-ℤ◌, Ok, Err, List, [], ◌∷◌, map, length, Option, Some, None, Bool, true, false, not, if◌then◌else◌, ◌==◌, nat_lt, refl, sym, ap, ◌∙◌, subst, arith}
 use Rattle.std.proofs.lemmas.Int.{ints}
 use Rattle.std.proofs.lemmas.List.{length-map}
-use Rattle.std.specs.Prelude.{sum, int_lt, int_le, unsigned_abs}
-use Rattle.std.specs.Option.{option_map_or}
-use Rattle.std.proofs.lemmas.Bool.{cases_eq, eq-eqb, eqb-true}
+use Rattle.std.specs.Prelude.{◌%◌, sum, int_lt, unsigned_abs}
+use Rattle.std.proofs.lemmas.Bool.{eqb-true}
 use Rattle.gw_object.specs.declared.parts.Generate.{Generate}
 use Rattle.gw_object.specs.declared.parts.Spread.{Spread}
 use Rattle.gw_object.specs.declared.parts.Units.{Units}
+use Rattle.gw_object.specs.declared.parts.Fraction.{Fraction}
 use Rattle.gw_object.specs.declared.parts.Block.{Block}
 use Rattle.gw_object.specs.declared.parts.Block.TheVariants as blocks
-use Rattle.gw_verify.specs.Checks.{block_at}
+use Rattle.gw_kinds.specs.Kinds.{block_at}
 use Rattle.gw_num.specs.declared.arithmetic.NumFault.TheVariants as faults
 use Rattle.gw_num.specs.Arithmetic.{fits_i64, sum_of}
+use Rattle.gw_num.specs.Generator.{next_after}
 use Rattle.gw_num.specs.Table.{at, put}
 use Rattle.gw_num.proofs.Tables.{at-put, at_some, at-map, by_entry, length-put, length-put_next}
 use Rattle.gw_transactions.specs.declared.Transaction.{Transaction}
@@ -26,14 +27,14 @@ use Rattle.gw_entities.specs.Facility.{idle, seized, released, is_idle, is_owned
 use Rattle.gw_entities.specs.Storage as storages
 use Rattle.gw_entities.specs.Queue.{joined, departed}
 use Rattle.gw_scan.specs.declared.ends.End.TheVariants.{Done, Number, Live, NegativeTime}
-use Rattle.gw_scan.specs.Outcome.{Outcome, Gives, EndsBy, StopsBy, ◌>>=◌, unless_stopped, or_stop}
+use Rattle.gw_scan.specs.Outcome.{Gives, EndsBy, ◌>>=◌, or_stop}
 use Rattle.gw_scan.specs.State.{FutureEvent, Goods, State, may_enter, first_stream, with_stream, delay_list, without}
 use Rattle.gw_scan.specs.Times.{drawn_time, moment_after, drawn_moment, computed, value_of}
 use Rattle.gw_scan.specs.Changes.{entered, destroyed, arrives, rests_until, waits_for, called_from, facility, storage, queue, seizes, releases, takes, gives_back, joins, departs, counted, end_at, time_passes, clock_moves}
-use Rattle.gw_scan.specs.Blocks.{falls, passes, is_owed, within_live_limit, next_arrival, generate, advance, seize, is_seize, takes_over, hand_over, release, enter, asked, enters_if_free, admitted, looked_at, admission, leave, join_queue, depart, terminate, effect}
+use Rattle.gw_scan.specs.Blocks.{passes, is_owed, next_arrival, generate, advance, seize, is_seize, takes_over, hand_over, release, enter, asked, enters_if_free, admitted, looked_at, admission, leave, join_queue, depart, transfer, chosen, transfer_by_fraction, terminate, effect}
 use Rattle.gw_scan.specs.Step.{next_event, next_active, scan}
 use Rattle.gw_scan.specs.Standing.{times}
-use Rattle.gw_scan.specs.Numbers.{IsFrom, waiting, IsWhole, AreEntered, IsWithin}
+use Rattle.gw_scan.specs.Numbers.{IsFrom, AreEntered, IsWithin}
 use Rattle.gw_scan.specs.Operands.{UnitsFit, OperandsFit, BlocksFit}
 use Rattle.gw_scan.proofs.Outcomes.{OnGives, on_bind, on_test, on_if, on_both, found, choose, by_option}
 use Rattle.gw_scan.proofs.Standings.{one_if, same_number, times-without}
@@ -74,7 +75,7 @@ some_block bs b None e h = absurd (h refl)
 some_block bs b (Some block) e h = block_below bs b block e
 
 -- what is asked for is asked by an ENTER
-asked-enter : (e : ℕ) (block : Option Block) (u : Units) → asked e block ≡ Some u → (block ≡ Some (blocks.Enter u)) × (u.entity ≡ e)
+pub asked-enter : (e : ℕ) (block : Option Block) (u : Units) → asked e block ≡ Some u → (block ≡ Some (blocks.Enter u)) × (u.entity ≡ e)
 asked-enter e None u h = absurd cc
 asked-enter e (Some (blocks.Generate g)) u h = absurd cc
 asked-enter e (Some (blocks.Terminate by)) u h = absurd cc
@@ -84,6 +85,8 @@ asked-enter e (Some (blocks.Release f)) u h = absurd cc
 asked-enter e (Some (blocks.Leave v)) u h = absurd cc
 asked-enter e (Some (blocks.Queue v)) u h = absurd cc
 asked-enter e (Some (blocks.Depart v)) u h = absurd cc
+asked-enter e (Some (blocks.Transfer target)) u h = absurd cc
+asked-enter e (Some (blocks.TransferByFraction f)) u h = absurd cc
 asked-enter e (Some (blocks.Enter v)) u h = by_test (v.entity == e) refl h
   where
     by_test : (b : Bool) → (v.entity == e) ≡ b → (if b then Some v else None) ≡ Some u → (Some (blocks.Enter v) ≡ Some (blocks.Enter u)) × (u.entity ≡ e)
@@ -386,6 +389,19 @@ module _ (bs : List Block) (es k : ℕ) (fit : BlocksFit es bs) (s : State) (w :
       (next-passed t (departs u s).goods refl (raises-queue u.entity (departed u.number (queue u.entity s)) s.goods (omega (arith, units.entity, w.whole.queues)) (omega arith) (λ h. omega (arith, h))))
       (record { clock = refl; count = refl; steps = refl; ended = refl })))
 
+  follows-transfer : (target : ℕ) → OnGives Next (transfer bs n t target s)
+  follows-transfer target =
+      on_test Next (may_enter (block_at bs target)) NoBlock (Gives (entered n t target s))
+      (next-of (entered n t target s) (within-entered (length bs) es k k s w n t target s.goods block there (raises-same s.goods)) (record { clock = refl; count = refl; steps = refl; ended = refl }))
+
+  follows-fraction : (f : Fraction) → OnGives Next (transfer_by_fraction bs n t f s)
+  follows-fraction f =
+      let x = next_after (first_stream s) in
+      let target = chosen t.next f (x % 1000) in
+      let u : State = with_stream x s in
+      on_test Next (may_enter (block_at bs target)) NoBlock (Gives (entered n t target u))
+      (next-of (entered n t target u) (within-entered (length bs) es k k u (within-stream (length bs) es k k s w x) n t target s.goods block there (raises-same s.goods)) (record { clock = refl; count = refl; steps = refl; ended = refl }))
+
   follows-terminate : (by : ℤ) → OnGives Next (terminate n t by s)
   follows-terminate by =
       on_if Next (int_lt by (pos 0)) (EndsBy Number) _ tt (on_test Next (not (owns_any n s.goods.facilities)) OwnsAtEnd (Gives (counted by (destroyed n t s)))
@@ -445,6 +461,8 @@ module _ (bs : List Block) (es k : ℕ) (fit : BlocksFit es bs) (s : State) (w :
   follows-effect (blocks.Leave u) fits = follows-leave u fits
   follows-effect (blocks.Queue u) fits = follows-join u fits
   follows-effect (blocks.Depart u) fits = follows-depart u fits
+  follows-effect (blocks.Transfer target) fits = follows-transfer target
+  follows-effect (blocks.TransferByFraction f) fits = follows-fraction f
 
 -- THE SCAN
 
@@ -452,10 +470,10 @@ entries-facility : (time : ℕ) (f : Facility) → (facility_after time f).entri
 entries-facility time f = choose (λ (x : Facility). x.entries ≡ f.entries) (is_idle f) f (record f { busy = f.busy + time }) (λ _. refl) (λ _. refl)
 
 -- over what nothing happened to nothing passes
-nothing-after : (time : ℕ) → contents_after time empty ≡ empty
+pub nothing-after : (time : ℕ) → contents_after time empty ≡ empty
 nothing-after time = let none : 0 + 0 * time ≡ 0 = omega arith in ap (λ (sum : ℕ). record empty { time_sum = sum }) none
 
-at-map_same : {X : Type 0} (f : X → X) (d : X) (xs : List X) (k : ℕ) → f d ≡ d → at d (map f xs) k ≡ f (at d xs k)
+pub at-map_same : {X : Type 0} (f : X → X) (d : X) (xs : List X) (k : ℕ) → f d ≡ d → at d (map f xs) k ≡ f (at d xs k)
 at-map_same f d xs k same = subst (λ e. at e (map f xs) k ≡ f (at d xs k)) same (at-map f d xs k)
 
 entered-after : (entries time : ℕ) (g : Goods) → AreEntered entries g → AreEntered entries (time_passes time g)

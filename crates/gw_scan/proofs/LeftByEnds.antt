@@ -1,10 +1,11 @@
 -- What a step counts, and what named ends leave.
 use Rattle.std.proofs.Common.{◌≡◌, ◌≢◌, ℕ, ◌+◌, pos, List, [], ◌∷◌, Option, Some, None, Bool, true, false, not, if◌then◌else◌, nat_lt, refl, sym, ap, ◌∙◌, subst}
-use Rattle.std.specs.Prelude.{int_lt}
+use Rattle.std.specs.Prelude.{◌%◌, int_lt}
 use Rattle.gw_object.specs.declared.parts.Generate.{Generate}
 use Rattle.gw_object.specs.declared.parts.Block.{Block}
 use Rattle.gw_object.specs.declared.parts.Block.TheVariants as blocks
-use Rattle.gw_verify.specs.Checks.{block_at}
+use Rattle.gw_kinds.specs.Kinds.{block_at}
+use Rattle.gw_num.specs.Generator.{next_after}
 use Rattle.gw_num.specs.Table.{at}
 use Rattle.gw_transactions.specs.declared.Transaction.{Transaction}
 use Rattle.gw_transactions.specs.Transactions.{live_count}
@@ -17,8 +18,8 @@ use Rattle.gw_scan.specs.declared.ends.End.TheVariants.{Done, Budget, Live}
 use Rattle.gw_scan.specs.Outcome.{Outcome, Gives, EndsBy, StopsBy, ◌>>=◌, or_stop}
 use Rattle.gw_scan.specs.State.{FutureEvent, State, may_enter, first_stream, with_stream, delay_list}
 use Rattle.gw_scan.specs.Times.{value_of, drawn_moment}
-use Rattle.gw_scan.specs.Changes.{destroyed, arrives, rests_until, waits_for, facility, storage, queue, seizes, releases, takes, gives_back, joins, departs, counted, clock_moves}
-use Rattle.gw_scan.specs.Blocks.{passes, is_owed, next_arrival, hand_over, admission, effect}
+use Rattle.gw_scan.specs.Changes.{entered, destroyed, arrives, rests_until, waits_for, facility, storage, queue, seizes, releases, takes, gives_back, joins, departs, counted, clock_moves}
+use Rattle.gw_scan.specs.Blocks.{passes, is_owed, next_arrival, hand_over, admission, chosen, effect}
 use Rattle.gw_scan.specs.Step.{next_event, next_active, scan, within_budget, stepped, step}
 use Rattle.gw_scan.specs.Laws.{StepsAreCounted, EndsAreFinal, EndsLeaveTheRest}
 use Rattle.gw_scan.proofs.Outcomes.{OnGives, on_bind, on_both, on_test, on_if}
@@ -88,6 +89,12 @@ module _ (s : State) (runs : s.ended ≡ None) where
       on_test DoneAtMost (may_enter (block_at bs (t.next + 1))) NoBlock (Gives (joins u (passes n t s))) (runs_still (joins u (passes n t s)) runs)
   effect_done bs n t (blocks.Depart u) =
       on_test DoneAtMost (may_enter (block_at bs (t.next + 1))) NoBlock _ (on_test DoneAtMost (holds u.number (queue u.entity s)) TooFew (Gives (departs u (passes n t s))) (runs_still (departs u (passes n t s)) runs))
+  effect_done bs n t (blocks.Transfer target) =
+      on_test DoneAtMost (may_enter (block_at bs target)) NoBlock (Gives (entered n t target s)) (runs_still (entered n t target s) runs)
+  effect_done bs n t (blocks.TransferByFraction f) =
+      let x = next_after (first_stream s) in
+      let u : State = entered n t (chosen t.next f (x % 1000)) (with_stream x s) in
+      on_test DoneAtMost (may_enter (block_at bs (chosen t.next f (x % 1000)))) NoBlock (Gives u) (runs_still u runs)
 
   event_done : (es : List FutureEvent) → OnGives DoneAtMost (next_event es s)
   event_done [] = tt

@@ -20,3 +20,13 @@ pub mod Starting
 pub mod Reached
 pub mod LeftByEnds
 pub mod Rests
+pub mod Owning
+pub mod Agreeing
+pub mod Trades
+pub mod Traces
+pub mod Unstopped
+pub mod Moving
+pub mod Waking
+pub mod Effects
+pub mod Arriving
+pub mod Safe

@@ -1,6 +1,6 @@
 -- A job's state through its start and through a step.
-use Rattle.std.proofs.Common.{◌≡◌, ◌≢◌, ℕ, zero, suc, ◌+◌, ◌*◌, ◌^◌, ◌≤◌, ◌<◌, ℤ, pos, ◌≤ℤ◌, List, [], ◌∷◌, map, length, replicate, Option, Some, None, IfSome, Bool, true, false, is_none, if◌then◌else◌, ◌==◌, ◌&&◌, refl, sym, ap, ◌∙◌, subst, arith}
-use Rattle.std.specs.Prelude.{sum, slice_get}
+use Rattle.std.proofs.Common.{◌≡◌, ◌≢◌, ℕ, zero, suc, ◌+◌, ◌≤◌, ℤ, pos, ◌≤ℤ◌, List, [], ◌∷◌, map, length, replicate, Option, Some, None, IfSome, Bool, true, false, is_none, if◌then◌else◌, ◌==◌, ◌&&◌, refl, sym, ap, ◌∙◌, subst, arith}
+use Rattle.std.specs.Prelude.{sum}
 use Rattle.std.specs.List.{AllByRecursion}
 use Rattle.std.proofs.lemmas.Bool.{eqb-true, eqb-false}
 use Rattle.std.proofs.lemmas.List.{length-map, length-replicate}
@@ -156,6 +156,8 @@ module _ (bs es : ℕ) (count : ℤ) where
   first_begins b (blocks.Leave u) k s below fits h = begun_more bs es count k (suc k) s (omega arith) h
   first_begins b (blocks.Queue u) k s below fits h = begun_more bs es count k (suc k) s (omega arith) h
   first_begins b (blocks.Depart u) k s below fits h = begun_more bs es count k (suc k) s (omega arith) h
+  first_begins b (blocks.Transfer target) k s below fits h = begun_more bs es count k (suc k) s (omega arith) h
+  first_begins b (blocks.TransferByFraction f) k s below fits h = begun_more bs es count k (suc k) s (omega arith) h
 
   firsts_begin : (b : ℕ) (xs : List Block) (k : ℕ) (s : State) → b + length xs ≤ suc bs → AllByRecursion (OperandsFit es) xs → Begun bs es count k s → OnGives (Begun bs es count (length xs + k)) (first_arrivals b xs s)
   unfolding first_arrivals

@@ -1,5 +1,5 @@
 -- Each job comes to a named end or to an error stop within its budget.
-use Rattle.std.proofs.Common.{◌≡◌, ◌≢◌, ◌+◌, ◌<◌, ℕ, ℤ, zero, suc, List, [], ◌∷◌, Option, Some, None, is_some, inl, inr, arith, refl, sym, ap, ◌∙◌}
+use Rattle.std.proofs.Common.{◌≡◌, ◌≢◌, ◌+◌, ℕ, ℤ, zero, suc, List, [], ◌∷◌, Option, Some, None, is_some, inl, inr, arith, refl, sym, ap, ◌∙◌}
 use Rattle.gw_object.specs.declared.parts.Block.{Block}
 use Rattle.gw_object.specs.declared.parts.Block.TheVariants as blocks
 use Rattle.gw_entities.specs.declared.stop.Stop.{Stop}
@@ -41,6 +41,8 @@ one_arrival b (blocks.Enter u) s = refl
 one_arrival b (blocks.Leave u) s = refl
 one_arrival b (blocks.Queue u) s = refl
 one_arrival b (blocks.Depart u) s = refl
+one_arrival b (blocks.Transfer target) s = refl
+one_arrival b (blocks.TransferByFraction f) s = refl
 
 in_turn : (s : State) (o : Outcome State) (f : State → Outcome State) → KeepsSteps s o → ((t : State) → KeepsSteps t (f t)) → KeepsSteps s (o >>= f)
 in_turn s (Gives t) f e h = along s t (f t) e (h t)

@@ -1,6 +1,5 @@
 -- A running sim has a running machine.
-use Rattle.std.proofs.Common.{◌≡◌, ℕ, ◌^◌, ◌<◌, ◌≤◌, List, length, None, refl, sym, ap, ◌∙◌, subst, arith}
-use Rattle.gw_object.specs.declared.parts.Block.{Block}
+use Rattle.std.proofs.Common.{◌≡◌, ℕ, ◌^◌, ◌<◌, length, None, sym, ap, ◌∙◌, subst, arith}
 use Rattle.gw_scan.specs.declared.machine.Machine.{Machine}
 use Rattle.gw_scan.specs.State.{delay_list}
 use Rattle.gw_scan.specs.Numbers.{IsWithin}

@@ -16,14 +16,14 @@ use Rattle.gw_scan.proofs.Lists.{times-placed, times-all_behind, times-due}
 abbrev pub one_if : Bool → ℕ
 one_if b = if b then 1 else 0
 
-at_most_one : (b : Bool) → one_if b ≤ 1
+pub at_most_one : (b : Bool) → one_if b ≤ 1
 at_most_one true = omega arith
 at_most_one false = omega arith
 
 pub same_number : (m n : ℕ) → m ≡ n → one_if (m == n) ≡ 1
 same_number m n e = ap one_if (eq-eqb m n e)
 
-other_number : (m n : ℕ) → m ≢ n → one_if (m == n) ≡ 0
+pub other_number : (m n : ℕ) → m ≢ n → one_if (m == n) ≡ 0
 other_number m n e = ap one_if (ne_eqb m n e)
 
 -- a table of options where one entry is written
@@ -33,11 +33,15 @@ written_here xs n v k e = ap (λ j. one_if (is_some (at None (put None xs n v) j
 written_other : (xs : List (Option Transaction)) (n : ℕ) (v : Option Transaction) (k : ℕ) → k ≢ n → one_if (is_some (at None (put None xs n v) k)) ≡ one_if (is_some (at None xs k))
 written_other xs n v k e = ap (λ o. one_if (is_some o)) (at-put_other None xs n k v e)
 
+-- one entry of a table has no more than all of them
+pub at-le-sum : {X : Type 0} (d : X) (f : X → ℕ) (xs : List X) (k : ℕ) → f d ≡ 0 → f (at d xs k) ≤ sum_by f xs
+at-le-sum d f [] k none = omega (arith, none)
+at-le-sum d f (x ∷ xs) zero none = omega (arith, sum_by-cons f x xs)
+at-le-sum d f (x ∷ xs) (suc k) none = omega (arith, sum_by-cons f x xs, at-le-sum d f xs k none)
+
 -- one of the lists of a table has no more than all of them
 pub times-one : (n : ℕ) (xs : List (List ℕ)) (e : ℕ) → times n (at [] xs e) ≤ sum_by (times n) xs
-times-one n [] e = omega arith
-times-one n (x ∷ xs) zero = omega (arith, sum_by-cons (times n) x xs)
-times-one n (x ∷ xs) (suc e) = omega (arith, sum_by-cons (times n) x xs, times-one n xs e)
+times-one n xs e = at-le-sum [] (times n) xs e refl
 
 -- who stands on no list
 pub record Alone (n : ℕ) (s : State) : Type 0 where

@@ -1,5 +1,5 @@
 -- A steady machine through the changes of one block.
-use Rattle.std.proofs.Common.{◌≡◌, ℕ, suc, ◌+◌, ◌^◌, ◌≤◌, ◌<◌, List, length, Some, None, true, refl, sym, ap, ◌∙◌, subst, arith}
+use Rattle.std.proofs.Common.{◌≡◌, ℕ, suc, ◌+◌, ◌^◌, ◌≤◌, ◌<◌, List, length, Some, None, true, sym, ap, ◌∙◌, subst, arith}
 use Rattle.gw_object.specs.declared.parts.Units.{Units}
 use Rattle.gw_object.specs.declared.parts.Block.{Block}
 use Rattle.gw_chains.specs.declared.tx.Tx.{Tx}

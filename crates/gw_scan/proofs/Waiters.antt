@@ -1,5 +1,5 @@
 -- What waiting, and leaving a delay list, make of a machine.
-use Rattle.std.proofs.Common.{◌≡◌, ◌≢◌, ℕ, zero, suc, ◌+◌, ◌≤◌, ◌<◌, ℤ, List, [], ◌∷◌, map, length, Option, Some, None, Bool, true, false, if◌then◌else◌, ◌==◌, option_map, refl, sym, ap, ◌∙◌, subst, arith, inl, inr}
+use Rattle.std.proofs.Common.{◌≡◌, ◌≢◌, ℕ, zero, suc, ◌+◌, ◌≤◌, ◌<◌, ℤ, List, [], ◌∷◌, map, length, Option, Some, None, option_map, refl, sym, ap, ◌∙◌, subst, arith, inl, inr}
 use Rattle.std.specs.Prelude.{int_le, slice_get, remove}
 use Rattle.std.specs.List.{AllByRecursion}
 use Rattle.std.proofs.lemmas.Bool.{cases_eq, eq-eqb, ne_eqb}
@@ -18,7 +18,7 @@ use Rattle.gw_scan.specs.Standing.{StandsOnce, times}
 use Rattle.gw_scan.specs.View.{state_of, lists_of, delay_lists_of, member_number}
 use Rattle.gw_scan.specs.Coherence.{Linked, IsRanked}
 use Rattle.gw_scan.proofs.Lists.{all_placed, map-behind}
-use Rattle.gw_scan.proofs.Standings.{one_if, same_number, waits-once, stands-waits, stands-called}
+use Rattle.gw_scan.proofs.Standings.{same_number, waits-once, stands-waits, stands-called}
 use Rattle.gw_scan.proofs.Changes.{delay_list-at, timed-kept}
 use Rattle.gw_scan.proofs.Due.{agree}
 

@@ -1,20 +1,20 @@
 -- What each elementary change does to the numbers of a state.
-use Rattle.std.proofs.Common.{◌≡◌, ◌≢◌, ℕ, zero, suc, ◌+◌, ◌*◌, ◌^◌, ◌≤◌, ◌<◌, ℤ, pos, ◌≤ℤ◌, ◌-ℤ◌, List, [], ◌∷◌, map, length, Option, Some, None, Bool, true, false, if◌then◌else◌, ◌==◌, refl, sym, ap, ◌∙◌, subst, arith, inl, inr}
+use Rattle.std.proofs.Common.{◌≡◌, ℕ, suc, ◌+◌, ◌^◌, ◌≤◌, ◌<◌, ℤ, ◌≤ℤ◌, List, [], ◌∷◌, length, Some, None, Bool, true, false, if◌then◌else◌, ◌==◌, refl, ap, ◌∙◌, arith, inl, inr}
 use Rattle.std.proofs.lemmas.Int.{ints}
-use Rattle.std.specs.Prelude.{sum, sum_by, int_le}
+use Rattle.std.specs.Prelude.{sum, int_le}
 use Rattle.std.proofs.lemmas.Bool.{cases_eq, eq-eqb, ne_eqb}
 use Rattle.gw_chains.specs.Chain.{placed_behind, behind, in_time, later}
 use Rattle.gw_num.specs.Table.{at, put}
-use Rattle.gw_num.proofs.Tables.{at-put, at-put_other, by_entry, length-put, length-put_next, sum_by-put, at-map}
+use Rattle.gw_num.proofs.Tables.{by_entry, length-put, length-put_next, sum_by-put}
 use Rattle.gw_transactions.specs.declared.Transaction.{Transaction}
 use Rattle.gw_entities.specs.Contents.{empty}
 use Rattle.gw_entities.specs.Facility.{idle}
 use Rattle.gw_entities.specs.Storage.{vacant}
 use Rattle.gw_scan.specs.State.{FutureEvent, Goods, State, priority_of, raised, with_stream, delay_list, without}
-use Rattle.gw_scan.specs.Changes.{entered, destroyed, arrives, rests_until, waits_for, called_from, time_passes, counted, clock_moves}
+use Rattle.gw_scan.specs.Changes.{entered, destroyed, arrives, rests_until, waits_for, called_from, counted}
 use Rattle.gw_scan.specs.Standing.{times}
 use Rattle.gw_scan.proofs.Standings.{one_if}
-use Rattle.gw_scan.specs.Numbers.{IsFrom, waiting, IsWhole, AreEntered, IsWithin}
+use Rattle.gw_scan.specs.Numbers.{IsFrom, waiting, IsWithin}
 
 -- LENGTHS AND SUMS
 

@@ -1,12 +1,14 @@
 -- What each block does to the active transaction.
-use Rattle.std.specs.Prelude.{ℕ, ◌+◌, ℤ, pos, List, [], ◌∷◌, Option, Some, None, Bool, true, false, not, nat_lt, ◌==◌, if◌then◌else◌, int_lt}
+use Rattle.std.specs.Prelude.{ℕ, ◌+◌, ◌%◌, ℤ, pos, List, [], ◌∷◌, Option, Some, None, Bool, true, false, not, nat_lt, ◌==◌, if◌then◌else◌, int_lt, unwrap_or}
 use Rattle.std.specs.Option.{option_map_or}
 use Rattle.gw_object.specs.declared.parts.Generate.{Generate}
 use Rattle.gw_object.specs.declared.parts.Spread.{Spread}
 use Rattle.gw_object.specs.declared.parts.Units.{Units}
+use Rattle.gw_object.specs.declared.parts.Fraction.{Fraction}
 use Rattle.gw_object.specs.declared.parts.Block.{Block}
 use Rattle.gw_object.specs.declared.parts.Block.TheVariants as blocks
-use Rattle.gw_verify.specs.Checks.{block_at}
+use Rattle.gw_kinds.specs.Kinds.{block_at}
+use Rattle.gw_num.specs.Generator.{next_after}
 use Rattle.gw_num.specs.Table.{at}
 use Rattle.gw_transactions.specs.declared.Transaction.{Transaction}
 use Rattle.gw_transactions.specs.Transactions.{live_count}
@@ -20,9 +22,13 @@ use Rattle.gw_scan.specs.State.{State, may_enter, first_stream, with_stream, del
 use Rattle.gw_scan.specs.Times.{value_of, drawn_moment}
 use Rattle.gw_scan.specs.Changes.{entered, destroyed, arrives, rests_until, waits_for, called_from, facility, storage, queue, seizes, releases, takes, gives_back, joins, departs, counted}
 
--- the transaction t goes on from its next block to the block after, which has to be there
+-- a transaction goes on to the block of a number, which has to be there
+abbrev pub leads : List Block → ℕ → Outcome State → Outcome State
+leads bs b outcome = unless_stopped (may_enter (block_at bs b)) NoBlock outcome
+
+-- the transaction t goes on from its next block to the block after
 abbrev pub falls : List Block → Transaction → Outcome State → Outcome State
-falls bs t outcome = unless_stopped (may_enter (block_at bs (t.next + 1))) NoBlock outcome
+falls bs t outcome = leads bs (t.next + 1) outcome
 
 -- the transaction n, which is t, enters its next block and falls to the block after
 abbrev pub passes : ℕ → Transaction → State → State
@@ -80,6 +86,8 @@ is_seize f (Some (blocks.Enter u)) = false
 is_seize f (Some (blocks.Leave u)) = false
 is_seize f (Some (blocks.Queue u)) = false
 is_seize f (Some (blocks.Depart u)) = false
+is_seize f (Some (blocks.Transfer target)) = false
+is_seize f (Some (blocks.TransferByFraction fraction)) = false
 
 -- the waiter n, which is t, joins the current events chain, and owns the facility at once in its SEIZE block
 abbrev pub takes_over : List Block → ℕ → ℕ → State → Transaction → State
@@ -116,6 +124,8 @@ asked e (Some (blocks.Enter u)) = if u.entity == e then Some u else None
 asked e (Some (blocks.Leave u)) = None
 asked e (Some (blocks.Queue u)) = None
 asked e (Some (blocks.Depart u)) = None
+asked e (Some (blocks.Transfer target)) = None
+asked e (Some (blocks.TransferByFraction f)) = None
 
 -- the waiter n, which is t, joins the current events chain and enters its ENTER block, where the units that it asks for are free
 abbrev pub enters_if_free : ℕ → Transaction → State → Units → State
@@ -149,6 +159,22 @@ join_queue bs n t u s = falls bs t (Gives (joins u (passes n t s)))
 abbrev pub depart : List Block → ℕ → Transaction → Units → State → Outcome State
 depart bs n t u s = falls bs t (unless_stopped (holds u.number (queue u.entity s)) TooFew (Gives (departs u (passes n t s))))
 
+-- TRANSFERS
+
+-- TRANSFER: the transaction goes to a block
+abbrev pub transfer : List Block → ℕ → Transaction → ℕ → State → Outcome State
+transfer bs n t target s = leads bs target (Gives (entered n t target s))
+
+-- where a TRANSFER by fraction, the block of number b, leads to when so many thousandths are drawn
+abbrev pub chosen : ℕ → Fraction → ℕ → ℕ
+chosen b f drawn = if nat_lt drawn f.thousandths then f.target else unwrap_or f.otherwise (b + 1)
+
+-- TRANSFER by fraction: thousandths are drawn from the first stream, and the transaction goes to one block or the other
+abbrev pub transfer_by_fraction : List Block → ℕ → Transaction → Fraction → State → Outcome State
+transfer_by_fraction bs n t f s =
+    let x = next_after (first_stream s) in
+    transfer bs n t (chosen t.next f (x % 1000)) (with_stream x s)
+
 -- THE END OF A TRANSACTION
 
 -- TERMINATE: the transaction, which owns nothing, is destroyed and the termination count falls, but not by less than 0
@@ -166,3 +192,5 @@ effect bs n t (blocks.Enter u) s = enter bs n t u s
 effect bs n t (blocks.Leave u) s = leave bs n t u s
 effect bs n t (blocks.Queue u) s = join_queue bs n t u s
 effect bs n t (blocks.Depart u) s = depart bs n t u s
+effect bs n t (blocks.Transfer target) s = transfer bs n t target s
+effect bs n t (blocks.TransferByFraction f) s = transfer_by_fraction bs n t f s

@@ -1,5 +1,5 @@
 -- The elementary changes of a state.
-use Rattle.std.specs.Prelude.{ℕ, ◌+◌, ℤ, pos, ◌-ℤ◌, unsigned_abs, List, [], map, length, Option, Some, None, if◌then◌else◌, int_lt}
+use Rattle.std.specs.Prelude.{ℕ, ℤ, pos, ◌-ℤ◌, unsigned_abs, List, [], map, length, Option, Some, None, if◌then◌else◌, int_lt}
 use Rattle.gw_object.specs.declared.parts.Units.{Units}
 use Rattle.gw_chains.specs.Chain.{behind, in_time, all_behind, due, later}
 use Rattle.gw_num.specs.Table.{at, put}

@@ -1,5 +1,5 @@
 -- What a machine keeps beside the state that it is in: its handles lead to the transactions of their numbers.
-use Rattle.std.specs.Prelude.{◌≡◌, ◌≢◌, ℕ, ◌+◌, ◌<◌, ◌≤◌, ◌^◌, ℤ, pos, ◌<ℤ◌, ◌≤ℤ◌, length, List, [], ◌∷◌, IfSome, Some, None}
+use Rattle.std.specs.Prelude.{◌≡◌, ◌≢◌, ℕ, ◌<◌, ◌≤◌, ◌^◌, pos, ◌<ℤ◌, length, List, [], ◌∷◌, IfSome, Some, None}
 use Rattle.std.specs.List.{AllByRecursion}
 use Rattle.gw_object.specs.declared.parts.Block.{Block}
 use Rattle.gw_chains.specs.declared.tx.Tx.{Tx}
@@ -10,7 +10,7 @@ use Rattle.gw_num.specs.Table.{at}
 use Rattle.gw_transactions.specs.declared.Transaction.{Transaction}
 use Rattle.gw_transactions.specs.Transactions.{Population, Holds, IsSound}
 use Rattle.gw_scan.specs.declared.machine.Machine.{Machine}
-use Rattle.gw_scan.specs.State.{State, priority_of}
+use Rattle.gw_scan.specs.State.{priority_of}
 use Rattle.gw_scan.specs.Standing.{StandsOnce}
 use Rattle.gw_scan.specs.Numbers.{IsWithin}
 use Rattle.gw_scan.specs.Operands.{BlocksFit}

@@ -10,12 +10,14 @@ pub mod Numbers
 pub mod Operands
 pub mod Job
 pub mod Laws
+pub mod Standing
+pub mod Typing
+pub mod Safety
 -- WHAT THE CALLS ANSWER
 pub mod Making
 pub mod Answers
 -- HOW THE MACHINE KEEPS A STATE
 pub mod View
-pub mod Standing
 pub mod Coherence
 pub mod Makes
 pub mod JobView

@@ -14,7 +14,7 @@ use Rattle.gw_scan.specs.declared.machine.Made.{Made}
 use Rattle.gw_scan.specs.declared.machine.Made.TheVariants.{Step, Ends, Stops}
 use Rattle.gw_scan.specs.Outcome.{Outcome, Gives, EndsBy, StopsBy, stop_in}
 use Rattle.gw_scan.specs.State.{State}
-use Rattle.gw_scan.specs.Changes.{facility, storage, queue, seizes, releases, takes, gives_back, joins, departs}
+use Rattle.gw_scan.specs.Changes.{facility, storage, queue, seizes, releases, takes, gives_back, departs}
 use Rattle.gw_scan.specs.Step.{step, scan}
 use Rattle.gw_scan.specs.View.{state_of}
 

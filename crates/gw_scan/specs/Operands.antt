@@ -3,7 +3,7 @@ use Rattle.std.specs.Prelude.{◌≡◌, ℕ, ◌<◌, ◌≤◌, ◌^◌, pos, 
 use Rattle.gw_object.specs.declared.parts.Units.{Units}
 use Rattle.gw_object.specs.declared.parts.Block.{Block}
 use Rattle.gw_object.specs.declared.parts.Block.TheVariants as blocks
-use Rattle.gw_verify.specs.Checks.{block_at}
+use Rattle.gw_kinds.specs.Kinds.{block_at}
 
 -- one of so many entities, and at most 2^20 units
 pub record UnitsFit (entities : ℕ) (u : Units) : Type 0 where
@@ -21,6 +21,8 @@ OperandsFit entities (blocks.Enter u) = UnitsFit entities u
 OperandsFit entities (blocks.Leave u) = UnitsFit entities u
 OperandsFit entities (blocks.Queue u) = UnitsFit entities u
 OperandsFit entities (blocks.Depart u) = UnitsFit entities u
+OperandsFit entities (blocks.Transfer target) = Unit {0}
+OperandsFit entities (blocks.TransferByFraction f) = Unit {0}
 
 -- so many blocks as an object may have, and the operands of each fit so many entities
 pub record BlocksFit (entities : ℕ) (bs : List Block) : Type 0 where

@@ -1,6 +1,7 @@
 -- Where each transaction stands.
 use Rattle.std.specs.Prelude.{◌≡◌, ℕ, ◌+◌, sum_by, List, [], ◌∷◌, Option, Some, None, is_some, if◌then◌else◌, ◌==◌}
 use Rattle.gw_num.specs.Table.{at}
+use Rattle.gw_transactions.specs.declared.Transaction.{Transaction}
 use Rattle.gw_scan.specs.State.{Lists, State}
 use Rattle.gw_scan.specs.Changes.{numbers}
 
@@ -19,5 +20,9 @@ abbrev pub standing : Lists → ℕ → ℕ
 standing l n = times n (active_numbers l.active) + times n l.current_events + times n (numbers l.future_events) + sum_by (times n) l.delay_lists
 
 -- each live transaction stands exactly once, and no other number stands
+abbrev pub EachStandsOnce : List (Option Transaction) → Lists → Type 0
+EachStandsOnce transactions lists = (n : ℕ) → standing lists n ≡ (if is_some (at None transactions n) then 1 else 0)
+
+-- and so it is in a state
 abbrev pub StandsOnce : State → Type 0
-StandsOnce s = (n : ℕ) → standing s.lists n ≡ (if is_some (at None s.transactions n) then 1 else 0)
+StandsOnce s = EachStandsOnce s.transactions s.lists

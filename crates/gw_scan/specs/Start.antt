@@ -54,6 +54,8 @@ first_arrival b (blocks.Enter u) s = Gives s
 first_arrival b (blocks.Leave u) s = Gives s
 first_arrival b (blocks.Queue u) s = Gives s
 first_arrival b (blocks.Depart u) s = Gives s
+first_arrival b (blocks.Transfer target) s = Gives s
+first_arrival b (blocks.TransferByFraction f) s = Gives s
 
 -- one for each GENERATE, in ascending order; the first of these blocks has the number b
 unfoldable pub first_arrivals : ℕ → List Block → State → Outcome State

@@ -1,7 +1,7 @@
 -- The simulation state.
-use Rattle.std.specs.Prelude.{ℕ, ◌+◌, ℤ, pos, List, [], ◌∷◌, Option, Some, None, Bool, true, not, ◌&&◌, ◌==◌, if◌then◌else◌, is_some}
+use Rattle.std.specs.Prelude.{ℕ, ◌+◌, ℤ, pos, List, [], ◌∷◌, Option, Some, None, Bool, not, ◌&&◌, ◌==◌, if◌then◌else◌, is_some}
 use Rattle.gw_object.specs.declared.parts.Block.{Block}
-use Rattle.gw_verify.specs.Checks.{is_generate}
+use Rattle.gw_kinds.specs.Kinds.{is_generate}
 use Rattle.gw_num.specs.Table.{at, put}
 use Rattle.gw_transactions.specs.declared.Transaction.{Transaction}
 use Rattle.gw_entities.specs.declared.facilities.Facility.{Facility}

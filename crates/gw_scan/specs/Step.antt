@@ -1,7 +1,7 @@
 -- One step of a job.
-use Rattle.std.specs.Prelude.{ℕ, ◌+◌, ℤ, List, [], ◌∷◌, Option, Some, None, ◌==◌, ◌&&◌, is_none, if◌then◌else◌}
+use Rattle.std.specs.Prelude.{ℕ, ◌+◌, List, [], ◌∷◌, Option, Some, None, ◌==◌, ◌&&◌, is_none, if◌then◌else◌}
 use Rattle.gw_object.specs.declared.parts.Block.{Block}
-use Rattle.gw_verify.specs.Checks.{block_at}
+use Rattle.gw_kinds.specs.Kinds.{block_at}
 use Rattle.gw_num.specs.Table.{at}
 use Rattle.gw_entities.specs.declared.stop.Stop.TheVariants.{NoBlock}
 use Rattle.gw_scan.specs.declared.ends.End.TheVariants.{NoMoreEvents, Budget}

@@ -1,7 +1,8 @@
 //! What the active transaction does at its next block.
 
-ghost use Rattle.std.specs.Prelude.{◌≡◌, ◌≤◌, ◌<◌, ◌+◌, ◌^◌, true, not, nat_lt, sum, length, vec_len, OnOk, OnErr, IfOk};
-ghost use Rattle.gw_verify.specs.Checks.{block_at};
+ghost use Rattle.std.specs.Prelude.{◌≡◌, ◌≤◌, ◌<◌, ◌+◌, ◌%◌, ◌^◌, true, not, nat_lt, sum, length, vec_len, OnOk, OnErr, IfOk};
+ghost use Rattle.gw_kinds.specs.Kinds.{block_at};
+ghost use Rattle.gw_num.specs.Generator.{next_after};
 ghost use Rattle.gw_num.specs.Table.{at};
 ghost use Rattle.gw_transactions.specs.Transactions.{Holds, live_count};
 ghost use Rattle.gw_scan.specs.Outcome.{Gives};
@@ -17,12 +18,12 @@ ghost use Rattle.gw_scan.specs.Makes.{Makes};
 
 use crate::ends::End;
 use crate::machine::{Machine, Made};
-use crate::times::{drawn_moment, value_of};
+use crate::times::{moment_from_first, value_of};
 use crate::transfers::block_of;
 use gw_chains::{Memory, Tx};
 use gw_entities::Stop;
 use gw_num::Stream;
-use gw_object::{Block, Generate, Spread, Units};
+use gw_object::{Block, Fraction, Generate, Spread, Units};
 use gw_transactions::Transaction;
 
 /// The most live transactions, scheduled arrivals included (ours: docs/machine.md).
@@ -39,7 +40,31 @@ pub(crate) fn may_enter(blocks: &[Block], number: u16) -> bool
     }
 }
 
+/// Where a TRANSFER by fraction, the block of this number, leads to when so many thousandths are drawn.
+fn chosen(block: u16, fraction: Fraction, drawn: u32) -> u16
+    requires { block ≤ 4096 }
+    ensures { result ≡ model.chosen block fraction drawn }
+{
+    if drawn < fraction.thousandths as u32 {
+        fraction.target
+    } else {
+        fraction.otherwise.unwrap_or(block + 1)
+    }
+}
+
 impl Machine {
+    // DRAWS
+
+    /// Thousandths drawn from the first stream, and that stream after the draw.
+    fn draw_thousandths(&self) -> (u32, Stream)
+        ensures drawn { result.0 ≡ next_after (state.first_stream (state_of self.now)) % 1000 }
+        ensures stream { result.1 ≡ next_after (state.first_stream (state_of self.now)) }
+    {
+        let mut stream = self.streams[0];
+        let drawn = stream.thousandths();
+        (drawn, stream)
+    }
+
     // TIME
 
     /// Whether one more arrival is owed at a GENERATE block.
@@ -125,7 +150,7 @@ impl Machine {
         if !self.owes(transaction.next, g.limit) {
             return Ok(self.generate_last(blocks, tx, transaction));
         }
-        let (moment, stream) = match drawn_moment(g.interval, self.clock, self.streams[0]) {
+        let (moment, stream) = match moment_from_first(g.interval, self.clock, &self.streams) {
             Ok(drawn) => drawn,
             Err(end) => return Ok(Made::Ends(end)),
         };
@@ -173,7 +198,7 @@ impl Machine {
         ensures err { OnErr result (state_of self.new ≡ state_of self.old) }
         ensures linked { Linked self.new }
     {
-        let (moment, stream) = match drawn_moment(time, self.clock, self.streams[0]) {
+        let (moment, stream) = match moment_from_first(time, self.clock, &self.streams) {
             Ok(drawn) => drawn,
             Err(end) => return Ok(Made::Ends(end)),
         };
@@ -372,6 +397,44 @@ impl Machine {
         Made::Step
     }
 
+    // TRANSFERS
+
+    /// TRANSFER in unconditional mode: the transaction goes to the block of a number.
+    fn transfer(&mut self, blocks: &[Block], tx: Tx, transaction: Transaction, target: u16) -> Made
+        requires { IsActive blocks.now self.old tx transaction }
+        ensures made { Makes result (model.transfer blocks.now tx.number transaction target (state_of self.old)) (state_of self.old) (state_of self.new) }
+        ensures linked { Linked self.new }
+    {
+        if !may_enter(blocks, target) {
+            return Made::Stops(Stop::NoBlock);
+        }
+        self.enter(tx, transaction, target);
+        Made::Step
+    }
+
+    /// TRANSFER in fractional mode: thousandths are drawn from the first stream, and the transaction goes to one block or
+    /// the other.
+    fn transfer_by_fraction(
+        &mut self,
+        blocks: &[Block],
+        tx: Tx,
+        transaction: Transaction,
+        fraction: Fraction,
+    ) -> Made
+        requires { IsActive blocks.now self.old tx transaction }
+        ensures made { Makes result (model.transfer_by_fraction blocks.now tx.number transaction fraction (state_of self.old)) (state_of self.old) (state_of self.new) }
+        ensures linked { Linked self.new }
+    {
+        let (drawn, stream) = self.draw_thousandths();
+        let target = chosen(transaction.next, fraction, drawn);
+        if !may_enter(blocks, target) {
+            return Made::Stops(Stop::NoBlock);
+        }
+        self.set_stream(stream);
+        self.enter(tx, transaction, target);
+        Made::Step
+    }
+
     // THE END OF A TRANSACTION
 
     /// TERMINATE: the transaction, which owns nothing, is destroyed, and the termination count falls. Less than 0 is a
@@ -417,6 +480,10 @@ impl Machine {
             Block::Leave(units) => self.leave(blocks, tx, transaction, units),
             Block::Queue(units) => Ok(self.join_queue(blocks, tx, transaction, units)),
             Block::Depart(units) => Ok(self.depart(blocks, tx, transaction, units)),
+            Block::Transfer(target) => Ok(self.transfer(blocks, tx, transaction, target)),
+            Block::TransferByFraction(fraction) => {
+                Ok(self.transfer_by_fraction(blocks, tx, transaction, fraction))
+            }
         }
     }
 }

@@ -19,7 +19,8 @@ mod transfers;
 pub use ends::End;
 pub use gw_entities::Stop;
 pub use laws::{
-    all_jobs_come_to_rest, ends_leave_the_rest, slices_reach_the_same, steps_are_determined,
+    all_jobs_come_to_rest, ends_leave_the_rest, no_job_meets_an_error_stop, slices_reach_the_same,
+    steps_are_determined, typed_states_never_get_stuck,
 };
 pub use sim::{Sim, Status};
 pub use spec::{Spec, StartFault};

@@ -2,21 +2,23 @@
 
 ghost use Rattle.std.specs.Prelude.{◌<◌, length, IsTrue};
 
-use crate::{End, Sim, Spec, Status, Stop};
+use crate::{End, Sim, Spec, Status};
 use gw_entities::{Average, Contents, Facility};
 use gw_object::{
-    Block, Entity, Generate, Items, Kind, Memory, Object, Operand, Parts, Spread, TableState, Units,
+    Block, Entity, Fraction, Generate, Items, Kind, Memory, Object, Operand, Parts, Spread,
+    TableState, Units,
 };
 use gw_verify::{Verified, verify};
 use std::alloc::Global;
+use std::process::Abort;
 use std::test::Fail;
 
 mod ends;
 mod entities;
 mod orders;
 mod specs;
-mod stops;
 mod times;
+mod transfers;
 
 /// The budget of jobs that end by something else.
 const AMPLE: u64 = 1_000_000_000;
@@ -96,6 +98,88 @@ fn three_blocks() -> [Block; 3] {
     [generate(10, None, None, 0), advance(3), terminate(1)]
 }
 
+// THE STATE TABLE
+
+/// What a transaction holds on its way: the facility F or not, and units of the storage S and of the queue L.
+#[derive(Clone, Copy, Debug, PartialEq, Eq)]
+struct Held {
+    facility: bool,
+    storage: u32,
+    queue: u32,
+}
+
+/// What an arrival holds.
+const NOTHING: Held = Held {
+    facility: false,
+    storage: 0,
+    queue: 0,
+};
+
+impl Held {
+    /// What it holds after a block.
+    fn after(self, block: Block) -> Held {
+        match block {
+            Block::Seize(_) => Held {
+                facility: true,
+                ..self
+            },
+            Block::Release(_) => Held {
+                facility: false,
+                ..self
+            },
+            Block::Enter(units) => Held {
+                storage: self.storage.saturating_add(units.number),
+                ..self
+            },
+            Block::Leave(units) => Held {
+                storage: self.storage.saturating_sub(units.number),
+                ..self
+            },
+            Block::Queue(units) => Held {
+                queue: self.queue.saturating_add(units.number),
+                ..self
+            },
+            Block::Depart(units) => Held {
+                queue: self.queue.saturating_sub(units.number),
+                ..self
+            },
+            _ => self,
+        }
+    }
+
+    /// The row of the state table that says so.
+    fn row(self, alloc: Global) -> Result<TableState, Memory> {
+        let mut facilities = Vec::new(alloc);
+        if self.facility {
+            facilities.push(F)?;
+        }
+        let mut units = Vec::new(alloc);
+        for (entity, number) in [(S, self.storage), (L, self.queue)] {
+            if number > 0 {
+                units.push(Units { entity, number })?;
+            }
+        }
+        Ok(TableState {
+            facilities: Items::from_vec(facilities),
+            units: Items::from_vec(units),
+        })
+    }
+}
+
+/// The state table of blocks each of which is entered from the block before it, but for GENERATE.
+fn straight_table(alloc: Global, blocks: &[Block]) -> Result<Items<Option<TableState>>, Memory> {
+    let mut rows = Vec::new(alloc);
+    let mut held = NOTHING;
+    for block in blocks {
+        if let Block::Generate(_) = block {
+            held = NOTHING;
+        }
+        rows.push(Some(held.row(alloc)?))?;
+        held = held.after(*block);
+    }
+    Ok(Items::from_vec(rows))
+}
+
 // JOBS
 
 /// An entity with a name of one letter.
@@ -122,11 +206,11 @@ fn object(alloc: Global, seeds: &[u32], count: u64, blocks: &[Block]) -> Result<
         count,
         entities: three_entities(alloc)?,
         blocks: Items::from_vec(Vec::from_slice(alloc, blocks)?),
-        states: Items::from_vec(vec![in alloc; Some(TableState {}); blocks.len()]?),
+        states: straight_table(alloc, blocks)?,
         weights: Items::from_vec(vec![in alloc; 1u32; blocks.len()]?),
     };
     let object = Object::build(parts).ok().ok_or("parts of an object")?;
-    Ok(verify(object).ok().ok_or("an accepted object")?)
+    Ok(verify(alloc, object).ok().ok_or("an accepted object")?)
 }
 
 /// A job of these blocks before its first step.
@@ -148,54 +232,48 @@ fn run(sim: &mut Sim, most: u64) -> Result<Status, Memory> {
     Ok(status)
 }
 
+// WHAT THERE IS TO SEE
+
 /// How a job stands, and its clock, steps, entries and count.
 type Stand = (Status, (i64, u64, u64, i64));
-
-/// The clock, the steps, the entries and the count.
-fn numbers(sim: &Sim) -> (i64, u64, u64, i64) {
-    (sim.clock(), sim.steps(), sim.entries(), sim.count())
-}
-
-/// How the job of these blocks stands after slices of so many steps, one after the other.
-fn stands(alloc: Global, count: u64, blocks: &[Block], slices: &[u64]) -> Result<Vec<Stand>, Fail> {
-    let mut sim = started(alloc, count, AMPLE, blocks)?;
-    let mut stands = Vec::new(alloc);
-    for steps in slices {
-        let status = run(&mut sim, *steps)?;
-        stands.push((status, numbers(&sim)))?;
-    }
-    Ok(stands)
-}
-
-/// How a job of these blocks comes to rest.
-fn end_of(alloc: Global, count: u64, blocks: &[Block]) -> Result<Stand, Fail> {
-    let mut sim = started(alloc, count, AMPLE, blocks)?;
-    let status = run(&mut sim, 10_000_000)?;
-    Ok((status, numbers(&sim)))
-}
 
 /// The clock, the active transaction, the entries of each of three blocks and who is in it, and the count.
 type Row = (i64, Option<u64>, [u64; 3], [usize; 3], i64);
 
-/// What there is to see of a job of three blocks.
-fn row(sim: &Sim) -> Row {
-    let entries = [sim.entries_at(1), sim.entries_at(2), sim.entries_at(3)];
-    let here = [sim.here(1), sim.here(2), sim.here(3)];
-    (sim.clock(), sim.active(), entries, here, sim.count())
+/// What there is to see of a job.
+#[derive(Clone, Copy)]
+struct Seen {
+    stand: Stand,
+    active: Option<u64>,
+    /// The entries of the blocks 1 to 4.
+    entries: [u64; 4],
+    /// How many are in no block yet, and in the blocks 1 to 3.
+    here: [usize; 4],
+    /// The facility F, and its utilisation.
+    facility: (Facility, Average),
+    /// What is in the storage S, and its average content.
+    storage: (Contents, Average),
+    /// What is in the queue L, and its average content.
+    queue: (Contents, Average),
+    /// How many wait for the facility F and for the storage S.
+    waiting: [usize; 2],
 }
 
-/// What there is to see of the job of these blocks after slices of so many steps, one after the other.
-fn rows(alloc: Global, count: u64, blocks: &[Block], slices: &[u64]) -> Result<Vec<Row>, Fail> {
-    let mut sim = started(alloc, count, AMPLE, blocks)?;
-    let mut rows = Vec::new(alloc);
-    for steps in slices {
-        run(&mut sim, *steps)?;
-        rows.push(row(&sim))?;
+impl Seen {
+    fn row(&self) -> Row {
+        let (_, (clock, _, _, count)) = self.stand;
+        let [first, second, third, _] = self.entries;
+        let [_, in_first, in_second, in_third] = self.here;
+        let entries = [first, second, third];
+        (
+            clock,
+            self.active,
+            entries,
+            [in_first, in_second, in_third],
+            count,
+        )
     }
-    Ok(rows)
 }
-
-// ENTITIES
 
 /// Whether the object has an entity of this number.
 fn has_entity(sim: &Sim, entity: u16) -> bool
@@ -239,6 +317,110 @@ fn waiting(sim: &Sim, entity: u16) -> Result<usize, Fail> {
         return Err("an entity".into());
     }
     Ok(sim.waiting(entity))
+}
+
+/// The clock, the steps, the entries and the count.
+fn numbers(sim: &Sim) -> (i64, u64, u64, i64) {
+    (sim.clock(), sim.steps(), sim.entries(), sim.count())
+}
+
+/// The entries of the blocks 1 to 4.
+fn entries(sim: &Sim) -> [u64; 4] {
+    [
+        sim.entries_at(1),
+        sim.entries_at(2),
+        sim.entries_at(3),
+        sim.entries_at(4),
+    ]
+}
+
+/// How many are in no block yet, and in the blocks 1 to 3.
+fn here(sim: &Sim) -> [usize; 4] {
+    [sim.here(0), sim.here(1), sim.here(2), sim.here(3)]
+}
+
+/// What there is to see of a job that stands so.
+fn look(sim: &Sim, status: Status) -> Result<Seen, Fail> {
+    Ok(Seen {
+        stand: (status, numbers(sim)),
+        active: sim.active(),
+        entries: entries(sim),
+        here: here(sim),
+        facility: facility_of(sim)?,
+        storage: storage_of(sim)?,
+        queue: queue_of(sim)?,
+        waiting: [waiting(sim, F)?, waiting(sim, S)?],
+    })
+}
+
+/// What there is to see after slices of so many steps, one after the other.
+fn watch(alloc: Global, sim: &mut Sim, slices: &[u64]) -> Result<Vec<Seen>, Fail> {
+    let mut seen = Vec::new(alloc);
+    for steps in slices {
+        let status = run(sim, *steps)?;
+        seen.push(look(sim, status)?)?;
+    }
+    Ok(seen)
+}
+
+/// What there is to see of the job of these blocks after slices of so many steps, one after the other.
+fn after_slices(
+    alloc: Global,
+    count: u64,
+    budget: u64,
+    blocks: &[Block],
+    slices: &[u64],
+) -> Result<Vec<Seen>, Fail> {
+    let mut sim = started(alloc, count, budget, blocks)?;
+    watch(alloc, &mut sim, slices)
+}
+
+/// What there is to see of the job of these blocks after so many steps.
+fn after_steps(
+    alloc: Global,
+    count: u64,
+    budget: u64,
+    blocks: &[Block],
+    steps: u64,
+) -> Result<Seen, Fail> {
+    let seen = after_slices(alloc, count, budget, blocks, &[steps])?;
+    Ok(*seen.last().ok_or("a slice")?)
+}
+
+/// What there is to see of the job of these blocks at its end.
+fn at_end(alloc: Global, count: u64, blocks: &[Block]) -> Result<Seen, Fail> {
+    after_steps(alloc, count, AMPLE, blocks, 10_000_000)
+}
+
+/// How the job of these blocks stands after slices of so many steps, one after the other.
+fn stands(alloc: Global, count: u64, blocks: &[Block], slices: &[u64]) -> Result<Vec<Stand>, Fail> {
+    let mut stands = Vec::new(alloc);
+    for seen in &after_slices(alloc, count, AMPLE, blocks, slices)? {
+        stands.push(seen.stand)?;
+    }
+    Ok(stands)
+}
+
+/// The rows of the job of these blocks after slices of so many steps, one after the other.
+fn rows(alloc: Global, count: u64, blocks: &[Block], slices: &[u64]) -> Result<Vec<Row>, Fail> {
+    let mut rows = Vec::new(alloc);
+    for seen in &after_slices(alloc, count, AMPLE, blocks, slices)? {
+        rows.push(seen.row())?;
+    }
+    Ok(rows)
+}
+
+/// The job of these blocks comes to rest so.
+fn comes_to(
+    rt: &impl Abort,
+    alloc: Global,
+    count: u64,
+    blocks: &[Block],
+    end: Stand,
+) -> Result<(), Fail> {
+    let seen = at_end(alloc, count, blocks)?;
+    assert_eq!(rt; seen.stand, end);
+    Ok(())
 }
 
 /// Units: inside, at most inside, how many came in, and the sum of content times time.

@@ -1,6 +1,7 @@
 //! Operands and times.
 
 ghost use Rattle.std.specs.Prelude.{◌≡◌};
+ghost use Rattle.gw_num.specs.Table.{at};
 ghost use Rattle.gw_scan.specs.Outcome.{outcome_of};
 ghost use Rattle.gw_scan.specs.Times as model;
 
@@ -52,4 +53,15 @@ pub(crate) fn drawn_moment(spread: Spread, clock: i64, stream: Stream) -> Result
         }
         Err(fault) => Err(end_by(fault)),
     }
+}
+
+/// The moment that lies a time drawn from the first of these streams after the clock, and that stream after the draw.
+pub(crate) fn moment_from_first(
+    spread: Spread,
+    clock: i64,
+    streams: &[Stream; 16],
+) -> Result<(i64, Stream), End>
+    ensures { outcome_of result ≡ model.drawn_moment spread clock (at 1 streams.now 0) }
+{
+    drawn_moment(spread, clock, streams[0])
 }

@@ -8,7 +8,7 @@ ghost use Rattle.gw_entities.specs.Storage.{vacant};
 ghost use Rattle.gw_chains.specs.Lists.{list_of};
 ghost use Rattle.gw_chains.specs.declared.tx.Member.{Member};
 ghost use Rattle.gw_transactions.specs.Transactions.{Holds};
-ghost use Rattle.gw_verify.specs.Checks.{block_at};
+ghost use Rattle.gw_kinds.specs.Kinds.{block_at};
 ghost use Rattle.gw_scan.specs.State.{delay_list};
 ghost use Rattle.gw_scan.specs.Changes as change;
 ghost use Rattle.gw_scan.specs.Changes.{facility};

@@ -1,3 +1,1 @@
-pub mod Broken
-pub mod BlockByBlock
-pub mod CheckedBlocks
+pub mod BothPass

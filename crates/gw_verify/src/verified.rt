@@ -1,11 +1,13 @@
 //! An object that was accepted.
 
-ghost use Rattle.std.specs.Prelude.{◌≡◌, IfOk, IfErr, Some, length, List, ℕ};
-ghost use Rattle.gw_object.specs.Grammar.{HasSpelling};
-ghost use Rattle.gw_verify.specs.Checks.{Checked, fault_of, heaviest as heaviest_of};
+ghost use Rattle.std.specs.Prelude.{◌≡◌, ◌⊎◌, IfOk, IfErr, Some, length, List, ℕ};
+ghost use Rattle.gw_flow.specs.Flow.{FindsOrLacksMemory, out_of_memory};
+ghost use Rattle.gw_verify.specs.Checks.{Checked, checks, fault_of, heaviest as heaviest_of};
 
-use crate::checks::check_parts;
+use gw_flow::check_flow;
+use gw_kinds::check_kinds;
 use gw_object::{Fault, Object};
+use std::alloc::Global;
 use std::marker::Model;
 
 /// An object that every check holds of.
@@ -25,15 +27,22 @@ impl Model for Verified {
     ghost invariant = { λ v. Checked v.object };
 }
 
-/// Accepts an object exactly where every check holds of it; else hands it back with the first fault: kinds (10 WrongKind,
-/// 11 NoEntity, 13 EntersGenerate, 14 FallsOff, 15 BadConstant) before flow (25 EdgeState), and block by block (ours:
-/// docs/refusals.md).
-#[tactic(auto, unfolding(crate::specs::Checks::fault_of))]
-pub fn verify(object: Object) -> Result<Verified, (Object, Fault)>
-    ensures accepted { IfOk result (λ v. (v ≡ object) × Checked object) }
-    ensures refused { IfErr result (λ e. (e.0 ≡ object) × (fault_of object ≡ Some e.1)) }
+/// The first fault of an object, if there is one: kinds before flow.
+fn check_all(alloc: Global, object: &Object) -> Result<(), Fault>
+    ensures { FindsOrLacksMemory result (checks object.now) }
 {
-    match check_parts(object.parts()) {
+    check_kinds(object)?;
+    check_flow(alloc, object)
+}
+
+/// Accepts an object exactly where every check holds of it; else hands it back with the first fault: kinds (10 to 15)
+/// before flow (21 to 28), and block by block; or with 8 Memory, at Nowhere (ours: docs/refusals.md).
+#[tactic(auto, unfolding(crate::specs::Checks::fault_of))]
+pub fn verify(alloc: Global, object: Object) -> Result<Verified, (Object, Fault)>
+    ensures accepted { IfOk result (λ v. (v ≡ object) × Checked object) }
+    ensures refused { IfErr result (λ e. (e.0 ≡ object) × ((fault_of object ≡ Some e.1) ⊎ (e.1 ≡ out_of_memory))) }
+{
+    match check_all(alloc, &object) {
         Ok(()) => Ok(Verified { object }),
         Err(fault) => Err((object, fault)),
     }

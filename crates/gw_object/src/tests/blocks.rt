@@ -38,7 +38,7 @@ fn eight_blocks(alloc: Global) -> Result<Parts, Memory> {
         count: 1,
         entities: Items::from_vec(Vec::new(alloc)),
         blocks: Items::from_vec(Vec::from_slice(alloc, &blocks)?),
-        states: Items::from_vec(vec![in alloc; None; 8]?),
+        states: no_states(alloc, 8)?,
         weights: Items::from_vec(vec![in alloc; 1; 8]?),
     })
 }
@@ -70,26 +70,101 @@ fn each_cut_of_blocks_is_truncated_at_the_cut_field(rt: HostRuntime) {
 
 #[test]
 fn each_fault_of_a_block_is_named_by_its_code_and_place(rt: HostRuntime) -> Result<(), Fail> {
-    // The place of the byte that is replaced, the byte in its place, and the refusal.
-    let faults: [(usize, u8, u16, u32); 8] = [
-        (18, 0x00, TAG, 18),
-        (18, 0x0a, TAG, 18),
-        (28, 0x01, TAG, 28),
-        (56, 0x0a, TAG, 56),
+    let faults: [(usize, usize, &[u8], u16, u32); 8] = [
+        (18, 1, &[0x00], TAG, 18),
+        (18, 1, &[0x0a], TAG, 18),
+        (28, 1, &[0x01], TAG, 28),
+        (56, 1, &[0x0a], TAG, 56),
         // A SEIZE that is called ENTER takes four bytes more: 05 and ff ff of the RELEASE, and the 06.
-        (56, 0x06, TAG, 63),
+        (56, 1, &[0x06], TAG, 63),
         // An ENTER that is called SEIZE takes four bytes less: 00 stands where a tag is due.
-        (62, 0x04, TAG, 65),
-        (90, 0x01, LIMIT, 90),
-        (91, 0x02, TAG, 91),
+        (62, 1, &[0x04], TAG, 65),
+        (90, 1, &[0x01], LIMIT, 90),
+        (91, 1, &[0x02], TAG, 91),
     ];
-    for (place, byte, code, at_byte) in faults {
-        let bytes = changed(rt.alloc(), &EIGHT_BLOCKS, place, 1, &[byte])?;
-        assert_eq!(rt;
-            refusal(rt.alloc(), &bytes),
-            at(code, at_byte),
-            "at {place}"
-        );
+    assert_eq!(rt; wrong_fault(rt.alloc(), &EIGHT_BLOCKS, &faults)?, None);
+    Ok(())
+}
+
+/// `TRANSFER ,3`, `TRANSFER .500,,4`, and a TRANSFER of 1001 thousandths to 0, the others to 65535; no entities,
+/// no states, weights 1.
+const THREE_TRANSFERS: [u8; 51] = [
+    0x47, 0x50, 0x53, 0x4f, 0x00, 0x01, 0x00, 0x00, 0x00, 0x00, 0x00, 0x00, 0x00, 0x00, 0x01, 0x00,
+    0x00, 0x03, 0x0d, 0x00, 0x03, 0x0e, 0x01, 0xf4, 0x00, 0x00, 0x04, 0x0e, 0x03, 0xe9, 0x01, 0xff,
+    0xff, 0x00, 0x00, 0x00, 0x00, 0x00, 0x00, 0x00, 0x00, 0x00, 0x01, 0x00, 0x00, 0x00, 0x01, 0x00,
+    0x00, 0x00, 0x01,
+];
+
+/// The first byte of each field of the three transfers.
+const TRANSFER_FIELDS: [u32; 25] = [
+    0, 4, 6, 7, 15, 16, 17, 18, 19, 21, 22, 24, 25, 27, 28, 30, 31, 33, 35, 36, 37, 38, 39, 43, 47,
+];
+
+fn fraction(thousandths: u16, otherwise: Option<u16>, target: u16) -> Fraction {
+    Fraction {
+        thousandths,
+        otherwise,
+        target,
     }
+}
+
+fn three_transfers(alloc: Global) -> Result<Parts, Memory> {
+    let blocks = [
+        Block::Transfer(3),
+        Block::TransferByFraction(fraction(500, None, 4)),
+        Block::TransferByFraction(fraction(1_001, Some(65_535), 0)),
+    ];
+    Ok(Parts {
+        seeds: Items::from_vec(Vec::new(alloc)),
+        count: 1,
+        entities: Items::from_vec(Vec::new(alloc)),
+        blocks: Items::from_vec(Vec::from_slice(alloc, &blocks)?),
+        states: no_states(alloc, 3)?,
+        weights: Items::from_vec(vec![in alloc; 1; 3]?),
+    })
+}
+
+#[test]
+fn three_transfers_are_read_built_and_written(rt: HostRuntime) -> Result<(), Fail> {
+    let alloc = rt.alloc();
+    let parts = three_transfers(alloc)?;
+    assert!(rt; are_read_as(alloc, &THREE_TRANSFERS, &parts)?);
+    assert!(rt; are_built_as(alloc, parts, &THREE_TRANSFERS)?);
+    Ok(())
+}
+
+#[test]
+fn transfers_of_other_parts_or_to_other_blocks_differ(rt: HostRuntime) {
+    let whole = fraction(500, Some(3), 4);
+    assert!(rt; whole == fraction(500, Some(3), 4));
+    assert!(rt; whole != fraction(501, Some(3), 4));
+    assert!(rt; whole != fraction(500, None, 4));
+    assert!(rt; whole != fraction(500, Some(2), 4));
+    assert!(rt; whole != fraction(500, Some(4), 3));
+    assert!(rt; Block::Transfer(3) != Block::Transfer(4));
+    assert!(rt; Block::Transfer(3) != Block::Seize(3));
+}
+
+#[test]
+fn each_cut_of_transfers_is_truncated_at_the_cut_field(rt: HostRuntime) {
+    assert_eq!(rt;
+        wrong_cut(rt.alloc(), &THREE_TRANSFERS, &TRANSFER_FIELDS),
+        None
+    );
+}
+
+#[test]
+fn each_fault_of_a_transfer_is_named_by_its_code_and_place(rt: HostRuntime) -> Result<(), Fail> {
+    let faults: [(usize, usize, &[u8], u16, u32); 6] = [
+        (18, 1, &[0x0c], TAG, 18),
+        (18, 1, &[0x0f], TAG, 18),
+        // Behind two bytes more 0e stands where a flag is due.
+        (18, 1, &[0x0e], TAG, 21),
+        // Behind three bytes less 00 stands where a tag is due.
+        (21, 1, &[0x0d], TAG, 24),
+        (24, 1, &[0x02], TAG, 24),
+        (30, 1, &[0xff], TAG, 30),
+    ];
+    assert_eq!(rt; wrong_fault(rt.alloc(), &THREE_TRANSFERS, &faults)?, None);
     Ok(())
 }

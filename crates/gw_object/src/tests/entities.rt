@@ -47,20 +47,19 @@ fn three_entities_are_read_built_and_written(rt: HostRuntime) -> Result<(), Fail
     Ok(())
 }
 
+/// Whether an entity of this kind and name is the storage S of capacity 3.
+fn is_storage(alloc: Global, kind: Kind, name: &[u8]) -> Result<bool, Memory> {
+    let storage = entity(alloc, Kind::Storage(3), b"S")?;
+    Ok(storage == entity(alloc, kind, name)?)
+}
+
 #[test]
 fn entities_of_other_names_kinds_or_capacities_differ(rt: HostRuntime) -> Result<(), Fail> {
-    let cases: [(Kind, &[u8], bool); 5] = [
-        (Kind::Storage(3), b"S", true),
-        (Kind::Storage(4), b"S", false),
-        (Kind::Queue, b"S", false),
-        (Kind::Storage(3), b"T", false),
-        (Kind::Storage(3), b"S1", false),
-    ];
-    let storage = entity(rt.alloc(), Kind::Storage(3), b"S")?;
-    for (kind, name, is_same) in cases {
-        let other = entity(rt.alloc(), kind, name)?;
-        assert_eq!(rt; storage == other, is_same);
-    }
+    assert!(rt; is_storage(rt.alloc(), Kind::Storage(3), b"S")?);
+    assert!(rt; !is_storage(rt.alloc(), Kind::Storage(4), b"S")?);
+    assert!(rt; !is_storage(rt.alloc(), Kind::Queue, b"S")?);
+    assert!(rt; !is_storage(rt.alloc(), Kind::Storage(3), b"T")?);
+    assert!(rt; !is_storage(rt.alloc(), Kind::Storage(3), b"S1")?);
     Ok(())
 }
 
@@ -74,7 +73,6 @@ fn each_cut_of_entities_is_truncated_at_the_cut_field(rt: HostRuntime) {
 
 #[test]
 fn each_fault_of_an_entity_is_named_by_its_code_and_place(rt: HostRuntime) -> Result<(), Fail> {
-    // The place and the number of the bytes that are replaced, those that replace them, and the refusal.
     let faults: [(usize, usize, &[u8], u16, u32); 25] = [
         (16, 1, &[0x00], TAG, 16),
         (16, 1, &[0x04], TAG, 16),
@@ -120,10 +118,7 @@ fn each_fault_of_an_entity_is_named_by_its_code_and_place(rt: HostRuntime) -> Re
         // With one entity less, what stands in the facility's place is the count of procedures.
         (15, 1, &[0x02], LIMIT, 31),
     ];
-    for (place, old, new, code, byte) in faults {
-        let bytes = changed(rt.alloc(), &THREE_ENTITIES, place, old, new)?;
-        assert_eq!(rt; refusal(rt.alloc(), &bytes), at(code, byte), "at {place}");
-    }
+    assert_eq!(rt; wrong_fault(rt.alloc(), &THREE_ENTITIES, &faults)?, None);
     Ok(())
 }
 
@@ -134,6 +129,20 @@ fn added_code(alloc: Global, kind: Kind, name: &[u8]) -> Result<Option<u16>, Mem
     entities.push(entity(alloc, kind, name)?)?;
     parts.entities = Items::from_vec(entities);
     Ok(build_code(parts))
+}
+
+/// The number, from 0, of the first of these entities whose code is another.
+fn wrong_code(
+    alloc: Global,
+    entities: &[(Kind, &[u8], Option<u16>)],
+) -> Result<Option<usize>, Memory> {
+    for i in 0..entities.len() {
+        let (kind, name, code) = entities[i];
+        if added_code(alloc, kind, name)? != code {
+            return Ok(Some(i));
+        }
+    }
+    Ok(None)
 }
 
 #[test]
@@ -152,19 +161,22 @@ fn entities_outside_the_rules_are_not_built(rt: HostRuntime) -> Result<(), Fail>
         (Kind::Storage(0), b"s", Some(TAG)),
         (Kind::Storage(0), b"S", Some(LIMIT)),
     ];
-    for (kind, name, code) in cases {
-        assert_eq!(rt; added_code(rt.alloc(), kind, name)?, code);
-    }
+    assert_eq!(rt; wrong_code(rt.alloc(), &cases)?, None);
     Ok(())
 }
 
-#[test]
-fn a_letter_is_named_before_the_count_and_the_seeds(rt: HostRuntime) -> Result<(), Fail> {
-    let alloc = rt.alloc();
+/// Parts with a name in lower case, termination count 0 and a last seed 0.
+fn thrice_wrong(alloc: Global) -> Result<Parts, Memory> {
     let mut parts = three_entities(alloc)?;
     parts.count = 0;
     parts.seeds = Items::from_vec(Vec::from_slice(alloc, &[0])?);
     parts.entities = Items::from_vec(vec![in alloc; entity(alloc, Kind::Queue, b"a")?]?);
+    Ok(parts)
+}
+
+#[test]
+fn a_letter_is_named_before_the_count_and_the_seeds(rt: HostRuntime) -> Result<(), Fail> {
+    let parts = thrice_wrong(rt.alloc())?;
     assert_eq!(rt; build_code(parts), Some(TAG));
     Ok(())
 }
@@ -179,17 +191,18 @@ fn numbered_queue(alloc: Global, number: usize) -> Result<Entity, Memory> {
     )
 }
 
+/// The code of the refusal to build so many queues.
+fn queues_code(alloc: Global, count: usize) -> Result<Option<u16>, Memory> {
+    let mut entities = Vec::new(alloc);
+    for number in 0..count {
+        entities.push(numbered_queue(alloc, number)?)?;
+    }
+    Ok(build_code(parts_of(alloc, entities)))
+}
+
 #[test]
 fn at_most_1024_entities_are_built(rt: HostRuntime) -> Result<(), Fail> {
-    for count in [1_024, 1_025] {
-        let mut entities = Vec::new(rt.alloc());
-        for number in 0..count {
-            entities.push(numbered_queue(rt.alloc(), number)?)?;
-        }
-        assert_eq!(rt;
-            build_code(parts_of(rt.alloc(), entities)),
-            if count == 1_024 { None } else { Some(LIMIT) }
-        );
-    }
+    assert_eq!(rt; queues_code(rt.alloc(), 1_024)?, None);
+    assert_eq!(rt; queues_code(rt.alloc(), 1_025)?, Some(LIMIT));
     Ok(())
 }

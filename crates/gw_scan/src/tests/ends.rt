@@ -9,30 +9,27 @@ const LAST: i64 = 9_223_372_036_854_775_807;
 fn ends_of(alloc: Global, jobs: &[&[Block]]) -> Result<Vec<Stand>, Fail> {
     let mut ends = Vec::new(alloc);
     for blocks in jobs {
-        ends.push(end_of(alloc, 1, blocks)?)?;
+        ends.push(at_end(alloc, 1, blocks)?.stand)?;
     }
     Ok(ends)
 }
 
-/// How the job of the three blocks comes to rest with this budget.
-fn end_within(alloc: Global, budget: u64) -> Result<Stand, Fail> {
-    let mut sim = started(alloc, 2, budget, &three_blocks())?;
-    let status = run(&mut sim, 1_000)?;
-    Ok((status, numbers(&sim)))
-}
-
 #[test]
 fn budget_of_5_ends_at_clock_13(rt: HostRuntime) -> Result<(), Fail> {
-    let end = end_within(rt.alloc(), 5)?;
-    assert_eq!(rt; end, (Status::Ended(End::Budget), (13, 5, 2, 2)));
+    let seen = after_steps(rt.alloc(), 2, 5, &three_blocks(), 1_000)?;
+    assert!(rt; seen.stand == (Status::Ended(End::Budget), (13, 5, 2, 2)));
     Ok(())
 }
 
 #[test]
 fn no_block_ends_after_one_step(rt: HostRuntime) -> Result<(), Fail> {
-    let end = end_of(rt.alloc(), 1, &[])?;
-    assert_eq!(rt; end, (Status::Ended(End::NoMoreEvents), (0, 1, 0, 1)));
-    Ok(())
+    comes_to(
+        &rt,
+        rt.alloc(),
+        1,
+        &[],
+        (Status::Ended(End::NoMoreEvents), (0, 1, 0, 1)),
+    )
 }
 
 /// GENERATE 5 / TERMINATE 1 / GENERATE -1,0,,1 / TERMINATE 1.
@@ -45,20 +42,24 @@ fn one_good_and_one_early() -> [Block; 4] {
     ]
 }
 
-/// How many transactions are scheduled before the first step.
-fn scheduled(alloc: Global, blocks: &[Block]) -> Result<usize, Fail> {
-    let sim = started(alloc, 1, AMPLE, blocks)?;
-    Ok(sim.here(0))
+/// How a job stands, and how many transactions are in no block yet.
+type Scheduled = (Stand, usize);
+
+/// The job of these blocks, with a count of 1, before its first step and after a step.
+fn scheduled(alloc: Global, blocks: &[Block]) -> Result<Vec<Scheduled>, Fail> {
+    let mut scheduled = Vec::new(alloc);
+    for seen in &after_slices(alloc, 1, AMPLE, blocks, &[0, 1])? {
+        scheduled.push((seen.stand, seen.here[0]))?;
+    }
+    Ok(scheduled)
 }
 
 #[test]
 fn negative_first_arrival_ends_the_job_at_its_start(rt: HostRuntime) -> Result<(), Fail> {
     // The first GENERATE alone could be scheduled. A step of the ended job changes nothing.
-    let blocks = one_good_and_one_early();
-    let stands = stands(rt.alloc(), 1, &blocks, &[0, 1])?;
-    let early = (Status::Ended(End::NegativeTime), (0, 0, 0, 1));
-    assert!(rt; stands.as_slice() == [early, early].as_slice());
-    assert_eq!(rt; scheduled(rt.alloc(), &blocks)?, 0);
+    let scheduled = scheduled(rt.alloc(), &one_good_and_one_early())?;
+    let early = ((Status::Ended(End::NegativeTime), (0, 0, 0, 1)), 0);
+    assert!(rt; scheduled.as_slice() == [early, early].as_slice());
     Ok(())
 }
 
@@ -99,8 +100,13 @@ fn times_below_0_and_past_the_last_moment_are_named_ends(rt: HostRuntime) -> Res
 #[test]
 fn terminate_by_less_than_0_is_a_named_end(rt: HostRuntime) -> Result<(), Fail> {
     let blocks = [generate(0, None, Some(1), 0), terminate(-1)];
-    let end = end_of(rt.alloc(), 1, &blocks)?;
-    assert_eq!(rt; end, (Status::Ended(End::Number), (0, 4, 1, 1)));
+    comes_to(
+        &rt,
+        rt.alloc(),
+        1,
+        &blocks,
+        (Status::Ended(End::Number), (0, 4, 1, 1)),
+    )?;
     let rows = rows(rt.alloc(), 1, &blocks, &[100])?;
     assert!(rt; rows.as_slice() == [(0, Some(1), [1, 0, 0], [1, 0, 0], 1)].as_slice());
     Ok(())
@@ -108,21 +114,22 @@ fn terminate_by_less_than_0_is_a_named_end(rt: HostRuntime) -> Result<(), Fail> 
 
 #[test]
 fn terminate_by_more_than_the_count_is_done(rt: HostRuntime) -> Result<(), Fail> {
-    let end = end_of(rt.alloc(), 2, &[generate(10, None, None, 0), terminate(5)])?;
-    assert_eq!(rt; end, (Status::Ended(End::Done), (10, 4, 2, -3)));
-    Ok(())
+    let blocks = [generate(10, None, None, 0), terminate(5)];
+    comes_to(
+        &rt,
+        rt.alloc(),
+        2,
+        &blocks,
+        (Status::Ended(End::Done), (10, 4, 2, -3)),
+    )
 }
 
 #[test]
 fn arrivals_beyond_65536_live_are_a_named_end(rt: HostRuntime) -> Result<(), Fail> {
     // Each arrival takes four steps and enters two blocks, until 65,536 live at clock 65,536, the active one among them.
     let blocks = [generate(1, None, None, 0), advance(100_000), terminate(1)];
-    let end = end_of(rt.alloc(), 1, &blocks)?;
-    assert_eq!(rt;
-        end,
-        (Status::Ended(End::Live), (65_536, 262_143, 131_070, 1))
-    );
-    Ok(())
+    let end = (Status::Ended(End::Live), (65_536, 262_143, 131_070, 1));
+    comes_to(&rt, rt.alloc(), 1, &blocks, end)
 }
 
 #[test]

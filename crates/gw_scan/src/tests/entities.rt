@@ -2,38 +2,33 @@
 
 use super::*;
 
-/// What is in the storage S, its average content, and how many wait for it, after slices of so many steps.
-fn storages(
-    alloc: Global,
-    blocks: &[Block],
-    slices: &[u64],
-) -> Result<Vec<(Contents, Average, usize)>, Fail> {
-    let mut sim = started(alloc, 1, AMPLE, blocks)?;
-    let mut storages = Vec::new(alloc);
-    for steps in slices {
-        run(&mut sim, *steps)?;
-        let (contents, average) = storage_of(&sim)?;
-        storages.push((contents, average, waiting(&sim, S)?))?;
+/// What is in the storage S, its average content, and how many wait for it.
+type Store = (Contents, Average, usize);
+
+/// The storage S of the job of these blocks, with a count of 1, after slices of so many steps.
+fn stores(alloc: Global, blocks: &[Block], slices: &[u64]) -> Result<Vec<Store>, Fail> {
+    let mut stores = Vec::new(alloc);
+    for seen in &after_slices(alloc, 1, AMPLE, blocks, slices)? {
+        let (contents, average) = seen.storage;
+        stores.push((contents, average, seen.waiting[1]))?;
     }
-    Ok(storages)
+    Ok(stores)
 }
 
-/// What is in the queue L at the end, and its average content.
-fn queue_at_end(alloc: Global, count: u64, blocks: &[Block]) -> Result<(Contents, Average), Fail> {
-    let mut sim = started(alloc, count, AMPLE, blocks)?;
-    run(&mut sim, 10_000_000)?;
-    queue_of(&sim)
-}
+/// How a job comes to rest, and what there is then in the queue L and of the facility F, each with its average.
+type Server = (Stand, (Contents, Average), (Facility, Average));
 
-/// The facility F at the end, and its utilisation.
-fn facility_at_end(
+/// The job of these blocks comes to rest so.
+fn serves(
+    rt: &impl Abort,
     alloc: Global,
     count: u64,
     blocks: &[Block],
-) -> Result<(Facility, Average), Fail> {
-    let mut sim = started(alloc, count, AMPLE, blocks)?;
-    run(&mut sim, 10_000_000)?;
-    facility_of(&sim)
+    server: Server,
+) -> Result<(), Fail> {
+    let seen = at_end(alloc, count, blocks)?;
+    assert_eq!(rt; (seen.stand, seen.queue, seen.facility), server);
+    Ok(())
 }
 
 /// A facility with this owner, so many entries, and so many clock units owned.
@@ -68,10 +63,15 @@ fn one_unit_is_left() -> [Block; 12] {
 fn units_left_admit_each_waiter_that_fits(rt: HostRuntime) -> Result<(), Fail> {
     // Of those who wait for 3, 3 and 1 units from clock 1 and 2 on, the last gets the unit that is left at clock 10.
     let blocks = one_unit_is_left();
-    let end = end_of(rt.alloc(), 1, &blocks)?;
-    assert_eq!(rt; end, (Status::Ended(End::Done), (20, 26, 11, 0)));
-    let storages = storages(rt.alloc(), &blocks, &[100])?;
-    assert!(rt; storages.as_slice() == [(contents(3, 3, 4, 60), average(3, 0), 2)].as_slice());
+    comes_to(
+        &rt,
+        rt.alloc(),
+        1,
+        &blocks,
+        (Status::Ended(End::Done), (20, 26, 11, 0)),
+    )?;
+    let stores = stores(rt.alloc(), &blocks, &[100])?;
+    assert!(rt; stores.as_slice() == [(contents(3, 3, 4, 60), average(3, 0), 2)].as_slice());
     Ok(())
 }
 
@@ -99,12 +99,12 @@ fn three_units_are_left() -> [Block; 14] {
 fn admission_goes_on_past_one_that_does_not_fit(rt: HostRuntime) -> Result<(), Fail> {
     // In step 20, at clock 10, three units are left, and of those who wait the first and the last enter.
     let blocks = three_units_are_left();
-    let storages = storages(rt.alloc(), &blocks, &[19, 1])?;
+    let stores = stores(rt.alloc(), &blocks, &[19, 1])?;
     let expected = [
         (contents(3, 3, 3, 30), average(3, 0), 3),
         (contents(3, 3, 6, 30), average(3, 0), 1),
     ];
-    assert!(rt; storages.as_slice() == expected.as_slice());
+    assert!(rt; stores.as_slice() == expected.as_slice());
     let stands = stands(rt.alloc(), 1, &blocks, &[20])?;
     assert!(rt; stands.as_slice() == [(Status::Running, (10, 20, 9, 1))].as_slice());
     Ok(())
@@ -125,24 +125,25 @@ fn one_server(interval: i64, customers: Option<u32>, service: i64) -> [Block; 7]
 
 #[test]
 fn second_customer_waits_in_the_queue_for_the_first(rt: HostRuntime) -> Result<(), Fail> {
-    let blocks = one_server(0, Some(2), 4);
-    let end = end_of(rt.alloc(), 2, &blocks)?;
-    assert_eq!(rt; end, (Status::Ended(End::Done), (8, 23, 14, 0)));
-    let queue = queue_at_end(rt.alloc(), 2, &blocks)?;
-    assert_eq!(rt; queue, (contents(0, 1, 2, 4), average(0, 500)));
-    let owned = facility_at_end(rt.alloc(), 2, &blocks)?;
-    assert_eq!(rt; owned, (facility(None, 2, 8), average(1, 0)));
-    Ok(())
+    let end = (Status::Ended(End::Done), (8, 23, 14, 0));
+    let queue = (contents(0, 1, 2, 4), average(0, 500));
+    let owned = (facility(None, 2, 8), average(1, 0));
+    serves(
+        &rt,
+        rt.alloc(),
+        2,
+        &one_server(0, Some(2), 4),
+        (end, queue, owned),
+    )
 }
 
 #[test]
 fn transaction_may_end_inside_a_queue(rt: HostRuntime) -> Result<(), Fail> {
     let blocks = [generate(10, None, None, 0), queue(), terminate(1)];
-    let end = end_of(rt.alloc(), 1, &blocks)?;
-    assert_eq!(rt; end, (Status::Ended(End::Done), (10, 5, 3, 0)));
-    let queue = queue_at_end(rt.alloc(), 1, &blocks)?;
-    assert_eq!(rt; queue, (contents(1, 1, 1, 0), average(0, 0)));
-    Ok(())
+    let end = (Status::Ended(End::Done), (10, 5, 3, 0));
+    let queue = (contents(1, 1, 1, 0), average(0, 0));
+    let unused = (facility(None, 0, 0), average(0, 0));
+    serves(&rt, rt.alloc(), 1, &blocks, (end, queue, unused))
 }
 
 /// GENERATE 10,5.
@@ -161,9 +162,14 @@ fn drawn_arrivals() -> Block {
 #[test]
 fn interval_is_drawn_from_the_first_stream(rt: HostRuntime) -> Result<(), Fail> {
     // With seed 1, 48271 mod 11 is 3, and the next draw, 182605794, mod 11 is 8: the times are 8 and 13.
-    let end = end_of(rt.alloc(), 2, &[drawn_arrivals(), terminate(1)])?;
-    assert_eq!(rt; end, (Status::Ended(End::Done), (21, 8, 4, 0)));
-    Ok(())
+    let blocks = [drawn_arrivals(), terminate(1)];
+    comes_to(
+        &rt,
+        rt.alloc(),
+        2,
+        &blocks,
+        (Status::Ended(End::Done), (21, 8, 4, 0)),
+    )
 }
 
 #[test]
@@ -171,18 +177,14 @@ fn hundred_thousand_customers_pass_within_a_minute(rt: HostRuntime) -> Result<()
     // Customer k comes at 2k, is handed the facility then, and terminates at 2k + 2, after 10 steps and 7 entries; the
     // first doesn't wait, which saves a step. The last clock has the next one come too, and handed the facility: 4 steps and
     // 3 entries. The clock moves 100,001 times.
-    let blocks = one_server(2, None, 2);
-    let end = end_of(rt.alloc(), 100_000, &blocks)?;
-    assert_eq!(rt;
-        end,
-        (Status::Ended(End::Done), (200_002, 1_100_004, 700_003, 0))
-    );
-    let queue = queue_at_end(rt.alloc(), 100_000, &blocks)?;
-    assert_eq!(rt; queue, (contents(1, 1, 100_001, 0), average(0, 0)));
-    let owned = facility_at_end(rt.alloc(), 100_000, &blocks)?;
-    assert_eq!(rt;
-        owned,
-        (facility(Some(100_001), 100_001, 200_000), average(0, 999))
-    );
-    Ok(())
+    let end = (Status::Ended(End::Done), (200_002, 1_100_004, 700_003, 0));
+    let queue = (contents(1, 1, 100_001, 0), average(0, 0));
+    let owned = (facility(Some(100_001), 100_001, 200_000), average(0, 999));
+    serves(
+        &rt,
+        rt.alloc(),
+        100_000,
+        &one_server(2, None, 2),
+        (end, queue, owned),
+    )
 }

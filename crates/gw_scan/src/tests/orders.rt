@@ -23,20 +23,19 @@ type Owner = (i64, Option<u64>, usize);
 /// Who owns the facility after slices of so many steps, one after the other.
 fn owners(alloc: Global, arrivals: &[(i64, i32)], slices: &[u64]) -> Result<Vec<Owner>, Fail> {
     let blocks = customers(alloc, arrivals)?;
-    let mut sim = started(alloc, arrivals.len() as u64, AMPLE, &blocks)?;
     let mut owners = Vec::new(alloc);
-    for steps in slices {
-        run(&mut sim, *steps)?;
-        let (facility, _) = facility_of(&sim)?;
-        owners.push((sim.clock(), facility.owner, waiting(&sim, F)?))?;
+    for seen in &after_slices(alloc, arrivals.len() as u64, AMPLE, &blocks, slices)? {
+        let (facility, _) = seen.facility;
+        let (_, (clock, ..)) = seen.stand;
+        owners.push((clock, facility.owner, seen.waiting[0]))?;
     }
     Ok(owners)
 }
 
-/// How the job of these customers comes to rest.
-fn end_of_customers(alloc: Global, arrivals: &[(i64, i32)]) -> Result<Stand, Fail> {
+/// The job of these customers comes to rest so.
+fn served(rt: &impl Abort, alloc: Global, arrivals: &[(i64, i32)], end: Stand) -> Result<(), Fail> {
     let blocks = customers(alloc, arrivals)?;
-    end_of(alloc, arrivals.len() as u64, &blocks)
+    comes_to(rt, alloc, arrivals.len() as u64, &blocks, end)
 }
 
 #[test]
@@ -51,9 +50,12 @@ fn facility_is_handed_over_by_priority_and_then_in_order(rt: HostRuntime) -> Res
         (40, None, 0),
     ];
     assert!(rt; owners.as_slice() == expected.as_slice());
-    let end = end_of_customers(rt.alloc(), &arrivals)?;
-    assert_eq!(rt; end, (Status::Ended(End::Done), (40, 39, 20, 0)));
-    Ok(())
+    served(
+        &rt,
+        rt.alloc(),
+        &arrivals,
+        (Status::Ended(End::Done), (40, 39, 20, 0)),
+    )
 }
 
 #[test]
@@ -69,7 +71,10 @@ fn newcomer_does_not_overtake_who_waits(rt: HostRuntime) -> Result<(), Fail> {
         (30, None, 0),
     ];
     assert!(rt; owners.as_slice() == expected.as_slice());
-    let end = end_of_customers(rt.alloc(), &arrivals)?;
-    assert_eq!(rt; end, (Status::Ended(End::Done), (30, 28, 15, 0)));
-    Ok(())
+    served(
+        &rt,
+        rt.alloc(),
+        &arrivals,
+        (Status::Ended(End::Done), (30, 28, 15, 0)),
+    )
 }

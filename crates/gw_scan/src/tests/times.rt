@@ -39,22 +39,27 @@ fn job_runs_until_it_is_done(rt: HostRuntime) -> Result<(), Fail> {
 
 #[test]
 fn five_arrivals_at_once_end_at_clock_0(rt: HostRuntime) -> Result<(), Fail> {
-    let end = end_of(
+    let blocks = [generate(0, None, Some(5), 0), terminate(1)];
+    comes_to(
+        &rt,
         rt.alloc(),
         5,
-        &[generate(0, None, Some(5), 0), terminate(1)],
-    )?;
-    assert_eq!(rt; end, (Status::Ended(End::Done), (0, 20, 10, 0)));
-    Ok(())
+        &blocks,
+        (Status::Ended(End::Done), (0, 20, 10, 0)),
+    )
 }
 
 #[test]
 fn first_arrival_may_have_a_time_of_its_own(rt: HostRuntime) -> Result<(), Fail> {
     // The interval of -1 is drawn for no arrival: the limit is 1, and the first comes at 7.
     let blocks = [generate(-1, Some(7), Some(1), 0), terminate(1)];
-    let end = end_of(rt.alloc(), 1, &blocks)?;
-    assert_eq!(rt; end, (Status::Ended(End::Done), (7, 4, 2, 0)));
-    Ok(())
+    comes_to(
+        &rt,
+        rt.alloc(),
+        1,
+        &blocks,
+        (Status::Ended(End::Done), (7, 4, 2, 0)),
+    )
 }
 
 /// GENERATE 1,0,5,1,E / TERMINATE, for each of four priorities.
@@ -78,11 +83,9 @@ fn who_is_active(
     blocks: &[Block],
     slices: &[u64],
 ) -> Result<Vec<Option<u64>>, Fail> {
-    let mut sim = started(alloc, 1, AMPLE, blocks)?;
     let mut numbers = Vec::new(alloc);
-    for steps in slices {
-        run(&mut sim, *steps)?;
-        numbers.push(sim.active())?;
+    for seen in &after_slices(alloc, 1, AMPLE, blocks, slices)? {
+        numbers.push(seen.active)?;
     }
     Ok(numbers)
 }
@@ -94,18 +97,14 @@ fn who_is_due_goes_by_priority_and_then_in_order(rt: HostRuntime) -> Result<(), 
     let active = who_is_active(rt.alloc(), &blocks, &[2, 3, 3, 3])?;
     let expected = [Some(2), Some(3), Some(1), Some(4)];
     assert!(rt; active.as_slice() == expected.as_slice());
-    let end = end_of(rt.alloc(), 1, &blocks)?;
-    assert_eq!(rt; end, (Status::Ended(End::NoMoreEvents), (5, 14, 8, 1)));
-    Ok(())
+    let end = (Status::Ended(End::NoMoreEvents), (5, 14, 8, 1));
+    comes_to(&rt, rt.alloc(), 1, &blocks, end)
 }
 
-/// What the job of the three blocks comes to in slices of so many steps.
-fn in_slices(alloc: Global, slices: &[u64]) -> Result<(i64, u64, u64, i64), Fail> {
-    let mut sim = started(alloc, 2, AMPLE, &three_blocks())?;
-    for steps in slices {
-        run(&mut sim, *steps)?;
-    }
-    Ok(numbers(&sim))
+/// How the job of the three blocks stands after all of these slices.
+fn in_slices(alloc: Global, slices: &[u64]) -> Result<Stand, Fail> {
+    let stands = stands(alloc, 2, &three_blocks(), slices)?;
+    Ok(*stands.last().ok_or("a slice")?)
 }
 
 #[test]
@@ -113,7 +112,7 @@ fn slices_of_any_lengths_make_the_same_run(rt: HostRuntime) -> Result<(), Fail> 
     let whole = in_slices(rt.alloc(), &[14])?;
     let cut = in_slices(rt.alloc(), &[1, 7, 2, 1, 3])?;
     let single_steps = in_slices(rt.alloc(), &[1; 20])?;
-    let expected = (23, 14, 6, 0);
+    let expected = (Status::Ended(End::Done), (23, 14, 6, 0));
     assert!(rt; [whole, cut, single_steps] == [expected, expected, expected]);
     Ok(())
 }

@@ -1,6 +1,5 @@
-use Rattle.std.proofs.Common.{◌≡◌, ◌∙◌, List, ℕ, Option, None, length, ap, arith}
+use Rattle.std.proofs.Common.{◌≡◌, ◌∙◌, None, length, ap, arith}
 use Rattle.std.specs.Prelude.{sum}
-use Rattle.gw_transactions.specs.declared.Transaction.{Transaction}
 use Rattle.gw_num.proofs.Tables.{length-put_next}
 use Rattle.gw_scan.specs.State.{State, raised}
 use Rattle.gw_scan.specs.View.{state_of}

@@ -1,4 +1,4 @@
-use Rattle.std.proofs.Common.{◌≡◌, ◌-ℤ◌, ℤ, pos, refl, ap, ◌∙◌, arith, rules}
+use Rattle.std.proofs.Common.{◌≡◌, ◌-ℤ◌, pos, refl, ap, ◌∙◌, arith, rules}
 use Rattle.std.specs.Prelude.{unsigned_abs}
 use Rattle.std.proofs.lemmas.Int.{to_z-of_z, ints}
 use Rattle.gw_chains.specs.Chain.{all_behind, due, later}
@@ -6,9 +6,9 @@ use Rattle.gw_chains.specs.declared.tx.Member.{Member}
 use Rattle.gw_chains.specs.declared.tx.Event.{Event}
 use Rattle.gw_scan.specs.Changes.{time_passes}
 use Rattle.gw_scan.specs.View.{goods_of}
-use Rattle.gw_scan.specs.Coherence.{IsTimed, ranked}
+use Rattle.gw_scan.specs.Coherence.{ranked}
 use Rattle.gw_entities.specs.Table.{FacilityTable, StorageTable, QueueTable}
-use Rattle.gw_scan.proofs.Due.{state-moved, linked-moved, goods-passed, count-passed, passed-to}
+use Rattle.gw_scan.proofs.Due.{state-moved, linked-moved, goods-passed, count-passed}
 use Rattle.gw_scan.proofs.machine.Machine.move_clock.Goals as goal
 
 joined : (c : goal.After-self-1) → c.move_due.new.current_events.items ≡ all_behind (λ (m : Member). m.priority) (ranked c.args.self.now.transactions (due (λ (e : Event). e.time) c.args.time c.args.self.now.future_events.items)) c.args.self.now.current_events.items

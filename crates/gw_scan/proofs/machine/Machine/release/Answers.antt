@@ -1,4 +1,4 @@
-use Rattle.std.proofs.Common.{◌∙◌, sym, ap, true}
+use Rattle.std.proofs.Common.{◌∙◌, ap}
 use Rattle.gw_entities.specs.Facility.{is_idle}
 use Rattle.gw_scan.specs.State.{State}
 use Rattle.gw_scan.specs.Changes.{facility}

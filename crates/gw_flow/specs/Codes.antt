@@ -1,0 +1,26 @@
+-- The codes of refusals that checking flow answers.
+use Rattle.std.specs.Prelude.{ℕ}
+
+-- a transaction would SEIZE a facility that it owns
+abbrev pub already_owned : ℕ
+already_owned = 21
+
+-- a transaction would RELEASE a facility that it doesn't own
+abbrev pub not_owner : ℕ
+not_owner = 22
+
+-- a transaction would LEAVE or DEPART more units than it is sure to hold
+abbrev pub too_few_units : ℕ
+too_few_units = 23
+
+-- a transaction would end while it owns a facility
+abbrev pub owns_at_end : ℕ
+owns_at_end = 24
+
+-- what is known of a transaction doesn't fit the row of the state table
+abbrev pub edge_state : ℕ
+edge_state = 25
+
+-- a transaction would ENTER a storage with more units than its capacity
+abbrev pub over_capacity : ℕ
+over_capacity = 28

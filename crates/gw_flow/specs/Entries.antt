@@ -1,0 +1,28 @@
+-- Lists of numbers, and of entries by number. They ascend; what is read of them by number doesn't depend on it.
+use Rattle.std.specs.Prelude.{ℕ, List, [], ◌∷◌, ◌++◌, Option, Some, None, Bool, not, if◌then◌else◌, ◌==◌, nat_lt, filter, option_to_list, option_map, unwrap_or}
+use Rattle.std.specs.List.{list_any}
+
+-- whether a number is in a list
+abbrev pub lists : List ℕ → ℕ → Bool
+lists ns n = list_any (λ m. m == n) ns
+
+-- a list with a number, in its ascending place
+abbrev pub with_number : ℕ → List ℕ → List ℕ
+with_number n ns = filter (λ m. nat_lt m n) ns ++ n ∷ filter (λ m. nat_lt n m) ns
+
+-- a list without a number
+abbrev pub without_number : ℕ → List ℕ → List ℕ
+without_number n ns = filter (λ m. not (m == n)) ns
+
+-- what is entered for a number: the first entry counts
+abbrev pub entry : {X : Type 0} → List (ℕ × X) → ℕ → Option X
+entry [] n = None
+entry (e ∷ es) n = if e.0 == n then Some e.1 else entry es n
+
+-- the number entered for a number; 0 where there is no entry
+abbrev pub amount_of : List (ℕ × ℕ) → ℕ → ℕ
+amount_of es n = unwrap_or (entry es n) 0
+
+-- the entries with this value for a number, in its ascending place; without a value it has no entry
+abbrev pub with_entry : {X : Type 0} → ℕ → Option X → List (ℕ × X) → List (ℕ × X)
+with_entry n value es = filter (λ e. nat_lt e.0 n) es ++ option_to_list (option_map (λ v. (n, v)) value) ++ filter (λ e. nat_lt n e.0) es

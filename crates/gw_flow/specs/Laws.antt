@@ -1,0 +1,39 @@
+-- What an object keeps at each block where flow passes, said apart from the order of the checks; and what fitting is.
+use Rattle.std.specs.Prelude.{◌≡◌, ◌↔◌, ℕ, Some, IsSome, true, false, All, IsSomeAnd, Decides}
+use Rattle.gw_object.specs.declared.parts.Block.{Block}
+use Rattle.gw_object.specs.declared.parts.Parts.{Parts}
+use Rattle.gw_kinds.specs.Kinds.{block_at, is_generate}
+use Rattle.gw_flow.specs.Rows.{Row, fits, Fits}
+use Rattle.gw_flow.specs.Blocks.{rules, edges}
+use Rattle.gw_flow.specs.Flow.{row_at, row_of_target, FlowPasses}
+
+-- a transaction in this state may enter the block of number b and go on from it: each rule holds, and where each edge leads there is a row that the edge's state fits
+pub record MayPass (p : Parts) (b : ℕ) (block : Block) (state : Row) : Type 0 where
+  pub each_rule : All (λ rule. rule.holds ≡ true) (rules p.entities block state)
+  pub each_edge : All (λ edge. IsSomeAnd (row_of_target p.states edge.target) (Fits edge.state)) (edges b block state)
+
+-- flow: each GENERATE has a row, and a transaction in the state of a block's row may pass the block
+pub record FlowHolds (p : Parts) : Type 0 where
+  pub arrivals : (b : ℕ) → is_generate (block_at p.blocks b) ≡ true → IsSome (row_at p.states b)
+  pub each_row : (b : ℕ) (block : Block) (row : Row) → block_at p.blocks b ≡ Some block → row_at p.states b ≡ Some row → MayPass p b block row
+
+-- flow passes exactly where it holds at each block
+abbrev pub FlowPassesAtEachBlock : Type 0
+FlowPassesAtEachBlock = (p : Parts) → FlowPasses p ↔ FlowHolds p
+
+-- the test of fitting decides it
+abbrev pub FitsIsDecided : Type 0
+FitsIsDecided = (state row : Row) → Decides (fits state row) (Fits state row)
+
+-- each state fits itself
+abbrev pub FitsItself : Type 0
+FitsItself = (state : Row) → Fits state state
+
+-- what fits a row fits what the row fits
+abbrev pub FitsOn : Type 0
+FitsOn = (state row other : Row) → Fits state row → Fits row other → Fits state other
+
+-- a transaction that fits a row may pass each block that the row may pass; but GENERATE, where nothing may be held
+abbrev pub FittingStatesPass : Type 0
+FittingStatesPass =
+    (p : Parts) (b : ℕ) (block : Block) (state row : Row) → is_generate (Some block) ≡ false → Fits state row → MayPass p b block row → MayPass p b block state

@@ -1,0 +1,5 @@
+pub mod Checks
+pub mod Codes
+pub mod Kinds
+pub mod Laws
+pub mod Names

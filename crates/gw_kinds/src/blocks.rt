@@ -1,0 +1,68 @@
+//! The checks of kinds, in order.
+
+ghost use Rattle.std.specs.Prelude.{◌≤◌, length};
+ghost use Rattle.gw_kinds.specs.Checks.{Finds, numbered};
+ghost use Rattle.gw_kinds.specs.Kinds as model;
+
+use crate::checks::{NumberedChecks, check, check_each};
+use crate::codes::*;
+use crate::constants::has_good_constants;
+use crate::entities::{has_entity, has_right_kind};
+use crate::rows::Rows;
+use crate::targets::{enters_generate, falls_off, has_targets};
+use gw_object::{Block, Fault, Object, Parts, Place, TableState};
+
+/// The checks of blocks.
+struct Blocks;
+
+impl NumberedChecks<Block> for Blocks {
+    ghost checks = { model.block_checks };
+
+    fn check_one(parts: &Parts, i: usize, element: &Block) -> Result<(), Fault> {
+        let place = Place::Block((i + 1) as u16);
+        let entities = parts.entities.as_slice();
+        check(WRONG_KIND, place, has_right_kind(entities, element))?;
+        check(NO_ENTITY, place, has_entity(entities, element))?;
+        let blocks = parts.blocks.as_slice();
+        check(NO_BLOCK, place, has_targets(blocks, element))?;
+        check(ENTERS_GENERATE, place, !enters_generate(blocks, i, element))?;
+        check(FALLS_OFF, place, !falls_off(blocks, i, element))?;
+        check(BAD_CONSTANT, place, has_good_constants(element))
+    }
+}
+
+/// The first fault of the rows of the state table, if there is one.
+fn check_rows(parts: &Parts) -> Result<(), Fault>
+    requires { length parts.now.states ≤ 4096 }
+    ensures { Finds result (numbered (model.row_checks parts.now) 1 parts.now.states) }
+{
+    check_each::<Option<TableState>, Rows>(parts, parts.states.as_slice())
+}
+
+/// The first fault of the blocks, if there is one.
+fn check_blocks(parts: &Parts) -> Result<(), Fault>
+    requires { length parts.now.blocks ≤ 4096 }
+    ensures { Finds result (numbered (model.block_checks parts.now) 1 parts.now.blocks) }
+{
+    check_each::<Block, Blocks>(parts, parts.blocks.as_slice())
+}
+
+/// The first fault, if there is one: rows before blocks.
+fn check_parts(parts: &Parts) -> Result<(), Fault>
+    requires states { length parts.now.states ≤ 4096 }
+    requires blocks { length parts.now.blocks ≤ 4096 }
+    ensures { Finds result (model.kinds_checks parts.now) }
+{
+    check_rows(parts)?;
+    check_blocks(parts)
+}
+
+/// Accepts an object exactly where its numbers name what they must; else the first fault: of the state table's rows, then of
+/// the blocks, each in ascending order, and in one place the lowest code. 10 WrongKind and 11 NoEntity are of an entity
+/// that a row or a block names, 12 NoBlock of a block to which transactions are sent, 13 EntersGenerate and 14 FallsOff of
+/// where they go on, and 15 BadConstant of a constant (ours: docs/refusals.md). It takes no memory.
+pub fn check_kinds(object: &Object) -> Result<(), Fault>
+    ensures { Finds result (model.kinds_checks object.now) }
+{
+    check_parts(object.parts())
+}

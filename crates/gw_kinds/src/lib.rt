@@ -1,0 +1,18 @@
+//! Kinds: whether every number in an object names something of its kind.
+#![tactic(auto)]
+
+mod blocks;
+mod checks;
+pub mod codes;
+mod constants;
+mod entities;
+pub mod laws;
+mod rows;
+mod targets;
+
+pub use blocks::check_kinds;
+pub use checks::check;
+pub use entities::EntityKind;
+
+#[cfg(test)]
+mod tests;

@@ -1,0 +1,96 @@
+-- Well-typed states: who stands where, who owns what, and what is inside the entities is what the state table says of each transaction's place.
+use Rattle.std.specs.Prelude.{◌≡◌, ℕ, ◌≤◌, sum_by, List, [], Option, Some, None, IsSome, IfSome, Bool, false}
+use Rattle.std.specs.Option.{option_map_or}
+use Rattle.gw_object.specs.declared.parts.Kind.{Kind}
+use Rattle.gw_object.specs.declared.parts.Kind.TheVariants as kinds
+use Rattle.gw_object.specs.declared.parts.Block.{Block}
+use Rattle.gw_object.specs.declared.parts.Block.TheVariants as blocks
+use Rattle.gw_object.specs.declared.parts.Parts.{Parts}
+use Rattle.gw_kinds.specs.Kinds.{kind_at, block_at}
+use Rattle.gw_flow.specs.Rows.{Row, owns, units_of}
+use Rattle.gw_flow.specs.Blocks.{capacity_of}
+use Rattle.gw_flow.specs.Flow.{row_at}
+use Rattle.gw_num.specs.Table.{at}
+use Rattle.gw_transactions.specs.declared.Transaction.{Transaction}
+use Rattle.gw_entities.specs.Contents.{empty}
+use Rattle.gw_entities.specs.Facility.{idle, is_owned_by}
+use Rattle.gw_entities.specs.Storage.{vacant}
+use Rattle.gw_scan.specs.State.{Lists, Goods, State}
+use Rattle.gw_scan.specs.Standing.{times, EachStandsOnce}
+
+-- PLACES: the place of a transaction is the block that it is about to enter
+
+-- the place is a block of the object, and has a row in its state table
+pub record IsPlaced (p : Parts) (t : Transaction) : Type 0 where
+  pub block : IsSome (block_at p.blocks t.next)
+  pub row : IsSome (row_at p.states t.next)
+
+-- the row of a transaction's place
+abbrev pub row_of : Parts → Option Transaction → Option Row
+row_of p None = None
+row_of p (Some t) = row_at p.states t.next
+
+-- whether a place lists a facility as owned
+abbrev pub lists_facility : ℕ → Option Row → Bool
+lists_facility f row = option_map_or (λ r. owns r f) row false
+
+-- the units of an entity that a place promises
+abbrev pub promised_units : ℕ → Option Row → ℕ
+promised_units e row = option_map_or (λ r. units_of r e) row 0
+
+-- ENTITIES
+
+-- the units inside a storage or a queue; inside a facility there are none
+abbrev pub content_of : ℕ → Goods → Option Kind → ℕ
+content_of e g None = 0
+content_of e g (Some kinds.Facility) = 0
+content_of e g (Some (kinds.Storage capacity)) = (at (vacant 0) g.storages e).contents.content
+content_of e g (Some kinds.Queue) = (at empty g.queues e).content
+
+-- WAITERS
+
+-- the entity for which a transaction may wait at a block: the facility of a SEIZE, the storage of an ENTER
+abbrev pub awaited : Block → Option ℕ
+awaited (blocks.Generate g) = None
+awaited (blocks.Terminate by) = None
+awaited (blocks.Advance time) = None
+awaited (blocks.Seize f) = Some f
+awaited (blocks.Release f) = None
+awaited (blocks.Enter u) = Some u.entity
+awaited (blocks.Leave u) = None
+awaited (blocks.Queue u) = None
+awaited (blocks.Depart u) = None
+awaited (blocks.Transfer b) = None
+awaited (blocks.TransferByFraction f) = None
+
+-- a waiter for an entity is a live transaction whose next block is the SEIZE or ENTER of that entity
+abbrev pub WaitsFor : Parts → ℕ → Option Transaction → Type 0
+WaitsFor p e None = ⊥
+WaitsFor p e (Some t) = option_map_or awaited (block_at p.blocks t.next) None ≡ Some e
+
+-- WELL-TYPED STATES
+
+-- transactions, lists and goods that agree with an object's state table
+pub record Agree (p : Parts) (transactions : List (Option Transaction)) (lists : Lists) (goods : Goods) : Type 0 where
+  -- each live transaction stands exactly once, and no other number stands
+  pub stands : EachStandsOnce transactions lists
+  -- each live transaction's place has a row
+  pub placed : (n : ℕ) → IfSome (at None transactions n) (IsPlaced p)
+  -- a facility is owned by exactly the transaction whose place lists it, and by nobody where no place does
+  pub owned : (f n : ℕ) → is_owned_by n (at idle goods.facilities f) ≡ lists_facility f (row_of p (at None transactions n))
+  -- the units of an entity that the places of all transactions promise are inside it
+  pub promised : (e : ℕ) → sum_by (λ t. promised_units e (row_of p t)) transactions ≤ content_of e goods (kind_at p.entities e)
+  -- who stands on the delay list of an entity waits for it
+  pub waiting : (e n : ℕ) → 1 ≤ times n (at [] lists.delay_lists e) → WaitsFor p e (at None transactions n)
+  -- each storage has the capacity that the object gives it
+  pub sized : (e : ℕ) → (at (vacant 0) goods.storages e).capacity ≡ capacity_of (kind_at p.entities e)
+
+-- a well-typed state of an object
+abbrev pub WellTyped : Parts → State → Type 0
+WellTyped p s = Agree p s.transactions s.lists s.goods
+
+-- BESIDE TYPES
+
+-- no storage holds more than its capacity
+pub record AreWithinCapacity (goods : Goods) : Type 0 where
+  pub contents : (e : ℕ) → (at (vacant 0) goods.storages e).contents.content ≤ (at (vacant 0) goods.storages e).capacity
