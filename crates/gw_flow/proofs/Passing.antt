@@ -10,7 +10,8 @@ use Rattle.gw_flow.specs.Rows.{Row, Fits}
 use Rattle.gw_flow.specs.Blocks.{Rule, FlowEdge, rules, edges}
 use Rattle.gw_flow.specs.Flow.{row_at, row_of_target, fits_row, rule_check, edge_check, rule_checks, edge_checks, checks_in, block_checks, flow_checks, FlowPasses}
 use Rattle.gw_flow.specs.Laws.{MayPass, FlowHolds, FlowPassesAtEachBlock}
-use Rattle.gw_flow.proofs.EachBlock.{Hold, parts_hold, hold_together, each_decided, numbered_holds, all_numbered_hold}
+use Rattle.gw_kinds.proofs.Each.{Hold, parts_hold, hold_together}
+use Rattle.gw_flow.proofs.EachBlock.{each_decided, numbered_holds, all_numbered_hold}
 use Rattle.gw_flow.proofs.Fitting.{fits_is_decided}
 
 row_decided : (state : Row) (row : Option Row) → Decides (fits_row state row) (IsSomeAnd row (Fits state))

@@ -74,6 +74,13 @@ owner_alone f n m h other = by_owner f.owner h
     by_owner None h = refl
     by_owner (Some k) h = ne_eqb k m (λ e. other (sym e ∙ eqb-true k n h))
 
+-- what is inside the entities doesn't depend on the facilities
+apart_from_facilities : (fs : List Facility) (g : Goods) (e : ℕ) (kind : Option Kind) → content_of e (record g { facilities = fs }) kind ≡ content_of e g kind
+apart_from_facilities fs g e None = refl
+apart_from_facilities fs g e (Some kinds.Facility) = refl
+apart_from_facilities fs g e (Some (kinds.Storage capacity)) = refl
+apart_from_facilities fs g e (Some kinds.Queue) = refl
+
 pub trade-seize : (p : Parts) (n f : ℕ) (row : Row) (g : Goods) → is_idle (at idle g.facilities f) ≡ true → Trade p n (Some row) (Some (with_facility f row)) g (record g { facilities = put idle g.facilities f (seized n (at idle g.facilities f)) })
 trade-seize p n f row g free =
     let v = seized n (at idle g.facilities f) in
@@ -85,16 +92,10 @@ trade-seize p n f row g free =
       own = by_entry idle g.facilities f v (λ j x. is_owned_by n (at idle g.facilities j) ≡ owns row j → is_owned_by n x ≡ owns (with_facility f row) j)
           (λ is. eq-eqb n n refl ∙ sym (lists-with f row.facilities))
           (λ j apart is. is ∙ sym (lists-with_other f row.facilities j apart));
-      units = λ e. by_kind e (kind_at p.entities e);
+      units = λ e. omega (arith, apart_from_facilities (put idle g.facilities f v) g e (kind_at p.entities e));
       sized = λ e. refl;
       filled = λ w. record { contents = w.contents };
     }
-  where
-    by_kind : (e : ℕ) (kind : Option Kind) → units_of row e + content_of e g kind ≤ units_of row e + content_of e (record g { facilities = put idle g.facilities f (seized n (at idle g.facilities f)) }) kind
-    by_kind e None = omega arith
-    by_kind e (Some kinds.Facility) = omega arith
-    by_kind e (Some (kinds.Storage capacity)) = omega arith
-    by_kind e (Some kinds.Queue) = omega arith
 
 pub trade-release : (p : Parts) (n f : ℕ) (row : Row) (g : Goods) → is_owned_by n (at idle g.facilities f) ≡ true → Trade p n (Some row) (Some (without_facility f row)) g (record g { facilities = put idle g.facilities f (released (at idle g.facilities f)) })
 trade-release p n f row g owned =
@@ -107,16 +108,10 @@ trade-release p n f row g owned =
       own = by_entry idle g.facilities f v (λ j x. is_owned_by n (at idle g.facilities j) ≡ owns row j → is_owned_by n x ≡ owns (without_facility f row) j)
           (λ is. sym (lists-without f row.facilities))
           (λ j apart is. is ∙ sym (lists-without_other f row.facilities j apart));
-      units = λ e. by_kind e (kind_at p.entities e);
+      units = λ e. omega (arith, apart_from_facilities (put idle g.facilities f v) g e (kind_at p.entities e));
       sized = λ e. refl;
       filled = λ w. record { contents = w.contents };
     }
-  where
-    by_kind : (e : ℕ) (kind : Option Kind) → units_of row e + content_of e g kind ≤ units_of row e + content_of e (record g { facilities = put idle g.facilities f (released (at idle g.facilities f)) }) kind
-    by_kind e None = omega arith
-    by_kind e (Some kinds.Facility) = omega arith
-    by_kind e (Some (kinds.Storage capacity)) = omega arith
-    by_kind e (Some kinds.Queue) = omega arith
 
 -- UNITS
 

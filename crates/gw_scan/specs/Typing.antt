@@ -32,11 +32,11 @@ row_of p (Some t) = row_at p.states t.next
 
 -- whether a place lists a facility as owned
 abbrev pub lists_facility : ℕ → Option Row → Bool
-lists_facility f row = option_map_or (λ r. owns r f) row false
+lists_facility f place = option_map_or (λ row. owns row f) place false
 
 -- the units of an entity that a place promises
 abbrev pub promised_units : ℕ → Option Row → ℕ
-promised_units e row = option_map_or (λ r. units_of r e) row 0
+promised_units e place = option_map_or (λ row. units_of row e) place 0
 
 -- ENTITIES
 
