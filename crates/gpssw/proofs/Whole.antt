@@ -3,13 +3,13 @@ use Rattle.std.proofs.Common.{◌≡◌, ◌≤◌, ◌+◌, ℕ, List, length, 
 use Rattle.std.proofs.lemmas.List.{take_all, length-take-le}
 use Rattle.std.proofs.lemmas.Bool.Decides.{nat_tests}
 use Rattle.gw_object.specs.declared.fault.Place.TheVariants.{Byte}
-use Rattle.gw_object.specs.declared.codes.TheConstants.{LIMIT}
+use Rattle.gw_object.specs.Codes.{limit}
 use Rattle.gw_object.specs.declared.limits.TheConstants.{MOST_BYTES}
 use Rattle.gw_object.specs.Reading.{first_fault}
 use Rattle.gpssw.specs.Answer.{IsAnswer, job_of}
 use Rattle.gpssw.specs.Output.{AnswersReader}
 
-too_long : (bytes : List ℕ) → nat_lt MOST_BYTES (length bytes) ≡ true → first_fault bytes ≡ Err (record { code = LIMIT; place = Byte 0 })
+too_long : (bytes : List ℕ) → nat_lt MOST_BYTES (length bytes) ≡ true → first_fault bytes ≡ Err (record { code = limit; place = Byte 0 })
 unfolding first_fault
 too_long bytes h = rw (h, first_fault) refl
 

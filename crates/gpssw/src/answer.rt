@@ -61,16 +61,22 @@ fn concluded(alloc: Global, sim: &Sim, status: Status) -> Result<Answer, Memory>
     }
 }
 
+/// Runs a job to its end, and reports it.
+fn run_and_report(alloc: Global, sim: &mut Sim) -> Result<Answer, Memory>
+    requires budget { sim.old.job.budget ≡ BUDGET }
+    ensures { IfOk result (λ a. Concludes sim.old.job a.text.items a.status) }
+{
+    let status = run_to_end(sim)?;
+    concluded(alloc, sim, status)
+}
+
 /// Runs a job to its end.
 fn answer_of_job(alloc: Global, spec: Spec) -> Result<Answer, Memory>
     requires { spec.budget ≡ BUDGET }
     ensures { IfOk result (λ a. Concludes spec a.text.items a.status) }
 {
     match Sim::start(alloc, spec) {
-        Ok(mut sim) => {
-            let status = run_to_end(&mut sim)?;
-            concluded(alloc, &sim, status)
-        }
+        Ok(mut sim) => run_and_report(alloc, &mut sim),
         Err(_) => Err(Memory),
     }
 }

@@ -8,8 +8,6 @@ mod cec;
 mod entry;
 mod fec;
 mod queue;
-#[cfg(test)]
-mod tests;
 mod tx;
 mod user_chains;
 mod waits;

@@ -170,37 +170,13 @@ impl Facilities {
         self.table.values().iter().any(|f| f.is_owned_by(xn))
     }
 
-    /// The facility `f`.
+    /// The facility `f`: who owns it, how often it was seized, and how long it was owned.
     pub fn get(&self, f: u16) -> Facility
         requires { f < length self.now.facilities }
         ensures value { result ≡ facility_at f self.now }
         ensures fits { FacilityFits self.now.passed result }
     {
         self.table.get(f)
-    }
-
-    /// The number of the transaction that owns the facility `f`, from 1, if one does.
-    pub fn owner(&self, f: u16) -> Option<u64>
-        requires { f < length self.now.facilities }
-        ensures { result ≡ (facility_at f self.now).owner }
-    {
-        self.get(f).owner
-    }
-
-    /// How often the facility `f` was seized.
-    pub fn entries(&self, f: u16) -> u64
-        requires { f < length self.now.facilities }
-        ensures { result ≡ (facility_at f self.now).entries }
-    {
-        self.get(f).entries
-    }
-
-    /// How long the facility `f` was owned so far, in clock units.
-    pub fn time_sum(&self, f: u16) -> u128
-        requires { f < length self.now.facilities }
-        ensures { result ≡ (facility_at f self.now).busy }
-    {
-        self.get(f).busy
     }
 
     /// The utilisation of the facility `f`: the part of the time so far for which it was owned, at most 1

@@ -12,8 +12,6 @@ mod numbered;
 mod queues;
 mod stop;
 mod storages;
-#[cfg(test)]
-mod tests;
 
 pub use average::Average;
 pub use contents::Contents;

@@ -138,45 +138,13 @@ impl Queues {
         self.table.pass_time(dt);
     }
 
-    /// The queue `q`.
+    /// The queue `q`: the units inside, the most that were, those that joined, and the sum of content times time.
     pub fn get(&self, q: u16) -> Contents
         requires { q < length self.now.queues }
         ensures value { result ≡ queue_at q self.now }
         ensures fits { QueueFits self.now.passed result }
     {
         self.table.get(q)
-    }
-
-    /// The units inside the queue `q`.
-    pub fn content(&self, q: u16) -> u64
-        requires { q < length self.now.queues }
-        ensures { result ≡ (queue_at q self.now).content }
-    {
-        self.get(q).content
-    }
-
-    /// The most units that were inside the queue `q` at one moment.
-    pub fn maximum(&self, q: u16) -> u64
-        requires { q < length self.now.queues }
-        ensures { result ≡ (queue_at q self.now).maximum }
-    {
-        self.get(q).maximum
-    }
-
-    /// The units that joined the queue `q` so far.
-    pub fn entries(&self, q: u16) -> u64
-        requires { q < length self.now.queues }
-        ensures { result ≡ (queue_at q self.now).entries }
-    {
-        self.get(q).entries
-    }
-
-    /// The sum of content times time of the queue `q` so far.
-    pub fn time_sum(&self, q: u16) -> u128
-        requires { q < length self.now.queues }
-        ensures { result ≡ (queue_at q self.now).time_sum }
-    {
-        self.get(q).time_sum
     }
 
     /// The average content of the queue `q` over the time so far, at most the most that were inside at one moment

@@ -164,54 +164,14 @@ impl Storages {
         self.table.pass_time(dt);
     }
 
-    /// The storage `s`.
+    /// The storage `s`: its capacity and what is inside, which is at most the capacity.
     pub fn get(&self, s: u16) -> Storage
         requires { s < length self.now.storages }
         ensures value { result ≡ storage_at s self.now }
+        ensures most { result.contents.content ≤ result.capacity }
         ensures fits { StorageFits self.now.passed result }
     {
         self.table.get(s)
-    }
-
-    /// The capacity of the storage `s`, in units.
-    pub fn capacity(&self, s: u16) -> u32
-        requires { s < length self.now.storages }
-        ensures { result ≡ (storage_at s self.now).capacity }
-    {
-        self.get(s).capacity
-    }
-
-    /// The units inside the storage `s`.
-    pub fn content(&self, s: u16) -> u64
-        requires { s < length self.now.storages }
-        ensures value { result ≡ (storage_at s self.now).contents.content }
-        ensures most { result ≤ (storage_at s self.now).capacity }
-    {
-        self.get(s).contents.content
-    }
-
-    /// The most units that were inside the storage `s` at one moment.
-    pub fn maximum(&self, s: u16) -> u64
-        requires { s < length self.now.storages }
-        ensures { result ≡ (storage_at s self.now).contents.maximum }
-    {
-        self.get(s).contents.maximum
-    }
-
-    /// The units that entered the storage `s` so far.
-    pub fn entries(&self, s: u16) -> u64
-        requires { s < length self.now.storages }
-        ensures { result ≡ (storage_at s self.now).contents.entries }
-    {
-        self.get(s).contents.entries
-    }
-
-    /// The sum of content times time of the storage `s` so far.
-    pub fn time_sum(&self, s: u16) -> u128
-        requires { s < length self.now.storages }
-        ensures { result ≡ (storage_at s self.now).contents.time_sum }
-    {
-        self.get(s).contents.time_sum
     }
 
     /// The average content of the storage `s` over the time so far, at most the most that were inside at one moment

@@ -12,6 +12,3 @@ mod state;
 pub use edges::{Edge, Target};
 pub use flow::{check_flow, out_edges};
 pub use state::{AbsState, Amount, Parameter, ParameterKind};
-
-#[cfg(test)]
-mod tests;

@@ -13,6 +13,3 @@ mod targets;
 pub use blocks::check_kinds;
 pub use checks::check;
 pub use entities::EntityKind;
-
-#[cfg(test)]
-mod tests;

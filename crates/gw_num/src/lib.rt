@@ -5,8 +5,6 @@
 mod arithmetic;
 pub mod laws;
 mod stream;
-#[cfg(test)]
-mod tests;
 
 pub use arithmetic::{NumFault, add, div, mul, neg, pow, rem, sub};
 pub use stream::Stream;

@@ -15,9 +15,9 @@ use Rattle.gw_object.specs.Limits.{most_letters, greatest_capacity}
 use Rattle.gw_object.specs.declared.parts.Kind.{Kind}
 use Rattle.gw_object.specs.declared.parts.Kind.TheVariants.{Facility, Storage, Queue}
 use Rattle.gw_object.specs.declared.parts.Entity.{Entity}
-use Rattle.gw_object.specs.Fields.{Field, byte, number, tested, both, nothing, plain, ElementsFit}
+use Rattle.gw_fields.specs.Fields.{Field, byte, number, tested, both, nothing, plain, ElementsFit}
 use Rattle.gw_object.specs.Entities.{is_letter, letter, name, kind_tag, capacity, kind_fields, KindFits, IsLettered, EntityFits, IsNamed, AreNamesakes, is_named, new_name, kind_form, kind_forms, entity_spelling, entity_read, FitsBehind, entity}
-use Rattle.gw_object.proofs.Exact.{◌also◌, IsExact, IsExactForm, AreExactForms, IsExactElement, behind_exact, by_tag_takes, by_tag_within, byte_exact, wide32, number_exact, tested_exact, both_exact, fitting_exact, ranged_exact, nothing_exact, plain_exact, listed_exact, All-from_fit, fit-from_All}
+use Rattle.gw_fields.proofs.Exact.{◌also◌, IsExact, IsExactForm, AreExactForms, IsExactElement, behind_exact, by_tag_takes, by_tag_within, byte_exact, wide32, number_exact, tested_exact, both_exact, fitting_exact, ranged_exact, nothing_exact, plain_exact, listed_exact, All-from_fit, fit-from_All}
 
 -- ---- names
 

@@ -14,9 +14,9 @@ use Rattle.gw_object.specs.Codes as codes
 use Rattle.gw_object.specs.Limits.{most_entities, greatest_units}
 use Rattle.gw_object.specs.declared.parts.Units.{Units}
 use Rattle.gw_object.specs.declared.parts.TableState.{TableState}
-use Rattle.gw_object.specs.Fields.{Field, number, tested, both, ranged, nothing, optional, count, plain, is_above, ascending, ElementsFit}
+use Rattle.gw_fields.specs.Fields.{Field, number, tested, both, ranged, nothing, optional, count, plain, is_above, ascending, ElementsFit}
 use Rattle.gw_object.specs.Grammar.{entity_number, no_elements, owned, held, HeldFits, StateFits, IsAscending, state}
-use Rattle.gw_object.proofs.Exact.{IsExact, IsExactElement, wide16, wide32, number_exact, made_exact, tested_exact, both_exact, fitting_exact, ranged_exact, nothing_exact, count_exact, listed_exact, All-from_fit, fit-from_All}
+use Rattle.gw_fields.proofs.Exact.{IsExact, IsExactElement, wide16, wide32, number_exact, made_exact, tested_exact, both_exact, fitting_exact, ranged_exact, nothing_exact, count_exact, listed_exact, All-from_fit, fit-from_All}
 
 -- ---- elements whose keys ascend
 

@@ -8,7 +8,7 @@ use Rattle.gw_object.specs.Limits.{most_letters, greatest_capacity}
 use Rattle.gw_object.specs.declared.parts.Kind.{Kind}
 use Rattle.gw_object.specs.declared.parts.Kind.TheVariants.{Facility, Storage, Queue}
 use Rattle.gw_object.specs.declared.parts.Entity.{Entity}
-use Rattle.gw_object.specs.Fields.{Read, Field, byte, number, tested, both, fitting, ranged, nothing, Form, behind, by_tag, Element, plain, listed}
+use Rattle.gw_fields.specs.Fields.{Read, Field, byte, number, tested, both, fitting, ranged, nothing, Form, behind, by_tag, Element, plain, listed}
 
 -- ---- names
 

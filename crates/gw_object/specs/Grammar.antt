@@ -14,7 +14,7 @@ use Rattle.gw_object.specs.declared.parts.Fraction.{Fraction}
 use Rattle.gw_object.specs.declared.parts.Block.TheVariants.{Generate, Terminate, Advance, Seize, Release, Enter, Leave, Queue, Depart, Transfer, TransferByFraction}
 use Rattle.gw_object.specs.declared.parts.TableState.{TableState}
 use Rattle.gw_object.specs.declared.parts.Parts.{Parts}
-use Rattle.gw_object.specs.Fields.{Read, Field, byte, number, signed, made, both, and_then, constant, fitting, ranged, optional, Form, behind, by_tag, nothing, count, Element, plain, last_tested, ascending, elements, listed}
+use Rattle.gw_fields.specs.Fields.{Read, Field, byte, number, signed, made, both, and_then, constant, fitting, ranged, optional, Form, behind, by_tag, nothing, count, Element, plain, last_tested, ascending, elements, listed}
 use Rattle.gw_object.specs.Entities.{entity, EntityFits, IsLettered, AreNamesakes}
 
 -- ---- operands

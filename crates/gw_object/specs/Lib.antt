@@ -1,6 +1,5 @@
 pub mod Codes
 pub mod Entities
-pub mod Fields
 pub mod Grammar
 pub mod Limits
 pub mod Names

@@ -1,25 +1,13 @@
 -- Reading an object from its bytes, or the first fault by code and place.
-use Rattle.std.specs.Prelude.{◌≡◌, ℕ, ◌-◌, List, length, Result, Ok, Err, if◌then◌else◌, ◌==◌, nat_lt}
+use Rattle.std.specs.Prelude.{ℕ, ◌-◌, List, length, Result, Ok, Err, if◌then◌else◌, ◌==◌, nat_lt}
 use Rattle.gw_object.specs.declared.fault.Fault.{Fault}
 use Rattle.gw_object.specs.declared.fault.Place.TheVariants.{Byte, Nowhere}
 use Rattle.gw_object.specs.Codes as codes
 use Rattle.gw_object.specs.Limits.{most_bytes}
 use Rattle.gw_object.specs.declared.parts.Parts.{Parts}
-use Rattle.gw_object.specs.declared.error.Bad.{Bad}
-use Rattle.gw_object.specs.declared.error.ReadError.{ReadError}
-use Rattle.gw_object.specs.declared.error.ReadError.TheVariants.{OutOfMemory, Wrong}
-use Rattle.gw_object.specs.Fields.{◌>>=◌, bad}
+use Rattle.gw_fields.specs.declared.error.Bad.{Bad}
+use Rattle.gw_fields.specs.Fields.{◌>>=◌, bad}
 use Rattle.gw_object.specs.Grammar.{object}
-
--- this is the fault that was met, unless memory ran out
-abbrev pub Fails : {Y : Type 0} → ReadError → Result Y Bad → Type 0
-Fails OutOfMemory read = Unit {0}
-Fails (Wrong fault) read = read ≡ Err fault
-
--- what a function returned, seen by view, is what was read, unless memory ran out
-abbrev pub Gives : {X Y : Type 0} → (X → Y) → Result X ReadError → Result Y Bad → Type 0
-Gives view (Ok x) read = read ≡ Ok (view x)
-Gives view (Err e) read = Fails e read
 
 -- the parts that all of the bytes spell
 unfoldable pub whole_read : List ℕ → Result Parts Bad

@@ -2,13 +2,12 @@
 
 ghost use Rattle.std.specs.Prelude.{◌≡◌};
 ghost use Rattle.gw_object.specs.Grammar.{operand, spread, generate, units, fraction, block};
-ghost use Rattle.gw_object.specs.Reading.{Gives};
+ghost use Rattle.gw_fields.specs.Answers.{Gives};
 
 use crate::Memory;
 use crate::codes::*;
-use crate::error::*;
 use crate::parts::*;
-use crate::spelled::Spelled;
+use gw_fields::{ReadError, Spelled, fault};
 use std::alloc::Global;
 
 impl Spelled for Operand {

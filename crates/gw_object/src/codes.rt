@@ -4,23 +4,13 @@ ghost use Rattle.std.specs.Prelude.{◌≡◌};
 ghost use Rattle.std.specs.Option.{option_copied};
 ghost use Rattle.gw_object.specs.Names.{name_of};
 
-/// The bytes end before a field does.
-pub const TRUNCATED: u16 = 1;
+pub use gw_fields::codes::{LIMIT, NOT_CANONICAL, TAG, TRUNCATED};
 
 /// The bytes don't begin with `GPSO`.
 pub const MAGIC: u16 = 2;
 
 /// The version isn't known.
 pub const VERSION: u16 = 3;
-
-/// A byte isn't among those that its field lists.
-pub const TAG: u16 = 4;
-
-/// A count, a number or a length is outside its limits.
-pub const LIMIT: u16 = 5;
-
-/// A value is spelled in another form than its one form.
-pub const NOT_CANONICAL: u16 = 6;
 
 /// Bytes stand after the end.
 pub const TRAILING: u16 = 7;

@@ -2,19 +2,19 @@
 
 ghost use Rattle.std.specs.Prelude.{◌≡◌, ◌↔◌, ◌++◌, length, IsTrue, OnOk};
 ghost use Rattle.std.specs.List.{All, AllPairs, flat_map, list_any};
-ghost use Rattle.gw_object.specs.Fields.{Leaves, count_spelling, plain};
+ghost use Rattle.gw_fields.specs.Fields.{Leaves, count_spelling, plain};
 ghost use Rattle.gw_object.specs.Entities.{is_letter, letter, kind_tag, kind_fields, KindFits, IsLettered, EntityFits, AreNamesakes, is_named, new_name, entity_spelling, entity};
-ghost use Rattle.gw_object.specs.Reading.{Gives};
+ghost use Rattle.gw_fields.specs.Answers.{Gives};
 
 use crate::Memory;
 use crate::codes::*;
-use crate::error::*;
 use crate::items::Items;
 use crate::limits::*;
-use crate::lists::*;
-use crate::numbers::*;
 use crate::parts::*;
-use crate::spelled::Spelled;
+use gw_fields::{
+    Elements, Plain, ReadError, Spelled, fault, put_count, put_listed, read_count, read_listed,
+    read_ranged_u32, room_after_count, room_after_elements, room_after_listed,
+};
 use std::alloc::Global;
 
 /// Whether a byte is a letter of a name: `A` to `Z`, `0` to `9` or `_`.

@@ -4,18 +4,15 @@
 mod blocks;
 pub mod codes;
 mod entities;
-mod error;
 mod fault;
 mod items;
 pub mod laws;
 mod limits;
 mod lists;
-mod numbers;
 mod object;
 mod parts;
 mod reading;
 mod rules;
-mod spelled;
 mod states;
 mod writing;
 
@@ -32,6 +29,3 @@ pub use parts::{
 pub use reading::read;
 pub use std::alloc::AllocError as Memory;
 pub use writing::write;
-
-#[cfg(test)]
-mod tests;

@@ -3,19 +3,20 @@
 ghost use Rattle.std.specs.Prelude.{◌≡◌, ◌≤◌, ◌<◌, ◌^◌, ◌⊎◌, IfOk, Ok, Err};
 ghost use Rattle.gw_object.specs.declared.parts.Parts.{Parts};
 ghost use Rattle.gw_object.specs.Grammar.{head, tables, object, Spells};
-ghost use Rattle.gw_object.specs.Reading.{Gives, whole_read, placed, first_fault, out_of_memory};
+ghost use Rattle.gw_fields.specs.Answers.{Gives};
+ghost use Rattle.gw_object.specs.Reading.{whole_read, placed, first_fault, out_of_memory};
 
 use crate::codes::*;
 use crate::entities::Entities;
-use crate::error::*;
 use crate::fault::{Fault, Place};
 use crate::items::Items;
 use crate::limits::*;
-use crate::lists::*;
-use crate::numbers::*;
+use crate::lists::{Seeds, Weights};
 use crate::object::Object;
 use crate::parts::*;
-use crate::spelled::Spelled;
+use gw_fields::{
+    Bad, Plain, ReadError, Spelled, fault, read_count, read_elements, read_listed, read_ranged_u64,
+};
 use std::alloc::Global;
 
 /// The letters `GPSO`.

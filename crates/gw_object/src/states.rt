@@ -3,20 +3,20 @@
 ghost use Rattle.std.specs.Prelude.{◌≡◌, ◌↔◌, ◌<◌, IsTrue, IfSome};
 ghost use Rattle.std.specs.List.{All, AllPairs};
 ghost use Rattle.gw_object.specs.Codes.{not_canonical};
-ghost use Rattle.gw_object.specs.Fields.{is_above, tested};
+ghost use Rattle.gw_fields.specs.Fields.{is_above, tested};
 ghost use Rattle.gw_object.specs.Grammar.{entity_number, owned, held, HeldFits, StateFits, IsAscending, state};
-ghost use Rattle.gw_object.specs.Reading.{Gives};
+ghost use Rattle.gw_fields.specs.Answers.{Gives};
 ghost use Rattle.gw_object.specs.declared.parts.Units.{Units};
 
 use crate::Memory;
 use crate::codes::*;
-use crate::error::*;
 use crate::items::Items;
 use crate::limits::*;
-use crate::lists::*;
-use crate::numbers::*;
 use crate::parts::*;
-use crate::spelled::Spelled;
+use gw_fields::{
+    Elements, ReadError, Spelled, fault, put_count, put_listed, read_count, read_listed,
+    read_ranged_u32, room_after_count, room_after_listed,
+};
 use std::alloc::Global;
 
 /// An entity's number that is above the one before it, if there is one.

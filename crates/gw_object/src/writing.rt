@@ -2,16 +2,17 @@
 
 ghost use Rattle.std.specs.Prelude.{◌≡◌, ◌++◌, OnOk, IfOk, IfSome, length};
 ghost use Rattle.std.specs.List.{All};
-ghost use Rattle.gw_object.specs.Fields.{Leaves};
+ghost use Rattle.gw_fields.specs.Fields.{Leaves};
 ghost use Rattle.gw_object.specs.Grammar.{HasSpelling, StateFits, head, tables, spelling};
 
 use crate::Memory;
 use crate::entities::{Entities, room_after_entities};
-use crate::lists::*;
-use crate::numbers::*;
+use crate::lists::{Seeds, Weights};
 use crate::object::Object;
 use crate::parts::*;
-use crate::spelled::Spelled;
+use gw_fields::{
+    Plain, Spelled, put_count, put_elements, put_listed, room_after_elements, room_after_listed,
+};
 use std::alloc::Global;
 
 /// The letters `GPSO` and the version.

@@ -83,6 +83,3 @@ pub fn stopped_report(alloc: Global, sim: &Sim, stop: Stop) -> Result<Vec<u8>, M
 {
     lines(alloc, sim, Status::Stopped(stop))
 }
-
-#[cfg(test)]
-mod tests;

@@ -11,8 +11,6 @@ mod scan;
 mod sim;
 mod spec;
 mod start;
-#[cfg(test)]
-mod tests;
 mod times;
 mod transfers;
 

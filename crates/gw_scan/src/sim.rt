@@ -183,9 +183,8 @@ impl Sim {
         &self.spec
     }
 
-    /// The number of the active transaction, if there is one.
-    #[cfg(test)]
-    pub(crate) fn active(&self) -> Option<u64>
+    /// The number of the active transaction, from 1, if there is one.
+    pub fn active(&self) -> Option<u64>
         ensures { result ≡ self.now.state.lists.active }
     {
         self.machine.active.map(|tx| tx.number)

@@ -159,14 +159,14 @@ impl Spec {
     }
 
     /// Its 16 streams, each at its seed, from the first on.
-    pub(crate) fn streams(&self) -> [Stream; 16]
+    pub fn streams(&self) -> [Stream; 16]
         ensures { result ≡ self.now.streams }
     {
         self.streams
     }
 
     /// The termination count, 1 to 2^40.
-    pub(crate) fn count(&self) -> u64
+    pub fn count(&self) -> u64
         ensures value { result ≡ self.now.count }
         ensures fits { JobFits self.now }
     {
@@ -174,7 +174,7 @@ impl Spec {
     }
 
     /// At most how many steps it makes, 1 to 2^40.
-    pub(crate) fn budget(&self) -> u64
+    pub fn budget(&self) -> u64
         ensures value { result ≡ self.now.budget }
         ensures fits { JobFits self.now }
     {

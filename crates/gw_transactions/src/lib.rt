@@ -1,9 +1,6 @@
 //! The transactions of a job: each is kept under a number of its own, and contracts see tables by number.
 #![tactic(auto)]
 
-#[cfg(test)]
-mod tests;
-
 ghost use Rattle.std.specs.Prelude.{◌≡◌, ◌≤◌, ◌<◌, ◌+◌, ◌^◌, ◌∷◌, [], length, OnOk, OnErr};
 ghost use Rattle.gw_num.specs.Table.{at, put};
 

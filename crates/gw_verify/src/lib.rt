@@ -5,6 +5,3 @@ pub mod laws;
 mod verified;
 
 pub use verified::{Verified, verify};
-
-#[cfg(test)]
-mod tests;

@@ -1,7 +1,7 @@
 use Rattle.std.proofs.Common.{length, arith, length-append}
 use Rattle.std.specs.List.{flat_map}
 use Rattle.std.proofs.lemmas.List.Folds.{length-flat_map-take}
-use Rattle.gw_object.specs.Fields.{count_spelling}
+use Rattle.gw_fields.specs.Fields.{count_spelling}
 use Rattle.gw_object.specs.Entities.{entity_spelling}
 use Rattle.gw_object.proofs.entities.room_after_entities.Goals as goal
 

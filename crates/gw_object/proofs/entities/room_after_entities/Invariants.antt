@@ -1,6 +1,6 @@
 use Rattle.std.proofs.Common.{◌≡◌, ◌+◌, take, length}
 use Rattle.std.specs.List.{flat_map}
-use Rattle.gw_object.specs.Fields.{count_spelling}
+use Rattle.gw_fields.specs.Fields.{count_spelling}
 use Rattle.gw_object.specs.Entities.{entity_spelling}
 use Rattle.gw_object.proofs.entities.room_after_entities.Given as goal
 

@@ -1,6 +1,0 @@
-use Rattle.std.proofs.Common.{◌+◌, ◌≤◌}
-use Rattle.gw_chains.proofs.tests.as_many_as_may_live_wake_within_a_second.Given as goal
-
--- each that has joined took at most one place
-abbrev pub invariant-loop-number : goal.invariant-loop-number
-invariant-loop-number g l = 65536 ≤ l.waits.room + l.number

@@ -1,0 +1,611 @@
+-- Exact fields: what is read is spelled so, what is spelled so is read, and a fault lies in the bytes.
+use Rattle.std.proofs.Common.{◌≡◌, ℕ, zero, suc, ◌+◌, ◌^◌, ◌<◌, ◌≤◌, ℤ, Bool, true, false, cond, eqb, ltb, leb, ◌&&◌, IsTrue, List, [], ◌∷◌, ◌++◌, length, get_or, take, drop, Option, Some, None, Result, Ok, Err, refl, sym, ap, subst, ◌∙◌, append_assoc, arith, inl, inr, ◌⊎◌}
+use Rattle.std.specs.Prelude.{IfSome, FitsSigned}
+use Rattle.std.specs.List.{All, flat_map}
+use Rattle.std.specs.Int.{Width, w16, w32, w64, byte_len, from_be_bytes, to_be_bytes, cast_signed, cast_unsigned}
+use Rattle.std.proofs.lemmas.Bool.{cases_lt, ltb-false, le-ltb, lt-ltb, leb-true, le-leb, eqb-true, eq-eqb}
+use Rattle.std.proofs.lemmas.Int.{to_z-of_z, of_z-to_z}
+use Rattle.std.proofs.Math.Facts.{sfits_to_z, Fits-of_lt, Fits-of_z}
+use Rattle.std.proofs.lemmas.List.{append-nil, take_at, drop_at, take-append-drop, length-append, length-take, get_or-drop, get_or-take, get_or_past}
+use Rattle.std.proofs.lemmas.List.Concat.{flat_map-cons}
+use Rattle.std.proofs.lemmas.Nat.{be_bytes_2, be_bytes_4, be_bytes_8, from_be_bytes-to_be_bytes_2, from_be_bytes-to_be_bytes_4, from_be_bytes-to_be_bytes_8}
+use Rattle.gw_fields.specs.Codes as codes
+use Rattle.gw_fields.specs.declared.error.Bad.{Bad}
+use Rattle.gw_fields.specs.Fields.{◌>>=◌, Read, Field, bad, byte, byte_read, number, signed, read_as, made, tested, and_then, both, fitting, constant, is_within, ranged, nothing, optional, Form, behind, form_read, by_tag, count, count_spelling, count_read, long_count_read, Element, plain, last_tested, elements_read, ElementsFit, elements, listed, listed_read}
+
+-- ---- bytes
+
+abbrev pub IsBytes : List ℕ → Type 0
+IsBytes bytes = (i : ℕ) → get_or bytes i 0 < 256
+
+pub IsBytes-from_All : (bytes : List ℕ) → All (λ byte. byte < 256) bytes → IsBytes bytes
+IsBytes-from_All bytes h i =
+    elim (cases_lt i (length bytes)) [ inl lt ↦ h i 0 lt | inr past ↦ rw (get_or_past bytes i 0 past) (omega arith) ]
+
+IsBytes-drop : (n : ℕ) (bytes : List ℕ) → IsBytes bytes → IsBytes (drop n bytes)
+IsBytes-drop n bytes h i = rw get_or-drop (h (n + i))
+
+IsBytes-take : (n : ℕ) (bytes : List ℕ) → IsBytes bytes → IsBytes (take n bytes)
+IsBytes-take n bytes h i =
+    elim (cases_lt i n) [
+      | inl lt ↦ rw (get_or-take n bytes i 0 lt) (h i)
+      | inr le ↦ rw (get_or_past (take n bytes) i 0 (omega (arith, length-take n bytes))) (omega arith)
+    ]
+
+pub IsBytes-rest : (b : ℕ) (bytes : List ℕ) → IsBytes (b ∷ bytes) → IsBytes bytes
+IsBytes-rest b bytes h i = h (suc i)
+
+-- what a reader took from the front
+pub record Takes (bytes text rest : List ℕ) : Type 0 where
+  pub parts : bytes ≡ text ++ rest
+  pub rest_fits : IsBytes rest
+
+Takes-then : (a x b y c : List ℕ) → Takes a x b → Takes b y c → Takes a (x ++ y) c
+Takes-then a x b y c p q = record { parts = p.parts ∙ ap (λ (t : List ℕ). x ++ t) q.parts ∙ sym (append_assoc x y c); rest_fits = q.rest_fits }
+
+pub Takes-shorter : (a x b : List ℕ) → Takes a x b → length b ≤ length a
+Takes-shorter a x b p = omega (arith, ap length p.parts, length-append x b)
+
+-- ---- steps that may fail
+
+-- both steps of two that did not fail
+pub bind_ok : {A B : Type 0} (r : Result A Bad) (f : A → Result B Bad) (y : B) → (r >>= f) ≡ Ok y → (x : A) × (r ≡ Ok x) × (f x ≡ Ok y)
+bind_ok (Ok x) f y e = (x, refl, e)
+bind_ok (Err d) f y e = absurd cc
+
+-- the step that failed, of two
+pub bind_err : {A B : Type 0} (r : Result A Bad) (f : A → Result B Bad) (d : Bad) → (r >>= f) ≡ Err d → (r ≡ Err d) ⊎ ((x : A) × (r ≡ Ok x) × (f x ≡ Err d))
+bind_err (Ok x) f d e = inr (x, refl, e)
+bind_err (Err c) f d e = inl cc
+
+-- which way a test went
+pub chosen : {A : Type 0} (b : Bool) (x y z : A) → cond b x y ≡ z → ((b ≡ true) × (x ≡ z)) ⊎ ((b ≡ false) × (y ≡ z))
+chosen true x y z e = inl (refl, e)
+chosen false x y z e = inr (refl, e)
+
+abbrev pub done : {A : Type 0} → A → Result A Bad
+done x = Ok x
+
+abbrev pub failed : {A : Type 0} → Bad → Result A Bad
+failed d = Err d
+
+pub ok_is : {A : Type 0} (x y : A) → done x ≡ done y → x ≡ y
+ok_is x y e = cc
+
+pub err_is : {A : Type 0} (c d : Bad) → failed {A = A} c ≡ failed d → c ≡ d
+err_is c d e = cc
+
+pub not_both : {A P : Type 0} (x : A) (d : Bad) → done x ≡ failed d → P
+not_both x d e = absurd cc
+
+-- ---- exact fields
+
+pub record IsExact {A : Type 0} (f : Field A) : Type 0 where
+  -- what is read is spelled so
+  pub takes : (bytes : List ℕ) (x : A × List ℕ) → IsBytes bytes → f.read bytes ≡ Ok x → Takes bytes (f.spell x.0) x.1 × f.Fits x.0
+  -- what is spelled so is read
+  pub again : (x : A) (rest : List ℕ) → f.Fits x → f.read (f.spell x ++ rest) ≡ Ok (x, rest)
+  -- a fault lies in the bytes
+  pub within : (bytes : List ℕ) (e : Bad) → IsBytes bytes → f.read bytes ≡ Err e → e.left ≤ length bytes
+
+-- ---- numbers
+
+byte_takes : (bytes : List ℕ) (x : ℕ × List ℕ) → IsBytes bytes → byte_read bytes ≡ Ok x → Takes bytes (x.0 ∷ []) x.1 × (x.0 < 256)
+byte_takes [] x fits e = absurd cc
+byte_takes (b ∷ rest) x fits e =
+    subst (λ (y : ℕ × List ℕ). Takes (b ∷ rest) (y.0 ∷ []) y.1 × (y.0 < 256)) (ok_is (b, rest) x e) (record { parts = refl; rest_fits = IsBytes-rest b rest fits }, fits 0)
+
+byte_within : (bytes : List ℕ) (e : Bad) → IsBytes bytes → byte_read bytes ≡ Err e → e.left ≤ length bytes
+byte_within [] e fits h = rw (← err_is (bad codes.truncated []) e h) (omega arith)
+byte_within (b ∷ rest) e fits h = absurd cc
+
+pub byte_exact : IsExact byte
+byte_exact = record { takes = byte_takes; again = λ n rest fits. refl; within = byte_within }
+
+-- what is known of the bytes of a width
+pub record IsWide (w : Width) : Type 0 where
+  pub len : (n : ℕ) → length (to_be_bytes w n) ≡ byte_len w
+  pub back : (bytes : List ℕ) → length bytes ≡ byte_len w → IsBytes bytes → to_be_bytes w (from_be_bytes w bytes) ≡ bytes
+  pub again : (n : ℕ) → n < 256 ^ byte_len w → from_be_bytes w (to_be_bytes w n) ≡ n
+  pub below : (bytes : List ℕ) → IsBytes bytes → from_be_bytes w bytes < 256 ^ byte_len w
+  pub signed_fits : (n : ℕ) → n < 256 ^ byte_len w → FitsSigned w (cast_signed w n)
+  pub signed_back : (n : ℕ) → n < 256 ^ byte_len w → cast_unsigned w (cast_signed w n) ≡ n
+  pub bits_fit : (z : ℤ) → FitsSigned w z → cast_unsigned w z < 256 ^ byte_len w
+
+pub wide16 : IsWide w16
+wide16 = record {
+  len = λ n. refl;
+  back = λ bytes len fits. be_bytes_2 bytes _ len fits refl;
+  again = λ n lt. from_be_bytes-to_be_bytes_2 n lt;
+  below = λ bytes fits. omega (arith, fits 0, fits 1);
+  signed_fits = λ n lt. sfits_to_z (Fits-of_lt lt);
+  signed_back = λ n lt. of_z-to_z w16 n lt;
+  bits_fit = λ z fits. (Fits-of_z fits).fits;
+}
+
+pub wide32 : IsWide w32
+wide32 = record {
+  len = λ n. refl;
+  back = λ bytes len fits. be_bytes_4 bytes _ len fits refl;
+  again = λ n lt. from_be_bytes-to_be_bytes_4 n lt;
+  below = λ bytes fits. omega (arith, fits 0, fits 1, fits 2, fits 3);
+  signed_fits = λ n lt. sfits_to_z (Fits-of_lt lt);
+  signed_back = λ n lt. of_z-to_z w32 n lt;
+  bits_fit = λ z fits. (Fits-of_z fits).fits;
+}
+
+pub wide64 : IsWide w64
+wide64 = record {
+  len = λ n. refl;
+  back = λ bytes len fits. be_bytes_8 bytes _ len fits refl;
+  again = λ n lt. from_be_bytes-to_be_bytes_8 n lt;
+  below = λ bytes fits. omega (arith, fits 0, fits 1, fits 2, fits 3, fits 4, fits 5, fits 6, fits 7);
+  signed_fits = λ n lt. sfits_to_z (Fits-of_lt lt);
+  signed_back = λ n lt. of_z-to_z w64 n lt;
+  bits_fit = λ z fits. (Fits-of_z fits).fits;
+}
+
+number_takes : (w : Width) → IsWide w → (bytes : List ℕ) (x : ℕ × List ℕ) → IsBytes bytes → (number w).read bytes ≡ Ok x → Takes bytes (to_be_bytes w x.0) x.1 × (x.0 < 256 ^ byte_len w)
+number_takes w wide bytes x fits e =
+    let front = take (byte_len w) bytes in
+    let front_fits = IsBytes-take (byte_len w) bytes fits in
+    elim (chosen (ltb (length bytes) (byte_len w)) (Err (bad codes.truncated bytes)) (Ok (from_be_bytes w front, drop (byte_len w) bytes)) (Ok x) e) [
+      | inl cut ↦ not_both x (bad codes.truncated bytes) (sym cut.1)
+      | inr long ↦
+          let enough : byte_len w ≤ length bytes = ltb-false _ _ long.0 in
+          let same : to_be_bytes w (from_be_bytes w front) ≡ front = wide.back front (omega (arith, length-take (byte_len w) bytes)) front_fits in
+          subst (λ (y : ℕ × List ℕ). Takes bytes (to_be_bytes w y.0) y.1 × (y.0 < 256 ^ byte_len w)) (ok_is (from_be_bytes w front, drop (byte_len w) bytes) x long.1)
+          (record { parts = rw same (sym (take-append-drop (byte_len w) bytes)); rest_fits = IsBytes-drop (byte_len w) bytes fits }, wide.below front front_fits)
+    ]
+
+number_again : (w : Width) → IsWide w → (n : ℕ) (rest : List ℕ) → n < 256 ^ byte_len w → (number w).read (to_be_bytes w n ++ rest) ≡ Ok (n, rest)
+number_again w wide n rest lt =
+    let len = wide.len n in
+    let long : ltb (length (to_be_bytes w n ++ rest)) (byte_len w) ≡ false = le-ltb _ _ (omega (arith, length-append (to_be_bytes w n) rest)) in
+    rw (long, take_at (to_be_bytes w n) rest (byte_len w) len, drop_at (to_be_bytes w n) rest (byte_len w) len, wide.again n lt) refl
+
+number_within : (w : Width) (bytes : List ℕ) (e : Bad) → IsBytes bytes → (number w).read bytes ≡ Err e → e.left ≤ length bytes
+number_within w bytes e fits h =
+    elim (chosen (ltb (length bytes) (byte_len w)) (Err (bad codes.truncated bytes)) (Ok (from_be_bytes w (take (byte_len w) bytes), drop (byte_len w) bytes)) (Err e) h) [
+      | inl cut ↦ rw (← err_is (bad codes.truncated bytes) e cut.1) (omega arith)
+      | inr long ↦ not_both (from_be_bytes w (take (byte_len w) bytes), drop (byte_len w) bytes) e long.1
+    ]
+
+pub number_exact : (w : Width) → IsWide w → IsExact (number w)
+number_exact w wide = record { takes = number_takes w wide; again = number_again w wide; within = number_within w }
+
+signed_takes : (w : Width) → IsWide w → (bytes : List ℕ) (x : ℤ × List ℕ) → IsBytes bytes → (signed w).read bytes ≡ Ok x → Takes bytes (to_be_bytes w (cast_unsigned w x.0)) x.1 × FitsSigned w x.0
+signed_takes w wide bytes x fits e =
+    let a = bind_ok ((number w).read bytes) (λ n. Ok (cast_signed w n.0, n.1)) x e in
+    let p = number_takes w wide bytes a.0 fits a.1 in
+    subst (λ (y : ℤ × List ℕ). Takes bytes (to_be_bytes w (cast_unsigned w y.0)) y.1 × FitsSigned w y.0) (ok_is (cast_signed w a.0.0, a.0.1) x a.2)
+    (rw (wide.signed_back a.0.0 p.1) p.0, wide.signed_fits a.0.0 p.1)
+
+signed_again : (w : Width) → IsWide w → (z : ℤ) (rest : List ℕ) → FitsSigned w z → (signed w).read (to_be_bytes w (cast_unsigned w z) ++ rest) ≡ Ok (z, rest)
+signed_again w wide z rest fits = rw (number_again w wide (cast_unsigned w z) rest (wide.bits_fit z fits), to_z-of_z w z fits) refl
+
+signed_within : (w : Width) (bytes : List ℕ) (e : Bad) → IsBytes bytes → (signed w).read bytes ≡ Err e → e.left ≤ length bytes
+signed_within w bytes e fits h =
+    elim (bind_err ((number w).read bytes) (λ n. Ok (cast_signed w n.0, n.1)) e h) [
+      | inl first ↦ number_within w bytes e fits first
+      | inr second ↦ not_both (cast_signed w second.0.0, second.0.1) e second.2
+    ]
+
+pub signed_exact : (w : Width) → IsWide w → IsExact (signed w)
+signed_exact w wide = record { takes = signed_takes w wide; again = signed_again w wide; within = signed_within w }
+
+-- ---- fields made of others
+
+pub made_exact : {A B : Type 0} (make : A → B) (back : B → A) (f : Field A) → ((x : A) → f.Fits x → back (make x) ≡ x) → ((y : B) → f.Fits (back y) → make (back y) ≡ y) → IsExact f → IsExact (made make back f)
+made_exact {A} {B} make back f there here exact = record {
+  takes = λ bytes x fits e.
+      let a = bind_ok (f.read bytes) (λ x. Ok (make x.0, x.1)) x e in
+      let p = exact.takes bytes a.0 fits a.1 in
+      let whole : B × List ℕ = (make a.0.0, a.0.1) in
+      subst (λ (z : B × List ℕ). Takes bytes (f.spell (back z.0)) z.1 × f.Fits (back z.0)) (ok_is whole x a.2) (rw (there a.0.0 p.1) p);
+  again = λ y rest fits. rw (exact.again (back y) rest fits, here y fits) refl;
+  within = λ bytes e fits h.
+      elim (bind_err (f.read bytes) (λ x. Ok (make x.0, x.1)) e h) [
+        | inl first ↦ exact.within bytes e fits first
+        | inr second ↦ not_both (make second.0.0, second.0.1) e second.2
+      ];
+}
+
+pub tested_exact : {A : Type 0} (test : A → Bool) (code : ℕ) (f : Field A) → IsExact f → IsExact (tested test code f)
+tested_exact {A} test code f exact = record {
+  takes = λ bytes x fits e.
+      let a = bind_ok (f.read bytes) (λ x. cond (test x.0) (Ok x) (Err (bad code bytes))) x e in
+      let p = exact.takes bytes a.0 fits a.1 in
+      elim (chosen (test a.0.0) (Ok a.0) (Err (bad code bytes)) (Ok x) a.2) [
+        | inl passed ↦ subst (λ (z : A × List ℕ). Takes bytes (f.spell z.0) z.1 × (f.Fits z.0 × IsTrue (test z.0))) (ok_is a.0 x passed.1) (p.0, (p.1, passed.0))
+        | inr missed ↦ not_both x (bad code bytes) (sym missed.1)
+      ];
+  again = λ x rest fits. rw (exact.again x rest fits.0, fits.1) refl;
+  within = λ bytes e fits h.
+      elim (bind_err (f.read bytes) (λ x. cond (test x.0) (Ok x) (Err (bad code bytes))) e h) [
+        | inl first ↦ exact.within bytes e fits first
+        | inr second ↦
+            elim (chosen (test second.0.0) (Ok second.0) (Err (bad code bytes)) (Err e) second.2) [
+              | inl passed ↦ not_both second.0 e passed.1
+              | inr missed ↦ rw (← err_is (bad code bytes) e missed.1) (omega arith)
+            ]
+      ];
+}
+
+pub and_then_exact : {A B : Type 0} (f : Field A) (g : A → Field B) → IsExact f → ((x : A) → IsExact (g x)) → IsExact (and_then f g)
+and_then_exact {A} {B} f g one two = record {
+  takes = λ bytes x fits e.
+      let a = bind_ok (f.read bytes) (λ x. (g x.0).read x.1 >>= λ y. Ok ((x.0, y.0), y.1)) x e in
+      let b = bind_ok ((g a.0.0).read a.0.1) (λ y. Ok ((a.0.0, y.0), y.1)) x a.2 in
+      let p = one.takes bytes a.0 fits a.1 in
+      let q = (two a.0.0).takes a.0.1 b.0 p.0.rest_fits b.1 in
+      let whole : (A × B) × List ℕ = ((a.0.0, b.0.0), b.0.1) in
+      subst (λ (z : (A × B) × List ℕ). Takes bytes (f.spell z.0.0 ++ (g z.0.0).spell z.0.1) z.1 × (f.Fits z.0.0 × (g z.0.0).Fits z.0.1)) (ok_is whole x b.2)
+      (Takes-then bytes (f.spell a.0.0) a.0.1 ((g a.0.0).spell b.0.0) b.0.1 p.0 q.0, (p.1, q.1));
+  again = λ x rest fits.
+      ap (and_then f g).read (append_assoc (f.spell x.0) ((g x.0).spell x.1) rest) ∙ rw (one.again x.0 ((g x.0).spell x.1 ++ rest) fits.0, (two x.0).again x.1 rest fits.1) refl;
+  within = λ bytes e fits h.
+      elim (bind_err (f.read bytes) (λ x. (g x.0).read x.1 >>= λ y. Ok ((x.0, y.0), y.1)) e h) [
+        | inl first ↦ one.within bytes e fits first
+        | inr second ↦
+            let p = one.takes bytes second.0 fits second.1 in
+            elim (bind_err ((g second.0.0).read second.0.1) (λ y. Ok ((second.0.0, y.0), y.1)) e second.2) [
+              | inl here ↦ omega (arith, Takes-shorter bytes (f.spell second.0.0) second.0.1 p.0, (two second.0.0).within second.0.1 e p.0.rest_fits here)
+              | inr none ↦ not_both ((second.0.0, none.0.0), none.0.1) e none.2
+            ]
+      ];
+}
+
+pub both_exact : {A B : Type 0} (f : Field A) (g : Field B) → IsExact f → IsExact g → IsExact (both f g)
+both_exact f g one two = and_then_exact f (λ _. g) one (λ _. two)
+
+pub fitting_exact : {A : Type 0} (Fits : A → Type 0) (f : Field A) → ((x : A) → f.Fits x → Fits x) → ((x : A) → Fits x → f.Fits x) → IsExact f → IsExact (fitting Fits f)
+fitting_exact Fits f here there exact = record {
+  takes = λ bytes x fits e. let p = exact.takes bytes x fits e in (p.0, here x.0 p.1);
+  again = λ x rest fits. exact.again x rest (there x fits);
+  within = exact.within;
+}
+
+pub constant_exact : (value code : ℕ) (f : Field ℕ) → f.Fits value → IsExact f → IsExact (constant value code f)
+constant_exact value code f fits exact =
+    let test = λ (n : ℕ). eqb n value in
+    fitting_exact (λ _. Unit {0}) (made (λ _. tt) (λ _. value) (tested test code f)) (λ x h. tt) (λ x h. (fits, eq-eqb value value refl))
+    (made_exact (λ _. tt) (λ _. value) (tested test code f) (λ x h. sym (eqb-true x value h.1)) (λ y h. refl) (tested_exact test code f exact))
+
+and_true : (a b : Bool) → (a && b) ≡ true → (a ≡ true) × (b ≡ true)
+and_true true b e = (refl, e)
+and_true false b e = absurd cc
+
+within_tells : (least most n : ℕ) → is_within least most n ≡ true → (least ≤ n) × (n ≤ most)
+within_tells least most n e = let both = and_true (leb least n) (leb n most) e in (leb-true least n both.0, leb-true n most both.1)
+
+is_within-true : (least most n : ℕ) → (least ≤ n) × (n ≤ most) → is_within least most n ≡ true
+is_within-true least most n h = rw (le-leb least n h.0, le-leb n most h.1) refl
+
+pub ranged_exact : (least most : ℕ) (f : Field ℕ) → ((n : ℕ) → n ≤ most → f.Fits n) → IsExact f → IsExact (ranged least most f)
+ranged_exact least most f fits exact =
+    fitting_exact (λ n. (least ≤ n) × (n ≤ most)) (tested (is_within least most) codes.limit f)
+    (λ n h. within_tells least most n h.1)
+    (λ n h. (fits n h.1, is_within-true least most n h))
+    (tested_exact (is_within least most) codes.limit f exact)
+
+pub nothing_exact : IsExact nothing
+nothing_exact = record {
+  takes = λ bytes x fits e. subst (λ (y : Unit {0} × List ℕ). Takes bytes [] y.1 × Unit {0}) (ok_is (tt, bytes) x e) (record { parts = refl; rest_fits = fits }, tt);
+  again = λ x rest fits. refl;
+  within = λ bytes e fits h. not_both (tt, bytes) e h;
+}
+
+-- ---- a value behind its tag
+
+-- what a reader took behind a tag
+pub record Tagged {A B : Type 0} (tag : ℕ) (f : Field B) (make : B → A) (rest : List ℕ) (x : A × List ℕ) : Type 0 where
+  pub value : B
+  pub is : make value ≡ x.0
+  pub taken : Takes (tag ∷ rest) (tag ∷ f.spell value) x.1
+  pub fit : f.Fits value
+
+pub tag_takes : {A B : Type 0} (tag : ℕ) (f : Field B) (make : B → A) → IsExact f → (rest : List ℕ) (x : A × List ℕ) → IsBytes rest → read_as make f.read rest ≡ Ok x → Tagged tag f make rest x
+tag_takes tag f make exact rest x fits e =
+    let a = bind_ok (f.read rest) (λ y. Ok (make y.0, y.1)) x e in
+    let p = exact.takes rest a.0 fits a.1 in
+    let whole = ok_is (make a.0.0, a.0.1) x a.2 in
+    record {
+      value = a.0.0;
+      is = ap (λ z. z.0) whole;
+      taken = subst (λ after. Takes (tag ∷ rest) (tag ∷ f.spell a.0.0) after) (ap (λ z. z.1) whole) (record { parts = ap (λ (t : List ℕ). tag ∷ t) p.0.parts; rest_fits = p.0.rest_fits });
+      fit = p.1;
+    }
+
+pub tag_within : {A B : Type 0} (tag : ℕ) (f : Field B) (make : B → A) → IsExact f → (rest : List ℕ) (e : Bad) → IsBytes rest → read_as make f.read rest ≡ Err e → e.left ≤ length (tag ∷ rest)
+tag_within tag f make exact rest e fits h =
+    elim (bind_err (f.read rest) (λ y. Ok (make y.0, y.1)) e h) [
+      | inl first ↦ omega (arith, exact.within rest e fits first)
+      | inr second ↦ not_both (make second.0.0, second.0.1) e second.2
+    ]
+
+-- ---- one of several forms, by a tag
+
+-- what a form reads behind its tag is spelled so with the tag, and a fault lies in the bytes
+pub record IsExactForm {A : Type 0} (spell : A → List ℕ) (Fits : A → Type 0) (form : Form A) : Type 0 where
+  pub takes : (rest : List ℕ) (x : A × List ℕ) → IsBytes rest → form.1 rest ≡ Ok x → Takes (form.0 ∷ rest) (spell x.0) x.1 × Fits x.0
+  pub within : (rest : List ℕ) (e : Bad) → IsBytes rest → form.1 rest ≡ Err e → e.left ≤ length (form.0 ∷ rest)
+
+-- a field behind a tag, and what is made of it
+pub behind_exact : {A B : Type 0} (spell : A → List ℕ) (Fits : A → Type 0) (tag : ℕ) (make : B → A) (f : Field B) → ((y : B) → tag ∷ f.spell y ≡ spell (make y)) → ((y : B) → f.Fits y → Fits (make y)) → IsExact f → IsExactForm spell Fits (behind tag make f)
+behind_exact {A} spell Fits tag make f spelled fit exact = record {
+  takes = λ rest x fits e.
+      let t = tag_takes tag f make exact rest x fits e in
+      let taken : Takes (tag ∷ rest) (spell (make t.value)) x.1 = subst (λ (text : List ℕ). Takes (tag ∷ rest) text x.1) (spelled t.value) t.taken in
+      subst (λ (y : A). Takes (tag ∷ rest) (spell y) x.1 × Fits y) t.is (taken, fit t.value t.fit);
+  within = λ rest e fits h. tag_within tag f make exact rest e fits h;
+}
+
+-- each form is exact
+abbrev pub AreExactForms : {A : Type 0} → (A → List ℕ) → (A → Type 0) → List (Form A) → Type 0
+AreExactForms spell Fits [] = Unit {0}
+AreExactForms spell Fits (f ∷ forms) = IsExactForm spell Fits f × AreExactForms spell Fits forms
+
+-- one exact form, and the others
+infixr 4 ◌also◌
+abbrev pub ◌also◌ : {P Q : Type 0} → P → Q → P × Q
+p also q = (p, q)
+
+form_takes : {A : Type 0} (spell : A → List ℕ) (Fits : A → Type 0) (forms : List (Form A)) → AreExactForms spell Fits forms → (tag : ℕ) (rest : List ℕ) (x : A × List ℕ) → IsBytes rest → form_read forms tag (tag ∷ rest) rest ≡ Ok x
+    → Takes (tag ∷ rest) (spell x.0) x.1 × Fits x.0
+form_takes spell Fits [] exact tag rest x fits e = not_both x (bad codes.tag (tag ∷ rest)) (sym e)
+form_takes spell Fits (f ∷ forms) exact tag rest x fits e =
+    elim (chosen (eqb tag f.0) (f.1 rest) (form_read forms tag (tag ∷ rest) rest) (Ok x) e) [
+      | inl is ↦ rw (eqb-true tag f.0 is.0) (exact.0.takes rest x fits is.1)
+      | inr other ↦ form_takes spell Fits forms exact.1 tag rest x fits other.1
+    ]
+
+form_within : {A : Type 0} (spell : A → List ℕ) (Fits : A → Type 0) (forms : List (Form A)) → AreExactForms spell Fits forms → (tag : ℕ) (rest : List ℕ) (e : Bad) → IsBytes rest → form_read forms tag (tag ∷ rest) rest ≡ Err e → e.left ≤ length (tag ∷ rest)
+form_within spell Fits [] exact tag rest e fits h = rw (← err_is (bad codes.tag (tag ∷ rest)) e h) (omega arith)
+form_within spell Fits (f ∷ forms) exact tag rest e fits h =
+    elim (chosen (eqb tag f.0) (f.1 rest) (form_read forms tag (tag ∷ rest) rest) (Err e) h) [
+      | inl is ↦ exact.0.within rest e fits is.1
+      | inr other ↦ form_within spell Fits forms exact.1 tag rest e fits other.1
+    ]
+
+pub by_tag_takes : {A : Type 0} (spell : A → List ℕ) (Fits : A → Type 0) (forms : List (Form A)) → AreExactForms spell Fits forms → (bytes : List ℕ) (x : A × List ℕ) → IsBytes bytes → by_tag forms bytes ≡ Ok x → Takes bytes (spell x.0) x.1 × Fits x.0
+by_tag_takes spell Fits forms exact [] x fits e = not_both x (bad codes.truncated []) (sym e)
+by_tag_takes spell Fits forms exact (tag ∷ rest) x fits e = form_takes spell Fits forms exact tag rest x (IsBytes-rest tag rest fits) e
+
+pub by_tag_within : {A : Type 0} (spell : A → List ℕ) (Fits : A → Type 0) (forms : List (Form A)) → AreExactForms spell Fits forms → (bytes : List ℕ) (e : Bad) → IsBytes bytes → by_tag forms bytes ≡ Err e → e.left ≤ length bytes
+by_tag_within spell Fits forms exact [] e fits h = rw (← err_is (bad codes.truncated []) e h) (omega arith)
+by_tag_within spell Fits forms exact (tag ∷ rest) e fits h = form_within spell Fits forms exact tag rest e (IsBytes-rest tag rest fits) h
+
+-- ---- 00, or 01 and a value
+
+-- what stands behind a flag that is not 00
+abbrev some_read : {A : Type 0} → Field A → ℕ → List ℕ → Read (Option A)
+some_read f flag bytes = cond (eqb flag 1) (read_as (λ y. Some y) f.read bytes) (Err (bad codes.tag (flag ∷ bytes)))
+
+optional_takes : {A : Type 0} (f : Field A) → IsExact f → (bytes : List ℕ) (x : Option A × List ℕ) → IsBytes bytes → (optional f).read bytes ≡ Ok x → Takes bytes ((optional f).spell x.0) x.1 × IfSome x.0 f.Fits
+optional_takes f exact [] x fits e = absurd (not_both x (bad codes.truncated []) (sym e))
+optional_takes {A} f exact (flag ∷ bytes) x fits e =
+    let rest_fits = IsBytes-rest flag bytes fits in
+    elim (chosen (eqb flag 0) (Ok (None, bytes)) (some_read f flag bytes) (Ok x) e) [
+      | inl none ↦
+          rw (eqb-true flag 0 none.0) (subst (λ (z : Option A × List ℕ). Takes (0 ∷ bytes) ((optional f).spell z.0) z.1 × IfSome z.0 f.Fits) (ok_is (None, bytes) x none.1) (record { parts = refl; rest_fits = rest_fits }, tt))
+      | inr some ↦
+          elim (chosen (eqb flag 1) (read_as (λ y. Some y) f.read bytes) (Err (bad codes.tag (flag ∷ bytes))) (Ok x) some.1) [
+            | inl one ↦
+                let t = tag_takes 1 f (λ y. Some y) exact bytes x rest_fits one.1 in
+                rw (eqb-true flag 1 one.0) (subst (λ (o : Option A). Takes (1 ∷ bytes) ((optional f).spell o) x.1 × IfSome o f.Fits) t.is (t.taken, t.fit))
+            | inr other ↦ not_both x (bad codes.tag (flag ∷ bytes)) (sym other.1)
+          ]
+    ]
+
+optional_again : {A : Type 0} (f : Field A) → IsExact f → (o : Option A) (rest : List ℕ) → IfSome o f.Fits → (optional f).read ((optional f).spell o ++ rest) ≡ Ok (o, rest)
+optional_again f exact None rest fits = refl
+optional_again f exact (Some x) rest fits = rw (exact.again x rest fits) refl
+
+optional_within : {A : Type 0} (f : Field A) → IsExact f → (bytes : List ℕ) (e : Bad) → IsBytes bytes → (optional f).read bytes ≡ Err e → e.left ≤ length bytes
+optional_within f exact [] e fits h = rw (← err_is (bad codes.truncated []) e h) (omega arith)
+optional_within f exact (flag ∷ bytes) e fits h =
+    elim (chosen (eqb flag 0) (Ok (None, bytes)) (some_read f flag bytes) (Err e) h) [
+      | inl none ↦ not_both (None, bytes) e none.1
+      | inr some ↦
+          elim (chosen (eqb flag 1) (read_as (λ y. Some y) f.read bytes) (Err (bad codes.tag (flag ∷ bytes))) (Err e) some.1) [
+            | inl one ↦ tag_within flag f (λ y. Some y) exact bytes e (IsBytes-rest flag bytes fits) one.1
+            | inr other ↦ rw (← err_is (bad codes.tag (flag ∷ bytes)) e other.1) (omega arith)
+          ]
+    ]
+
+pub optional_exact : {A : Type 0} (f : Field A) → IsExact f → IsExact (optional f)
+optional_exact f exact = record { takes = optional_takes f exact; again = optional_again f exact; within = optional_within f exact }
+
+-- ---- counts
+
+-- what is judged of the number behind ff
+abbrev long_count_judged : ℕ → ℕ → List ℕ → ℕ × List ℕ → Read ℕ
+long_count_judged least most bytes n = cond (is_within least most n.0) (cond (ltb n.0 255) (Err (bad codes.not_canonical bytes)) (Ok n)) (Err (bad codes.limit bytes))
+
+long_count_takes : (least most : ℕ) (bytes rest : List ℕ) (x : ℕ × List ℕ) → IsBytes rest → long_count_read least most bytes rest ≡ Ok x → Takes (255 ∷ rest) (count_spelling x.0) x.1 × ((least ≤ x.0) × (x.0 ≤ most))
+long_count_takes least most bytes rest x fits e =
+    let judged = long_count_judged least most bytes in
+    elim (chosen (ltb (length rest) 4) (Err (bad codes.truncated bytes)) ((number w32).read rest >>= judged) (Ok x) e) [
+      | inl cut ↦ not_both x (bad codes.truncated bytes) (sym cut.1)
+      | inr whole ↦
+          let a = bind_ok ((number w32).read rest) judged x whole.1 in
+          let p = number_takes w32 wide32 rest a.0 fits a.1 in
+          elim (chosen (is_within least most a.0.0) (cond (ltb a.0.0 255) (Err (bad codes.not_canonical bytes)) (Ok a.0)) (Err (bad codes.limit bytes)) (Ok x) a.2) [
+            | inl kept ↦
+                elim (chosen (ltb a.0.0 255) (Err (bad codes.not_canonical bytes)) (Ok a.0) (Ok x) kept.1) [
+                  | inl short ↦ not_both x (bad codes.not_canonical bytes) (sym short.1)
+                  | inr long ↦
+                      subst (λ (z : ℕ × List ℕ). Takes (255 ∷ rest) (count_spelling z.0) z.1 × ((least ≤ z.0) × (z.0 ≤ most))) (ok_is a.0 x long.1)
+                      (rw long.0 (record { parts = ap (λ (t : List ℕ). 255 ∷ t) p.0.parts; rest_fits = p.0.rest_fits }), within_tells least most a.0.0 kept.0)
+                ]
+            | inr outside ↦ not_both x (bad codes.limit bytes) (sym outside.1)
+          ]
+    ]
+
+count_takes : (least most : ℕ) (bytes : List ℕ) (x : ℕ × List ℕ) → IsBytes bytes → count_read least most bytes ≡ Ok x → Takes bytes (count_spelling x.0) x.1 × ((least ≤ x.0) × (x.0 ≤ most))
+unfolding count_read
+count_takes least most [] x fits e = absurd (not_both x (bad codes.truncated []) (sym e))
+count_takes least most (first ∷ rest) x fits e =
+    let bytes = first ∷ rest in
+    let short : Read ℕ = cond (is_within least most first) (Ok (first, rest)) (Err (bad codes.limit bytes)) in
+    elim (chosen (ltb first 255) short (long_count_read least most bytes rest) (Ok x) e) [
+      | inl one ↦
+          elim (chosen (is_within least most first) (Ok (first, rest)) (Err (bad codes.limit bytes)) (Ok x) one.1) [
+            | inl kept ↦
+                subst (λ (z : ℕ × List ℕ). Takes bytes (count_spelling z.0) z.1 × ((least ≤ z.0) × (z.0 ≤ most))) (ok_is (first, rest) x kept.1)
+                (rw one.0 (record { parts = refl; rest_fits = IsBytes-rest first rest fits }), within_tells least most first kept.0)
+            | inr outside ↦ not_both x (bad codes.limit bytes) (sym outside.1)
+          ]
+      | inr four ↦
+          let is_255 : first ≡ 255 = omega (arith, ltb-false _ _ four.0, fits 0) in
+          rw is_255 (long_count_takes least most bytes rest x (IsBytes-rest first rest fits) four.1)
+    ]
+
+count_again : (least most : ℕ) → most < 256 ^ 4 → (n : ℕ) (rest : List ℕ) → (least ≤ n) × (n ≤ most) → count_read least most (count_spelling n ++ rest) ≡ Ok (n, rest)
+unfolding count_read
+count_again least most wide n rest fits =
+    let kept : is_within least most n ≡ true = is_within-true least most n fits in
+    elim (cases_lt n 255) [
+      | inl lt ↦ let short : ltb n 255 ≡ true = lt-ltb _ _ lt in rw (short, short, kept) refl
+      | inr le ↦
+          let long : ltb n 255 ≡ false = le-ltb _ _ le in
+          let enough : ltb (length (to_be_bytes w32 n ++ rest)) 4 ≡ false = le-ltb _ _ (omega (arith, length-append (to_be_bytes w32 n) rest)) in
+          rw (long, number_again w32 wide32 n rest (omega arith), enough, kept, long) refl
+    ]
+
+long_count_within : (least most : ℕ) (bytes rest : List ℕ) (e : Bad) → IsBytes rest → length rest ≤ length bytes → long_count_read least most bytes rest ≡ Err e → e.left ≤ length bytes
+long_count_within least most bytes rest e fits shorter h =
+    let judged = long_count_judged least most bytes in
+    elim (chosen (ltb (length rest) 4) (Err (bad codes.truncated bytes)) ((number w32).read rest >>= judged) (Err e) h) [
+      | inl cut ↦ rw (← err_is (bad codes.truncated bytes) e cut.1) (omega arith)
+      | inr whole ↦
+          elim (bind_err ((number w32).read rest) judged e whole.1) [
+            | inl first ↦ omega (arith, number_within w32 rest e fits first)
+            | inr n ↦
+                elim (chosen (is_within least most n.0.0) (cond (ltb n.0.0 255) (Err (bad codes.not_canonical bytes)) (Ok n.0)) (Err (bad codes.limit bytes)) (Err e) n.2) [
+                  | inl kept ↦
+                      elim (chosen (ltb n.0.0 255) (Err (bad codes.not_canonical bytes)) (Ok n.0) (Err e) kept.1) [
+                        | inl short ↦ rw (← err_is (bad codes.not_canonical bytes) e short.1) (omega arith)
+                        | inr long ↦ not_both n.0 e long.1
+                      ]
+                  | inr outside ↦ rw (← err_is (bad codes.limit bytes) e outside.1) (omega arith)
+                ]
+          ]
+    ]
+
+count_within : (least most : ℕ) (bytes : List ℕ) (e : Bad) → IsBytes bytes → count_read least most bytes ≡ Err e → e.left ≤ length bytes
+unfolding count_read
+count_within least most [] e fits h = rw (← err_is (bad codes.truncated []) e h) (omega arith)
+count_within least most (first ∷ rest) e fits h =
+    let bytes = first ∷ rest in
+    let short : Read ℕ = cond (is_within least most first) (Ok (first, rest)) (Err (bad codes.limit bytes)) in
+    elim (chosen (ltb first 255) short (long_count_read least most bytes rest) (Err e) h) [
+      | inl one ↦
+          elim (chosen (is_within least most first) (Ok (first, rest)) (Err (bad codes.limit bytes)) (Err e) one.1) [
+            | inl kept ↦ not_both (first, rest) e kept.1
+            | inr outside ↦ rw (← err_is (bad codes.limit bytes) e outside.1) (omega arith)
+          ]
+      | inr four ↦ long_count_within least most bytes rest e (IsBytes-rest first rest fits) (omega arith) four.1
+    ]
+
+pub count_exact : (least most : ℕ) → most < 256 ^ 4 → IsExact (count least most)
+count_exact least most wide = record { takes = count_takes least most; again = count_again least most wide; within = count_within least most }
+
+-- ---- lists
+
+pub record IsExactElement {A : Type 0} (e : Element A) : Type 0 where
+  pub takes : (front : List A) (left : ℕ) (bytes : List ℕ) (x : A × List ℕ) → IsBytes bytes → e.read front left bytes ≡ Ok x → Takes bytes (e.spell x.0) x.1 × e.Fits front left x.0
+  pub again : (front : List A) (left : ℕ) (x : A) (rest : List ℕ) → e.Fits front left x → e.read front left (e.spell x ++ rest) ≡ Ok (x, rest)
+  pub within : (front : List A) (left : ℕ) (bytes : List ℕ) (d : Bad) → IsBytes bytes → e.read front left bytes ≡ Err d → d.left ≤ length bytes
+
+pub plain_exact : {A : Type 0} (f : Field A) → IsExact f → IsExactElement (plain f)
+plain_exact f exact = record { takes = λ front left. exact.takes; again = λ front left. exact.again; within = λ front left. exact.within }
+
+pub last_tested_exact : {A : Type 0} (test : A → Bool) (code : ℕ) (f : Field A) → IsExact f → IsExactElement (last_tested test code f)
+last_tested_exact {A} test code f exact =
+    let at = λ (left : ℕ). tested_exact (λ (x : A). cond (eqb left 0) (test x) true) code f exact in
+    record { takes = λ front left. (at left).takes; again = λ front left. (at left).again; within = λ front left. (at left).within }
+
+-- what stands behind the elements at the front
+pub record Adds {A : Type 0} (e : Element A) (front : List A) (n : ℕ) (bytes : List ℕ) (x : List A × List ℕ) : Type 0 where
+  pub added : List A
+  pub all : x.0 ≡ front ++ added
+  pub len : length added ≡ n
+  pub taken : Takes bytes (flat_map e.spell added) x.1
+  pub fit : ElementsFit e.Fits front added
+
+elements_take : {A : Type 0} (e : Element A) → IsExactElement e → (n : ℕ) (front : List A) (bytes : List ℕ) (x : List A × List ℕ) → IsBytes bytes → elements_read e.read n front bytes ≡ Ok x → Adds e front n bytes x
+unfolding elements_read
+elements_take {A} e exact zero front bytes x fits h =
+    subst (λ (z : List A × List ℕ). Adds e front 0 bytes z) (ok_is (front, bytes) x h) (record { added = []; all = sym (append-nil front); len = refl; taken = record { parts = refl; rest_fits = fits }; fit = tt })
+elements_take {A} e exact (suc left) front bytes x fits h =
+    let a = bind_ok (e.read front left bytes) (λ y. elements_read e.read left (front ++ y.0 ∷ []) y.1) x h in
+    let first = exact.takes front left bytes a.0 fits a.1 in
+    let others = elements_take e exact left (front ++ a.0.0 ∷ []) a.0.1 x first.0.rest_fits a.2 in
+    record {
+      added = a.0.0 ∷ others.added;
+      all = others.all ∙ append_assoc front (a.0.0 ∷ []) others.added;
+      len = ap suc others.len;
+      taken = rw (flat_map-cons e.spell a.0.0 others.added) (Takes-then bytes (e.spell a.0.0) a.0.1 (flat_map e.spell others.added) x.1 first.0 others.taken);
+      fit = (rw others.len first.1, others.fit);
+    }
+
+elements_again : {A : Type 0} (e : Element A) → IsExactElement e → (xs front : List A) (rest : List ℕ) → ElementsFit e.Fits front xs → elements_read e.read (length xs) front (flat_map e.spell xs ++ rest) ≡ Ok (front ++ xs, rest)
+unfolding elements_read
+elements_again e exact [] front rest fits = ap (λ xs. Ok (xs, rest)) (sym (append-nil front))
+elements_again e exact (x ∷ xs) front rest fits =
+    let regrouped : flat_map e.spell (x ∷ xs) ++ rest ≡ e.spell x ++ (flat_map e.spell xs ++ rest) = ap (λ (t : List ℕ). t ++ rest) (flat_map-cons e.spell x xs) ∙ append_assoc (e.spell x) (flat_map e.spell xs) rest in
+    ap (elements_read e.read (suc (length xs)) front) regrouped
+    ∙ rw (exact.again front (length xs) x (flat_map e.spell xs ++ rest) fits.0, elements_again e exact xs (front ++ x ∷ []) rest fits.1) (ap (λ ys. Ok (ys, rest)) (append_assoc front (x ∷ []) xs))
+
+elements_within : {A : Type 0} (e : Element A) → IsExactElement e → (n : ℕ) (front : List A) (bytes : List ℕ) (d : Bad) → IsBytes bytes → elements_read e.read n front bytes ≡ Err d → d.left ≤ length bytes
+unfolding elements_read
+elements_within e exact zero front bytes d fits h = not_both (front, bytes) d h
+elements_within e exact (suc left) front bytes d fits h =
+    elim (bind_err (e.read front left bytes) (λ y. elements_read e.read left (front ++ y.0 ∷ []) y.1) d h) [
+      | inl first ↦ exact.within front left bytes d fits first
+      | inr a ↦
+          let first = exact.takes front left bytes a.0 fits a.1 in
+          omega (arith, Takes-shorter bytes (e.spell a.0.0) a.0.1 first.0, elements_within e exact left (front ++ a.0.0 ∷ []) a.0.1 d first.0.rest_fits a.2)
+    ]
+
+pub elements_exact : {A : Type 0} (e : Element A) (n : ℕ) → IsExactElement e → IsExact (elements e n)
+elements_exact {A} e n exact = record {
+  takes = λ bytes x fits h.
+      let a = elements_take e exact n [] bytes x fits h in
+      rw a.all (a.taken, (a.len, a.fit));
+  again = λ xs rest fits. rw (← fits.0) (elements_again e exact xs [] rest fits.1);
+  within = elements_within e exact n [];
+}
+
+pub listed_exact : {A : Type 0} (least most : ℕ) (e : Element A) → most < 256 ^ 4 → IsExactElement e → IsExact (listed least most e)
+listed_exact {A} least most e wide exact = record {
+  takes = λ bytes x fits h.
+      let n = bind_ok (count_read least most bytes) (λ n. elements_read e.read n.0 [] n.1) x h in
+      let p = count_takes least most bytes n.0 fits n.1 in
+      let a = elements_take e exact n.0.0 [] n.0.1 x p.0.rest_fits n.2 in
+      let spelled : Takes bytes (count_spelling (length a.added) ++ flat_map e.spell a.added) x.1 = rw a.len (Takes-then bytes (count_spelling n.0.0) n.0.1 (flat_map e.spell a.added) x.1 p.0 a.taken) in
+      rw a.all (spelled, (omega (arith, a.len, p.1.0), omega (arith, a.len, p.1.1), a.fit));
+  again = λ xs rest fits.
+      ap (listed_read e.read least most) (append_assoc (count_spelling (length xs)) (flat_map e.spell xs) rest)
+      ∙ rw (count_again least most wide (length xs) (flat_map e.spell xs ++ rest) (fits.0, fits.1)) (elements_again e exact xs [] rest fits.2);
+  within = λ bytes d fits h.
+      elim (bind_err (count_read least most bytes) (λ n. elements_read e.read n.0 [] n.1) d h) [
+        | inl first ↦ count_within least most bytes d fits first
+        | inr n ↦
+            let p = count_takes least most bytes n.0 fits n.1 in
+            omega (arith, Takes-shorter bytes (count_spelling n.0.0) n.0.1 p.0, elements_within e exact n.0.0 [] n.0.1 d p.0.rest_fits n.2)
+      ];
+}
+
+-- what fits a list, told of each of its elements
+pub All-from_fit : {A : Type 0} (Fits : List A → ℕ → A → Type 0) (P : A → Type 0) → ((front : List A) (left : ℕ) (x : A) → Fits front left x → P x) → (xs front : List A) → ElementsFit Fits front xs → All P xs
+All-from_fit Fits P tells [] front h k d lt = absurd (omega arith)
+All-from_fit Fits P tells (x ∷ xs) front h zero d lt = tells front (length xs) x h.0
+All-from_fit Fits P tells (x ∷ xs) front h (suc k) d lt = All-from_fit Fits P tells xs (front ++ x ∷ []) h.1 k d (omega arith)
+
+-- elements that look at no others fit their list
+pub fit-from_All : {A : Type 0} (P : A → Type 0) (xs front : List A) → All P xs → ElementsFit (λ _ _. P) front xs
+fit-from_All P [] front h = tt
+fit-from_All P (x ∷ xs) front h = (h 0 x (omega arith), fit-from_All P xs (front ++ x ∷ []) (λ k d lt. h (suc k) d (omega arith)))

@@ -1,0 +1,223 @@
+//! The reports of the first example, and of jobs with facilities, storages and queues.
+
+use super::{accepted, job_of};
+use gw_object::{Memory, read};
+use gw_report::{report, stopped_report};
+use gw_scan::{Sim, Stop};
+use std::alloc::Global;
+use std::test::Fail;
+
+/// GENERATE 10 / ADVANCE 3 / TERMINATE 1, with a termination count of 2.
+const FIRST: &[u8] = b"\
+    GPSO\0\x01\0\0\0\0\0\0\0\0\x02\0\0\x03\
+    \x01\0\0\0\0\0\0\0\0\x0a\0\0\0\0\0\0\0\0\0\0\0\0\0\0\0\
+    \x03\0\0\0\0\0\0\0\0\x03\0\0\0\0\0\0\0\0\0\
+    \x02\0\0\0\0\0\0\0\0\x01\
+    \0\x01\0\0\0\x01\0\0\0\x01\0\0\0\
+    \0\0\0\x02\0\0\0\x01\0\0\0\x01";
+
+/// GENERATE 10 / QUEUE Q / TERMINATE 1, with a termination count of 1.
+const JOINING: &[u8] = b"\
+    GPSO\0\x01\0\0\0\0\0\0\0\0\x01\x01\x03\x01Q\0\x03\
+    \x01\0\0\0\0\0\0\0\0\x0a\0\0\0\0\0\0\0\0\0\0\0\0\0\0\0\
+    \x08\0\0\0\0\0\x01\
+    \x02\0\0\0\0\0\0\0\0\x01\
+    \0\x01\0\0\0\
+    \x01\0\0\0\
+    \x01\0\0\x01\0\0\0\0\0\x01\
+    \0\0\0\x01\0\0\0\x01\0\0\0\x01";
+
+/// GENERATE ,,,2 / QUEUE L / SEIZE F / DEPART L / ADVANCE 4 / RELEASE F / TERMINATE 1, with a termination count of 2.
+const QUEUEING: &[u8] = b"\
+    GPSO\0\x01\0\0\0\0\0\0\0\0\x02\x02\x03\x01L\x01\x01F\0\x07\
+    \x01\0\0\0\0\0\0\0\0\0\0\0\0\0\0\0\0\0\0\0\x01\0\0\0\x02\0\0\0\0\
+    \x08\0\0\0\0\0\x01\
+    \x04\0\x01\
+    \x09\0\0\0\0\0\x01\
+    \x03\0\0\0\0\0\0\0\0\x04\0\0\0\0\0\0\0\0\0\
+    \x05\0\x01\
+    \x02\0\0\0\0\0\0\0\0\x01\
+    \0\x01\0\0\0\
+    \x01\0\0\0\
+    \x01\0\0\x01\0\0\0\0\0\x01\
+    \x01\0\x01\0\x01\x01\0\0\0\0\0\x01\
+    \x01\0\x01\0\x01\0\
+    \x01\0\x01\0\x01\0\
+    \x01\0\0\0\
+    \0\0\0\x01\0\0\0\x01\0\0\0\x01\0\0\0\x01\0\0\0\x01\0\0\0\x01\0\0\0\x01";
+
+/// S STORAGE 3 / GENERATE ,,,1 / ENTER S,3 / ADVANCE 10 / LEAVE S,1 / ADVANCE 10 / TERMINATE 1 / GENERATE ,,1,2 / ENTER S,3
+/// / TERMINATE / GENERATE ,,2,1 / ENTER S / TERMINATE, with a termination count of 1.
+const ENTERING: &[u8] = b"\
+    GPSO\0\x01\0\0\0\0\0\0\0\0\x01\x01\x02\x01S\0\0\0\x03\0\x0c\
+    \x01\0\0\0\0\0\0\0\0\0\0\0\0\0\0\0\0\0\0\0\x01\0\0\0\x01\0\0\0\0\
+    \x06\0\0\0\0\0\x03\
+    \x03\0\0\0\0\0\0\0\0\x0a\0\0\0\0\0\0\0\0\0\
+    \x07\0\0\0\0\0\x01\
+    \x03\0\0\0\0\0\0\0\0\x0a\0\0\0\0\0\0\0\0\0\
+    \x02\0\0\0\0\0\0\0\0\x01\
+    \x01\0\0\0\0\0\0\0\0\0\0\0\0\0\0\0\0\0\0\x01\0\0\0\0\0\0\0\x01\x01\0\0\0\
+    \x02\0\0\0\0\
+    \x06\0\0\0\0\0\x03\
+    \x02\0\0\0\0\0\0\0\0\0\
+    \x01\0\0\0\0\0\0\0\0\0\0\0\0\0\0\0\0\0\0\x01\0\0\0\0\0\0\0\x02\x01\0\0\0\
+    \x01\0\0\0\0\
+    \x06\0\0\0\0\0\x01\
+    \x02\0\0\0\0\0\0\0\0\0\
+    \0\x01\0\0\0\
+    \x01\0\0\0\
+    \x01\0\0\x01\0\0\0\0\0\x03\
+    \x01\0\0\x01\0\0\0\0\0\x03\
+    \x01\0\0\x01\0\0\0\0\0\x02\
+    \x01\0\0\x01\0\0\0\0\0\x02\
+    \x01\0\0\0\
+    \x01\0\0\0\
+    \x01\0\0\x01\0\0\0\0\0\x03\
+    \x01\0\0\0\
+    \x01\0\0\0\
+    \x01\0\0\x01\0\0\0\0\0\x01\
+    \0\0\0\x01\0\0\0\x01\0\0\0\x01\0\0\0\x01\0\0\0\x01\0\0\0\x01\0\0\0\x01\
+    \0\0\0\x01\0\0\0\x01\0\0\0\x01\0\0\0\x01\0\0\0\x01";
+
+/// GENERATE ,,995,2 / SEIZE F / ADVANCE 100 / RELEASE F / TERMINATE / GENERATE ,,1000,1 / TERMINATE 1, with a termination count
+/// of 1. The facility is owned from clock 995 on, and the job ends at 1000.
+const OWNING: &[u8] = b"\
+    GPSO\0\x01\0\0\0\0\0\0\0\0\x01\x01\x01\x01F\0\x07\
+    \x01\0\0\0\0\0\0\0\0\0\0\0\0\0\0\0\0\0\0\x01\0\0\0\0\0\0\x03\xe3\x01\0\0\
+    \0\x02\0\0\0\0\
+    \x04\0\0\
+    \x03\0\0\0\0\0\0\0\0d\0\0\0\0\0\0\0\0\0\
+    \x05\0\0\
+    \x02\0\0\0\0\0\0\0\0\0\
+    \x01\0\0\0\0\0\0\0\0\0\0\0\0\0\0\0\0\0\0\x01\0\0\0\0\0\0\x03\xe8\x01\0\0\
+    \0\x01\0\0\0\0\
+    \x02\0\0\0\0\0\0\0\0\x01\
+    \0\x01\0\0\0\
+    \x01\0\0\0\
+    \x01\0\x01\0\0\0\
+    \x01\0\x01\0\0\0\
+    \x01\0\0\0\
+    \x01\0\0\0\
+    \x01\0\0\0\
+    \0\0\0\x01\0\0\0\x01\0\0\0\x01\0\0\0\x01\0\0\0\x01\0\0\0\x01\0\0\0\x01";
+
+/// The job of the object of these bytes before its first step, with a budget of so many steps.
+fn job(alloc: Global, bytes: &[u8], budget: u64) -> Result<Sim, Fail> {
+    let object = read(alloc, bytes).ok().ok_or("an object")?;
+    job_of(alloc, accepted(alloc, object)?, budget)
+}
+
+/// So many steps, past its end too.
+fn step_on(sim: &mut Sim, steps: u64) -> Result<(), Memory> {
+    for _ in 0..steps {
+        sim.step()?;
+    }
+    Ok(())
+}
+
+/// The report of a job after so many further steps.
+fn report_after(alloc: Global, sim: &mut Sim, steps: u64) -> Result<Vec<u8>, Memory> {
+    step_on(sim, steps)?;
+    report(alloc, sim)
+}
+
+/// The report of a job after so many further steps, as one at an error stop.
+fn stopped_report_after(alloc: Global, sim: &mut Sim, steps: u64) -> Result<Vec<u8>, Memory> {
+    step_on(sim, steps)?;
+    stopped_report(alloc, sim, Stop::NoBlock)
+}
+
+/// The report of the job of an object after so many steps, with a budget of so many.
+fn reported(alloc: Global, bytes: &[u8], budget: u64, steps: u64) -> Result<Vec<u8>, Fail> {
+    let mut sim = job(alloc, bytes, budget)?;
+    Ok(report_after(alloc, &mut sim, steps)?)
+}
+
+/// The report of the job of an object after so many steps as one at an error stop.
+fn reported_as_stopped(alloc: Global, bytes: &[u8], steps: u64) -> Result<Vec<u8>, Fail> {
+    let mut sim = job(alloc, bytes, 1_000)?;
+    Ok(stopped_report_after(alloc, &mut sim, steps)?)
+}
+
+/// Whether a text begins and ends so.
+fn shows(text: &[u8], first: &str, last: &str) -> bool {
+    text.starts_with(first.as_bytes()) && text.ends_with(last.as_bytes())
+}
+
+#[test]
+fn the_first_example_is_reported_at_its_end(rt: HostRuntime) -> Result<(), Fail> {
+    let text = reported(rt.alloc(), FIRST, 1_000, 1_000)?;
+    let expected = b"END Done CLOCK 23 STEPS 14 ENTRIES 6 COUNT 0\n\
+        BLOCK 1 GENERATE 2 0\nBLOCK 2 ADVANCE 2 0\nBLOCK 3 TERMINATE 2 0\n";
+    assert!(rt; text.as_slice() == expected.as_slice());
+    Ok(())
+}
+
+#[test]
+fn a_used_budget_is_reported(rt: HostRuntime) -> Result<(), Fail> {
+    let text = reported(rt.alloc(), FIRST, 5, 1_000)?;
+    let expected = b"END Budget CLOCK 13 STEPS 5 ENTRIES 2 COUNT 2\n\
+        BLOCK 1 GENERATE 1 0\nBLOCK 2 ADVANCE 1 1\nBLOCK 3 TERMINATE 0 0\n";
+    assert!(rt; text.as_slice() == expected.as_slice());
+    Ok(())
+}
+
+#[test]
+fn a_running_job_is_reported(rt: HostRuntime) -> Result<(), Fail> {
+    let text = reported(rt.alloc(), FIRST, 1_000, 0)?;
+    let expected = b"END Running CLOCK 0 STEPS 0 ENTRIES 0 COUNT 2\n\
+        BLOCK 1 GENERATE 0 0\nBLOCK 2 ADVANCE 0 0\nBLOCK 3 TERMINATE 0 0\n";
+    assert!(rt; text.as_slice() == expected.as_slice());
+    Ok(())
+}
+
+#[test]
+fn a_job_at_an_error_stop_is_reported(rt: HostRuntime) -> Result<(), Fail> {
+    let text = reported_as_stopped(rt.alloc(), FIRST, 0)?;
+    let expected = b"END Stopped CLOCK 0 STEPS 0 ENTRIES 0 COUNT 2\n\
+        BLOCK 1 GENERATE 0 0\nBLOCK 2 ADVANCE 0 0\nBLOCK 3 TERMINATE 0 0\n";
+    assert!(rt; text.as_slice() == expected.as_slice());
+    Ok(())
+}
+
+#[test]
+fn a_queue_joined_at_the_end_has_an_average_of_0(rt: HostRuntime) -> Result<(), Fail> {
+    let text = reported(rt.alloc(), JOINING, 1_000, 1_000)?;
+    let first = "END Done CLOCK 10 STEPS 5 ENTRIES 3 COUNT 0\n";
+    let last =
+        "\nBLOCK 2 QUEUE 1 0\nBLOCK 3 TERMINATE 1 0\nQUEUE Q CONTENT 1 MAX 1 ENTRIES 1 AVG 0.000\n";
+    assert!(rt; shows(text.as_slice(), first, last));
+    Ok(())
+}
+
+#[test]
+fn a_queue_and_a_facility_are_reported_in_the_order_of_the_object(
+    rt: HostRuntime,
+) -> Result<(), Fail> {
+    let text = reported(rt.alloc(), QUEUEING, 1_000, 1_000)?;
+    let first = "END Done CLOCK 8 STEPS 23 ENTRIES 14 COUNT 0\n";
+    let last =
+        "\nQUEUE L CONTENT 0 MAX 1 ENTRIES 2 AVG 0.500\nFACILITY F ENTRIES 2 OWNER 0 WAIT 0 UTIL 1.000\n";
+    assert!(rt; shows(text.as_slice(), first, last));
+    Ok(())
+}
+
+#[test]
+fn a_full_storage_is_reported_with_its_waiters(rt: HostRuntime) -> Result<(), Fail> {
+    let text = reported(rt.alloc(), ENTERING, 1_000, 1_000)?;
+    let first = "END Done CLOCK 20 STEPS 26 ENTRIES 11 COUNT 0\n";
+    let last = "\nSTORAGE S CAP 3 CONTENT 3 MAX 3 ENTRIES 4 WAIT 2 AVG 3.000\n";
+    assert!(rt; shows(text.as_slice(), first, last));
+    Ok(())
+}
+
+#[test]
+fn an_owned_facility_is_reported_with_its_owner_and_leading_zeros(
+    rt: HostRuntime,
+) -> Result<(), Fail> {
+    let text = reported(rt.alloc(), OWNING, 1_000, 1_000)?;
+    let first = "END Done CLOCK 1000 STEPS 13 ENTRIES 6 COUNT 0\n";
+    let last = "\nFACILITY F ENTRIES 1 OWNER 1 WAIT 1 UTIL 0.005\n";
+    assert!(rt; shows(text.as_slice(), first, last));
+    Ok(())
+}

@@ -1,0 +1,323 @@
+//! Chains and lists worked by hand.
+
+use crate::models::first_wrong;
+use gw_chains::{Cec, Fec, Memory, Tx, UserChains, Waits};
+use std::alloc::Global;
+use std::test::Fail;
+use std::time::{Duration, Instant};
+
+/// The most transactions that may live at once.
+const MOST: u64 = 65_536;
+
+fn tx(number: u64) -> Tx {
+    Tx { place: 0, number }
+}
+
+/// Puts a transaction behind its peers, or ahead of them.
+fn insert(chain: &mut Cec, number: u64, priority: i32, is_ahead: bool) -> Result<(), Memory> {
+    chain.reserve(1)?;
+    if is_ahead {
+        chain.insert_ahead(tx(number), priority);
+    } else {
+        chain.insert_behind(tx(number), priority);
+    }
+    Ok(())
+}
+
+/// A chain that these joined in order. Of each: its number, its priority, and whether it went ahead of its peers.
+fn chain_of(alloc: Global, newcomers: &[(u64, i32, bool)]) -> Result<Cec, Memory> {
+    let mut chain = Cec::new(alloc);
+    for (number, priority, is_ahead) in newcomers {
+        insert(&mut chain, *number, *priority, *is_ahead)?;
+    }
+    Ok(chain)
+}
+
+/// Whether the members of a chain have these numbers, in the order in which they leave.
+fn leave_in_order(chain: &mut Cec, numbers: &[u64]) -> bool {
+    if chain.len() != numbers.len() {
+        return false;
+    }
+    for number in numbers {
+        if chain.pop_first() != Some(tx(*number)) {
+            return false;
+        }
+    }
+    chain.pop_first().is_none()
+}
+
+#[test]
+fn current_events_chain_goes_by_priority(rt: HostRuntime) -> Result<(), Fail> {
+    const NEWCOMERS: &[(u64, i32, bool)] = &[
+        (1, 0, false),
+        (2, 5, false),
+        (3, 0, true),
+        (4, 5, false),
+    ];
+    assert!(rt; Cec::new(rt.alloc()).is_empty());
+    let mut chain = chain_of(rt.alloc(), NEWCOMERS)?;
+    assert!(rt; leave_in_order(&mut chain, &[2, 4, 3, 1]));
+    Ok(())
+}
+
+/// A chain on which these are scheduled, by number and time.
+fn scheduled(alloc: Global, events: &[(u64, i64)]) -> Result<Fec, Memory> {
+    let mut chain = Fec::new(alloc);
+    for (number, time) in events {
+        chain.reserve(1)?;
+        chain.schedule(tx(*number), *time);
+    }
+    Ok(chain)
+}
+
+/// The place, from 0, of the first of these calls by which another is taken. A call is the time up to which one may be
+/// due, and the number of the one that is.
+fn wrong_pop(chain: &mut Fec, calls: &[(i64, Option<Tx>)]) -> Option<usize> {
+    for i in 0..calls.len() {
+        let (time, due) = calls[i];
+        if chain.pop_due(time) != due {
+            return Some(i);
+        }
+    }
+    None
+}
+
+/// Which answers are right of a chain on which 1 and 3 are scheduled for 9, and 2 for 4.
+fn future_events(chain: &mut Fec) -> [bool; 4] {
+    let calls = [
+        (8, Some(tx(2))),
+        (8, None),
+        (9, Some(tx(1))),
+        (9, Some(tx(3))),
+        (9, None),
+    ];
+    [
+        chain.len() == 3,
+        chain.first_time() == Some(4),
+        wrong_pop(chain, &calls).is_none(),
+        chain.first_time().is_none(),
+    ]
+}
+
+#[test]
+fn future_events_chain_goes_by_time(rt: HostRuntime) -> Result<(), Fail> {
+    let mut chain = scheduled(rt.alloc(), &[(1, 9), (2, 4), (3, 9)])?;
+    assert!(rt; first_wrong(&future_events(&mut chain)).is_none());
+    Ok(())
+}
+
+/// Puts these on the delay lists of their entities. Of each: the entity, its number, and its priority.
+fn delay(waits: &mut Waits, waiters: &[(u16, u64, i32)]) -> Result<(), Memory> {
+    for (entity, number, priority) in waiters {
+        waits.reserve(1)?;
+        waits.push_wait(*entity, tx(*number), *priority);
+    }
+    Ok(())
+}
+
+/// Puts these on the retry list, by number and priority.
+fn retry(waits: &mut Waits, waiters: &[(u64, i32)]) -> Result<(), Memory> {
+    for (number, priority) in waiters {
+        waits.reserve(1)?;
+        waits.push_retry(tx(*number), *priority);
+    }
+    Ok(())
+}
+
+/// Whether the delay list of an entity has these numbers, in order.
+fn is_list(waits: &Waits, entity: u16, numbers: &[u64]) -> bool {
+    if waits.waiting(entity) != numbers.len() {
+        return false;
+    }
+    for i in 0..numbers.len() {
+        if waits.waiter(entity, i) != Some(tx(numbers[i])) {
+            return false;
+        }
+    }
+    waits.waiter(entity, numbers.len()).is_none()
+}
+
+/// Removes the member at a place, from 0, of the delay list of an entity, if there is one.
+fn remove(waits: &mut Waits, entity: u16, place: usize) -> bool {
+    if waits.waiting(entity) <= place {
+        return false;
+    }
+    waits.remove(entity, place);
+    true
+}
+
+/// Which answers are right of lists on which 2, 4 and 1 wait for entity 3, 3 waits for entity 7, and one for anything.
+fn delay_lists(waits: &mut Waits) -> [bool; 8] {
+    [
+        waits.len() == 5,
+        waits.retrying() == 1,
+        is_list(waits, 3, &[2, 4, 1]),
+        is_list(waits, 7, &[3]),
+        remove(waits, 3, 1),
+        waits.len() == 4,
+        is_list(waits, 3, &[2, 1]),
+        is_list(waits, 7, &[3]),
+    ]
+}
+
+#[test]
+fn delay_lists_keep_their_entities_apart(rt: HostRuntime) -> Result<(), Fail> {
+    let mut waits = Waits::new(rt.alloc());
+    delay(&mut waits, &[(3, 1, 0), (3, 2, 5), (7, 3, 1), (3, 4, 5)])?;
+    retry(&mut waits, &[(5, 2)])?;
+    assert!(rt; first_wrong(&delay_lists(&mut waits)).is_none());
+    Ok(())
+}
+
+/// Moves the whole retry list to a chain; whether it was left empty.
+fn wake(waits: &mut Waits, chain: &mut Cec) -> Result<bool, Memory> {
+    chain.reserve(waits.retrying())?;
+    waits.wake_all(chain);
+    Ok(waits.retrying() == 0)
+}
+
+#[test]
+fn waking_goes_in_order_and_behind_peers(rt: HostRuntime) -> Result<(), Fail> {
+    let mut chain = chain_of(rt.alloc(), &[(1, 0, false), (2, 5, false)])?;
+    let mut waits = Waits::new(rt.alloc());
+    retry(&mut waits, &[(3, 0), (4, 5), (5, 0)])?;
+    let are_woken = wake(&mut waits, &mut chain)?;
+    assert!(rt; are_woken && leave_in_order(&mut chain, &[2, 4, 1, 3, 5]));
+    Ok(())
+}
+
+/// Puts a transaction at the front of a user chain, or at its back.
+fn link(chains: &mut UserChains, chain: u16, number: u64, is_front: bool) -> Result<(), Memory> {
+    chains.reserve(1)?;
+    if is_front {
+        chains.push_front(chain, tx(number));
+    } else {
+        chains.push_back(chain, tx(number));
+    }
+    Ok(())
+}
+
+/// Chains that these joined in order. Of each: the chain, its number, and whether it went to the front.
+fn linked(alloc: Global, newcomers: &[(u16, u64, bool)]) -> Result<UserChains, Memory> {
+    let mut chains = UserChains::new(alloc);
+    for (chain, number, is_front) in newcomers {
+        link(&mut chains, *chain, *number, *is_front)?;
+    }
+    Ok(chains)
+}
+
+/// Whether the members of a user chain have these numbers, in the order in which they are unlinked.
+fn unlink_in_order(chains: &mut UserChains, chain: u16, numbers: &[u64]) -> bool {
+    if chains.members(chain) != numbers.len() {
+        return false;
+    }
+    for number in numbers {
+        if chains.unlink(chain) != Some(tx(*number)) {
+            return false;
+        }
+    }
+    chains.unlink(chain).is_none()
+}
+
+/// Which answers are right of chains of which 2 has the members 3, 1 and 2, and 6 the member 4.
+fn two_chains(chains: &mut UserChains) -> [bool; 6] {
+    [
+        chains.len() == 4,
+        chains.members(6) == 1,
+        chains.members(5) == 0,
+        unlink_in_order(chains, 2, &[3, 1, 2]),
+        unlink_in_order(chains, 6, &[4]),
+        chains.len() == 0,
+    ]
+}
+
+#[test]
+fn user_chains_have_two_ends(rt: HostRuntime) -> Result<(), Fail> {
+    const NEWCOMERS: &[(u16, u64, bool)] = &[
+        (2, 1, false),
+        (2, 2, false),
+        (2, 3, true),
+        (6, 4, true),
+    ];
+    let mut chains = linked(rt.alloc(), NEWCOMERS)?;
+    assert!(rt; first_wrong(&two_chains(&mut chains)).is_none());
+    Ok(())
+}
+
+/// A chain that as many as may live joined, of equal priority.
+fn crowd(alloc: Global) -> Result<Cec, Memory> {
+    let mut chain = Cec::new(alloc);
+    for number in 0..MOST {
+        insert(&mut chain, number, 0, false)?;
+    }
+    Ok(chain)
+}
+
+/// The first number, from 0 on, as which another one leaves the chain.
+fn out_of_turn(chain: &mut Cec) -> Option<u64> {
+    for number in 0..MOST {
+        if chain.pop_first() != Some(tx(number)) {
+            return Some(number);
+        }
+    }
+    None
+}
+
+#[test]
+fn as_many_as_may_live_join_behind_their_peers_within_a_second(
+    rt: HostRuntime,
+) -> Result<(), Fail> {
+    let start = Instant::now(&rt)?;
+    let mut chain = crowd(rt.alloc())?;
+    assert!(rt; start.elapsed(&rt)? < Duration::from_secs(1));
+    assert!(rt; out_of_turn(&mut chain).is_none());
+    Ok(())
+}
+
+/// A retry list with as many as may live.
+fn crowded_retry_list(alloc: Global) -> Result<Waits, Memory> {
+    let mut waits = Waits::new(alloc);
+    for number in 0..MOST {
+        waits.reserve(1)?;
+        waits.push_retry(tx(number), 0);
+    }
+    Ok(waits)
+}
+
+#[test]
+fn as_many_as_may_live_wake_within_a_second(rt: HostRuntime) -> Result<(), Fail> {
+    let mut waits = crowded_retry_list(rt.alloc())?;
+    let mut chain = Cec::new(rt.alloc());
+    let start = Instant::now(&rt)?;
+    let are_woken = wake(&mut waits, &mut chain)?;
+    assert!(rt; start.elapsed(&rt)? < Duration::from_secs(1));
+    assert!(rt; are_woken && chain.len() == 65_536 && chain.pop_first() == Some(tx(0)));
+    Ok(())
+}
+
+/// User chains with as many as may live on one of them.
+fn crowded_user_chain(alloc: Global) -> Result<UserChains, Memory> {
+    let mut chains = UserChains::new(alloc);
+    for number in 0..MOST {
+        link(&mut chains, 1, number, false)?;
+    }
+    Ok(chains)
+}
+
+/// Unlinks as many as may live from one chain; how many are left.
+fn unlink_all(chains: &mut UserChains) -> usize {
+    for _ in 0..MOST {
+        let _ = chains.unlink(1);
+    }
+    chains.len()
+}
+
+#[test]
+fn as_many_as_may_live_are_unlinked_within_a_second(rt: HostRuntime) -> Result<(), Fail> {
+    let mut chains = crowded_user_chain(rt.alloc())?;
+    let start = Instant::now(&rt)?;
+    let left = unlink_all(&mut chains);
+    assert!(rt; start.elapsed(&rt)? < Duration::from_secs(1));
+    assert!(rt; left == 0);
+    Ok(())
+}

@@ -1,0 +1,423 @@
+//! Entities worked out by hand.
+
+ghost use Rattle.std.specs.Prelude.{◌≡◌, length, IfOk};
+
+use crate::models::{built, first_wrong, parts, three_entities};
+use gw_entities::{Average, Contents, Facilities, Facility, Queues, Stop, Storage, Storages};
+use gw_object::Object;
+use std::alloc::Global;
+use std::test::Fail;
+
+/// The last clock time.
+const LAST: u64 = 9_223_372_036_854_775_807;
+
+/// An average, as `q.ddd`.
+fn average(whole: u64, thousandths: u16) -> Average {
+    Average { whole, thousandths }
+}
+
+/// An object whose entities are a facility, number 0, a storage of 3 units, number 1, and a queue, number 2.
+fn object(alloc: Global) -> Result<Object, Fail>
+    ensures { IfOk result (λ o. length o.entities ≡ 3) }
+{
+    let entities = three_entities(alloc, 3)?;
+    let parts = parts(alloc, entities, Vec::new(alloc), Vec::new(alloc))?;
+    built(parts)
+}
+
+/// What is done with the facility, and what is then to be seen.
+#[derive(Clone, Copy)]
+enum FacilityStep {
+    /// A transaction seizes it, which answers so.
+    Seize(u64, Result<bool, Stop>),
+    /// A transaction releases it, which answers so.
+    Release(u64, Result<(), Stop>),
+    /// So many clock units pass.
+    Pass(u64),
+    /// Whether a transaction owns any facility.
+    OwnsAny(u64, bool),
+    /// Its owner, its entries, how long it was owned, and its utilisation.
+    Reads(Option<u64>, u64, u128, (u64, u16)),
+}
+
+/// The facility of that object, and the clock time.
+#[derive(Drop)]
+struct OneFacility {
+    facilities: Facilities,
+    clock: u64,
+    ghost three: { length facilities.facilities ≡ 3 },
+    ghost now: { facilities.passed ≡ clock },
+}
+
+impl OneFacility {
+    fn new(alloc: Global) -> Result<OneFacility, Fail> {
+        let facilities = Facilities::new(alloc, &object(alloc)?)?;
+        Ok(OneFacility {
+            facilities,
+            clock: 0,
+        })
+    }
+
+    /// Whether a transaction that seizes it, at most the hundredth time, is answered so.
+    fn seizes(&mut self, xn: u64, seized: Result<bool, Stop>) -> bool {
+        if 100 <= self.facilities.get(0).entries {
+            return false;
+        }
+        self.facilities.seize(0, xn) == seized
+    }
+
+    /// Lets so many clock units pass, if there are as many.
+    fn passes(&mut self, dt: u64) -> bool {
+        if self.clock > LAST || dt > LAST - self.clock {
+            return false;
+        }
+        self.facilities.pass_time(dt);
+        self.clock += dt;
+        true
+    }
+
+    fn reads(&self, facility: Facility, average: Average) -> bool {
+        self.facilities.get(0) == facility && self.facilities.average(0) == average
+    }
+
+    /// Whether a step goes as it says.
+    fn follows(&mut self, step: &FacilityStep) -> bool {
+        match step {
+            FacilityStep::Seize(xn, seized) => self.seizes(*xn, *seized),
+            FacilityStep::Release(xn, released) => self.facilities.release(0, *xn) == *released,
+            FacilityStep::Pass(dt) => self.passes(*dt),
+            FacilityStep::OwnsAny(xn, owns) => self.facilities.owns_any(*xn) == *owns,
+            FacilityStep::Reads(owner, entries, busy, (whole, thousandths)) => {
+                let facility = Facility {
+                    owner: *owner,
+                    entries: *entries,
+                    busy: *busy,
+                };
+                self.reads(facility, average(*whole, *thousandths))
+            }
+        }
+    }
+
+    /// The place, from 0, of the first step that goes otherwise.
+    fn wrong_step(&mut self, steps: &[FacilityStep]) -> Option<usize> {
+        for i in 0..steps.len() {
+            if !self.follows(&steps[i]) {
+                return Some(i);
+            }
+        }
+        None
+    }
+}
+
+/// What is done with the storage, and what is then to be seen.
+#[derive(Clone, Copy)]
+enum StorageStep {
+    /// So many units enter, which answers so.
+    Enter(u32, Result<bool, Stop>),
+    /// So many units leave, which answers so.
+    Leave(u32, Result<(), Stop>),
+    /// So many clock units pass.
+    Pass(u64),
+    /// The content, the maximum and the entries, the sum of content times time, and the average.
+    Reads(u64, u64, u64, u128, (u64, u16)),
+}
+
+/// The storage of that object, and the clock time.
+#[derive(Drop)]
+struct OneStorage {
+    storages: Storages,
+    clock: u64,
+    ghost three: { length storages.storages ≡ 3 },
+    ghost now: { storages.passed ≡ clock },
+}
+
+impl OneStorage {
+    fn new(alloc: Global) -> Result<OneStorage, Fail> {
+        let storages = Storages::new(alloc, &object(alloc)?)?;
+        Ok(OneStorage { storages, clock: 0 })
+    }
+
+    /// Whether so many units that enter are answered so, where no more than a hundred entered before.
+    fn enters(&mut self, n: u32, entered: Result<bool, Stop>) -> bool {
+        if 100 <= self.storages.get(1).contents.entries {
+            return false;
+        }
+        self.storages.enter(1, n) == entered
+    }
+
+    /// Lets so many clock units pass, if there are as many.
+    fn passes(&mut self, dt: u64) -> bool {
+        if self.clock > LAST || dt > LAST - self.clock {
+            return false;
+        }
+        self.storages.pass_time(dt);
+        self.clock += dt;
+        true
+    }
+
+    fn reads(&self, contents: Contents, average: Average) -> bool {
+        let storage = Storage {
+            capacity: 3,
+            contents,
+        };
+        self.storages.get(1) == storage && self.storages.average(1) == average
+    }
+
+    /// Whether a step goes as it says.
+    fn follows(&mut self, step: &StorageStep) -> bool {
+        match step {
+            StorageStep::Enter(n, entered) => self.enters(*n, *entered),
+            StorageStep::Leave(n, left) => self.storages.leave(1, *n) == *left,
+            StorageStep::Pass(dt) => self.passes(*dt),
+            StorageStep::Reads(content, maximum, entries, time_sum, (whole, thousandths)) => {
+                let contents = Contents {
+                    content: *content,
+                    maximum: *maximum,
+                    entries: *entries,
+                    time_sum: *time_sum,
+                };
+                self.reads(contents, average(*whole, *thousandths))
+            }
+        }
+    }
+
+    /// The place, from 0, of the first step that goes otherwise.
+    fn wrong_step(&mut self, steps: &[StorageStep]) -> Option<usize> {
+        for i in 0..steps.len() {
+            if !self.follows(&steps[i]) {
+                return Some(i);
+            }
+        }
+        None
+    }
+}
+
+/// What is done with the queue, and what is then to be seen.
+#[derive(Clone, Copy)]
+enum QueueStep {
+    /// So many units join, which answers so.
+    Join(u32, Result<(), Stop>),
+    /// So many units depart, which answers so.
+    Depart(u32, Result<(), Stop>),
+    /// So many clock units pass.
+    Pass(u64),
+    /// The content, the maximum and the entries, the sum of content times time, and the average.
+    Reads(u64, u64, u64, u128, (u64, u16)),
+}
+
+/// The queue of that object, and the clock time.
+#[derive(Drop)]
+struct OneQueue {
+    queues: Queues,
+    clock: u64,
+    ghost three: { length queues.queues ≡ 3 },
+    ghost now: { queues.passed ≡ clock },
+}
+
+impl OneQueue {
+    fn new(alloc: Global) -> Result<OneQueue, Fail> {
+        let queues = Queues::new(alloc, &object(alloc)?)?;
+        Ok(OneQueue { queues, clock: 0 })
+    }
+
+    /// Lets so many clock units pass, if there are as many.
+    fn passes(&mut self, dt: u64) -> bool {
+        if self.clock > LAST || dt > LAST - self.clock {
+            return false;
+        }
+        self.queues.pass_time(dt);
+        self.clock += dt;
+        true
+    }
+
+    fn reads(&self, contents: Contents, average: Average) -> bool {
+        self.queues.get(2) == contents && self.queues.average(2) == average
+    }
+
+    /// Whether a step goes as it says.
+    fn follows(&mut self, step: &QueueStep) -> bool {
+        match step {
+            QueueStep::Join(n, joined) => self.queues.join_queue(2, *n) == *joined,
+            QueueStep::Depart(n, departed) => self.queues.depart(2, *n) == *departed,
+            QueueStep::Pass(dt) => self.passes(*dt),
+            QueueStep::Reads(content, maximum, entries, time_sum, (whole, thousandths)) => {
+                let contents = Contents {
+                    content: *content,
+                    maximum: *maximum,
+                    entries: *entries,
+                    time_sum: *time_sum,
+                };
+                self.reads(contents, average(*whole, *thousandths))
+            }
+        }
+    }
+
+    /// The place, from 0, of the first step that goes otherwise.
+    fn wrong_step(&mut self, steps: &[QueueStep]) -> Option<usize> {
+        for i in 0..steps.len() {
+            if !self.follows(&steps[i]) {
+                return Some(i);
+            }
+        }
+        None
+    }
+
+    /// Lets four thousand million units join so often; whether they all could.
+    fn fills(&mut self, times: u32) -> bool {
+        for _ in 0..times {
+            if self.queues.join_queue(2, 4_000_000_000).is_err() {
+                return false;
+            }
+        }
+        true
+    }
+}
+
+/// The place, from 0, of the first step that goes otherwise with the facility.
+fn wrong_facility_step(alloc: Global, steps: &[FacilityStep]) -> Result<Option<usize>, Fail> {
+    let mut facility = OneFacility::new(alloc)?;
+    Ok(facility.wrong_step(steps))
+}
+
+/// The place, from 0, of the first step that goes otherwise with the storage.
+fn wrong_storage_step(alloc: Global, steps: &[StorageStep]) -> Result<Option<usize>, Fail> {
+    let mut storage = OneStorage::new(alloc)?;
+    Ok(storage.wrong_step(steps))
+}
+
+/// The place, from 0, of the first step that goes otherwise with the queue.
+fn wrong_queue_step(alloc: Global, steps: &[QueueStep]) -> Result<Option<usize>, Fail> {
+    let mut queue = OneQueue::new(alloc)?;
+    Ok(queue.wrong_step(steps))
+}
+
+#[test]
+fn a_facility_is_its_owners_until_it_is_released(rt: HostRuntime) -> Result<(), Fail> {
+    const STEPS: &[FacilityStep] = &[
+        FacilityStep::Seize(7, Ok(true)),
+        FacilityStep::OwnsAny(7, true),
+        FacilityStep::OwnsAny(8, false),
+        FacilityStep::Seize(8, Ok(false)),
+        FacilityStep::Seize(7, Err(Stop::AlreadyOwned)),
+        FacilityStep::Release(8, Err(Stop::NotOwner)),
+        FacilityStep::Reads(Some(7), 1, 0, (0, 0)),
+        FacilityStep::Release(7, Ok(())),
+        FacilityStep::Release(7, Err(Stop::NotOwner)),
+        FacilityStep::Reads(None, 1, 0, (0, 0)),
+    ];
+    assert!(rt; wrong_facility_step(rt.alloc(), STEPS)?.is_none());
+    Ok(())
+}
+
+#[test]
+fn a_facility_owned_all_the_time_has_utilisation_1(rt: HostRuntime) -> Result<(), Fail> {
+    const STEPS: &[FacilityStep] = &[
+        FacilityStep::Seize(1, Ok(true)),
+        FacilityStep::Pass(8),
+        FacilityStep::Reads(Some(1), 1, 8, (1, 0)),
+        FacilityStep::Release(1, Ok(())),
+        FacilityStep::Pass(4),
+        FacilityStep::Reads(None, 1, 8, (0, 666)),
+    ];
+    assert!(rt; wrong_facility_step(rt.alloc(), STEPS)?.is_none());
+    Ok(())
+}
+
+#[test]
+fn a_storage_of_3_that_is_always_full_has_average_3(rt: HostRuntime) -> Result<(), Fail> {
+    const STEPS: &[StorageStep] = &[
+        StorageStep::Enter(3, Ok(true)),
+        StorageStep::Pass(10),
+        StorageStep::Leave(1, Ok(())),
+        StorageStep::Enter(1, Ok(true)),
+        StorageStep::Pass(10),
+        StorageStep::Reads(3, 3, 4, 60, (3, 0)),
+    ];
+    assert!(rt; wrong_storage_step(rt.alloc(), STEPS)?.is_none());
+    Ok(())
+}
+
+#[test]
+fn a_storage_holds_no_more_than_its_capacity(rt: HostRuntime) -> Result<(), Fail> {
+    const STEPS: &[StorageStep] = &[
+        StorageStep::Enter(4, Err(Stop::OverCapacity)),
+        StorageStep::Enter(2, Ok(true)),
+        StorageStep::Enter(2, Ok(false)),
+        StorageStep::Leave(3, Err(Stop::TooFew)),
+        StorageStep::Leave(2, Ok(())),
+        StorageStep::Reads(0, 2, 2, 0, (0, 0)),
+    ];
+    assert!(rt; wrong_storage_step(rt.alloc(), STEPS)?.is_none());
+    Ok(())
+}
+
+#[test]
+fn a_queue_of_one_unit_for_half_the_time_has_average_one_half(rt: HostRuntime) -> Result<(), Fail> {
+    const STEPS: &[QueueStep] = &[
+        QueueStep::Join(1, Ok(())),
+        QueueStep::Pass(4),
+        QueueStep::Depart(1, Ok(())),
+        QueueStep::Pass(4),
+        QueueStep::Reads(0, 1, 1, 4, (0, 500)),
+    ];
+    assert!(rt; wrong_queue_step(rt.alloc(), STEPS)?.is_none());
+    Ok(())
+}
+
+#[test]
+fn a_queue_counts_units(rt: HostRuntime) -> Result<(), Fail> {
+    const STEPS: &[QueueStep] = &[
+        QueueStep::Join(5, Ok(())),
+        QueueStep::Depart(6, Err(Stop::TooFew)),
+        QueueStep::Depart(3, Ok(())),
+        QueueStep::Join(1, Ok(())),
+        QueueStep::Reads(3, 5, 6, 0, (0, 0)),
+    ];
+    assert!(rt; wrong_queue_step(rt.alloc(), STEPS)?.is_none());
+    Ok(())
+}
+
+/// Which entities of that object are what they are by their numbers.
+fn entities_by_number(alloc: Global) -> Result<[bool; 4], Fail> {
+    let facility = OneFacility::new(alloc)?;
+    let storage = OneStorage::new(alloc)?;
+    let queue = OneQueue::new(alloc)?;
+    Ok([
+        facility.facilities.get(2).owner.is_none(),
+        storage.storages.get(0).capacity == 0,
+        storage.storages.get(1).capacity == 3,
+        queue.queues.get(1).content == 0,
+    ])
+}
+
+#[test]
+fn each_entity_has_the_number_of_the_object(rt: HostRuntime) -> Result<(), Fail> {
+    let are_right = entities_by_number(rt.alloc())?;
+    assert!(rt; first_wrong(&are_right).is_none());
+    Ok(())
+}
+
+/// The averages of 37,200 million million units where all were inside all the time, and where then one departs for one
+/// clock unit.
+///
+/// A thousand times their sum of content times time is more than 2^128.
+fn crowded_averages(queue: &mut OneQueue) -> Option<[Average; 2]> {
+    if !(queue.fills(9_300_000) && queue.passes(LAST - 1)) {
+        return None;
+    }
+    let all_stayed = queue.queues.average(2);
+    if queue.queues.depart(2, 1).is_ok() && queue.passes(1) {
+        Some([all_stayed, queue.queues.average(2)])
+    } else {
+        None
+    }
+}
+
+#[test]
+fn an_average_is_exact_where_a_thousand_times_its_sum_is_not(rt: HostRuntime) -> Result<(), Fail> {
+    let mut queue = OneQueue::new(rt.alloc())?;
+    let most = 37_200_000_000_000_000;
+    let averages = [average(most, 0), average(most - 1, 999)];
+    assert!(rt; crowded_averages(&mut queue) == Some(averages));
+    Ok(())
+}

@@ -1,0 +1,39 @@
+//! Flow: objects of a few blocks with their state tables, and the names of codes.
+
+mod edges;
+mod large;
+mod passing;
+mod refusals;
+mod tables;
+
+use gw_flow::codes;
+
+/// The first of these codes that has another name.
+fn wrong_name(names: &[(u16, Option<&'static str>)]) -> Option<u16> {
+    for (code, name) in names {
+        if codes::name(*code) != *name {
+            return Some(*code);
+        }
+    }
+    None
+}
+
+#[test]
+fn each_code_has_its_name(rt: HostRuntime) {
+    const NAMES: &[(u16, Option<&'static str>)] = &[
+        (21, Some("AlreadyOwned")),
+        (22, Some("NotOwner")),
+        (23, Some("TooFewUnits")),
+        (24, Some("OwnsAtEnd")),
+        (25, Some("EdgeState")),
+        (28, Some("OverCapacity")),
+        (0, None),
+        (8, None),
+        (10, None),
+        (20, None),
+        (26, None),
+        (27, None),
+        (29, None),
+    ];
+    assert!(rt; wrong_name(NAMES).is_none());
+}

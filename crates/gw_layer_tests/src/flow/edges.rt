@@ -1,0 +1,229 @@
+//! The edges of each kind of block, and the rules that go before them.
+
+ghost use Rattle.std.specs.Prelude.{◌≡◌, ◌≤◌, ◌^◌, is_some, IfOk, All};
+ghost use Rattle.gw_flow.specs.Rows.{HasRoom};
+ghost use Rattle.gw_flow.specs.Seen.{row_of};
+ghost use Rattle.gw_kinds.specs.Kinds.{block_at};
+
+use crate::flow::tables::*;
+use crate::models::*;
+use gw_flow::{AbsState, Amount, Edge, Target, out_edges};
+use gw_object::{Block, Fault, Items, Memory, Object, Units};
+use std::alloc::Global;
+use std::test::Fail;
+
+/// An edge: the block to which it leads, and the facilities and the amounts that its state carries.
+type Expected<'a> = (u16, &'a [u16], &'a [Amount]);
+
+fn to<'a>(block: u16, facilities: &'a [u16], units: &'a [Amount]) -> Expected<'a> {
+    (block, facilities, units)
+}
+
+fn amount(entity: u16, number: u64) -> Amount {
+    Amount { entity, number }
+}
+
+/// Whether there is a block of this number.
+fn is_block(object: &Object, number: u16) -> bool
+    ensures { result ≡ is_some (block_at object.now.blocks number) }
+{
+    number != 0 && number as usize <= object.parts().blocks.as_slice().len()
+}
+
+/// The amounts of a row.
+fn amounts_of(alloc: Global, units: &[Units]) -> Result<Vec<Amount>, Memory>
+    ensures { IfOk result (λ amounts. All (λ (a : Amount). a.number ≤ 2 ^ 62) amounts.items) }
+{
+    let mut amounts = Vec::new(alloc);
+    for held in units {
+        amounts.push(Amount {
+            entity: held.entity,
+            number: u64::from(held.number),
+        })?;
+    }
+    Ok(amounts)
+}
+
+/// What is known of a transaction in a state as a row says it.
+fn state_of(alloc: Global, row: Row) -> Result<AbsState, Memory>
+    ensures { IfOk result (λ state. HasRoom (row_of state)) }
+{
+    let (facilities, units) = row;
+    Ok(AbsState {
+        parameters: Items::from_vec(Vec::new(alloc)),
+        facilities: Items::from_vec(Vec::from_slice(alloc, facilities)?),
+        units: Items::from_vec(amounts_of(alloc, units)?),
+    })
+}
+
+/// An object of three blocks with no rows, of which the second is this one.
+fn three_blocks(alloc: Global, second: Block) -> Result<Object, Fail> {
+    let blocks = Vec::from_slice(alloc, &[GENERATE, second, TERMINATE])?;
+    object_of(alloc, blocks, no_states(alloc, 3)?)
+}
+
+/// Whether an edge is this one, of code 25.
+fn is_edge(edge: &Edge, expected: &Expected) -> bool {
+    let (block, facilities, units) = *expected;
+    edge.code == 25
+        && edge.target == Target::Block(block)
+        && edge.state.parameters.as_slice().is_empty()
+        && edge.state.facilities.as_slice() == facilities
+        && edge.state.units.as_slice() == units
+}
+
+/// Whether edges are these, in order.
+fn are_edges(edges: &[Edge], expected: &[Expected]) -> bool {
+    if edges.len() != expected.len() {
+        return false;
+    }
+    for i in 0..expected.len() {
+        if !is_edge(&edges[i], &expected[i]) {
+            return false;
+        }
+    }
+    true
+}
+
+/// Whether these are the edges of the second block of an object in a state, in order.
+fn second_leads(alloc: Global, object: &Object, state: &AbsState, expected: &[Expected]) -> bool
+    requires { HasRoom (row_of state.now) }
+{
+    if !is_block(object, 2) {
+        return false;
+    }
+    match out_edges(alloc, object, 2, state) {
+        Ok(edges) => are_edges(&edges, expected),
+        Err(_) => false,
+    }
+}
+
+/// Whether these are the edges of a block, the second of three, in a state as a row says it, in order.
+fn leads(alloc: Global, block: Block, row: Row, expected: &[Expected]) -> Result<bool, Fail> {
+    let state = state_of(alloc, row)?;
+    let object = three_blocks(alloc, block)?;
+    Ok(second_leads(alloc, &object, &state, expected))
+}
+
+/// The fault of the rules of the second block of an object in a state, if it has one.
+fn second_fault(alloc: Global, object: &Object, state: &AbsState) -> Option<Fault>
+    requires { HasRoom (row_of state.now) }
+{
+    if !is_block(object, 2) {
+        return None;
+    }
+    out_edges(alloc, object, 2, state).err()
+}
+
+/// The fault of the rules of a block, the second of three, in a state as a row says it, if it has one.
+fn broken(alloc: Global, block: Block, row: Row) -> Result<Option<Fault>, Fail> {
+    let state = state_of(alloc, row)?;
+    let object = three_blocks(alloc, block)?;
+    Ok(second_fault(alloc, &object, &state))
+}
+
+#[test]
+fn seize_adds_its_facility_in_its_place(rt: HostRuntime) -> Result<(), Fail> {
+    let held = [units!(Q, 1)];
+    let carried = [amount(Q, 1)];
+    let edges = [to(3, &[F, G], &carried)];
+    let leads = leads(rt.alloc(), Block::Seize(F), row(&[G], &held), &edges)?;
+    assert!(rt; leads);
+    Ok(())
+}
+
+#[test]
+fn release_takes_its_facility_away(rt: HostRuntime) -> Result<(), Fail> {
+    let held = [units!(S, 2)];
+    let carried = [amount(S, 2)];
+    let edges = [to(3, &[G], &carried)];
+    let leads = leads(rt.alloc(), Block::Release(F), row(&[F, G], &held), &edges)?;
+    assert!(rt; leads);
+    Ok(())
+}
+
+#[test]
+fn enter_and_queue_add_their_units(rt: HostRuntime) -> Result<(), Fail> {
+    let held = [units!(S, 2), units!(Q, 1)];
+    let row = row(&[F], &held);
+    let entered = [amount(S, 5), amount(Q, 1)];
+    let queued = [amount(S, 2), amount(Q, 5)];
+    let is_entered = leads(
+        rt.alloc(),
+        Block::Enter(units!(S, 3)),
+        row,
+        &[to(3, &[F], &entered)],
+    )?;
+    let is_queued = leads(
+        rt.alloc(),
+        Block::Queue(units!(Q, 4)),
+        row,
+        &[to(3, &[F], &queued)],
+    )?;
+    assert!(rt; is_entered && is_queued);
+    Ok(())
+}
+
+#[test]
+fn leave_and_depart_take_their_units_away(rt: HostRuntime) -> Result<(), Fail> {
+    let held = [units!(S, 3), units!(Q, 1)];
+    let row = row(&[], &held);
+    let left = [amount(S, 1), amount(Q, 1)];
+    let departed = [amount(S, 3)];
+    let is_left = leads(
+        rt.alloc(),
+        Block::Leave(units!(S, 2)),
+        row,
+        &[to(3, &[], &left)],
+    )?;
+    let is_departed = leads(
+        rt.alloc(),
+        Block::Depart(units!(Q, 1)),
+        row,
+        &[to(3, &[], &departed)],
+    )?;
+    assert!(rt; is_left && is_departed);
+    Ok(())
+}
+
+#[test]
+fn transfer_carries_all_to_its_target(rt: HostRuntime) -> Result<(), Fail> {
+    let held = [units!(S, 1)];
+    let carried = [amount(S, 1)];
+    let edges = [to(4095, &[F], &carried)];
+    let leads = leads(rt.alloc(), Block::Transfer(4095), row(&[F], &held), &edges)?;
+    assert!(rt; leads);
+    Ok(())
+}
+
+#[test]
+fn transfer_by_fraction_leads_first_the_other_way(rt: HostRuntime) -> Result<(), Fail> {
+    let row = row(&[F], &[]);
+    let to_next = [to(3, &[F], &[]), to(9, &[F], &[])];
+    let to_other = [to(8, &[F], &[]), to(7, &[F], &[])];
+    let is_to_next_first = leads(rt.alloc(), by_fraction!(500, None, 9), row, &to_next)?;
+    let is_to_other_first = leads(rt.alloc(), by_fraction!(500, Some(8), 7), row, &to_other)?;
+    assert!(rt; is_to_next_first && is_to_other_first);
+    Ok(())
+}
+
+#[test]
+fn terminate_leads_nowhere_and_advance_to_the_next(rt: HostRuntime) -> Result<(), Fail> {
+    let held = [units!(Q, 7)];
+    let row = row(&[], &held);
+    let carried = [amount(Q, 7)];
+    let to_next = [to(3, &[], &carried)];
+    let is_nowhere = leads(rt.alloc(), TERMINATE, row, &[])?;
+    let is_next = leads(rt.alloc(), ADVANCE, row, &to_next)?;
+    assert!(rt; is_nowhere && is_next);
+    Ok(())
+}
+
+#[test]
+fn the_rules_of_a_block_go_before_its_edges(rt: HostRuntime) -> Result<(), Fail> {
+    let row = row(&[F], &[]);
+    let arrival = broken(rt.alloc(), GENERATE, row)?;
+    let seized = broken(rt.alloc(), Block::Seize(F), row)?;
+    assert!(rt; arrival == at_block(25, 2) && seized == at_block(21, 2));
+    Ok(())
+}

@@ -1,0 +1,195 @@
+//! What the tests of several layers are made of: blocks, entities, rows of the state table, objects and faults.
+
+ghost use Rattle.std.specs.Prelude.{◌≡◌, length, IfOk};
+
+use gw_object::{
+    Block, Entity, Fault, Generate, Items, Kind, Memory, Object, Operand, Parts, Place, Spread,
+    TableState, Units,
+};
+use std::alloc::Global;
+use std::test::Fail;
+
+/// The entities of most objects: a facility F, a storage S and a queue Q.
+pub(crate) const F: u16 = 0;
+
+pub(crate) const S: u16 = 1;
+
+pub(crate) const Q: u16 = 2;
+
+/// A GENERATE of no transactions.
+pub(crate) const LIMITED_TO_0: Block = Block::Generate(Generate {
+    interval: TEN,
+    first: None,
+    limit: Some(0),
+    priority: 0,
+});
+
+/// A constant time of 10.
+pub(crate) const TEN: Spread = Spread {
+    mean: Operand::Constant(10),
+    half: Operand::Constant(0),
+};
+
+pub(crate) const TERMINATE: Block = Block::Terminate(Operand::Constant(1));
+
+pub(crate) const ADVANCE: Block = Block::Advance(TEN);
+
+pub(crate) const GENERATE: Block = Block::Generate(Generate {
+    interval: TEN,
+    first: None,
+    limit: None,
+    priority: 0,
+});
+
+/// A time of this mean and half range.
+pub(crate) fn constant_time(mean: i64, half: i64) -> Spread {
+    Spread {
+        mean: Operand::Constant(mean),
+        half: Operand::Constant(half),
+    }
+}
+
+/// Units of an entity, also in a constant.
+macro_rules! units {
+    ($entity:expr, $number:expr) => {
+        gw_object::Units {
+            entity: $entity,
+            number: $number,
+        }
+    };
+}
+
+pub(crate) use units;
+
+/// A TRANSFER of so many thousandths of the transactions to a block, and of the others to another or to the next, also in
+/// a constant.
+macro_rules! by_fraction {
+    ($thousandths:expr, $otherwise:expr, $target:expr) => {
+        gw_object::Block::TransferByFraction(gw_object::Fraction {
+            thousandths: $thousandths,
+            otherwise: $otherwise,
+            target: $target,
+        })
+    };
+}
+
+pub(crate) use by_fraction;
+
+pub(crate) fn entity(alloc: Global, kind: Kind, name: &[u8]) -> Result<Entity, Memory> {
+    let name = Items::from_vec(Vec::from_slice(alloc, name)?);
+    Ok(Entity { name, kind })
+}
+
+/// The entities F, S, of this capacity, and Q.
+pub(crate) fn three_entities(alloc: Global, capacity: u32) -> Result<Vec<Entity>, Memory>
+    ensures { IfOk result (λ e. length e.items ≡ 3) }
+{
+    let entities = vec![in alloc;
+        entity(alloc, Kind::Facility, b"F")?,
+        entity(alloc, Kind::Storage(capacity), b"S")?,
+        entity(alloc, Kind::Queue, b"Q")?,
+    ]?;
+    Ok(entities)
+}
+
+/// A row of the state table: the facilities that a transaction owns, and the units that it holds.
+pub(crate) type Row<'a> = (&'a [u16], &'a [Units]);
+
+pub(crate) fn row<'a>(facilities: &'a [u16], units: &'a [Units]) -> Row<'a> {
+    (facilities, units)
+}
+
+/// A row, as an object has it.
+pub(crate) fn state(alloc: Global, row: Row) -> Result<TableState, Memory> {
+    let (facilities, units) = row;
+    Ok(TableState {
+        facilities: Items::from_vec(Vec::from_slice(alloc, facilities)?),
+        units: Items::from_vec(Vec::from_slice(alloc, units)?),
+    })
+}
+
+/// No row for any of so many blocks.
+pub(crate) fn no_states(alloc: Global, count: usize) -> Result<Vec<Option<TableState>>, Memory> {
+    let mut states = Vec::new(alloc);
+    for _ in 0..count {
+        states.push(None)?;
+    }
+    Ok(states)
+}
+
+/// Parts of these blocks and rows, each of weight 1, with no seeds and termination count 1.
+pub(crate) fn parts(
+    alloc: Global,
+    entities: Vec<Entity>,
+    blocks: Vec<Block>,
+    states: Vec<Option<TableState>>,
+) -> Result<Parts, Memory>
+    ensures { IfOk result (λ p. p.entities ≡ entities.items) }
+{
+    let weights = vec![in alloc; 1; blocks.len()]?;
+    Ok(Parts {
+        seeds: Items::from_vec(Vec::new(alloc)),
+        count: 1,
+        entities: Items::from_vec(entities),
+        blocks: Items::from_vec(blocks),
+        states: Items::from_vec(states),
+        weights: Items::from_vec(weights),
+    })
+}
+
+/// The object of these parts, or the fault with which they are refused.
+pub(crate) fn object_or_fault(parts: Parts) -> Result<Object, Fault>
+    ensures { IfOk result (λ o. o ≡ parts) }
+{
+    match Object::build(parts) {
+        Ok(object) => Ok(object),
+        Err((_parts, fault)) => Err(fault),
+    }
+}
+
+/// The object of these parts.
+pub(crate) fn built(parts: Parts) -> Result<Object, Fail>
+    ensures { IfOk result (λ o. o ≡ parts) }
+{
+    match object_or_fault(parts) {
+        Ok(object) => Ok(object),
+        Err(_) => Err(Fail::from("the parts have a spelling")),
+    }
+}
+
+/// The object of these blocks and rows, with the entities F, S of this capacity, and Q.
+pub(crate) fn model(
+    alloc: Global,
+    capacity: u32,
+    blocks: &[Block],
+    states: Vec<Option<TableState>>,
+) -> Result<Object, Fail> {
+    let entities = three_entities(alloc, capacity)?;
+    let blocks = Vec::from_slice(alloc, blocks)?;
+    built(parts(alloc, entities, blocks, states)?)
+}
+
+pub(crate) fn at_block(code: u16, block: u16) -> Option<Fault> {
+    let place = Place::Block(block);
+    Some(Fault { code, place })
+}
+
+pub(crate) fn at_edge(code: u16, from: u16, to: u16) -> Option<Fault> {
+    let place = Place::Edge(from, to);
+    Some(Fault { code, place })
+}
+
+pub(crate) fn at_byte(code: u16, byte: u32) -> Option<Fault> {
+    let place = Place::Byte(byte);
+    Some(Fault { code, place })
+}
+
+/// The place, from 0, of the first that does not hold.
+pub(crate) fn first_wrong(holds: &[bool]) -> Option<usize> {
+    for i in 0..holds.len() {
+        if !holds[i] {
+            return Some(i);
+        }
+    }
+    None
+}

@@ -1,7 +1,0 @@
-use Rattle.std.proofs.Common.{◌≡◌, ◌-◌, []}
-use Rattle.gw_object.specs.Fields.{elements_read}
-use Rattle.gw_object.proofs.lists.read_elements.Given as goal
-
-abbrev pub invariant-loop-i : goal.invariant-loop-i
-invariant-loop-i g l =
-    elements_read g.L.Elements.element_reading (l.count - l.i) l.items.items l.rest ≡ elements_read g.L.Elements.element_reading l.count [] l.bytes

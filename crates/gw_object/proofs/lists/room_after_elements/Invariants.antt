@@ -1,7 +1,0 @@
-use Rattle.std.proofs.Common.{◌≡◌, ◌+◌, take, length}
-use Rattle.std.specs.List.{flat_map}
-use Rattle.gw_object.proofs.lists.room_after_elements.Given as goal
-
-abbrev pub invariant-loop-element : goal.invariant-loop-element
-invariant-loop-element g l =
-    l.left + length (flat_map g.T.Spelled.spelling (take l.element-index l.elements)) ≡ l.room
