@@ -1,6 +1,6 @@
--- Exact fields: what is read is spelled so, what is spelled so is read, and a fault lies in the bytes.
+-- Exact fields: what is read is spelled so, what is spelled so is read, a fault lies in the bytes, and bytes that lack some of a spelling are truncated.
 use Rattle.std.proofs.Common.{◌≡◌, ℕ, zero, suc, ◌+◌, ◌^◌, ◌<◌, ◌≤◌, ℤ, Bool, true, false, cond, eqb, ltb, leb, ◌&&◌, IsTrue, List, [], ◌∷◌, ◌++◌, length, get_or, take, drop, Option, Some, None, Result, Ok, Err, refl, sym, ap, subst, ◌∙◌, append_assoc, arith, inl, inr, ◌⊎◌}
-use Rattle.std.specs.Prelude.{IfSome, FitsSigned}
+use Rattle.std.specs.Prelude.{IfSome, FitsSigned, IsErrAnd}
 use Rattle.std.specs.List.{All, flat_map}
 use Rattle.std.specs.Int.{Width, w16, w32, w64, byte_len, from_be_bytes, to_be_bytes, cast_signed, cast_unsigned}
 use Rattle.std.proofs.lemmas.Bool.{cases_lt, ltb-false, le-ltb, lt-ltb, leb-true, le-leb, eqb-true, eq-eqb}
@@ -11,7 +11,7 @@ use Rattle.std.proofs.lemmas.List.Concat.{flat_map-cons}
 use Rattle.std.proofs.lemmas.Nat.{be_bytes_2, be_bytes_4, be_bytes_8, from_be_bytes-to_be_bytes_2, from_be_bytes-to_be_bytes_4, from_be_bytes-to_be_bytes_8}
 use Rattle.gw_fields.specs.Codes as codes
 use Rattle.gw_fields.specs.declared.error.Bad.{Bad}
-use Rattle.gw_fields.specs.Fields.{◌>>=◌, Read, Field, bad, byte, byte_read, number, signed, read_as, made, tested, and_then, both, fitting, constant, is_within, ranged, nothing, optional, Form, behind, form_read, by_tag, count, count_spelling, count_read, long_count_read, Element, plain, last_tested, elements_read, ElementsFit, elements, listed, listed_read}
+use Rattle.gw_fields.specs.Fields.{◌>>=◌, Read, IsProperFront, Field, bad, byte, byte_read, number, signed, read_as, made, tested, and_then, both, fitting, constant, is_within, ranged, nothing, optional, Form, behind, form_read, by_tag, count, count_spelling, count_read, long_count_read, Element, plain, last_tested, elements_read, ElementsFit, elements, listed, listed_read}
 
 -- ---- bytes
 
@@ -78,6 +78,54 @@ err_is c d e = cc
 pub not_both : {A P : Type 0} (x : A) (d : Bad) → done x ≡ failed d → P
 not_both x d e = absurd cc
 
+-- ---- bytes that lack some of a text
+
+-- the bytes are truncated
+abbrev pub IsCut : {A : Type 0} → Result A Bad → Type 0
+IsCut r = IsErrAnd r (λ e. e.code ≡ codes.truncated)
+
+-- to this reader each proper front of the text is truncated
+abbrev pub CutsFronts : {A : Type 0} → (List ℕ → Result A Bad) → List ℕ → Type 0
+CutsFronts read text = (front : List ℕ) → IsProperFront front text → IsCut (read front)
+
+-- a step that goes on from there
+cut_stays : {A B : Type 0} (r : Result A Bad) (next : A → Result B Bad) → IsCut r → IsCut (r >>= next)
+cut_stays (Ok x) next h = absurd h
+cut_stays (Err e) next h = h
+
+-- a reader that goes on once the text is read
+pub cuts_still : {A B : Type 0} (read : List ℕ → Result A Bad) (next : List ℕ → A → Result B Bad) (text : List ℕ) → CutsFronts read text → CutsFronts (λ bytes. read bytes >>= next bytes) text
+cuts_still read next text cuts front begins = cut_stays (read front) (next front) (cuts front begins)
+
+-- no bytes have no proper front
+no_front : {P : Type 0} (front : List ℕ) → IsProperFront front [] → P
+no_front [] (rest, more, e) = absurd (more (sym e))
+no_front (b ∷ front) (rest, more, e) = absurd cc
+
+-- a proper front of a byte and a text is empty, or the byte and a proper front of the text
+front_tail : (b c : ℕ) (text front : List ℕ) → IsProperFront (c ∷ front) (b ∷ text) → (b ≡ c) × IsProperFront front text
+front_tail b c text front (rest, more, e) = (cc, (rest, more, cc))
+
+-- where a proper front of two texts ends: in the first, or behind it
+front_ends : (text others front : List ℕ) → IsProperFront front (text ++ others) → IsProperFront front text ⊎ ((behind : List ℕ) × (front ≡ text ++ behind) × IsProperFront behind others)
+front_ends [] others front begins = inr (front, refl, begins)
+front_ends (b ∷ text) others [] begins = inl (b ∷ text, (λ e. absurd cc), refl)
+front_ends (b ∷ text) others (c ∷ front) begins =
+    let tail = front_tail b c (text ++ others) front begins in
+    elim (front_ends text others front tail.1) [
+      | inl (rest, more, e) ↦ inl (rest, more, rw (tail.0, e) refl)
+      | inr (behind, e, more) ↦ inr (behind, rw (tail.0, e) refl, more)
+    ]
+
+-- two texts, each with its reader
+cuts_both : {A B : Type 0} (read : List ℕ → Read A) (next : A × List ℕ → Result B Bad) (x : A) (text others : List ℕ) → ((rest : List ℕ) → read (text ++ rest) ≡ Ok (x, rest)) → CutsFronts read text → CutsFronts (λ behind. next (x, behind)) others
+    → CutsFronts (λ bytes. read bytes >>= next) (text ++ others)
+cuts_both read next x text others again cuts cuts_others front begins =
+    elim (front_ends text others front begins) [
+      | inl inside ↦ cut_stays (read front) next (cuts front inside)
+      | inr (behind, e, inside) ↦ rw (e, again behind) (cuts_others behind inside)
+    ]
+
 -- ---- exact fields
 
 pub record IsExact {A : Type 0} (f : Field A) : Type 0 where
@@ -87,6 +135,8 @@ pub record IsExact {A : Type 0} (f : Field A) : Type 0 where
   pub again : (x : A) (rest : List ℕ) → f.Fits x → f.read (f.spell x ++ rest) ≡ Ok (x, rest)
   -- a fault lies in the bytes
   pub within : (bytes : List ℕ) (e : Bad) → IsBytes bytes → f.read bytes ≡ Err e → e.left ≤ length bytes
+  -- a proper front of a spelling is truncated
+  pub cut : (x : A) → f.Fits x → CutsFronts f.read (f.spell x)
 
 -- ---- numbers
 
@@ -99,8 +149,12 @@ byte_within : (bytes : List ℕ) (e : Bad) → IsBytes bytes → byte_read bytes
 byte_within [] e fits h = rw (← err_is (bad codes.truncated []) e h) (omega arith)
 byte_within (b ∷ rest) e fits h = absurd cc
 
+byte_cut : (n : ℕ) → n < 256 → CutsFronts byte_read (n ∷ [])
+byte_cut n fits [] begins = refl
+byte_cut n fits (b ∷ front) begins = no_front front (front_tail n b [] front begins).1
+
 pub byte_exact : IsExact byte
-byte_exact = record { takes = byte_takes; again = λ n rest fits. refl; within = byte_within }
+byte_exact = record { takes = byte_takes; again = λ n rest fits. refl; within = byte_within; cut = byte_cut }
 
 -- what is known of the bytes of a width
 pub record IsWide (w : Width) : Type 0 where
@@ -171,8 +225,18 @@ number_within w bytes e fits h =
       | inr long ↦ not_both (from_be_bytes w (take (byte_len w) bytes), drop (byte_len w) bytes) e long.1
     ]
 
+-- a proper front has fewer bytes
+pub front_shorter : (text front : List ℕ) → IsProperFront front text → length front < length text
+front_shorter text front ([], more, e) = absurd (more refl)
+front_shorter text front (b ∷ rest, more, e) = omega (arith, ap length e, length-append front (b ∷ rest))
+
+number_cut : (w : Width) → IsWide w → (n : ℕ) → CutsFronts (number w).read (to_be_bytes w n)
+number_cut w wide n front begins =
+    let short : ltb (length front) (byte_len w) ≡ true = lt-ltb _ _ (omega (arith, front_shorter (to_be_bytes w n) front begins, wide.len n)) in
+    rw short refl
+
 pub number_exact : (w : Width) → IsWide w → IsExact (number w)
-number_exact w wide = record { takes = number_takes w wide; again = number_again w wide; within = number_within w }
+number_exact w wide = record { takes = number_takes w wide; again = number_again w wide; within = number_within w; cut = λ n fits. number_cut w wide n }
 
 signed_takes : (w : Width) → IsWide w → (bytes : List ℕ) (x : ℤ × List ℕ) → IsBytes bytes → (signed w).read bytes ≡ Ok x → Takes bytes (to_be_bytes w (cast_unsigned w x.0)) x.1 × FitsSigned w x.0
 signed_takes w wide bytes x fits e =
@@ -191,8 +255,11 @@ signed_within w bytes e fits h =
       | inr second ↦ not_both (cast_signed w second.0.0, second.0.1) e second.2
     ]
 
+signed_cut : (w : Width) → IsWide w → (z : ℤ) → FitsSigned w z → CutsFronts (signed w).read (to_be_bytes w (cast_unsigned w z))
+signed_cut w wide z fits = cuts_still (number w).read (λ bytes n. Ok (cast_signed w n.0, n.1)) (to_be_bytes w (cast_unsigned w z)) (number_cut w wide (cast_unsigned w z))
+
 pub signed_exact : (w : Width) → IsWide w → IsExact (signed w)
-signed_exact w wide = record { takes = signed_takes w wide; again = signed_again w wide; within = signed_within w }
+signed_exact w wide = record { takes = signed_takes w wide; again = signed_again w wide; within = signed_within w; cut = signed_cut w wide }
 
 -- ---- fields made of others
 
@@ -209,6 +276,7 @@ made_exact {A} {B} make back f there here exact = record {
         | inl first ↦ exact.within bytes e fits first
         | inr second ↦ not_both (make second.0.0, second.0.1) e second.2
       ];
+  cut = λ y fits. cuts_still f.read (λ bytes x. Ok (make x.0, x.1)) (f.spell (back y)) (exact.cut (back y) fits);
 }
 
 pub tested_exact : {A : Type 0} (test : A → Bool) (code : ℕ) (f : Field A) → IsExact f → IsExact (tested test code f)
@@ -230,6 +298,7 @@ tested_exact {A} test code f exact = record {
               | inr missed ↦ rw (← err_is (bad code bytes) e missed.1) (omega arith)
             ]
       ];
+  cut = λ x fits. cuts_still f.read (λ bytes x. cond (test x.0) (Ok x) (Err (bad code bytes))) (f.spell x) (exact.cut x fits.0);
 }
 
 pub and_then_exact : {A B : Type 0} (f : Field A) (g : A → Field B) → IsExact f → ((x : A) → IsExact (g x)) → IsExact (and_then f g)
@@ -254,6 +323,10 @@ and_then_exact {A} {B} f g one two = record {
               | inr none ↦ not_both ((second.0.0, none.0.0), none.0.1) e none.2
             ]
       ];
+  cut = λ x fits.
+      let h = g x.0 in
+      cuts_both f.read (λ x. (g x.0).read x.1 >>= λ y. Ok ((x.0, y.0), y.1)) x.0 (f.spell x.0) (h.spell x.1) (λ rest. one.again x.0 rest fits.0) (one.cut x.0 fits.0)
+      (cuts_still h.read (λ bytes y. Ok ((x.0, y.0), y.1)) (h.spell x.1) ((two x.0).cut x.1 fits.1));
 }
 
 pub both_exact : {A B : Type 0} (f : Field A) (g : Field B) → IsExact f → IsExact g → IsExact (both f g)
@@ -264,6 +337,7 @@ fitting_exact Fits f here there exact = record {
   takes = λ bytes x fits e. let p = exact.takes bytes x fits e in (p.0, here x.0 p.1);
   again = λ x rest fits. exact.again x rest (there x fits);
   within = exact.within;
+  cut = λ x fits. exact.cut x (there x fits);
 }
 
 pub constant_exact : (value code : ℕ) (f : Field ℕ) → f.Fits value → IsExact f → IsExact (constant value code f)
@@ -294,6 +368,7 @@ nothing_exact = record {
   takes = λ bytes x fits e. subst (λ (y : Unit {0} × List ℕ). Takes bytes [] y.1 × Unit {0}) (ok_is (tt, bytes) x e) (record { parts = refl; rest_fits = fits }, tt);
   again = λ x rest fits. refl;
   within = λ bytes e fits h. not_both (tt, bytes) e h;
+  cut = λ x fits front begins. no_front front begins;
 }
 
 -- ---- a value behind its tag
@@ -376,6 +451,13 @@ pub by_tag_within : {A : Type 0} (spell : A → List ℕ) (Fits : A → Type 0) 
 by_tag_within spell Fits forms exact [] e fits h = rw (← err_is (bad codes.truncated []) e h) (omega arith)
 by_tag_within spell Fits forms exact (tag ∷ rest) e fits h = form_within spell Fits forms exact tag rest e (IsBytes-rest tag rest fits) h
 
+-- a tag, and the field behind it of the form that is found by it
+pub tag_cut : {A B : Type 0} (forms : List (Form A)) (tag : ℕ) (make : B → A) (f : Field B) → ((bytes rest : List ℕ) → form_read forms tag bytes rest ≡ (behind tag make f).1 rest) → IsExact f → (x : B) → f.Fits x → CutsFronts (by_tag forms) (tag ∷ f.spell x)
+tag_cut forms tag make f found exact x fits [] begins = refl
+tag_cut forms tag make f found exact x fits (b ∷ front) begins =
+    let tail = front_tail tag b (f.spell x) front begins in
+    rw (← tail.0, found (tag ∷ front) front) (cut_stays (f.read front) (λ y. Ok (make y.0, y.1)) (exact.cut x fits front tail.1))
+
 -- ---- 00, or 01 and a value
 
 -- what stands behind a flag that is not 00
@@ -414,8 +496,15 @@ optional_within f exact (flag ∷ bytes) e fits h =
           ]
     ]
 
+optional_cut : {A : Type 0} (f : Field A) → IsExact f → (o : Option A) → IfSome o f.Fits → CutsFronts (optional f).read ((optional f).spell o)
+optional_cut f exact o fits [] begins = refl
+optional_cut f exact None fits (flag ∷ front) begins = no_front front (front_tail 0 flag [] front begins).1
+optional_cut f exact (Some x) fits (flag ∷ front) begins =
+    let tail = front_tail 1 flag (f.spell x) front begins in
+    rw (← tail.0) (cut_stays (f.read front) (λ y. Ok (Some y.0, y.1)) (exact.cut x fits front tail.1))
+
 pub optional_exact : {A : Type 0} (f : Field A) → IsExact f → IsExact (optional f)
-optional_exact f exact = record { takes = optional_takes f exact; again = optional_again f exact; within = optional_within f exact }
+optional_exact f exact = record { takes = optional_takes f exact; again = optional_again f exact; within = optional_within f exact; cut = optional_cut f exact }
 
 -- ---- counts
 
@@ -509,8 +598,24 @@ count_within least most (first ∷ rest) e fits h =
       | inr four ↦ long_count_within least most bytes rest e (IsBytes-rest first rest fits) (omega arith) four.1
     ]
 
+-- a front of a count is empty, or the ff and fewer than four bytes
+count_cut : (least most n : ℕ) → CutsFronts (count_read least most) (count_spelling n)
+unfolding count_read
+count_cut least most n [] begins = refl
+count_cut least most n (first ∷ front) begins =
+    elim (cases_lt n 255) [
+      | inl lt ↦
+          let short : ltb n 255 ≡ true = lt-ltb _ _ lt in
+          no_front front (front_tail n first [] front (rw short at begins)).1
+      | inr le ↦
+          let long : ltb n 255 ≡ false = le-ltb _ _ le in
+          let tail = front_tail 255 first (to_be_bytes w32 n) front (rw long at begins) in
+          let few : ltb (length front) 4 ≡ true = lt-ltb _ _ (front_shorter (to_be_bytes w32 n) front tail.1) in
+          rw (← tail.0, few) refl
+    ]
+
 pub count_exact : (least most : ℕ) → most < 256 ^ 4 → IsExact (count least most)
-count_exact least most wide = record { takes = count_takes least most; again = count_again least most wide; within = count_within least most }
+count_exact least most wide = record { takes = count_takes least most; again = count_again least most wide; within = count_within least most; cut = λ n fits. count_cut least most n }
 
 -- ---- lists
 
@@ -518,14 +623,15 @@ pub record IsExactElement {A : Type 0} (e : Element A) : Type 0 where
   pub takes : (front : List A) (left : ℕ) (bytes : List ℕ) (x : A × List ℕ) → IsBytes bytes → e.read front left bytes ≡ Ok x → Takes bytes (e.spell x.0) x.1 × e.Fits front left x.0
   pub again : (front : List A) (left : ℕ) (x : A) (rest : List ℕ) → e.Fits front left x → e.read front left (e.spell x ++ rest) ≡ Ok (x, rest)
   pub within : (front : List A) (left : ℕ) (bytes : List ℕ) (d : Bad) → IsBytes bytes → e.read front left bytes ≡ Err d → d.left ≤ length bytes
+  pub cut : (front : List A) (left : ℕ) (x : A) → e.Fits front left x → CutsFronts (e.read front left) (e.spell x)
 
 pub plain_exact : {A : Type 0} (f : Field A) → IsExact f → IsExactElement (plain f)
-plain_exact f exact = record { takes = λ front left. exact.takes; again = λ front left. exact.again; within = λ front left. exact.within }
+plain_exact f exact = record { takes = λ front left. exact.takes; again = λ front left. exact.again; within = λ front left. exact.within; cut = λ front left. exact.cut }
 
 pub last_tested_exact : {A : Type 0} (test : A → Bool) (code : ℕ) (f : Field A) → IsExact f → IsExactElement (last_tested test code f)
 last_tested_exact {A} test code f exact =
     let at = λ (left : ℕ). tested_exact (λ (x : A). cond (eqb left 0) (test x) true) code f exact in
-    record { takes = λ front left. (at left).takes; again = λ front left. (at left).again; within = λ front left. (at left).within }
+    record { takes = λ front left. (at left).takes; again = λ front left. (at left).again; within = λ front left. (at left).within; cut = λ front left. (at left).cut }
 
 -- what stands behind the elements at the front
 pub record Adds {A : Type 0} (e : Element A) (front : List A) (n : ℕ) (bytes : List ℕ) (x : List A × List ℕ) : Type 0 where
@@ -570,6 +676,14 @@ elements_within e exact (suc left) front bytes d fits h =
           omega (arith, Takes-shorter bytes (e.spell a.0.0) a.0.1 first.0, elements_within e exact left (front ++ a.0.0 ∷ []) a.0.1 d first.0.rest_fits a.2)
     ]
 
+elements_cut : {A : Type 0} (e : Element A) → IsExactElement e → (xs before : List A) → ElementsFit e.Fits before xs → CutsFronts (elements_read e.read (length xs) before) (flat_map e.spell xs)
+unfolding elements_read
+elements_cut e exact [] before fits front begins = no_front front begins
+elements_cut e exact (x ∷ xs) before fits front begins =
+    let left = length xs in
+    cuts_both (e.read before left) (λ y. elements_read e.read left (before ++ y.0 ∷ []) y.1) x (e.spell x) (flat_map e.spell xs) (λ rest. exact.again before left x rest fits.0) (exact.cut before left x fits.0)
+    (elements_cut e exact xs (before ++ x ∷ []) fits.1) front (rw (flat_map-cons e.spell x xs) at begins)
+
 pub elements_exact : {A : Type 0} (e : Element A) (n : ℕ) → IsExactElement e → IsExact (elements e n)
 elements_exact {A} e n exact = record {
   takes = λ bytes x fits h.
@@ -577,6 +691,7 @@ elements_exact {A} e n exact = record {
       rw a.all (a.taken, (a.len, a.fit));
   again = λ xs rest fits. rw (← fits.0) (elements_again e exact xs [] rest fits.1);
   within = elements_within e exact n [];
+  cut = λ xs fits. rw (← fits.0) (elements_cut e exact xs [] fits.1);
 }
 
 pub listed_exact : {A : Type 0} (least most : ℕ) (e : Element A) → most < 256 ^ 4 → IsExactElement e → IsExact (listed least most e)
@@ -597,6 +712,9 @@ listed_exact {A} least most e wide exact = record {
             let p = count_takes least most bytes n.0 fits n.1 in
             omega (arith, Takes-shorter bytes (count_spelling n.0.0) n.0.1 p.0, elements_within e exact n.0.0 [] n.0.1 d p.0.rest_fits n.2)
       ];
+  cut = λ xs fits.
+      let n = length xs in
+      cuts_both (count_read least most) (λ n. elements_read e.read n.0 [] n.1) n (count_spelling n) (flat_map e.spell xs) (λ rest. count_again least most wide n rest (fits.0, fits.1)) (count_cut least most n) (elements_cut e exact xs [] fits.2);
 }
 
 -- what fits a list, told of each of its elements

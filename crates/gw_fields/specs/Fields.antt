@@ -1,5 +1,5 @@
 -- Fields of a format: how a value is spelled in bytes, how it is read, and which values have a spelling.
-use Rattle.std.specs.Prelude.{◌≡◌, ℕ, zero, suc, ◌-◌, ◌≤◌, ◌<◌, ◌^◌, ℤ, FitsSigned, Bool, true, IsTrue, if◌then◌else◌, ◌==◌, nat_lt, nat_le, ◌&&◌, List, [], ◌∷◌, ◌++◌, length, take, drop, slice_get, Option, Some, None, IfSome, SomeIff, Result, Ok, Err}
+use Rattle.std.specs.Prelude.{◌≡◌, ◌≢◌, ℕ, zero, suc, ◌-◌, ◌≤◌, ◌<◌, ◌^◌, ℤ, FitsSigned, Bool, true, IsTrue, if◌then◌else◌, ◌==◌, nat_lt, nat_le, ◌&&◌, List, [], ◌∷◌, ◌++◌, length, take, drop, slice_get, Option, Some, None, IfSome, SomeIff, Result, Ok, Err}
 use Rattle.std.specs.List.{flat_map}
 use Rattle.std.specs.Option.{option_map}
 use Rattle.std.specs.Int.{Width, w32, byte_len, to_be_bytes, from_be_bytes, cast_signed, cast_unsigned}
@@ -19,6 +19,10 @@ infixl 10 ◌>>=◌
 abbrev pub ◌>>=◌ : {A B : Type 0} → Result A Bad → (A → Result B Bad) → Result B Bad
 (Ok x) >>= f = f x
 (Err e) >>= f = Err e
+
+-- the bytes begin this text and lack some of it
+abbrev pub IsProperFront : List ℕ → List ℕ → Type 0
+IsProperFront front text = (rest : List ℕ) × (rest ≢ []) × (text ≡ front ++ rest)
 
 -- a field of a format
 pub record Field (A : Type 0) : Type 1 where

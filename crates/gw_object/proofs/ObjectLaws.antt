@@ -4,7 +4,7 @@ use Rattle.std.specs.Prelude.{IfOk}
 use Rattle.std.specs.List.{All}
 use Rattle.std.specs.Int.{w16, w32, w64}
 use Rattle.std.proofs.lemmas.Bool.{cases_lt, eqb-true, ne_eqb, ltb-true, lt-ltb, le-ltb}
-use Rattle.std.proofs.lemmas.List.{append-nil, nil_from_length}
+use Rattle.std.proofs.lemmas.List.{append-nil, nil_from_length, length-append}
 use Rattle.gw_object.specs.declared.fault.Fault.{Fault}
 use Rattle.gw_object.specs.Codes as codes
 use Rattle.gw_object.specs.Limits.{most_bytes, most_seeds, greatest_seed, greatest_count, most_entities, most_blocks, greatest_weight}
@@ -14,13 +14,13 @@ use Rattle.gw_object.specs.declared.parts.Block.{Block}
 use Rattle.gw_object.specs.declared.parts.Block.TheVariants.{Generate, Terminate, Advance, Seize, Release, Enter, Leave, Queue, Depart, Transfer, TransferByFraction}
 use Rattle.gw_object.specs.declared.parts.Parts.{Parts}
 use Rattle.gw_fields.specs.declared.error.Bad.{Bad}
-use Rattle.gw_fields.specs.Fields.{Field, behind, bad, byte, number, constant, count, plain, ElementsFit}
+use Rattle.gw_fields.specs.Fields.{IsProperFront, Field, behind, bad, byte, number, constant, count, plain, ElementsFit}
 use Rattle.gw_object.specs.Grammar.{OperandFits, constant_of, operand, SpreadFits, spread, GenerateFits, generate, entity_number, UnitsFit, units, block_number, FractionFits, fraction, BlockFits, block_spelling, block_forms, block_read, block, weight, tables, head, seed, start_count, object, spelling, HasSpelling, Spells}
 use Rattle.gw_object.specs.Entities.{entity}
-use Rattle.gw_object.specs.Reading.{whole_read, with_place, first_fault, out_of_memory}
+use Rattle.gw_object.specs.Reading.{whole_read, with_place, first_fault, out_of_memory, fault_at, IsRefused}
 use Rattle.gw_object.proofs.EntityLaws.{entity_exact, entities_fit, entities_are}
 use Rattle.gw_object.proofs.StateLaws.{entity_number_exact, no_elements_exact, none, state_exact, rows_fit, rows_keep}
-use Rattle.gw_fields.proofs.Exact.{◌also◌, IsExactForm, AreExactForms, behind_exact, by_tag_takes, by_tag_within, IsBytes, Takes-shorter, IsExact, IsExactElement, bind_ok, bind_err, chosen, ok_is, err_is, not_both, byte_exact, wide16, wide32, wide64, number_exact, signed_exact, made_exact, and_then_exact, both_exact, fitting_exact, constant_exact, ranged_exact, optional_exact, plain_exact, last_tested_exact, elements_exact, listed_exact, All-from_fit, fit-from_All}
+use Rattle.gw_fields.proofs.Exact.{◌also◌, IsCut, CutsFronts, cuts_still, front_shorter, tag_cut, IsExactForm, AreExactForms, behind_exact, by_tag_takes, by_tag_within, IsBytes, Takes-shorter, IsExact, IsExactElement, bind_ok, bind_err, chosen, ok_is, err_is, not_both, byte_exact, wide16, wide32, wide64, number_exact, signed_exact, made_exact, and_then_exact, both_exact, fitting_exact, constant_exact, ranged_exact, optional_exact, plain_exact, last_tested_exact, elements_exact, listed_exact, All-from_fit, fit-from_All}
 
 -- ---- operands
 
@@ -105,12 +105,27 @@ block_again (Depart u) rest fits = rw (units_exact.again u rest fits) refl
 block_again (Transfer n) rest fits = rw (block_number_exact.again n rest fits) refl
 block_again (TransferByFraction f) rest fits = rw (fraction_exact.again f rest fits) refl
 
+block_cut : (b : Block) → BlockFits b → CutsFronts block_read (block_spelling b)
+unfolding block_read generate operand spread units fraction
+block_cut (Generate g) fits = tag_cut block_forms 1 (λ g. Generate g) generate (λ _ _. refl) generate_exact g fits
+block_cut (Terminate n) fits = tag_cut block_forms 2 (λ n. Terminate n) operand (λ _ _. refl) operand_exact n fits
+block_cut (Advance s) fits = tag_cut block_forms 3 (λ s. Advance s) spread (λ _ _. refl) spread_exact s fits
+block_cut (Seize n) fits = tag_cut block_forms 4 (λ n. Seize n) entity_number (λ _ _. refl) entity_number_exact n fits
+block_cut (Release n) fits = tag_cut block_forms 5 (λ n. Release n) entity_number (λ _ _. refl) entity_number_exact n fits
+block_cut (Enter u) fits = tag_cut block_forms 6 (λ u. Enter u) units (λ _ _. refl) units_exact u fits
+block_cut (Leave u) fits = tag_cut block_forms 7 (λ u. Leave u) units (λ _ _. refl) units_exact u fits
+block_cut (Queue u) fits = tag_cut block_forms 8 (λ u. Queue u) units (λ _ _. refl) units_exact u fits
+block_cut (Depart u) fits = tag_cut block_forms 9 (λ u. Depart u) units (λ _ _. refl) units_exact u fits
+block_cut (Transfer n) fits = tag_cut block_forms 13 (λ n. Transfer n) block_number (λ _ _. refl) block_number_exact n fits
+block_cut (TransferByFraction f) fits = tag_cut block_forms 14 (λ f. TransferByFraction f) fraction (λ _ _. refl) fraction_exact f fits
+
 pub block_exact : IsExact block
 unfolding block_read
 block_exact = record {
   takes = by_tag_takes block_spelling BlockFits block_forms block_forms_exact;
   again = block_again;
   within = by_tag_within block_spelling BlockFits block_forms block_forms_exact;
+  cut = block_cut;
 }
 
 -- ---- what stands for each block
@@ -303,3 +318,27 @@ apart p q a b x y one two e =
     let p_is : p ≡ q = ap (λ z. z.0) same in
     let x_is : x ≡ y = ap (λ z. z.1) same in
     (p_is, one.is ∙ ap spelling p_is ∙ sym two.is, x_is)
+
+-- bytes that lack some of a spelling
+whole_cut : (p : Parts) → object.Fits p → CutsFronts whole_read (spelling p)
+unfolding whole_read spelling
+whole_cut p fits = cuts_still object.read (λ bytes p. cond (eqb (length p.1) 0) (Ok p.0) (Err (bad codes.trailing p.1))) (object.spell p) (object_exact.cut p fits)
+
+cut_placed : (total : ℕ) (r : Result Parts Bad) → IsCut r → (at : ℕ) × (at ≤ total) × (with_place total r ≡ Err (fault_at codes.truncated at))
+cut_placed total (Ok p) h = absurd h
+cut_placed total (Err e) h = (total - e.left, omega arith, rw h refl)
+
+pub front_refused : (p : Parts) (front : List ℕ) → HasSpelling p → IsProperFront front (spelling p) → IsRefused codes.truncated front
+unfolding first_fault
+front_refused p front fits begins =
+    let short : ltb most_bytes (length front) ≡ false = le-ltb _ _ (omega (arith, front_shorter (spelling p) front begins, fits.limits.size)) in
+    rw short (cut_placed (length front) (whole_read front) (whole_cut p (spelled_fits p fits) front begins))
+
+-- bytes behind a spelling
+pub more_refused : (p : Parts) (more : List ℕ) → HasSpelling p → more ≢ [] → length (spelling p ++ more) ≤ most_bytes → first_fault (spelling p ++ more) ≡ Err (fault_at codes.trailing (length (spelling p)))
+unfolding first_fault whole_read spelling
+more_refused p more fits some size =
+    let short : ltb most_bytes (length (spelling p ++ more)) ≡ false = le-ltb _ _ size in
+    let left : eqb (length more) 0 ≡ false = ne_eqb _ _ (λ e. some (nil_from_length more e)) in
+    let place : length (spelling p ++ more) - length more ≡ length (spelling p) = omega (arith, length-append (spelling p) more) in
+    rw (short, object_exact.again p more (spelled_fits p fits), left, place) refl

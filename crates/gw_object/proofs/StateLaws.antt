@@ -28,7 +28,7 @@ pub ascending_exact : {A B : Type 0} (make : ℕ × B → A) (back : A → ℕ �
 ascending_exact {A} make back key f there here key_exact exact =
     let test = λ (front : List A). is_above (last_key (λ x. (back x).0) front) in
     let at = λ (front : List A). made_exact make back (both (tested (test front) codes.not_canonical key) f) (λ x h. there x) (λ y h. here y) (both_exact _ _ (tested_exact (test front) codes.not_canonical key key_exact) exact) in
-    record { takes = λ front left. (at front).takes; again = λ front left. (at front).again; within = λ front left. (at front).within }
+    record { takes = λ front left. (at front).takes; again = λ front left. (at front).again; within = λ front left. (at front).within; cut = λ front left. (at front).cut }
 
 -- keys that ascend up to a place
 abbrev pub AscendBelow : {A : Type 0} → (A → ℕ) → List A → ℕ → Type 0

@@ -1,10 +1,11 @@
 //! Reading an object from left to right, up to the first fault.
 
-ghost use Rattle.std.specs.Prelude.{◌≡◌, ◌≤◌, ◌<◌, ◌^◌, ◌⊎◌, IfOk, Ok, Err};
+ghost use Rattle.std.specs.Prelude.{◌≡◌, ◌≤◌, ◌<◌, ◌^◌, ◌⊎◌, IfOk, Ok, Err, length};
 ghost use Rattle.gw_object.specs.declared.parts.Parts.{Parts};
 ghost use Rattle.gw_object.specs.Grammar.{head, tables, object, Spells};
 ghost use Rattle.gw_fields.specs.Answers.{Gives};
-ghost use Rattle.gw_object.specs.Reading.{whole_read, placed, first_fault, out_of_memory};
+ghost use Rattle.gw_object.specs.Limits.{most_bytes};
+ghost use Rattle.gw_object.specs.Reading.{whole_read, placed, too_long, first_fault, out_of_memory};
 
 use crate::codes::*;
 use crate::entities::Entities;
@@ -103,7 +104,8 @@ fn placed_fault(total: usize, fault: Bad) -> Fault
 /// The object that the bytes spell, or the first fault.
 #[tactic(auto, unfolding(crate::specs::Reading::first_fault))]
 fn read_object(alloc: Global, bytes: &[u8]) -> Result<Object, Fault>
-    ensures { (result ≡ first_fault bytes.now) ⊎ (result ≡ Err out_of_memory) }
+    ensures exact { (result ≡ first_fault bytes.now) ⊎ (result ≡ Err out_of_memory) }
+    ensures long { most_bytes < length bytes.now → result ≡ Err too_long }
 {
     if bytes.len() > MOST_BYTES {
         return Err(Fault {
@@ -131,6 +133,8 @@ pub fn read(alloc: Global, bytes: &[u8]) -> Result<Object, Fault>
     ensures only { (p : Parts) → Spells bytes.now p → (result ≡ Ok p) ⊎ (result ≡ Err out_of_memory) }
     // A refusal names the first fault.
     ensures exact { (result ≡ first_fault bytes.now) ⊎ (result ≡ Err out_of_memory) }
+    // What is too long is refused before memory is asked for.
+    ensures long { most_bytes < length bytes.now → result ≡ Err too_long }
 {
     read_object(alloc, bytes)
 }

@@ -2,6 +2,9 @@
 
 ghost use Rattle.std.specs.Prelude.{◌≡◌, ◌⊎◌, IfOk, IfErr, Some, length, List, ℕ};
 ghost use Rattle.gw_flow.specs.Flow.{FindsOrLacksMemory, out_of_memory};
+ghost use Rattle.gw_kinds.specs.Checks.{first_broken};
+ghost use Rattle.gw_kinds.specs.Kinds.{kinds_checks};
+ghost use Rattle.gw_object.specs.declared.fault.Fault.{Fault};
 ghost use Rattle.gw_verify.specs.Checks.{Checked, checks, fault_of, heaviest as heaviest_of};
 
 use gw_flow::check_flow;
@@ -29,7 +32,8 @@ impl Model for Verified {
 
 /// The first fault of an object, if there is one: kinds before flow.
 fn check_all(alloc: Global, object: &Object) -> Result<(), Fault>
-    ensures { FindsOrLacksMemory result (checks object.now) }
+    ensures found { FindsOrLacksMemory result (checks object.now) }
+    ensures kinds { (fault : Fault) → first_broken (kinds_checks object.now) ≡ Some fault → IfErr result (λ e. e ≡ fault) }
 {
     check_kinds(object)?;
     check_flow(alloc, object)
@@ -41,6 +45,8 @@ fn check_all(alloc: Global, object: &Object) -> Result<(), Fault>
 pub fn verify(alloc: Global, object: Object) -> Result<Verified, (Object, Fault)>
     ensures accepted { IfOk result (λ v. (v ≡ object) × Checked object) }
     ensures refused { IfErr result (λ e. (e.0 ≡ object) × ((fault_of object ≡ Some e.1) ⊎ (e.1 ≡ out_of_memory))) }
+    // Kinds take no memory: a fault of theirs is told, whatever the memory.
+    ensures kinds { (fault : Fault) → first_broken (kinds_checks object) ≡ Some fault → IfErr result (λ e. e.1 ≡ fault) }
 {
     match check_all(alloc, &object) {
         Ok(()) => Ok(Verified { object }),

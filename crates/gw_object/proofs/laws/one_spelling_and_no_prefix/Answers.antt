@@ -1,5 +1,5 @@
 use Rattle.gw_object.proofs.ObjectLaws.{apart}
 use Rattle.gw_object.proofs.laws.one_spelling_and_no_prefix.Goals as goal
 
-pub returns-clause-apart : goal.returns-clause-apart
-returns-clause-apart c = apart
+pub returns : goal.returns
+returns c = apart

@@ -4,7 +4,7 @@ use Rattle.gw_object.proofs.reading.read.Goals as goal
 
 pub returns-clause-found : goal.returns-clause-found
 returns-clause-found c =
-    found_or c.args.bytes.now c.read_object.result (λ i. omega (arith, c.type_inv.bytes i)) c.read_object.ensures
+    found_or c.args.bytes.now c.read_object.result (λ i. omega (arith, c.type_inv.bytes i)) c.read_object.ensures.exact
 
 pub returns-clause-only : goal.returns-clause-only
-returns-clause-only c = only_or c.args.bytes.now c.read_object.result c.read_object.ensures
+returns-clause-only c = only_or c.args.bytes.now c.read_object.result c.read_object.ensures.exact
