@@ -1,9 +1,10 @@
 -- What is read of an input, and its front.
-use Rattle.std.proofs.Common.{◌≡◌, ◌≤◌, ℕ, List, [], ◌++◌, length, take, Option, Some, None, IfSome, arith, append-nil, length-append, sym, ◌∙◌, ap}
+use Rattle.std.proofs.Common.{◌≡◌, ◌≤◌, ◌+◌, ℕ, List, [], ◌++◌, length, take, Option, Some, None, IfSome, arith, append-nil, length-append, sym, ◌∙◌, ap, subst}
 use Rattle.std.proofs.lemmas.List.{take_at, take_all}
 use Rattle.std.specs.Io.KnownBytes.{Consumes, IsAtEnd, Appends, Keeps}
 use Rattle.std.proofs.KnownBytes.{Consumes-trans}
 use Rattle.gpssw.specs.Input.{TakesSome}
+use Rattle.gpssw.specs.Calls.{LosesFront, LosesAtMost}
 
 -- a reader that is at its end gave all of its bytes
 pub ended : (most : ℕ) (before after : Option (List ℕ)) (got : List ℕ) → length got ≤ most → Consumes before after got → IsAtEnd after → IfSome before (λ xs. got ≡ take most xs)
@@ -29,6 +30,17 @@ pub last_read : (n most limit : ℕ) (old new : List ℕ) (before between after 
 last_read n most limit old new before between after h none short taken =
     let long : length new ≤ limit = omega (arith, ap (λ (l : List ℕ). length l) h.grown, length-append old h.bytes, h.count) in
     ended limit before after new long (more n most old new before between after h taken) (h.end none)
+
+-- the bytes that one more call took, behind those so far, are within the limit
+pub lost_more : (most rest : ℕ) (old : List ℕ) (before between after : Option (List ℕ)) → length old + rest ≤ most → Consumes before between old → LosesAtMost rest between after
+    → LosesAtMost most before after
+lost_more most rest old before between after fits taken lost =
+    (old ++ lost.0, omega (arith, fits, length-append old lost.0, lost.1), Consumes-trans before between after old lost.0 taken lost.2)
+
+-- a reader that gave its front has lost it
+pub front_lost : (most : ℕ) (before after : Option (List ℕ)) (got : List ℕ) → IfSome before (λ bytes. got ≡ take most bytes) → Consumes before after got → LosesFront most before after
+front_lost most None after got front taken = tt
+front_lost most (Some xs) after got front taken = subst (Consumes (Some xs) after) front taken
 
 -- known bytes that stay grow by nothing
 pub kept : (old new : Option (List ℕ)) → Keeps old new → Appends old new []

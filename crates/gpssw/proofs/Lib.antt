@@ -8,3 +8,4 @@ pub mod Endings
 pub mod OneAnswers
 pub mod Conclusions
 pub mod SomeAnswers
+pub mod Calls

@@ -1,5 +1,5 @@
 -- What a run writes, by what stands in the place of its answer.
-use Rattle.std.proofs.Common.{◌≡◌, ◌≢◌, ◌⊎◌, ◌<◌, ℕ, List, [], ◌∷◌, Option, Result, Ok, Err, IfOk, MatchResult, Contains, inl, inr, refl, sym, subst, arith}
+use Rattle.std.proofs.Common.{◌≡◌, ◌≢◌, ◌⊎◌, ℕ, List, [], ◌∷◌, Option, Result, Ok, Err, IfOk, MatchResult, Contains, inl, inr, refl, sym, subst, arith}
 use Rattle.gw_object.specs.declared.fault.Fault.{Fault}
 use Rattle.gw_scan.specs.Job.{Job}
 use Rattle.gpssw.specs.declared.answer.Answer.{Answer}
@@ -7,7 +7,7 @@ use Rattle.gpssw.specs.declared.fault.ProgramFault.{ProgramFault}
 use Rattle.gpssw.specs.declared.fault.ProgramFault.TheVariants.{Read, Write, Memory}
 use Rattle.gpssw.specs.Status.{ended, refused, failed, no_memory}
 use Rattle.gpssw.specs.Refusal.{refusal_line}
-use Rattle.gpssw.specs.Answer.{Concludes, IsAnswer, job_of}
+use Rattle.gpssw.specs.Answer.{Concludes, job_of}
 use Rattle.gpssw.specs.Output.{AnswersReader, memory_line, Writes, Fails, Runs, WritesAnswer}
 use Rattle.gpssw.proofs.Bytes.{kept}
 
@@ -30,6 +30,11 @@ of_failed status h = (2, omega arith, sym h)
 
 of_memory : (status : ℕ) → status ≡ no_memory → Statuses status
 of_memory status h = (3, omega arith, sym h)
+
+pub answer_statuses : (seed count : ℕ) (known : Option (List ℕ)) (r : Result Answer ProgramFault) → IfOk r (λ a. AnswersReader seed count known a.text.items a.status)
+    → IfOk r (λ a. (a.status ≡ ended) ⊎ (a.status ≡ refused))
+answer_statuses seed count known (Ok a) answer = answer_status (job_of seed count answer.0) a.text.items a.status answer.2
+answer_statuses seed count known (Err fault) answer = tt
 
 module _ (seed count : ℕ) (known : Option (List ℕ)) (status : ℕ) (old new : Option (List ℕ)) where
   pub output : (r : Result Answer ProgramFault) → IfOk r (λ a. AnswersReader seed count known a.text.items a.status)

@@ -1,5 +1,5 @@
 -- A job that still runs has made a step.
-use Rattle.std.proofs.Common.{◌≡◌, ◌+◌, ℕ, Option, Some, None}
+use Rattle.std.proofs.Common.{◌≡◌, ◌+◌, Option, Some, None}
 use Rattle.gw_scan.specs.State.{State}
 use Rattle.gw_scan.specs.Job.{Job}
 use Rattle.gw_scan.specs.declared.ends.End.{End}

@@ -7,3 +7,4 @@ pub mod Finding
 pub mod Output
 pub mod Input
 pub mod Laws
+pub mod Calls

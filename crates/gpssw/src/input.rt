@@ -1,25 +1,30 @@
 //! Reading the input.
 
-ghost use Rattle.std.specs.Prelude.{◌≡◌, ◌≤◌, ◌<◌, ◌+◌, ◌⊎◌, take, length, IfOk, IfErr, IfSome};
+ghost use Rattle.std.specs.Prelude.{◌≡◌, ◌≤◌, ◌<◌, ◌+◌, ◌⊎◌, false, take, length, IfOk, IfErr, IfSome};
 ghost use Rattle.std.specs.Io.KnownBytes.{Consumes};
 ghost use Rattle.gpssw.specs.Input.{TakesSome};
+ghost use Rattle.gpssw.specs.Calls.{LosesAtMost, TellsReads};
 
 use crate::fault::ProgramFault;
 use gw_object::MOST_BYTES;
+use gw_streams::Input;
 use std::alloc::Global;
 use std::io::Read;
 
 /// One read of at most so many bytes, which are appended to the input. It answers how many came; 0 is the end.
 fn read_some<R: Read>(
-    reader: &mut R,
+    reader: &mut Input<R>,
     most: usize,
     input: &mut Vec<u8>,
 ) -> Result<usize, ProgramFault>
-    requires { 0 < most }
+    requires some { 0 < most }
+    requires unfailed { reader.old.failed ≡ false }
     ensures taken { IfOk result (λ n.
-        TakesSome n most input.old.items input.new.items (R.remaining reader.old) (R.remaining reader.new)) }
+        TakesSome n most input.old.items input.new.items reader.old.left reader.new.left) }
     ensures faults { IfErr result (λ fault.
         (fault ≡ ProgramFault.Read) ⊎ (fault ≡ ProgramFault.Memory)) }
+    ensures told { TellsReads result reader.old.failed reader.new.failed }
+    ensures limited { LosesAtMost most reader.old.left reader.new.left }
 {
     let mut chunk = [0; 4096];
     let room = most.min(chunk.len());
@@ -34,14 +39,17 @@ fn read_some<R: Read>(
 
 /// Reads to the end, but at most one byte more than an object may have: the limit and one, in bytes. A read that fails
 /// ends it, an interrupted one too.
-pub fn read_input<R: Read>(alloc: Global, reader: &mut R) -> Result<Vec<u8>, ProgramFault>
+pub fn read_input<R: Read>(alloc: Global, reader: &mut Input<R>) -> Result<Vec<u8>, ProgramFault>
+    requires { reader.old.failed ≡ false }
     ensures front { IfOk result (λ input.
-        IfSome (R.remaining reader.old) (λ bytes. input.items ≡ take (MOST_BYTES + 1) bytes)) }
+        IfSome reader.old.left (λ bytes. input.items ≡ take (MOST_BYTES + 1) bytes)) }
     ensures within { IfOk result (λ input. length input.items ≤ MOST_BYTES + 1) }
     ensures taken { IfOk result (λ input.
-        Consumes (R.remaining reader.old) (R.remaining reader.new) input.items) }
+        Consumes reader.old.left reader.new.left input.items) }
     ensures faults { IfErr result (λ fault.
         (fault ≡ ProgramFault.Read) ⊎ (fault ≡ ProgramFault.Memory)) }
+    ensures told { TellsReads result reader.old.failed reader.new.failed }
+    ensures limited { LosesAtMost (MOST_BYTES + 1) reader.old.left reader.new.left }
 {
     let mut input = Vec::new(alloc);
     while input.len() <= MOST_BYTES {

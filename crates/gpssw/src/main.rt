@@ -14,6 +14,7 @@ mod tests;
 pub mod words;
 
 use fault::ProgramFault;
+use gw_streams::{Input, Output};
 use program::{deliver, dispatch};
 use std::alloc::AllocError;
 use std::process::ExitCode;
@@ -21,8 +22,8 @@ use std::{env, io};
 
 /// The program over standard input and output. Words that aren't text are wrong words.
 fn main(rt: HostRuntime) -> ExitCode {
-    let mut reader = rt.reader();
-    let mut writer = io::writer(&rt);
+    let mut reader = Input::new(rt.reader());
+    let mut writer = Output::new(io::writer(&rt));
     let status = match env::args(&rt) {
         Ok(mut args) => {
             let _ = args.next();

@@ -1,30 +1,39 @@
 //! Writing the output.
 
-ghost use Rattle.std.specs.Prelude.{◌≡◌, ◌<◌, ◌≤◌, length, take, MatchResult};
+ghost use Rattle.std.specs.Prelude.{◌≡◌, ◌<◌, ◌≤◌, false, length, take, OnOk, MatchResult};
 ghost use Rattle.std.specs.Io.KnownBytes.{Appends, Keeps};
+ghost use Rattle.gw_streams.specs.Streams.{MarksFailure};
 ghost use Rattle.gpssw.specs.Output.{AppendsFront};
 
 use crate::fault::ProgramFault;
+use gw_streams::Output;
 use std::io::Write;
 
-/// One write. It answers how many bytes the writer took, at least 1; a write that takes none is a fault.
-fn write_some<W: Write>(writer: &mut W, text: &[u8]) -> Result<usize, ProgramFault>
-    ensures { MatchResult result
-        (λ n. (0 < n) × (n ≤ length text.now) × Appends (W.contents writer.old) (W.contents writer.new) (take n text.now))
-        (λ fault. (fault ≡ ProgramFault.Write) × Keeps (W.contents writer.old) (W.contents writer.new)) }
+/// One write of a text that isn't empty. It answers how many bytes the writer took, at least 1; a write that takes none
+/// is a fault.
+fn write_some<W: Write>(writer: &mut Output<W>, text: &[u8]) -> Result<usize, ProgramFault>
+    requires some { 0 < length text.now }
+    requires unfailed { writer.old.failed ≡ false }
+    ensures bytes { MatchResult result
+        (λ n. (0 < n) × (n ≤ length text.now) × Appends writer.old.held writer.new.held (take n text.now))
+        (λ fault. (fault ≡ ProgramFault.Write) × Keeps writer.old.held writer.new.held) }
+    ensures told { MarksFailure result writer.old.failed writer.new.failed }
 {
     match writer.write(text) {
-        Ok(0) | Err(_) => Err(ProgramFault::Write),
         Ok(count) => Ok(count),
+        Err(_) => Err(ProgramFault::Write),
     }
 }
 
 /// Writes all of a text. A write that fails ends it, an interrupted one too, and so does one that takes no byte; the
 /// writer then has a front of the text.
-pub fn write_text<W: Write>(writer: &mut W, text: &[u8]) -> Result<(), ProgramFault>
-    ensures { MatchResult result
-        (λ _. Appends (W.contents writer.old) (W.contents writer.new) text.now)
-        (λ fault. (fault ≡ ProgramFault.Write) × AppendsFront (W.contents writer.old) (W.contents writer.new) text.now) }
+pub fn write_text<W: Write>(writer: &mut Output<W>, text: &[u8]) -> Result<(), ProgramFault>
+    requires { writer.old.failed ≡ false }
+    ensures bytes { MatchResult result
+        (λ _. Appends writer.old.held writer.new.held text.now)
+        (λ fault. (fault ≡ ProgramFault.Write) × AppendsFront writer.old.held writer.new.held text.now) }
+    ensures told { MarksFailure result writer.old.failed writer.new.failed }
+    ensures flushed { OnOk result (writer.new.waits ≡ false) }
 {
     let mut written = 0;
     while written < text.len() {

@@ -1,11 +1,12 @@
 //! The program, over its words, a reader and a writer.
 
-ghost use Rattle.std.specs.Prelude.{◌≡◌, ◌≢◌, [], ◌∷◌, map, None, IfOk, MatchResult, MatchOption, Contains};
+ghost use Rattle.std.specs.Prelude.{◌≡◌, ◌≢◌, ◌+◌, [], ◌∷◌, map, false, None, IfOk, OnOk, MatchResult, MatchOption, Contains};
 ghost use Rattle.std.specs.Io.KnownBytes.{Appends};
 ghost use Rattle.std.specs.String.{string_bytes};
 ghost use Rattle.gpssw.specs.Status.{ended, refused, wrong_words, failed, no_memory};
 ghost use Rattle.gpssw.specs.Words.{command_in};
 ghost use Rattle.gpssw.specs.Output.{usage_line, memory_line, AnswersReader, Writes, Fails, Runs, WritesAnswer, Does};
+ghost use Rattle.gpssw.specs.Calls.{LosesFront, LosesAtMost, TellsReads, wanted_status, EndsWith, TellsCalls};
 
 use crate::answer::{Answer, answer_to};
 use crate::fault::ProgramFault;
@@ -13,12 +14,17 @@ use crate::input::read_input;
 use crate::output::write_text;
 use crate::status::{FAILED, NO_MEMORY, WRONG_WORDS};
 use crate::words::{Command, command_of};
+use gw_object::MOST_BYTES;
+use gw_streams::{Input, Output};
 use std::alloc::Global;
 use std::io::{Read, Write};
 
 /// Writes a text, and answers its status, or 3 where a write failed.
-fn write_and_end<W: Write>(writer: &mut W, text: &[u8], status: u8) -> u8
-    ensures { Writes text.now status result (W.contents writer.old) (W.contents writer.new) }
+fn write_and_end<W: Write>(writer: &mut Output<W>, text: &[u8], status: u8) -> u8
+    requires { writer.old.failed ≡ false }
+    ensures bytes { Writes text.now status result writer.old.held writer.new.held }
+    ensures told { EndsWith status result writer.new.failed }
+    ensures flushed { result ≢ failed → writer.new.waits ≡ false }
 {
     match write_text(writer, text) {
         Ok(()) => status,
@@ -27,10 +33,13 @@ fn write_and_end<W: Write>(writer: &mut W, text: &[u8], status: u8) -> u8
 }
 
 /// Writes an answer, or the line on want of memory; where a read failed, nothing. It answers the status.
-pub fn deliver<W: Write>(writer: &mut W, answer: Result<Answer, ProgramFault>) -> u8
-    ensures { MatchResult answer
-        (λ a. Writes a.text.items a.status result (W.contents writer.old) (W.contents writer.new))
-        (λ fault. Fails fault result (W.contents writer.old) (W.contents writer.new)) }
+pub fn deliver<W: Write>(writer: &mut Output<W>, answer: Result<Answer, ProgramFault>) -> u8
+    requires { writer.old.failed ≡ false }
+    ensures bytes { MatchResult answer
+        (λ a. Writes a.text.items a.status result writer.old.held writer.new.held)
+        (λ fault. Fails fault result writer.old.held writer.new.held) }
+    ensures told { EndsWith (wanted_status answer) result writer.new.failed }
+    ensures flushed { result ≢ failed → writer.new.waits ≡ false }
 {
     match answer {
         Ok(Answer { text, status }) => write_and_end(writer, &text, status),
@@ -45,10 +54,14 @@ fn read_and_answer<R: Read>(
     alloc: Global,
     seed: u32,
     count: u64,
-    reader: &mut R,
+    reader: &mut Input<R>,
 ) -> Result<Answer, ProgramFault>
-    ensures { IfOk result (λ a.
-        AnswersReader seed count (R.remaining reader.old) a.text.items a.status) }
+    requires { reader.old.failed ≡ false }
+    ensures answer { IfOk result (λ a.
+        AnswersReader seed count reader.old.left a.text.items a.status) }
+    ensures told { TellsReads result reader.old.failed reader.new.failed }
+    ensures whole { OnOk result (LosesFront (MOST_BYTES + 1) reader.old.left reader.new.left) }
+    ensures limited { LosesAtMost (MOST_BYTES + 1) reader.old.left reader.new.left }
 {
     let input = read_input(alloc, reader)?;
     match answer_to(alloc, seed, count, &input) {
@@ -64,25 +77,36 @@ pub fn run<R: Read, W: Write>(
     alloc: Global,
     seed: u32,
     count: u64,
-    reader: &mut R,
-    writer: &mut W,
+    reader: &mut Input<R>,
+    writer: &mut Output<W>,
 ) -> u8
+    requires reader { reader.old.failed ≡ false }
+    requires writer { writer.old.failed ≡ false }
     ensures answered { result ≢ failed → result ≢ no_memory →
-        WritesAnswer seed count (R.remaining reader.old) result (W.contents writer.old) (W.contents writer.new) }
+        WritesAnswer seed count reader.old.left result writer.old.held writer.new.held }
     ensures memory { result ≡ no_memory →
-        Appends (W.contents writer.old) (W.contents writer.new) memory_line }
+        Appends writer.old.held writer.new.held memory_line }
     ensures statuses { Contains (ended ∷ refused ∷ failed ∷ no_memory ∷ []) result }
 
     // Whatever failed: what was to be written, and how much of it was.
-    ensures output { Runs seed count (R.remaining reader.old) result (W.contents writer.old) (W.contents writer.new) }
+    ensures output { Runs seed count reader.old.left result writer.old.held writer.new.held }
+    ensures calls { TellsCalls result reader.old reader.new writer.old writer.new }
 {
     deliver(writer, read_and_answer(alloc, seed, count, reader))
 }
 
 /// Carries out a command.
-fn perform<R: Read, W: Write>(alloc: Global, command: Command, reader: &mut R, writer: &mut W) -> u8
-    ensures done { Does command (R.remaining reader.old) result (W.contents writer.old) (W.contents writer.new) }
+fn perform<R: Read, W: Write>(
+    alloc: Global,
+    command: Command,
+    reader: &mut Input<R>,
+    writer: &mut Output<W>,
+) -> u8
+    requires reader { reader.old.failed ≡ false }
+    requires writer { writer.old.failed ≡ false }
+    ensures done { Does command reader.old.left result writer.old.held writer.new.held }
     ensures statuses { Contains (ended ∷ refused ∷ failed ∷ no_memory ∷ []) result }
+    ensures calls { TellsCalls result reader.old reader.new writer.old writer.new }
 {
     match command {
         Command::Run { seed, count } => run(alloc, seed, count, reader, writer),
@@ -94,14 +118,17 @@ fn perform<R: Read, W: Write>(alloc: Global, command: Command, reader: &mut R, w
 pub fn dispatch<R: Read, W: Write>(
     alloc: Global,
     words: &[String],
-    reader: &mut R,
-    writer: &mut W,
+    reader: &mut Input<R>,
+    writer: &mut Output<W>,
 ) -> u8
+    requires reader { reader.old.failed ≡ false }
+    requires writer { writer.old.failed ≡ false }
     ensures output { MatchOption (command_in (map string_bytes words.now))
-        (Writes usage_line wrong_words result (W.contents writer.old) (W.contents writer.new))
-        (λ command. Does command (R.remaining reader.old) result (W.contents writer.old) (W.contents writer.new)) }
+        (Writes usage_line wrong_words result writer.old.held writer.new.held)
+        (λ command. Does command reader.old.left result writer.old.held writer.new.held) }
     ensures unread { command_in (map string_bytes words.now) ≡ None → reader.new ≡ reader.old }
     ensures usage { result ≡ wrong_words → command_in (map string_bytes words.now) ≡ None }
+    ensures calls { TellsCalls result reader.old reader.new writer.old writer.new }
 {
     match command_of(words) {
         Some(command) => perform(alloc, command, reader, writer),

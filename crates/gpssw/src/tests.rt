@@ -4,6 +4,7 @@ use crate::program::{dispatch, run};
 use crate::refusal::Refusal;
 use crate::words::{Command, command_of};
 use gw_object::{Fault, Place};
+use gw_streams::{Input, Output};
 use std::alloc::{AllocError, Global};
 use std::io;
 use std::io::{ErrorKind, Read, Write};
@@ -89,6 +90,20 @@ impl Write for OneByOne {
     }
 }
 
+/// Takes all bytes, and can't be flushed.
+#[derive(Drop)]
+struct NeverFlushed;
+
+impl Write for NeverFlushed {
+    fn write(&mut self, buf: &[u8]) -> io::Result<usize> {
+        Ok(buf.len())
+    }
+
+    fn flush(&mut self) -> io::Result<()> {
+        Err(io::Error::from(ErrorKind::Other))
+    }
+}
+
 fn words_of(alloc: Global, words: &[&str]) -> Result<Vec<String>, AllocError> {
     let mut all = Vec::new(alloc);
     for word in words {
@@ -100,9 +115,10 @@ fn words_of(alloc: Global, words: &[&str]) -> Result<Vec<String>, AllocError> {
 #[test]
 fn generate_advance_terminate_ends_at_clock_23(rt: HostRuntime) -> Result<(), Fail> {
     let words = words_of(rt.alloc(), &["run", "0", "0"])?;
-    let mut written = Vec::new(rt.alloc());
-    let status = dispatch(rt.alloc(), &words, &mut &*FIRST, &mut written);
-    assert_eq!(rt; written.as_slice(), FIRST_REPORT);
+    let mut reader = Input::new(FIRST);
+    let mut writer = Output::new(Vec::new(rt.alloc()));
+    let status = dispatch(rt.alloc(), &words, &mut reader, &mut writer);
+    assert_eq!(rt; writer.into_inner().as_slice(), FIRST_REPORT);
     assert_eq!(rt; status, 0);
     Ok(())
 }
@@ -116,10 +132,10 @@ fn refusals_are_one_line_and_status_1(rt: HostRuntime) -> Result<(), Fail> {
         (b"GPSO\x00\x03", 0, 0, b"refused 3 Version at byte 4\n"),
     ];
     for (bytes, seed, count, line) in cases {
-        let mut written = Vec::new(rt.alloc());
-        let mut reader = bytes;
-        let status = run(rt.alloc(), seed, count, &mut reader, &mut written);
-        assert_eq!(rt; written.as_slice(), line);
+        let mut reader = Input::new(bytes);
+        let mut writer = Output::new(Vec::new(rt.alloc()));
+        let status = run(rt.alloc(), seed, count, &mut reader, &mut writer);
+        assert_eq!(rt; writer.into_inner().as_slice(), line);
         assert_eq!(rt; status, 1);
     }
     Ok(())
@@ -151,15 +167,15 @@ fn a_failed_read_writes_nothing(rt: HostRuntime) -> Result<(), Fail> {
     for kind in [ErrorKind::Other, ErrorKind::Interrupted] {
         for cut in [0usize, 50, 97] {
             let (first, rest) = FIRST.split_at(cut);
-            let mut reader = FailsOnce {
+            let mut reader = Input::new(FailsOnce {
                 first,
                 failure: Some(kind),
                 rest,
-            };
-            let mut written = Vec::new(rt.alloc());
-            let status = run(rt.alloc(), 0, 0, &mut reader, &mut written);
+            });
+            let mut writer = Output::new(Vec::new(rt.alloc()));
+            let status = run(rt.alloc(), 0, 0, &mut reader, &mut writer);
             assert_eq!(rt; status, 3);
-            assert!(rt; written.is_empty());
+            assert!(rt; writer.into_inner().is_empty());
         }
     }
     Ok(())
@@ -168,36 +184,51 @@ fn a_failed_read_writes_nothing(rt: HostRuntime) -> Result<(), Fail> {
 #[test]
 fn a_failed_write_leaves_a_front(rt: HostRuntime) -> Result<(), Fail> {
     for failure in [Some(ErrorKind::Other), Some(ErrorKind::Interrupted), None] {
-        let mut writer = OneByOne {
+        let mut writer = Output::new(OneByOne {
             held: Vec::new(rt.alloc()),
             calls: 10,
             failure,
-        };
-        let status = run(rt.alloc(), 0, 0, &mut &*FIRST, &mut writer);
-        assert_eq!(rt; writer.held.as_slice(), b"END Done C".as_slice());
+        });
+        let status = run(rt.alloc(), 0, 0, &mut Input::new(FIRST), &mut writer);
+        assert_eq!(rt;
+            writer.into_inner().held.as_slice(),
+            b"END Done C".as_slice()
+        );
         assert_eq!(rt; status, 3);
     }
-    let mut writer = OneByOne {
+    let mut writer = Output::new(OneByOne {
         held: Vec::new(rt.alloc()),
         calls: 1000,
         failure: None,
-    };
-    assert_eq!(rt; run(rt.alloc(), 0, 0, &mut &*FIRST, &mut writer), 0);
-    assert_eq!(rt; writer.held.as_slice(), FIRST_REPORT);
+    });
+    let status = run(rt.alloc(), 0, 0, &mut Input::new(FIRST), &mut writer);
+    assert_eq!(rt; status, 0);
+    assert_eq!(rt; writer.into_inner().held.as_slice(), FIRST_REPORT);
     Ok(())
+}
+
+/// The status of a run whose report can't be flushed.
+fn status_without_flush(alloc: Global) -> u8 {
+    let mut writer = Output::new(NeverFlushed);
+    run(alloc, 0, 0, &mut Input::new(FIRST), &mut writer)
+}
+
+#[test]
+fn a_failed_flush_is_told(rt: HostRuntime) {
+    assert_eq!(rt; status_without_flush(rt.alloc()), 3);
 }
 
 #[test]
 fn too_long_an_input_is_not_read_to_its_end(rt: HostRuntime) -> Result<(), Fail> {
-    let mut reader = Zeros { given: 0 };
-    let mut written = Vec::new(rt.alloc());
-    let status = run(rt.alloc(), 0, 0, &mut reader, &mut written);
+    let mut reader = Input::new(Zeros { given: 0 });
+    let mut writer = Output::new(Vec::new(rt.alloc()));
+    let status = run(rt.alloc(), 0, 0, &mut reader, &mut writer);
     assert_eq!(rt;
-        written.as_slice(),
+        writer.into_inner().as_slice(),
         b"refused 5 Limit at byte 0\n".as_slice()
     );
     assert_eq!(rt; status, 1);
-    assert_eq!(rt; reader.given, 1_048_577);
+    assert_eq!(rt; reader.into_inner().given, 1_048_577);
     Ok(())
 }
 
@@ -227,12 +258,12 @@ fn other_words_write_the_usage_line_and_read_nothing(rt: HostRuntime) -> Result<
     ];
     for words in wrong {
         let words = words_of(rt.alloc(), words)?;
-        let mut reader = FIRST;
-        let mut written = Vec::new(rt.alloc());
-        let status = dispatch(rt.alloc(), &words, &mut reader, &mut written);
-        assert_eq!(rt; written.as_slice(), USAGE);
+        let mut reader = Input::new(FIRST);
+        let mut writer = Output::new(Vec::new(rt.alloc()));
+        let status = dispatch(rt.alloc(), &words, &mut reader, &mut writer);
+        assert_eq!(rt; writer.into_inner().as_slice(), USAGE);
         assert_eq!(rt; status, 2);
-        assert_eq!(rt; reader.len(), 97);
+        assert_eq!(rt; reader.into_inner().len(), 97);
     }
     Ok(())
 }

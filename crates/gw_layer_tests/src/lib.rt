@@ -1,4 +1,4 @@
-//! Tests of the layers below the machine: what no contract says of numbers, fields, objects, kinds, flow, entities, the verifier,
+//! Tests of the layers below the machine: what no contract says of numbers, fields, readers and writers, objects, kinds, flow, entities, the verifier,
 //! chains and transactions, on values worked out by hand.
 #![tactic(auto)]
 
@@ -18,6 +18,8 @@ mod models;
 mod numbers;
 #[cfg(test)]
 mod objects;
+#[cfg(test)]
+mod streams;
 #[cfg(test)]
 mod transactions;
 #[cfg(test)]

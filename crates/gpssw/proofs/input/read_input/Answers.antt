@@ -1,5 +1,5 @@
 use Rattle.std.proofs.Common.{arith}
-use Rattle.gpssw.proofs.Bytes.{filled, last_read}
+use Rattle.gpssw.proofs.Bytes.{filled, last_read, lost_more}
 use Rattle.gpssw.proofs.input.read_input.Goals as goal
 
 pub returns-then-branch-eq0-clause-front : goal.returns-then-branch-eq0-clause-front
@@ -8,3 +8,6 @@ returns-then-branch-eq0-clause-front g c =
 
 pub returns-clause-front : goal.returns-clause-front
 returns-clause-front g c = filled 1048577 _ _ c.loop-input.input.items (omega arith) c.loop-input.invariant.taken
+
+pub returns-in_err-read_some-clause-limited : goal.returns-in_err-read_some-clause-limited
+returns-in_err-read_some-clause-limited g c = lost_more 1048577 _ c.loop-input.input.items _ _ _ (omega arith) c.loop-input.invariant.taken c.in_err-read_some.ensures.limited

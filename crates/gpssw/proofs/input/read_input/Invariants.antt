@@ -1,4 +1,4 @@
-use Rattle.std.proofs.Common.{◌≤◌, ◌-◌, length}
+use Rattle.std.proofs.Common.{◌≡◌, ◌≤◌, ◌-◌, length}
 use Rattle.std.specs.Io.KnownBytes.{Consumes}
 use Rattle.gpssw.proofs.input.read_input.Given as goal
 
@@ -6,7 +6,8 @@ abbrev pub invariant-loop-input : goal.invariant-loop-input
 invariant-loop-input g l =
     record {
       within : length l.input.items ≤ 1048577;
-      taken : Consumes (g.R.Read.remaining l.initial.reader) (g.R.Read.remaining l.reader) l.input.items;
+      taken : Consumes l.initial.reader.left l.reader.left l.input.items;
+      unfailed : l.reader.failed ≡ l.initial.reader.failed;
     }
 
 abbrev pub decreases-loop-input : goal.decreases-loop-input

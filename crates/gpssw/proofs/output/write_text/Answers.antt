@@ -1,4 +1,4 @@
-use Rattle.std.proofs.Common.{◌≤◌, ◌+◌, ◌-◌, ℕ, List, Option, take, drop, length, arith, length-drop}
+use Rattle.std.proofs.Common.{◌≤◌, ◌+◌, ◌-◌, ℕ, List, Option, take, drop, length, arith, length-drop, ◌∙◌}
 use Rattle.std.proofs.Math.Seq.{take-add}
 use Rattle.std.proofs.KnownBytes.{Appends-trans}
 use Rattle.std.specs.Io.KnownBytes.{Appends}
@@ -16,6 +16,7 @@ within text i n low h = let k = rw (take_rest text i) at h in omega (arith, leng
 
 pub loop-written-preserved : goal.loop-written-preserved
 loop-written-preserved g c = record {
-  within = within c.args.text.now c.loop-written.written c.in_ok-count.count c.loop-written.invariant.within c.in_ok-count.ensures.1;
-  front = more _ _ _ c.args.text.now c.loop-written.written c.in_ok-count.count c.loop-written.invariant.front c.in_ok-count.ensures.2;
+  within = within c.args.text.now c.loop-written.written c.in_ok-count.count c.loop-written.invariant.within c.in_ok-count.ensures.bytes.1;
+  front = more _ _ _ c.args.text.now c.loop-written.written c.in_ok-count.count c.loop-written.invariant.front c.in_ok-count.ensures.bytes.2;
+  unfailed = c.in_ok-count.ensures.told ∙ c.loop-written.invariant.unfailed;
 }

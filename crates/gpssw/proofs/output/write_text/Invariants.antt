@@ -1,4 +1,4 @@
-use Rattle.std.proofs.Common.{length, ◌-◌, ◌≤◌, take}
+use Rattle.std.proofs.Common.{◌≡◌, length, ◌-◌, ◌≤◌, take}
 use Rattle.std.specs.Io.KnownBytes.{Appends}
 use Rattle.gpssw.proofs.output.write_text.Given as goal
 
@@ -6,7 +6,8 @@ abbrev pub invariant-loop-written : goal.invariant-loop-written
 invariant-loop-written g l =
     record {
       within : l.written ≤ length l.text;
-      front : Appends (g.W.Write.contents l.initial.writer) (g.W.Write.contents l.writer) (take l.written l.text);
+      front : Appends l.initial.writer.held l.writer.held (take l.written l.text);
+      unfailed : l.writer.failed ≡ l.initial.writer.failed;
     }
 
 abbrev pub decreases-loop-written : goal.decreases-loop-written
