@@ -25,6 +25,24 @@ fn object(alloc: Global) -> Result<Object, Fail>
     built(parts)
 }
 
+/// What follows steps, each of which says how it goes.
+trait Followed {
+    type Step;
+
+    /// Whether a step goes as it says.
+    fn follows(&mut self, step: &Self::Step) -> bool;
+
+    /// The place, from 0, of the first step that goes otherwise.
+    fn wrong_step(&mut self, steps: &[Self::Step]) -> Option<usize> {
+        for i in 0..steps.len() {
+            if !self.follows(&steps[i]) {
+                return Some(i);
+            }
+        }
+        None
+    }
+}
+
 /// What is done with the facility, and what is then to be seen.
 #[derive(Clone, Copy)]
 enum FacilityStep {
@@ -79,8 +97,11 @@ impl OneFacility {
     fn reads(&self, facility: Facility, average: Average) -> bool {
         self.facilities.get(0) == facility && self.facilities.average(0) == average
     }
+}
 
-    /// Whether a step goes as it says.
+impl Followed for OneFacility {
+    type Step = FacilityStep;
+
     fn follows(&mut self, step: &FacilityStep) -> bool {
         match step {
             FacilityStep::Seize(xn, seized) => self.seizes(*xn, *seized),
@@ -96,16 +117,6 @@ impl OneFacility {
                 self.reads(facility, average(*whole, *thousandths))
             }
         }
-    }
-
-    /// The place, from 0, of the first step that goes otherwise.
-    fn wrong_step(&mut self, steps: &[FacilityStep]) -> Option<usize> {
-        for i in 0..steps.len() {
-            if !self.follows(&steps[i]) {
-                return Some(i);
-            }
-        }
-        None
     }
 }
 
@@ -162,8 +173,11 @@ impl OneStorage {
         };
         self.storages.get(1) == storage && self.storages.average(1) == average
     }
+}
 
-    /// Whether a step goes as it says.
+impl Followed for OneStorage {
+    type Step = StorageStep;
+
     fn follows(&mut self, step: &StorageStep) -> bool {
         match step {
             StorageStep::Enter(n, entered) => self.enters(*n, *entered),
@@ -179,16 +193,6 @@ impl OneStorage {
                 self.reads(contents, average(*whole, *thousandths))
             }
         }
-    }
-
-    /// The place, from 0, of the first step that goes otherwise.
-    fn wrong_step(&mut self, steps: &[StorageStep]) -> Option<usize> {
-        for i in 0..steps.len() {
-            if !self.follows(&steps[i]) {
-                return Some(i);
-            }
-        }
-        None
     }
 }
 
@@ -234,7 +238,20 @@ impl OneQueue {
         self.queues.get(2) == contents && self.queues.average(2) == average
     }
 
-    /// Whether a step goes as it says.
+    /// Lets four thousand million units join so often; whether they all could.
+    fn fills(&mut self, times: u32) -> bool {
+        for _ in 0..times {
+            if self.queues.join_queue(2, 4_000_000_000).is_err() {
+                return false;
+            }
+        }
+        true
+    }
+}
+
+impl Followed for OneQueue {
+    type Step = QueueStep;
+
     fn follows(&mut self, step: &QueueStep) -> bool {
         match step {
             QueueStep::Join(n, joined) => self.queues.join_queue(2, *n) == *joined,
@@ -250,26 +267,6 @@ impl OneQueue {
                 self.reads(contents, average(*whole, *thousandths))
             }
         }
-    }
-
-    /// The place, from 0, of the first step that goes otherwise.
-    fn wrong_step(&mut self, steps: &[QueueStep]) -> Option<usize> {
-        for i in 0..steps.len() {
-            if !self.follows(&steps[i]) {
-                return Some(i);
-            }
-        }
-        None
-    }
-
-    /// Lets four thousand million units join so often; whether they all could.
-    fn fills(&mut self, times: u32) -> bool {
-        for _ in 0..times {
-            if self.queues.join_queue(2, 4_000_000_000).is_err() {
-                return false;
-            }
-        }
-        true
     }
 }
 
