@@ -9,7 +9,7 @@ use Rattle.gw_scan.specs.Making.{spec_fault, job_from}
 use Rattle.gw_scan.specs.Job.{Job}
 use Rattle.gpssw.specs.Status.{refused, run_budget}
 use Rattle.gpssw.specs.Refusal.{refusal_line, start_refusal}
-use Rattle.gpssw.specs.Answer.{◌>>=◌, Concludes, job_of, unless, verified, made, seeds_given}
+use Rattle.gpssw.specs.Answer.{◌>>=◌, Concludes, job_of, unless, verified, job_made, seeds_given}
 use Rattle.gpssw.specs.Laws.{SomeAnswer}
 use Rattle.gpssw.proofs.Conclusions.{job_concludes}
 
@@ -17,14 +17,14 @@ kept : {A : Type 0} (o : Option Fault) (x y : A) → unless o x ≡ Ok y → x �
 kept None x y h = cc
 kept (Some fault) x y h = absurd cc
 
-budget_of : (seed count : ℕ) (o : Option Fault) (p : Parts) (j : Job) → ((unless o p) >>= made seed count) ≡ Ok j → j.budget ≡ run_budget
+budget_of : (seed count : ℕ) (o : Option Fault) (p : Parts) (j : Job) → ((unless o p) >>= job_made seed count) ≡ Ok j → j.budget ≡ run_budget
 budget_of seed count None p j h =
     let seeds = seeds_given seed in
     let same = kept (option_map start_refusal (spec_fault seeds count run_budget)) (job_from p seeds count run_budget) j h in
     ap (λ (k : Job). k.budget) (sym same)
 budget_of seed count (Some fault) p j h = absurd cc
 
-budget_read : (seed count : ℕ) (r : Result Parts Fault) (j : Job) → (r >>= verified >>= made seed count) ≡ Ok j → j.budget ≡ run_budget
+budget_read : (seed count : ℕ) (r : Result Parts Fault) (j : Job) → (r >>= verified >>= job_made seed count) ≡ Ok j → j.budget ≡ run_budget
 budget_read seed count (Ok p) j h = budget_of seed count (fault_of p) p j h
 budget_read seed count (Err fault) j h = absurd cc
 

@@ -31,13 +31,14 @@ unless (Some fault) x = Err fault
 abbrev pub verified : Parts → Result Parts Fault
 verified parts = unless (fault_of parts) parts
 
-abbrev pub made : ℕ → ℕ → Parts → Result Job Fault
-made seed count parts =
+-- the job that is made of an object with this seed and this count, or the refusal of the two
+abbrev pub job_made : ℕ → ℕ → Parts → Result Job Fault
+job_made seed count parts =
     unless (option_map start_refusal (spec_fault (seeds_given seed) count run_budget)) (job_from parts (seeds_given seed) count run_budget)
 
 -- the job of the object that these bytes spell; or the refusal of the first that refuses: reading, verifying, making a job
 unfoldable pub job_of : ℕ → ℕ → List ℕ → Result Job Fault
-job_of seed count bytes = first_fault bytes >>= verified >>= made seed count
+job_of seed count bytes = first_fault bytes >>= verified >>= job_made seed count
 
 -- the report of the final state that the lone run reaches
 pub record Ends (j : Job) (text : List ℕ) : Type 0 where

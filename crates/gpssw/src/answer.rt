@@ -5,8 +5,8 @@ ghost use Rattle.gw_scan.specs.Job.{Alone};
 ghost use Rattle.gpssw.specs.Status.{refused as refused_status};
 ghost use Rattle.gpssw.specs.Refusal.{refusal_line};
 ghost use Rattle.gw_object.specs.Reading.{first_fault};
-ghost use Rattle.gpssw.specs.Answer.{verified, made, job_of, Concludes, IsAnswer};
-ghost use Rattle.gpssw.specs.Finding.{Finds};
+ghost use Rattle.gpssw.specs.Answer.{verified, job_made, job_of, Concludes, IsAnswer};
+ghost use Rattle.gpssw.specs.Finding.{FindsJob};
 ghost use Rattle.gpssw.specs.Conclusion.{IsOver};
 
 use crate::refusal::Refusal;
@@ -103,7 +103,7 @@ enum NoJob {
 
 /// Reads the object that the bytes spell.
 fn object_in(alloc: Global, input: &[u8]) -> Result<Object, NoJob>
-    ensures { Finds result (first_fault input.now) }
+    ensures { FindsJob result (first_fault input.now) }
 {
     match read(alloc, input) {
         Ok(object) => Ok(object),
@@ -114,7 +114,7 @@ fn object_in(alloc: Global, input: &[u8]) -> Result<Object, NoJob>
 
 /// Accepts an object, or refuses it.
 fn verified_object(alloc: Global, object: Object) -> Result<Verified, NoJob>
-    ensures { Finds result (verified object) }
+    ensures { FindsJob result (verified object) }
 {
     match verify(alloc, object) {
         Ok(verified) => Ok(verified),
@@ -125,7 +125,7 @@ fn verified_object(alloc: Global, object: Object) -> Result<Verified, NoJob>
 
 /// A job with this one seed and this count; 0 means the object's own.
 fn spec_with(verified: Verified, seed: u32, count: u64) -> Result<Spec, NoJob>
-    ensures found { Finds result (made seed count verified) }
+    ensures found { FindsJob result (job_made seed count verified) }
     ensures budget { IfOk result (λ spec. spec.budget ≡ BUDGET) }
 {
     let given = [seed];
@@ -139,7 +139,7 @@ fn spec_with(verified: Verified, seed: u32, count: u64) -> Result<Spec, NoJob>
 /// The job of the object that the bytes spell.
 #[tactic(auto, unfolding(crate::specs::Answer::job_of))]
 fn spec_of(alloc: Global, seed: u32, count: u64, input: &[u8]) -> Result<Spec, NoJob>
-    ensures found { Finds result (job_of seed count input.now) }
+    ensures found { FindsJob result (job_of seed count input.now) }
     ensures budget { IfOk result (λ spec. spec.budget ≡ BUDGET) }
 {
     let object = object_in(alloc, input)?;

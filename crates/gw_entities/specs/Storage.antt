@@ -1,16 +1,9 @@
 -- Storages: what is inside stays within the capacity.
 use Rattle.std.specs.Prelude.{ℕ, ◌+◌, Bool, true, false, nat_le, Result, Ok, Err, if◌then◌else◌}
-use Rattle.gw_object.specs.declared.parts.Kind.{Kind}
-use Rattle.gw_object.specs.declared.parts.Kind.TheVariants as kinds
 use Rattle.gw_entities.specs.declared.storages.Storage.{Storage}
 use Rattle.gw_entities.specs.declared.stop.Stop.{Stop}
 use Rattle.gw_entities.specs.declared.stop.Stop.TheVariants.{OverCapacity, TooFew}
 use Rattle.gw_entities.specs.Contents.{empty, holds, added, taken, contents_after}
-
--- the capacity of an entity; 0 where it is no storage
-abbrev pub capacity_of : Kind → ℕ
-capacity_of (kinds.Storage capacity) = capacity
-capacity_of other = 0
 
 -- a storage of this capacity with nothing inside
 abbrev pub vacant : ℕ → Storage

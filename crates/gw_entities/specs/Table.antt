@@ -3,13 +3,14 @@
 use Rattle.std.specs.Prelude.{ℕ, ◌+◌, List, map, Result, Ok, Err}
 use Rattle.gw_num.specs.Table.{at, put}
 use Rattle.gw_object.specs.declared.parts.Entity.{Entity}
+use Rattle.gw_object.specs.Entities.{capacity_of}
 use Rattle.gw_entities.specs.declared.contents.Contents.{Contents}
 use Rattle.gw_entities.specs.declared.facilities.Facility.{Facility}
 use Rattle.gw_entities.specs.declared.storages.Storage.{Storage}
 use Rattle.gw_entities.specs.declared.stop.Stop.{Stop}
 use Rattle.gw_entities.specs.Contents.{empty, contents_after}
 use Rattle.gw_entities.specs.Facility.{idle, facility_after}
-use Rattle.gw_entities.specs.Storage.{capacity_of, vacant, storage_after}
+use Rattle.gw_entities.specs.Storage.{vacant, storage_after}
 
 -- FACILITIES
 
@@ -27,8 +28,8 @@ abbrev pub facility_at : ℕ → FacilityTable → Facility
 facility_at f t = at idle t.facilities f
 
 -- the table with this facility at a number, and every other one as it was
-abbrev pub with_facility : ℕ → Facility → FacilityTable → FacilityTable
-with_facility f facility t = record t { facilities = put idle t.facilities f facility }
+abbrev pub set_facility : ℕ → Facility → FacilityTable → FacilityTable
+set_facility f facility t = record t { facilities = put idle t.facilities f facility }
 
 -- so many clock units later
 abbrev pub facilities_after : ℕ → FacilityTable → FacilityTable
@@ -50,8 +51,8 @@ abbrev pub storage_at : ℕ → StorageTable → Storage
 storage_at s t = at (vacant 0) t.storages s
 
 -- the table with this storage at a number, and every other one as it was
-abbrev pub with_storage : ℕ → Storage → StorageTable → StorageTable
-with_storage s storage t = record t { storages = put (vacant 0) t.storages s storage }
+abbrev pub set_storage : ℕ → Storage → StorageTable → StorageTable
+set_storage s storage t = record t { storages = put (vacant 0) t.storages s storage }
 
 -- so many clock units later
 abbrev pub storages_after : ℕ → StorageTable → StorageTable
@@ -73,8 +74,8 @@ abbrev pub queue_at : ℕ → QueueTable → Contents
 queue_at q t = at empty t.queues q
 
 -- the table with this queue at a number, and every other one as it was
-abbrev pub with_queue : ℕ → Contents → QueueTable → QueueTable
-with_queue q queue t = record t { queues = put empty t.queues q queue }
+abbrev pub set_queue : ℕ → Contents → QueueTable → QueueTable
+set_queue q queue t = record t { queues = put empty t.queues q queue }
 
 -- so many clock units later
 abbrev pub queues_after : ℕ → QueueTable → QueueTable

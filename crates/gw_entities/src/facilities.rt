@@ -4,7 +4,7 @@ ghost use Rattle.std.specs.Prelude.{◌≡◌, ◌≤◌, ◌<◌, ◌+◌, ◌^
 ghost use Rattle.gw_entities.specs.Average.{average};
 ghost use Rattle.gw_entities.specs.Facility as model;
 ghost use Rattle.gw_entities.specs.Fits.{FacilityFits};
-ghost use Rattle.gw_entities.specs.Table.{facilities_of, facility_at, with_facility, facilities_after, with_left};
+ghost use Rattle.gw_entities.specs.Table.{facilities_of, facility_at, set_facility, facilities_after, with_left};
 
 use crate::average::{Average, average_of};
 use crate::numbered::{Numbered, Timed};
@@ -126,7 +126,7 @@ impl Facilities {
         requires there { f < length self.old.facilities }
         requires few { (facility_at f self.old).entries < 2 ^ 62 }
         ensures value { with_left result (facility_at f self.new) ≡ model.seizing xn (facility_at f self.old) }
-        ensures others { self.new ≡ with_facility f (facility_at f self.new) self.old }
+        ensures others { self.new ≡ set_facility f (facility_at f self.new) self.old }
         ensures busy { result ≡ Ok false → self.new ≡ self.old }
         ensures stopped { OnErr result (self.new ≡ self.old) }
         ensures count { length self.new.facilities ≡ length self.old.facilities }
@@ -145,7 +145,7 @@ impl Facilities {
     pub fn release(&mut self, f: u16, xn: u64) -> Result<(), Stop>
         requires { f < length self.old.facilities }
         ensures value { with_left result (facility_at f self.new) ≡ model.releasing xn (facility_at f self.old) }
-        ensures others { self.new ≡ with_facility f (facility_at f self.new) self.old }
+        ensures others { self.new ≡ set_facility f (facility_at f self.new) self.old }
         ensures stopped { OnErr result (self.new ≡ self.old) }
         ensures count { length self.new.facilities ≡ length self.old.facilities }
     {

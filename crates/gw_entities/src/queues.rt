@@ -5,7 +5,7 @@ ghost use Rattle.gw_entities.specs.Average.{average};
 ghost use Rattle.gw_entities.specs.Contents as contents;
 ghost use Rattle.gw_entities.specs.Fits.{QueueFits};
 ghost use Rattle.gw_entities.specs.Queue as model;
-ghost use Rattle.gw_entities.specs.Table.{queues_of, queue_at, with_queue, queues_after, with_left};
+ghost use Rattle.gw_entities.specs.Table.{queues_of, queue_at, set_queue, queues_after, with_left};
 
 use crate::average::{Average, average_of};
 use crate::contents::Contents;
@@ -102,7 +102,7 @@ impl Queues {
     pub fn join_queue(&mut self, q: u16, n: u32) -> Result<(), Stop>
         requires { q < length self.old.queues }
         ensures value { with_left result (queue_at q self.new) ≡ model.joining n (queue_at q self.old) }
-        ensures others { self.new ≡ with_queue q (queue_at q self.new) self.old }
+        ensures others { self.new ≡ set_queue q (queue_at q self.new) self.old }
         ensures stopped { OnErr result (self.new ≡ self.old) }
         ensures count { length self.new.queues ≡ length self.old.queues }
     {
@@ -120,7 +120,7 @@ impl Queues {
     pub fn depart(&mut self, q: u16, n: u32) -> Result<(), Stop>
         requires { q < length self.old.queues }
         ensures value { with_left result (queue_at q self.new) ≡ model.departing n (queue_at q self.old) }
-        ensures others { self.new ≡ with_queue q (queue_at q self.new) self.old }
+        ensures others { self.new ≡ set_queue q (queue_at q self.new) self.old }
         ensures stopped { OnErr result (self.new ≡ self.old) }
         ensures count { length self.new.queues ≡ length self.old.queues }
     {

@@ -1,10 +1,11 @@
 //! Storages.
 
 ghost use Rattle.std.specs.Prelude.{◌≡◌, ◌≤◌, ◌<◌, ◌+◌, ◌^◌, ℕ, length, IfOk, OnErr, Ok, false};
+ghost use Rattle.gw_object.specs.Entities.{capacity_of};
 ghost use Rattle.gw_entities.specs.Average.{average};
 ghost use Rattle.gw_entities.specs.Fits.{StorageFits};
 ghost use Rattle.gw_entities.specs.Storage as model;
-ghost use Rattle.gw_entities.specs.Table.{storages_of, storage_at, with_storage, storages_after, with_left};
+ghost use Rattle.gw_entities.specs.Table.{storages_of, storage_at, set_storage, storages_after, with_left};
 
 use crate::average::{Average, average_of};
 use crate::contents::Contents;
@@ -71,7 +72,7 @@ impl Storage {
 }
 
 impl Timed for Storage {
-    ghost fresh = { λ kind. model.vacant (model.capacity_of kind) };
+    ghost fresh = { λ kind. model.vacant (capacity_of kind) };
 
     ghost after = { model.storage_after };
 
@@ -127,7 +128,7 @@ impl Storages {
         requires there { s < length self.old.storages }
         requires few { (storage_at s self.old).contents.entries + n ≤ 2 ^ 62 }
         ensures value { with_left result (storage_at s self.new) ≡ model.entering n (storage_at s self.old) }
-        ensures others { self.new ≡ with_storage s (storage_at s self.new) self.old }
+        ensures others { self.new ≡ set_storage s (storage_at s self.new) self.old }
         ensures full { result ≡ Ok false → self.new ≡ self.old }
         ensures stopped { OnErr result (self.new ≡ self.old) }
         ensures count { length self.new.storages ≡ length self.old.storages }
@@ -146,7 +147,7 @@ impl Storages {
     pub fn leave(&mut self, s: u16, n: u32) -> Result<(), Stop>
         requires { s < length self.old.storages }
         ensures value { with_left result (storage_at s self.new) ≡ model.leaving n (storage_at s self.old) }
-        ensures others { self.new ≡ with_storage s (storage_at s self.new) self.old }
+        ensures others { self.new ≡ set_storage s (storage_at s self.new) self.old }
         ensures stopped { OnErr result (self.new ≡ self.old) }
         ensures count { length self.new.storages ≡ length self.old.storages }
     {

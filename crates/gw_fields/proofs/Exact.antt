@@ -452,11 +452,22 @@ by_tag_within spell Fits forms exact [] e fits h = rw (← err_is (bad codes.tru
 by_tag_within spell Fits forms exact (tag ∷ rest) e fits h = form_within spell Fits forms exact tag rest e (IsBytes-rest tag rest fits) h
 
 -- a tag, and the field behind it of the form that is found by it
-pub tag_cut : {A B : Type 0} (forms : List (Form A)) (tag : ℕ) (make : B → A) (f : Field B) → ((bytes rest : List ℕ) → form_read forms tag bytes rest ≡ (behind tag make f).1 rest) → IsExact f → (x : B) → f.Fits x → CutsFronts (by_tag forms) (tag ∷ f.spell x)
+tag_cut : {A B : Type 0} (forms : List (Form A)) (tag : ℕ) (make : B → A) (f : Field B) → ((bytes rest : List ℕ) → form_read forms tag bytes rest ≡ (behind tag make f).1 rest) → IsExact f → (x : B) → f.Fits x → CutsFronts (by_tag forms) (tag ∷ f.spell x)
 tag_cut forms tag make f found exact x fits [] begins = refl
 tag_cut forms tag make f found exact x fits (b ∷ front) begins =
     let tail = front_tail tag b (f.spell x) front begins in
     rw (← tail.0, found (tag ∷ front) front) (cut_stays (f.read front) (λ y. Ok (make y.0, y.1)) (exact.cut x fits front tail.1))
+
+-- these bytes are read again, whatever stands behind them, and each proper front of them is truncated
+pub record ReadsBack {A : Type 0} (read : List ℕ → Read A) (spelling : List ℕ) (x : A) : Type 0 where
+  pub again : (rest : List ℕ) → read (spelling ++ rest) ≡ Ok (x, rest)
+  pub cut : CutsFronts read spelling
+
+pub tag_reads_back : {A B : Type 0} (forms : List (Form A)) (tag : ℕ) (make : B → A) (f : Field B) → ((bytes rest : List ℕ) → form_read forms tag bytes rest ≡ (behind tag make f).1 rest) → IsExact f → (x : B) → f.Fits x → ReadsBack (by_tag forms) (tag ∷ f.spell x) (make x)
+tag_reads_back forms tag make f found exact x fits = record {
+  again = λ rest. found (tag ∷ (f.spell x ++ rest)) (f.spell x ++ rest) ∙ rw (exact.again x rest fits) refl;
+  cut = tag_cut forms tag make f found exact x fits;
+}
 
 -- ---- 00, or 01 and a value
 

@@ -195,16 +195,16 @@ last_tested test code f =
     let at = λ (left : ℕ). tested (λ x. if left == 0 then test x else true) code f in
     record { spell = f.spell; read = λ front left. (at left).read; Fits = λ front left. (at left).Fits }
 
--- whether a key is above the one before it, if there is one
-abbrev pub is_above : Option ℕ → ℕ → Bool
-is_above None key = true
-is_above (Some before) key = nat_lt before key
+-- whether a key is above the one before it, if there is one, in this order of keys
+abbrev pub is_above : {K : Type 0} → (K → K → Bool) → Option K → K → Bool
+is_above is_below None key = true
+is_above is_below (Some before) key = is_below before key
 
--- an element that begins with a key, above that of the last element at the front; else the key is a fault
-abbrev pub ascending : {A B : Type 0} → (ℕ × B → A) → (A → ℕ × B) → Field ℕ → Field B → Element A
-ascending {A} make back key f =
+-- an element that begins with a key, above that of the last element at the front in this order; else the key is a fault
+abbrev pub ascending : {K A B : Type 0} → (K → K → Bool) → (K × B → A) → (A → K × B) → Field K → Field B → Element A
+ascending {K} {A} is_below make back key f =
     let last = λ (front : List A). option_map (λ x. (back x).0) (slice_get front (length front - 1)) in
-    let at = λ (front : List A). made make back (both (tested (is_above (last front)) codes.not_canonical key) f) in
+    let at = λ (front : List A). made make back (both (tested (is_above is_below (last front)) codes.not_canonical key) f) in
     record { spell = (made make back (both key f)).spell; read = λ front left. (at front).read; Fits = λ front left. (at front).Fits }
 
 -- so many elements behind those at the front

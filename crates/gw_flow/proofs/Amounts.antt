@@ -3,7 +3,7 @@ use Rattle.std.proofs.Common.{◌≡◌, ℕ, List, [], ◌∷◌, ◌++◌, nat
 use Rattle.std.specs.Prelude.{filter, option_to_list, option_map}
 use Rattle.std.proofs.lemmas.List.{map-append, append-nil}
 use Rattle.std.proofs.lemmas.Bool.{ne_eqb}
-use Rattle.gw_flow.specs.declared.state.Amount.{Amount}
+use Rattle.gw_flow.specs.declared.abstract_state.Amount.{Amount}
 use Rattle.gw_flow.specs.Entries.{with_entry}
 use Rattle.gw_flow.specs.Rows.{nonzero}
 use Rattle.gw_flow.specs.Seen.{amounts_of}

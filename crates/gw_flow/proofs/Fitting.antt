@@ -1,28 +1,28 @@
 -- Fitting: its test decides it, each state fits itself, and what fits is carried on.
-use Rattle.std.proofs.Common.{◌≡◌, ◌≢◌, ◌⊎◌, inl, inr, ⊎_elim, ℕ, ◌≤◌, List, [], ◌∷◌, Option, Some, None, Bool, true, refl, sym, subst, ◌∙◌, arith, nat_le, ◌==◌, ◌&&◌}
-use Rattle.std.specs.Prelude.{Decides, nat_eq}
+use Rattle.std.proofs.Common.{◌≡◌, ◌≢◌, ◌⊎◌, inl, inr, ⊎_elim, ℕ, ◌≤◌, List, [], ◌∷◌, Option, Some, None, Bool, true, refl, subst, ◌∙◌, arith, nat_le, ◌==◌, ◌&&◌}
+use Rattle.std.specs.Prelude.{Decides, IsTrue, nat_eq}
 use Rattle.std.specs.List.{list_all}
 use Rattle.std.specs.Cmp.Lexicographic.{pointwise, bytes_decides}
 use Rattle.std.proofs.lemmas.Bool.{cases_eq, eq-eqb, ne_eqb, and_parts, and_from, or_left, or_right, false≢true, le-leb, leb-true}
 use Rattle.gw_flow.specs.Entries.{lists, entry, amount_of}
-use Rattle.gw_flow.specs.Rows.{ParamKind, Num, Ret, kind_of, KindFits, kind_fits, params_fit, units_fit}
+use Rattle.gw_flow.specs.Rows.{ParamKind, Num, Ret, kind_of, kind_fits, params_fit, units_fit}
 use Rattle.gw_flow.specs.Laws.{FitsIsDecided, FitsItself, FitsOn}
 
 -- LISTS
 
-listed : (bs cs : List ℕ) → list_all (λ b. lists cs b) bs ≡ true → (b : ℕ) → lists bs b ≡ true → lists cs b ≡ true
-listed [] cs h b q = absurd (false≢true q)
-listed (x ∷ bs) cs h b q =
+included : (bs cs : List ℕ) → list_all (λ b. lists cs b) bs ≡ true → (b : ℕ) → lists bs b ≡ true → lists cs b ≡ true
+included [] cs h b q = absurd (false≢true q)
+included (x ∷ bs) cs h b q =
     let p = and_parts (lists cs x) (list_all (λ b. lists cs b) bs) h in
     ⊎_elim
     (λ (e : x ≡ b). subst (λ z. lists cs z ≡ true) e p.0)
-    (λ (ne : x ≢ b). listed bs cs p.1 b (rw (ne_eqb x b ne) at q))
+    (λ (ne : x ≢ b). included bs cs p.1 b (rw (ne_eqb x b ne) at q))
     (cases_eq x b)
 
-listed_from : (bs cs : List ℕ) → ((b : ℕ) → lists bs b ≡ true → lists cs b ≡ true) → list_all (λ b. lists cs b) bs ≡ true
-listed_from [] cs h = refl
-listed_from (x ∷ bs) cs h =
-    and_from (lists cs x) (list_all (λ b. lists cs b) bs) (h x (or_left (x == x) (lists bs x) (eq-eqb x x refl))) (listed_from bs cs (λ b q. h b (or_right (x == b) (lists bs b) q)))
+included_from : (bs cs : List ℕ) → ((b : ℕ) → lists bs b ≡ true → lists cs b ≡ true) → list_all (λ b. lists cs b) bs ≡ true
+included_from [] cs h = refl
+included_from (x ∷ bs) cs h =
+    and_from (lists cs x) (list_all (λ b. lists cs b) bs) (h x (or_left (x == x) (lists bs x) (eq-eqb x x refl))) (included_from bs cs (λ b q. h b (or_right (x == b) (lists bs b) q)))
 
 -- what is tested at each number that has an entry
 each_entry : {X : Type 0} (test : ℕ → Bool) (es : List (ℕ × X)) → list_all (λ e. test e.0) es ≡ true → (n : ℕ) → (entry es n ≡ None) ⊎ (test n ≡ true)
@@ -40,39 +40,31 @@ each_entry_from test (e ∷ es) h = and_from (test e.0) (list_all (λ e. test e.
 
 -- KINDS
 
-kind_decided : (held said : Option ParamKind) → Decides (kind_fits held said) (KindFits held said)
-kind_decided held None = (λ h. tt, λ h. refl)
-kind_decided (Some Num) (Some Num) = (λ h. tt, λ h. refl)
-kind_decided (Some (Ret bs)) (Some (Ret cs)) = (listed bs cs, listed_from bs cs)
-kind_decided None (Some kind) = (λ h. false≢true h, λ h. absurd h)
-kind_decided (Some Num) (Some (Ret cs)) = (λ h. false≢true h, λ h. absurd h)
-kind_decided (Some (Ret bs)) (Some Num) = (λ h. false≢true h, λ h. absurd h)
+kind_itself : (kind : Option ParamKind) → IsTrue (kind_fits kind kind)
+kind_itself None = refl
+kind_itself (Some Num) = refl
+kind_itself (Some (Ret bs)) = included_from bs bs (λ b h. h)
 
-kind_itself : (kind : Option ParamKind) → KindFits kind kind
-kind_itself None = tt
-kind_itself (Some Num) = tt
-kind_itself (Some (Ret bs)) = λ b h. h
-
-kind_on : (j k l : Option ParamKind) → KindFits j k → KindFits k l → KindFits j l
-kind_on j k None h g = tt
-kind_on (Some Num) (Some Num) (Some Num) h g = tt
-kind_on (Some (Ret bs)) (Some (Ret cs)) (Some (Ret ds)) h g = λ b q. g b (h b q)
-kind_on None (Some k) (Some l) h g = absurd h
-kind_on (Some Num) (Some (Ret cs)) (Some l) h g = absurd h
-kind_on (Some (Ret bs)) (Some Num) (Some l) h g = absurd h
-kind_on (Some Num) (Some Num) (Some (Ret ds)) h g = absurd g
-kind_on (Some (Ret bs)) (Some (Ret cs)) (Some Num) h g = absurd g
-kind_on j None (Some l) h g = absurd g
+kind_on : (j k l : Option ParamKind) → IsTrue (kind_fits j k) → IsTrue (kind_fits k l) → IsTrue (kind_fits j l)
+kind_on j k None h g = refl
+kind_on (Some Num) (Some Num) (Some Num) h g = refl
+kind_on (Some (Ret bs)) (Some (Ret cs)) (Some (Ret ds)) h g = included_from bs ds (λ b q. included cs ds g b (included bs cs h b q))
+kind_on None (Some k) (Some l) h g = absurd (false≢true h)
+kind_on (Some Num) (Some (Ret cs)) (Some l) h g = absurd (false≢true h)
+kind_on (Some (Ret bs)) (Some Num) (Some l) h g = absurd (false≢true h)
+kind_on (Some Num) (Some Num) (Some (Ret ds)) h g = absurd (false≢true g)
+kind_on (Some (Ret bs)) (Some (Ret cs)) (Some Num) h g = absurd (false≢true g)
+kind_on j None (Some l) h g = absurd (false≢true g)
 
 -- ROWS
 
-params_decided : (held said : List (ℕ × ParamKind)) → Decides (params_fit held said) ((p : ℕ) → KindFits (entry held p) (entry said p))
+params_decided : (held said : List (ℕ × ParamKind)) → Decides (params_fit held said) ((p : ℕ) → IsTrue (kind_fits (entry held p) (entry said p)))
 params_decided held said = (
   λ h p. ⊎_elim
-      (λ (none : entry said p ≡ None). subst (KindFits (entry held p)) (sym none) tt)
-      (λ (fits : kind_fits (entry held p) (entry said p) ≡ true). (kind_decided (entry held p) (entry said p)).0 fits)
+      (λ (none : entry said p ≡ None). rw none refl)
+      (λ (fits : kind_fits (entry held p) (entry said p) ≡ true). fits)
       (each_entry (λ p. kind_fits (entry held p) (entry said p)) said h p),
-  λ h. each_entry_from (λ p. kind_fits (entry held p) (entry said p)) said (λ p. (kind_decided (entry held p) (entry said p)).1 (h p)),
+  λ h. each_entry_from (λ p. kind_fits (entry held p) (entry said p)) said h,
 )
 
 units_decided : (held said : List (ℕ × ℕ)) → Decides (units_fit held said) ((e : ℕ) → amount_of said e ≤ amount_of held e)

@@ -1,4 +1,7 @@
 pub mod Entries
+pub mod Ascending
+pub mod Ordered
+pub mod Holding
 pub mod Amounts
 pub mod Found
 pub mod Rooms

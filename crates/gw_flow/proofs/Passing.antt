@@ -1,14 +1,16 @@
 -- Flow passes exactly where it holds at each block.
-use Rattle.std.proofs.Common.{◌≡◌, ◌↔◌, ℕ, Option, Some, None, Bool, true, false, not, if◌then◌else◌, refl, sym, ap, subst, ◌∙◌}
+use Rattle.std.proofs.Common.{◌≡◌, ◌↔◌, ℕ, [], ◌∷◌, map, Option, Some, None, Bool, true, false, if◌then◌else◌, refl, sym, ap, subst, ◌∙◌}
 use Rattle.std.specs.Prelude.{All, Decides, IsSome, IsSomeAnd}
 use Rattle.std.proofs.lemmas.Bool.{false≢true}
-use Rattle.gw_object.specs.declared.fault.Fault.{Fault}
 use Rattle.gw_object.specs.declared.parts.Block.{Block}
 use Rattle.gw_object.specs.declared.parts.Parts.{Parts}
 use Rattle.gw_kinds.specs.Kinds.{block_at, is_generate}
+use Rattle.gw_flow.specs.Codes as codes
 use Rattle.gw_flow.specs.Rows.{Row, Fits}
-use Rattle.gw_flow.specs.Blocks.{Rule, FlowEdge, rules, edges}
-use Rattle.gw_flow.specs.Flow.{row_at, row_of_target, fits_row, rule_check, edge_check, rule_checks, edge_checks, checks_in, block_checks, flow_checks, FlowPasses}
+use Rattle.gw_flow.specs.declared.edges.Target.TheVariants as targets
+use Rattle.gw_flow.specs.declared.edges.FlowEdge.{FlowEdge}
+use Rattle.gw_flow.specs.Blocks.{Table, Rule, rule, rules, edges}
+use Rattle.gw_flow.specs.Flow.{fits_row, rule_check, edge_check, rule_checks, edge_checks, checks_in, checks_at, flow_checks, FlowPasses}
 use Rattle.gw_flow.specs.Laws.{MayPass, FlowHolds, FlowPassesAtEachBlock}
 use Rattle.gw_kinds.proofs.Each.{Hold, parts_hold, hold_together}
 use Rattle.gw_flow.proofs.EachBlock.{each_decided, numbered_holds, all_numbered_hold}
@@ -18,59 +20,63 @@ row_decided : (state : Row) (row : Option Row) → Decides (fits_row state row) 
 row_decided state None = (λ h. false≢true h, λ h. absurd h)
 row_decided state (Some row) = fits_is_decided state row
 
-rules_decided : (p : Parts) (b : ℕ) (block : Block) (state : Row) → Hold (rule_checks p.entities b block state) ↔ All (λ (rule : Rule). rule.holds ≡ true) (rules p.entities block state)
-rules_decided p b block state = each_decided (rule_check b) (λ (rule : Rule). rule.holds ≡ true) (λ rule. (λ h. h, λ h. h)) (rules p.entities block state)
+module _ (p : Parts) (table : Table) where
+  -- what is decided of an edge: where it leads there is a row that its state fits
+  abbrev Arrives : FlowEdge → Type 0
+  Arrives edge = IsSomeAnd (table edge.target) (Fits edge.state)
 
-edges_decided : (p : Parts) (b : ℕ) (block : Block) (state : Row) → Hold (edge_checks p.states b block state) ↔ All (λ (edge : FlowEdge). IsSomeAnd (row_of_target p.states edge.target) (Fits edge.state)) (edges b block state)
-edges_decided p b block state =
-    each_decided (edge_check p.states b) (λ (edge : FlowEdge). IsSomeAnd (row_of_target p.states edge.target) (Fits edge.state)) (λ edge. row_decided edge.state (row_of_target p.states edge.target)) (edges b block state)
+  rules_decided : (b : ℕ) (block : Block) (state : Row) → Hold (rule_checks p b block state) ↔ All (λ (rule : Rule). rule.holds ≡ true) (rules p block state)
+  rules_decided b block state = each_decided (rule_check b) (λ (rule : Rule). rule.holds ≡ true) (λ rule. (λ h. h, λ h. h)) (rules p block state)
 
-may_pass : (p : Parts) (b : ℕ) (block : Block) (row : Row) → Hold (checks_in p b block (Some row)) → MayPass p b block row
-may_pass p b block row h =
-    let parts = parts_hold (rule_checks p.entities b block row) (edge_checks p.states b block row) h in
-    record { each_rule = (rules_decided p b block row).0 parts.0; each_edge = (edges_decided p b block row).0 parts.1 }
+  edges_decided : (b : ℕ) (block : Block) (state : Row) → Hold (edge_checks p table b block state) ↔ All Arrives (edges p table b block state)
+  edges_decided b block state = each_decided (edge_check table b) Arrives (λ edge. row_decided edge.state (table edge.target)) (edges p table b block state)
 
-may_pass_holds : (p : Parts) (b : ℕ) (block : Block) (row : Row) → MayPass p b block row → Hold (checks_in p b block (Some row))
-may_pass_holds p b block row h =
-    hold_together (rule_checks p.entities b block row) (edge_checks p.states b block row) ((rules_decided p b block row).1 h.each_rule) ((edges_decided p b block row).1 h.each_edge)
+  may_pass : (b : ℕ) (block : Block) (row : Row) → Hold (checks_in p table b block (Some row)) → MayPass p table b block row
+  may_pass b block row h =
+      let parts = parts_hold (rule_checks p b block row) (edge_checks p table b block row) h in
+      record { each_rule = (rules_decided b block row).0 parts.0; each_edge = (edges_decided b block row).0 parts.1 }
 
--- the one check of a block without a row holds where it is no GENERATE
-no_arrival : (g : Bool) (fault : Fault) → (g ≡ true → false ≡ true) → (if not g then None else Some fault) ≡ None
-no_arrival true fault own = absurd (false≢true (own refl))
-no_arrival false fault own = refl
+  may_pass_holds : (b : ℕ) (block : Block) (row : Row) → MayPass p table b block row → Hold (checks_in p table b block (Some row))
+  may_pass_holds b block row h =
+      hold_together (rule_checks p b block row) (edge_checks p table b block row) ((rules_decided b block row).1 h.each_rule) ((edges_decided b block row).1 h.each_edge)
 
-lacks_row : (g : Bool) (fault : Fault) → (if not g then None else Some fault) ≡ None → g ≡ true → false ≡ true
-lacks_row true fault h is = absurd (cc)
-lacks_row false fault h is = is
+  -- the checks of a block without a row hold exactly where it is no GENERATE
+  without_row : (b : ℕ) (g : Bool) → (g ≡ true → false ≡ true) → Hold (map (rule_check b) (if g then rule codes.edge_state false ∷ [] else []))
+  without_row b true own = absurd (false≢true (own refl))
+  without_row b false own = refl
 
--- a GENERATE whose checks hold has a row
-arrival : (p : Parts) (b : ℕ) (block : Block) (row : Option Row) → Hold (checks_in p b block row) → is_generate (Some block) ≡ true → IsSome row
-arrival p b block None h g = lacks_row (is_generate (Some block)) _ h g
-arrival p b block (Some row) h g = refl
+  lacks_row : (b : ℕ) (g : Bool) → Hold (map (rule_check b) (if g then rule codes.edge_state false ∷ [] else [])) → g ≡ true → false ≡ true
+  lacks_row b true h is = absurd (cc)
+  lacks_row b false h is = is
 
--- the checks of a block hold where it has no row and is no GENERATE, or may be passed
-checks_hold : (p : Parts) (b : ℕ) (block : Block) (row : Option Row) → (is_generate (Some block) ≡ true → IsSome row) → ((r : Row) → row ≡ Some r → MayPass p b block r) → Hold (checks_in p b block row)
-checks_hold p b block None own passes = no_arrival (is_generate (Some block)) _ own
-checks_hold p b block (Some row) own passes = may_pass_holds p b block row (passes row refl)
+  -- the checks of a block hold where it has no row and is no GENERATE, or may be passed
+  checks_hold : (b : ℕ) (block : Block) (row : Option Row) → (is_generate (Some block) ≡ true → IsSome row) → ((r : Row) → row ≡ Some r → MayPass p table b block r) → Hold (checks_in p table b block row)
+  checks_hold b block None own passes = without_row b (is_generate (Some block)) own
+  checks_hold b block (Some row) own passes = may_pass_holds b block row (passes row refl)
 
--- a block is there where it is a GENERATE
-generate_there : (block : Option Block) → is_generate block ≡ true → (there : Block) × (block ≡ Some there)
-generate_there None g = absurd (false≢true g)
-generate_there (Some block) g = (block, refl)
+  -- a block is there where it is a GENERATE
+  generate_there : (block : Option Block) → is_generate block ≡ true → (there : Block) × (block ≡ Some there)
+  generate_there None g = absurd (false≢true g)
+  generate_there (Some block) g = (block, refl)
 
-holds : (p : Parts) → FlowPasses p → FlowHolds p
-unfolding flow_checks
-holds p h = record {
-  arrivals = λ b g.
-      let found = generate_there (block_at p.blocks b) g in
-      arrival p b found.0 (row_at p.states b) (numbered_holds (block_checks p) p.blocks b found.0 h found.1) (sym (ap is_generate found.1) ∙ g);
-  each_row = λ b block row is has. may_pass p b block row (subst (λ r. Hold (checks_in p b block r)) has (numbered_holds (block_checks p) p.blocks b block h is));
-}
+  -- a GENERATE whose checks hold has a row
+  arrival : (b : ℕ) (block : Block) (row : Option Row) → Hold (checks_in p table b block row) → is_generate (Some block) ≡ true → IsSome row
+  arrival b block None h g = lacks_row b (is_generate (Some block)) h g
+  arrival b block (Some row) h g = refl
 
-passes : (p : Parts) → FlowHolds p → FlowPasses p
-unfolding flow_checks
-passes p h =
-    all_numbered_hold (block_checks p) p.blocks (λ b block is. checks_hold p b block (row_at p.states b) (λ g. h.arrivals b (ap is_generate is ∙ g)) (λ row has. h.each_row b block row is has))
+  holds : FlowPasses p table → FlowHolds p table
+  unfolding flow_checks
+  holds h = record {
+    arrivals = λ b gen.
+        let found = generate_there (block_at p.blocks b) gen in
+        arrival b found.0 (table (targets.Block b)) (numbered_holds (checks_at p table) p.blocks b found.0 h found.1) (sym (ap is_generate found.1) ∙ gen);
+    each_row = λ b block row is has. may_pass b block row (subst (λ r. Hold (checks_in p table b block r)) has (numbered_holds (checks_at p table) p.blocks b block h is));
+  }
+
+  passes : FlowHolds p table → FlowPasses p table
+  unfolding flow_checks
+  passes h =
+      all_numbered_hold (checks_at p table) p.blocks (λ b block is. checks_hold b block (table (targets.Block b)) (λ g. h.arrivals b (ap is_generate is ∙ g)) (λ row has. h.each_row b block row is has))
 
 pub flow_passes_at_each_block : FlowPassesAtEachBlock
-flow_passes_at_each_block p = (holds p, passes p)
+flow_passes_at_each_block p table = (holds p table, passes p table)

@@ -2,7 +2,7 @@
 use Rattle.std.proofs.Common.{ℕ, ◌≤◌, ◌^◌, List, [], ◌∷◌, Option, Some, Bool, true, false, ◌==◌, arith}
 use Rattle.std.specs.Prelude.{All, unwrap_or, if◌then◌else◌}
 use Rattle.std.proofs.lemmas.List.Elements.{All-head, All-tail}
-use Rattle.gw_flow.specs.declared.state.Amount.{Amount}
+use Rattle.gw_flow.specs.declared.abstract_state.Amount.{Amount}
 use Rattle.gw_flow.specs.Entries.{entry, amount_of}
 use Rattle.gw_flow.specs.Seen.{amounts_of}
 

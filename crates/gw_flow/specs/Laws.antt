@@ -1,25 +1,26 @@
--- What an object keeps at each block where flow passes, said apart from the order of the checks; and what fitting is.
+-- What an object and a table keep at each block where flow passes, said apart from the order of the checks; and what fitting is.
 use Rattle.std.specs.Prelude.{◌≡◌, ◌↔◌, ℕ, Some, IsSome, true, false, All, IsSomeAnd, Decides}
 use Rattle.gw_object.specs.declared.parts.Block.{Block}
 use Rattle.gw_object.specs.declared.parts.Parts.{Parts}
 use Rattle.gw_kinds.specs.Kinds.{block_at, is_generate}
+use Rattle.gw_flow.specs.declared.edges.Target.TheVariants as targets
 use Rattle.gw_flow.specs.Rows.{Row, fits, Fits}
-use Rattle.gw_flow.specs.Blocks.{rules, edges}
-use Rattle.gw_flow.specs.Flow.{row_at, row_of_target, FlowPasses}
+use Rattle.gw_flow.specs.Blocks.{Table, rules, edges}
+use Rattle.gw_flow.specs.Flow.{FlowPasses}
 
--- a transaction in this state may enter the block of number b and go on from it: each rule holds, and where each edge leads there is a row that the edge's state fits
-pub record MayPass (p : Parts) (b : ℕ) (block : Block) (state : Row) : Type 0 where
-  pub each_rule : All (λ rule. rule.holds ≡ true) (rules p.entities block state)
-  pub each_edge : All (λ edge. IsSomeAnd (row_of_target p.states edge.target) (Fits edge.state)) (edges b block state)
+-- a transaction in this state may enter the block of number b and go on from it: each rule holds, and where each edge leads the table has a row that the edge's state fits
+pub record MayPass (p : Parts) (table : Table) (b : ℕ) (block : Block) (state : Row) : Type 0 where
+  pub each_rule : All (λ rule. rule.holds ≡ true) (rules p block state)
+  pub each_edge : All (λ edge. IsSomeAnd (table edge.target) (Fits edge.state)) (edges p table b block state)
 
 -- flow: each GENERATE has a row, and a transaction in the state of a block's row may pass the block
-pub record FlowHolds (p : Parts) : Type 0 where
-  pub arrivals : (b : ℕ) → is_generate (block_at p.blocks b) ≡ true → IsSome (row_at p.states b)
-  pub each_row : (b : ℕ) (block : Block) (row : Row) → block_at p.blocks b ≡ Some block → row_at p.states b ≡ Some row → MayPass p b block row
+pub record FlowHolds (p : Parts) (table : Table) : Type 0 where
+  pub arrivals : (b : ℕ) → is_generate (block_at p.blocks b) ≡ true → IsSome (table (targets.Block b))
+  pub each_row : (b : ℕ) (block : Block) (row : Row) → block_at p.blocks b ≡ Some block → table (targets.Block b) ≡ Some row → MayPass p table b block row
 
 -- flow passes exactly where it holds at each block
 abbrev pub FlowPassesAtEachBlock : Type 0
-FlowPassesAtEachBlock = (p : Parts) → FlowPasses p ↔ FlowHolds p
+FlowPassesAtEachBlock = (p : Parts) (table : Table) → FlowPasses p table ↔ FlowHolds p table
 
 -- the test of fitting decides it
 abbrev pub FitsIsDecided : Type 0
@@ -36,4 +37,5 @@ FitsOn = (state row other : Row) → Fits state row → Fits row other → Fits 
 -- a transaction that fits a row may pass each block that the row may pass; but GENERATE, where nothing may be held
 abbrev pub FittingStatesPass : Type 0
 FittingStatesPass =
-    (p : Parts) (b : ℕ) (block : Block) (state row : Row) → is_generate (Some block) ≡ false → Fits state row → MayPass p b block row → MayPass p b block state
+    (p : Parts) (table : Table) (b : ℕ) (block : Block) (state row : Row) →
+    is_generate (Some block) ≡ false → Fits state row → MayPass p table b block row → MayPass p table b block state

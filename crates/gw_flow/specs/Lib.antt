@@ -3,6 +3,7 @@ pub mod Names
 pub mod Entries
 pub mod Rows
 pub mod Seen
+pub mod Viewed
 pub mod Blocks
 pub mod Flow
 pub mod Laws

@@ -1,5 +1,5 @@
 -- Abstract states: what is known of a transaction that is about to enter a block.
-use Rattle.std.specs.Prelude.{◌≡◌, ℕ, ◌≤◌, ◌^◌, List, length, Option, Some, None, Bool, true, false, ◌&&◌, ◌==◌, nat_eq, nat_le, if◌then◌else◌}
+use Rattle.std.specs.Prelude.{◌≡◌, ◌≢◌, ℕ, ◌≤◌, ◌<◌, ◌^◌, List, length, Option, Some, None, Bool, IsTrue, true, false, ◌&&◌, ◌==◌, nat_eq, nat_le, if◌then◌else◌, All, AllPairs}
 use Rattle.std.specs.List.{list_all}
 use Rattle.std.specs.Cmp.Lexicographic.{pointwise}
 use Rattle.gw_flow.specs.Entries.{lists, with_number, without_number, entry, amount_of, with_entry}
@@ -9,11 +9,18 @@ pub data ParamKind : Type 0 where
   Num : ParamKind
   Ret : (blocks : List ℕ) → ParamKind
 
--- an abstract state: parameters and what they hold, the facilities that are owned, and the units that are sure to be held, by entity
+-- an abstract state: the parameters that are sure to be set and what they hold, exactly the facilities that are owned, and the units that are sure to be held, by entity
 pub record Row : Type 0 where
   pub params : List (ℕ × ParamKind)
   pub facilities : List ℕ
   pub units : List (ℕ × ℕ)
+
+-- the lists of a state ascend, each number in them once, and no amount is 0
+pub record IsOrdered (row : Row) : Type 0 where
+  pub params : AllPairs (λ a b. a.0 < b.0) row.params
+  pub facilities : AllPairs (λ a b. a < b) row.facilities
+  pub units : AllPairs (λ a b. a.0 < b.0) row.units
+  pub amounts : All (λ e. e.1 ≢ 0) row.units
 
 -- what a parameter holds, if it is set
 abbrev pub kind_of : Row → ℕ → Option ParamKind
@@ -27,7 +34,7 @@ owns row f = lists row.facilities f
 abbrev pub units_of : Row → ℕ → ℕ
 units_of row e = amount_of row.units e
 
--- nothing is known: no parameter, no facility, no units
+-- it is known that no facility is owned, and nothing else is known: of no parameter that it is set, of no units that they are held
 abbrev pub is_empty : Row → Bool
 is_empty row = (length row.params == 0) && (length row.facilities == 0) && (length row.units == 0)
 
@@ -53,27 +60,20 @@ HasRoom row = (e : ℕ) → units_of row e ≤ 2 ^ 62
 
 -- FITS
 
--- what a parameter holds fits what a row says of it: anything where the row says nothing, a number for a number, and for a return one to some of the same blocks
-abbrev pub KindFits : Option ParamKind → Option ParamKind → Type 0
-KindFits kind None = Unit {0}
-KindFits (Some Num) (Some Num) = Unit {0}
-KindFits (Some (Ret bs)) (Some (Ret cs)) = (b : ℕ) → lists bs b ≡ true → lists cs b ≡ true
-KindFits kind said = ⊥
-
--- a state fits a row: it has at least the row's parameters, exactly its facilities, and at least its units
-pub record Fits (state row : Row) : Type 0 where
-  pub params : (p : ℕ) → KindFits (kind_of state p) (kind_of row p)
-  pub facilities : state.facilities ≡ row.facilities
-  pub units : (e : ℕ) → units_of row e ≤ units_of state e
-
--- whether what a parameter holds fits what a row says of it
+-- whether what a parameter holds fits what a row says of it: anything where the row says nothing, a number for a number, and for a return one to some of the same blocks
 abbrev pub kind_fits : Option ParamKind → Option ParamKind → Bool
 kind_fits kind None = true
 kind_fits (Some Num) (Some Num) = true
 kind_fits (Some (Ret bs)) (Some (Ret cs)) = list_all (λ b. lists cs b) bs
 kind_fits kind said = false
 
--- whether what the parameters of a state hold fits each entry of others
+-- a state fits a row: it has at least the row's parameters, exactly its facilities, and at least its units
+pub record Fits (state row : Row) : Type 0 where
+  pub params : (p : ℕ) → IsTrue (kind_fits (kind_of state p) (kind_of row p))
+  pub facilities : state.facilities ≡ row.facilities
+  pub units : (e : ℕ) → units_of row e ≤ units_of state e
+
+-- whether parameters fit each entry of others
 abbrev pub params_fit : List (ℕ × ParamKind) → List (ℕ × ParamKind) → Bool
 params_fit params others = list_all (λ e. kind_fits (entry params e.0) (entry others e.0)) others
 
@@ -81,6 +81,6 @@ params_fit params others = list_all (λ e. kind_fits (entry params e.0) (entry o
 abbrev pub units_fit : List (ℕ × ℕ) → List (ℕ × ℕ) → Bool
 units_fit units others = list_all (λ e. nat_le (amount_of others e.0) (amount_of units e.0)) others
 
--- whether a state fits a row
+-- whether a state fits a row, tested at the numbers that the row has
 abbrev pub fits : Row → Row → Bool
 fits state row = params_fit state.params row.params && pointwise nat_eq state.facilities row.facilities && units_fit state.units row.units

@@ -1,13 +1,17 @@
 //! Flow edges: where a transaction goes on to, and what is known of it there.
 
-ghost use Rattle.std.specs.Prelude.{◌≡◌, ◌≤◌, IfOk, [], ◌∷◌, map};
+ghost use Rattle.std.specs.Prelude.{◌≡◌, ◌≤◌, IfOk};
+ghost use Rattle.gw_kinds.specs.Exits.{exits as exits_of};
 ghost use Rattle.gw_flow.specs.Rows.{HasRoom};
-ghost use Rattle.gw_flow.specs.Blocks.{edges, move as move_to};
-ghost use Rattle.gw_flow.specs.Flow.{edge_of};
-ghost use Rattle.gw_flow.specs.Seen.{row_of};
+ghost use Rattle.gw_flow.specs.Blocks as model;
+ghost use Rattle.gw_flow.specs.Flow.{said};
+ghost use Rattle.gw_flow.specs.Seen.{params_of};
 
+use crate::abstract_state::AbsState;
 use crate::codes::EDGE_STATE;
-use crate::state::AbsState;
+use crate::lookups::Lookups;
+use crate::state::State;
+use gw_kinds::{Exit, exits, leads_to};
 use gw_object::{Block, Memory};
 use std::alloc::Global;
 
@@ -18,41 +22,87 @@ pub enum Target {
     Block(u16),
 }
 
-/// A flow edge of a block.
-#[derive(Debug, Drop, PartialEq, Eq)]
+/// An edge of a block.
+#[derive(Debug, Drop)]
 pub struct Edge {
-    /// The code of the fault where the state doesn't fit the row of the target.
-    pub code: u16,
     /// Where the transaction goes on to.
     pub target: Target,
     /// What is known of it there.
     pub state: AbsState,
 }
 
-/// The one edge to a block.
-fn one(alloc: Global, target: u16, state: AbsState) -> Result<Vec<Edge>, Memory>
-    ensures { IfOk result (λ out. map edge_of out.items ≡ move_to target (row_of state) ∷ []) }
+/// A flow edge of a block.
+#[derive(Debug, Drop)]
+pub struct FlowEdge {
+    /// The code of the fault where the state doesn't fit the row of the target.
+    pub(crate) code: u16,
+    /// Where the transaction goes on to.
+    pub(crate) target: Target,
+    /// What is known of it there.
+    pub(crate) state: State,
+}
+
+impl FlowEdge {
+    /// This edge in the numbers of the state that was given: no block changes a parameter.
+    pub(crate) fn in_numbers_of(&self, alloc: Global, given: &AbsState) -> Result<Edge, Memory>
+        requires { self.now.state.params ≡ params_of given.now.parameters }
+        ensures same { IfOk result (λ e. said e ≡ (self.now.target, self.now.state)) }
+        ensures own { IfOk result (λ e. e.state.parameters ≡ given.now.parameters) }
+    {
+        Ok(Edge {
+            target: self.target,
+            state: self.state.in_numbers_of(alloc, given)?,
+        })
+    }
+}
+
+/// What is known of a transaction once it has passed a block in a state.
+fn after(alloc: Global, block: &Block, state: &State) -> Result<State, Memory>
+    requires { HasRoom state.now }
+    ensures { IfOk result (λ s. s ≡ model.after block.now state.now) }
 {
-    let mut out = Vec::new(alloc);
-    out.push(Edge {
+    match block {
+        Block::Seize(f) => state.with_facility(alloc, *f),
+        Block::Release(f) => state.without_facility(alloc, *f),
+        Block::Enter(u) | Block::Queue(u) => {
+            let units = state.units_of(u.entity) + u.number as u64;
+            state.with_units(alloc, u.entity, units)
+        }
+        Block::Leave(u) | Block::Depart(u) => {
+            let units = state.units_of(u.entity).saturating_sub(u.number as u64);
+            state.with_units(alloc, u.entity, units)
+        }
+        _ => state.copy(alloc),
+    }
+}
+
+/// The edge of a transaction that goes on to a block.
+fn move_to(target: u16, state: State) -> FlowEdge
+    ensures { result ≡ model.move target state }
+{
+    FlowEdge {
         code: EDGE_STATE,
         target: Target::Block(target),
         state,
-    })?;
-    Ok(out)
+    }
 }
 
-/// The edges to two blocks, in order.
-fn two(alloc: Global, first: u16, second: u16, state: &AbsState) -> Result<Vec<Edge>, Memory>
-    ensures { IfOk result (λ out. map edge_of out.items ≡ move_to first (row_of state.now) ∷ move_to second (row_of state.now) ∷ []) }
+/// The edges along these exits of the block of this number, in order, of a transaction that has passed it.
+fn edges_along(
+    alloc: Global,
+    number: u16,
+    exits: &[Exit],
+    passed: &State,
+) -> Result<Vec<FlowEdge>, Memory>
+    requires { number ≤ 4096 }
+    ensures { IfOk result (λ edges. edges.items ≡ model.edges_along number exits.now passed.now) }
 {
-    let mut out = one(alloc, first, state.copy(alloc)?)?;
-    out.push(Edge {
-        code: EDGE_STATE,
-        target: Target::Block(second),
-        state: state.copy(alloc)?,
-    })?;
-    Ok(out)
+    let mut edges = Vec::new(alloc);
+    for exit in exits {
+        let state = passed.copy(alloc)?;
+        edges.push(move_to(leads_to(number, exit.way), state))?;
+    }
+    Ok(edges)
 }
 
 /// The edges of the block of this number in a state, in order.
@@ -60,30 +110,12 @@ pub(crate) fn edges_of(
     alloc: Global,
     number: u16,
     block: &Block,
-    state: &AbsState,
-) -> Result<Vec<Edge>, Memory>
+    state: &State,
+) -> Result<Vec<FlowEdge>, Memory>
     requires number { number ≤ 4096 }
-    requires room { HasRoom (row_of state.now) }
-    ensures { IfOk result (λ out. map edge_of out.items ≡ edges number block.now (row_of state.now)) }
+    requires room { HasRoom state.now }
+    ensures { IfOk result (λ edges. edges.items ≡ model.edges_along number (exits_of block.now) (model.after block.now state.now)) }
 {
-    let next = number + 1;
-    match block {
-        Block::Terminate(_) => Ok(Vec::new(alloc)),
-        Block::Generate(_) | Block::Advance(_) => one(alloc, next, state.copy(alloc)?),
-        Block::Seize(f) => one(alloc, next, state.with_facility(alloc, *f)?),
-        Block::Release(f) => one(alloc, next, state.without_facility(alloc, *f)?),
-        Block::Enter(u) | Block::Queue(u) => {
-            let units = state.units_of(u.entity) + u.number as u64;
-            one(alloc, next, state.with_units(alloc, u.entity, units)?)
-        }
-        Block::Leave(u) | Block::Depart(u) => {
-            let units = state.units_of(u.entity).saturating_sub(u.number as u64);
-            one(alloc, next, state.with_units(alloc, u.entity, units)?)
-        }
-        Block::Transfer(target) => one(alloc, *target, state.copy(alloc)?),
-        Block::TransferByFraction(fraction) => {
-            let first = fraction.otherwise.unwrap_or(next);
-            two(alloc, first, fraction.target, state)
-        }
-    }
+    let passed = after(alloc, block, state)?;
+    edges_along(alloc, number, &exits(block), &passed)
 }

@@ -1,46 +1,101 @@
-//! Whether what is known of a transaction fits a row of the state table.
+//! Whether what is known of a transaction suffices for what a row of the state table asks. Both lists ascend, so each is
+//! walked once.
 
-ghost use Rattle.std.specs.Prelude.{◌≡◌, nat_le};
-ghost use Rattle.std.specs.List.{list_all};
-ghost use Rattle.gw_object.specs.declared.parts.Units.{Units};
-ghost use Rattle.gw_flow.specs.Entries.{amount_of};
+ghost use Rattle.std.specs.Prelude.{◌≡◌, ◌≢◌, ◌<◌, ℕ, Bool, Some, ◌==◌, ◌&&◌, nat_le, All, AllPairs};
+ghost use Rattle.std.specs.List.{list_all, list_any};
 ghost use Rattle.gw_flow.specs.Rows as rows;
-ghost use Rattle.gw_flow.specs.Seen.{row_of, units_seen, seen};
+ghost use Rattle.gw_flow.specs.Seen.{amounts_of};
+ghost use Rattle.gw_flow.specs.Viewed.{held_kind, params_viewed};
 
-use crate::state::AbsState;
-use gw_object::{TableState, Units};
+use crate::abstract_state::Amount;
+use crate::state::{Holds, Param};
 
-/// The units of an entity in a row, 0 where there are none.
-fn units_in(units: &[Units], entity: u16) -> u32
-    ensures { result ≡ amount_of (units_seen units.now) entity }
-{
-    for u in units {
-        if u.entity == entity {
-            return u.number;
+/// An entry of a list that ascends by number.
+trait Entry {
+    /// The number that it is of.
+    ghost key: { Self → ℕ };
+
+    /// Whether the first, which is held, suffices for the second, which is asked.
+    ghost enough: { Self → Self → Bool };
+
+    /// The number that it is of.
+    fn number(&self) -> u16
+        ensures { result ≡ key self.now };
+
+    /// Whether it suffices where another of its number is asked.
+    fn suffices(&self, asked: &Self) -> bool
+        ensures { result ≡ enough self.now asked.now };
+}
+
+impl Entry for Param {
+    ghost key = { λ p. p.number };
+
+    ghost enough = { λ held asked. rows.kind_fits (Some (held_kind held.holds)) (Some (held_kind asked.holds)) };
+
+    fn number(&self) -> u16 {
+        self.number as u16
+    }
+
+    fn suffices(&self, asked: &Param) -> bool {
+        match (self.holds, asked.holds) {
+            (Holds::Num, Holds::Num) => true,
         }
     }
-    0
 }
 
-/// Whether a state has at least the units of an entity in a row.
-fn has_units_of(state: &AbsState, units: &[Units], entity: u16) -> bool
-    ensures { result ≡ nat_le (amount_of (units_seen units.now) entity) (rows.units_of (row_of state.now) entity) }
-{
-    units_in(units, entity) as u64 <= state.units_of(entity)
+impl Entry for Amount {
+    ghost key = { λ a. a.entity };
+
+    ghost enough = { λ held asked. nat_le asked.number held.number };
+
+    fn number(&self) -> u16 {
+        self.entity
+    }
+
+    fn suffices(&self, asked: &Amount) -> bool {
+        asked.number <= self.number
+    }
 }
 
-/// Whether a state has at least these units.
-fn has_units(state: &AbsState, units: &[Units]) -> bool
-    ensures { result ≡ list_all (λ (u : Units). nat_le (amount_of (units_seen units.now) u.entity) (rows.units_of (row_of state.now) u.entity)) units.now }
+/// Whether for each entry that is asked one of its number is held that suffices.
+fn has_each<T: Entry>(held: &[T], asked: &[T]) -> bool
+    requires held { AllPairs (λ a b. T.key a < T.key b) held.now }
+    requires asked { AllPairs (λ a b. T.key a < T.key b) asked.now }
+    ensures { result ≡ list_all (λ a. list_any (λ h. (T.key h == T.key a) && T.enough h a) held.now) asked.now }
 {
-    units.iter().all(|u| has_units_of(state, units, u.entity))
+    let mut left = asked;
+    for entry in held {
+        let Some((next, later)) = left.split_first() else {
+            return true;
+        };
+        if next.number() < entry.number() {
+            return false;
+        }
+        if next.number() == entry.number() {
+            if !entry.suffices(next) {
+                return false;
+            }
+            left = later;
+        }
+    }
+    left.is_empty()
 }
 
-/// Whether a state fits a row: it has at least the row's parameters (none yet), exactly its facilities, and at least
-/// its units.
-pub(crate) fn fits(state: &AbsState, row: &TableState) -> bool
-    ensures { result ≡ rows.fits (row_of state.now) (seen row.now) }
+/// Whether at least these units are held.
+pub(crate) fn has_units(held: &[Amount], asked: &[Amount]) -> bool
+    requires held { AllPairs (λ (a b : Amount). a.entity < b.entity) held.now }
+    requires asked { AllPairs (λ (a b : Amount). a.entity < b.entity) asked.now }
+    requires amounts { All (λ (a : Amount). a.number ≢ 0) asked.now }
+    ensures { result ≡ rows.units_fit (amounts_of held.now) (amounts_of asked.now) }
 {
-    state.facilities.as_slice() == row.facilities.as_slice()
-        && has_units(state, row.units.as_slice())
+    has_each(held, asked)
+}
+
+/// Whether at least these parameters are set, to what fits.
+pub(crate) fn has_params(held: &[Param], asked: &[Param]) -> bool
+    requires held { AllPairs (λ (a b : Param). a.number < b.number) held.now }
+    requires asked { AllPairs (λ (a b : Param). a.number < b.number) asked.now }
+    ensures { result ≡ rows.params_fit (params_viewed held.now) (params_viewed asked.now) }
+{
+    has_each(held, asked)
 }

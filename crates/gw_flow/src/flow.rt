@@ -1,23 +1,27 @@
 //! The checks of flow, in order.
 
-ghost use Rattle.std.specs.Prelude.{◌≡◌, ◌<◌, ◌≤◌, ◌+◌, Some, IsSome, map, length, option_map, option_copied, [], ◌∷◌};
+ghost use Rattle.std.specs.Prelude.{◌≡◌, ◌⊎◌, ◌<◌, ◌≤◌, ◌+◌, Some, None, IfOk, IfErr, IfSome, IsSome, All, map, length, option_copied, [], ◌∷◌};
 ghost use Rattle.gw_object.specs.declared.parts.Block.{Block};
-ghost use Rattle.gw_kinds.specs.Checks.{Finds};
-ghost use Rattle.gw_kinds.specs.Kinds.{block_at, is_generate as is_generate_block};
+ghost use Rattle.gw_kinds.specs.Checks.{Finds, first_broken};
+ghost use Rattle.gw_kinds.specs.Exits.{exits};
+ghost use Rattle.gw_kinds.specs.Kinds.{block_at};
 ghost use Rattle.gw_flow.specs.Rows.{HasRoom};
-ghost use Rattle.gw_flow.specs.Blocks.{edges};
+ghost use Rattle.gw_flow.specs.Blocks.{after, edges_along, edges};
 ghost use Rattle.gw_flow.specs.Flow as model;
-ghost use Rattle.gw_flow.specs.Flow.{FindsOrLacksMemory, AnswersEdges, edge_of};
-ghost use Rattle.gw_flow.specs.Seen.{row_of, seen};
+ghost use Rattle.gw_flow.specs.Flow.{FindsOrLacksMemory, AnswersEdges, table_of};
+ghost use Rattle.gw_flow.specs.Seen.{known, params_of};
+ghost use Rattle.gw_flow.specs.declared.edges.Edge.{Edge as DeclaredEdge};
+ghost use Rattle.gw_flow.specs.declared.edges.FlowEdge.{FlowEdge as DeclaredFlowEdge};
 
-use crate::codes::EDGE_STATE;
-use crate::edges::{Edge, Target, edges_of};
-use crate::fits::fits;
-use crate::rules::check_rules;
-use crate::state::AbsState;
+use crate::abstract_state::AbsState;
+use crate::edges::{Edge, FlowEdge, Target, edges_of};
+use crate::lookups::Lookups;
+use crate::rules::{check_rules, check_without_row};
+use crate::state::State;
+use crate::table::own_rows;
 use gw_kinds::check;
 use gw_object::codes::MEMORY;
-use gw_object::{Block, Entity, Fault, Object, Parts, Place, TableState};
+use gw_object::{Block, Fault, Memory, Object, Parts, Place};
 use std::alloc::{AllocError, Global};
 
 /// That memory ran out.
@@ -26,121 +30,158 @@ const OUT_OF_MEMORY: Fault = Fault {
     place: Place::Nowhere,
 };
 
-/// Whether a block is a GENERATE.
-fn is_generate(block: &Block) -> bool
-    ensures { result ≡ is_generate_block (Some block.now) }
-{
-    matches!(block, Block::Generate(_))
-}
-
 /// The row of the block of this number, from 1.
-fn row_at(states: &[Option<TableState>], number: u16) -> Option<&TableState>
-    ensures { option_map seen (option_copied result) ≡ model.row_at states.now number }
+fn row_at(rows: &[Option<State>], number: u16) -> Option<&State>
+    ensures { option_copied result ≡ model.row_at rows.now number }
 {
     if number == 0 {
         return None;
     }
-    states.get(number as usize - 1)?.as_ref()
+    rows.get(number as usize - 1)?.as_ref()
 }
 
 /// Whether where an edge of the block of this number leads there is a row that its state fits; else its fault.
-fn check_edge(states: &[Option<TableState>], number: u16, edge: &Edge) -> Result<(), Fault>
-    ensures { Finds result (model.edge_check states.now number (edge_of edge.now) ∷ []) }
+fn check_edge(rows: &[Option<State>], number: u16, edge: &FlowEdge) -> Result<(), Fault>
+    ensures { Finds result (model.edge_check (table_of rows.now) number edge.now ∷ []) }
 {
     let Target::Block(target) = edge.target;
-    let fits = row_at(states, target).is_some_and(|row| fits(&edge.state, row));
+    let fits = row_at(rows, target).is_some_and(|row| edge.state.fits(row));
     check(edge.code, Place::Edge(number, target), fits)
 }
 
 /// The first of these edges of the block of this number that is at fault, if there is one.
-fn check_edges(states: &[Option<TableState>], number: u16, edges: &[Edge]) -> Result<(), Fault>
-    ensures { Finds result (map (model.edge_check states.now number) (map edge_of edges.now)) }
+fn check_edges(rows: &[Option<State>], number: u16, edges: &[FlowEdge]) -> Result<(), Fault>
+    ensures { Finds result (map (model.edge_check (table_of rows.now) number) edges.now) }
 {
     for edge in edges {
-        check_edge(states, number, edge)?;
+        check_edge(rows, number, edge)?;
     }
     Ok(())
 }
 
-/// The edges of the block of this number in a state; else the fault of the first rule that is broken, or that memory ran
-/// out.
-fn edges_or_fault(
+/// The first fault of the edges of the block of this number in a state, if there is one.
+fn check_edges_in(
     alloc: Global,
-    entities: &[Entity],
+    rows: &[Option<State>],
     number: u16,
     block: &Block,
-    state: &AbsState,
-) -> Result<Vec<Edge>, Fault>
+    state: &State,
+) -> Result<(), Fault>
     requires number { number ≤ 4096 }
-    requires room { HasRoom (row_of state.now) }
-    ensures { AnswersEdges result (model.rule_checks entities.now number block.now (row_of state.now)) (edges number block.now (row_of state.now)) }
+    requires room { HasRoom state.now }
+    ensures { FindsOrLacksMemory result (map (model.edge_check (table_of rows.now) number) (edges_along number (exits block.now) (after block.now state.now))) }
 {
-    check_rules(entities, number, block, state)?;
-    edges_of(alloc, number, block, state).map_err(|_| OUT_OF_MEMORY)
+    match edges_of(alloc, number, block, state) {
+        Ok(edges) => check_edges(rows, number, &edges),
+        Err(AllocError) => Err(OUT_OF_MEMORY),
+    }
 }
 
 /// The first fault of the block of this number in a state, if there is one.
 fn check_in(
     alloc: Global,
     parts: &Parts,
+    rows: &[Option<State>],
     number: u16,
     block: &Block,
-    state: &AbsState,
+    state: &State,
 ) -> Result<(), Fault>
     requires number { number ≤ 4096 }
-    requires room { HasRoom (row_of state.now) }
-    ensures { FindsOrLacksMemory result (model.checks_in parts.now number block.now (Some (row_of state.now))) }
+    requires room { HasRoom state.now }
+    ensures { FindsOrLacksMemory result (model.checks_in parts.now (table_of rows.now) number block.now (Some state.now)) }
 {
-    let edges = edges_or_fault(alloc, parts.entities.as_slice(), number, block, state)?;
-    check_edges(parts.states.as_slice(), number, &edges)
+    check_rules(parts, number, block, state)?;
+    check_edges_in(alloc, rows, number, block, state)
 }
 
-/// The first fault of the block of this number in its row, if there is one.
-fn check_row(
+/// The first fault of the block of this number in its row of a table, if there is one.
+fn check_block(
     alloc: Global,
     parts: &Parts,
+    rows: &[Option<State>],
     number: u16,
     block: &Block,
-    row: &TableState,
 ) -> Result<(), Fault>
-    requires { number ≤ 4096 }
-    ensures { FindsOrLacksMemory result (model.checks_in parts.now number block.now (Some (seen row.now))) }
+    requires number { number ≤ 4096 }
+    requires room { All (λ row. IfSome row HasRoom) rows.now }
+    ensures { FindsOrLacksMemory result (model.checks_at parts.now (table_of rows.now) number block.now) }
 {
-    match AbsState::of_row(alloc, row) {
-        Ok(state) => check_in(alloc, parts, number, block, &state),
-        Err(AllocError) => Err(OUT_OF_MEMORY),
+    match row_at(rows, number) {
+        Some(state) => check_in(alloc, parts, rows, number, block, state),
+        None => check_without_row(number, block),
     }
 }
 
-/// The first fault of the block at this place, counted from 0, if there is one.
-fn check_block(alloc: Global, parts: &Parts, i: usize, block: &Block) -> Result<(), Fault>
-    requires { i < 4096 }
-    ensures { FindsOrLacksMemory result (model.block_checks parts.now (i + 1) block.now) }
-{
-    let number = (i + 1) as u16;
-    match row_at(parts.states.as_slice(), number) {
-        Some(row) => check_row(alloc, parts, number, block, row),
-        None => check(EDGE_STATE, Place::Block(number), !is_generate(block)),
-    }
-}
-
-/// The first fault of the blocks, if there is one.
+/// The first fault of the blocks with this table, if there is one.
 #[tactic(auto, unfolding(crate::specs::Flow::flow_checks))]
-fn check_blocks(alloc: Global, parts: &Parts) -> Result<(), Fault>
-    requires { length parts.now.blocks ≤ 4096 }
-    ensures { FindsOrLacksMemory result (model.flow_checks parts.now) }
+fn check_blocks(alloc: Global, parts: &Parts, rows: &[Option<State>]) -> Result<(), Fault>
+    requires few { length parts.now.blocks ≤ 4096 }
+    requires room { All (λ row. IfSome row HasRoom) rows.now }
+    ensures { FindsOrLacksMemory result (model.flow_checks parts.now (table_of rows.now)) }
 {
     let blocks = parts.blocks.as_slice();
     for i in 0..blocks.len() {
-        check_block(alloc, parts, i, &blocks[i])?;
+        check_block(alloc, parts, rows, (i + 1) as u16, &blocks[i])?;
     }
     Ok(())
 }
 
+/// Edges in the numbers of the state that was given.
+fn in_numbers_of(alloc: Global, edges: &[FlowEdge], given: &AbsState) -> Result<Vec<Edge>, Memory>
+    requires { All (λ (e : DeclaredFlowEdge). e.state.params ≡ params_of given.now.parameters) edges.now }
+    ensures same { IfOk result (λ out. map model.said out.items ≡ map (λ (e : DeclaredFlowEdge). (e.target, e.state)) edges.now) }
+    ensures own { IfOk result (λ out. All (λ (e : DeclaredEdge). e.state.parameters ≡ given.now.parameters) out.items) }
+{
+    let mut out = Vec::new(alloc);
+    for edge in edges {
+        out.push(edge.in_numbers_of(alloc, given)?)?;
+    }
+    Ok(out)
+}
+
+/// The edges of the block of this number in a state, in its own numbers.
+fn own_edges(
+    alloc: Global,
+    number: u16,
+    block: &Block,
+    state: &AbsState,
+) -> Result<Vec<Edge>, Memory>
+    requires number { number ≤ 4096 }
+    requires room { HasRoom (known state.now) }
+    ensures same { IfOk result (λ out. map model.said out.items ≡ map (λ (e : DeclaredFlowEdge). (e.target, e.state)) (edges_along number (exits block.now) (after block.now (known state.now)))) }
+    ensures own { IfOk result (λ out. All (λ (e : DeclaredEdge). e.state.parameters ≡ state.now.parameters) out.items) }
+{
+    let seen = State::of(alloc, state)?;
+    let edges = edges_of(alloc, number, block, &seen)?;
+    in_numbers_of(alloc, &edges, state)
+}
+
+/// The edges of the block of this number in a state; else the fault of the first rule that is broken, or that memory ran
+/// out.
+fn edges_or_fault(
+    alloc: Global,
+    parts: &Parts,
+    number: u16,
+    block: &Block,
+    state: &AbsState,
+) -> Result<Vec<Edge>, Fault>
+    requires number { number ≤ 4096 }
+    requires room { HasRoom (known state.now) }
+    ensures edges { AnswersEdges result (model.rule_checks parts.now number block.now (known state.now)) (edges_along number (exits block.now) (after block.now (known state.now))) }
+    ensures own { IfOk result (λ out. All (λ (e : DeclaredEdge). e.state.parameters ≡ state.now.parameters) out.items) }
+{
+    check_rules(parts, number, block, state)?;
+    match own_edges(alloc, number, block, state) {
+        Ok(edges) => Ok(edges),
+        Err(AllocError) => Err(OUT_OF_MEMORY),
+    }
+}
+
 /// The edges of the block of this number, from 1, that is there, for a transaction in a state: where it goes on to, and
-/// what is known of it there. Else the fault of the block's first rule that is broken in that state: 21 AlreadyOwned,
-/// 22 NotOwner, 23 TooFewUnits, 24 OwnsAtEnd, 25 EdgeState for a GENERATE, or 28 OverCapacity (ours: docs/refusals.md);
-/// or 8 Memory at Nowhere where memory runs out.
+/// what is known of it there, in the numbers of that state: a parameter that the block leaves alone comes back as it was
+/// given. Else the fault of the block's first rule that is broken in that state: 21 AlreadyOwned, 22 NotOwner,
+/// 23 TooFewUnits, 24 OwnsAtEnd, 25 EdgeState for a GENERATE, or 28 OverCapacity (ours: docs/refusals.md); or 8 Memory at
+/// Nowhere where memory runs out.
 pub fn out_edges(
     alloc: Global,
     object: &Object,
@@ -148,22 +189,27 @@ pub fn out_edges(
     state: &AbsState,
 ) -> Result<Vec<Edge>, Fault>
     requires block { IsSome (block_at object.now.blocks block) }
-    requires room { HasRoom (row_of state.now) }
-    ensures { (k : Block) → block_at object.now.blocks block ≡ Some k →
-        AnswersEdges result (model.rule_checks object.now.entities block k (row_of state.now)) (edges block k (row_of state.now)) }
+    requires room { HasRoom (known state.now) }
+    ensures edges { (k : Block) → block_at object.now.blocks block ≡ Some k →
+        AnswersEdges result (model.rule_checks object.now block k (known state.now)) (edges object.now (model.own_table object.now) block k (known state.now)) }
+    ensures own { IfOk result (λ out. All (λ (e : DeclaredEdge). e.state.parameters ≡ state.now.parameters) out.items) }
 {
     let parts = object.parts();
     let there = &parts.blocks.as_slice()[block as usize - 1];
-    edges_or_fault(alloc, parts.entities.as_slice(), block, there, state)
+    edges_or_fault(alloc, parts, block, there, state)
 }
 
-/// Accepts an object exactly where flow holds at each block: each GENERATE has a row of the state table, the rules of each block
-/// with a row hold in it, and what is known of a transaction where it goes on to fits the row there. Else the first fault:
-/// the blocks in ascending order, and of one block its rules and then its edges in order: 21 AlreadyOwned, 22 NotOwner,
-/// 23 TooFewUnits, 24 OwnsAtEnd, 25 EdgeState, 28 OverCapacity (ours: docs/refusals.md); or 8 Memory at Nowhere where
-/// memory runs out.
+/// Accepts an object exactly where flow holds of it and its own state table: each GENERATE has a row, the rules of each
+/// block with a row hold in it, and what is known of a transaction where it goes on to fits the row there. Else the first
+/// fault: the blocks in ascending order, and of one block its rules and then its edges in order: 21 AlreadyOwned,
+/// 22 NotOwner, 23 TooFewUnits, 24 OwnsAtEnd, 25 EdgeState, 28 OverCapacity (ours: docs/refusals.md); or 8 Memory at
+/// Nowhere where memory runs out.
 pub fn check_flow(alloc: Global, object: &Object) -> Result<(), Fault>
-    ensures { FindsOrLacksMemory result (model.flow_checks object.now) }
+    ensures { FindsOrLacksMemory result (model.flow_checks object.now (model.own_table object.now)) }
 {
-    check_blocks(alloc, object.parts())
+    let parts = object.parts();
+    match own_rows(alloc, parts.states.as_slice()) {
+        Ok(rows) => check_blocks(alloc, parts, &rows),
+        Err(AllocError) => Err(OUT_OF_MEMORY),
+    }
 }

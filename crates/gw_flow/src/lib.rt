@@ -1,14 +1,18 @@
 //! Flow: what is known of a transaction at every block, and whether that is enough for it to pass.
 #![tactic(auto)]
 
+mod abstract_state;
 pub mod codes;
 mod edges;
 mod fits;
 mod flow;
 pub mod laws;
+mod lists;
+mod lookups;
 mod rules;
 mod state;
+mod table;
 
+pub use abstract_state::{AbsState, Amount, Parameter, ParameterKind, StateParts};
 pub use edges::{Edge, Target};
 pub use flow::{check_flow, out_edges};
-pub use state::{AbsState, Amount, Parameter, ParameterKind};

@@ -1,206 +1,149 @@
-//! What is known of a transaction: its parameters, the facilities that it owns, and the units that it is sure to hold.
+//! What is known of a transaction, as flow works with it: its parameters, the facilities that it owns, and the units
+//! that it is sure to hold.
 
-ghost use Rattle.std.specs.Prelude.{◌≡◌, ◌≤◌, ◌^◌, IfOk, All};
+ghost use Rattle.std.specs.Prelude.{◌≡◌, ◌≤◌, ◌<◌, ◌^◌, ◌≢◌, IfOk, All, AllPairs, length, ◌==◌};
+ghost use Rattle.gw_object.specs.Grammar.{IsAscending, HeldFits};
+ghost use Rattle.gw_object.specs.declared.parts.Units.{Units};
 ghost use Rattle.gw_flow.specs.Entries as entries;
 ghost use Rattle.gw_flow.specs.Rows as rows;
-ghost use Rattle.gw_flow.specs.Seen.{row_of, amounts_of, units_seen, seen};
+ghost use Rattle.gw_flow.specs.Seen.{kind_seen, params_of, seen, known};
+ghost use Rattle.gw_flow.specs.Viewed.{held_kind, params_viewed};
 
-use gw_object::{Items, Memory, TableState, Units};
+use crate::abstract_state::{AbsState, Amount, Parameter, ParameterKind, StateParts};
+use crate::fits::{has_params, has_units};
+use crate::lists::{amount_in, amounts_seen, copy_of, with_amount, with_number, without_number};
+use crate::lookups::Lookups;
+use gw_object::{Items, Memory, TableState};
 use std::alloc::Global;
+use std::marker::Model;
 
 /// What a parameter holds.
 #[derive(Clone, Copy, Debug, PartialEq, Eq)]
-pub enum ParameterKind {
+pub(crate) enum Holds {
     /// A number.
-    Number,
+    Num,
 }
 
 /// A parameter that is set.
 #[derive(Clone, Copy, Debug, PartialEq, Eq)]
-pub struct Parameter {
+pub(crate) struct Param {
     /// Its number, from 1 to 64.
     pub number: u8,
     /// What it holds.
-    pub kind: ParameterKind,
+    pub holds: Holds,
 }
 
-/// Units of a storage or a queue.
-#[derive(Clone, Copy, Debug, PartialEq, Eq)]
-pub struct Amount {
-    /// The entity's number, from 0.
-    pub entity: u16,
-    /// How many units.
-    pub number: u64,
+/// An abstract state; its lists ascend, and no amount is 0.
+#[derive(Debug, Drop)]
+pub(crate) struct State {
+    params: Items<Param>,
+    facilities: Items<u16>,
+    units: Items<Amount>,
 }
 
-/// An abstract state: what is known of a transaction that is about to enter a block (ours: docs/object-format.md).
-#[derive(Debug, Drop, PartialEq, Eq)]
-pub struct AbsState {
-    /// The parameters that are set, ascending.
-    pub parameters: Items<Parameter>,
-    /// The facilities that it owns, by their entities' numbers from 0, ascending.
-    pub facilities: Items<u16>,
-    /// The units that it is sure to hold, of storages and queues, ascending by entity; none of them 0.
-    pub units: Items<Amount>,
+impl Model for State {
+    ghost use Rattle.gw_flow.specs.Rows.{Row, IsOrdered};
+    ghost use Rattle.gw_flow.specs.Viewed.{viewed};
+
+    ghost Value = { Row };
+
+    ghost view = { λ s. viewed s.params s.facilities s.units };
+
+    ghost invariant = { λ s. IsOrdered (viewed s.params s.facilities s.units) };
 }
 
-/// A list once more.
-fn copy_of<T: Copy>(alloc: Global, items: &Items<T>) -> Result<Items<T>, Memory>
-    ensures { IfOk result (λ copy. copy ≡ items.now) }
+/// A parameter as flow works with it.
+fn param_seen(parameter: &Parameter) -> Param
+    ensures number { result.number ≡ parameter.now.number }
+    ensures holds { held_kind result.holds ≡ kind_seen parameter.now.kind }
 {
-    let copy = Vec::from_slice(alloc, items.as_slice())?;
-    Ok(Items::from_vec(copy))
-}
-
-/// The amounts of a row of the state table.
-fn amounts_seen(alloc: Global, units: &[Units]) -> Result<Vec<Amount>, Memory>
-    ensures same { IfOk result (λ amounts. amounts_of amounts.items ≡ units_seen units.now) }
-    ensures room { IfOk result (λ amounts. All (λ (a : Amount). a.number ≤ 2 ^ 62) amounts.items) }
-{
-    let mut amounts = Vec::with_capacity(alloc, units.len())?;
-    for u in units {
-        amounts.push(Amount {
-            entity: u.entity,
-            number: u.number as u64,
-        })?;
+    Param {
+        number: parameter.number,
+        holds: match parameter.kind {
+            ParameterKind::Num => Holds::Num,
+        },
     }
-    Ok(amounts)
 }
 
-/// A list with a number, in its ascending place.
-fn with_number(alloc: Global, numbers: &[u16], number: u16) -> Result<Vec<u16>, Memory>
-    ensures { IfOk result (λ all. all.items ≡ entries.with_number number numbers.now) }
+/// Parameters as flow works with them.
+fn params_seen(alloc: Global, parameters: &[Parameter]) -> Result<Vec<Param>, Memory>
+    ensures { IfOk result (λ params. params_viewed params.items ≡ params_of parameters.now) }
 {
-    let mut all: Vec<u16> = numbers
-        .iter()
-        .copied()
-        .filter(|n| *n < number)
-        .collect(alloc)?;
-    all.push(number)?;
-    let above: Vec<u16> = numbers
-        .iter()
-        .copied()
-        .filter(|n| number < *n)
-        .collect(alloc)?;
-    all.extend_from_slice(&above)?;
-    Ok(all)
+    parameters.iter().map(|p| param_seen(p)).collect(alloc)
 }
 
-/// A list without a number.
-fn without_number(alloc: Global, numbers: &[u16], number: u16) -> Result<Vec<u16>, Memory>
-    ensures { IfOk result (λ all. all.items ≡ entries.without_number number numbers.now) }
-{
-    numbers
-        .iter()
-        .copied()
-        .filter(|n| *n != number)
-        .collect(alloc)
-}
-
-/// The units of an entity, 0 where there is no amount of it.
-fn amount_in(amounts: &[Amount], entity: u16) -> u64
-    ensures { result ≡ entries.amount_of (amounts_of amounts.now) entity }
-{
-    for amount in amounts {
-        if amount.entity == entity {
-            return amount.number;
-        }
-    }
-    0
-}
-
-/// The amounts with this one for its entity, in its ascending place; without one of 0.
-fn with_amount(
-    alloc: Global,
-    amounts: &[Amount],
-    entity: u16,
-    number: u64,
-) -> Result<Vec<Amount>, Memory>
-    ensures { IfOk result (λ all. amounts_of all.items ≡ entries.with_entry entity (rows.nonzero number) (amounts_of amounts.now)) }
-{
-    let mut all: Vec<Amount> = amounts
-        .iter()
-        .copied()
-        .filter(|a| a.entity < entity)
-        .collect(alloc)?;
-    if number != 0 {
-        all.push(Amount { entity, number })?;
-    }
-    let above: Vec<Amount> = amounts
-        .iter()
-        .copied()
-        .filter(|a| entity < a.entity)
-        .collect(alloc)?;
-    all.extend_from_slice(&above)?;
-    Ok(all)
-}
-
-impl AbsState {
-    /// The state of a row of the state table.
-    pub(crate) fn of_row(alloc: Global, row: &TableState) -> Result<AbsState, Memory>
-        ensures same { IfOk result (λ state. row_of state ≡ seen row.now) }
-        ensures room { IfOk result (λ state. rows.HasRoom (row_of state)) }
+impl State {
+    /// What a row of the state table says.
+    pub(crate) fn of_row(alloc: Global, row: &TableState) -> Result<State, Memory>
+        requires ascending { IsAscending row.now }
+        requires amounts { All HeldFits row.now.units }
+        ensures same { IfOk result (λ state. state ≡ seen row.now) }
+        ensures room { IfOk result (λ state. rows.HasRoom state) }
     {
-        Ok(AbsState {
-            parameters: Items::from_vec(Vec::new(alloc)),
+        let units = amounts_seen(alloc, row.units.as_slice())?;
+        Ok(State {
+            params: Items::from_vec(Vec::new(alloc)),
             facilities: copy_of(alloc, &row.facilities)?,
-            units: Items::from_vec(amounts_seen(alloc, row.units.as_slice())?),
+            units: Items::from_vec(units),
         })
     }
 
+    /// What an abstract state says.
+    pub(crate) fn of(alloc: Global, state: &AbsState) -> Result<State, Memory>
+        ensures { IfOk result (λ s. s ≡ known state.now) }
+    {
+        let parts = state.parts();
+        let params = params_seen(alloc, parts.parameters.as_slice())?;
+        Ok(State {
+            params: Items::from_vec(params),
+            facilities: copy_of(alloc, &parts.facilities)?,
+            units: copy_of(alloc, &parts.units)?,
+        })
+    }
+
+    /// This state in the numbers of the one that was given: no block changes a parameter.
+    pub(crate) fn in_numbers_of(&self, alloc: Global, given: &AbsState) -> Result<AbsState, Memory>
+        requires { self.now.params ≡ params_of given.now.parameters }
+        ensures same { IfOk result (λ s. known s ≡ self.now) }
+        ensures own { IfOk result (λ s. s.parameters ≡ given.now.parameters) }
+    {
+        Ok(AbsState::of(StateParts {
+            parameters: copy_of(alloc, &given.parts().parameters)?,
+            facilities: copy_of(alloc, &self.facilities)?,
+            units: copy_of(alloc, &self.units)?,
+        }))
+    }
+
     /// This state once more.
-    pub(crate) fn copy(&self, alloc: Global) -> Result<AbsState, Memory>
+    pub(crate) fn copy(&self, alloc: Global) -> Result<State, Memory>
         ensures { IfOk result (λ state. state ≡ self.now) }
     {
-        Ok(AbsState {
-            parameters: copy_of(alloc, &self.parameters)?,
+        Ok(State {
+            params: copy_of(alloc, &self.params)?,
             facilities: copy_of(alloc, &self.facilities)?,
             units: copy_of(alloc, &self.units)?,
         })
     }
 
-    /// Whether nothing is known: no parameter, no facility, no units.
-    pub(crate) fn is_empty(&self) -> bool
-        ensures { result ≡ rows.is_empty (row_of self.now) }
-    {
-        self.parameters.as_slice().is_empty()
-            && self.facilities.as_slice().is_empty()
-            && self.units.as_slice().is_empty()
-    }
-
-    /// Whether a facility is owned.
-    pub(crate) fn owns(&self, facility: u16) -> bool
-        ensures { result ≡ rows.owns (row_of self.now) facility }
-    {
-        self.facilities.as_slice().contains(&facility)
-    }
-
-    /// The units of a storage or a queue that are sure to be held.
-    pub(crate) fn units_of(&self, entity: u16) -> u64
-        ensures { result ≡ rows.units_of (row_of self.now) entity }
-    {
-        amount_in(self.units.as_slice(), entity)
-    }
-
     /// The state once a facility is owned.
-    pub(crate) fn with_facility(&self, alloc: Global, facility: u16) -> Result<AbsState, Memory>
-        ensures { IfOk result (λ state. row_of state ≡ rows.with_facility facility (row_of self.now)) }
+    pub(crate) fn with_facility(&self, alloc: Global, facility: u16) -> Result<State, Memory>
+        ensures { IfOk result (λ state. state ≡ rows.with_facility facility self.now) }
     {
         let facilities = with_number(alloc, self.facilities.as_slice(), facility)?;
-        Ok(AbsState {
-            parameters: copy_of(alloc, &self.parameters)?,
+        Ok(State {
+            params: copy_of(alloc, &self.params)?,
             facilities: Items::from_vec(facilities),
             units: copy_of(alloc, &self.units)?,
         })
     }
 
     /// The state once a facility is given up.
-    pub(crate) fn without_facility(&self, alloc: Global, facility: u16) -> Result<AbsState, Memory>
-        ensures { IfOk result (λ state. row_of state ≡ rows.without_facility facility (row_of self.now)) }
+    pub(crate) fn without_facility(&self, alloc: Global, facility: u16) -> Result<State, Memory>
+        ensures { IfOk result (λ state. state ≡ rows.without_facility facility self.now) }
     {
         let facilities = without_number(alloc, self.facilities.as_slice(), facility)?;
-        Ok(AbsState {
-            parameters: copy_of(alloc, &self.parameters)?,
+        Ok(State {
+            params: copy_of(alloc, &self.params)?,
             facilities: Items::from_vec(facilities),
             units: copy_of(alloc, &self.units)?,
         })
@@ -212,14 +155,46 @@ impl AbsState {
         alloc: Global,
         entity: u16,
         number: u64,
-    ) -> Result<AbsState, Memory>
-        ensures { IfOk result (λ state. row_of state ≡ rows.with_units entity number (row_of self.now)) }
+    ) -> Result<State, Memory>
+        ensures { IfOk result (λ state. state ≡ rows.with_units entity number self.now) }
     {
         let units = with_amount(alloc, self.units.as_slice(), entity, number)?;
-        Ok(AbsState {
-            parameters: copy_of(alloc, &self.parameters)?,
+        Ok(State {
+            params: copy_of(alloc, &self.params)?,
             facilities: copy_of(alloc, &self.facilities)?,
             units: Items::from_vec(units),
         })
+    }
+
+    /// Whether this state fits a row: it has at least the row's parameters, exactly its facilities, and at least its
+    /// units.
+    pub(crate) fn fits(&self, row: &State) -> bool
+        ensures { result ≡ rows.fits self.now row.now }
+    {
+        has_params(self.params.as_slice(), row.params.as_slice())
+            && self.facilities.as_slice() == row.facilities.as_slice()
+            && has_units(self.units.as_slice(), row.units.as_slice())
+    }
+}
+
+impl Lookups for State {
+    ghost known = { λ s. s };
+
+    fn is_empty(&self) -> bool {
+        self.params.as_slice().is_empty()
+            && self.facilities.as_slice().is_empty()
+            && self.units.as_slice().is_empty()
+    }
+
+    fn owns_nothing(&self) -> bool {
+        self.facilities.as_slice().is_empty()
+    }
+
+    fn owns(&self, facility: u16) -> bool {
+        self.facilities.as_slice().contains(&facility)
+    }
+
+    fn units_of(&self, entity: u16) -> u64 {
+        amount_in(self.units.as_slice(), entity)
     }
 }

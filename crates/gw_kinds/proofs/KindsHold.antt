@@ -1,26 +1,25 @@
 -- What kinds are where their checks hold.
-use Rattle.std.proofs.Common.{◌≡◌, ◌≢◌, ◌⊎◌, ℕ, zero, suc, ◌+◌, ◌<◌, ◌≤◌, ℤ, pos, List, [], ◌∷◌, length, Option, Some, None, Bool, true, false, not, nat_lt, nat_le, inl, inr, refl, sym, ap, ◌∙◌, arith}
-use Rattle.std.specs.Prelude.{◌&&◌, ◌||◌, ◌≤ℤ◌, int_le, is_none, is_some, IfSome}
-use Rattle.std.specs.Bool.{Decides}
-use Rattle.std.specs.List.{All, list_all, list_any}
+use Rattle.std.proofs.Common.{◌≡◌, ℕ, zero, suc, ◌<◌, List, [], ◌∷◌, ◌++◌, length, Option, Some, None, Bool, true, false, not, nat_lt, refl, ap, arith}
+use Rattle.std.specs.Prelude.{◌&&◌, is_some, filter_map, IfSome, IsTrue}
+use Rattle.std.specs.List.{All, list_all, cons_option}
 use Rattle.std.specs.Option.{IsSomeAnd}
 use Rattle.std.proofs.lemmas.Bool.{ltb-true, lt-ltb}
-use Rattle.std.proofs.lemmas.Bool.Decides.{nat_tests, Decides-and}
-use Rattle.std.proofs.lemmas.Int.{ints}
 use Rattle.std.proofs.lemmas.List.Elements.{All-nil, All-cons, All-head, All-tail}
-use Rattle.gw_object.specs.declared.parts.Kind.{Kind}
-use Rattle.gw_object.specs.declared.parts.Kind.TheVariants as kinds
+use Rattle.gw_object.specs.declared.fault.Place.{Place}
+use Rattle.gw_object.specs.declared.fault.Place.TheVariants as places
 use Rattle.gw_object.specs.declared.parts.Entity.{Entity}
-use Rattle.gw_object.specs.declared.parts.Units.{Units}
 use Rattle.gw_object.specs.declared.parts.Block.{Block}
-use Rattle.gw_object.specs.declared.parts.Block.TheVariants as blocks
 use Rattle.gw_object.specs.declared.parts.TableState.{TableState}
 use Rattle.gw_object.specs.declared.parts.Parts.{Parts}
 use Rattle.gw_kinds.specs.declared.entities.EntityKind.{EntityKind}
-use Rattle.gw_kinds.specs.declared.entities.EntityKind.TheVariants.{Facility, Storage, Queue}
-use Rattle.gw_kinds.specs.Checks.{numbered}
-use Rattle.gw_kinds.specs.Kinds.{is_none_or, kind_at, serves_as, holds_units, entity_of, has_right_kinds, has_entities, block_at, falls, targets, is_generate, falls_to_generate, sends_to_generate, are_units, has_good_constants, row_checks, block_checks, kinds_checks}
-use Rattle.gw_kinds.specs.Laws.{IsOfKind, IsEntity, AreUnits, HasGoodConstants, MayBeEntered, BlockHolds, RowHolds, KindsPassAtEachPlace}
+use Rattle.gw_kinds.specs.declared.entities.Named.{Named}
+use Rattle.gw_kinds.specs.declared.ways.Way.{Way}
+use Rattle.gw_kinds.specs.declared.ways.Way.TheVariants.{Falls, Goes}
+use Rattle.gw_kinds.specs.declared.ways.Exit.{Exit}
+use Rattle.gw_kinds.specs.Checks.{Check, numbered}
+use Rattle.gw_kinds.specs.Exits.{leads_to, exits}
+use Rattle.gw_kinds.specs.Kinds.{is_none_or, kind_at, serves_as, named_entities, entities_of_row, names_no_other_kind, are_there, block_at, is_generate, number_of, stays_inside, entity_checks, exit_checks, constant_checks, row_checks, block_checks, kinds_checks}
+use Rattle.gw_kinds.specs.Laws.{IsEntity, MayBeEntered, BlockHolds, KindsPassAtEachPlace}
 use Rattle.gw_kinds.proofs.Each.{Hold, at_number, first_and_others, first_with_others, parts_hold, hold_together, each_holds, all_hold, each_has, from_each}
 
 -- TESTS
@@ -33,228 +32,140 @@ with_both : (a b : Bool) → a ≡ true → b ≡ true → (a && b) ≡ true
 with_both true b h k = k
 with_both false b h k = absurd (cc)
 
-not_true : (b : Bool) → not b ≡ true → b ≡ false
-not_true true h = absurd (cc)
-not_true false h = refl
-
-neither_true : (a b : Bool) → (a || b) ≡ false → (a ≡ false) × (b ≡ false)
-neither_true true b h = absurd (cc)
-neither_true false b h = (refl, h)
-
-with_neither : (a b : Bool) → a ≡ false → b ≡ false → (a || b) ≡ false
-with_neither true b h k = absurd (cc)
-with_neither false b h k = k
-
--- what two tests of an element tell, of each element
-module _ {X : Type 0} (p q : X → Bool) (P : X → Type 0) where
-  all_from : ((x : X) → p x ≡ true → q x ≡ true → P x) → (xs : List X) → list_all p xs ≡ true → list_all q xs ≡ true → All P xs
-  all_from from [] h k = All-nil P
-  all_from from (x ∷ xs) h k =
-      let a = both_true (p x) (list_all p xs) h in
-      let b = both_true (q x) (list_all q xs) k in
-      All-cons P x xs (from x a.0 b.0) (all_from from xs a.1 b.1)
-
--- a test of each element that a property passes
-all_pass : {X : Type 0} (p : X → Bool) (P : X → Type 0) → ((x : X) → P x → p x ≡ true) → (xs : List X) → All P xs → list_all p xs ≡ true
-all_pass p P passes [] h = refl
-all_pass p P passes (x ∷ xs) h = with_both (p x) (list_all p xs) (passes x (All-head P x xs h)) (all_pass p P passes xs (All-tail P x xs h))
-
 -- ENTITIES
 
--- an entity that is there has a kind
-kind_there : (es : List Entity) (e : ℕ) → e < length es → (kind : Kind) × (kind_at es e ≡ Some kind)
-kind_there [] e below = absurd (omega arith)
-kind_there (x ∷ es) zero below = (x.kind, refl)
-kind_there (x ∷ es) (suc e) below = let below : e < length es = omega arith in kind_there es e below
+-- an entity of the right kind that is there
+is_entity : (es : List Entity) (e : ℕ) (needed : EntityKind) → is_none_or (kind_at es e) (serves_as needed) ≡ true → e < length es → IsSomeAnd (kind_at es e) (λ kind. IsTrue (serves_as needed kind))
+is_entity [] e needed right below = absurd (omega arith)
+is_entity (x ∷ es) zero needed right below = right
+is_entity (x ∷ es) (suc e) needed right below = is_entity es e needed right (omega arith)
 
--- what serves as this kind is of it
-of_kind : (es : List Entity) (needed : EntityKind) (e : ℕ) (kind : Kind) → kind_at es e ≡ Some kind → serves_as needed kind ≡ true → IsOfKind es needed e
-of_kind es Facility e kinds.Facility is h = is
-of_kind es Facility e (kinds.Storage capacity) is h = absurd (cc)
-of_kind es Facility e kinds.Queue is h = absurd (cc)
-of_kind es Storage e kinds.Facility is h = absurd (cc)
-of_kind es Storage e (kinds.Storage capacity) is h = (capacity, is)
-of_kind es Storage e kinds.Queue is h = absurd (cc)
-of_kind es Queue e kinds.Facility is h = absurd (cc)
-of_kind es Queue e (kinds.Storage capacity) is h = absurd (cc)
-of_kind es Queue e kinds.Queue is h = is
+from_entity : (es : List Entity) (e : ℕ) (needed : EntityKind) → IsSomeAnd (kind_at es e) (λ kind. IsTrue (serves_as needed kind)) → (is_none_or (kind_at es e) (serves_as needed) ≡ true) × (e < length es)
+from_entity [] e needed h = absurd h
+from_entity (x ∷ es) zero needed h = (h, omega arith)
+from_entity (x ∷ es) (suc e) needed h =
+    let there = from_entity es e needed h in
+    (there.0, omega (arith, there.1))
 
--- what is of this kind serves as it
-serves : (es : List Entity) (needed : EntityKind) (e : ℕ) → IsOfKind es needed e → is_none_or (kind_at es e) (serves_as needed) ≡ true
-serves es Facility e is = ap (λ kind. is_none_or kind (serves_as Facility)) is
-serves es Storage e is = ap (λ kind. is_none_or kind (serves_as Storage)) is.1
-serves es Queue e is = ap (λ kind. is_none_or kind (serves_as Queue)) is
+-- the entities that are named at a place
+module _ (es : List Entity) where
+  entities : (ns : List Named) → names_no_other_kind es ns ≡ true → are_there es ns ≡ true → All (IsEntity es) ns
+  entities [] right there = All-nil (IsEntity es)
+  entities (n ∷ ns) right there =
+      let a = both_true (is_none_or (kind_at es n.entity) (serves_as n.needed)) (names_no_other_kind es ns) right in
+      let b = both_true (nat_lt n.entity (length es)) (are_there es ns) there in
+      All-cons (IsEntity es) n ns (is_entity es n.entity n.needed a.0 (ltb-true n.entity (length es) b.0)) (entities ns a.1 b.1)
 
--- an entity of the right kind (10) that is there (11)
-is_entity : (es : List Entity) (needed : EntityKind) (e : ℕ) → is_none_or (kind_at es e) (serves_as needed) ≡ true → nat_lt e (length es) ≡ true → IsEntity es needed e
-is_entity es needed e right there =
-    let below = ltb-true e (length es) there in
-    let found = kind_there es e below in
-    let right : serves_as needed found.0 ≡ true = sym (ap (λ kind. is_none_or kind (serves_as needed)) found.1) ∙ right in
-    record { there = below; kind = of_kind es needed e found.0 found.1 right }
+  from_entities : (ns : List Named) → All (IsEntity es) ns → (names_no_other_kind es ns ≡ true) × (are_there es ns ≡ true)
+  from_entities [] h = (refl, refl)
+  from_entities (n ∷ ns) h =
+      let one = from_entity es n.entity n.needed (All-head (IsEntity es) n ns h) in
+      let others = from_entities ns (All-tail (IsEntity es) n ns h) in
+      (with_both _ _ one.0 others.0, with_both _ _ (lt-ltb n.entity (length es) one.1) others.1)
 
--- the entity that a block names
-entity : (es : List Entity) (named : Option (EntityKind × ℕ)) →
-    is_none_or named (λ (needed, e). is_none_or (kind_at es e) (serves_as needed)) ≡ true →
-    is_none_or named (λ (needed, e). nat_lt e (length es)) ≡ true →
-    IfSome named (λ (needed, e). IsEntity es needed e)
-entity es None right there = tt
-entity es (Some (needed, e)) right there = is_entity es needed e right there
+  entities_from_checks : (place : Place) (ns : List Named) → Hold (entity_checks es place ns) → All (IsEntity es) ns
+  entities_from_checks place ns h =
+      let right = first_and_others _ _ _ h in
+      entities ns right.0 (first_and_others _ _ _ right.1).0
 
-from_entity : (es : List Entity) (named : Option (EntityKind × ℕ)) → IfSome named (λ (needed, e). IsEntity es needed e) →
-    (is_none_or named (λ (needed, e). is_none_or (kind_at es e) (serves_as needed)) ≡ true)
-    × (is_none_or named (λ (needed, e). nat_lt e (length es)) ≡ true)
-from_entity es None h = (refl, refl)
-from_entity es (Some (needed, e)) h = (serves es needed e h.kind, lt-ltb e (length es) h.there)
+  checks_from_entities : (place : Place) (ns : List Named) → All (IsEntity es) ns → Hold (entity_checks es place ns)
+  checks_from_entities place ns h =
+      let two = from_entities ns h in
+      first_with_others _ _ _ two.0 (first_with_others _ _ _ two.1 refl)
 
 -- ROWS
 
--- units stand in a storage or a queue
-abbrev Holds : List Entity → ℕ → Type 0
-Holds es e = IsEntity es Storage e ⊎ IsEntity es Queue e
+-- the entities of a row are facilities, storages and queues
+abbrev RowHolds : Parts → Option TableState → Type 0
+RowHolds p row = IfSome row (λ r. All (IsEntity p.entities) (entities_of_row r))
 
-holds_of : (es : List Entity) (e : ℕ) (kind : Kind) → e < length es → kind_at es e ≡ Some kind → holds_units kind ≡ true → Holds es e
-holds_of es e kinds.Facility below is h = absurd (cc)
-holds_of es e (kinds.Storage capacity) below is h = inl (record { there = below; kind = (capacity, is) })
-holds_of es e kinds.Queue below is h = inr (record { there = below; kind = is })
-
-holds : (es : List Entity) (e : ℕ) → is_none_or (kind_at es e) holds_units ≡ true → nat_lt e (length es) ≡ true → Holds es e
-holds es e right there =
-    let below = ltb-true e (length es) there in
-    let found = kind_there es e below in
-    holds_of es e found.0 below found.1 (sym (ap (λ kind. is_none_or kind holds_units) found.1) ∙ right)
-
-from_holds : (es : List Entity) (e : ℕ) → Holds es e → (is_none_or (kind_at es e) holds_units ≡ true) × (nat_lt e (length es) ≡ true)
-from_holds es e (inl h) = (ap (λ kind. is_none_or kind holds_units) h.kind.1, lt-ltb e (length es) h.there)
-from_holds es e (inr h) = (ap (λ kind. is_none_or kind holds_units) h.kind, lt-ltb e (length es) h.there)
-
-row_holds : (p : Parts) (row : TableState) → has_right_kinds p.entities row ≡ true → has_entities p.entities row ≡ true → RowHolds p row
-row_holds p row right there =
-    let es = p.entities in
-    let a = both_true (list_all (λ f. is_none_or (kind_at es f) (serves_as Facility)) row.facilities) _ right in
-    let b = both_true (list_all (λ f. nat_lt f (length es)) row.facilities) _ there in
-    record {
-      facilities = all_from (λ f. is_none_or (kind_at es f) (serves_as Facility)) (λ f. nat_lt f (length es)) (IsEntity es Facility) (is_entity es Facility) row.facilities a.0 b.0;
-      units = all_from (λ (u : Units). is_none_or (kind_at es u.entity) holds_units) (λ (u : Units). nat_lt u.entity (length es)) (λ u. Holds es u.entity) (λ u. holds es u.entity) row.units a.1 b.1;
-    }
-
-from_row_holds : (p : Parts) (row : TableState) → RowHolds p row → (has_right_kinds p.entities row ≡ true) × (has_entities p.entities row ≡ true)
-from_row_holds p row h =
-    let es = p.entities in (
-      with_both _ _
-          (all_pass (λ f. is_none_or (kind_at es f) (serves_as Facility)) (IsEntity es Facility) (λ f is. serves es Facility f is.kind) row.facilities h.facilities)
-          (all_pass (λ (u : Units). is_none_or (kind_at es u.entity) holds_units) (λ u. Holds es u.entity) (λ u is. (from_holds es u.entity is).0) row.units h.units),
-      with_both _ _
-          (all_pass (λ f. nat_lt f (length es)) (IsEntity es Facility) (λ f is. lt-ltb f (length es) is.there) row.facilities h.facilities)
-          (all_pass (λ (u : Units). nat_lt u.entity (length es)) (λ u. Holds es u.entity) (λ u is. (from_holds es u.entity is).1) row.units h.units),
-    )
-
-row_from_checks : (p : Parts) (b : ℕ) (row : Option TableState) → Hold (row_checks p b row) → IfSome row (RowHolds p)
+row_from_checks : (p : Parts) (b : ℕ) (row : Option TableState) → Hold (row_checks p (places.Block b) row) → RowHolds p row
 row_from_checks p b None h = tt
-row_from_checks p b (Some row) h =
-    let right = first_and_others _ _ _ h in
-    row_holds p row right.0 (first_and_others _ _ _ right.1).0
+row_from_checks p b (Some row) h = entities_from_checks p.entities (places.Block b) (entities_of_row row) h
 
-checks_from_row : (p : Parts) (b : ℕ) (row : Option TableState) → IfSome row (RowHolds p) → Hold (row_checks p b row)
+checks_from_row : (p : Parts) (b : ℕ) (row : Option TableState) → RowHolds p row → Hold (row_checks p (places.Block b) row)
 checks_from_row p b None h = refl
-checks_from_row p b (Some row) h =
-    let two = from_row_holds p row h in
-    first_with_others _ _ _ two.0 (first_with_others _ _ _ two.1 refl)
+checks_from_row p b (Some row) h = checks_from_entities p.entities (places.Block b) (entities_of_row row) h
 
--- TARGETS
+-- EXITS
 
--- the next block is no GENERATE (13) and there (14)
-goes_on_to : (falls : Bool) (next : Option Block) → (falls && is_generate next) ≡ false → not (falls && is_none next) ≡ true → falls ≡ true → IsSomeAnd next (λ block. is_generate (Some block) ≡ false)
-goes_on_to false next enters off h = absurd (cc)
-goes_on_to true None enters off h = absurd (cc)
-goes_on_to true (Some block) enters off h = enters
-
-from_goes_on : (falls : Bool) (next : Option Block) → (falls ≡ true → IsSomeAnd next (λ block. is_generate (Some block) ≡ false)) → ((falls && is_generate next) ≡ false) × (not (falls && is_none next) ≡ true)
-from_goes_on false next h = (refl, refl)
-from_goes_on true None h = absurd (h refl)
-from_goes_on true (Some block) h = (h refl, refl)
-
-enterable : (next : Option Block) → is_some next ≡ true → is_generate next ≡ false → IsSomeAnd next (λ block. is_generate (Some block) ≡ false)
+-- a block that is there (12, 14) and no GENERATE (13)
+enterable : (next : Option Block) → is_some next ≡ true → not (is_generate next) ≡ true → IsSomeAnd next (λ block. is_generate (Some block) ≡ false)
 enterable None there enters = absurd (cc)
-enterable (Some block) there enters = enters
+enterable (Some block) there enters = is_false (is_generate (Some block)) enters
+  where
+    is_false : (b : Bool) → not b ≡ true → b ≡ false
+    is_false true h = absurd (cc)
+    is_false false h = refl
 
-from_enterable : (next : Option Block) → IsSomeAnd next (λ block. is_generate (Some block) ≡ false) → (is_some next ≡ true) × (is_generate next ≡ false)
+from_enterable : (next : Option Block) → IsSomeAnd next (λ block. is_generate (Some block) ≡ false) → (is_some next ≡ true) × (not (is_generate next) ≡ true)
 from_enterable None h = absurd h
-from_enterable (Some block) h = (refl, h)
+from_enterable (Some block) h = (refl, ap not h)
 
--- targets are there (12) and no GENERATE (13)
-sent_to : (p : Parts) (ts : List ℕ) → list_all (λ t. is_some (block_at p.blocks t)) ts ≡ true → list_any (λ t. is_generate (block_at p.blocks t)) ts ≡ false → All (MayBeEntered p) ts
-sent_to p [] there enters = All-nil (MayBeEntered p)
-sent_to p (t ∷ ts) there enters =
-    let a = both_true (is_some (block_at p.blocks t)) _ there in
-    let b = neither_true (is_generate (block_at p.blocks t)) _ enters in
-    All-cons (MayBeEntered p) t ts (enterable (block_at p.blocks t) a.0 b.0) (sent_to p ts a.1 b.1)
+module _ (p : Parts) (b : ℕ) where
+  abbrev Leads : Exit → Type 0
+  Leads exit = MayBeEntered p (leads_to b exit.way)
 
-from_sent_to : (p : Parts) (ts : List ℕ) → All (MayBeEntered p) ts → (list_all (λ t. is_some (block_at p.blocks t)) ts ≡ true) × (list_any (λ t. is_generate (block_at p.blocks t)) ts ≡ false)
-from_sent_to p [] h = (refl, refl)
-from_sent_to p (t ∷ ts) h =
-    let a = from_enterable (block_at p.blocks t) (All-head (MayBeEntered p) t ts h) in
-    let b = from_sent_to p ts (All-tail (MayBeEntered p) t ts h) in
-    (with_both _ _ a.0 b.0, with_neither _ _ a.1 b.1)
+  abbrev are_blocks : List ℕ → Bool
+  are_blocks targets = list_all (λ target. is_some (block_at p.blocks target)) targets
 
--- CONSTANTS
+  -- a way leads to a block that is there: by its number, or as the next one
+  way_there : (way : Way) (targets : List ℕ) → are_blocks (cons_option (number_of way) targets) ≡ true → stays_inside p.blocks b way ≡ true → (is_some (block_at p.blocks (leads_to b way)) ≡ true) × (are_blocks targets ≡ true)
+  way_there Falls targets named inside = (inside, named)
+  way_there (Goes target) targets named inside = both_true _ _ named
 
--- a test of what may be given
-given : {A : Type 0} (o : Option A) (test : A → Bool) {P : A → Type 0} → ((x : A) → Decides (test x) (P x)) → Decides (is_none_or o test) (IfSome o P)
-given None test d = (λ h. tt, λ h. refl)
-given (Some x) test d = d x
+  from_way : (way : Way) (targets : List ℕ) → is_some (block_at p.blocks (leads_to b way)) ≡ true → are_blocks targets ≡ true → (are_blocks (cons_option (number_of way) targets) ≡ true) × (stays_inside p.blocks b way ≡ true)
+  from_way Falls targets there others = (others, there)
+  from_way (Goes target) targets there others = (with_both _ _ there others, refl)
 
-first_is_good : (z : ℤ) → Decides (int_le (pos 0) z) (pos 0 ≤ℤ z)
-first_is_good z = (λ h. grind (arith, ints), λ h. grind (arith, ints))
+  -- the tests of exits: the blocks that they name, that none is a GENERATE, and that none falls off
+  abbrev named : List Exit → Bool
+  named es = are_blocks (filter_map (λ (exit : Exit). number_of exit.way) es)
 
-limit_is_good : (n : ℕ) → Decides (nat_lt 0 n) (n ≢ 0)
-limit_is_good n = (λ h. grind (arith, nat_tests), λ h. grind (arith, nat_tests))
+  abbrev no_generate : List Exit → Bool
+  no_generate es = list_all (λ (exit : Exit). not (is_generate (block_at p.blocks (leads_to b exit.way)))) es
 
-units_are_good : (n : ℕ) → Decides (are_units n) (AreUnits n)
-units_are_good n = (λ h. grind (arith, nat_tests), λ h. grind (arith, nat_tests))
+  abbrev inside : List Exit → Bool
+  inside es = list_all (λ (exit : Exit). stays_inside p.blocks b exit.way) es
 
-fraction_is_good : (n : ℕ) → Decides (nat_le n 1000) (n ≤ 1000)
-fraction_is_good n = (λ h. grind (arith, nat_tests), λ h. grind (arith, nat_tests))
+  lead_on : (es : List Exit) → named es ≡ true → no_generate es ≡ true → inside es ≡ true → All Leads es
+  lead_on [] n g i = All-nil Leads
+  lead_on (e ∷ es) n g i =
+      let g' = both_true _ (no_generate es) g in
+      let i' = both_true (stays_inside p.blocks b e.way) (inside es) i in
+      let there = way_there e.way (filter_map (λ (exit : Exit). number_of exit.way) es) n i'.0 in
+      All-cons Leads e es (enterable (block_at p.blocks (leads_to b e.way)) there.0 g'.0) (lead_on es there.1 g'.1 i'.1)
 
-constants_are_good : (block : Block) → Decides (has_good_constants block) (HasGoodConstants block)
-constants_are_good (blocks.Generate g) = Decides-and _ _ (given g.first (int_le (pos 0)) first_is_good) (given g.limit (nat_lt 0) limit_is_good)
-constants_are_good (blocks.Terminate by) = (λ h. tt, λ h. refl)
-constants_are_good (blocks.Advance time) = (λ h. tt, λ h. refl)
-constants_are_good (blocks.Seize f) = (λ h. tt, λ h. refl)
-constants_are_good (blocks.Release f) = (λ h. tt, λ h. refl)
-constants_are_good (blocks.Enter u) = units_are_good u.number
-constants_are_good (blocks.Leave u) = units_are_good u.number
-constants_are_good (blocks.Queue u) = units_are_good u.number
-constants_are_good (blocks.Depart u) = units_are_good u.number
-constants_are_good (blocks.Transfer b) = (λ h. tt, λ h. refl)
-constants_are_good (blocks.TransferByFraction f) = fraction_is_good f.thousandths
+  from_leads : (es : List Exit) → All Leads es → (named es ≡ true) × (no_generate es ≡ true) × (inside es ≡ true)
+  from_leads [] h = (refl, refl, refl)
+  from_leads (e ∷ es) h =
+      let one = from_enterable (block_at p.blocks (leads_to b e.way)) (All-head Leads e es h) in
+      let others = from_leads es (All-tail Leads e es h) in
+      let way = from_way e.way (filter_map (λ (exit : Exit). number_of exit.way) es) one.0 others.0 in
+      (way.0, with_both _ _ one.1 others.1, with_both _ _ way.1 others.2)
 
 -- THE BLOCK
 
 block_from_checks : (p : Parts) (b : ℕ) (block : Block) → Hold (block_checks p b block) → BlockHolds p b block
 block_from_checks p b block h =
-    let right = first_and_others _ _ _ h in
-    let there = first_and_others _ _ _ right.1 in
-    let targets_there = first_and_others _ _ _ there.1 in
-    let enters = first_and_others _ _ _ targets_there.1 in
-    let off = first_and_others _ _ _ enters.1 in
-    let good = first_and_others _ _ _ off.1 in
-    let no_generate = neither_true (falls_to_generate p.blocks b block) (sends_to_generate p.blocks block) (not_true _ enters.0) in
+    let two = parts_hold (entity_checks p.entities (places.Block b) (named_entities block)) (exit_checks p.blocks b block ++ constant_checks b block) h in
+    let three = parts_hold (exit_checks p.blocks b block) (constant_checks b block) two.1 in
+    let named = first_and_others _ _ _ three.0 in
+    let enters = first_and_others _ _ _ named.1 in
     record {
-      entity = entity p.entities (entity_of block) right.0 there.0;
-      next = goes_on_to (falls block) (block_at p.blocks (b + 1)) no_generate.0 off.0;
-      targets = sent_to p (targets block) targets_there.0 no_generate.1;
-      constants = (constants_are_good block).0 good.0;
+      entities = entities_from_checks p.entities (places.Block b) (named_entities block) two.0;
+      exits = lead_on p b (exits block) named.0 enters.0 (first_and_others _ _ _ enters.1).0;
+      constants = (first_and_others _ _ _ three.1).0;
     }
 
 checks_from_block : (p : Parts) (b : ℕ) (block : Block) → BlockHolds p b block → Hold (block_checks p b block)
 checks_from_block p b block h =
-    let e = from_entity p.entities (entity_of block) h.entity in
-    let n = from_goes_on (falls block) (block_at p.blocks (b + 1)) h.next in
-    let t = from_sent_to p (targets block) h.targets in
-    first_with_others _ _ _ e.0 (first_with_others _ _ _ e.1 (first_with_others _ _ _ t.0
-    (first_with_others _ _ _ (ap not (with_neither (falls_to_generate p.blocks b block) _ n.0 t.1))
-    (first_with_others _ _ _ n.1 (first_with_others _ _ _ ((constants_are_good block).1 h.constants) refl)))))
+    let e = from_leads p b (exits block) h.exits in
+    hold_together (entity_checks p.entities (places.Block b) (named_entities block)) (exit_checks p.blocks b block ++ constant_checks b block)
+    (checks_from_entities p.entities (places.Block b) (named_entities block) h.entities)
+    (hold_together (exit_checks p.blocks b block) (constant_checks b block)
+    (first_with_others _ _ _ e.0 (first_with_others _ _ _ e.1 (first_with_others _ _ _ e.2 refl)))
+    (first_with_others _ _ _ h.constants refl))
 
 -- THE OBJECT
 
@@ -265,12 +176,13 @@ block_holds p (suc i) block h is = block_from_checks p (suc i) block (at_number 
 
 pub kinds_pass_at_each_place : KindsPassAtEachPlace
 unfolding kinds_checks
-kinds_pass_at_each_place p = (
-  λ h.
-      let two = parts_hold (numbered (row_checks p) 1 p.states) (numbered (block_checks p) 1 p.blocks) h in
-      (each_has (row_checks p) (λ row. IfSome row (RowHolds p)) (row_from_checks p) 1 p.states two.0, λ b block is. block_holds p b block two.1 is),
-  λ h.
-      hold_together (numbered (row_checks p) 1 p.states) (numbered (block_checks p) 1 p.blocks)
-      (from_each (row_checks p) (λ row. IfSome row (RowHolds p)) (checks_from_row p) 1 p.states h.0)
-      (all_hold (block_checks p) 1 p.blocks (λ i block is. at_number (block_checks p) block (omega arith) (checks_from_block p (suc i) block (h.1 (suc i) block is)))),
-)
+kinds_pass_at_each_place p =
+    let of_rows : ℕ → Option TableState → List Check = λ b. row_checks p (places.Block b) in (
+      λ h.
+          let two = parts_hold (numbered of_rows 1 p.states) (numbered (block_checks p) 1 p.blocks) h in
+          (each_has of_rows (RowHolds p) (row_from_checks p) 1 p.states two.0, λ b block is. block_holds p b block two.1 is),
+      λ h.
+          hold_together (numbered of_rows 1 p.states) (numbered (block_checks p) 1 p.blocks)
+          (from_each of_rows (RowHolds p) (checks_from_row p) 1 p.states h.0)
+          (all_hold (block_checks p) 1 p.blocks (λ i block is. at_number (block_checks p) block (omega arith) (checks_from_block p (suc i) block (h.1 (suc i) block is)))),
+    )

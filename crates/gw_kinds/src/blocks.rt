@@ -1,15 +1,16 @@
 //! The checks of kinds, in order.
 
 ghost use Rattle.std.specs.Prelude.{◌≤◌, length};
+ghost use Rattle.gw_object.specs.declared.fault.Place.TheVariants as places;
 ghost use Rattle.gw_kinds.specs.Checks.{Finds, numbered};
 ghost use Rattle.gw_kinds.specs.Kinds as model;
 
 use crate::checks::{NumberedChecks, check, check_each};
 use crate::codes::*;
 use crate::constants::has_good_constants;
-use crate::entities::{has_entity, has_right_kind};
+use crate::entities::{are_there, named_entities, names_no_other_kind};
 use crate::rows::Rows;
-use crate::targets::{enters_generate, falls_off, has_targets};
+use crate::targets::{enters_no_generate, has_named_blocks, never_falls_off};
 use gw_object::{Block, Fault, Object, Parts, Place, TableState};
 
 /// The checks of blocks.
@@ -18,15 +19,20 @@ struct Blocks;
 impl NumberedChecks<Block> for Blocks {
     ghost checks = { model.block_checks };
 
-    fn check_one(parts: &Parts, i: usize, element: &Block) -> Result<(), Fault> {
-        let place = Place::Block((i + 1) as u16);
+    fn check_one(parts: &Parts, number: u16, element: &Block) -> Result<(), Fault> {
+        let place = Place::Block(number);
         let entities = parts.entities.as_slice();
-        check(WRONG_KIND, place, has_right_kind(entities, element))?;
-        check(NO_ENTITY, place, has_entity(entities, element))?;
+        let named = named_entities(element);
+        check(WRONG_KIND, place, names_no_other_kind(entities, &named))?;
+        check(NO_ENTITY, place, are_there(entities, &named))?;
         let blocks = parts.blocks.as_slice();
-        check(NO_BLOCK, place, has_targets(blocks, element))?;
-        check(ENTERS_GENERATE, place, !enters_generate(blocks, i, element))?;
-        check(FALLS_OFF, place, !falls_off(blocks, i, element))?;
+        check(NO_BLOCK, place, has_named_blocks(blocks, element))?;
+        check(
+            ENTERS_GENERATE,
+            place,
+            enters_no_generate(blocks, number, element),
+        )?;
+        check(FALLS_OFF, place, never_falls_off(blocks, number, element))?;
         check(BAD_CONSTANT, place, has_good_constants(element))
     }
 }
@@ -34,9 +40,9 @@ impl NumberedChecks<Block> for Blocks {
 /// The first fault of the rows of the state table, if there is one.
 fn check_rows(parts: &Parts) -> Result<(), Fault>
     requires { length parts.now.states ≤ 4096 }
-    ensures { Finds result (numbered (model.row_checks parts.now) 1 parts.now.states) }
+    ensures { Finds result (numbered (λ b. model.row_checks parts.now (places.Block b)) 1 parts.now.states) }
 {
-    check_each::<Option<TableState>, Rows>(parts, parts.states.as_slice())
+    check_each::<Option<TableState>, Rows>(parts, 1, parts.states.as_slice())
 }
 
 /// The first fault of the blocks, if there is one.
@@ -44,7 +50,7 @@ fn check_blocks(parts: &Parts) -> Result<(), Fault>
     requires { length parts.now.blocks ≤ 4096 }
     ensures { Finds result (numbered (model.block_checks parts.now) 1 parts.now.blocks) }
 {
-    check_each::<Block, Blocks>(parts, parts.blocks.as_slice())
+    check_each::<Block, Blocks>(parts, 1, parts.blocks.as_slice())
 }
 
 /// The first fault, if there is one: rows before blocks.

@@ -11,10 +11,10 @@ pub(crate) trait NumberedChecks<T> {
     /// The checks of the element of this number, in order.
     ghost checks: { Parts → ℕ → T → List Check };
 
-    /// The first fault of an element, if there is one. Its place `i` counts from 0; its number is one more.
-    fn check_one(parts: &Parts, i: usize, element: &T) -> Result<(), Fault>
-        requires { i < 4096 }
-        ensures { Finds result (checks parts.now (i + 1) element.now) };
+    /// The first fault of the element of this number, if there is one.
+    fn check_one(parts: &Parts, number: u16, element: &T) -> Result<(), Fault>
+        requires { number ≤ 4096 }
+        ensures { Finds result (checks parts.now number element.now) };
 }
 
 /// One check: nothing where it holds, else the fault of this code at this place (ours: docs/refusals.md).
@@ -28,16 +28,17 @@ pub fn check(code: u16, place: Place, holds: bool) -> Result<(), Fault>
     }
 }
 
-/// The first fault of these elements, if there is one.
+/// The first fault of these elements, if there is one; the first of them has this number.
 pub(crate) fn check_each<T, C: NumberedChecks<T>>(
     parts: &Parts,
+    first: u16,
     elements: &[T],
 ) -> Result<(), Fault>
-    requires { length elements.now ≤ 4096 }
-    ensures { Finds result (numbered (C.checks parts.now) 1 elements.now) }
+    requires { first + length elements.now ≤ 4097 }
+    ensures { Finds result (numbered (C.checks parts.now) first elements.now) }
 {
     for i in 0..elements.len() {
-        C::check_one(parts, i, &elements[i])?;
+        C::check_one(parts, first + i as u16, &elements[i])?;
     }
     Ok(())
 }

@@ -31,10 +31,6 @@ pub(crate) fn has_good_constants(block: &Block) -> bool
             are_units(units.number)
         }
         Block::TransferByFraction(fraction) => fraction.thousandths <= WHOLE,
-        Block::Terminate(_)
-        | Block::Advance(_)
-        | Block::Seize(_)
-        | Block::Release(_)
-        | Block::Transfer(_) => true,
+        _ => true,
     }
 }

@@ -9,7 +9,9 @@ mod entities;
 pub mod laws;
 mod rows;
 mod targets;
+mod ways;
 
 pub use blocks::check_kinds;
 pub use checks::check;
-pub use entities::EntityKind;
+pub use entities::{EntityKind, Named};
+pub use ways::{Exit, Way, exits, leads_to};

@@ -1,103 +1,92 @@
 //! The entities that the rows of the state table name.
 
-ghost use Rattle.std.specs.Prelude.{◌≡◌, length, nat_lt};
-ghost use Rattle.std.specs.List.{list_all};
+ghost use Rattle.std.specs.Prelude.{◌≡◌, map};
+ghost use Rattle.gw_kinds.specs.Checks.{Finds};
 ghost use Rattle.gw_object.specs.declared.parts.Units.{Units};
 ghost use Rattle.gw_kinds.specs.Kinds as model;
 ghost use Rattle.gw_kinds.specs.declared.entities.EntityKind.TheVariants as needed;
 
 use crate::checks::{NumberedChecks, check};
 use crate::codes::{NO_ENTITY, WRONG_KIND};
-use crate::entities::{EntityKind, serves_as};
-use gw_object::{Entity, Fault, Kind, Parts, Place, TableState, Units};
+use crate::entities::{EntityKind, is_no_other_kind, is_there, needs};
+use gw_object::{Entity, Fault, Parts, Place, TableState, Units};
 
-/// Whether units can be inside an entity: a storage or a queue.
-fn holds_units(kind: Kind) -> bool
-    ensures { result ≡ model.holds_units kind }
+/// Whether none of the entities that are owned is of another kind.
+fn facilities_are_no_other_kind(entities: &[Entity], facilities: &[u16]) -> bool
+    ensures { result ≡ model.names_no_other_kind entities.now (map (model.needs needed.Facility) facilities.now) }
 {
-    match kind {
-        Kind::Facility => false,
-        Kind::Storage(_) | Kind::Queue => true,
-    }
+    facilities
+        .iter()
+        .map(|f| needs(EntityKind::Facility, *f))
+        .all(|named| is_no_other_kind(entities, named))
 }
 
-/// Whether an entity, if it is there, is a facility.
-fn is_facility(entities: &[Entity], number: u16) -> bool
-    ensures { result ≡ model.is_none_or (model.kind_at entities.now number) (model.serves_as needed.Facility) }
+/// Whether none of the entities in which units are held is of another kind.
+fn units_are_no_other_kind(entities: &[Entity], units: &[Units]) -> bool
+    ensures { result ≡ model.names_no_other_kind entities.now (map (λ (u : Units). model.needs needed.StorageOrQueue u.entity) units.now) }
 {
-    entities
-        .get(number as usize)
-        .is_none_or(|entity| serves_as(EntityKind::Facility, entity.kind))
+    units
+        .iter()
+        .map(|u| needs(EntityKind::StorageOrQueue, u.entity))
+        .all(|named| is_no_other_kind(entities, named))
 }
 
-/// Whether an entity, if it is there, is one that units can be inside.
-fn is_of_units(entities: &[Entity], number: u16) -> bool
-    ensures { result ≡ model.is_none_or (model.kind_at entities.now number) model.holds_units }
+/// Whether none of the entities of a row is of another kind.
+fn names_no_other_kind(entities: &[Entity], row: &TableState) -> bool
+    ensures { result ≡ model.names_no_other_kind entities.now (model.entities_of_row row.now) }
 {
-    entities
-        .get(number as usize)
-        .is_none_or(|entity| holds_units(entity.kind))
-}
-
-/// Whether none of the entities that are owned is one of another kind.
-fn are_facilities(entities: &[Entity], facilities: &[u16]) -> bool
-    ensures { result ≡ list_all (λ f. model.is_none_or (model.kind_at entities.now f) (model.serves_as needed.Facility)) facilities.now }
-{
-    facilities.iter().all(|f| is_facility(entities, *f))
-}
-
-/// Whether none of the entities whose units are held is one of another kind.
-fn are_of_units(entities: &[Entity], units: &[Units]) -> bool
-    ensures { result ≡ list_all (λ (u : Units). model.is_none_or (model.kind_at entities.now u.entity) model.holds_units) units.now }
-{
-    units.iter().all(|u| is_of_units(entities, u.entity))
-}
-
-/// Whether none of the entities of a row is one of another kind.
-fn has_right_kinds(entities: &[Entity], row: &TableState) -> bool
-    ensures { result ≡ model.has_right_kinds entities.now row.now }
-{
-    are_facilities(entities, row.facilities.as_slice())
-        && are_of_units(entities, row.units.as_slice())
+    facilities_are_no_other_kind(entities, row.facilities.as_slice())
+        && units_are_no_other_kind(entities, row.units.as_slice())
 }
 
 /// Whether the entities that are owned are there.
 fn facilities_are_there(entities: &[Entity], facilities: &[u16]) -> bool
-    ensures { result ≡ list_all (λ f. nat_lt f (length entities.now)) facilities.now }
+    ensures { result ≡ model.are_there entities.now (map (model.needs needed.Facility) facilities.now) }
 {
-    facilities.iter().all(|f| (*f as usize) < entities.len())
+    facilities
+        .iter()
+        .map(|f| needs(EntityKind::Facility, *f))
+        .all(|named| is_there(entities, named))
 }
 
-/// Whether the entities whose units are held are there.
+/// Whether the entities in which units are held are there.
 fn units_are_there(entities: &[Entity], units: &[Units]) -> bool
-    ensures { result ≡ list_all (λ (u : Units). nat_lt u.entity (length entities.now)) units.now }
+    ensures { result ≡ model.are_there entities.now (map (λ (u : Units). model.needs needed.StorageOrQueue u.entity) units.now) }
 {
-    units.iter().all(|u| (u.entity as usize) < entities.len())
+    units
+        .iter()
+        .map(|u| needs(EntityKind::StorageOrQueue, u.entity))
+        .all(|named| is_there(entities, named))
 }
 
 /// Whether the entities of a row are there.
-fn has_entities(entities: &[Entity], row: &TableState) -> bool
-    ensures { result ≡ model.has_entities entities.now row.now }
+fn are_there(entities: &[Entity], row: &TableState) -> bool
+    ensures { result ≡ model.are_there entities.now (model.entities_of_row row.now) }
 {
     facilities_are_there(entities, row.facilities.as_slice())
         && units_are_there(entities, row.units.as_slice())
 }
 
-/// The checks of the rows of the state table.
+/// The first fault of the row at this place, if there is one.
+fn check_row(entities: &[Entity], place: Place, row: &TableState) -> Result<(), Fault>
+    ensures { Finds result (model.entity_checks entities.now place (model.entities_of_row row.now)) }
+{
+    check(WRONG_KIND, place, names_no_other_kind(entities, row))?;
+    check(NO_ENTITY, place, are_there(entities, row))
+}
+
+/// The checks of the rows of the state table, each at its block.
 pub(crate) struct Rows;
 
 impl NumberedChecks<Option<TableState>> for Rows {
-    ghost checks = { model.row_checks };
+    ghost use Rattle.gw_object.specs.declared.fault.Place.TheVariants as places;
 
-    fn check_one(parts: &Parts, i: usize, element: &Option<TableState>) -> Result<(), Fault> {
+    ghost checks = { λ p b. model.row_checks p (places.Block b) };
+
+    fn check_one(parts: &Parts, number: u16, element: &Option<TableState>) -> Result<(), Fault> {
         match element {
             None => Ok(()),
-            Some(row) => {
-                let place = Place::Block((i + 1) as u16);
-                let entities = parts.entities.as_slice();
-                check(WRONG_KIND, place, has_right_kinds(entities, row))?;
-                check(NO_ENTITY, place, has_entities(entities, row))
-            }
+            Some(row) => check_row(parts.entities.as_slice(), Place::Block(number), row),
         }
     }
 }

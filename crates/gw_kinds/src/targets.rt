@@ -1,8 +1,10 @@
-//! Where transactions go on to.
+//! Where transactions go on to: the blocks there.
 
-ghost use Rattle.std.specs.Prelude.{◌≡◌, ◌<◌, ◌+◌, Some, is_some};
+ghost use Rattle.std.specs.Prelude.{◌≡◌, ◌≤◌, ◌+◌, Some, is_some, not};
+ghost use Rattle.gw_kinds.specs.Exits.{leads_to as leads};
 ghost use Rattle.gw_kinds.specs.Kinds as model;
 
+use crate::ways::{Way, exits, leads_to};
 use gw_object::Block;
 
 /// Whether there is a block of this number, from 1.
@@ -12,6 +14,13 @@ fn is_block(blocks: &[Block], number: u16) -> bool
     number != 0 && number as usize <= blocks.len()
 }
 
+/// Whether a block is a GENERATE.
+fn is_generate(block: &Block) -> bool
+    ensures { result ≡ model.is_generate (Some block.now) }
+{
+    matches!(block, Block::Generate(_))
+}
+
 /// Whether there is a GENERATE block of this number, from 1.
 fn is_generate_at(blocks: &[Block], number: u16) -> bool
     ensures { result ≡ model.is_generate (model.block_at blocks.now number) }
@@ -19,111 +28,53 @@ fn is_generate_at(blocks: &[Block], number: u16) -> bool
     number != 0 && blocks.get(number as usize - 1).is_some_and(is_generate)
 }
 
-/// Whether a block is a GENERATE.
-fn is_generate(block: &Block) -> bool
-    ensures { result ≡ model.is_generate (Some block.now) }
+/// The number by which a way leads to a block, if it does by a number.
+fn number_of(way: Way) -> Option<u16>
+    ensures { result ≡ model.number_of way }
 {
-    match block {
-        Block::Generate(_) => true,
-        Block::Terminate(_)
-        | Block::Advance(_)
-        | Block::Seize(_)
-        | Block::Release(_)
-        | Block::Enter(_)
-        | Block::Leave(_)
-        | Block::Queue(_)
-        | Block::Depart(_)
-        | Block::Transfer(_)
-        | Block::TransferByFraction(_) => false,
+    match way {
+        Way::Falls => None,
+        Way::Goes(target) => Some(target),
     }
 }
 
-/// Whether transactions go on from a block to the next one.
-fn falls(block: &Block) -> bool
-    ensures { result ≡ model.falls block.now }
+/// Whether the blocks that a block names by their numbers are there.
+pub(crate) fn has_named_blocks(blocks: &[Block], block: &Block) -> bool
+    ensures { result ≡ model.has_named_blocks blocks.now block.now }
 {
-    match block {
-        Block::Terminate(_) | Block::Transfer(_) => false,
-        Block::TransferByFraction(fraction) => fraction.otherwise.is_none(),
-        Block::Generate(_)
-        | Block::Advance(_)
-        | Block::Seize(_)
-        | Block::Release(_)
-        | Block::Enter(_)
-        | Block::Leave(_)
-        | Block::Queue(_)
-        | Block::Depart(_) => true,
+    exits(block)
+        .iter()
+        .filter_map(|exit| number_of(exit.way))
+        .all(|target| is_block(blocks, target))
+}
+
+/// Whether no exit of the block of this number leads to a GENERATE.
+pub(crate) fn enters_no_generate(blocks: &[Block], number: u16, block: &Block) -> bool
+    requires { number ≤ 4096 }
+    ensures { result ≡ model.enters_no_generate blocks.now number block.now }
+{
+    exits(block)
+        .iter()
+        .all(|exit| !is_generate_at(blocks, leads_to(number, exit.way)))
+}
+
+/// Whether a way falls from the block of this number to a block that is there, if it falls.
+fn stays_inside(blocks: &[Block], number: u16, way: Way) -> bool
+    requires { number ≤ 4096 }
+    ensures { result ≡ model.stays_inside blocks.now number way }
+{
+    match way {
+        Way::Falls => is_block(blocks, number + 1),
+        Way::Goes(_) => true,
     }
 }
 
-/// Whether the blocks to which a block sends transactions are there.
-pub(crate) fn has_targets(blocks: &[Block], block: &Block) -> bool
-    ensures { result ≡ model.has_targets blocks.now block.now }
+/// Whether no exit of the block of this number falls off the last block.
+pub(crate) fn never_falls_off(blocks: &[Block], number: u16, block: &Block) -> bool
+    requires { number ≤ 4096 }
+    ensures { result ≡ model.never_falls_off blocks.now number block.now }
 {
-    match block {
-        Block::Transfer(target) => is_block(blocks, *target),
-        Block::TransferByFraction(fraction) => {
-            fraction
-                .otherwise
-                .is_none_or(|other| is_block(blocks, other))
-                && is_block(blocks, fraction.target)
-        }
-        Block::Generate(_)
-        | Block::Terminate(_)
-        | Block::Advance(_)
-        | Block::Seize(_)
-        | Block::Release(_)
-        | Block::Enter(_)
-        | Block::Leave(_)
-        | Block::Queue(_)
-        | Block::Depart(_) => true,
-    }
-}
-
-/// Whether a block sends transactions to a GENERATE block.
-fn sends_to_generate(blocks: &[Block], block: &Block) -> bool
-    ensures { result ≡ model.sends_to_generate blocks.now block.now }
-{
-    match block {
-        Block::Transfer(target) => is_generate_at(blocks, *target),
-        Block::TransferByFraction(fraction) => {
-            fraction
-                .otherwise
-                .is_some_and(|other| is_generate_at(blocks, other))
-                || is_generate_at(blocks, fraction.target)
-        }
-        Block::Generate(_)
-        | Block::Terminate(_)
-        | Block::Advance(_)
-        | Block::Seize(_)
-        | Block::Release(_)
-        | Block::Enter(_)
-        | Block::Leave(_)
-        | Block::Queue(_)
-        | Block::Depart(_) => false,
-    }
-}
-
-/// Whether transactions fall from the block at this place, counted from 0, to a GENERATE block.
-fn falls_to_generate(blocks: &[Block], i: usize, block: &Block) -> bool
-    requires { i < 4096 }
-    ensures { result ≡ model.falls_to_generate blocks.now (i + 1) block.now }
-{
-    falls(block) && blocks.get(i + 1).is_some_and(is_generate)
-}
-
-/// Whether transactions go on from the block at this place, counted from 0, to a GENERATE block.
-pub(crate) fn enters_generate(blocks: &[Block], i: usize, block: &Block) -> bool
-    requires { i < 4096 }
-    ensures { result ≡ model.enters_generate blocks.now (i + 1) block.now }
-{
-    falls_to_generate(blocks, i, block) || sends_to_generate(blocks, block)
-}
-
-/// Whether transactions go on from the block at this place, counted from 0, and no block comes after it.
-pub(crate) fn falls_off(blocks: &[Block], i: usize, block: &Block) -> bool
-    requires { i < 4096 }
-    ensures { result ≡ model.falls_off blocks.now (i + 1) block.now }
-{
-    falls(block) && blocks.get(i + 1).is_none()
+    exits(block)
+        .iter()
+        .all(|exit| stays_inside(blocks, number, exit.way))
 }

@@ -1,8 +1,8 @@
 //! Kinds: objects of a few blocks, with numbers that name what they must, and that don't.
 
 use crate::models::*;
-use gw_kinds::{check, check_kinds, codes};
-use gw_object::{Block, Fault, Generate, Memory, Place, TableState};
+use gw_kinds::{Way, check, check_kinds, codes, exits, leads_to};
+use gw_object::{Block, Fault, Generate, Memory, Operand, Place, Spread, TableState};
 use std::alloc::Global;
 use std::test::Fail;
 
@@ -273,6 +273,56 @@ fn a_check_that_does_not_hold_answers_its_fault(rt: HostRuntime) {
     let are_right = [
         check(11, Place::Block(2), true) == Ok(()),
         check(25, edge, false).err() == at_edge(25, 3, 4),
+    ];
+    assert!(rt; first_wrong(&are_right).is_none());
+}
+
+/// Whether the exits of a block are these, in order.
+fn leave_by(block: Block, expected: &[(Way, bool)]) -> bool {
+    let exits = exits(&block);
+    let found = exits.as_slice();
+    found.len() == expected.len()
+        && (0..found.len()).all(|i| (found[i].way, found[i].passes_time) == expected[i])
+}
+
+/// An ADVANCE of this mean and half the range.
+macro_rules! advance {
+    ($mean:expr, $half:expr) => {
+        Block::Advance(Spread {
+            mean: Operand::Constant($mean),
+            half: Operand::Constant($half),
+        })
+    };
+}
+
+#[test]
+fn time_passes_where_at_least_1_is_drawn(rt: HostRuntime) {
+    const FALLS: Way = Way::Falls;
+    let are_right = [
+        leave_by(advance!(3, 2), &[(FALLS, true)]),
+        leave_by(advance!(2, 2), &[(FALLS, false)]),
+        leave_by(advance!(1, 0), &[(FALLS, true)]),
+        leave_by(advance!(5, -1), &[(FALLS, false)]),
+        leave_by(GENERATE, &[(FALLS, false)]),
+    ];
+    assert!(rt; first_wrong(&are_right).is_none());
+}
+
+#[test]
+fn a_transfer_leaves_by_its_targets(rt: HostRuntime) {
+    let are_right = [
+        leave_by(TERMINATE, &[]),
+        leave_by(Block::Transfer(7), &[(Way::Goes(7), false)]),
+        leave_by(
+            by_fraction!(500, None, 9),
+            &[(Way::Falls, false), (Way::Goes(9), false)],
+        ),
+        leave_by(
+            by_fraction!(500, Some(8), 9),
+            &[(Way::Goes(8), false), (Way::Goes(9), false)],
+        ),
+        leads_to(4, Way::Falls) == 5,
+        leads_to(4, Way::Goes(9)) == 9,
     ];
     assert!(rt; first_wrong(&are_right).is_none());
 }

@@ -1,5 +1,5 @@
 -- Entities are exact, and what fits their list is what keeps the rules of parts.
-use Rattle.std.proofs.Common.{◌≡◌, ℕ, suc, ◌+◌, ◌<◌, Bool, true, false, IsTrue, not, List, [], ◌∷◌, ◌++◌, length, get_or, take, Ok, refl, sym, subst, ◌∙◌, append_assoc, add-one, arith}
+use Rattle.std.proofs.Common.{◌≡◌, ℕ, suc, ◌+◌, ◌<◌, Bool, true, false, IsTrue, not, List, [], ◌∷◌, ◌++◌, length, get_or, take, refl, sym, subst, ◌∙◌, append_assoc, add-one, arith}
 use Rattle.std.specs.Bool.{Decides}
 use Rattle.std.specs.List.{All, AllPairs, list_any}
 use Rattle.std.specs.Int.{w32}
@@ -17,7 +17,7 @@ use Rattle.gw_object.specs.declared.parts.Kind.TheVariants.{Facility, Storage, Q
 use Rattle.gw_object.specs.declared.parts.Entity.{Entity}
 use Rattle.gw_fields.specs.Fields.{Field, byte, number, tested, both, nothing, form_read, by_tag, plain, ElementsFit}
 use Rattle.gw_object.specs.Entities.{is_letter, letter, name, kind_tag, capacity, kind_fields, KindFits, IsLettered, EntityFits, IsNamed, AreNamesakes, is_named, new_name, kind_form, kind_forms, entity_spelling, entity_read, FitsBehind, entity}
-use Rattle.gw_fields.proofs.Exact.{◌also◌, CutsFronts, IsExact, IsExactForm, AreExactForms, IsExactElement, behind_exact, by_tag_takes, by_tag_within, tag_cut, byte_exact, wide32, number_exact, tested_exact, both_exact, fitting_exact, ranged_exact, nothing_exact, plain_exact, listed_exact, All-from_fit, fit-from_All}
+use Rattle.gw_fields.proofs.Exact.{ReadsBack, ◌also◌, IsExact, IsExactForm, AreExactForms, IsExactElement, behind_exact, by_tag_takes, by_tag_within, tag_reads_back, byte_exact, wide32, number_exact, tested_exact, both_exact, fitting_exact, ranged_exact, nothing_exact, plain_exact, listed_exact, All-from_fit, fit-from_All}
 
 -- ---- names
 
@@ -88,30 +88,25 @@ name_is_new front e h = (
   to_not (list_any (is_named (kind_tag e.kind) e.name) front) (λ found. some_named (kind_tag e.kind) e.name front found h.own),
 )
 
-kind_again : (front : List Entity) (n : List ℕ) (k : Kind) (rest : List ℕ) → FitsBehind front (record { name = n; kind = k }) → entity_read front (entity_spelling (record { name = n; kind = k }) ++ rest) ≡ Ok (record { name = n; kind = k }, rest)
-unfolding entity_read
-kind_again front n Facility rest h = rw ((both_exact (new_name front 1) nothing (new_name_exact front 1) nothing_exact).again (n, tt) rest (name_is_new front (record { name = n; kind = Facility }) h, tt)) refl
-kind_again front n (Storage c) rest h = rw ((both_exact (new_name front 2) capacity (new_name_exact front 2) capacity_exact).again (n, c) rest (name_is_new front (record { name = n; kind = Storage c }) h, h.limits.kind)) refl
-kind_again front n Queue rest h = rw ((both_exact (new_name front 3) nothing (new_name_exact front 3) nothing_exact).again (n, tt) rest (name_is_new front (record { name = n; kind = Queue }) h, tt)) refl
-
 -- the byte of a kind, a new name, and the fields of the kind
-kind_form_cut : {A : Type 0} (front : List Entity) (tag : ℕ) (make : A → Kind) (fields : Field A) → ((bytes rest : List ℕ) → form_read (kind_forms front) tag bytes rest ≡ (kind_form front tag make fields).1 rest) → IsExact fields → (n : List ℕ) (x : A) → (new_name front tag).Fits n → fields.Fits x
-    → CutsFronts (by_tag (kind_forms front)) (tag ∷ (name.spell n ++ fields.spell x))
-kind_form_cut front tag make fields found exact n x new fits = tag_cut (kind_forms front) tag (λ (n, x). record { name = n; kind = make x }) (both (new_name front tag) fields) found (both_exact (new_name front tag) fields (new_name_exact front tag) exact) (n, x) (new, fits)
+form_reads_back : {A : Type 0} (front : List Entity) (tag : ℕ) (make : A → Kind) (fields : Field A) → ((bytes rest : List ℕ) → form_read (kind_forms front) tag bytes rest ≡ (kind_form front tag make fields).1 rest) → IsExact fields → (n : List ℕ) (x : A) → (new_name front tag).Fits n → fields.Fits x
+    → ReadsBack (by_tag (kind_forms front)) (tag ∷ (name.spell n ++ fields.spell x)) (record { name = n; kind = make x })
+form_reads_back front tag make fields found exact n x new fits =
+    tag_reads_back (kind_forms front) tag (λ (n, x). record { name = n; kind = make x }) (both (new_name front tag) fields) found (both_exact (new_name front tag) fields (new_name_exact front tag) exact) (n, x) (new, fits)
 
-kind_cut : (front : List Entity) (n : List ℕ) (k : Kind) → FitsBehind front (record { name = n; kind = k }) → CutsFronts (entity_read front) (entity_spelling (record { name = n; kind = k }))
+kind_reads_back : (front : List Entity) (n : List ℕ) (k : Kind) → FitsBehind front (record { name = n; kind = k }) → ReadsBack (entity_read front) (entity_spelling (record { name = n; kind = k })) (record { name = n; kind = k })
 unfolding entity_read
-kind_cut front n Facility h = kind_form_cut front 1 (λ _. Facility) nothing (λ _ _. refl) nothing_exact n tt (name_is_new front _ h) tt
-kind_cut front n (Storage c) h = kind_form_cut front 2 (λ c. Storage c) capacity (λ _ _. refl) capacity_exact n c (name_is_new front _ h) h.limits.kind
-kind_cut front n Queue h = kind_form_cut front 3 (λ _. Queue) nothing (λ _ _. refl) nothing_exact n tt (name_is_new front _ h) tt
+kind_reads_back front n Facility h = form_reads_back front 1 (λ _. Facility) nothing (λ _ _. refl) nothing_exact n tt (name_is_new front _ h) tt
+kind_reads_back front n (Storage c) h = form_reads_back front 2 (λ c. Storage c) capacity (λ _ _. refl) capacity_exact n c (name_is_new front _ h) h.limits.kind
+kind_reads_back front n Queue h = form_reads_back front 3 (λ _. Queue) nothing (λ _ _. refl) nothing_exact n tt (name_is_new front _ h) tt
 
 pub entity_exact : IsExactElement entity
 unfolding entity_read
 entity_exact = record {
   takes = λ front left. by_tag_takes entity_spelling (FitsBehind front) (kind_forms front) (kind_forms_exact front);
-  again = λ front left e rest. kind_again front e.name e.kind rest;
+  again = λ front left e rest fits. (kind_reads_back front e.name e.kind fits).again rest;
   within = λ front left. by_tag_within entity_spelling (FitsBehind front) (kind_forms front) (kind_forms_exact front);
-  cut = λ front left e. kind_cut front e.name e.kind;
+  cut = λ front left e fits. (kind_reads_back front e.name e.kind fits).cut;
 }
 
 -- ---- what fits the list of entities is what keeps the rules of parts

@@ -20,7 +20,7 @@ use Rattle.gw_object.specs.Entities.{entity}
 use Rattle.gw_object.specs.Reading.{whole_read, with_place, first_fault, out_of_memory, fault_at, IsRefused}
 use Rattle.gw_object.proofs.EntityLaws.{entity_exact, entities_fit, entities_are}
 use Rattle.gw_object.proofs.StateLaws.{entity_number_exact, no_elements_exact, none, state_exact, rows_fit, rows_keep}
-use Rattle.gw_fields.proofs.Exact.{◌also◌, IsCut, CutsFronts, cuts_still, front_shorter, tag_cut, IsExactForm, AreExactForms, behind_exact, by_tag_takes, by_tag_within, IsBytes, Takes-shorter, IsExact, IsExactElement, bind_ok, bind_err, chosen, ok_is, err_is, not_both, byte_exact, wide16, wide32, wide64, number_exact, signed_exact, made_exact, and_then_exact, both_exact, fitting_exact, constant_exact, ranged_exact, optional_exact, plain_exact, last_tested_exact, elements_exact, listed_exact, All-from_fit, fit-from_All}
+use Rattle.gw_fields.proofs.Exact.{ReadsBack, ◌also◌, IsCut, CutsFronts, cuts_still, front_shorter, tag_reads_back, IsExactForm, AreExactForms, behind_exact, by_tag_takes, by_tag_within, IsBytes, Takes-shorter, IsExact, IsExactElement, bind_ok, bind_err, chosen, ok_is, err_is, not_both, byte_exact, wide16, wide32, wide64, number_exact, signed_exact, made_exact, and_then_exact, both_exact, fitting_exact, constant_exact, ranged_exact, optional_exact, plain_exact, last_tested_exact, elements_exact, listed_exact, All-from_fit, fit-from_All}
 
 -- ---- operands
 
@@ -91,41 +91,27 @@ block_forms_exact =
     also block_form_exact 14 (λ f. TransferByFraction f) fraction (λ f. refl) (λ f h. h) fraction_exact
     also tt
 
-block_again : (b : Block) (rest : List ℕ) → BlockFits b → block_read (block_spelling b ++ rest) ≡ Ok (b, rest)
+block_reads_back : (b : Block) → BlockFits b → ReadsBack block_read (block_spelling b) b
 unfolding block_read generate operand spread units fraction
-block_again (Generate g) rest fits = rw (generate_exact.again g rest fits) refl
-block_again (Terminate n) rest fits = rw (operand_exact.again n rest fits) refl
-block_again (Advance s) rest fits = rw (spread_exact.again s rest fits) refl
-block_again (Seize n) rest fits = rw (entity_number_exact.again n rest fits) refl
-block_again (Release n) rest fits = rw (entity_number_exact.again n rest fits) refl
-block_again (Enter u) rest fits = rw (units_exact.again u rest fits) refl
-block_again (Leave u) rest fits = rw (units_exact.again u rest fits) refl
-block_again (Queue u) rest fits = rw (units_exact.again u rest fits) refl
-block_again (Depart u) rest fits = rw (units_exact.again u rest fits) refl
-block_again (Transfer n) rest fits = rw (block_number_exact.again n rest fits) refl
-block_again (TransferByFraction f) rest fits = rw (fraction_exact.again f rest fits) refl
-
-block_cut : (b : Block) → BlockFits b → CutsFronts block_read (block_spelling b)
-unfolding block_read generate operand spread units fraction
-block_cut (Generate g) fits = tag_cut block_forms 1 (λ g. Generate g) generate (λ _ _. refl) generate_exact g fits
-block_cut (Terminate n) fits = tag_cut block_forms 2 (λ n. Terminate n) operand (λ _ _. refl) operand_exact n fits
-block_cut (Advance s) fits = tag_cut block_forms 3 (λ s. Advance s) spread (λ _ _. refl) spread_exact s fits
-block_cut (Seize n) fits = tag_cut block_forms 4 (λ n. Seize n) entity_number (λ _ _. refl) entity_number_exact n fits
-block_cut (Release n) fits = tag_cut block_forms 5 (λ n. Release n) entity_number (λ _ _. refl) entity_number_exact n fits
-block_cut (Enter u) fits = tag_cut block_forms 6 (λ u. Enter u) units (λ _ _. refl) units_exact u fits
-block_cut (Leave u) fits = tag_cut block_forms 7 (λ u. Leave u) units (λ _ _. refl) units_exact u fits
-block_cut (Queue u) fits = tag_cut block_forms 8 (λ u. Queue u) units (λ _ _. refl) units_exact u fits
-block_cut (Depart u) fits = tag_cut block_forms 9 (λ u. Depart u) units (λ _ _. refl) units_exact u fits
-block_cut (Transfer n) fits = tag_cut block_forms 13 (λ n. Transfer n) block_number (λ _ _. refl) block_number_exact n fits
-block_cut (TransferByFraction f) fits = tag_cut block_forms 14 (λ f. TransferByFraction f) fraction (λ _ _. refl) fraction_exact f fits
+block_reads_back (Generate g) fits = tag_reads_back block_forms 1 (λ g. Generate g) generate (λ _ _. refl) generate_exact g fits
+block_reads_back (Terminate n) fits = tag_reads_back block_forms 2 (λ n. Terminate n) operand (λ _ _. refl) operand_exact n fits
+block_reads_back (Advance s) fits = tag_reads_back block_forms 3 (λ s. Advance s) spread (λ _ _. refl) spread_exact s fits
+block_reads_back (Seize n) fits = tag_reads_back block_forms 4 (λ n. Seize n) entity_number (λ _ _. refl) entity_number_exact n fits
+block_reads_back (Release n) fits = tag_reads_back block_forms 5 (λ n. Release n) entity_number (λ _ _. refl) entity_number_exact n fits
+block_reads_back (Enter u) fits = tag_reads_back block_forms 6 (λ u. Enter u) units (λ _ _. refl) units_exact u fits
+block_reads_back (Leave u) fits = tag_reads_back block_forms 7 (λ u. Leave u) units (λ _ _. refl) units_exact u fits
+block_reads_back (Queue u) fits = tag_reads_back block_forms 8 (λ u. Queue u) units (λ _ _. refl) units_exact u fits
+block_reads_back (Depart u) fits = tag_reads_back block_forms 9 (λ u. Depart u) units (λ _ _. refl) units_exact u fits
+block_reads_back (Transfer n) fits = tag_reads_back block_forms 13 (λ n. Transfer n) block_number (λ _ _. refl) block_number_exact n fits
+block_reads_back (TransferByFraction f) fits = tag_reads_back block_forms 14 (λ f. TransferByFraction f) fraction (λ _ _. refl) fraction_exact f fits
 
 pub block_exact : IsExact block
 unfolding block_read
 block_exact = record {
   takes = by_tag_takes block_spelling BlockFits block_forms block_forms_exact;
-  again = block_again;
+  again = λ b rest fits. (block_reads_back b fits).again rest;
   within = by_tag_within block_spelling BlockFits block_forms block_forms_exact;
-  cut = block_cut;
+  cut = λ b fits. (block_reads_back b fits).cut;
 }
 
 -- ---- what stands for each block

@@ -36,6 +36,11 @@ kind_tag Queue = 3
 abbrev pub capacity : Field ℕ
 capacity = ranged 1 greatest_capacity (number w32)
 
+-- the capacity of an entity, in units; 0 where it is no storage
+abbrev pub capacity_of : Kind → ℕ
+capacity_of (Storage n) = n
+capacity_of other = 0
+
 -- the fields of a kind
 abbrev pub kind_fields : Kind → List ℕ
 kind_fields Facility = []

@@ -146,11 +146,11 @@ no_elements = made (λ _. tt) (λ _. 0) (count 0 0)
 
 -- a facility that a transaction owns, above the one before it
 abbrev pub owned : Element ℕ
-owned = ascending (λ x. x.0) (λ facility. (facility, tt)) entity_number nothing
+owned = ascending nat_lt (λ x. x.0) (λ facility. (facility, tt)) entity_number nothing
 
 -- units that a transaction holds, of an entity above the one before it
 abbrev pub held : Element Units
-held = ascending (λ (entity, n). record { entity = entity; number = n }) (λ u. (u.entity, u.number)) entity_number (ranged 1 greatest_units (number w32))
+held = ascending nat_lt (λ (entity, n). record { entity = entity; number = n }) (λ u. (u.entity, u.number)) entity_number (ranged 1 greatest_units (number w32))
 
 -- the entity's number fits, and the number of units is within limits
 pub record HeldFits (u : Units) : Type 0 where

@@ -1,6 +1,6 @@
 //! States of the state table, in bytes and against the rules of the object format.
 
-ghost use Rattle.std.specs.Prelude.{◌≡◌, ◌↔◌, ◌<◌, IsTrue, IfSome};
+ghost use Rattle.std.specs.Prelude.{◌≡◌, ◌↔◌, ◌<◌, IsTrue, IfSome, nat_lt};
 ghost use Rattle.std.specs.List.{All, AllPairs};
 ghost use Rattle.gw_object.specs.Codes.{not_canonical};
 ghost use Rattle.gw_fields.specs.Fields.{is_above, tested};
@@ -21,7 +21,7 @@ use std::alloc::Global;
 
 /// An entity's number that is above the one before it, if there is one.
 fn read_above(alloc: Global, before: Option<u16>, bytes: &[u8]) -> Result<(u16, &[u8]), ReadError>
-    ensures { Gives (λ x. (x.0, x.1.now)) result ((tested (is_above before) not_canonical entity_number).read bytes.now) }
+    ensures { Gives (λ x. (x.0, x.1.now)) result ((tested (is_above nat_lt before) not_canonical entity_number).read bytes.now) }
 {
     let (entity, rest) = u16::read(alloc, bytes)?;
     if before.is_some_and(|before| entity <= before) {

@@ -8,11 +8,12 @@ use Rattle.gw_object.specs.declared.parts.Entity.{Entity}
 use Rattle.gw_object.specs.declared.parts.Block.{Block}
 use Rattle.gw_object.specs.declared.parts.Block.TheVariants as blocks
 use Rattle.gw_object.specs.declared.parts.Parts.{Parts}
-use Rattle.gw_kinds.specs.Kinds.{kind_at, block_at, is_generate}
+use Rattle.gw_object.specs.Entities.{capacity_of}
+use Rattle.gw_kinds.specs.Kinds.{block_at, is_generate}
 use Rattle.gw_flow.specs.Codes as codes
 use Rattle.gw_flow.specs.Rows.{Row, is_empty}
-use Rattle.gw_flow.specs.Blocks.{capacity_of}
-use Rattle.gw_flow.specs.Flow.{row_at}
+use Rattle.gw_flow.specs.Blocks.{capacity_at}
+use Rattle.gw_flow.specs.Flow.{own_table, own_row}
 use Rattle.gw_flow.specs.Laws.{FlowHolds}
 use Rattle.gw_num.specs.Table.{at}
 use Rattle.gw_num.proofs.Tables.{at-put_past, at-replicate}
@@ -35,8 +36,10 @@ use Rattle.gw_scan.specs.Typing.{IsPlaced, row_of, lists_facility, WellTyped, Ar
 use Rattle.gw_scan.proofs.Trades.{trade-nothing}
 use Rattle.gw_scan.proofs.Traces.{Goes, Arrives, Counts, Trace, Done, Then, trace_on, present}
 use Rattle.gw_scan.proofs.Unstopped.{Safe, Any, safe_bind, safe_if, safe_drawn}
+use Rattle.gw_scan.proofs.AtBlock.{first_may_be_entered}
 use Rattle.gw_scan.proofs.Moving.{Acts, safe_leads, at_first, the_rule}
 use Rattle.gw_scan.proofs.Waking.{some_of}
+use Rattle.gw_scan.proofs.Starting.{by_arrival}
 
 -- THE NEXT ARRIVAL
 
@@ -70,7 +73,7 @@ module _ (p : Parts) (s : State) (n : ℕ) (t : Transaction) (g : Generate) (row
 
   pub safe_generate : Safe (Trace p s) (generate p.blocks n t g s)
   safe_generate =
-      let may = acts.kinds.next refl in
+      let may = first_may_be_entered p t.next _ [] acts.kinds.exits in
       safe_bind (Scheduled p s n t) (Trace p s) (next_arrival t.next g s) _ safe_next
       (λ after h.
       safe_leads p (Trace p s) (t.next + 1) _ may
@@ -81,7 +84,7 @@ module _ (p : Parts) (s : State) (n : ℕ) (t : Transaction) (g : Generate) (row
 
 -- THE START
 
-vacant_at : (es : List Entity) (e : ℕ) → (at (storages.vacant 0) (map (λ (x : Entity). storages.vacant (storages.capacity_of x.kind)) es) e).contents ≡ empty
+vacant_at : (es : List Entity) (e : ℕ) → (at (storages.vacant 0) (map (λ (x : Entity). storages.vacant (capacity_of x.kind)) es) e).contents ≡ empty
 vacant_at [] e = refl
 vacant_at (x ∷ es) zero = refl
 vacant_at (x ∷ es) (suc e) = vacant_at es e
@@ -91,15 +94,10 @@ idle_at [] f n = refl
 idle_at (x ∷ es) zero n = refl
 idle_at (x ∷ es) (suc f) n = idle_at es f n
 
-same_capacity : (k : Kind) → storages.capacity_of k ≡ capacity_of (Some k)
-same_capacity kinds.Facility = refl
-same_capacity (kinds.Storage capacity) = refl
-same_capacity kinds.Queue = refl
-
-capacity_at : (es : List Entity) (e : ℕ) → (at (storages.vacant 0) (map (λ (x : Entity). storages.vacant (storages.capacity_of x.kind)) es) e).capacity ≡ capacity_of (kind_at es e)
-capacity_at [] e = refl
-capacity_at (x ∷ es) zero = same_capacity x.kind
-capacity_at (x ∷ es) (suc e) = capacity_at es e
+sized_at : (es : List Entity) (e : ℕ) → (at (storages.vacant 0) (map (λ (x : Entity). storages.vacant (capacity_of x.kind)) es) e).capacity ≡ capacity_at es e
+sized_at [] e = refl
+sized_at (x ∷ es) zero = refl
+sized_at (x ∷ es) (suc e) = sized_at es e
 
 module _ (p : Parts) (count : ℕ) (streams : List ℕ) where
   pub nothing_typed : WellTyped p (nothing p count streams)
@@ -109,28 +107,22 @@ module _ (p : Parts) (count : ℕ) (streams : List ℕ) where
     owned = λ f n. idle_at p.entities f n ∙ sym (ap (λ o. lists_facility f (row_of p o)) (no_transaction n));
     promised = λ e. omega arith;
     waiting = λ e n h. absurd (omega (arith, h, ap (times n) (at-replicate [] (length p.entities) e)));
-    sized = capacity_at p.entities;
+    sized = sized_at p.entities;
   }
 
   pub nothing_fills : AreWithinCapacity (nothing p count streams).goods
   nothing_fills = record { contents = λ e. omega (arith, ap (λ (c : Contents). c.content) (vacant_at p.entities e)) }
 
-module _ (p : Parts) (flow : FlowHolds p) where
+module _ (p : Parts) (flow : FlowHolds p (own_table p)) where
   first_traced : (b : ℕ) (block : Block) (s : State) → block_at p.blocks b ≡ Some block → OnGives (Trace p s) (first_arrival b block s)
-  first_traced b (blocks.Generate g) s is =
-      let row = some_of (row_at p.states b) (flow.arrivals b (ap is_generate is)) in
+  first_traced b block s =
+      by_arrival (λ x. block_at p.blocks b ≡ Some x → OnGives (Trace p s) (first_arrival b x s))
+      (λ g is.
+      let row = some_of (own_row p b) (flow.arrivals b (ap is_generate is)) in
       let none = the_rule p b codes.edge_state (is_empty row.0) (blocks.Generate g) row.0 refl (flow.each_row b (blocks.Generate g) row.0 is row.1) in
-      on_bind (Trace p s) (first_moment g.first g.interval s) _ (λ d found. Then (Counts refl refl refl) (Then (Arrives {s = with_stream d.1 s} b g row.0 g.priority d.0 is row.1 none) Done))
-  first_traced b (blocks.Terminate by) s is = Done
-  first_traced b (blocks.Advance time) s is = Done
-  first_traced b (blocks.Seize f) s is = Done
-  first_traced b (blocks.Release f) s is = Done
-  first_traced b (blocks.Enter u) s is = Done
-  first_traced b (blocks.Leave u) s is = Done
-  first_traced b (blocks.Queue u) s is = Done
-  first_traced b (blocks.Depart u) s is = Done
-  first_traced b (blocks.Transfer target) s is = Done
-  first_traced b (blocks.TransferByFraction f) s is = Done
+      on_bind (Trace p s) (first_moment g.first g.interval s) _ (λ d found. Then (Counts refl refl refl) (Then (Arrives {s = with_stream d.1 s} b g row.0 g.priority d.0 is row.1 none) Done)))
+      (λ x none is. subst (OnGives (Trace p s)) (sym (none b s)) Done)
+      block
 
   on_trace : (s t : State) (o : Outcome State) → Trace p s t → OnGives (Trace p t) o → OnGives (Trace p s) o
   on_trace s t (Gives u) xs h = trace_on p xs h

@@ -9,7 +9,8 @@ use Rattle.gw_transactions.specs.declared.Transaction.{Transaction}
 use Rattle.gw_transactions.specs.Transactions.{IsSound}
 use Rattle.gw_entities.specs.Contents.{empty}
 use Rattle.gw_entities.specs.Facility.{idle}
-use Rattle.gw_entities.specs.Storage.{vacant, capacity_of}
+use Rattle.gw_object.specs.Entities.{capacity_of}
+use Rattle.gw_entities.specs.Storage.{vacant}
 use Rattle.gw_entities.specs.Table.{FacilityTable, StorageTable, QueueTable}
 use Rattle.gw_scan.specs.declared.machine.Machine.{Machine}
 use Rattle.gw_scan.specs.Start.{nothing}

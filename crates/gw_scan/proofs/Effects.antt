@@ -1,10 +1,9 @@
 -- The effect of each block on a well-typed state is a list of elementary changes, and never an error stop.
-use Rattle.std.proofs.Common.{◌≡◌, ℕ, suc, ◌+◌, ◌-◌, ◌%◌, ◌≤◌, ℤ, pos, List, [], ◌∷◌, ◌++◌, length, Option, Some, None, true, false, not, is_none, ◌==◌, ◌||◌, refl, sym, ap, ◌∙◌, subst, arith}
-use Rattle.std.specs.Prelude.{int_lt, nat_lt, nat_le, unwrap_or, All}
+use Rattle.std.proofs.Common.{◌≡◌, ℕ, suc, ◌+◌, ◌-◌, ◌%◌, ◌≤◌, ℤ, pos, List, [], ◌∷◌, length, Option, Some, None, true, false, not, ◌==◌, ◌||◌, refl, sym, ap, ◌∙◌, subst, arith}
+use Rattle.std.specs.Prelude.{int_lt, nat_lt, nat_le, unwrap_or, Contains}
 use Rattle.std.specs.Option.{option_map_or}
 use Rattle.std.specs.List.{list_any}
 use Rattle.std.proofs.lemmas.Bool.{leb-true, le-leb}
-use Rattle.std.proofs.lemmas.List.Elements.{All-head, All-tail}
 use Rattle.gw_object.specs.declared.parts.Spread.{Spread}
 use Rattle.gw_object.specs.declared.parts.Units.{Units}
 use Rattle.gw_object.specs.declared.parts.Fraction.{Fraction}
@@ -13,11 +12,14 @@ use Rattle.gw_object.specs.declared.parts.Kind.TheVariants as kinds
 use Rattle.gw_object.specs.declared.parts.Block.{Block}
 use Rattle.gw_object.specs.declared.parts.Block.TheVariants as blocks
 use Rattle.gw_object.specs.declared.parts.Parts.{Parts}
-use Rattle.gw_kinds.specs.Kinds.{kind_at, block_at, listed}
+use Rattle.gw_kinds.specs.declared.ways.Way.TheVariants.{Goes}
+use Rattle.gw_kinds.specs.Exits.{leads_to, at_once, goes_or_falls}
+use Rattle.gw_kinds.specs.Kinds.{kind_at, block_at}
 use Rattle.gw_kinds.specs.Laws.{MayBeEntered, BlockHolds}
 use Rattle.gw_flow.specs.Codes as codes
 use Rattle.gw_flow.specs.Rows.{Row, owns, units_of, with_facility, without_facility, with_units}
-use Rattle.gw_flow.specs.Blocks.{move, capacity_of}
+use Rattle.gw_flow.specs.Blocks.{capacity_at, move, edges}
+use Rattle.gw_flow.specs.Flow.{own_table}
 use Rattle.gw_flow.specs.Laws.{FlowHolds}
 use Rattle.gw_num.specs.Generator.{next_after}
 use Rattle.gw_num.specs.Table.{at}
@@ -40,6 +42,7 @@ use Rattle.gw_scan.proofs.Owning.{lists-none}
 use Rattle.gw_scan.proofs.Trades.{trade-nothing, trade-seize, trade-release, trade-storage, trade-queue}
 use Rattle.gw_scan.proofs.Traces.{Ends, Rests, Waits, Counts, Trace, Done, Then, change-keeps}
 use Rattle.gw_scan.proofs.Unstopped.{Safe, Any, safe_bind, safe_test, safe_if, safe_drawn}
+use Rattle.gw_scan.proofs.AtBlock.{first_may_be_entered, second_may_be_entered, led_to, is_storage, is_queue}
 use Rattle.gw_scan.proofs.Moving.{Acts, safe_leads, at_first, at_second, the_rule, goes, just_goes, owner_as}
 use Rattle.gw_scan.proofs.Waking.{handed_over, admits}
 
@@ -48,7 +51,7 @@ owns_none : (fs : List Facility) (n : ℕ) → ((f : ℕ) → is_owned_by n (at 
 owns_none [] n h = refl
 owns_none (f ∷ fs) n h = ap (λ b. b || list_any (is_owned_by n) fs) (h 0) ∙ owns_none fs n (λ k. h (suc k))
 
-module _ (p : Parts) (each_block : (b : ℕ) (block : Block) → block_at p.blocks b ≡ Some block → BlockHolds p b block) (flow : FlowHolds p) (s : State) (n : ℕ) (t : Transaction) where
+module _ (p : Parts) (each_block : (b : ℕ) (block : Block) → block_at p.blocks b ≡ Some block → BlockHolds p b block) (flow : FlowHolds p (own_table p)) (s : State) (n : ℕ) (t : Transaction) where
   -- the units that its row promises are inside
   inside : (block : Block) (row : Row) → Acts p s n t block row → (e : ℕ) → units_of row e ≤ content_of e s.goods (kind_at p.entities e)
   inside block row acts e =
@@ -62,7 +65,7 @@ module _ (p : Parts) (each_block : (b : ℕ) (block : Block) → block_at p.bloc
 
   pub safe_advance : (time : Spread) (row : Row) → Acts p s n t (blocks.Advance time) row → Safe (Trace p s) (advance p.blocks n t time s)
   safe_advance time row acts =
-      let may = acts.kinds.next refl in
+      let may = first_may_be_entered p t.next _ [] acts.kinds.exits in
       safe_bind Any (Trace p s) (drawn_moment time s.clock (first_stream s)) _ (safe_drawn time s.clock (first_stream s))
       (λ d is.
       let enters = goes p s n t (blocks.Advance time) row acts (with_stream d.1 s) t (t.next + 1) row s.goods refl refl refl (at_first _ []) may (trade-nothing p n row s.goods) in
@@ -73,7 +76,7 @@ module _ (p : Parts) (each_block : (b : ℕ) (block : Block) → block_at p.bloc
 
   pub safe_seize : (f : ℕ) (row : Row) → Acts p s n t (blocks.Seize f) row → Safe (Trace p s) (seize p.blocks n t f s)
   safe_seize f row acts =
-      let may = acts.kinds.next refl in
+      let may = first_may_be_entered p t.next _ [] acts.kinds.exits in
       let rule = the_rule p t.next codes.already_owned (not (owns row f)) (blocks.Seize f) row refl acts.flow in
       safe_leads p (Trace p s) (t.next + 1) _ may
       (safe_test (Trace p s) (not (is_owned_by n (facility f s))) AlreadyOwned _ (ap not (owner_as p s n t (blocks.Seize f) row acts f) ∙ rule)
@@ -83,7 +86,7 @@ module _ (p : Parts) (each_block : (b : ℕ) (block : Block) → block_at p.bloc
 
   pub safe_release : (f : ℕ) (row : Row) → Acts p s n t (blocks.Release f) row → Safe (Trace p s) (release p.blocks n t f s)
   safe_release f row acts =
-      let may = acts.kinds.next refl in
+      let may = first_may_be_entered p t.next _ [] acts.kinds.exits in
       let owned = owner_as p s n t (blocks.Release f) row acts f ∙ the_rule p t.next codes.not_owner (owns row f) (blocks.Release f) row refl acts.flow in
       let gone = goes p s n t (blocks.Release f) row acts s t (t.next + 1) (without_facility f row) (releases f s).goods refl refl refl (at_first _ []) may (trade-release p n f row s.goods owned) in
       safe_leads p (Trace p s) (t.next + 1) _ may
@@ -94,14 +97,15 @@ module _ (p : Parts) (each_block : (b : ℕ) (block : Block) → block_at p.bloc
 
   pub safe_enter : (u : Units) (row : Row) → Acts p s n t (blocks.Enter u) row → Safe (Trace p s) (enter p.blocks n t u s)
   safe_enter u row acts =
-      let may = acts.kinds.next refl in
-      let rule = the_rule p t.next codes.over_capacity (nat_le u.number (capacity_of (kind_at p.entities u.entity))) (blocks.Enter u) row refl acts.flow in
+      let may = first_may_be_entered p t.next _ [] acts.kinds.exits in
+      let kind = is_storage p.entities u.entity acts.kinds.entities in
+      let rule = the_rule p t.next codes.over_capacity (nat_le u.number (capacity_at p.entities u.entity)) (blocks.Enter u) row refl acts.flow in
       safe_leads p (Trace p s) (t.next + 1) _ may
       (safe_test (Trace p s) (storages.fits_capacity u.number (storage u.entity s)) OverCapacity _ (ap (nat_le u.number) (acts.typed.sized u.entity) ∙ rule)
       (safe_if (Trace p s) (storages.has_room u.number (storage u.entity s)) _ _
       (λ free.
       just_goes p s n t (blocks.Enter u) row acts (t.next + 1) (with_units u.entity (units_of row u.entity + u.number) row) (takes u s).goods (at_first _ []) may
-      (trade-storage p n u.entity (units_of row u.entity + u.number) (storages.entered u.number (storage u.entity s)) row s.goods acts.kinds.entity.kind.0 acts.kinds.entity.kind.1 refl (omega arith) (λ _. leb-true _ _ free)))
+      (trade-storage p n u.entity (units_of row u.entity + u.number) (storages.entered u.number (storage u.entity s)) row s.goods kind.0 kind.1 refl (omega arith) (λ _. leb-true _ _ free)))
       (λ full. Then (Waits u.entity n acts.active (asks (blocks.Enter u) row acts u.entity refl)) Done)))
 
   -- what a storage holds of the units that a row promises
@@ -110,65 +114,58 @@ module _ (p : Parts) (each_block : (b : ℕ) (block : Block) → block_at p.bloc
 
   pub safe_leave : (u : Units) (row : Row) → Acts p s n t (blocks.Leave u) row → Safe (Trace p s) (leave p.blocks n t u s)
   safe_leave u row acts =
-      let may = acts.kinds.next refl in
+      let may = first_may_be_entered p t.next _ [] acts.kinds.exits in
+      let kind = is_storage p.entities u.entity acts.kinds.entities in
       let enough = leb-true u.number (units_of row u.entity) (the_rule p t.next codes.too_few_units (nat_le u.number (units_of row u.entity)) (blocks.Leave u) row refl acts.flow) in
-      let within = held u row (kind_at p.entities u.entity) acts.kinds.entity.kind.0 acts.kinds.entity.kind.1 (inside (blocks.Leave u) row acts u.entity) in
+      let within = held u row (kind_at p.entities u.entity) kind.0 kind.1 (inside (blocks.Leave u) row acts u.entity) in
       let gone = goes p s n t (blocks.Leave u) row acts s t (t.next + 1) (with_units u.entity (units_of row u.entity - u.number) row) (gives_back u s).goods refl refl refl (at_first _ []) may
-      (trade-storage p n u.entity (units_of row u.entity - u.number) (storages.left u.number (storage u.entity s)) row s.goods acts.kinds.entity.kind.0 acts.kinds.entity.kind.1 refl (omega (arith, enough, within)) (λ before. omega (arith, before))) in
+      (trade-storage p n u.entity (units_of row u.entity - u.number) (storages.left u.number (storage u.entity s)) row s.goods kind.0 kind.1 refl (omega (arith, enough, within)) (λ before. omega (arith, before))) in
       safe_leads p (Trace p s) (t.next + 1) _ may
       (safe_test (Trace p s) (holds u.number (storage u.entity s).contents) TooFew _ (le-leb u.number (storage u.entity s).contents.content (omega (arith, enough, within)))
       (Then gone (admits p each_block flow (gives_back u (passes n t s)) (change-keeps p flow gone acts.typed) u.entity (delay_list u.entity s) (λ m. omega arith))))
 
   pub safe_join : (u : Units) (row : Row) → Acts p s n t (blocks.Queue u) row → Safe (Trace p s) (join_queue p.blocks n t u s)
   safe_join u row acts =
-      let may = acts.kinds.next refl in
+      let may = first_may_be_entered p t.next _ [] acts.kinds.exits in
+      let kind = is_queue p.entities u.entity acts.kinds.entities in
       safe_leads p (Trace p s) (t.next + 1) _ may
       (just_goes p s n t (blocks.Queue u) row acts (t.next + 1) (with_units u.entity (units_of row u.entity + u.number) row) (joins u s).goods (at_first _ []) may
-      (trade-queue p n u.entity (units_of row u.entity + u.number) (joined u.number (queue u.entity s)) row s.goods acts.kinds.entity.kind (omega arith)))
+      (trade-queue p n u.entity (units_of row u.entity + u.number) (joined u.number (queue u.entity s)) row s.goods kind (omega arith)))
 
   pub safe_depart : (u : Units) (row : Row) → Acts p s n t (blocks.Depart u) row → Safe (Trace p s) (depart p.blocks n t u s)
   safe_depart u row acts =
-      let may = acts.kinds.next refl in
+      let may = first_may_be_entered p t.next _ [] acts.kinds.exits in
+      let kind = is_queue p.entities u.entity acts.kinds.entities in
       let enough = leb-true u.number (units_of row u.entity) (the_rule p t.next codes.too_few_units (nat_le u.number (units_of row u.entity)) (blocks.Depart u) row refl acts.flow) in
-      let within : units_of row u.entity ≤ (queue u.entity s).content = subst (λ k. units_of row u.entity ≤ content_of u.entity s.goods k) acts.kinds.entity.kind (inside (blocks.Depart u) row acts u.entity) in
+      let within : units_of row u.entity ≤ (queue u.entity s).content = subst (λ k. units_of row u.entity ≤ content_of u.entity s.goods k) kind (inside (blocks.Depart u) row acts u.entity) in
       safe_leads p (Trace p s) (t.next + 1) _ may
       (safe_test (Trace p s) (holds u.number (queue u.entity s)) TooFew _ (le-leb u.number (queue u.entity s).content (omega (arith, enough, within)))
       (just_goes p s n t (blocks.Depart u) row acts (t.next + 1) (with_units u.entity (units_of row u.entity - u.number) row) (departs u s).goods (at_first _ []) may
-      (trade-queue p n u.entity (units_of row u.entity - u.number) (departed u.number (queue u.entity s)) row s.goods acts.kinds.entity.kind (omega (arith, enough, within)))))
+      (trade-queue p n u.entity (units_of row u.entity - u.number) (departed u.number (queue u.entity s)) row s.goods kind (omega (arith, enough, within)))))
 
   -- TRANSFERS
 
   pub safe_transfer : (to : ℕ) (row : Row) → Acts p s n t (blocks.Transfer to) row → Safe (Trace p s) (transfer p.blocks n t to s)
   safe_transfer to row acts =
-      let may = All-head (MayBeEntered p) to [] acts.kinds.targets in
+      let may = first_may_be_entered p t.next _ [] acts.kinds.exits in
       safe_leads p (Trace p s) to _ may
       (just_goes p s n t (blocks.Transfer to) row acts to row s.goods (at_first _ []) may (trade-nothing p n row s.goods))
 
-  -- where the others go, and where the fraction goes
-  others_go : (b : ℕ) (f : Fraction) → BlockHolds p b (blocks.TransferByFraction f) → MayBeEntered p (unwrap_or f.otherwise (b + 1))
-  others_go b f h = by_otherwise f.otherwise h.next h.targets
-    where
-      by_otherwise : (o : Option ℕ) → (is_none o ≡ true → MayBeEntered p (b + 1)) → All (MayBeEntered p) (listed o ++ f.target ∷ []) → MayBeEntered p (unwrap_or o (b + 1))
-      by_otherwise None next targets = next refl
-      by_otherwise (Some c) next targets = All-head (MayBeEntered p) c (f.target ∷ []) targets
-
-  fraction_goes : (b : ℕ) (f : Fraction) → BlockHolds p b (blocks.TransferByFraction f) → MayBeEntered p f.target
-  fraction_goes b f h = by_otherwise f.otherwise h.targets
-    where
-      by_otherwise : (o : Option ℕ) → All (MayBeEntered p) (listed o ++ f.target ∷ []) → MayBeEntered p f.target
-      by_otherwise None targets = All-head (MayBeEntered p) f.target [] targets
-      by_otherwise (Some c) targets = All-head (MayBeEntered p) f.target [] (All-tail (MayBeEntered p) c (f.target ∷ []) targets)
+  -- it goes along one of the two edges once a number is drawn
+  goes_drawn : (f : Fraction) (row : Row) → Acts p s n t (blocks.TransferByFraction f) row → (to : ℕ) → Contains (edges p (own_table p) t.next (blocks.TransferByFraction f) row) (move to row) → MayBeEntered p to → Safe (Trace p s) (transfer p.blocks n t to (with_stream (next_after (first_stream s)) s))
+  goes_drawn f row acts to along may =
+      let x = next_after (first_stream s) in
+      safe_leads p (Trace p s) to _ may (Then (Counts refl refl refl) (Then (goes p s n t (blocks.TransferByFraction f) row acts (with_stream x s) t to row s.goods refl refl refl along may (trade-nothing p n row s.goods)) Done))
 
   pub safe_fraction : (f : Fraction) (row : Row) → Acts p s n t (blocks.TransferByFraction f) row → Safe (Trace p s) (transfer_by_fraction p.blocks n t f s)
   safe_fraction f row acts =
       let x = next_after (first_stream s) in
+      let others : ℕ = leads_to t.next (goes_or_falls f.otherwise) in
       choose (λ to. Safe (Trace p s) (transfer p.blocks n t to (with_stream x s))) (nat_lt (x % 1000) f.thousandths) f.target (unwrap_or f.otherwise (t.next + 1))
-      (λ drawn.
-      let may = fraction_goes t.next f acts.kinds in
-      safe_leads p (Trace p s) f.target _ may (Then (Counts refl refl refl) (Then (goes p s n t (blocks.TransferByFraction f) row acts (with_stream x s) t f.target row s.goods refl refl refl (at_second _ _ []) may (trade-nothing p n row s.goods)) Done)))
+      (λ drawn. goes_drawn f row acts f.target (at_second (move others row) _ []) (second_may_be_entered p t.next _ _ [] acts.kinds.exits))
       (λ other.
-      let may = others_go t.next f acts.kinds in
-      safe_leads p (Trace p s) (unwrap_or f.otherwise (t.next + 1)) _ may (Then (Counts refl refl refl) (Then (goes p s n t (blocks.TransferByFraction f) row acts (with_stream x s) t (unwrap_or f.otherwise (t.next + 1)) row s.goods refl refl refl (at_first _ (move f.target row ∷ [])) may (trade-nothing p n row s.goods)) Done)))
+      subst (λ to. Safe (Trace p s) (transfer p.blocks n t to (with_stream x s))) (led_to t.next f.otherwise)
+      (goes_drawn f row acts others (at_first _ (move f.target row ∷ [])) (first_may_be_entered p t.next _ (at_once (Goes f.target) ∷ []) acts.kinds.exits)))
 
   -- TERMINATE
 

@@ -7,7 +7,7 @@ use Rattle.gw_entities.specs.declared.stop.Stop.{Stop}
 use Rattle.gw_entities.specs.declared.stop.Stop.TheVariants.{OverCapacity}
 use Rattle.gw_entities.specs.Contents.{empty}
 use Rattle.gw_entities.specs.Queue.{may_join, joined, joining}
-use Rattle.gw_entities.specs.Table.{QueueTable, queue_at, with_queue, with_left}
+use Rattle.gw_entities.specs.Table.{QueueTable, queue_at, set_queue, with_left}
 
 abbrev given : Unit {0} × Contents → Result (Unit {0} × Contents) Stop
 given x = Ok x
@@ -29,6 +29,6 @@ joined-left n q v result may h = by_result result (h ∙ ap (λ b. if b then Ok 
     by_result (Err stop) h = absurd cc
 
 pub joined-table : (old new : QueueTable) (e n : ℕ) (result : Result (Unit {0}) Stop) → (queue_at e old).content ≤ (queue_at e old).entries → (queue_at e old).entries + n ≤ 2 ^ 62
-    → with_left result (queue_at e new) ≡ joining n (queue_at e old) → new ≡ with_queue e (queue_at e new) old → new.queues ≡ put empty old.queues e (joined n (at empty old.queues e))
+    → with_left result (queue_at e new) ≡ joining n (queue_at e old) → new ≡ set_queue e (queue_at e new) old → new.queues ≡ put empty old.queues e (joined n (at empty old.queues e))
 joined-table old new e n result inside few value others =
     ap (λ (t : QueueTable). t.queues) others ∙ ap (put empty old.queues e) (joined-left n (queue_at e old) (queue_at e new) result (may_count n (queue_at e old) inside few) value)

@@ -5,6 +5,7 @@ pub mod Outcomes
 pub mod Standings
 pub mod Within
 pub mod Follows
+pub mod AtBlock
 pub mod Operands
 pub mod Handles
 pub mod Changes

@@ -8,6 +8,7 @@ use Rattle.gw_kinds.specs.Kinds.{block_at, is_generate}
 use Rattle.gw_kinds.specs.Laws.{MayBeEntered, BlockHolds}
 use Rattle.gw_flow.specs.Rows.{Row, owns}
 use Rattle.gw_flow.specs.Blocks.{Rule, rules, move, edges}
+use Rattle.gw_flow.specs.Flow.{own_table}
 use Rattle.gw_flow.specs.Laws.{MayPass}
 use Rattle.gw_num.specs.Table.{at}
 use Rattle.gw_transactions.specs.declared.Transaction.{Transaction}
@@ -28,7 +29,7 @@ pub record Acts (p : Parts) (s : State) (n : ℕ) (t : Transaction) (block : Blo
   pub active : s.lists.active ≡ Some n
   pub is : IsAt p s.transactions n t block row
   pub kinds : BlockHolds p t.next block
-  pub flow : MayPass p t.next block row
+  pub flow : MayPass p (own_table p) t.next block row
 
 -- a block to which a transaction may go on may be entered
 enterable : (o : Option Block) → IsSomeAnd o (λ block. is_generate (Some block) ≡ false) → may_enter o ≡ true
@@ -46,14 +47,14 @@ pub at_second : {A : Type 0} (x y : A) (xs : List A) → Contains (x ∷ y ∷ x
 at_second x y xs = (1, omega arith, refl)
 
 -- the rule of a block that has one
-pub the_rule : (p : Parts) (b code : ℕ) (holds : Bool) (block : Block) (row : Row) → rules p.entities block row ≡ (record { code = code; holds = holds }) ∷ [] → MayPass p b block row → holds ≡ true
+pub the_rule : (p : Parts) (b code : ℕ) (holds : Bool) (block : Block) (row : Row) → rules p block row ≡ (record { code = code; holds = holds }) ∷ [] → MayPass p (own_table p) b block row → holds ≡ true
 the_rule p b code holds block row is pass =
     let one : Rule = record { code = code; holds = holds } in
     All-head (λ (rule : Rule). rule.holds ≡ true) one [] (subst (All (λ (rule : Rule). rule.holds ≡ true)) is pass.each_rule)
 
 module _ (p : Parts) (s : State) (n : ℕ) (t : Transaction) (block : Block) (row : Row) (acts : Acts p s n t block row) where
   -- it goes along an edge, from a state with the same transactions and lists
-  pub goes : (m : State) (u : Transaction) (to : ℕ) (state : Row) (h : Goods) → m.transactions ≡ s.transactions → m.lists ≡ s.lists → m.goods ≡ s.goods → Contains (edges t.next block row) (move to state) → MayBeEntered p to → Trade p n (Some row) (Some state) s.goods h
+  pub goes : (m : State) (u : Transaction) (to : ℕ) (state : Row) (h : Goods) → m.transactions ≡ s.transactions → m.lists ≡ s.lists → m.goods ≡ s.goods → Contains (edges p (own_table p) t.next block row) (move to state) → MayBeEntered p to → Trade p n (Some row) (Some state) s.goods h
       → Change p m (record (entered n u to m) { goods = h })
   goes m u to state h ts ls gs along may trade =
       Goes n to t u block row state h
@@ -62,7 +63,7 @@ module _ (p : Parts) (s : State) (n : ℕ) (t : Transaction) (block : Block) (ro
       along may (subst (λ g. Trade p n (Some row) (Some state) g h) (sym gs) trade)
 
   -- and nothing else happens
-  pub just_goes : (to : ℕ) (state : Row) (h : Goods) → Contains (edges t.next block row) (move to state) → MayBeEntered p to → Trade p n (Some row) (Some state) s.goods h → Trace p s (record (entered n t to s) { goods = h })
+  pub just_goes : (to : ℕ) (state : Row) (h : Goods) → Contains (edges p (own_table p) t.next block row) (move to state) → MayBeEntered p to → Trade p n (Some row) (Some state) s.goods h → Trace p s (record (entered n t to s) { goods = h })
   just_goes to state h along may trade = Then (goes s t to state h refl refl refl along may trade) Done
 
   -- what its row says of an owner, and what is inside at least

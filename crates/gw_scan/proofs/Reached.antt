@@ -7,7 +7,6 @@ use Rattle.std.proofs.lemmas.List.{length-map, length-replicate}
 use Rattle.std.proofs.lemmas.Int.{ints}
 use Rattle.gw_object.specs.declared.parts.Spread.{Spread}
 use Rattle.gw_object.specs.declared.parts.Block.{Block}
-use Rattle.gw_object.specs.declared.parts.Block.TheVariants as blocks
 use Rattle.gw_object.specs.declared.parts.Entity.{Entity}
 use Rattle.gw_num.specs.Table.{at}
 use Rattle.gw_num.proofs.Tables.{sum_by-replicate, length-put_next}
@@ -15,7 +14,8 @@ use Rattle.gw_entities.specs.declared.facilities.Facility.{Facility}
 use Rattle.gw_entities.specs.declared.contents.Contents.{Contents}
 use Rattle.gw_entities.specs.Contents.{empty}
 use Rattle.gw_entities.specs.Facility.{idle}
-use Rattle.gw_entities.specs.Storage.{vacant, capacity_of}
+use Rattle.gw_object.specs.Entities.{capacity_of}
+use Rattle.gw_entities.specs.Storage.{vacant}
 use Rattle.gw_scan.specs.declared.ends.End.{End}
 use Rattle.gw_scan.specs.declared.ends.End.TheVariants.{Budget}
 use Rattle.gw_scan.specs.Outcome.{Outcome, Gives, EndsBy, StopsBy}
@@ -32,6 +32,7 @@ use Rattle.gw_scan.proofs.Within.{sum-raised, within-arrives, within-stream, wit
 use Rattle.gw_scan.proofs.Follows.{Follows, follows, drawn-later}
 use Rattle.gw_scan.proofs.Operands.{blocks_fit, all-operands}
 use Rattle.gw_scan.proofs.Steps.{step-scan}
+use Rattle.gw_scan.proofs.Starting.{by_arrival}
 
 -- ONE STEP MORE
 
@@ -145,19 +146,13 @@ first-later None interval s clock least = subst (λ c. OnGives (λ (d : ℤ × �
 
 module _ (bs es : ℕ) (count : ℤ) where
   first_begins : (b : ℕ) (block : Block) (k : ℕ) (s : State) → b ≤ bs → OperandsFit es block → Begun bs es count k s → OnGives (Begun bs es count (suc k)) (first_arrival b block s)
-  first_begins b (blocks.Generate g) k s below fits h =
-      on_both (λ (d : ℤ × ℕ). pos 0 ≤ℤ d.0) (Begun bs es count (suc k)) (first_moment g.first g.interval s) _ (first-later g.first g.interval s h.clock fits)
-      (λ d least. begun_arrives bs es count k s b g.priority d.0 d.1 below least h)
-  first_begins b (blocks.Terminate by) k s below fits h = begun_more bs es count k (suc k) s (omega arith) h
-  first_begins b (blocks.Advance time) k s below fits h = begun_more bs es count k (suc k) s (omega arith) h
-  first_begins b (blocks.Seize f) k s below fits h = begun_more bs es count k (suc k) s (omega arith) h
-  first_begins b (blocks.Release f) k s below fits h = begun_more bs es count k (suc k) s (omega arith) h
-  first_begins b (blocks.Enter u) k s below fits h = begun_more bs es count k (suc k) s (omega arith) h
-  first_begins b (blocks.Leave u) k s below fits h = begun_more bs es count k (suc k) s (omega arith) h
-  first_begins b (blocks.Queue u) k s below fits h = begun_more bs es count k (suc k) s (omega arith) h
-  first_begins b (blocks.Depart u) k s below fits h = begun_more bs es count k (suc k) s (omega arith) h
-  first_begins b (blocks.Transfer target) k s below fits h = begun_more bs es count k (suc k) s (omega arith) h
-  first_begins b (blocks.TransferByFraction f) k s below fits h = begun_more bs es count k (suc k) s (omega arith) h
+  first_begins b block k s below fits h =
+      by_arrival (λ x. OperandsFit es x → OnGives (Begun bs es count (suc k)) (first_arrival b x s))
+      (λ g least.
+      on_both (λ (d : ℤ × ℕ). pos 0 ≤ℤ d.0) (Begun bs es count (suc k)) (first_moment g.first g.interval s) _ (first-later g.first g.interval s h.clock least)
+      (λ d late. begun_arrives bs es count k s b g.priority d.0 d.1 below late h))
+      (λ x none _. subst (OnGives (Begun bs es count (suc k))) (sym (none b s)) (begun_more bs es count k (suc k) s (omega arith) h))
+      block fits
 
   firsts_begin : (b : ℕ) (xs : List Block) (k : ℕ) (s : State) → b + length xs ≤ suc bs → AllByRecursion (OperandsFit es) xs → Begun bs es count k s → OnGives (Begun bs es count (length xs + k)) (first_arrivals b xs s)
   unfolding first_arrivals

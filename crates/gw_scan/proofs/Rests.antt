@@ -1,7 +1,6 @@
 -- Each job comes to a named end or to an error stop within its budget.
-use Rattle.std.proofs.Common.{◌≡◌, ◌≢◌, ◌+◌, ℕ, ℤ, zero, suc, List, [], ◌∷◌, Option, Some, None, is_some, inl, inr, arith, refl, sym, ap, ◌∙◌}
+use Rattle.std.proofs.Common.{◌≡◌, ◌≢◌, ◌+◌, ℕ, ℤ, zero, suc, List, [], ◌∷◌, Option, Some, None, is_some, inl, inr, arith, refl, sym, ap, subst, ◌∙◌}
 use Rattle.gw_object.specs.declared.parts.Block.{Block}
-use Rattle.gw_object.specs.declared.parts.Block.TheVariants as blocks
 use Rattle.gw_entities.specs.declared.stop.Stop.{Stop}
 use Rattle.gw_scan.specs.Outcome.{Outcome, Gives, EndsBy, StopsBy, ◌>>=◌, stop_in}
 use Rattle.gw_scan.specs.State.{State, with_stream}
@@ -11,6 +10,7 @@ use Rattle.gw_scan.specs.Start.{nothing, first_moment, first_arrival, first_arri
 use Rattle.gw_scan.specs.Job.{Job, Step, Alone, after, then_step, start_of, stop_of}
 use Rattle.gw_scan.specs.Laws.{Rest, AllComeToRest}
 use Rattle.gw_scan.proofs.Steps.{step-scan}
+use Rattle.gw_scan.proofs.Starting.{by_arrival}
 use Rattle.gw_scan.proofs.Reached.{by_budget, some_is}
 use Rattle.gw_scan.proofs.LeftByEnds.{ends_are_final, steps_are_counted}
 
@@ -32,17 +32,11 @@ timed s (EndsBy end) f h = tt
 timed s (StopsBy stop) f h = tt
 
 one_arrival : (b : ℕ) (block : Block) (s : State) → KeepsSteps s (first_arrival b block s)
-one_arrival b (blocks.Generate g) s = timed s (first_moment g.first g.interval s) (λ d. arrives b g.priority d.0 (with_stream d.1 s)) (λ d. refl)
-one_arrival b (blocks.Terminate by) s = refl
-one_arrival b (blocks.Advance time) s = refl
-one_arrival b (blocks.Seize f) s = refl
-one_arrival b (blocks.Release f) s = refl
-one_arrival b (blocks.Enter u) s = refl
-one_arrival b (blocks.Leave u) s = refl
-one_arrival b (blocks.Queue u) s = refl
-one_arrival b (blocks.Depart u) s = refl
-one_arrival b (blocks.Transfer target) s = refl
-one_arrival b (blocks.TransferByFraction f) s = refl
+one_arrival b block s =
+    by_arrival (λ x. KeepsSteps s (first_arrival b x s))
+    (λ g. timed s (first_moment g.first g.interval s) (λ d. arrives b g.priority d.0 (with_stream d.1 s)) (λ d. refl))
+    (λ x none. subst (KeepsSteps s) (sym (none b s)) refl)
+    block
 
 in_turn : (s : State) (o : Outcome State) (f : State → Outcome State) → KeepsSteps s o → ((t : State) → KeepsSteps t (f t)) → KeepsSteps s (o >>= f)
 in_turn s (Gives t) f e h = along s t (f t) e (h t)

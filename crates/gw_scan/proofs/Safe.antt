@@ -9,6 +9,7 @@ use Rattle.gw_kinds.specs.Laws.{BlockHolds}
 use Rattle.gw_kinds.proofs.KindsHold.{kinds_pass_at_each_place}
 use Rattle.gw_flow.specs.Codes as codes
 use Rattle.gw_flow.specs.Rows.{Row}
+use Rattle.gw_flow.specs.Flow.{own_table}
 use Rattle.gw_flow.specs.Laws.{FlowHolds}
 use Rattle.gw_flow.proofs.Passing.{flow_passes_at_each_block}
 use Rattle.gw_verify.specs.Checks.{Checked}
@@ -42,7 +43,7 @@ live : (o : Option Transaction) → 1 ≤ one_if (is_some o) → is_some o ≡ t
 live None h = absurd (omega (arith, h))
 live (Some t) h = refl
 
-module _ (p : Parts) (each_block : (b : ℕ) (block : Block) → block_at p.blocks b ≡ Some block → BlockHolds p b block) (flow : FlowHolds p) where
+module _ (p : Parts) (each_block : (b : ℕ) (block : Block) → block_at p.blocks b ≡ Some block → BlockHolds p b block) (flow : FlowHolds p (own_table p)) where
   -- the one walk over the blocks
   safe_effect : (s : State) (n : ℕ) (t : Transaction) (block : Block) (row : Row) → Acts p s n t block row → Safe (Trace p s) (effect p.blocks n t block s)
   unfolding effect
@@ -119,8 +120,8 @@ module _ (p : Parts) (each_block : (b : ℕ) (block : Block) → block_at p.bloc
 kinds_of : (p : Parts) → Checked p → (b : ℕ) (block : Block) → block_at p.blocks b ≡ Some block → BlockHolds p b block
 kinds_of p checked = ((kinds_pass_at_each_place p).0 (kinds_pass p checked)).1
 
-flow_of : (p : Parts) → Checked p → FlowHolds p
-flow_of p checked = (flow_passes_at_each_block p).0 (flow_passes p checked)
+flow_of : (p : Parts) → Checked p → FlowHolds p (own_table p)
+flow_of p checked = (flow_passes_at_each_block p (own_table p)).0 (flow_passes p checked)
 
 pub start_is_well_typed : StartIsWellTyped
 start_is_well_typed j checked =

@@ -12,8 +12,8 @@ use Rattle.gw_object.specs.declared.parts.Parts.{Parts}
 use Rattle.gw_kinds.specs.Kinds.{kind_at, block_at, is_generate}
 use Rattle.gw_kinds.specs.Laws.{MayBeEntered}
 use Rattle.gw_flow.specs.Rows.{Row, is_empty, Fits}
-use Rattle.gw_flow.specs.Blocks.{FlowEdge, move, edges}
-use Rattle.gw_flow.specs.Flow.{row_at, row_of_target}
+use Rattle.gw_flow.specs.Blocks.{move, edges}
+use Rattle.gw_flow.specs.Flow.{own_table, own_row}
 use Rattle.gw_flow.specs.Laws.{MayPass, FlowHolds}
 use Rattle.gw_num.specs.Table.{at}
 use Rattle.gw_num.proofs.Tables.{at-map, by_entry, at_past}
@@ -39,7 +39,7 @@ use Rattle.gw_scan.proofs.Trades.{trade-fits, trade-end, trade-arrival}
 pub record IsAt (p : Parts) (transactions : List (Option Transaction)) (n : ℕ) (t : Transaction) (block : Block) (row : Row) : Type 0 where
   pub found : at None transactions n ≡ Some t
   pub block_is : block_at p.blocks t.next ≡ Some block
-  pub row_is : row_at p.states t.next ≡ Some row
+  pub row_is : own_row p t.next ≡ Some row
 
 -- n is active, or on the current events chain
 abbrev pub IsPresent : Lists → ℕ → Type 0
@@ -49,11 +49,11 @@ IsPresent l n = 1 ≤ times n (active_numbers l.active) + times n l.current_even
 pub data Change (p : Parts) : State → State → Type 0 where
   -- a transaction enters its block, goes along one of its edges, and trades
   Goes : {s : State} (n to : ℕ) (t u : Transaction) (block : Block) (row state : Row) (h : Goods) → IsAt p s.transactions n t block row → IsPresent s.lists n
-      → Contains (edges t.next block row) (move to state) → MayBeEntered p to → Trade p n (Some row) (Some state) s.goods h → Change p s (record (entered n u to s) { goods = h })
+      → Contains (edges p (own_table p) t.next block row) (move to state) → MayBeEntered p to → Trade p n (Some row) (Some state) s.goods h → Change p s (record (entered n u to s) { goods = h })
   -- a transaction enters its block, owns nothing, and ends
   Ends : {s : State} (n : ℕ) (t : Transaction) (block : Block) (row : Row) → IsAt p s.transactions n t block row → s.lists.active ≡ Some n → (length row.facilities == 0) ≡ true → Change p s (destroyed n t s)
   -- a transaction is scheduled to arrive at a GENERATE
-  Arrives : {s : State} (b : ℕ) (g : Generate) (row : Row) (priority time : ℤ) → block_at p.blocks b ≡ Some (blocks.Generate g) → row_at p.states b ≡ Some row → is_empty row ≡ true → Change p s (arrives b priority time s)
+  Arrives : {s : State} (b : ℕ) (g : Generate) (row : Row) (priority time : ℤ) → block_at p.blocks b ≡ Some (blocks.Generate g) → own_row p b ≡ Some row → is_empty row ≡ true → Change p s (arrives b priority time s)
   -- the active transaction rests on the future events chain
   Rests : {s : State} (n : ℕ) (time : ℤ) → s.lists.active ≡ Some n → Change p s (rests_until n time s)
   -- the active transaction rests on the delay list of the entity that its block asks for
@@ -98,16 +98,16 @@ fresh p ts l g ty e = omega (arith, ty.stands (length ts), ap (λ o. one_if (is_
 -- where a move leads there is a block, whose row the move's state fits
 pub record Leads (p : Parts) (to : ℕ) (state : Row) : Type 0 where
   pub row : Row
-  pub is : row_at p.states to ≡ Some row
+  pub is : own_row p to ≡ Some row
   pub fits : Fits state row
 
 the_row : (r : Option Row) (state : Row) → IsSomeAnd r (Fits state) → (row : Row) × (r ≡ Some row) × Fits state row
 the_row None state h = absurd h
 the_row (Some row) state h = (row, refl, h)
 
-pub leads : (p : Parts) (b to : ℕ) (block : Block) (row state : Row) → MayPass p b block row → Contains (edges b block row) (move to state) → Leads p to state
+pub leads : (p : Parts) (b to : ℕ) (block : Block) (row state : Row) → MayPass p (own_table p) b block row → Contains (edges p (own_table p) b block row) (move to state) → Leads p to state
 leads p b to block row state pass along =
-    let found = the_row (row_at p.states to) state (All-contains (λ (edge : FlowEdge). IsSomeAnd (row_of_target p.states edge.target) (Fits edge.state)) (edges b block row) (move to state) pass.each_edge along) in
+    let found = the_row (own_row p to) state (All-contains (λ edge. IsSomeAnd (own_table p edge.target) (Fits edge.state)) (edges p (own_table p) b block row) (move to state) pass.each_edge along) in
     record { row = found.0; is = found.1; fits = found.2 }
 
 there : (o : Option Block) → IsSomeAnd o (λ block. is_generate (Some block) ≡ false) → is_some o ≡ true
@@ -117,15 +117,15 @@ there (Some block) h = refl
 placed : (p : Parts) (to : ℕ) (state : Row) (t : Transaction) → t.next ≡ to → MayBeEntered p to → Leads p to state → IsPlaced p t
 placed p to state t same may lead = record {
   block = ap (λ b. is_some (block_at p.blocks b)) same ∙ there (block_at p.blocks to) may;
-  row = ap (λ b. is_some (row_at p.states b)) same ∙ ap is_some lead.is;
+  row = ap (λ b. is_some (own_row p b)) same ∙ ap is_some lead.is;
 }
 
 storages-later : (time : ℕ) (xs : List Storage) (e : ℕ) → at (storages.vacant 0) (map (storages.storage_after time) xs) e ≡ storages.storage_after time (at (storages.vacant 0) xs e)
 storages-later time xs e = at-map_same (storages.storage_after time) (storages.vacant 0) xs e (ap (λ c. record (storages.vacant 0) { contents = c }) (nothing-after time))
 
-module _ (p : Parts) (flow : FlowHolds p) where
+module _ (p : Parts) (flow : FlowHolds p (own_table p)) where
   goes : (s : State) → WellTyped p s → (n to : ℕ) (t u : Transaction) (block : Block) (row state : Row) (h : Goods) → IsAt p s.transactions n t block row → IsPresent s.lists n
-      → Contains (edges t.next block row) (move to state) → MayBeEntered p to → Trade p n (Some row) (Some state) s.goods h → WellTyped p (record (entered n u to s) { goods = h })
+      → Contains (edges p (own_table p) t.next block row) (move to state) → MayBeEntered p to → Trade p n (Some row) (Some state) s.goods h → WellTyped p (record (entered n u to s) { goods = h })
   goes s ty n to t u block row state h is here along may trade =
       let lead = leads p t.next to block row state (flow.each_row t.next block row is.block_is is.row_is) along in
       let v : Transaction = record u { current = u.next; next = to } in
@@ -133,7 +133,7 @@ module _ (p : Parts) (flow : FlowHolds p) where
       (nowhere p s.transactions s.lists s.goods ty n here)
       (stands-entered n u t to s is.found ty.stands) refl
       (placed p to state v refl may lead)
-      (subst (λ r. Trade p n r (row_at p.states to) s.goods h) (sym (ap (row_of p) is.found ∙ is.row_is))
+      (subst (λ r. Trade p n r (own_row p to) s.goods h) (sym (ap (row_of p) is.found ∙ is.row_is))
       (subst (λ r. Trade p n (Some row) r s.goods h) (sym lead.is) (trade-fits p n (Some row) state lead.row s.goods h trade lead.fits)))
 
   ends : (s : State) → WellTyped p s → (n : ℕ) (t : Transaction) (block : Block) (row : Row) → IsAt p s.transactions n t block row → s.lists.active ≡ Some n → (length row.facilities == 0) ≡ true → WellTyped p (destroyed n t s)
@@ -143,7 +143,7 @@ module _ (p : Parts) (flow : FlowHolds p) where
       (stands-destroyed n t t s active is.found ty.stands) refl tt
       (subst (λ r. Trade p n r None s.goods s.goods) (sym (ap (row_of p) is.found ∙ is.row_is)) (trade-end p n row s.goods (lists-none row.facilities none)))
 
-  arrived : (s : State) → WellTyped p s → (b : ℕ) (g : Generate) (row : Row) (priority time : ℤ) → block_at p.blocks b ≡ Some (blocks.Generate g) → row_at p.states b ≡ Some row → is_empty row ≡ true → WellTyped p (arrives b priority time s)
+  arrived : (s : State) → WellTyped p s → (b : ℕ) (g : Generate) (row : Row) (priority time : ℤ) → block_at p.blocks b ≡ Some (blocks.Generate g) → own_row p b ≡ Some row → is_empty row ≡ true → WellTyped p (arrives b priority time s)
   arrived s ty b g row priority time block is none =
       let n = length s.transactions in
       let v : Transaction = record { current = 0; next = b; priority = priority; mark = s.clock; set = length s.transactions } in
@@ -151,7 +151,7 @@ module _ (p : Parts) (flow : FlowHolds p) where
       (fresh p s.transactions s.lists s.goods ty)
       (stands-arrives b priority time s ty.stands) refl
       (record { block = ap is_some block; row = ap is_some is })
-      (subst (λ t. Trade p n (row_of p t) (row_at p.states b) s.goods s.goods) (sym (at_past None s.transactions n (omega arith)))
+      (subst (λ t. Trade p n (row_of p t) (own_row p b) s.goods s.goods) (sym (at_past None s.transactions n (omega arith)))
       (subst (λ r. Trade p n None r s.goods s.goods) (sym is) (trade-arrival p n row s.goods none)))
 
   waits : (s : State) → WellTyped p s → (e n : ℕ) → s.lists.active ≡ Some n → WaitsFor p e (at None s.transactions n) → WellTyped p (waits_for e n s)

@@ -9,7 +9,7 @@ use Rattle.gw_object.specs.declared.parts.Parts.{Parts}
 use Rattle.gw_kinds.specs.Kinds.{block_at}
 use Rattle.gw_kinds.specs.Laws.{BlockHolds}
 use Rattle.gw_flow.specs.Rows.{Row, units_of, with_facility, with_units}
-use Rattle.gw_flow.specs.Flow.{row_at}
+use Rattle.gw_flow.specs.Flow.{own_table, own_row}
 use Rattle.gw_flow.specs.Laws.{FlowHolds}
 use Rattle.gw_num.specs.Table.{at}
 use Rattle.gw_num.proofs.Tables.{at-put}
@@ -26,6 +26,7 @@ use Rattle.gw_scan.proofs.Follows.{asked-enter}
 use Rattle.gw_scan.specs.Typing.{IsPlaced, WellTyped}
 use Rattle.gw_scan.proofs.Trades.{trade-seize, trade-storage}
 use Rattle.gw_scan.proofs.Traces.{IsAt, IsPresent, Goes, Called, Trace, Done, Then, trace_on, trace-keeps}
+use Rattle.gw_scan.proofs.AtBlock.{first_may_be_entered, is_storage}
 use Rattle.gw_scan.proofs.Moving.{at_first}
 
 -- what is there
@@ -51,12 +52,12 @@ seize-is f (Some (blocks.TransferByFraction fraction)) h = absurd (false≢true 
 called_is_present : (e n : ℕ) (s : State) → IsPresent (called_from e n s).lists n
 called_is_present e n s = omega (arith, times-joined n (priority_of s.transactions) n s.lists.current_events, same_number n n refl)
 
-module _ (p : Parts) (each_block : (b : ℕ) (block : Block) → block_at p.blocks b ≡ Some block → BlockHolds p b block) (flow : FlowHolds p) where
+module _ (p : Parts) (each_block : (b : ℕ) (block : Block) → block_at p.blocks b ≡ Some block → BlockHolds p b block) (flow : FlowHolds p (own_table p)) where
   -- a live transaction at a block is at its row
   pub is_at : (s : State) → WellTyped p s → (n : ℕ) (t : Transaction) (block : Block) → at None s.transactions n ≡ Some t → block_at p.blocks t.next ≡ Some block → (row : Row) × IsAt p s.transactions n t block row
   is_at s ty n t block live there =
       let place : IsPlaced p t = subst (λ o. IfSome o (IsPlaced p)) live (ty.placed n) in
-      let row = some_of (row_at p.states t.next) place.row in
+      let row = some_of (own_row p t.next) place.row in
       (row.0, record { found = live; block_is = there; row_is = row.1 })
 
   -- HAND-OVER
@@ -66,7 +67,7 @@ module _ (p : Parts) (each_block : (b : ℕ) (block : Block) → block_at p.bloc
   taken_over s ty f w t idle stands live there =
       let found = is_at s ty w t (blocks.Seize f) live there in
       Then (Called f w stands)
-      (Then (Goes w (t.next + 1) t t (blocks.Seize f) found.0 (with_facility f found.0) (seizes f w s).goods found.1 (called_is_present f w s) (at_first _ []) ((each_block t.next (blocks.Seize f) there).next refl) (trade-seize p w f found.0 s.goods idle)) Done)
+      (Then (Goes w (t.next + 1) t t (blocks.Seize f) found.0 (with_facility f found.0) (seizes f w s).goods found.1 (called_is_present f w s) (at_first _ []) (first_may_be_entered p t.next _ [] (each_block t.next (blocks.Seize f) there).exits) (trade-seize p w f found.0 s.goods idle)) Done)
 
   pub handed_over : (s : State) → WellTyped p s → (f : ℕ) (ws : List ℕ) → is_idle (facility f s) ≡ true → ((m : ℕ) → times m ws ≤ times m (delay_list f s)) → Trace p s (hand_over p.blocks f ws s)
   handed_over s ty f [] idle among = Done
@@ -93,11 +94,12 @@ module _ (p : Parts) (each_block : (b : ℕ) (block : Block) → block_at p.bloc
   entered_free s ty w t u stands live there free =
       let found = is_at s ty w t (blocks.Enter u) live there in
       let holds = each_block t.next (blocks.Enter u) there in
+      let kind = is_storage p.entities u.entity holds.entities in
       let old = delay_list u.entity s in
       record {
         trace = Then (Called u.entity w stands)
-            (Then (Goes w (t.next + 1) t t (blocks.Enter u) found.0 (with_units u.entity (units_of found.0 u.entity + u.number) found.0) (takes u s).goods found.1 (called_is_present u.entity w s) (at_first _ []) (holds.next refl)
-            (trade-storage p w u.entity (units_of found.0 u.entity + u.number) (storages.entered u.number (storage u.entity s)) found.0 s.goods holds.entity.kind.0 holds.entity.kind.1 refl (omega arith) (λ _. leb-true _ _ free))) Done);
+            (Then (Goes w (t.next + 1) t t (blocks.Enter u) found.0 (with_units u.entity (units_of found.0 u.entity + u.number) found.0) (takes u s).goods found.1 (called_is_present u.entity w s) (at_first _ []) (first_may_be_entered p t.next _ [] holds.exits)
+            (trade-storage p w u.entity (units_of found.0 u.entity + u.number) (storages.entered u.number (storage u.entity s)) found.0 s.goods kind.0 kind.1 refl (omega arith) (λ _. leb-true _ _ free))) Done);
         left = λ m. omega (arith, times-without m w old stands, ap (times m) (at-put [] s.lists.delay_lists u.entity (without w old)));
       }
 

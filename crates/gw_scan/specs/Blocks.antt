@@ -76,18 +76,8 @@ seize bs n t f s =
 
 -- whether it is the SEIZE of this facility
 abbrev pub is_seize : ℕ → Option Block → Bool
-is_seize f None = false
-is_seize f (Some (blocks.Generate g)) = false
-is_seize f (Some (blocks.Terminate by)) = false
-is_seize f (Some (blocks.Advance time)) = false
 is_seize f (Some (blocks.Seize g)) = g == f
-is_seize f (Some (blocks.Release g)) = false
-is_seize f (Some (blocks.Enter u)) = false
-is_seize f (Some (blocks.Leave u)) = false
-is_seize f (Some (blocks.Queue u)) = false
-is_seize f (Some (blocks.Depart u)) = false
-is_seize f (Some (blocks.Transfer target)) = false
-is_seize f (Some (blocks.TransferByFraction fraction)) = false
+is_seize f other = false
 
 -- the waiter n, which is t, joins the current events chain, and owns the facility at once in its SEIZE block
 abbrev pub takes_over : List Block → ℕ → ℕ → State → Transaction → State
@@ -114,18 +104,8 @@ enter bs n t u s =
 
 -- the units of a storage that a block asks for, if it is its ENTER
 abbrev pub asked : ℕ → Option Block → Option Units
-asked e None = None
-asked e (Some (blocks.Generate g)) = None
-asked e (Some (blocks.Terminate by)) = None
-asked e (Some (blocks.Advance time)) = None
-asked e (Some (blocks.Seize f)) = None
-asked e (Some (blocks.Release f)) = None
 asked e (Some (blocks.Enter u)) = if u.entity == e then Some u else None
-asked e (Some (blocks.Leave u)) = None
-asked e (Some (blocks.Queue u)) = None
-asked e (Some (blocks.Depart u)) = None
-asked e (Some (blocks.Transfer target)) = None
-asked e (Some (blocks.TransferByFraction f)) = None
+asked e other = None
 
 -- the waiter n, which is t, joins the current events chain and enters its ENTER block, where the units that it asks for are free
 abbrev pub enters_if_free : ℕ → Transaction → State → Units → State

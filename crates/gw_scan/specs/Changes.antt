@@ -84,40 +84,40 @@ abbrev pub queue : ℕ → State → Contents
 queue q s = at empty s.goods.queues q
 
 -- the facility of this number is now this one
-abbrev pub with_facility : ℕ → Facility → State → State
-with_facility f v s = record s { goods = record s.goods { facilities = put idle s.goods.facilities f v } }
+abbrev pub put_facility : ℕ → Facility → State → State
+put_facility f v s = record s { goods = record s.goods { facilities = put idle s.goods.facilities f v } }
 
 -- the storage of this number is now this one
-abbrev pub with_storage : ℕ → Storage → State → State
-with_storage e v s = record s { goods = record s.goods { storages = put (storages.vacant 0) s.goods.storages e v } }
+abbrev pub put_storage : ℕ → Storage → State → State
+put_storage e v s = record s { goods = record s.goods { storages = put (storages.vacant 0) s.goods.storages e v } }
 
 -- the queue of this number is now this one
-abbrev pub with_queue : ℕ → Contents → State → State
-with_queue q v s = record s { goods = record s.goods { queues = put empty s.goods.queues q v } }
+abbrev pub put_queue : ℕ → Contents → State → State
+put_queue q v s = record s { goods = record s.goods { queues = put empty s.goods.queues q v } }
 
 -- the transaction n owns a facility
 abbrev pub seizes : ℕ → ℕ → State → State
-seizes f n s = with_facility f (seized n (facility f s)) s
+seizes f n s = put_facility f (seized n (facility f s)) s
 
 -- nobody owns a facility
 abbrev pub releases : ℕ → State → State
-releases f s = with_facility f (released (facility f s)) s
+releases f s = put_facility f (released (facility f s)) s
 
 -- units of a storage are taken
 abbrev pub takes : Units → State → State
-takes u s = with_storage u.entity (storages.entered u.number (storage u.entity s)) s
+takes u s = put_storage u.entity (storages.entered u.number (storage u.entity s)) s
 
 -- units of a storage are given back
 abbrev pub gives_back : Units → State → State
-gives_back u s = with_storage u.entity (storages.left u.number (storage u.entity s)) s
+gives_back u s = put_storage u.entity (storages.left u.number (storage u.entity s)) s
 
 -- units join a queue
 abbrev pub joins : Units → State → State
-joins u s = with_queue u.entity (joined u.number (queue u.entity s)) s
+joins u s = put_queue u.entity (joined u.number (queue u.entity s)) s
 
 -- units depart from a queue
 abbrev pub departs : Units → State → State
-departs u s = with_queue u.entity (departed u.number (queue u.entity s)) s
+departs u s = put_queue u.entity (departed u.number (queue u.entity s)) s
 
 -- so many clock units pass: what stands in an entity is added up over them
 abbrev pub time_passes : ℕ → Goods → Goods

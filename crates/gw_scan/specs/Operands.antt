@@ -13,16 +13,13 @@ pub record UnitsFit (entities : ℕ) (u : Units) : Type 0 where
 -- the operands of a block fit so many entities, and no first arrival comes before the clock's 0
 abbrev pub OperandsFit : ℕ → Block → Type 0
 OperandsFit entities (blocks.Generate g) = IfSome g.first (λ time. pos 0 ≤ℤ time)
-OperandsFit entities (blocks.Terminate by) = Unit {0}
-OperandsFit entities (blocks.Advance time) = Unit {0}
 OperandsFit entities (blocks.Seize f) = f < entities
 OperandsFit entities (blocks.Release f) = f < entities
 OperandsFit entities (blocks.Enter u) = UnitsFit entities u
 OperandsFit entities (blocks.Leave u) = UnitsFit entities u
 OperandsFit entities (blocks.Queue u) = UnitsFit entities u
 OperandsFit entities (blocks.Depart u) = UnitsFit entities u
-OperandsFit entities (blocks.Transfer target) = Unit {0}
-OperandsFit entities (blocks.TransferByFraction f) = Unit {0}
+OperandsFit entities block = Unit {0}
 
 -- so many blocks as an object may have, and the operands of each fit so many entities
 pub record BlocksFit (entities : ℕ) (bs : List Block) : Type 0 where

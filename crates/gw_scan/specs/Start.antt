@@ -7,7 +7,8 @@ use Rattle.gw_object.specs.declared.parts.Entity.{Entity}
 use Rattle.gw_object.specs.declared.parts.Parts.{Parts}
 use Rattle.gw_entities.specs.Contents.{empty}
 use Rattle.gw_entities.specs.Facility.{idle}
-use Rattle.gw_entities.specs.Storage.{vacant, capacity_of}
+use Rattle.gw_object.specs.Entities.{capacity_of}
+use Rattle.gw_entities.specs.Storage.{vacant}
 use Rattle.gw_scan.specs.Outcome.{Outcome, Gives, EndsBy, StopsBy, ◌>>=◌}
 use Rattle.gw_scan.specs.State.{Goods, State, first_stream, with_stream}
 use Rattle.gw_scan.specs.Times.{drawn_moment}
@@ -46,16 +47,7 @@ first_moment None interval s = drawn_moment interval s.clock (first_stream s)
 -- the first arrival of a block, b, if it is a GENERATE
 abbrev pub first_arrival : ℕ → Block → State → Outcome State
 first_arrival b (blocks.Generate g) s = first_moment g.first g.interval s >>= λ d. Gives (arrives b g.priority d.0 (with_stream d.1 s))
-first_arrival b (blocks.Terminate by) s = Gives s
-first_arrival b (blocks.Advance time) s = Gives s
-first_arrival b (blocks.Seize f) s = Gives s
-first_arrival b (blocks.Release f) s = Gives s
-first_arrival b (blocks.Enter u) s = Gives s
-first_arrival b (blocks.Leave u) s = Gives s
-first_arrival b (blocks.Queue u) s = Gives s
-first_arrival b (blocks.Depart u) s = Gives s
-first_arrival b (blocks.Transfer target) s = Gives s
-first_arrival b (blocks.TransferByFraction f) s = Gives s
+first_arrival b block s = Gives s
 
 -- one for each GENERATE, in ascending order; the first of these blocks has the number b
 unfoldable pub first_arrivals : ℕ → List Block → State → Outcome State

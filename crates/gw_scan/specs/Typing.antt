@@ -8,8 +8,8 @@ use Rattle.gw_object.specs.declared.parts.Block.TheVariants as blocks
 use Rattle.gw_object.specs.declared.parts.Parts.{Parts}
 use Rattle.gw_kinds.specs.Kinds.{kind_at, block_at}
 use Rattle.gw_flow.specs.Rows.{Row, owns, units_of}
-use Rattle.gw_flow.specs.Blocks.{capacity_of}
-use Rattle.gw_flow.specs.Flow.{row_at}
+use Rattle.gw_flow.specs.Blocks.{capacity_at}
+use Rattle.gw_flow.specs.Flow.{own_row}
 use Rattle.gw_num.specs.Table.{at}
 use Rattle.gw_transactions.specs.declared.Transaction.{Transaction}
 use Rattle.gw_entities.specs.Contents.{empty}
@@ -23,12 +23,12 @@ use Rattle.gw_scan.specs.Standing.{times, EachStandsOnce}
 -- the place is a block of the object, and has a row in its state table
 pub record IsPlaced (p : Parts) (t : Transaction) : Type 0 where
   pub block : IsSome (block_at p.blocks t.next)
-  pub row : IsSome (row_at p.states t.next)
+  pub row : IsSome (own_row p t.next)
 
 -- the row of a transaction's place
 abbrev pub row_of : Parts → Option Transaction → Option Row
 row_of p None = None
-row_of p (Some t) = row_at p.states t.next
+row_of p (Some t) = own_row p t.next
 
 -- whether a place lists a facility as owned
 abbrev pub lists_facility : ℕ → Option Row → Bool
@@ -51,17 +51,9 @@ content_of e g (Some kinds.Queue) = (at empty g.queues e).content
 
 -- the entity for which a transaction may wait at a block: the facility of a SEIZE, the storage of an ENTER
 abbrev pub awaited : Block → Option ℕ
-awaited (blocks.Generate g) = None
-awaited (blocks.Terminate by) = None
-awaited (blocks.Advance time) = None
 awaited (blocks.Seize f) = Some f
-awaited (blocks.Release f) = None
 awaited (blocks.Enter u) = Some u.entity
-awaited (blocks.Leave u) = None
-awaited (blocks.Queue u) = None
-awaited (blocks.Depart u) = None
-awaited (blocks.Transfer b) = None
-awaited (blocks.TransferByFraction f) = None
+awaited block = None
 
 -- a waiter for an entity is a live transaction whose next block is the SEIZE or ENTER of that entity
 abbrev pub WaitsFor : Parts → ℕ → Option Transaction → Type 0
@@ -83,7 +75,7 @@ pub record Agree (p : Parts) (transactions : List (Option Transaction)) (lists :
   -- who stands on the delay list of an entity waits for it
   pub waiting : (e n : ℕ) → 1 ≤ times n (at [] lists.delay_lists e) → WaitsFor p e (at None transactions n)
   -- each storage has the capacity that the object gives it
-  pub sized : (e : ℕ) → (at (vacant 0) goods.storages e).capacity ≡ capacity_of (kind_at p.entities e)
+  pub sized : (e : ℕ) → (at (vacant 0) goods.storages e).capacity ≡ capacity_at p.entities e
 
 -- a well-typed state of an object
 abbrev pub WellTyped : Parts → State → Type 0

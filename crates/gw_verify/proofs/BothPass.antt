@@ -1,28 +1,28 @@
 -- Kinds and flow of a checked object.
-use Rattle.std.proofs.Common.{◌≡◌, List, ◌++◌, Option, Some, None, Result, Ok, Err, refl, sym, ap, ◌∙◌, ◌⊎◌, inl, inr}
+use Rattle.std.proofs.Common.{◌≡◌, List, ◌++◌, None, Result, Ok, Err, ap, ◌∙◌, inl, inr}
 use Rattle.gw_object.specs.declared.fault.Fault.{Fault}
 use Rattle.gw_object.specs.declared.parts.Parts.{Parts}
-use Rattle.gw_kinds.specs.Checks.{Check, first_broken, Finds}
+use Rattle.gw_kinds.specs.Checks.{Check, first_broken}
 use Rattle.gw_kinds.specs.Kinds.{kinds_checks, KindsPass}
-use Rattle.gw_kinds.proofs.Broken.{first, first_broken-append, stops_first}
+use Rattle.gw_kinds.proofs.Broken.{first, first_broken-append}
 use Rattle.gw_kinds.proofs.Each.{parts_hold, hold_together}
-use Rattle.gw_flow.specs.Flow.{flow_checks, FlowPasses, FindsOrLacksMemory}
-use Rattle.gw_verify.specs.Checks.{checks, fault_of, Checked}
+use Rattle.gw_flow.specs.Flow.{own_table, flow_checks, FlowPasses, FindsOrLacksMemory}
+use Rattle.gw_verify.specs.Checks.{fault_of, Checked}
 use Rattle.gw_verify.specs.Laws.{CheckedWhereBothPass}
 
 -- kinds pass of a checked object
 pub kinds_pass : (p : Parts) → Checked p → KindsPass p
 unfolding fault_of
-kinds_pass p h = (parts_hold (kinds_checks p) (flow_checks p) h).0
+kinds_pass p h = (parts_hold (kinds_checks p) (flow_checks p (own_table p)) h).0
 
 -- flow passes of a checked object
-pub flow_passes : (p : Parts) → Checked p → FlowPasses p
+pub flow_passes : (p : Parts) → Checked p → FlowPasses p (own_table p)
 unfolding fault_of
-flow_passes p h = (parts_hold (kinds_checks p) (flow_checks p) h).1
+flow_passes p h = (parts_hold (kinds_checks p) (flow_checks p (own_table p)) h).1
 
-from_both : (p : Parts) → KindsPass p → FlowPasses p → Checked p
+from_both : (p : Parts) → KindsPass p → FlowPasses p (own_table p) → Checked p
 unfolding fault_of
-from_both p h k = hold_together (kinds_checks p) (flow_checks p) h k
+from_both p h k = hold_together (kinds_checks p) (flow_checks p (own_table p)) h k
 
 pub checked_where_both_pass : CheckedWhereBothPass
 checked_where_both_pass p = (λ h. (kinds_pass p h, flow_passes p h), λ (h, k). from_both p h k)

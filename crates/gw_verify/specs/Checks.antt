@@ -4,11 +4,11 @@ use Rattle.gw_object.specs.declared.fault.Fault.{Fault}
 use Rattle.gw_object.specs.declared.parts.Parts.{Parts}
 use Rattle.gw_kinds.specs.Checks.{Check, first_broken}
 use Rattle.gw_kinds.specs.Kinds.{kinds_checks}
-use Rattle.gw_flow.specs.Flow.{flow_checks}
+use Rattle.gw_flow.specs.Flow.{own_table, flow_checks}
 
--- every check in order: of kinds, then of flow
+-- every check in order: of kinds, then of flow with the object's own table
 abbrev pub checks : Parts → List Check
-checks p = kinds_checks p ++ flow_checks p
+checks p = kinds_checks p ++ flow_checks p (own_table p)
 
 -- the first fault, if there is one
 unfoldable pub fault_of : Parts → Option Fault

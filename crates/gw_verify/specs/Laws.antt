@@ -2,9 +2,9 @@
 use Rattle.std.specs.Prelude.{◌↔◌}
 use Rattle.gw_object.specs.declared.parts.Parts.{Parts}
 use Rattle.gw_kinds.specs.Kinds.{KindsPass}
-use Rattle.gw_flow.specs.Flow.{FlowPasses}
+use Rattle.gw_flow.specs.Flow.{own_table, FlowPasses}
 use Rattle.gw_verify.specs.Checks.{Checked}
 
--- an object is checked exactly where kinds pass and flow passes
+-- an object is checked exactly where kinds pass, and flow passes with its own table
 abbrev pub CheckedWhereBothPass : Type 0
-CheckedWhereBothPass = (p : Parts) → Checked p ↔ KindsPass p × FlowPasses p
+CheckedWhereBothPass = (p : Parts) → Checked p ↔ KindsPass p × FlowPasses p (own_table p)

@@ -1,9 +1,10 @@
 //! An object that was accepted.
 
 ghost use Rattle.std.specs.Prelude.{◌≡◌, ◌⊎◌, IfOk, IfErr, Some, length, List, ℕ};
-ghost use Rattle.gw_flow.specs.Flow.{FindsOrLacksMemory, out_of_memory};
+ghost use Rattle.gw_flow.specs.Flow.{FindsOrLacksMemory};
 ghost use Rattle.gw_kinds.specs.Checks.{first_broken};
 ghost use Rattle.gw_kinds.specs.Kinds.{kinds_checks};
+ghost use Rattle.gw_object.specs.Reading.{out_of_memory};
 ghost use Rattle.gw_object.specs.declared.fault.Fault.{Fault};
 ghost use Rattle.gw_verify.specs.Checks.{Checked, checks, fault_of, heaviest as heaviest_of};
 

@@ -1,13 +1,13 @@
 //! The edges of each kind of block, and the rules that go before them.
 
-ghost use Rattle.std.specs.Prelude.{◌≡◌, ◌≤◌, ◌^◌, is_some, IfOk, All};
+ghost use Rattle.std.specs.Prelude.{◌≡◌, ◌≤◌, ◌^◌, is_some, IfOk, IfSome, All};
 ghost use Rattle.gw_flow.specs.Rows.{HasRoom};
-ghost use Rattle.gw_flow.specs.Seen.{row_of};
+ghost use Rattle.gw_flow.specs.Seen.{known};
 ghost use Rattle.gw_kinds.specs.Kinds.{block_at};
 
 use crate::flow::tables::*;
 use crate::models::*;
-use gw_flow::{AbsState, Amount, Edge, Target, out_edges};
+use gw_flow::{AbsState, Amount, Edge, StateParts, Target, out_edges};
 use gw_object::{Block, Fault, Items, Memory, Object, Units};
 use std::alloc::Global;
 use std::test::Fail;
@@ -44,16 +44,24 @@ fn amounts_of(alloc: Global, units: &[Units]) -> Result<Vec<Amount>, Memory>
     Ok(amounts)
 }
 
-/// What is known of a transaction in a state as a row says it.
-fn state_of(alloc: Global, row: Row) -> Result<AbsState, Memory>
-    ensures { IfOk result (λ state. HasRoom (row_of state)) }
+/// The parts of a state as a row says it.
+fn state_parts(alloc: Global, row: Row) -> Result<StateParts, Memory>
+    ensures { IfOk result (λ parts. HasRoom (known parts)) }
 {
     let (facilities, units) = row;
-    Ok(AbsState {
+    Ok(StateParts {
         parameters: Items::from_vec(Vec::new(alloc)),
         facilities: Items::from_vec(Vec::from_slice(alloc, facilities)?),
         units: Items::from_vec(amounts_of(alloc, units)?),
     })
+}
+
+/// What is known of a transaction in a state as a row says it, if its lists ascend and it has no amount of 0.
+fn state_of(alloc: Global, row: Row) -> Result<Option<AbsState>, Memory>
+    ensures { IfOk result (λ state. IfSome state (λ s. HasRoom (known s))) }
+{
+    let parts = state_parts(alloc, row)?;
+    Ok(AbsState::build(parts).ok())
 }
 
 /// An object of three blocks with no rows, of which the second is this one.
@@ -62,14 +70,14 @@ fn three_blocks(alloc: Global, second: Block) -> Result<Object, Fail> {
     object_of(alloc, blocks, no_states(alloc, 3)?)
 }
 
-/// Whether an edge is this one, of code 25.
+/// Whether an edge is this one.
 fn is_edge(edge: &Edge, expected: &Expected) -> bool {
     let (block, facilities, units) = *expected;
-    edge.code == 25
-        && edge.target == Target::Block(block)
-        && edge.state.parameters.as_slice().is_empty()
-        && edge.state.facilities.as_slice() == facilities
-        && edge.state.units.as_slice() == units
+    let state = edge.state.parts();
+    edge.target == Target::Block(block)
+        && state.parameters.as_slice().is_empty()
+        && state.facilities.as_slice() == facilities
+        && state.units.as_slice() == units
 }
 
 /// Whether edges are these, in order.
@@ -87,7 +95,7 @@ fn are_edges(edges: &[Edge], expected: &[Expected]) -> bool {
 
 /// Whether these are the edges of the second block of an object in a state, in order.
 fn second_leads(alloc: Global, object: &Object, state: &AbsState, expected: &[Expected]) -> bool
-    requires { HasRoom (row_of state.now) }
+    requires { HasRoom (known state.now) }
 {
     if !is_block(object, 2) {
         return false;
@@ -100,14 +108,16 @@ fn second_leads(alloc: Global, object: &Object, state: &AbsState, expected: &[Ex
 
 /// Whether these are the edges of a block, the second of three, in a state as a row says it, in order.
 fn leads(alloc: Global, block: Block, row: Row, expected: &[Expected]) -> Result<bool, Fail> {
-    let state = state_of(alloc, row)?;
     let object = three_blocks(alloc, block)?;
-    Ok(second_leads(alloc, &object, &state, expected))
+    match state_of(alloc, row)? {
+        Some(state) => Ok(second_leads(alloc, &object, &state, expected)),
+        None => Ok(false),
+    }
 }
 
 /// The fault of the rules of the second block of an object in a state, if it has one.
 fn second_fault(alloc: Global, object: &Object, state: &AbsState) -> Option<Fault>
-    requires { HasRoom (row_of state.now) }
+    requires { HasRoom (known state.now) }
 {
     if !is_block(object, 2) {
         return None;
@@ -117,9 +127,11 @@ fn second_fault(alloc: Global, object: &Object, state: &AbsState) -> Option<Faul
 
 /// The fault of the rules of a block, the second of three, in a state as a row says it, if it has one.
 fn broken(alloc: Global, block: Block, row: Row) -> Result<Option<Fault>, Fail> {
-    let state = state_of(alloc, row)?;
     let object = three_blocks(alloc, block)?;
-    Ok(second_fault(alloc, &object, &state))
+    match state_of(alloc, row)? {
+        Some(state) => Ok(second_fault(alloc, &object, &state)),
+        None => Ok(None),
+    }
 }
 
 #[test]
@@ -225,5 +237,26 @@ fn the_rules_of_a_block_go_before_its_edges(rt: HostRuntime) -> Result<(), Fail>
     let arrival = broken(rt.alloc(), GENERATE, row)?;
     let seized = broken(rt.alloc(), Block::Seize(F), row)?;
     assert!(rt; arrival == at_block(25, 2) && seized == at_block(21, 2));
+    Ok(())
+}
+
+/// Whether a state as a row says it has lists that ascend and no amount of 0.
+fn is_built(alloc: Global, row: Row) -> Result<bool, Fail> {
+    Ok(state_of(alloc, row)?.is_some())
+}
+
+#[test]
+fn the_lists_of_a_state_ascend_and_hold_no_amount_of_0(rt: HostRuntime) -> Result<(), Fail> {
+    let ascending = [units!(S, 1), units!(Q, 1)];
+    let twice = [units!(S, 1), units!(S, 1)];
+    let none = [units!(S, 0)];
+    let are_right = [
+        is_built(rt.alloc(), row(&[F, G], &ascending))?,
+        !is_built(rt.alloc(), row(&[G, F], &[]))?,
+        !is_built(rt.alloc(), row(&[F, F], &[]))?,
+        !is_built(rt.alloc(), row(&[], &twice))?,
+        !is_built(rt.alloc(), row(&[], &none))?,
+    ];
+    assert!(rt; are_right == [true; 5]);
     Ok(())
 }

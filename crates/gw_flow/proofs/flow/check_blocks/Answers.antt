@@ -1,11 +1,12 @@
+use Rattle.std.proofs.Common.{◌+◌}
 use Rattle.std.proofs.lemmas.Result.{err_from_is_err_and}
-use Rattle.gw_flow.specs.Flow.{flow_checks, block_checks}
+use Rattle.gw_flow.specs.Flow.{flow_checks, checks_at, table_of}
 use Rattle.gw_flow.proofs.Found.{found_here}
 use Rattle.gw_flow.proofs.flow.check_blocks.Goals as goal
 
 pub returns-in_err-check_block : goal.returns-in_err-check_block
 unfolding flow_checks
 returns-in_err-check_block c =
-    let found = found_here (block_checks c.args.parts.now) c.as_slice-blocks.result.now c.loop-i.i _ _ c.loop-i-test.true c.loop-i.invariant _ c.in_err-check_block.ensures in
+    let found = found_here (checks_at c.args.parts.now (table_of c.args.rows.now)) (c.loop-i.i + 1) c.as_slice-blocks.result.now c.loop-i.i _ _ c.loop-i-test.true c.loop-i.invariant _ c.in_err-check_block.ensures in
     let p = err_from_is_err_and c.from_residual.result c.from_residual.ensures.1 in
     rw (p.1, p.2) (rw c.as_slice-blocks.ensures at found)

@@ -6,4 +6,4 @@ use Rattle.gw_kinds.proofs.checks.check_each.Given as goal
 abbrev pub invariant-loop-i : goal.invariant-loop-i
 invariant-loop-i g l =
     let checks = g.C.NumberedChecks.checks l.parts in
-    first_broken (numbered checks (l.i + 1) (drop l.i l.elements)) ≡ first_broken (numbered checks 1 l.elements)
+    first_broken (numbered checks (l.first + l.i) (drop l.i l.elements)) ≡ first_broken (numbered checks l.first l.elements)

@@ -1,10 +1,10 @@
 use Rattle.std.proofs.Common.{◌-◌, arith}
 use Rattle.std.proofs.lemmas.List.{get_or_default}
-use Rattle.gw_object.proofs.StateLaws.{ascend_more}
+use Rattle.gw_fields.proofs.Ascending.{ascend_more, nat_order}
 use Rattle.gw_object.proofs.states.units_ascend.Goals as goal
 
 pub loop-i-preserved : goal.loop-i-preserved
 loop-i-preserved c =
     let xs = c.args.units.now in
     let i = c.loop-i.i in
-    ascend_more (λ x. x.entity) xs i (λ d. rw (get_or_default xs i d (record { entity = 0; number = 0 }) c.loop-i-test.true, get_or_default xs (i - 1) d (record { entity = 0; number = 0 }) (omega (arith, c.loop-i-test.true))) c.if-units-i.false) c.loop-i.invariant
+    ascend_more nat_order (λ x. x.entity) xs i (λ d. rw (get_or_default xs i d (record { entity = 0; number = 0 }) c.loop-i-test.true, get_or_default xs (i - 1) d (record { entity = 0; number = 0 }) (omega (arith, c.loop-i-test.true))) c.if-units-i.false) c.loop-i.invariant

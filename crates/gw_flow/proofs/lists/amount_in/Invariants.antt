@@ -1,7 +1,7 @@
 use Rattle.std.proofs.Common.{◌≡◌, drop}
 use Rattle.gw_flow.specs.Entries.{amount_of}
 use Rattle.gw_flow.specs.Seen.{amounts_of}
-use Rattle.gw_flow.proofs.state.amount_in.Given as goal
+use Rattle.gw_flow.proofs.lists.amount_in.Given as goal
 
 -- what the amounts that are left have for the entity is what all have
 abbrev pub invariant-loop-amount : goal.invariant-loop-amount

@@ -1,8 +1,8 @@
 use Rattle.std.proofs.Common.{◌≡◌, ◌≤◌, ◌^◌, take}
 use Rattle.std.specs.Prelude.{All}
-use Rattle.gw_flow.specs.declared.state.Amount.{Amount}
+use Rattle.gw_flow.specs.declared.abstract_state.Amount.{Amount}
 use Rattle.gw_flow.specs.Seen.{amounts_of, units_seen}
-use Rattle.gw_flow.proofs.state.amounts_seen.Given as goal
+use Rattle.gw_flow.proofs.lists.amounts_seen.Given as goal
 
 -- the amounts so far are those of the units so far, and each has room
 abbrev pub invariant-loop-u : goal.invariant-loop-u

@@ -1,0 +1,132 @@
+//! Abstract states, as calls carry them: what is known of a transaction, in numbers of the caller's own.
+
+ghost use Rattle.std.specs.Prelude.{◌≡◌, ◌≢◌, ◌↔◌, ◌<◌, IsTrue, Ok, IfOk, IfErr, All, AllPairs};
+ghost use Rattle.gw_flow.specs.Rows.{IsOrdered};
+ghost use Rattle.gw_flow.specs.Seen.{known};
+
+use gw_object::Items;
+use std::marker::Model;
+
+/// What a parameter holds.
+#[derive(Clone, Copy, Debug, PartialEq, Eq)]
+pub enum ParameterKind {
+    /// A number.
+    Num,
+}
+
+/// A parameter that is set.
+#[derive(Clone, Copy, Debug, PartialEq, Eq)]
+pub struct Parameter {
+    /// Its number, from 1 to 64.
+    pub number: u8,
+    /// What it holds.
+    pub kind: ParameterKind,
+}
+
+/// Units of a storage or a queue.
+#[derive(Clone, Copy, Debug, PartialEq, Eq)]
+pub struct Amount {
+    /// The entity's number, from 0.
+    pub entity: u16,
+    /// How many units.
+    pub number: u64,
+}
+
+/// The parts of an abstract state, as a plain record.
+#[derive(Debug, Drop, PartialEq, Eq)]
+pub struct StateParts {
+    /// The parameters that are sure to be set.
+    pub parameters: Items<Parameter>,
+    /// The facilities that the transaction owns, by their entities' numbers from 0.
+    pub facilities: Items<u16>,
+    /// The units that it is sure to hold, of storages and queues.
+    pub units: Items<Amount>,
+}
+
+/// An abstract state: what is known of a transaction that is about to enter a block (ours: docs/object-format.md). Its lists
+/// ascend, and no amount is 0.
+#[derive(Debug, Drop)]
+pub struct AbsState {
+    parts: StateParts,
+}
+
+impl Model for AbsState {
+    ghost use Rattle.gw_flow.specs.declared.abstract_state.StateParts.{StateParts};
+    ghost use Rattle.gw_flow.specs.Rows.{IsOrdered};
+    ghost use Rattle.gw_flow.specs.Seen.{known};
+
+    ghost Value = { StateParts };
+
+    ghost view = { λ s. s.parts };
+
+    ghost invariant = { λ s. IsOrdered (known s.parts) };
+}
+
+/// Whether parameters ascend by their numbers.
+fn parameters_ascend(parameters: &[Parameter]) -> bool
+    ensures { IsTrue result ↔ AllPairs (λ (a b : Parameter). a.number < b.number) parameters.now }
+{
+    parameters.is_sorted_by(|a, b| a.number < b.number)
+}
+
+/// Whether facilities ascend.
+fn facilities_ascend(facilities: &[u16]) -> bool
+    ensures { IsTrue result ↔ AllPairs (λ a b. a < b) facilities.now }
+{
+    facilities.is_sorted_by(|a, b| a < b)
+}
+
+/// Whether amounts ascend by their entities.
+fn amounts_ascend(amounts: &[Amount]) -> bool
+    ensures { IsTrue result ↔ AllPairs (λ (a b : Amount). a.entity < b.entity) amounts.now }
+{
+    amounts.is_sorted_by(|a, b| a.entity < b.entity)
+}
+
+/// Whether no amount is 0.
+fn none_is_0(amounts: &[Amount]) -> bool
+    ensures { IsTrue result ↔ All (λ (a : Amount). a.number ≢ 0) amounts.now }
+{
+    amounts.iter().all(|a| a.number != 0)
+}
+
+/// Whether the lists of a state ascend and no amount is 0.
+fn is_ordered(parts: &StateParts) -> bool
+    ensures { IsTrue result ↔ IsOrdered (known parts.now) }
+{
+    parameters_ascend(parts.parameters.as_slice())
+        && facilities_ascend(parts.facilities.as_slice())
+        && amounts_ascend(parts.units.as_slice())
+        && none_is_0(parts.units.as_slice())
+}
+
+impl AbsState {
+    /// The state of parts that are known to ascend.
+    pub(crate) fn of(parts: StateParts) -> AbsState
+        requires { IsOrdered (known parts) }
+        ensures { result ≡ parts }
+    {
+        AbsState { parts }
+    }
+
+    /// The state of these parts. Parts whose lists don't ascend strictly, or that have an amount 0, are handed back.
+    pub fn build(parts: StateParts) -> Result<AbsState, StateParts>
+        ensures accepted { IfOk result (λ s. (s ≡ parts) × IsOrdered (known parts)) }
+        ensures exactly { IsOrdered (known parts) → result ≡ Ok parts }
+        ensures refused { IfErr result (λ back. (back ≡ parts) × ¬ IsOrdered (known parts)) }
+    {
+        if is_ordered(&parts) {
+            Ok(AbsState::of(parts))
+        } else {
+            Err(parts)
+        }
+    }
+
+    /// Its parts.
+    pub fn parts(&self) -> &StateParts
+        ensures value { result.now ≡ self.now }
+        ensures ordered { IsOrdered (known self.now) }
+    {
+        &self.parts
+    }
+}

@@ -1,0 +1,35 @@
+-- Exits: where a transaction goes on to from each block.
+use Rattle.std.specs.Prelude.{ℕ, ◌+◌, pos, List, [], ◌∷◌, Option, Some, None, Bool, false, ◌&&◌, int_le, int_lt}
+use Rattle.gw_object.specs.declared.parts.Operand.{Operand}
+use Rattle.gw_object.specs.declared.parts.Operand.TheVariants.{Constant}
+use Rattle.gw_object.specs.declared.parts.Block.{Block}
+use Rattle.gw_object.specs.declared.parts.Block.TheVariants as blocks
+use Rattle.gw_kinds.specs.declared.ways.Way.{Way}
+use Rattle.gw_kinds.specs.declared.ways.Way.TheVariants.{Falls, Goes}
+use Rattle.gw_kinds.specs.declared.ways.Exit.{Exit}
+
+-- the number of the block to which a way leads from the block of number b
+abbrev pub leads_to : ℕ → Way → ℕ
+leads_to b Falls = b + 1
+leads_to b (Goes target) = target
+
+-- an exit at once: no time passes on it
+abbrev pub at_once : Way → Exit
+at_once way = record { way = way; passes_time = false }
+
+-- whether the least time that may be drawn is 1 or more, with this mean and half the range: half the range is 0 or more, and the mean is above it
+abbrev pub takes_time : Operand → Operand → Bool
+takes_time (Constant mean) (Constant half) = int_le (pos 0) half && int_lt half mean
+
+-- to the block of this number; without one to the next
+abbrev pub goes_or_falls : Option ℕ → Way
+goes_or_falls None = Falls
+goes_or_falls (Some target) = Goes target
+
+-- the exits of a block, in order; most blocks fall to the next one at once
+abbrev pub exits : Block → List Exit
+exits (blocks.Terminate by) = []
+exits (blocks.Advance time) = record { way = Falls; passes_time = takes_time time.mean time.half } ∷ []
+exits (blocks.Transfer target) = at_once (Goes target) ∷ []
+exits (blocks.TransferByFraction f) = at_once (goes_or_falls f.otherwise) ∷ at_once (Goes f.target) ∷ []
+exits block = at_once Falls ∷ []

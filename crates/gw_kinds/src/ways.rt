@@ -1,0 +1,94 @@
+//! Exits: where transactions go on to from a block.
+
+ghost use Rattle.std.specs.Prelude.{◌≡◌, ◌<◌, ◌≤◌, ◌+◌, Some, length, is_some, not};
+ghost use Rattle.gw_kinds.specs.Exits as model;
+ghost use Rattle.gw_kinds.specs.declared.ways.Way.TheVariants.{Falls};
+
+use arrayvec::ArrayVec;
+use gw_object::{Block, Operand, Spread};
+
+/// The way on from a block.
+#[derive(Clone, Copy, Debug, PartialEq, Eq)]
+pub enum Way {
+    /// To the next block.
+    Falls,
+    /// To the block of this number, from 1.
+    Goes(u16),
+}
+
+/// An exit of a block.
+#[derive(Clone, Copy, Debug, PartialEq, Eq)]
+pub struct Exit {
+    /// The way on.
+    pub way: Way,
+    /// Whether at least one clock unit passes before a transaction is there.
+    pub passes_time: bool,
+}
+
+impl Default for Exit {
+    ghost is_default = { λ exit. exit ≡ model.at_once Falls };
+
+    /// That of most blocks: it falls to the next one at once.
+    fn default() -> Exit {
+        at_once(Way::Falls)
+    }
+}
+
+/// An exit on which no time passes.
+fn at_once(way: Way) -> Exit
+    ensures { result ≡ model.at_once way }
+{
+    Exit {
+        way,
+        passes_time: false,
+    }
+}
+
+/// Whether the least time that may be drawn is known to be 1 clock unit or more.
+fn takes_time(time: Spread) -> bool
+    ensures { result ≡ model.takes_time time.mean time.half }
+{
+    let Operand::Constant(mean) = time.mean;
+    let Operand::Constant(half) = time.half;
+    0 <= half && half < mean
+}
+
+/// The exits of a block, in order: where it sends transactions, and whether time passes (GPSS World Reference Manual,
+/// chapter 7).
+pub fn exits(block: &Block) -> ArrayVec<Exit, 2>
+    ensures { result.items ≡ model.exits block.now }
+{
+    let mut exits = ArrayVec::new();
+    match block {
+        Block::Terminate(_) => {}
+        Block::Advance(time) => exits.push(Exit {
+            way: Way::Falls,
+            passes_time: takes_time(*time),
+        }),
+        Block::Transfer(target) => exits.push(at_once(Way::Goes(*target))),
+        Block::TransferByFraction(fraction) => {
+            exits.push(at_once(goes_or_falls(fraction.otherwise)));
+            exits.push(at_once(Way::Goes(fraction.target)));
+        }
+        _ => exits.push(at_once(Way::Falls)),
+    }
+    exits
+}
+
+/// To the block of this number; without one to the next.
+fn goes_or_falls(target: Option<u16>) -> Way
+    ensures { result ≡ model.goes_or_falls target }
+{
+    target.map_or(Way::Falls, Way::Goes)
+}
+
+/// The number of the block to which a way leads from the block of this number.
+pub fn leads_to(number: u16, way: Way) -> u16
+    requires { number < 65535 }
+    ensures { result ≡ model.leads_to number way }
+{
+    match way {
+        Way::Falls => number + 1,
+        Way::Goes(target) => target,
+    }
+}
