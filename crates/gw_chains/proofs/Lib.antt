@@ -1,3 +1,4 @@
-pub mod Delays
-pub mod ListOf
+pub mod Each
 pub mod Places
+pub mod Turning
+mod Merging

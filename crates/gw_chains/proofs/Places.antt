@@ -1,9 +1,10 @@
 -- A newcomer's place in a list that is kept in order.
-use Rattle.std.proofs.Common.{◌≡◌, ℕ, zero, suc, ◌+◌, ◌-◌, ◌<◌, ◌≤◌, List, [], ◌∷◌, length, Bool, true, false, refl, ap, sym, arith, get_or, subst, inl, inr, ℤ, ◌≤ℤ◌}
+use Rattle.std.proofs.Common.{◌≡◌, ◌∙◌, ℕ, zero, suc, ◌+◌, ◌-◌, ◌<◌, ◌≤◌, List, [], ◌∷◌, length, Bool, true, false, refl, ap, sym, arith, get_or, subst, inl, inr, ℤ, ◌≤ℤ◌}
 use Rattle.std.specs.Prelude.{AllPairs, insert, int_le, int_lt}
 use Rattle.std.specs.List.Sorted.{IsPartitionedBy, IsPartitionPoint}
 use Rattle.std.proofs.lemmas.Int.{ints}
 use Rattle.std.proofs.lemmas.Bool.{cases_order}
+use Rattle.std.proofs.lemmas.List.{get_or_default}
 use Rattle.std.proofs.lemmas.List.Edits.{get_or-insert_below, get_or-insert_at, get_or-insert_above, length-insert}
 use Rattle.gw_chains.specs.Chain.{placed_behind}
 
@@ -55,6 +56,13 @@ module _ {A : Type 0} where
         | inr (inl under) ↦ ranks.falls (get_or xs i d) (get_or xs j d) (ordered i j d under within) passes
         | inr (inr over) ↦ absurd (omega arith)
       ]
+
+  -- where the last passes, all do, and the partition point is the end
+  pub all_pass : (p : A → Bool) (xs : List A) (last : A) → 0 < length xs → last ≡ get_or xs (length xs - 1) last → p last ≡ true → IsPartitionedBy p xs → IsPartitionPoint (λ y. p y ≡ true) (λ y. p y ≡ false) xs (length xs)
+  all_pass p xs last some is passes parts = (
+    λ k d a b. parts k (length xs - 1) d (omega arith) (omega arith) (subst (λ y. p y ≡ true) (is ∙ get_or_default xs (length xs - 1) last d (omega arith)) passes),
+    λ k d a b. absurd (omega arith),
+  )
 
   -- an insertion at the partition point puts x at its place, and keeps the order
   pub in_order : (R : A → A → Type 0) (p : A → Bool) (x : A) (xs ys : List A) (i : ℕ) → Ranks R p x → AllPairs R xs → i ≤ length xs → (IsPartitionedBy p xs → IsPartitionPoint (λ y. p y ≡ true) (λ y. p y ≡ false) xs i) → ys ≡ insert xs i x → AllPairs R ys × (ys ≡ placed_behind p x xs)

@@ -4,7 +4,7 @@ ghost use Rattle.std.specs.Prelude.{◌≡◌, ◌≤◌, ◌<◌, ◌+◌, [], 
 ghost use Rattle.gw_chains.specs.Chain.{behind, ahead, first, rest};
 ghost use Rattle.gw_chains.specs.declared.tx.Member.{Member};
 
-use crate::queue::insert_reserved;
+use crate::queue::{insert_reserved, join_behind};
 use crate::{Member, Memory, Tx};
 use std::alloc::Global;
 use std::collections::VecDeque;
@@ -18,14 +18,14 @@ pub struct Cec {
 }
 
 impl Model for Cec {
-    ghost use Rattle.std.specs.Prelude.{◌-◌, ◌≤ℤ◌, AllPairs};
+    ghost use Rattle.std.specs.Prelude.{◌-◌};
     ghost use Rattle.std.specs.VecDeque.{deque_len, deque_capacity};
-    ghost use Rattle.gw_chains.specs.Chain.{Chain};
+    ghost use Rattle.gw_chains.specs.Chain.{Chain, IsByPriority};
     ghost use Rattle.gw_chains.specs.declared.tx.Member.{Member};
 
     ghost Value = { Chain Member };
 
-    ghost invariant = { λ c. AllPairs (λ (x y : Member). y.priority ≤ℤ x.priority) c.members.items };
+    ghost invariant = { λ c. IsByPriority (λ (m : Member). m.priority) c.members.items };
 
     ghost view = { λ c. record {
       items = c.members.items;
@@ -60,8 +60,7 @@ impl Cec {
             self.new.items ≡ behind (λ m. m.priority) newcomer self.old.items }
         ensures room { self.old.room ≤ self.new.room + 1 }
     {
-        let place = self.members.partition_point(|m| priority <= m.priority);
-        insert_reserved(&mut self.members, place, Member { tx, priority });
+        join_behind(&mut self.members, tx, priority);
     }
 
     /// Puts it ahead of its peers: ahead of all of equal or lower priority. There is room.

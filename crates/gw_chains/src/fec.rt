@@ -4,7 +4,7 @@ ghost use Rattle.std.specs.Prelude.{◌≡◌, ◌≤◌, ◌<◌, ◌+◌, [], 
 ghost use Rattle.gw_chains.specs.Chain.{in_time, due, first, rest};
 ghost use Rattle.gw_chains.specs.declared.tx.Event.{Event};
 
-use crate::queue::insert_reserved;
+use crate::runs::{front, insert, pop_first, reserve};
 use crate::{Event, Memory, Tx};
 use std::alloc::Global;
 use std::collections::VecDeque;
@@ -13,24 +13,31 @@ use std::marker::Model;
 /// The future events chain: the transactions that wait for a clock time, by that time, and those
 /// of one time in the order in which they were scheduled (GPSS World Reference Manual, "The
 /// Transaction Scheduler").
+///
+/// It is kept in two runs, so that a newcomer among tens of thousands moves few of them: the settled
+/// ones, and some recent ones, which join them many at a time.
 #[derive(Debug, Drop)]
 pub struct Fec {
-    events: VecDeque<Event>,
+    settled: VecDeque<Event>,
+    recent: VecDeque<Event>,
 }
 
 impl Model for Fec {
-    ghost use Rattle.std.specs.Prelude.{◌-◌, ◌≤ℤ◌, AllPairs};
+    ghost use Rattle.std.specs.Prelude.{◌-◌};
     ghost use Rattle.std.specs.VecDeque.{deque_len, deque_capacity};
-    ghost use Rattle.gw_chains.specs.Chain.{Chain};
+    ghost use Rattle.std.specs.Prelude.{◌+◌, ◌≤◌};
+    ghost use Rattle.gw_chains.specs.Chain.{Chain, IsInTime, merged};
+    ghost use Rattle.gw_chains.specs.Runs.{room_for};
     ghost use Rattle.gw_chains.specs.declared.tx.Event.{Event};
 
     ghost Value = { Chain Event };
 
-    ghost invariant = { λ c. AllPairs (λ (x y : Event). x.time ≤ℤ y.time) c.events.items };
+    ghost invariant = { λ c. IsInTime (λ (e : Event). e.time) c.recent.items
+        × (deque_len c.settled + deque_len c.recent ≤ deque_capacity c.settled) };
 
     ghost view = { λ c. record {
-      items = c.events.items;
-      room = deque_capacity c.events - deque_len c.events;
+      items = merged (λ (e : Event). e.time) c.settled.items c.recent.items;
+      room = room_for (deque_len c.settled + deque_len c.recent) (deque_capacity c.settled) (deque_capacity c.recent);
     } };
 }
 
@@ -40,7 +47,8 @@ impl Fec {
         ensures { result.items ≡ [] }
     {
         Fec {
-            events: VecDeque::new(alloc),
+            settled: VecDeque::new(alloc),
+            recent: VecDeque::new(alloc),
         }
     }
 
@@ -51,7 +59,7 @@ impl Fec {
         ensures kept { self.old.room ≤ self.new.room }
         ensures refused { OnErr result (self.old.room < more) }
     {
-        self.events.reserve(more)
+        reserve(&mut self.settled, &mut self.recent, more)
     }
 
     /// Puts it behind all that are scheduled for `time`, in clock units, or earlier. There is room.
@@ -61,15 +69,14 @@ impl Fec {
             self.new.items ≡ in_time (λ e. e.time) newcomer self.old.items }
         ensures room { self.old.room ≤ self.new.room + 1 }
     {
-        let place = self.events.partition_point(|e| e.time <= time);
-        insert_reserved(&mut self.events, place, Event { tx, time });
+        insert(&mut self.settled, &mut self.recent, Event { tx, time });
     }
 
     /// The time of the first, in clock units, if there is one.
     pub fn first_time(&self) -> Option<i64>
         ensures { result ≡ option_map (λ e. e.time) (first self.now.items) }
     {
-        let event = self.events.front()?;
+        let event = front(&self.settled, &self.recent)?;
         Some(event.time)
     }
 
@@ -84,14 +91,15 @@ impl Fec {
         if time < self.first_time()? {
             return None;
         }
-        let event = self.events.pop_front()?;
+        let event = pop_first(&mut self.settled, &mut self.recent)?;
         Some(event.tx)
     }
 
     /// How many members there are.
+    #[tactic(auto, using(crate::proofs::Merging::merged_length))]
     pub fn len(&self) -> usize
         ensures { result ≡ length self.now.items }
     {
-        self.events.len()
+        self.settled.len() + self.recent.len()
     }
 }

@@ -5,9 +5,10 @@
 #![tactic(auto)]
 
 mod cec;
-mod entry;
+mod delay_list;
 mod fec;
 mod queue;
+mod runs;
 mod tx;
 mod user_chains;
 mod waits;

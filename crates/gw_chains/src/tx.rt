@@ -1,5 +1,8 @@
 //! Transactions as chains hold them.
 
+/// The most members that the lists of several entities have together: more than memory can hold.
+pub const MOST: usize = 1 << 63;
+
 /// A transaction.
 #[derive(Clone, Copy, Debug, PartialEq, Eq)]
 pub struct Tx {

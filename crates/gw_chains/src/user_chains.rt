@@ -1,10 +1,11 @@
 //! The user chains.
 
-ghost use Rattle.std.specs.Prelude.{◌≡◌, ◌≤◌, ◌<◌, ◌+◌, [], ◌∷◌, ◌++◌, length, option_to_list, OnOk, OnErr};
+ghost use Rattle.std.specs.Prelude.{◌≡◌, ◌≤◌, ◌<◌, ◌+◌, [], ◌∷◌, ◌++◌, length, replicate, EachIndex, SomeIndex, sum_by, IfOk, OnOk, OnErr};
+ghost use Rattle.gw_num.specs.Table.{at};
 ghost use Rattle.gw_chains.specs.Chain.{first, rest};
-ghost use Rattle.gw_chains.specs.Lists.{list_of, ChangesOnly};
+ghost use Rattle.gw_chains.specs.Lists.{changed, LosesRoom};
 
-use crate::entry::{Entry, count_of, index_of};
+use crate::tx::MOST;
 use crate::{Memory, Tx};
 use std::alloc::Global;
 use std::collections::VecDeque;
@@ -14,98 +15,126 @@ use std::marker::Model;
 /// an UNLINK block takes them from its front (GPSS World Reference Manual, "LINK" and "UNLINK").
 #[derive(Debug, Drop)]
 pub struct UserChains {
-    members: VecDeque<Entry<Tx>>,
+    chains: Vec<VecDeque<Tx>>,
+    // How many are on all chains.
+    linked: usize,
 }
 
 impl Model for UserChains {
-    ghost use Rattle.std.specs.Prelude.{◌-◌};
-    ghost use Rattle.std.specs.VecDeque.{deque_len, deque_capacity};
-    ghost use Rattle.gw_chains.specs.Chain.{Chain};
-    ghost use Rattle.gw_chains.specs.declared.entry.Entry.{Entry};
-    ghost use Rattle.gw_chains.specs.declared.tx.Tx.{Tx};
+    ghost use Rattle.std.specs.Prelude.{◌≡◌, ◌≤◌, ◌-◌, ◌^◌, map, length, sum_by};
+    ghost use Rattle.std.specs.VecDeque.{deque_len, deque_capacity, deque_items};
+    ghost use Rattle.gw_chains.specs.Lists.{Linked, room_of};
 
-    ghost Value = { Chain (Entry Tx) };
+    ghost Value = { Linked };
+
+    ghost invariant = { λ c. (c.linked ≤ 2 ^ 63)
+        × (c.linked ≡ sum_by length (map deque_items c.chains.items)) };
 
     ghost view = { λ c. record {
-      items = c.members.items;
-      room = deque_capacity c.members - deque_len c.members;
+      lists = map deque_items c.chains.items;
+      rooms = map (λ q. room_of c.linked (deque_capacity q - deque_len q)) c.chains.items;
     } };
 }
 
 impl UserChains {
-    /// Chains with no member.
-    pub fn new(alloc: Global) -> UserChains
-        ensures { result.items ≡ [] }
+    /// Chains with no member, one for each of so many entities.
+    pub fn new(alloc: Global, entities: usize) -> Result<UserChains, Memory>
+        ensures { IfOk result (λ c. c.lists ≡ replicate entities []) }
     {
-        UserChains {
-            members: VecDeque::new(alloc),
+        let mut chains = Vec::new(alloc);
+        for _ in 0..entities {
+            chains.push(VecDeque::new(alloc))?;
         }
+        Ok(UserChains { chains, linked: 0 })
+    }
+
+    /// Makes room for so many more members on this chain, or leaves the chains as they were.
+    pub fn reserve_link(&mut self, chain: u16, more: usize) -> Result<(), Memory>
+        requires { chain < length self.old.lists }
+        ensures lists { self.new.lists ≡ self.old.lists }
+        ensures room { OnOk result (more ≤ at 0 self.new.rooms chain) }
+        ensures kept { LosesRoom 0 self.old.rooms self.new.rooms }
+        ensures refused { OnErr result (at 0 self.old.rooms chain < more) }
+    {
+        self.reserve_at(chain as usize, more)
     }
 
     /// Makes room for so many more members on any chains, or leaves the chains as they were.
     pub fn reserve(&mut self, more: usize) -> Result<(), Memory>
-        ensures items { self.new.items ≡ self.old.items }
-        ensures room { OnOk result (more ≤ self.new.room) }
-        ensures kept { self.old.room ≤ self.new.room }
-        ensures refused { OnErr result (self.old.room < more) }
+        ensures lists { self.new.lists ≡ self.old.lists }
+        ensures room { OnOk result (EachIndex self.new.lists (λ c. more ≤ at 0 self.new.rooms c)) }
+        ensures kept { LosesRoom 0 self.old.rooms self.new.rooms }
+        ensures refused { OnErr result (SomeIndex self.old.lists (λ c. at 0 self.old.rooms c < more)) }
     {
-        self.members.reserve(more)
+        for c in 0..self.chains.len() {
+            self.reserve_at(c, more)?;
+        }
+        Ok(())
+    }
+
+    /// Makes room for so many more members on one chain.
+    fn reserve_at(&mut self, c: usize, more: usize) -> Result<(), Memory>
+        requires { c < length self.old.lists }
+        ensures lists { self.new.lists ≡ self.old.lists }
+        ensures room { OnOk result (more ≤ at 0 self.new.rooms c) }
+        ensures kept { LosesRoom 0 self.old.rooms self.new.rooms }
+        ensures refused { OnErr result (at 0 self.old.rooms c < more) }
+    {
+        if MOST - self.linked < more {
+            return Err(Memory);
+        }
+        self.chains[c].reserve(more)
     }
 
     /// Puts it at the front of this chain. There is room.
     pub fn push_front(&mut self, chain: u16, tx: Tx)
-        requires { 0 < self.old.room }
-        ensures lists { ChangesOnly chain (λ xs. tx ∷ xs) self.old.items self.new.items }
-        ensures len { length self.new.items ≡ length self.old.items + 1 }
-        ensures room { self.old.room ≤ self.new.room + 1 }
+        requires there { chain < length self.old.lists }
+        requires room { 0 < at 0 self.old.rooms chain }
+        ensures lists { self.new.lists ≡ changed chain (λ xs. tx ∷ xs) self.old.lists }
+        ensures count { length self.new.lists ≡ length self.old.lists }
+        ensures room { LosesRoom 1 self.old.rooms self.new.rooms }
     {
-        let member = Entry {
-            entity: chain,
-            item: tx,
-        };
-        self.members.push_front_reserved(member);
+        self.chains[chain as usize].push_front_reserved(tx);
+        self.linked += 1;
     }
 
     /// Puts it at the back of this chain. There is room.
-    #[tactic(auto, using(crate::proofs::ListOf::list_of_push_same, crate::proofs::ListOf::list_of_push_other))]
     pub fn push_back(&mut self, chain: u16, tx: Tx)
-        requires { 0 < self.old.room }
-        ensures lists { ChangesOnly chain (λ xs. xs ++ tx ∷ []) self.old.items self.new.items }
-        ensures len { length self.new.items ≡ length self.old.items + 1 }
-        ensures room { self.old.room ≤ self.new.room + 1 }
+        requires there { chain < length self.old.lists }
+        requires room { 0 < at 0 self.old.rooms chain }
+        ensures lists { self.new.lists ≡ changed chain (λ xs. xs ++ tx ∷ []) self.old.lists }
+        ensures count { length self.new.lists ≡ length self.old.lists }
+        ensures room { LosesRoom 1 self.old.rooms self.new.rooms }
     {
-        let member = Entry {
-            entity: chain,
-            item: tx,
-        };
-        self.members.push_back_reserved(member);
+        self.chains[chain as usize].push_back_reserved(tx);
+        self.linked += 1;
     }
 
     /// Takes the first of this chain, if there is one.
-    #[tactic(auto, using(crate::proofs::ListOf::first_found, crate::proofs::ListOf::list_of_remove_first))]
     pub fn unlink(&mut self, chain: u16) -> Option<Tx>
-        ensures first { result ≡ first (list_of chain self.old.items) }
-        ensures lists { ChangesOnly chain rest self.old.items self.new.items }
-        ensures len { let taken = length (option_to_list result) in
-            length self.new.items + taken ≡ length self.old.items }
-        ensures room { self.old.room ≤ self.new.room }
+        requires { chain < length self.old.lists }
+        ensures first { result ≡ first (at [] self.old.lists chain) }
+        ensures lists { self.new.lists ≡ changed chain rest self.old.lists }
+        ensures count { length self.new.lists ≡ length self.old.lists }
+        ensures room { LosesRoom 0 self.old.rooms self.new.rooms }
     {
-        let index = index_of(&self.members, chain, 0)?;
-        let member = self.members.remove(index)?;
-        Some(member.item)
+        let tx = self.chains[chain as usize].pop_front()?;
+        self.linked -= 1;
+        Some(tx)
     }
 
     /// How many members this chain has.
     pub fn members(&self, chain: u16) -> usize
-        ensures { result ≡ length (list_of chain self.now.items) }
+        requires { chain < length self.now.lists }
+        ensures { result ≡ length (at [] self.now.lists chain) }
     {
-        count_of(&self.members, chain)
+        self.chains[chain as usize].len()
     }
 
     /// How many members all chains have.
     pub fn len(&self) -> usize
-        ensures { result ≡ length self.now.items }
+        ensures { result ≡ sum_by length self.now.lists }
     {
-        self.members.len()
+        self.linked
     }
 }

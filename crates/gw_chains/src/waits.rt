@@ -1,13 +1,14 @@
 //! The delay lists and the retry list.
 
-ghost use Rattle.std.specs.Prelude.{◌≡◌, ◌≤◌, ◌<◌, ◌+◌, [], ◌∷◌, ◌++◌, length, option_map, slice_get, remove, OnOk, OnErr};
+ghost use Rattle.std.specs.Prelude.{◌≡◌, ◌≤◌, ◌<◌, ◌+◌, ◌⊎◌, ◌↔◌, [], ◌∷◌, ◌++◌, length, option_map, slice_get, remove, replicate, sum_by, EachIndex, SomeIndex, IfOk, IsSome, OnOk, OnErr};
 ghost use Rattle.std.specs.VecDeque.{deque_capacity};
+ghost use Rattle.gw_num.specs.Table.{at};
 ghost use Rattle.gw_chains.specs.Chain.{behind, all_behind};
-ghost use Rattle.gw_chains.specs.Lists.{list_of, ChangesOnly};
+ghost use Rattle.gw_chains.specs.Lists.{changed, LosesRoom};
 ghost use Rattle.gw_chains.specs.declared.tx.Member.{Member};
 
-use crate::entry::{Entry, count_of, index_of};
-use crate::queue::insert_reserved;
+use crate::delay_list::DelayList;
+use crate::tx::MOST;
 use crate::{Cec, Member, Memory, Tx};
 use std::alloc::Global;
 use std::collections::VecDeque;
@@ -17,120 +18,223 @@ use std::marker::Model;
 /// priority, and those on the retry list, in the order in which they came (GPSS World Reference
 /// Manual, "The Transaction Scheduler"; one retry list for all conditions is ours:
 /// docs/DECISIONS.md).
+///
+/// A walk goes over one delay list, member by member, and can take members out as it goes:
+/// `start_walk`, then `current` with `pass` or `take` for each. It may end anywhere. A call other
+/// than these four for the same entity may move it to another place.
 #[derive(Debug, Drop)]
 pub struct Waits {
-    waiters: VecDeque<Entry<Member>>,
+    delay_lists: Vec<DelayList>,
     retry: VecDeque<Member>,
+    // How many are on all delay lists.
+    waiting: usize,
 }
 
 impl Model for Waits {
-    ghost use Rattle.std.specs.Prelude.{◌-◌, ◌≤ℤ◌, AllPairs, min};
+    ghost use Rattle.std.specs.Prelude.{◌≡◌, ◌≤◌, ◌-◌, ◌^◌, map, length, sum_by};
     ghost use Rattle.std.specs.VecDeque.{deque_len, deque_capacity};
-    ghost use Rattle.gw_chains.specs.Lists.{Waiting};
-    ghost use Rattle.gw_chains.specs.declared.entry.Entry.{Entry};
-    ghost use Rattle.gw_chains.specs.declared.tx.Member.{Member};
+    ghost use Rattle.gw_chains.specs.Lists.{Waiting, Walked, room_of};
 
     ghost Value = { Waiting };
 
-    ghost invariant = { λ w.
-        AllPairs (λ (x y : Entry Member). y.item.priority ≤ℤ x.item.priority) w.waiters.items };
+    ghost invariant = { λ w. (w.waiting ≤ 2 ^ 63)
+        × (w.waiting ≡ sum_by length (map (λ (l : Walked). l.members) w.delay_lists.items)) };
 
     ghost view = { λ w. record {
-      waiters = w.waiters.items;
+      lists = map (λ (l : Walked). l.members) w.delay_lists.items;
+      rooms = map (λ (l : Walked). room_of w.waiting l.room) w.delay_lists.items;
+      places = map (λ (l : Walked). l.place) w.delay_lists.items;
       retry = w.retry.items;
-      room = min
-          (deque_capacity w.waiters - deque_len w.waiters)
-          (deque_capacity w.retry - deque_len w.retry);
+      retry_room = deque_capacity w.retry - deque_len w.retry;
     } };
 }
 
 impl Waits {
-    /// Lists with no member.
-    pub fn new(alloc: Global) -> Waits
-        ensures waiters { result.waiters ≡ [] }
-        ensures retry { result.retry ≡ [] }
+    /// Lists with no member, one for each of so many entities, and a retry list with none.
+    pub fn new(alloc: Global, entities: usize) -> Result<Waits, Memory>
+        ensures lists { IfOk result (λ w. w.lists ≡ replicate entities []) }
+        ensures retry { IfOk result (λ w. w.retry ≡ []) }
     {
-        Waits {
-            waiters: VecDeque::new(alloc),
-            retry: VecDeque::new(alloc),
+        let mut delay_lists = Vec::new(alloc);
+        for _ in 0..entities {
+            delay_lists.push(DelayList::new(alloc))?;
         }
+        Ok(Waits {
+            delay_lists,
+            retry: VecDeque::new(alloc),
+            waiting: 0,
+        })
+    }
+
+    /// Makes room for so many more members on the delay list of this entity, or leaves the lists
+    /// as they were.
+    pub fn reserve_wait(&mut self, entity: u16, more: usize) -> Result<(), Memory>
+        requires { entity < length self.old.lists }
+        ensures lists { self.new.lists ≡ self.old.lists }
+        ensures retry { self.new.retry ≡ self.old.retry }
+        ensures room { OnOk result (more ≤ at 0 self.new.rooms entity) }
+        ensures kept { LosesRoom 0 self.old.rooms self.new.rooms }
+        ensures retry_kept { self.old.retry_room ≤ self.new.retry_room }
+        ensures refused { OnErr result (at 0 self.old.rooms entity < more) }
+    {
+        self.reserve_at(entity as usize, more)
+    }
+
+    /// Makes room for so many more members on the retry list, or leaves the lists as they were.
+    pub fn reserve_retry(&mut self, more: usize) -> Result<(), Memory>
+        ensures lists { self.new.lists ≡ self.old.lists }
+        ensures retry { self.new.retry ≡ self.old.retry }
+        ensures room { OnOk result (more ≤ self.new.retry_room) }
+        ensures kept { LosesRoom 0 self.old.rooms self.new.rooms }
+        ensures retry_kept { self.old.retry_room ≤ self.new.retry_room }
+        ensures refused { OnErr result (self.old.retry_room < more) }
+    {
+        self.retry.reserve(more)
     }
 
     /// Makes room for so many more members on any of the lists, or leaves the lists as they were.
     pub fn reserve(&mut self, more: usize) -> Result<(), Memory>
-        ensures waiters { self.new.waiters ≡ self.old.waiters }
+        ensures lists { self.new.lists ≡ self.old.lists }
         ensures retry { self.new.retry ≡ self.old.retry }
-        ensures room { OnOk result (more ≤ self.new.room) }
-        ensures kept { self.old.room ≤ self.new.room }
-        ensures refused { OnErr result (self.old.room < more) }
+        ensures room { OnOk result (EachIndex self.new.lists (λ e. more ≤ at 0 self.new.rooms e)) }
+        ensures retry_room { OnOk result (more ≤ self.new.retry_room) }
+        ensures kept { LosesRoom 0 self.old.rooms self.new.rooms }
+        ensures retry_kept { self.old.retry_room ≤ self.new.retry_room }
+        ensures refused { OnErr result ((self.old.retry_room < more)
+            ⊎ SomeIndex self.old.lists (λ e. at 0 self.old.rooms e < more)) }
     {
-        self.waiters.reserve(more)?;
-        self.retry.reserve(more)
+        self.retry.reserve(more)?;
+        for e in 0..self.delay_lists.len() {
+            self.reserve_at(e, more)?;
+        }
+        Ok(())
+    }
+
+    /// Makes room for so many more members on one delay list.
+    fn reserve_at(&mut self, e: usize, more: usize) -> Result<(), Memory>
+        requires { e < length self.old.lists }
+        ensures lists { self.new.lists ≡ self.old.lists }
+        ensures retry { (self.new.retry ≡ self.old.retry) × (self.new.retry_room ≡ self.old.retry_room) }
+        ensures room { OnOk result (more ≤ at 0 self.new.rooms e) }
+        ensures kept { LosesRoom 0 self.old.rooms self.new.rooms }
+        ensures refused { OnErr result (at 0 self.old.rooms e < more) }
+    {
+        if MOST - self.waiting < more {
+            return Err(Memory);
+        }
+        self.delay_lists[e].reserve(more)
     }
 
     /// Puts it on the delay list of this entity, behind its peers: behind all of equal or higher
     /// priority. There is room.
     pub fn push_wait(&mut self, entity: u16, tx: Tx, priority: i32)
-        requires { 0 < self.old.room }
+        requires there { entity < length self.old.lists }
+        requires room { 0 < at 0 self.old.rooms entity }
         ensures lists { let newcomer : Member = record { tx = tx; priority = priority } in
-            let joined = behind (λ m. m.priority) newcomer in
-            ChangesOnly entity joined self.old.waiters self.new.waiters }
-        ensures len { length self.new.waiters ≡ length self.old.waiters + 1 }
+            self.new.lists ≡ changed entity (behind (λ m. m.priority) newcomer) self.old.lists }
+        ensures count { length self.new.lists ≡ length self.old.lists }
         ensures retry { self.new.retry ≡ self.old.retry }
-        ensures room { self.old.room ≤ self.new.room + 1 }
+        ensures room { LosesRoom 1 self.old.rooms self.new.rooms }
+        ensures retry_room { self.old.retry_room ≤ self.new.retry_room + 1 }
     {
-        let place = self
-            .waiters
-            .partition_point(|w| priority <= w.item.priority);
-        let waiter = Entry {
-            entity,
-            item: Member { tx, priority },
-        };
-        insert_reserved(&mut self.waiters, place, waiter);
+        self.delay_lists[entity as usize].insert_behind(tx, priority);
+        self.waiting += 1;
     }
 
     /// The transaction at this place, from 0, of the delay list of this entity, if there is one.
-    #[tactic(auto, using(crate::proofs::ListOf::slice_get_found))]
     pub fn waiter(&self, entity: u16, place: usize) -> Option<Tx>
-        ensures { let delay_list = list_of entity self.now.waiters in
+        requires { entity < length self.now.lists }
+        ensures { let delay_list = at [] self.now.lists entity in
             result ≡ option_map (λ m. m.tx) (slice_get delay_list place) }
     {
-        let index = index_of(&self.waiters, entity, place)?;
-        Some(self.waiters[index].item.tx)
+        self.delay_lists[entity as usize].get(place)
     }
 
     /// How many wait on the delay list of this entity.
     pub fn waiting(&self, entity: u16) -> usize
-        ensures { result ≡ length (list_of entity self.now.waiters) }
+        requires { entity < length self.now.lists }
+        ensures { result ≡ length (at [] self.now.lists entity) }
     {
-        count_of(&self.waiters, entity)
+        self.delay_lists[entity as usize].len()
     }
 
     /// Removes the member at this place, from 0, of the delay list of this entity. There is one:
     /// `waiter` tells which.
-    #[tactic(auto, using(crate::proofs::ListOf::list_of_remove))]
     pub fn remove(&mut self, entity: u16, place: usize)
-        requires { place < length (list_of entity self.old.waiters) }
-        ensures lists { ChangesOnly entity (λ xs. remove xs place) self.old.waiters self.new.waiters }
-        ensures len { length self.new.waiters + 1 ≡ length self.old.waiters }
+        requires there { entity < length self.old.lists }
+        requires place { place < length (at [] self.old.lists entity) }
+        ensures lists { self.new.lists ≡ changed entity (λ xs. remove xs place) self.old.lists }
+        ensures count { length self.new.lists ≡ length self.old.lists }
         ensures retry { self.new.retry ≡ self.old.retry }
-        ensures room { self.old.room ≤ self.new.room }
+        ensures room { LosesRoom 0 self.old.rooms self.new.rooms }
+        ensures retry_room { self.old.retry_room ≤ self.new.retry_room }
     {
-        match index_of(&self.waiters, entity, place) {
-            Some(index) => {
-                let _ = self.waiters.remove(index);
-            }
-            None => unreachable!(),
-        }
+        self.delay_lists[entity as usize].remove(place);
+        self.waiting -= 1;
+    }
+
+    /// Begins a walk over the delay list of this entity, at its first member.
+    pub fn start_walk(&mut self, entity: u16)
+        requires { entity < length self.old.lists }
+        ensures lists { self.new.lists ≡ self.old.lists }
+        ensures place { at 0 self.new.places entity ≡ 0 }
+        ensures retry { self.new.retry ≡ self.old.retry }
+        ensures room { LosesRoom 0 self.old.rooms self.new.rooms }
+        ensures retry_room { self.old.retry_room ≤ self.new.retry_room }
+    {
+        self.delay_lists[entity as usize].start_walk();
+    }
+
+    /// The transaction to which the walk over the delay list of this entity has come, if it is not
+    /// at the end.
+    pub fn current(&self, entity: u16) -> Option<Tx>
+        requires { entity < length self.now.lists }
+        ensures value { let delay_list = at [] self.now.lists entity in
+            result ≡ option_map (λ m. m.tx) (slice_get delay_list (at 0 self.now.places entity)) }
+        ensures there { IsSome result ↔ (at 0 self.now.places entity < length (at [] self.now.lists entity)) }
+    {
+        self.delay_lists[entity as usize].current()
+    }
+
+    /// The walk over the delay list of this entity goes on to the next member. It is not at the
+    /// end: `current` tells.
+    pub fn pass(&mut self, entity: u16)
+        requires there { entity < length self.old.lists }
+        requires place { at 0 self.old.places entity < length (at [] self.old.lists entity) }
+        ensures lists { self.new.lists ≡ self.old.lists }
+        ensures place { at 0 self.new.places entity ≡ at 0 self.old.places entity + 1 }
+        ensures retry { self.new.retry ≡ self.old.retry }
+        ensures room { LosesRoom 0 self.old.rooms self.new.rooms }
+        ensures retry_room { self.old.retry_room ≤ self.new.retry_room }
+    {
+        self.delay_lists[entity as usize].pass();
+    }
+
+    /// Removes the member to which the walk over the delay list of this entity has come; the walk
+    /// is then at the next. It is not at the end: `current` tells.
+    pub fn take(&mut self, entity: u16)
+        requires there { entity < length self.old.lists }
+        requires place { at 0 self.old.places entity < length (at [] self.old.lists entity) }
+        ensures lists { let place = at 0 self.old.places entity in
+            self.new.lists ≡ changed entity (λ xs. remove xs place) self.old.lists }
+        ensures place { at 0 self.new.places entity ≡ at 0 self.old.places entity }
+        ensures count { length self.new.lists ≡ length self.old.lists }
+        ensures retry { self.new.retry ≡ self.old.retry }
+        ensures room { LosesRoom 0 self.old.rooms self.new.rooms }
+        ensures retry_room { self.old.retry_room ≤ self.new.retry_room }
+    {
+        self.delay_lists[entity as usize].take();
+        self.waiting -= 1;
     }
 
     /// Puts it at the end of the retry list, which remembers its priority. There is room.
     pub fn push_retry(&mut self, tx: Tx, priority: i32)
-        requires { 0 < self.old.room }
+        requires { 0 < self.old.retry_room }
         ensures retry { let newcomer : Member = record { tx = tx; priority = priority } in
             self.new.retry ≡ self.old.retry ++ newcomer ∷ [] }
-        ensures waiters { self.new.waiters ≡ self.old.waiters }
-        ensures room { self.old.room ≤ self.new.room + 1 }
+        ensures lists { self.new.lists ≡ self.old.lists }
+        ensures room { LosesRoom 1 self.old.rooms self.new.rooms }
+        ensures retry_room { self.old.retry_room ≤ self.new.retry_room + 1 }
     {
         self.retry.push_back_reserved(Member { tx, priority });
     }
@@ -141,8 +245,9 @@ impl Waits {
         requires { length self.old.retry ≤ cec.old.room }
         ensures woken { cec.new.items ≡ all_behind (λ m. m.priority) self.old.retry cec.old.items }
         ensures retry { self.new.retry ≡ [] }
-        ensures waiters { self.new.waiters ≡ self.old.waiters }
-        ensures room { self.old.room ≤ self.new.room }
+        ensures lists { self.new.lists ≡ self.old.lists }
+        ensures room { LosesRoom 0 self.old.rooms self.new.rooms }
+        ensures retry_room { self.old.retry_room ≤ self.new.retry_room }
         ensures left { cec.old.room ≤ cec.new.room + length self.old.retry }
     {
         wake(&mut self.retry, cec);
@@ -157,9 +262,9 @@ impl Waits {
 
     /// How many members all delay lists and the retry list have.
     pub fn len(&self) -> usize
-        ensures { result ≡ length self.now.waiters + length self.now.retry }
+        ensures { result ≡ sum_by length self.now.lists + length self.now.retry }
     {
-        self.waiters.len() + self.retry.len()
+        self.waiting + self.retry.len()
     }
 }
 

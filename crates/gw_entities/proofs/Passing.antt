@@ -1,31 +1,49 @@
--- A loop that lets time pass over each of a list of values.
-use Rattle.std.proofs.Common.{◌≡◌, ℕ, ◌+◌, ◌<◌, List, ◌∷◌, [], ◌++◌, length, map, take, drop, get_or, set, ap, ◌∙◌, subst, sym, arith}
+-- Values that are brought up to date when they are read or changed, while time passes over all of them.
+use Rattle.std.proofs.Common.{◌≡◌, ℕ, ◌+◌, ◌-◌, ◌<◌, List, ◌∷◌, [], length, map, get_or, set, refl, sym, ap, ◌∙◌, arith}
 use Rattle.std.specs.List.{All}
-use Rattle.std.proofs.lemmas.List.{take_more, drop_more, map-append, get_or_at, get_or_default, length-map, length-take-le}
-use Rattle.std.proofs.lemmas.List.Edits.{map_over_more}
-use Rattle.std.proofs.lemmas.List.Elements.{All-push, All-same}
+use Rattle.std.proofs.lemmas.List.{length-map, get_or-map, map-set}
+use Rattle.std.proofs.lemmas.List.Elements.{All-head, All-tail}
+use Rattle.gw_num.specs.Table.{at, put}
+use Rattle.gw_num.proofs.Tables.{at-get_or_any, set-put}
+use Rattle.gw_entities.specs.declared.numbered.Kept.{Kept}
+use Rattle.gw_entities.specs.Numbered.{ByNumber, IsKept, today}
 
--- time passed over the first i of xs, which then were ys; it passes over one more, which is then v
-module _ {X : Type 0} (after : X → X) (xs ys : List X) (i : ℕ) (d v : X) (within : i < length xs) (so_far : ys ≡ map after (take i xs) ++ drop i xs) (now : v ≡ after (get_or ys i d)) where
-  split : ys ≡ map after (take i xs) ++ get_or xs i d ∷ drop (i + 1) xs
-  split = so_far ∙ ap (λ zs. map after (take i xs) ++ zs) (drop_more xs i d within)
+module _ {T : Type 0} (after : ℕ → T → T) where
+  -- the values of a table
+  abbrev values : ℕ → List (Kept T) → List T
+  values passed kept = map (today after passed) kept
 
-  long : length (map after (take i xs)) ≡ i
-  long = length-map (take i xs) after ∙ length-take-le i xs (omega arith)
+  -- THE TABLE THAT A MODEL SHOWS
 
-  -- until then it was as it had been
-  unpassed : get_or ys i d ≡ get_or xs i d
-  unpassed = ap (λ zs. get_or zs i d) split ∙ get_or_at (map after (take i xs)) (get_or xs i d) (drop (i + 1) xs) d i long
+  module _ (passed : ℕ) (kept : List (Kept T)) (n : ByNumber T) (is : record { values = values passed kept; passed = passed } ≡ n) (k : ℕ) (there : k < length n.values) where
+    within : k < length kept
+    within = omega (arith, there, length-map kept (today after passed), ap (λ (m : ByNumber T). length m.values) is)
 
-  passed : map after (take (i + 1) xs) ≡ map after (take i xs) ++ v ∷ []
-  passed =
-      ap (map after) (take_more xs i d within)
-      ∙ map-append after (take i xs) (get_or xs i d ∷ [])
-      ∙ ap (λ z. map after (take i xs) ++ z ∷ []) (sym (now ∙ ap after unpassed))
+    -- a value is read
+    pub read : (d : T) (e : Kept T) → today after passed (get_or kept k e) ≡ at d n.values k
+    read d e =
+        sym (get_or-map (today after passed) kept k e d within)
+        ∙ sym (at-get_or_any d d (values passed kept) k (omega (arith, length-map kept (today after passed), within)))
+        ∙ ap (λ (m : ByNumber T). at d m.values k) is
 
-  pub one_more : i < length ys → set ys i v ≡ map after (take (i + 1) xs) ++ drop (i + 1) xs
-  one_more there = ap (set ys i) now ∙ map_over_more after xs ys i (get_or ys i d) within so_far (get_or_default ys i d (get_or ys i d) there)
+    -- a value changes now
+    pub written : ((v : T) → after 0 v ≡ v) → (d v : T) → values passed (set kept k (record { value = v; since = passed })) ≡ put d n.values k v
+    written at_once d v =
+        let now : passed - passed ≡ 0 = omega arith in
+        let is_now : today after passed (record { value = v; since = passed }) ≡ v = rw now (at_once v) in
+        map-set (today after passed) kept k (record { value = v; since = passed })
+        ∙ ap (set (values passed kept) k) is_now
+        ∙ set-put d (values passed kept) k v (omega (arith, length-map kept (today after passed), within))
+        ∙ ap (λ (m : ByNumber T). put d m.values k v) is
 
-  -- what holds of each over which time passed holds of one more
-  pub All-one_more : (P Q : X → Type 0) → All P xs → (P (get_or ys i d) → Q v) → All Q (map after (take i xs)) → All Q (map after (take (i + 1) xs))
-  All-one_more P Q all to before = All-same Q _ _ passed (All-push Q (map after (take i xs)) v before (to (subst P (sym unpassed) (all i d within))))
+  -- TIME PASSES
+
+  module _ (Fits : ℕ → T → Type 0) (passed dt : ℕ) where
+    pub passes : ((a b : ℕ) (v : T) → after b (after a v) ≡ after (a + b) v) → (kept : List (Kept T)) → All (IsKept Fits passed) kept → values (passed + dt) kept ≡ map (after dt) (values passed kept)
+    passes in_parts [] all = refl
+    passes in_parts (k ∷ kept) all =
+        let first = All-head (IsKept Fits passed) k kept all in
+        let parts : passed + dt - k.since ≡ passed - k.since + dt = omega (arith, first.since) in
+        let one : today after (passed + dt) k ≡ after dt (today after passed k) = rw parts (sym (in_parts (passed - k.since) dt k.value)) in
+        ap (λ v. v ∷ values (passed + dt) kept) one
+        ∙ ap (λ vs. after dt (today after passed k) ∷ vs) (passes in_parts kept (All-tail (IsKept Fits passed) k kept all))

@@ -1,13 +1,16 @@
 //! Facilities.
 
 ghost use Rattle.std.specs.Prelude.{◌≡◌, ◌≤◌, ◌<◌, ◌+◌, ◌^◌, ℕ, length, IfOk, OnErr, Ok, false};
+ghost use Rattle.std.specs.List.{list_any};
+ghost use Rattle.std.proofs.Common.{rules};
+ghost use Rattle.std.proofs.lemmas.Grind.{common_steps};
 ghost use Rattle.gw_entities.specs.Average.{average};
 ghost use Rattle.gw_entities.specs.Facility as model;
 ghost use Rattle.gw_entities.specs.Fits.{FacilityFits};
 ghost use Rattle.gw_entities.specs.Table.{facilities_of, facility_at, set_facility, facilities_after, with_left};
 
 use crate::average::{Average, average_of};
-use crate::numbered::{Numbered, Timed};
+use crate::numbered::{Kept, Numbered, Timed};
 use crate::{Memory, Stop};
 use gw_object::{Kind, Object};
 use std::alloc::Global;
@@ -90,6 +93,17 @@ impl Timed for Facility {
             self.busy += u128::from(dt);
         }
     }
+
+    ghost at_once = { λ value. Prim.search (rules, common_steps) };
+
+    ghost in_parts = { λ a b value. Prim.search (rules, common_steps) };
+}
+
+/// Whether this transaction owns any of these. Time changes no owner.
+fn any_is_owned_by(kept: &[Kept<Facility>], xn: u64) -> bool
+    ensures { result ≡ list_any (λ k. model.is_owned_by xn k.value) kept.now }
+{
+    kept.iter().any(|k| k.value.is_owned_by(xn))
 }
 
 /// The facilities of a job, each by its number as an entity of the object.
@@ -167,7 +181,7 @@ impl Facilities {
     pub fn owns_any(&self, xn: u64) -> bool
         ensures { result ≡ model.owns_any xn self.now.facilities }
     {
-        self.table.values().iter().any(|f| f.is_owned_by(xn))
+        any_is_owned_by(self.table.kept(), xn)
     }
 
     /// The facility `f`: who owns it, how often it was seized, and how long it was owned.

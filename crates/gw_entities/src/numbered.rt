@@ -1,10 +1,10 @@
 //! Values by entity number, over which time passes.
 
-ghost use Rattle.std.specs.Prelude.{◌≡◌, ◌<◌, ◌+◌, ◌^◌, ℕ, length, map, IfOk};
-ghost use Rattle.std.specs.List.{All};
+ghost use Rattle.std.specs.Prelude.{◌≡◌, ◌≤◌, ◌<◌, ◌+◌, ◌^◌, ℕ, length, map, IfOk};
 ghost use Rattle.gw_num.specs.Table.{at, put};
 ghost use Rattle.gw_object.specs.declared.parts.Kind.{Kind};
 ghost use Rattle.gw_object.specs.declared.parts.Entity.{Entity};
+ghost use Rattle.gw_entities.specs.Numbered.{today};
 
 use gw_object::{Entity, Kind, Memory};
 use std::alloc::Global;
@@ -31,40 +31,58 @@ pub(crate) trait Timed: Copy {
         requires { (passed : ℕ) × Fits passed self.old × (passed + dt < 2 ^ 63) }
         ensures value { self.new ≡ after dt self.old }
         ensures fits { (passed : ℕ) → Fits passed self.old → Fits (passed + dt) self.new };
+
+    /// Where no time passes, nothing changes.
+    ghost at_once: { (value : Self) → after 0 value ≡ value };
+
+    /// Time that passes in two parts makes the same of a value as it does in one.
+    ghost in_parts: { (a b : ℕ) (value : Self) → after b (after a value) ≡ after (a + b) value };
+}
+
+/// The value of an entity as it was when it last changed.
+#[derive(Clone, Copy, Debug)]
+pub(crate) struct Kept<T: Timed> {
+    /// The value at that time.
+    pub value: T,
+    /// The clock units that had passed at that time.
+    pub since: u64,
+}
+
+impl<T: Timed> Kept<T> {
+    /// The value once so many clock units have passed in all.
+    fn today(&self, passed: u64) -> T
+        requires since { self.now.since ≤ passed }
+        requires few { passed < 2 ^ 63 }
+        requires fits { T.Fits self.now.since self.now.value }
+        ensures value { result ≡ today T.after passed self.now }
+        ensures fits { T.Fits passed result }
+    {
+        let mut value = self.value;
+        value.pass_time(passed - self.since);
+        value
+    }
 }
 
 /// The value of each entity by its number, from 0, and how many clock units passed so far. The entities of other kinds
 /// have a value too, of which nobody speaks.
+///
+/// Time that passes is only counted: a value is brought up to date when it is read or changed.
 #[derive(Debug, Drop)]
 pub(crate) struct Numbered<T: Timed> {
-    values: Vec<T>,
+    kept: Vec<Kept<T>>,
     passed: u64,
 }
 
 impl<T: Timed> Model for Numbered<T> {
-    ghost use Rattle.std.specs.Prelude.{◌<◌, ◌^◌};
+    ghost use Rattle.std.specs.Prelude.{◌<◌, ◌^◌, map};
     ghost use Rattle.std.specs.List.{All};
-    ghost use Rattle.gw_entities.specs.Numbered.{ByNumber};
+    ghost use Rattle.gw_entities.specs.Numbered.{ByNumber, IsKept, today};
 
     ghost Value = { ByNumber T };
 
-    ghost view = { λ n. record { values = n.values.items; passed = n.passed } };
+    ghost view = { λ n. record { values = map (today T.after n.passed) n.kept.items; passed = n.passed } };
 
-    ghost invariant = { λ n. All (T.Fits n.passed) n.values.items × (n.passed < 2 ^ 63) };
-}
-
-/// Lets `dt` clock units pass over each value, and counts them.
-fn pass_over<T: Timed>(values: &mut [T], passed: &mut u64, dt: u64)
-    requires fits { All (T.Fits passed.old) values.old }
-    requires few { passed.old + dt < 2 ^ 63 }
-    ensures values { values.new ≡ map (T.after dt) values.old }
-    ensures passed { passed.new ≡ passed.old + dt }
-    ensures fits { All (T.Fits passed.new) values.new }
-{
-    for value in values {
-        value.pass_time(dt);
-    }
-    *passed += dt;
+    ghost invariant = { λ n. All (IsKept T.Fits n.passed) n.kept.items × (n.passed < 2 ^ 63) };
 }
 
 impl<T: Timed> Numbered<T> {
@@ -73,11 +91,14 @@ impl<T: Timed> Numbered<T> {
         ensures { let values = map (λ (e : Entity). T.fresh e.kind) entities.now in
             IfOk result (λ n. n ≡ record { values = values; passed = 0 }) }
     {
-        let mut values = Vec::new(alloc);
+        let mut kept = Vec::new(alloc);
         for entity in entities {
-            values.push(T::fresh(entity.kind))?;
+            kept.push(Kept {
+                value: T::fresh(entity.kind),
+                since: 0,
+            })?;
         }
-        Ok(Numbered { values, passed: 0 })
+        Ok(Numbered { kept, passed: 0 })
     }
 
     /// The value of an entity.
@@ -87,14 +108,14 @@ impl<T: Timed> Numbered<T> {
         ensures value { (d : T) → result ≡ at d self.now.values number }
         ensures fits { T.Fits self.now.passed result }
     {
-        self.values[number as usize]
+        self.kept[number as usize].today(self.passed)
     }
 
-    /// The values, by number.
-    pub fn values(&self) -> &[T]
-        ensures { result.now ≡ self.now.values }
+    /// The values as they were when they last changed, by number.
+    pub fn kept(&self) -> &[Kept<T>]
+        ensures { self.now.values ≡ map (today T.after self.now.passed) result.now }
     {
-        self.values.as_slice()
+        self.kept.as_slice()
     }
 
     /// Gives an entity another value, or the same.
@@ -108,7 +129,10 @@ impl<T: Timed> Numbered<T> {
         ensures same { (d : T) → value ≡ at d self.old.values number → self.new ≡ self.old }
         ensures count { length self.new.values ≡ length self.old.values }
     {
-        self.values[number as usize] = value;
+        self.kept[number as usize] = Kept {
+            value,
+            since: self.passed,
+        };
     }
 
     /// Lets `dt` clock units pass.
@@ -117,7 +141,7 @@ impl<T: Timed> Numbered<T> {
         ensures { let values = map (T.after dt) self.old.values in
             self.new ≡ record { values = values; passed = self.old.passed + dt } }
     {
-        pass_over(&mut self.values, &mut self.passed, dt);
+        self.passed += dt;
     }
 
     /// How many clock units passed so far.

@@ -1,6 +1,7 @@
 //! Queues.
 
 ghost use Rattle.std.specs.Prelude.{◌≡◌, ◌≤◌, ◌<◌, ◌+◌, ◌^◌, ℕ, length, IfOk, OnErr};
+ghost use Rattle.std.proofs.Common.{rules};
 ghost use Rattle.gw_entities.specs.Average.{average};
 ghost use Rattle.gw_entities.specs.Contents as contents;
 ghost use Rattle.gw_entities.specs.Fits.{QueueFits};
@@ -67,6 +68,10 @@ impl Timed for Contents {
     fn pass_time(&mut self, dt: u64) {
         self.accrue(dt);
     }
+
+    ghost at_once = { λ value. Prim.search rules };
+
+    ghost in_parts = { λ a b value. Prim.search rules };
 }
 
 /// The queues of a job, each by its number as an entity of the object.

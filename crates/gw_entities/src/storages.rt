@@ -2,6 +2,7 @@
 
 ghost use Rattle.std.specs.Prelude.{◌≡◌, ◌≤◌, ◌<◌, ◌+◌, ◌^◌, ℕ, length, IfOk, OnErr, Ok, false};
 ghost use Rattle.gw_object.specs.Entities.{capacity_of};
+ghost use Rattle.std.proofs.Common.{rules};
 ghost use Rattle.gw_entities.specs.Average.{average};
 ghost use Rattle.gw_entities.specs.Fits.{StorageFits};
 ghost use Rattle.gw_entities.specs.Storage as model;
@@ -92,6 +93,10 @@ impl Timed for Storage {
     fn pass_time(&mut self, dt: u64) {
         self.contents.accrue(dt);
     }
+
+    ghost at_once = { λ value. Prim.search rules };
+
+    ghost in_parts = { λ a b value. Prim.search rules };
 }
 
 /// The storages of a job, each by its number as an entity of the object.

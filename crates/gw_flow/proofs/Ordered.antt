@@ -1,5 +1,5 @@
 -- States whose lists ascend, and whose amounts aren't 0.
-use Rattle.std.proofs.Common.{◌≡◌, ◌≢◌, ℕ, ◌<◌, Bool, true, false, ◌==◌, if◌then◌else◌, List, [], ◌∷◌, ◌++◌, Option, Some, None, refl, sym, subst, append_assoc, true≢false, ◌∙◌, arith}
+use Rattle.std.proofs.Common.{◌≡◌, ◌↔◌, ◌≢◌, ℕ, ◌<◌, Bool, true, false, ◌==◌, if◌then◌else◌, List, [], ◌∷◌, ◌++◌, Option, Some, None, refl, sym, subst, append_assoc, true≢false, ◌∙◌, arith}
 use Rattle.std.specs.Prelude.{All, AllPairs, filter, nat_lt, not, option_map, option_to_list}
 use Rattle.std.proofs.lemmas.List.Elements.{All-nil, All-cons, All-append, All-map, All-filter}
 use Rattle.std.proofs.lemmas.List.Kept.{AllPairs-filter}
@@ -19,25 +19,26 @@ use Rattle.gw_flow.proofs.Ascending.{Ascends, All-from_map, AllPairs-map, AllPai
 
 -- PARTS
 
-module _ (s : StateParts) where
-  -- parts whose lists ascend, and that have no amount 0, are ordered
-  pub parts_ordered : AllPairs (λ (a b : Parameter). a.number < b.number) s.parameters → AllPairs (λ a b. a < b) s.facilities → AllPairs (λ (a b : Amount). a.entity < b.entity) s.units → All (λ (a : Amount). a.number ≢ 0) s.units → IsOrdered (known s)
-  parts_ordered params facilities units amounts = record {
-    params = AllPairs-map (λ (a b : ℕ × ParamKind). a.0 < b.0) (λ (p : Parameter). (p.number, kind_seen p.kind)) s.parameters params;
-    facilities = facilities;
-    units = AllPairs-map (λ (a b : ℕ × ℕ). a.0 < b.0) (λ (u : Amount). (u.entity, u.number)) s.units units;
-    amounts = All-map (λ (e : ℕ × ℕ). e.1 ≢ 0) (λ (u : Amount). (u.entity, u.number)) s.units amounts;
-  }
-
-module _ (s : StateParts) (h : IsOrdered (known s)) where
-  pub parameters_from_ordered : AllPairs (λ (a b : Parameter). a.number < b.number) s.parameters
-  parameters_from_ordered = AllPairs-from_map (λ (a b : ℕ × ParamKind). a.0 < b.0) (λ (p : Parameter). (p.number, kind_seen p.kind)) s.parameters h.params
-
-  pub units_from_ordered : AllPairs (λ (a b : Amount). a.entity < b.entity) s.units
-  units_from_ordered = AllPairs-from_map (λ (a b : ℕ × ℕ). a.0 < b.0) (λ (u : Amount). (u.entity, u.number)) s.units h.units
-
-  pub amounts_from_ordered : All (λ (a : Amount). a.number ≢ 0) s.units
-  amounts_from_ordered = All-from_map (λ (e : ℕ × ℕ). e.1 ≢ 0) (λ (u : Amount). (u.entity, u.number)) s.units h.amounts
+-- parts are ordered where their lists ascend and they have no amount 0, and nowhere else
+pub parts_ordered : (s : StateParts) →
+    ((AllPairs (λ (a b : Parameter). a.number < b.number) s.parameters × AllPairs (λ a b. a < b) s.facilities)
+    × (AllPairs (λ (a b : Amount). a.entity < b.entity) s.units × All (λ (a : Amount). a.number ≢ 0) s.units))
+    ↔ IsOrdered (known s)
+parts_ordered s = (
+  λ h. record {
+    params = AllPairs-map (λ (a b : ℕ × ParamKind). a.0 < b.0) (λ (p : Parameter). (p.number, kind_seen p.kind)) s.parameters h.0.0;
+    facilities = h.0.1;
+    units = AllPairs-map (λ (a b : ℕ × ℕ). a.0 < b.0) (λ (u : Amount). (u.entity, u.number)) s.units h.1.0;
+    amounts = All-map (λ (e : ℕ × ℕ). e.1 ≢ 0) (λ (u : Amount). (u.entity, u.number)) s.units h.1.1;
+  },
+  λ h. (
+    (AllPairs-from_map (λ (a b : ℕ × ParamKind). a.0 < b.0) (λ (p : Parameter). (p.number, kind_seen p.kind)) s.parameters h.params, h.facilities),
+    (
+      AllPairs-from_map (λ (a b : ℕ × ℕ). a.0 < b.0) (λ (u : Amount). (u.entity, u.number)) s.units h.units,
+      All-from_map (λ (e : ℕ × ℕ). e.1 ≢ 0) (λ (u : Amount). (u.entity, u.number)) s.units h.amounts,
+    ),
+  ),
+)
 
 -- WHAT FLOW WORKS WITH
 

@@ -77,6 +77,10 @@ move b state = record { code = codes.edge_state; target = targets.Block b; state
 abbrev pub edges_along : ℕ → List Exit → Row → List FlowEdge
 edges_along b exits passed = map (λ (exit : Exit). move (leads_to b exit.way) passed) exits
 
+-- the flow edges of the block of number b in a state, in order: those of most blocks are the same for every table
+abbrev pub edges_from : ℕ → Block → Row → List FlowEdge
+edges_from b block state = edges_along b (exits block) (after block state)
+
 -- the flow edges of the block of number b in a state, in order
 abbrev pub edges : Parts → Table → ℕ → Block → Row → List FlowEdge
-edges p table b block state = edges_along b (exits block) (after block state)
+edges p table b block state = edges_from b block state

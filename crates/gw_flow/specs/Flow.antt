@@ -91,7 +91,15 @@ FindsOrLacksMemory (Err fault) cs = (first_broken cs ≡ Some fault) ⊎ (fault 
 abbrev pub said : Edge → Target × Row
 said e = (e.target, known e.state)
 
+-- where a flow edge leads, and what its state says
+abbrev pub said_by_flow : FlowEdge → Target × Row
+said_by_flow e = (e.target, e.state)
+
+-- these edges lead where flow edges lead, in the same order, and their states say the same
+abbrev pub SayTheSame : List Edge → List FlowEdge → Type 0
+SayTheSame out es = map said out ≡ map said_by_flow es
+
 -- what a call answers for the edges of a block, where these are the checks of its rules: the fault of the first rule that is broken; else where each edge leads and its state, in order, unless memory ran out
 abbrev pub AnswersEdges : Result (Vec Edge Global) Fault → List Check → List FlowEdge → Type 0
-AnswersEdges (Ok out) rule_checks es = (first_broken rule_checks ≡ None) × (map said out.items ≡ map (λ (e : FlowEdge). (e.target, e.state)) es)
+AnswersEdges (Ok out) rule_checks es = (first_broken rule_checks ≡ None) × SayTheSame out.items es
 AnswersEdges (Err fault) rule_checks es = (first_broken rule_checks ≡ Some fault) ⊎ ((first_broken rule_checks ≡ None) × (fault ≡ out_of_memory))

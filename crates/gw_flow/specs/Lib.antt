@@ -7,3 +7,4 @@ pub mod Viewed
 pub mod Blocks
 pub mod Flow
 pub mod Laws
+pub mod Values

@@ -90,14 +90,25 @@ fn none_is_0(amounts: &[Amount]) -> bool
     amounts.iter().all(|a| a.number != 0)
 }
 
+/// Whether the parameters and the facilities of a state ascend.
+fn numbers_ascend(parts: &StateParts) -> bool
+    ensures { IsTrue result ↔ (AllPairs (λ (a b : Parameter). a.number < b.number) parts.now.parameters × AllPairs (λ a b. a < b) parts.now.facilities) }
+{
+    parameters_ascend(parts.parameters.as_slice()) && facilities_ascend(parts.facilities.as_slice())
+}
+
+/// Whether amounts ascend by their entities, and none is 0.
+fn amounts_are_ordered(amounts: &[Amount]) -> bool
+    ensures { IsTrue result ↔ (AllPairs (λ (a b : Amount). a.entity < b.entity) amounts.now × All (λ (a : Amount). a.number ≢ 0) amounts.now) }
+{
+    amounts_ascend(amounts) && none_is_0(amounts)
+}
+
 /// Whether the lists of a state ascend and no amount is 0.
 fn is_ordered(parts: &StateParts) -> bool
     ensures { IsTrue result ↔ IsOrdered (known parts.now) }
 {
-    parameters_ascend(parts.parameters.as_slice())
-        && facilities_ascend(parts.facilities.as_slice())
-        && amounts_ascend(parts.units.as_slice())
-        && none_is_0(parts.units.as_slice())
+    numbers_ascend(parts) && amounts_are_ordered(parts.units.as_slice())
 }
 
 impl AbsState {

@@ -1,7 +1,6 @@
 //! Flow edges: where a transaction goes on to, and what is known of it there.
 
 ghost use Rattle.std.specs.Prelude.{◌≡◌, ◌≤◌, IfOk};
-ghost use Rattle.gw_kinds.specs.Exits.{exits as exits_of};
 ghost use Rattle.gw_flow.specs.Rows.{HasRoom};
 ghost use Rattle.gw_flow.specs.Blocks as model;
 ghost use Rattle.gw_flow.specs.Flow.{said};
@@ -114,7 +113,7 @@ pub(crate) fn edges_of(
 ) -> Result<Vec<FlowEdge>, Memory>
     requires number { number ≤ 4096 }
     requires room { HasRoom state.now }
-    ensures { IfOk result (λ edges. edges.items ≡ model.edges_along number (exits_of block.now) (model.after block.now state.now)) }
+    ensures { IfOk result (λ edges. edges.items ≡ model.edges_from number block.now state.now) }
 {
     let passed = after(alloc, block, state)?;
     edges_along(alloc, number, &exits(block), &passed)

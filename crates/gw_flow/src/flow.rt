@@ -3,12 +3,11 @@
 ghost use Rattle.std.specs.Prelude.{◌≡◌, ◌⊎◌, ◌<◌, ◌≤◌, ◌+◌, Some, None, IfOk, IfErr, IfSome, IsSome, All, map, length, option_copied, [], ◌∷◌};
 ghost use Rattle.gw_object.specs.declared.parts.Block.{Block};
 ghost use Rattle.gw_kinds.specs.Checks.{Finds, first_broken};
-ghost use Rattle.gw_kinds.specs.Exits.{exits};
 ghost use Rattle.gw_kinds.specs.Kinds.{block_at};
 ghost use Rattle.gw_flow.specs.Rows.{HasRoom};
-ghost use Rattle.gw_flow.specs.Blocks.{after, edges_along, edges};
+ghost use Rattle.gw_flow.specs.Blocks.{edges_from, edges};
 ghost use Rattle.gw_flow.specs.Flow as model;
-ghost use Rattle.gw_flow.specs.Flow.{FindsOrLacksMemory, AnswersEdges, table_of};
+ghost use Rattle.gw_flow.specs.Flow.{FindsOrLacksMemory, SayTheSame, AnswersEdges, table_of};
 ghost use Rattle.gw_flow.specs.Seen.{known, params_of};
 ghost use Rattle.gw_flow.specs.declared.edges.Edge.{Edge as DeclaredEdge};
 ghost use Rattle.gw_flow.specs.declared.edges.FlowEdge.{FlowEdge as DeclaredFlowEdge};
@@ -69,7 +68,7 @@ fn check_edges_in(
 ) -> Result<(), Fault>
     requires number { number ≤ 4096 }
     requires room { HasRoom state.now }
-    ensures { FindsOrLacksMemory result (map (model.edge_check (table_of rows.now) number) (edges_along number (exits block.now) (after block.now state.now))) }
+    ensures { FindsOrLacksMemory result (map (model.edge_check (table_of rows.now) number) (edges_from number block.now state.now)) }
 {
     match edges_of(alloc, number, block, state) {
         Ok(edges) => check_edges(rows, number, &edges),
@@ -129,7 +128,7 @@ fn check_blocks(alloc: Global, parts: &Parts, rows: &[Option<State>]) -> Result<
 /// Edges in the numbers of the state that was given.
 fn in_numbers_of(alloc: Global, edges: &[FlowEdge], given: &AbsState) -> Result<Vec<Edge>, Memory>
     requires { All (λ (e : DeclaredFlowEdge). e.state.params ≡ params_of given.now.parameters) edges.now }
-    ensures same { IfOk result (λ out. map model.said out.items ≡ map (λ (e : DeclaredFlowEdge). (e.target, e.state)) edges.now) }
+    ensures same { IfOk result (λ out. SayTheSame out.items edges.now) }
     ensures own { IfOk result (λ out. All (λ (e : DeclaredEdge). e.state.parameters ≡ given.now.parameters) out.items) }
 {
     let mut out = Vec::new(alloc);
@@ -148,7 +147,7 @@ fn own_edges(
 ) -> Result<Vec<Edge>, Memory>
     requires number { number ≤ 4096 }
     requires room { HasRoom (known state.now) }
-    ensures same { IfOk result (λ out. map model.said out.items ≡ map (λ (e : DeclaredFlowEdge). (e.target, e.state)) (edges_along number (exits block.now) (after block.now (known state.now)))) }
+    ensures same { IfOk result (λ out. SayTheSame out.items (edges_from number block.now (known state.now))) }
     ensures own { IfOk result (λ out. All (λ (e : DeclaredEdge). e.state.parameters ≡ state.now.parameters) out.items) }
 {
     let seen = State::of(alloc, state)?;
@@ -167,7 +166,7 @@ fn edges_or_fault(
 ) -> Result<Vec<Edge>, Fault>
     requires number { number ≤ 4096 }
     requires room { HasRoom (known state.now) }
-    ensures edges { AnswersEdges result (model.rule_checks parts.now number block.now (known state.now)) (edges_along number (exits block.now) (after block.now (known state.now))) }
+    ensures edges { AnswersEdges result (model.rule_checks parts.now number block.now (known state.now)) (edges_from number block.now (known state.now)) }
     ensures own { IfOk result (λ out. All (λ (e : DeclaredEdge). e.state.parameters ≡ state.now.parameters) out.items) }
 {
     check_rules(parts, number, block, state)?;

@@ -11,7 +11,7 @@ ghost use Rattle.gw_flow.specs.Viewed.{held_kind, params_viewed};
 
 use crate::abstract_state::{AbsState, Amount, Parameter, ParameterKind, StateParts};
 use crate::fits::{has_params, has_units};
-use crate::lists::{amount_in, amounts_seen, copy_of, with_amount, with_number, without_number};
+use crate::lists::{amounts_seen, copy_of, with_amount, with_number, without_number};
 use crate::lookups::Lookups;
 use gw_object::{Items, Memory, TableState};
 use std::alloc::Global;
@@ -180,21 +180,15 @@ impl State {
 impl Lookups for State {
     ghost known = { λ s. s };
 
-    fn is_empty(&self) -> bool {
+    fn sets_nothing(&self) -> bool {
         self.params.as_slice().is_empty()
-            && self.facilities.as_slice().is_empty()
-            && self.units.as_slice().is_empty()
     }
 
-    fn owns_nothing(&self) -> bool {
-        self.facilities.as_slice().is_empty()
+    fn facilities(&self) -> &[u16] {
+        self.facilities.as_slice()
     }
 
-    fn owns(&self, facility: u16) -> bool {
-        self.facilities.as_slice().contains(&facility)
-    }
-
-    fn units_of(&self, entity: u16) -> u64 {
-        amount_in(self.units.as_slice(), entity)
+    fn units(&self) -> &[Amount] {
+        self.units.as_slice()
     }
 }

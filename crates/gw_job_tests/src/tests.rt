@@ -293,9 +293,9 @@ impl Seen {
 
 /// Whether the object has an entity of this number.
 fn has_entity(sim: &Sim, entity: u16) -> bool
-    ensures facilities { IsTrue result → entity < length sim.now.state.goods.facilities }
-    ensures storages { IsTrue result → entity < length sim.now.state.goods.storages }
-    ensures queues { IsTrue result → entity < length sim.now.state.goods.queues }
+    ensures facilities { IsTrue result → entity < length sim.now.state.entities.facilities }
+    ensures storages { IsTrue result → entity < length sim.now.state.entities.storages }
+    ensures queues { IsTrue result → entity < length sim.now.state.entities.queues }
     ensures entities { IsTrue result → entity < length sim.now.job.parts.entities }
 {
     let _ = sim.status();

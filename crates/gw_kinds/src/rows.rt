@@ -11,60 +11,40 @@ use crate::codes::{NO_ENTITY, WRONG_KIND};
 use crate::entities::{EntityKind, is_no_other_kind, is_there, needs};
 use gw_object::{Entity, Fault, Parts, Place, TableState, Units};
 
-/// Whether none of the entities that are owned is of another kind.
-fn facilities_are_no_other_kind(entities: &[Entity], facilities: &[u16]) -> bool
-    ensures { result ≡ model.names_no_other_kind entities.now (map (model.needs needed.Facility) facilities.now) }
-{
-    facilities
-        .iter()
-        .map(|f| needs(EntityKind::Facility, *f))
-        .all(|named| is_no_other_kind(entities, named))
-}
-
-/// Whether none of the entities in which units are held is of another kind.
-fn units_are_no_other_kind(entities: &[Entity], units: &[Units]) -> bool
-    ensures { result ≡ model.names_no_other_kind entities.now (map (λ (u : Units). model.needs needed.StorageOrQueue u.entity) units.now) }
-{
-    units
-        .iter()
-        .map(|u| needs(EntityKind::StorageOrQueue, u.entity))
-        .all(|named| is_no_other_kind(entities, named))
-}
-
 /// Whether none of the entities of a row is of another kind.
 fn names_no_other_kind(entities: &[Entity], row: &TableState) -> bool
     ensures { result ≡ model.names_no_other_kind entities.now (model.entities_of_row row.now) }
 {
-    facilities_are_no_other_kind(entities, row.facilities.as_slice())
-        && units_are_no_other_kind(entities, row.units.as_slice())
-}
-
-/// Whether the entities that are owned are there.
-fn facilities_are_there(entities: &[Entity], facilities: &[u16]) -> bool
-    ensures { result ≡ model.are_there entities.now (map (model.needs needed.Facility) facilities.now) }
-{
-    facilities
+    let owned = row
+        .facilities
+        .as_slice()
         .iter()
-        .map(|f| needs(EntityKind::Facility, *f))
-        .all(|named| is_there(entities, named))
-}
-
-/// Whether the entities in which units are held are there.
-fn units_are_there(entities: &[Entity], units: &[Units]) -> bool
-    ensures { result ≡ model.are_there entities.now (map (λ (u : Units). model.needs needed.StorageOrQueue u.entity) units.now) }
-{
-    units
+        .map(|f| needs(EntityKind::Facility, *f));
+    let held = row
+        .units
+        .as_slice()
         .iter()
-        .map(|u| needs(EntityKind::StorageOrQueue, u.entity))
-        .all(|named| is_there(entities, named))
+        .map(|u| needs(EntityKind::StorageOrQueue, u.entity));
+    owned
+        .chain(held)
+        .all(|named| is_no_other_kind(entities, named))
 }
 
 /// Whether the entities of a row are there.
 fn are_there(entities: &[Entity], row: &TableState) -> bool
     ensures { result ≡ model.are_there entities.now (model.entities_of_row row.now) }
 {
-    facilities_are_there(entities, row.facilities.as_slice())
-        && units_are_there(entities, row.units.as_slice())
+    let owned = row
+        .facilities
+        .as_slice()
+        .iter()
+        .map(|f| needs(EntityKind::Facility, *f));
+    let held = row
+        .units
+        .as_slice()
+        .iter()
+        .map(|u| needs(EntityKind::StorageOrQueue, u.entity));
+    owned.chain(held).all(|named| is_there(entities, named))
 }
 
 /// The first fault of the row at this place, if there is one.

@@ -1,5 +1,7 @@
 //! Chains and lists worked by hand.
 
+ghost use Rattle.std.specs.Prelude.{◌≡◌, ◌<◌, length, IfOk};
+
 use crate::models::first_wrong;
 use gw_chains::{Cec, Fec, Memory, Tx, UserChains, Waits};
 use std::alloc::Global;
@@ -106,26 +108,29 @@ fn future_events_chain_goes_by_time(rt: HostRuntime) -> Result<(), Fail> {
     Ok(())
 }
 
-/// Puts these on the delay lists of their entities. Of each: the entity, its number, and its priority.
-fn delay(waits: &mut Waits, waiters: &[(u16, u64, i32)]) -> Result<(), Memory> {
-    for (entity, number, priority) in waiters {
-        waits.reserve(1)?;
-        waits.push_wait(*entity, tx(*number), *priority);
-    }
+/// Puts a transaction on the delay list of an entity.
+fn wait(waits: &mut Waits, entity: u16, number: u64, priority: i32) -> Result<(), Memory>
+    requires { entity < length waits.old.lists }
+    ensures { length waits.new.lists ≡ length waits.old.lists }
+{
+    waits.reserve_wait(entity, 1)?;
+    waits.push_wait(entity, tx(number), priority);
     Ok(())
 }
 
 /// Puts these on the retry list, by number and priority.
 fn retry(waits: &mut Waits, waiters: &[(u64, i32)]) -> Result<(), Memory> {
     for (number, priority) in waiters {
-        waits.reserve(1)?;
+        waits.reserve_retry(1)?;
         waits.push_retry(tx(*number), *priority);
     }
     Ok(())
 }
 
 /// Whether the delay list of an entity has these numbers, in order.
-fn is_list(waits: &Waits, entity: u16, numbers: &[u64]) -> bool {
+fn is_list(waits: &Waits, entity: u16, numbers: &[u64]) -> bool
+    requires { entity < length waits.now.lists }
+{
     if waits.waiting(entity) != numbers.len() {
         return false;
     }
@@ -138,7 +143,10 @@ fn is_list(waits: &Waits, entity: u16, numbers: &[u64]) -> bool {
 }
 
 /// Removes the member at a place, from 0, of the delay list of an entity, if there is one.
-fn remove(waits: &mut Waits, entity: u16, place: usize) -> bool {
+fn remove(waits: &mut Waits, entity: u16, place: usize) -> bool
+    requires { entity < length waits.old.lists }
+    ensures { length waits.new.lists ≡ length waits.old.lists }
+{
     if waits.waiting(entity) <= place {
         return false;
     }
@@ -147,7 +155,9 @@ fn remove(waits: &mut Waits, entity: u16, place: usize) -> bool {
 }
 
 /// Which answers are right of lists on which 2, 4 and 1 wait for entity 3, 3 waits for entity 7, and one for anything.
-fn delay_lists(waits: &mut Waits) -> [bool; 8] {
+fn delay_lists(waits: &mut Waits) -> [bool; 8]
+    requires { 7 < length waits.old.lists }
+{
     [
         waits.len() == 5,
         waits.retrying() == 1,
@@ -162,10 +172,66 @@ fn delay_lists(waits: &mut Waits) -> [bool; 8] {
 
 #[test]
 fn delay_lists_keep_their_entities_apart(rt: HostRuntime) -> Result<(), Fail> {
-    let mut waits = Waits::new(rt.alloc());
-    delay(&mut waits, &[(3, 1, 0), (3, 2, 5), (7, 3, 1), (3, 4, 5)])?;
-    retry(&mut waits, &[(5, 2)])?;
+    let mut waits = Waits::new(rt.alloc(), 8)?;
+    waits.reserve_retry(1)?;
+    waits.push_retry(tx(5), 2);
+    wait(&mut waits, 3, 1, 0)?;
+    wait(&mut waits, 3, 2, 5)?;
+    wait(&mut waits, 7, 3, 1)?;
+    wait(&mut waits, 3, 4, 5)?;
     assert!(rt; first_wrong(&delay_lists(&mut waits)).is_none());
+    Ok(())
+}
+
+/// Passes the member to which the walk over a delay list has come, or takes it out; its number, if there is one.
+fn go_on(waits: &mut Waits, entity: u16, is_taken: bool) -> Option<u64>
+    requires { entity < length waits.old.lists }
+    ensures { length waits.new.lists ≡ length waits.old.lists }
+{
+    let waiter = waits.current(entity)?;
+    if is_taken {
+        waits.take(entity);
+    } else {
+        waits.pass(entity);
+    }
+    Some(waiter.number)
+}
+
+/// Which answers are right of a walk over a list with 1 to 5 that takes out 2 and 3 and ends at 5, and of the next walk.
+fn two_walks(waits: &mut Waits) -> [bool; 10]
+    requires { 1 < length waits.old.lists }
+{
+    waits.start_walk(1);
+    let first = [
+        go_on(waits, 1, false) == Some(1),
+        go_on(waits, 1, true) == Some(2),
+        go_on(waits, 1, true) == Some(3),
+        go_on(waits, 1, false) == Some(4),
+        is_list(waits, 1, &[1, 4, 5]),
+    ];
+    waits.start_walk(1);
+    [
+        first_wrong(&first).is_none(),
+        go_on(waits, 1, false) == Some(1),
+        go_on(waits, 1, false) == Some(4),
+        go_on(waits, 1, true) == Some(5),
+        go_on(waits, 1, true).is_none(),
+        is_list(waits, 1, &[1, 4]),
+        waits.waiter(1, 0) == Some(tx(1)),
+        remove(waits, 1, 0),
+        is_list(waits, 1, &[4]),
+        waits.len() == 1,
+    ]
+}
+
+#[test]
+fn a_walk_takes_out_whom_it_is_told(rt: HostRuntime) -> Result<(), Fail> {
+    let mut waits = Waits::new(rt.alloc(), 2)?;
+    for number in 1..6 {
+        waits.reserve_wait(1, 1)?;
+        waits.push_wait(1, tx(number), 0);
+    }
+    assert!(rt; first_wrong(&two_walks(&mut waits)).is_none());
     Ok(())
 }
 
@@ -179,7 +245,8 @@ fn wake(waits: &mut Waits, chain: &mut Cec) -> Result<bool, Memory> {
 #[test]
 fn waking_goes_in_order_and_behind_peers(rt: HostRuntime) -> Result<(), Fail> {
     let mut chain = chain_of(rt.alloc(), &[(1, 0, false), (2, 5, false)])?;
-    let mut waits = Waits::new(rt.alloc());
+    let mut waits = Waits::new(rt.alloc(), 0)?;
+    waits.reserve(3)?;
     retry(&mut waits, &[(3, 0), (4, 5), (5, 0)])?;
     let are_woken = wake(&mut waits, &mut chain)?;
     assert!(rt; are_woken && leave_in_order(&mut chain, &[2, 4, 1, 3, 5]));
@@ -187,8 +254,11 @@ fn waking_goes_in_order_and_behind_peers(rt: HostRuntime) -> Result<(), Fail> {
 }
 
 /// Puts a transaction at the front of a user chain, or at its back.
-fn link(chains: &mut UserChains, chain: u16, number: u64, is_front: bool) -> Result<(), Memory> {
-    chains.reserve(1)?;
+fn link(chains: &mut UserChains, chain: u16, number: u64, is_front: bool) -> Result<(), Memory>
+    requires { chain < length chains.old.lists }
+    ensures { length chains.new.lists ≡ length chains.old.lists }
+{
+    chains.reserve_link(chain, 1)?;
     if is_front {
         chains.push_front(chain, tx(number));
     } else {
@@ -197,17 +267,11 @@ fn link(chains: &mut UserChains, chain: u16, number: u64, is_front: bool) -> Res
     Ok(())
 }
 
-/// Chains that these joined in order. Of each: the chain, its number, and whether it went to the front.
-fn linked(alloc: Global, newcomers: &[(u16, u64, bool)]) -> Result<UserChains, Memory> {
-    let mut chains = UserChains::new(alloc);
-    for (chain, number, is_front) in newcomers {
-        link(&mut chains, *chain, *number, *is_front)?;
-    }
-    Ok(chains)
-}
-
 /// Whether the members of a user chain have these numbers, in the order in which they are unlinked.
-fn unlink_in_order(chains: &mut UserChains, chain: u16, numbers: &[u64]) -> bool {
+fn unlink_in_order(chains: &mut UserChains, chain: u16, numbers: &[u64]) -> bool
+    requires { chain < length chains.old.lists }
+    ensures { length chains.new.lists ≡ length chains.old.lists }
+{
     if chains.members(chain) != numbers.len() {
         return false;
     }
@@ -220,7 +284,9 @@ fn unlink_in_order(chains: &mut UserChains, chain: u16, numbers: &[u64]) -> bool
 }
 
 /// Which answers are right of chains of which 2 has the members 3, 1 and 2, and 6 the member 4.
-fn two_chains(chains: &mut UserChains) -> [bool; 6] {
+fn two_chains(chains: &mut UserChains) -> [bool; 6]
+    requires { 6 < length chains.old.lists }
+{
     [
         chains.len() == 4,
         chains.members(6) == 1,
@@ -233,13 +299,12 @@ fn two_chains(chains: &mut UserChains) -> [bool; 6] {
 
 #[test]
 fn user_chains_have_two_ends(rt: HostRuntime) -> Result<(), Fail> {
-    const NEWCOMERS: &[(u16, u64, bool)] = &[
-        (2, 1, false),
-        (2, 2, false),
-        (2, 3, true),
-        (6, 4, true),
-    ];
-    let mut chains = linked(rt.alloc(), NEWCOMERS)?;
+    let mut chains = UserChains::new(rt.alloc(), 7)?;
+    chains.reserve(4)?;
+    link(&mut chains, 2, 1, false)?;
+    link(&mut chains, 2, 2, false)?;
+    link(&mut chains, 2, 3, true)?;
+    link(&mut chains, 6, 4, true)?;
     assert!(rt; first_wrong(&two_chains(&mut chains)).is_none());
     Ok(())
 }
@@ -276,9 +341,9 @@ fn as_many_as_may_live_join_behind_their_peers_within_a_second(
 
 /// A retry list with as many as may live.
 fn crowded_retry_list(alloc: Global) -> Result<Waits, Memory> {
-    let mut waits = Waits::new(alloc);
+    let mut waits = Waits::new(alloc, 0)?;
     for number in 0..MOST {
-        waits.reserve(1)?;
+        waits.reserve_retry(1)?;
         waits.push_retry(tx(number), 0);
     }
     Ok(waits)
@@ -296,8 +361,10 @@ fn as_many_as_may_live_wake_within_a_second(rt: HostRuntime) -> Result<(), Fail>
 }
 
 /// User chains with as many as may live on one of them.
-fn crowded_user_chain(alloc: Global) -> Result<UserChains, Memory> {
-    let mut chains = UserChains::new(alloc);
+fn crowded_user_chain(alloc: Global) -> Result<UserChains, Memory>
+    ensures { IfOk result (λ c. length c.lists ≡ 2) }
+{
+    let mut chains = UserChains::new(alloc, 2)?;
     for number in 0..MOST {
         link(&mut chains, 1, number, false)?;
     }
@@ -305,7 +372,9 @@ fn crowded_user_chain(alloc: Global) -> Result<UserChains, Memory> {
 }
 
 /// Unlinks as many as may live from one chain; how many are left.
-fn unlink_all(chains: &mut UserChains) -> usize {
+fn unlink_all(chains: &mut UserChains) -> usize
+    requires { 1 < length chains.old.lists }
+{
     for _ in 0..MOST {
         let _ = chains.unlink(1);
     }

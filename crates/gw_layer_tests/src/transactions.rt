@@ -1,5 +1,7 @@
 //! Transactions: each call once, on three of them whose numbers and counts are worked out by hand.
 
+ghost use Rattle.std.specs.Prelude.{◌≡◌};
+
 use crate::models::first_wrong;
 use gw_object::Memory;
 use gw_transactions::{Transaction, Transactions};
@@ -7,7 +9,9 @@ use std::alloc::Global;
 use std::test::Fail;
 
 /// A transaction that is in a block, and tries to enter block 9.
-fn in_block(current: u16, set: u64) -> Transaction {
+fn in_block(current: u16, set: u64) -> Transaction
+    ensures { result.current ≡ current }
+{
     Transaction {
         current,
         next: 9,
@@ -19,7 +23,7 @@ fn in_block(current: u16, set: u64) -> Transaction {
 
 /// Which answers are right where a third transaction comes after the first of two was removed.
 fn third_after_the_first_left(alloc: Global) -> Result<[bool; 9], Memory> {
-    let mut transactions = Transactions::new(alloc);
+    let mut transactions = Transactions::new(alloc)?;
     transactions.reserve(2)?;
     let next_at_first = transactions.next_number();
     let first = transactions.insert(in_block(0, 1));
@@ -59,7 +63,7 @@ fn counts(transactions: &Transactions, live: usize, here: [usize; 3]) -> bool {
 /// Which answers are right where of two transactions in block 4 and one in block 5 the second goes to block 5, and then
 /// the first is removed.
 fn three_that_move(alloc: Global) -> Result<[bool; 6], Memory> {
-    let mut transactions = Transactions::new(alloc);
+    let mut transactions = Transactions::new(alloc)?;
     transactions.reserve(3)?;
     let at_first = counts(&transactions, 0, [0, 0, 0]);
     let first = transactions.insert(in_block(4, 1));

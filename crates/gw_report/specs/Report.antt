@@ -98,21 +98,21 @@ contents_text c =
 -- the facility of a number and a name: its entries and owner, its waiters, and its utilisation
 abbrev pub facility_line : State → ℕ → List ℕ → List ℕ
 facility_line s e name =
-    let facility = at idle s.goods.facilities e in
+    let facility = at idle s.entities.facilities e in
     codes "FACILITY " ++ name ++ ownership_text facility ++ waiting_for e s ++ codes " UTIL "
     ++ average_so_far facility.busy s ++ codes "\n"
 
 -- the storage of a number and a name: its capacity, what is inside, its waiters, and its average content
 abbrev pub storage_line : State → ℕ → List ℕ → List ℕ
 storage_line s e name =
-    let storage = at (vacant 0) s.goods.storages e in
+    let storage = at (vacant 0) s.entities.storages e in
     codes "STORAGE " ++ name ++ codes " CAP " ++ decimal storage.capacity ++ contents_text storage.contents
     ++ waiting_for e s ++ codes " AVG " ++ average_so_far storage.contents.time_sum s ++ codes "\n"
 
 -- the queue of a number and a name: what is inside, and its average content
 abbrev pub queue_line : State → ℕ → List ℕ → List ℕ
 queue_line s e name =
-    let queue = at empty s.goods.queues e in
+    let queue = at empty s.entities.queues e in
     codes "QUEUE " ++ name ++ contents_text queue ++ codes " AVG " ++ average_so_far queue.time_sum s ++ codes "\n"
 
 -- the line of an entity of this kind, by its number and its name
@@ -139,6 +139,6 @@ report_as status p =
 abbrev pub report_of : Progress → List ℕ
 report_of p = report_as (status_at p.state.ended) p
 
--- the report text of a job that met an error stop
+-- the report text of a job that is stuck at this error stop
 abbrev pub stopped_report_of : Stop → Progress → List ℕ
 stopped_report_of stop p = report_as (Stopped stop) p

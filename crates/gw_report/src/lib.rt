@@ -77,7 +77,9 @@ pub fn report(alloc: Global, sim: &Sim) -> Result<Vec<u8>, Memory>
     lines(alloc, sim, sim.status())
 }
 
-/// The report of a job that met an error stop: it stands as `Stopped`.
+/// The report of a job that is stuck at this error stop, as `Sim::step` answered it: it stands as `Stopped`. That the job
+/// is stuck is no condition of this call: no job of a checked object ever is (docs/machine.md, "Well-typed states"), so a
+/// call that asked for it could not be made.
 pub fn stopped_report(alloc: Global, sim: &Sim, stop: Stop) -> Result<Vec<u8>, Memory>
     ensures { IfOk result (λ text. text.items ≡ stopped_report_of stop sim.now) }
 {

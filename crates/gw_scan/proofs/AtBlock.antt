@@ -1,5 +1,5 @@
 -- What kinds say at a block: where its exits lead, and what the entities are that it names.
-use Rattle.std.proofs.Common.{◌≡◌, ℕ, zero, suc, ◌+◌, ◌<◌, List, [], ◌∷◌, length, Option, Some, None, refl, arith}
+use Rattle.std.proofs.Common.{◌≡◌, ℕ, zero, suc, ◌+◌, ◌<◌, List, [], ◌∷◌, length, Option, Some, None, refl, arith, sym, subst}
 use Rattle.std.specs.Prelude.{All, IsSomeAnd, IsTrue, unwrap_or}
 use Rattle.std.proofs.lemmas.Bool.{false≢true}
 use Rattle.std.proofs.lemmas.List.Elements.{All-head, All-tail}
@@ -38,6 +38,10 @@ below : (P : Kind → Type 0) (es : List Entity) (e : ℕ) → IsSomeAnd (kind_a
 below P [] e h = absurd h
 below P (x ∷ es) zero h = omega arith
 below P (x ∷ es) (suc e) h = omega (arith, below P es e h)
+
+-- what has a kind is one of the entities
+pub kind_below : (es : List Entity) (e : ℕ) (kind : Kind) → kind_at es e ≡ Some kind → e < length es
+kind_below es e kind is = below (λ k. Unit {0}) es e (subst (λ o. IsSomeAnd o (λ k. Unit {0})) (sym is) tt)
 
 -- the entity that a block names is there
 pub named_below : (es : List Entity) (n : Named) → All (IsEntity es) (n ∷ []) → n.entity < length es

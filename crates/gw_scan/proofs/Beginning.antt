@@ -1,11 +1,12 @@
 -- A machine in which nothing is scheduled.
-use Rattle.std.proofs.Common.{◌≡◌, ℕ, zero, suc, ◌+◌, pos, List, [], ◌∷◌, map, length, replicate, Option, None, refl, sym, ap, ◌∙◌, subst, arith}
-use Rattle.std.proofs.lemmas.List.{length-map}
+use Rattle.std.proofs.Common.{◌≡◌, ℕ, zero, suc, ◌+◌, pos, List, [], ◌∷◌, map, length, replicate, Option, None, refl, sym, ap, ◌∙◌, subst, arith, false}
+use Rattle.std.proofs.lemmas.List.{length-map, length-replicate}
+use Rattle.gw_chains.specs.declared.tx.Member.{Member}
 use Rattle.gw_object.specs.declared.parts.Entity.{Entity}
 use Rattle.gw_object.specs.declared.parts.Parts.{Parts}
 use Rattle.gw_num.specs.Table.{at}
-use Rattle.gw_num.proofs.Tables.{tabulate-replicate, sum_by-replicate}
-use Rattle.gw_transactions.specs.declared.Transaction.{Transaction}
+use Rattle.gw_num.proofs.Tables.{sum_by-replicate, at-replicate}
+use Rattle.gw_transactions.specs.Transactions.{LiveTransaction}
 use Rattle.gw_transactions.specs.Transactions.{IsSound}
 use Rattle.gw_entities.specs.Contents.{empty}
 use Rattle.gw_entities.specs.Facility.{idle}
@@ -14,17 +15,17 @@ use Rattle.gw_entities.specs.Storage.{vacant}
 use Rattle.gw_entities.specs.Table.{FacilityTable, StorageTable, QueueTable}
 use Rattle.gw_scan.specs.declared.machine.Machine.{Machine}
 use Rattle.gw_scan.specs.Start.{nothing}
-use Rattle.gw_scan.specs.Standing.{times, StandsOnce}
-use Rattle.gw_scan.specs.View.{state_of}
+use Rattle.gw_scan.specs.Residence.{occurrences, ResidesOnce}
+use Rattle.gw_scan.specs.View.{state_of, member_number}
 use Rattle.gw_scan.specs.Coherence.{Linked}
 
-pub no_transaction : (n : ℕ) → at {X = Option Transaction} None (None ∷ []) n ≡ None
+pub no_transaction : (n : ℕ) → at {X = Option LiveTransaction} None (None ∷ []) n ≡ None
 no_transaction zero = refl
 no_transaction (suc n) = refl
 
-pub stands-nothing : (p : Parts) (count : ℕ) (streams : List ℕ) → StandsOnce (nothing p count streams)
-stands-nothing p count streams n =
-    let none = sum_by-replicate [] (times n) (length p.entities) refl in
+pub resides-nothing : (p : Parts) (count : ℕ) (streams : List ℕ) → ResidesOnce (nothing p count streams)
+resides-nothing p count streams n =
+    let none = sum_by-replicate [] (occurrences n) (length p.entities) refl in
     rw (no_transaction n) (omega (arith, none))
 
 -- what the parts of such a machine are
@@ -39,34 +40,43 @@ pub record Begins (p : Parts) (n : ℕ) (ss : List ℕ) (m : Machine) : Type 0 w
   pub active : m.active ≡ None
   pub current_events : m.current_events.items ≡ []
   pub future_events : m.future_events.items ≡ []
-  pub waiters : m.waits.waiters ≡ []
+  pub lists : m.waits.lists ≡ replicate (length p.entities) []
+  pub retry : m.waits.retry ≡ []
+  pub stir : m.stir ≡ false
   pub facilities : m.facilities ≡ record { facilities = map (λ _. idle) p.entities; passed = 0 }
   pub storages : m.storages ≡ record { storages = map (λ (e : Entity). vacant (capacity_of e.kind)) p.entities; passed = 0 }
   pub queues : m.queues ≡ record { queues = map (λ _. empty) p.entities; passed = 0 }
   pub entries : m.entries.items ≡ replicate (length p.blocks + 1) 0
   pub ended : m.ended ≡ None
 
+-- lists with no member
+empties : (n : ℕ) → map (map member_number) (replicate n []) ≡ replicate n []
+empties zero = refl
+empties (suc n) = ap (λ xs. [] ∷ xs) (empties n)
+
 module _ (p : Parts) (count : ℕ) (streams : List ℕ) (m : Machine) (b : Begins p count streams m) where
   entities : length m.facilities.facilities ≡ length p.entities
   entities = ap (λ (f : FacilityTable). length f.facilities) b.facilities ∙ length-map p.entities (λ _. idle)
 
   delay_lists : (state_of m).lists.delay_lists ≡ replicate (length p.entities) []
-  delay_lists = rw b.waiters (tabulate-replicate [] (length m.facilities.facilities) ∙ ap (λ n. replicate n []) entities)
+  delay_lists = rw b.lists (empties (length p.entities))
 
   pub state-nothing : state_of m ≡ nothing p count streams
   state-nothing =
       let f = ap (λ (x : FacilityTable). x.facilities) b.facilities in
       let s = ap (λ (x : StorageTable). x.storages) b.storages in
       let q = ap (λ (x : QueueTable). x.queues) b.queues in
-      rw (delay_lists, f, s, q, b.clock, b.count, b.steps, b.streams, b.scheduled, b.transactions, b.active, b.current_events, b.future_events, b.entries, b.ended) refl
+      rw (delay_lists, f, s, q, b.clock, b.count, b.steps, b.streams, b.scheduled, b.transactions, b.active, b.current_events, b.future_events, b.retry, b.stir, b.entries, b.ended) refl
 
   pub linked-nothing : Linked m
   linked-nothing = record {
     active = rw b.active tt;
     current_events = rw b.current_events tt;
     future_events = rw b.future_events tt;
-    delay_lists = λ e below. rw b.waiters tt;
+    delay_lists = λ e below. rw (b.lists, at-replicate {X = List Member} [] (length p.entities) e) tt;
+    listed = rw b.lists (length-replicate (length p.entities) [] ∙ sym entities);
+    retry = rw b.retry tt;
     sound = b.sound;
-    stands = subst StandsOnce (sym state-nothing) (stands-nothing p count streams);
+    resides = subst ResidesOnce (sym state-nothing) (resides-nothing p count streams);
     timed = record { facilities = rw (b.facilities, b.clock) refl; storages = rw (b.storages, b.clock) refl; queues = rw (b.queues, b.clock) refl };
   }

@@ -7,12 +7,13 @@ use Rattle.gw_chains.specs.declared.tx.Member.{Member}
 use Rattle.gw_chains.specs.declared.tx.Event.{Event}
 use Rattle.gw_transactions.specs.declared.Transaction.{Transaction}
 use Rattle.gw_num.specs.Table.{at, put}
-use Rattle.gw_transactions.specs.Transactions.{Population, Holds, IsSound}
+use Rattle.gw_transactions.specs.Transactions.{LiveTransaction, Population, put_attributes, Holds, IsSound}
 use Rattle.gw_num.proofs.Tables.{at-put, at-put_other}
 use Rattle.gw_scan.specs.State.{priority_in, priority_of}
-use Rattle.gw_scan.specs.Standing.{times}
+use Rattle.gw_scan.specs.Residence.{occurrences}
 use Rattle.gw_scan.specs.Coherence.{IsRanked, IsHeld, Carries, Every, Others}
-use Rattle.gw_scan.proofs.Standings.{same_number}
+use Rattle.gw_scan.proofs.Residence.{same_number}
+use Rattle.gw_scan.proofs.Attributes.{priority-attributes}
 
 pub active_carried : (p q : Population) → Carries Every p q → (a : Option Tx) → IfSome a (Holds p) → IfSome a (Holds q)
 active_carried p q c None h = tt
@@ -33,8 +34,8 @@ pub every : {A : Type 0} (f : A → ℕ) (xs : List A) → AllByRecursion (λ x.
 every f [] = tt
 every f (x ∷ xs) = (tt, every f xs)
 
--- a number that doesn't stand in a list is none of its members'
-pub others : {A : Type 0} (f : A → ℕ) (n : ℕ) (xs : List A) → times n (map f xs) ≡ 0 → AllByRecursion (λ x. Others n (f x)) xs
+-- a number that doesn't occur in a list is none of its members'
+pub others : {A : Type 0} (f : A → ℕ) (n : ℕ) (xs : List A) → occurrences n (map f xs) ≡ 0 → AllByRecursion (λ x. Others n (f x)) xs
 others f n [] h = tt
 others f n (x ∷ xs) h = (
   (λ e. absurd (omega (arith, same_number (f x) n e, h))),
@@ -43,25 +44,18 @@ others f n (x ∷ xs) h = (
 
 -- WHAT EACH CALL CARRIES
 
--- nothing but room changed
-pub carries-same : (p q : Population) → q.txs ≡ p.txs → q.places ≡ p.places → Carries Every p q
-carries-same p q ts ps = record {
-  held = λ h _ is. ap (λ xs. at None xs h.number) ps ∙ is;
-  rank = λ h _ is. ap (λ xs. priority_of xs h.number) ts;
-}
-
 -- one transaction was written, with the priority that it had
-pub carries-set : (p q : Population) (n : ℕ) (t : Transaction) → q.txs ≡ put None p.txs n (Some t) → q.places ≡ p.places → priority_of p.txs n ≡ t.priority → Carries Every p q
+pub carries-set : (p q : Population) (n : ℕ) (t : Transaction) → q.txs ≡ put_attributes n t p.txs → q.places ≡ p.places → priority_of p.txs n ≡ t.priority → Carries Every p q
 carries-set p q n t ts ps pr = record {
   held = λ h _ is. ap (λ xs. at None xs h.number) ps ∙ is;
   rank = λ h _ is. elim (cases_eq h.number n) [
-    | inl e ↦ ap (λ xs. priority_of xs h.number) ts ∙ ap (priority_of (put None p.txs n (Some t))) e ∙ ap priority_in (at-put None p.txs n (Some t)) ∙ sym (ap (priority_of p.txs) e ∙ pr)
-    | inr e ↦ ap (λ xs. priority_of xs h.number) ts ∙ ap priority_in (at-put_other None p.txs n h.number (Some t) e)
+    | inl e ↦ ap (λ xs. priority_of xs h.number) ts ∙ ap (priority_of (put_attributes n t p.txs)) e ∙ ap priority_in (at-put None p.txs n _) ∙ priority-attributes t (at None p.txs n) pr ∙ sym (ap (priority_of p.txs) e)
+    | inr e ↦ ap (λ xs. priority_of xs h.number) ts ∙ ap priority_in (at-put_other None p.txs n h.number _ e)
   ];
 }
 
 -- one was made
-pub carries-insert : (p q : Population) (t : Transaction) (place : ℕ) → IsSound p → q.txs ≡ put None p.txs (length p.txs) (Some t) → q.places ≡ put None p.places (length p.txs) (Some place) → Carries Every p q
+pub carries-insert : (p q : Population) (t : LiveTransaction) (place : ℕ) → IsSound p → q.txs ≡ put None p.txs (length p.txs) (Some t) → q.places ≡ put None p.places (length p.txs) (Some place) → Carries Every p q
 carries-insert p q t place sound ts ps = record {
   held = λ h _ is. ap (λ xs. at None xs h.number) ps ∙ at-put_other None p.places (length p.txs) h.number (Some place) (λ e. absurd (omega (arith, sound.below h.number h.place is, e))) ∙ is;
   rank = λ h _ is. ap (λ xs. priority_of xs h.number) ts ∙ ap priority_in (at-put_other None p.txs (length p.txs) h.number (Some t) (λ e. absurd (omega (arith, sound.below h.number h.place is, e))));

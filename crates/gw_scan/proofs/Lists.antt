@@ -3,14 +3,14 @@ use Rattle.std.proofs.Common.{◌≡◌, ℕ, ◌+◌, ℤ, List, [], ◌∷◌,
 use Rattle.std.specs.List.{AllByRecursion}
 use Rattle.std.specs.Prelude.{int_le}
 use Rattle.gw_chains.specs.Chain.{placed_behind, behind, all_behind, due, later}
-use Rattle.gw_scan.specs.Standing.{times}
+use Rattle.gw_scan.specs.Residence.{occurrences}
 
 module _ {A : Type 0} where
   -- WHAT HOLDS OF ALL
 
-  pub all_placed : (P : A → Type 0) (passes : A → Bool) (x : A) (xs : List A) → P x → AllByRecursion P xs → AllByRecursion P (placed_behind passes x xs)
-  all_placed P passes x [] p ps = (p, tt)
-  all_placed P passes x (y ∷ ys) p ps = all_if P (passes y) (y ∷ placed_behind passes x ys) (x ∷ y ∷ ys) (ps.0, all_placed P passes x ys p ps.1) (p, ps)
+  pub all_placed : (P : A → Type 0) (enters_and_falls : A → Bool) (x : A) (xs : List A) → P x → AllByRecursion P xs → AllByRecursion P (placed_behind enters_and_falls x xs)
+  all_placed P enters_and_falls x [] p ps = (p, tt)
+  all_placed P enters_and_falls x (y ∷ ys) p ps = all_if P (enters_and_falls y) (y ∷ placed_behind enters_and_falls x ys) (x ∷ y ∷ ys) (ps.0, all_placed P enters_and_falls x ys p ps.1) (p, ps)
     where
       all_if : (P : A → Type 0) (b : Bool) (xs ys : List A) → AllByRecursion P xs → AllByRecursion P ys → AllByRecursion P (if b then xs else ys)
       all_if P true xs ys p q = p
@@ -47,37 +47,37 @@ module _ {A : Type 0} where
 
   -- HOW OFTEN A NUMBER STANDS
 
-  pub times-placed : (n : ℕ) (f : A → ℕ) (passes : A → Bool) (x : A) (xs : List A) → times n (map f (placed_behind passes x xs)) ≡ times n (f x ∷ map f xs)
-  times-placed n f passes x [] = refl
-  times-placed n f passes x (y ∷ ys) = by_test (passes y) (times-placed n f passes x ys)
+  pub occurrences-placed : (n : ℕ) (f : A → ℕ) (enters_and_falls : A → Bool) (x : A) (xs : List A) → occurrences n (map f (placed_behind enters_and_falls x xs)) ≡ occurrences n (f x ∷ map f xs)
+  occurrences-placed n f enters_and_falls x [] = refl
+  occurrences-placed n f enters_and_falls x (y ∷ ys) = by_test (enters_and_falls y) (occurrences-placed n f enters_and_falls x ys)
     where
-      by_test : (b : Bool) → times n (map f (placed_behind passes x ys)) ≡ times n (f x ∷ map f ys) → times n (map f (if b then y ∷ placed_behind passes x ys else x ∷ y ∷ ys)) ≡ times n (f x ∷ f y ∷ map f ys)
+      by_test : (b : Bool) → occurrences n (map f (placed_behind enters_and_falls x ys)) ≡ occurrences n (f x ∷ map f ys) → occurrences n (map f (if b then y ∷ placed_behind enters_and_falls x ys else x ∷ y ∷ ys)) ≡ occurrences n (f x ∷ f y ∷ map f ys)
       by_test true e = omega (arith, e)
       by_test false e = refl
 
-  pub times-all_behind : (n : ℕ) (f : A → ℕ) (priority : A → ℤ) (xs ys : List A) → times n (map f (all_behind priority xs ys)) ≡ times n (map f xs) + times n (map f ys)
-  times-all_behind n f priority [] ys = omega arith
-  times-all_behind n f priority (x ∷ xs) ys =
-      let e = times-all_behind n f priority xs (behind priority x ys) in
-      let g = times-placed n f (λ y. int_le (priority x) (priority y)) x ys in
+  pub occurrences-all_behind : (n : ℕ) (f : A → ℕ) (priority : A → ℤ) (xs ys : List A) → occurrences n (map f (all_behind priority xs ys)) ≡ occurrences n (map f xs) + occurrences n (map f ys)
+  occurrences-all_behind n f priority [] ys = omega arith
+  occurrences-all_behind n f priority (x ∷ xs) ys =
+      let e = occurrences-all_behind n f priority xs (behind priority x ys) in
+      let g = occurrences-placed n f (λ y. int_le (priority x) (priority y)) x ys in
       omega (arith, e, g)
 
-  pub times-due : (n : ℕ) (f : A → ℕ) (time : A → ℤ) (now : ℤ) (xs : List A) → times n (map f (due time now xs)) + times n (map f (later time now xs)) ≡ times n (map f xs)
-  times-due n f time now [] = refl
-  times-due n f time now (x ∷ xs) = by_test (int_le (time x) now) (times-due n f time now xs)
+  pub occurrences-due : (n : ℕ) (f : A → ℕ) (time : A → ℤ) (now : ℤ) (xs : List A) → occurrences n (map f (due time now xs)) + occurrences n (map f (later time now xs)) ≡ occurrences n (map f xs)
+  occurrences-due n f time now [] = refl
+  occurrences-due n f time now (x ∷ xs) = by_test (int_le (time x) now) (occurrences-due n f time now xs)
     where
-      by_test : (b : Bool) → times n (map f (due time now xs)) + times n (map f (later time now xs)) ≡ times n (map f xs) → times n (map f (if b then x ∷ due time now xs else [])) + times n (map f (if b then later time now xs else x ∷ xs)) ≡ times n (f x ∷ map f xs)
+      by_test : (b : Bool) → occurrences n (map f (due time now xs)) + occurrences n (map f (later time now xs)) ≡ occurrences n (map f xs) → occurrences n (map f (if b then x ∷ due time now xs else [])) + occurrences n (map f (if b then later time now xs else x ∷ xs)) ≡ occurrences n (f x ∷ map f xs)
       by_test true e = omega (arith, e)
       by_test false e = omega arith
 
 module _ {A B : Type 0} where
   -- THE SAME ORDER SEEN THROUGH A FUNCTION
 
-  pub map-placed : (f : A → B) (passes : A → Bool) (also : B → Bool) (x : A) (xs : List A) → AllByRecursion (λ y. passes y ≡ also (f y)) xs → map f (placed_behind passes x xs) ≡ placed_behind also (f x) (map f xs)
-  map-placed f passes also x [] h = refl
-  map-placed f passes also x (y ∷ ys) h = by_test (passes y) (also (f y)) h.0 (map-placed f passes also x ys h.1)
+  pub map-placed : (f : A → B) (enters_and_falls : A → Bool) (also : B → Bool) (x : A) (xs : List A) → AllByRecursion (λ y. enters_and_falls y ≡ also (f y)) xs → map f (placed_behind enters_and_falls x xs) ≡ placed_behind also (f x) (map f xs)
+  map-placed f enters_and_falls also x [] h = refl
+  map-placed f enters_and_falls also x (y ∷ ys) h = by_test (enters_and_falls y) (also (f y)) h.0 (map-placed f enters_and_falls also x ys h.1)
     where
-      by_test : (b c : Bool) → b ≡ c → map f (placed_behind passes x ys) ≡ placed_behind also (f x) (map f ys) → map f (if b then y ∷ placed_behind passes x ys else x ∷ y ∷ ys) ≡ (if c then f y ∷ placed_behind also (f x) (map f ys) else f x ∷ f y ∷ map f ys)
+      by_test : (b c : Bool) → b ≡ c → map f (placed_behind enters_and_falls x ys) ≡ placed_behind also (f x) (map f ys) → map f (if b then y ∷ placed_behind enters_and_falls x ys else x ∷ y ∷ ys) ≡ (if c then f y ∷ placed_behind also (f x) (map f ys) else f x ∷ f y ∷ map f ys)
       by_test true true e g = ap (λ zs. f y ∷ zs) g
       by_test false false e g = refl
       by_test true false e g = absurd cc

@@ -1,5 +1,5 @@
 -- The active transaction at its block, and where it goes.
-use Rattle.std.proofs.Common.{◌≡◌, ℕ, List, [], ◌∷◌, Option, Some, None, Bool, true, false, not, refl, sym, ap, ◌∙◌, subst, arith}
+use Rattle.std.proofs.Common.{◌≡◌, ℕ, suc, ◌≤◌, List, [], ◌∷◌, Option, Some, None, Bool, true, false, not, refl, ap, ◌∙◌, subst, arith}
 use Rattle.std.specs.Prelude.{IsSomeAnd, Contains, All}
 use Rattle.std.proofs.lemmas.List.Elements.{All-head}
 use Rattle.gw_object.specs.declared.parts.Block.{Block}
@@ -14,14 +14,17 @@ use Rattle.gw_num.specs.Table.{at}
 use Rattle.gw_transactions.specs.declared.Transaction.{Transaction}
 use Rattle.gw_entities.specs.declared.stop.Stop.TheVariants.{NoBlock}
 use Rattle.gw_entities.specs.Facility.{idle, is_owned_by}
-use Rattle.gw_scan.specs.Outcome.{Outcome}
-use Rattle.gw_scan.specs.State.{Goods, State, may_enter}
+use Rattle.gw_scan.specs.declared.placement.Placement.{Placement}
+use Rattle.gw_scan.specs.declared.placement.Placement.TheVariants.{StaysActive}
+use Rattle.gw_scan.specs.Placing.{placed}
+use Rattle.gw_scan.specs.Outcome.{Outcome, Gives}
+use Rattle.gw_scan.specs.State.{EntityStates, State, may_enter}
 use Rattle.gw_scan.specs.Changes.{entered}
-use Rattle.gw_scan.specs.Blocks.{leads}
-use Rattle.gw_scan.specs.Typing.{row_of, lists_facility, WellTyped}
-use Rattle.gw_scan.proofs.Agreeing.{Trade}
-use Rattle.gw_scan.proofs.Traces.{IsAt, IsPresent, present, Change, Goes, Trace, Done, Then}
-use Rattle.gw_scan.proofs.Unstopped.{Safe, safe_test}
+use Rattle.gw_scan.specs.Blocks.{leads, then_placed}
+use Rattle.gw_scan.specs.Typing.{lists_facility, WellTyped}
+use Rattle.gw_scan.proofs.Agreeing.{Balanced}
+use Rattle.gw_scan.proofs.Traces.{IsAt, present, Rested, credited, Change, Goes, Trace, Done, Then, trace_on, placed_traced, its_row}
+use Rattle.gw_scan.proofs.Unstopped.{Safe, safe_bind, safe_test}
 
 -- the active transaction of a well-typed state is at a block, in a row, and what kinds and flow say of the two
 pub record Acts (p : Parts) (s : State) (n : ℕ) (t : Transaction) (block : Block) (row : Row) : Type 0 where
@@ -36,7 +39,7 @@ enterable : (o : Option Block) → IsSomeAnd o (λ block. is_generate (Some bloc
 enterable None h = absurd h
 enterable (Some block) h = ap not h
 
-pub safe_leads : (p : Parts) (P : State → Type 0) (b : ℕ) (o : Outcome State) → MayBeEntered p b → Safe P o → Safe P (leads p.blocks b o)
+pub safe_leads : {A : Type 0} (p : Parts) (P : A → Type 0) (b : ℕ) (o : Outcome A) → MayBeEntered p b → Safe P o → Safe P (leads p.blocks b o)
 safe_leads p P b o may h = safe_test P (may_enter (block_at p.blocks b)) NoBlock o (enterable (block_at p.blocks b) may) h
 
 -- the first and the second edge of a block
@@ -52,20 +55,53 @@ the_rule p b code holds block row is pass =
     let one : Rule = record { code = code; holds = holds } in
     All-head (λ (rule : Rule). rule.holds ≡ true) one [] (subst (All (λ (rule : Rule). rule.holds ≡ true)) is pass.each_rule)
 
-module _ (p : Parts) (s : State) (n : ℕ) (t : Transaction) (block : Block) (row : Row) (acts : Acts p s n t block row) where
-  -- it goes along an edge, from a state with the same transactions and lists
-  pub goes : (m : State) (u : Transaction) (to : ℕ) (state : Row) (h : Goods) → m.transactions ≡ s.transactions → m.lists ≡ s.lists → m.goods ≡ s.goods → Contains (edges p (own_table p) t.next block row) (move to state) → MayBeEntered p to → Trade p n (Some row) (Some state) s.goods h
-      → Change p m (record (entered n u to m) { goods = h })
-  goes m u to state h ts ls gs along may trade =
-      Goes n to t u block row state h
-      (subst (λ xs. IsAt p xs n t block row) (sym ts) acts.is)
-      (subst (λ l. IsPresent l n) (sym ls) (present s.lists n acts.active))
-      along may (subst (λ g. Trade p n (Some row) (Some state) g h) (sym gs) trade)
+-- what a state comes to in a step, from so many entries and arrivals: at most one more of each
+pub record Reaches (p : Parts) (k : ℕ) (s t : State) : Type 0 where
+  pub entries : ℕ
+  pub arrivals : ℕ
+  pub trace : Trace p k k s entries arrivals t
+  pub few_entries : entries ≤ suc k
+  pub few_arrivals : arrivals ≤ suc k
 
-  -- and nothing else happens
-  pub just_goes : (to : ℕ) (state : Row) (h : Goods) → Contains (edges p (own_table p) t.next block row) (move to state) → MayBeEntered p to → Trade p n (Some row) (Some state) s.goods h → Trace p s (record (entered n t to s) { goods = h })
-  just_goes to state h along may trade = Then (goes s t to state h refl refl refl along may trade) Done
+-- what entering comes to, and that the active transaction n may then be placed so
+pub record Enters (p : Parts) (k : ℕ) (s : State) (n : ℕ) (e : State × Placement) : Type 0 where
+  pub entries : ℕ
+  pub arrivals : ℕ
+  pub trace : Trace p k k s entries arrivals e.0
+  pub may : Rested p n e.1 e.0
+  pub few_entries : credited e.1 entries ≤ suc k
+  pub few_arrivals : arrivals ≤ suc k
+
+-- it entered, and stays active
+pub entered_once : (p : Parts) (k : ℕ) (s : State) (n : ℕ) (t : State) → Trace p k k s (suc k) k t → Enters p k s n (t, StaysActive)
+entered_once p k s n t xs = record { entries = suc k; arrivals = k; trace = xs; may = tt; few_entries = omega arith; few_arrivals = omega arith }
+
+-- then it is placed
+pub safe_placed : (p : Parts) (k : ℕ) (s : State) (n : ℕ) (o : Outcome (State × Placement)) → Safe (Enters p k s n) o → Safe (Reaches p k s) (then_placed n o)
+safe_placed p k s n o h =
+    safe_bind (Enters p k s n) (Reaches p k s) o (λ e. Gives (placed n e.1 e.0)) h
+    (λ e x. record {
+      entries = credited e.1 x.entries;
+      arrivals = x.arrivals;
+      trace = trace_on p x.trace (placed_traced p x.entries x.arrivals n e.1 e.0 x.may);
+      few_entries = x.few_entries;
+      few_arrivals = x.few_arrivals;
+    })
+
+-- it was refused
+pub refused : (p : Parts) (k : ℕ) (s : State) (n : ℕ) (placement : Placement) → Rested p n placement s → credited placement k ≤ suc k → Reaches p k s (placed n placement s)
+refused p k s n placement may few = record { entries = credited placement k; arrivals = k; trace = placed_traced p k k n placement s may; few_entries = few; few_arrivals = omega arith }
+
+module _ (p : Parts) (s : State) (n : ℕ) (t : Transaction) (block : Block) (row : Row) (acts : Acts p s n t block row) where
+  -- it goes along an edge
+  pub goes : (en ar : ℕ) (u : Transaction) (to : ℕ) (state : Row) (h : EntityStates) → u.next ≡ t.next → Contains (edges p (own_table p) t.next block row) (move to state) → MayBeEntered p to → Balanced p n (Some row) (Some state) s.entities h
+      → Change p en ar s (suc en) ar (record (entered n u to s) { entities = h })
+  goes en ar u to state h same along may balance = Goes n to t u block row state h acts.is same (present s.lists n acts.active) along may balance
+
+  -- and stays active, and nothing else happens
+  pub just_goes : (k : ℕ) (to : ℕ) (state : Row) (h : EntityStates) → Contains (edges p (own_table p) t.next block row) (move to state) → MayBeEntered p to → Balanced p n (Some row) (Some state) s.entities h → Enters p k s n (record (entered n t to s) { entities = h }, StaysActive)
+  just_goes k to state h along may balance = entered_once p k s n _ (Then (goes k k t to state h refl along may balance) Done)
 
   -- what its row says of an owner, and what is inside at least
-  pub owner_as : (f : ℕ) → is_owned_by n (at idle s.goods.facilities f) ≡ owns row f
-  owner_as f = acts.typed.owned f n ∙ ap (λ t. lists_facility f (row_of p t)) acts.is.found ∙ ap (lists_facility f) acts.is.row_is
+  pub owner_as : (f : ℕ) → is_owned_by n (at idle s.entities.facilities f) ≡ owns row f
+  owner_as f = acts.typed.owned f n ∙ ap (lists_facility f) (its_row p s.transactions n t block row acts.is)

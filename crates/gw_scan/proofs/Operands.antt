@@ -25,13 +25,14 @@ first_fits None h = tt
 first_fits (Some time) h = grind (arith, ints)
 
 -- units that a block moves, of the entity that it names
-good_units : (p : Parts) (needed : EntityKind) (u : Units) → All (IsEntity p.entities) (needs needed u.entity ∷ []) → IsTrue (are_units u.number) → UnitsFit (length p.entities) u
+pub good_units : (p : Parts) (needed : EntityKind) (u : Units) → All (IsEntity p.entities) (needs needed u.entity ∷ []) → IsTrue (are_units u.number) → UnitsFit (length p.entities) u
 good_units p needed u named good = record {
   entity = named_below p.entities (needs needed u.entity) named;
+  some = leb-true 1 u.number (and_parts (nat_le 1 u.number) (nat_le u.number (2 ^ 20)) good).0;
   number = leb-true u.number (2 ^ 20) (and_parts (nat_le 1 u.number) (nat_le u.number (2 ^ 20)) good).1;
 }
 
-operands_fit : (p : Parts) (b : ℕ) (block : Block) → BlockHolds p b block → OperandsFit (length p.entities) block
+pub operands_fit : (p : Parts) (b : ℕ) (block : Block) → BlockHolds p b block → OperandsFit (length p.entities) block
 operands_fit p b (blocks.Generate g) h = first_fits g.first (and_parts (is_none_or g.first (int_le (pos 0))) (is_none_or g.limit (nat_lt 0)) h.constants).0
 operands_fit p b (blocks.Terminate by) h = tt
 operands_fit p b (blocks.Advance time) h = tt

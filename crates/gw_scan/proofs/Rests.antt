@@ -3,15 +3,14 @@ use Rattle.std.proofs.Common.{◌≡◌, ◌≢◌, ◌+◌, ℕ, ℤ, zero, suc
 use Rattle.gw_object.specs.declared.parts.Block.{Block}
 use Rattle.gw_entities.specs.declared.stop.Stop.{Stop}
 use Rattle.gw_scan.specs.Outcome.{Outcome, Gives, EndsBy, StopsBy, ◌>>=◌, stop_in}
-use Rattle.gw_scan.specs.State.{State, with_stream}
+use Rattle.gw_scan.specs.State.{State, with_streams}
 use Rattle.gw_scan.specs.Changes.{arrives}
 use Rattle.gw_scan.specs.Step.{step, stepped, within_budget, scan}
 use Rattle.gw_scan.specs.Start.{nothing, first_moment, first_arrival, first_arrivals, started}
 use Rattle.gw_scan.specs.Job.{Job, Step, Alone, after, then_step, start_of, stop_of}
 use Rattle.gw_scan.specs.Laws.{Rest, AllComeToRest}
-use Rattle.gw_scan.proofs.Steps.{step-scan}
+use Rattle.gw_scan.proofs.Steps.{step-scan, by_budget, some_is}
 use Rattle.gw_scan.proofs.Starting.{by_arrival}
-use Rattle.gw_scan.proofs.Reached.{by_budget, some_is}
 use Rattle.gw_scan.proofs.LeftByEnds.{ends_are_final, steps_are_counted}
 
 -- THE START HAS NO STEPS
@@ -26,7 +25,7 @@ along s t (Gives u) e h = h ∙ e
 along s t (EndsBy end) e h = tt
 along s t (StopsBy stop) e h = tt
 
-timed : (s : State) (o : Outcome (ℤ × ℕ)) (f : ℤ × ℕ → State) → ((d : ℤ × ℕ) → (f d).steps ≡ s.steps) → KeepsSteps s (o >>= λ d. Gives (f d))
+timed : (s : State) (o : Outcome (ℤ × List ℕ)) (f : ℤ × List ℕ → State) → ((d : ℤ × List ℕ) → (f d).steps ≡ s.steps) → KeepsSteps s (o >>= λ d. Gives (f d))
 timed s (Gives d) f h = h d
 timed s (EndsBy end) f h = tt
 timed s (StopsBy stop) f h = tt
@@ -34,7 +33,7 @@ timed s (StopsBy stop) f h = tt
 one_arrival : (b : ℕ) (block : Block) (s : State) → KeepsSteps s (first_arrival b block s)
 one_arrival b block s =
     by_arrival (λ x. KeepsSteps s (first_arrival b x s))
-    (λ g. timed s (first_moment g.first g.interval s) (λ d. arrives b g.priority d.0 (with_stream d.1 s)) (λ d. refl))
+    (λ g. timed s (first_moment g s g.first) (λ d. arrives b g.priority d.0 (with_streams d.1 s)) (λ d. refl))
     (λ x none. subst (KeepsSteps s) (sym (none b s)) refl)
     block
 

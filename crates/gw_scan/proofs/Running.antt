@@ -1,5 +1,5 @@
 -- A running sim has a running machine.
-use Rattle.std.proofs.Common.{◌≡◌, ℕ, ◌^◌, ◌<◌, length, None, sym, ap, ◌∙◌, subst, arith}
+use Rattle.std.proofs.Common.{[], ◌≡◌, ℕ, ◌^◌, ◌<◌, length, None, sym, ap, ◌∙◌, subst, arith}
 use Rattle.gw_scan.specs.declared.machine.Machine.{Machine}
 use Rattle.gw_scan.specs.State.{delay_list}
 use Rattle.gw_scan.specs.Numbers.{IsWithin}
@@ -7,7 +7,7 @@ use Rattle.gw_scan.specs.Operands.{BlocksFit}
 use Rattle.gw_scan.specs.Job.{Job, IsReached}
 use Rattle.gw_scan.specs.View.{state_of, member_number}
 use Rattle.gw_scan.specs.Coherence.{Linked, IsRunning}
-use Rattle.gw_chains.specs.Lists.{list_of}
+use Rattle.gw_num.specs.Table.{at}
 use Rattle.std.proofs.lemmas.List.{length-map}
 use Rattle.gw_scan.proofs.Operands.{blocks_fit}
 use Rattle.gw_scan.proofs.Changes.{delay_list-at}
@@ -28,7 +28,7 @@ running j m r linked runs =
       runs = r.bounded.counts runs;
     }
 
-pub waiting-of : (j : Job) (m : Machine) (e : ℕ) → IsReached (record { job = j; state = state_of m }) → e < length j.parts.entities → length (list_of e m.waits.waiters) ≡ length (delay_list e (state_of m))
+pub waiting-of : (j : Job) (m : Machine) (e : ℕ) → IsReached (record { job = j; state = state_of m }) → e < length j.parts.entities → length (at [] m.waits.lists e) ≡ length (delay_list e (state_of m))
 waiting-of j m e r below =
     let entities : length m.facilities.facilities ≡ length j.parts.entities = r.bounded.numbers.whole.facilities in
-    sym (ap length (delay_list-at m e (omega (arith, entities, below))) ∙ length-map (list_of e m.waits.waiters) member_number)
+    sym (ap length (delay_list-at m e) ∙ length-map (at [] m.waits.lists e) member_number)

@@ -9,20 +9,11 @@ use Rattle.gw_scan.specs.Outcome.{Outcome, Gives, EndsBy, ◌>>=◌}
 use Rattle.gw_scan.specs.State.{State}
 use Rattle.gw_scan.specs.Start.{first_arrival, first_arrivals}
 use Rattle.gw_scan.specs.Makes.{Schedules}
+use Rattle.gw_scan.proofs.PlainBlocks.{by_block}
 
 -- a block by whether a first arrival is scheduled at it
 pub by_arrival : (P : Block → Type 0) → ((g : Generate) → P (blocks.Generate g)) → ((block : Block) → ((b : ℕ) (s : State) → first_arrival b block s ≡ Gives s) → P block) → (block : Block) → P block
-by_arrival P arrives none (blocks.Generate g) = arrives g
-by_arrival P arrives none (blocks.Terminate by) = none (blocks.Terminate by) (λ b s. refl)
-by_arrival P arrives none (blocks.Advance time) = none (blocks.Advance time) (λ b s. refl)
-by_arrival P arrives none (blocks.Seize f) = none (blocks.Seize f) (λ b s. refl)
-by_arrival P arrives none (blocks.Release f) = none (blocks.Release f) (λ b s. refl)
-by_arrival P arrives none (blocks.Enter u) = none (blocks.Enter u) (λ b s. refl)
-by_arrival P arrives none (blocks.Leave u) = none (blocks.Leave u) (λ b s. refl)
-by_arrival P arrives none (blocks.Queue u) = none (blocks.Queue u) (λ b s. refl)
-by_arrival P arrives none (blocks.Depart u) = none (blocks.Depart u) (λ b s. refl)
-by_arrival P arrives none (blocks.Transfer target) = none (blocks.Transfer target) (λ b s. refl)
-by_arrival P arrives none (blocks.TransferByFraction f) = none (blocks.TransferByFraction f) (λ b s. refl)
+by_arrival P arrives none = by_block P arrives (λ f. none (blocks.Seize f) (λ b s. refl)) (λ u. none (blocks.Enter u) (λ b s. refl)) (λ block plain. none block plain.arrives)
 
 add_one : (i : ℕ) → i + 1 ≡ suc i
 add_one i = omega arith

@@ -9,7 +9,7 @@ use Rattle.gw_scan.specs.Outcome.{stop_in}
 use Rattle.gw_scan.specs.State.{State}
 use Rattle.gw_scan.specs.Step.{step, scan}
 use Rattle.gw_scan.specs.Start.{start}
-use Rattle.gw_scan.specs.Numbers.{IsWithin}
+use Rattle.gw_scan.specs.Numbers.{IsWithin, AreWithinLimits, AreFewLive}
 
 -- what a job runs: the parts of its object, the seeds of the 16 streams, the termination count, and at most how many steps
 pub record Job : Type 0 where
@@ -92,6 +92,8 @@ pub record IsBounded (j : Job) (s : State) : Type 0 where
   pub counts : s.ended ≡ None → pos 0 <ℤ s.count
   -- a step makes one entry or one waiter at most, and one arrival
   pub numbers : IsWithin (length j.parts.blocks) (length j.parts.entities) s.steps s.steps s
+  pub limits : AreWithinLimits j.parts.blocks s.scheduled
+  pub live : AreFewLive s.transactions
 
 -- a state that its job reaches: the lone run has it after as many steps
 pub record IsReached (p : Progress) : Type 0 where

@@ -3,6 +3,7 @@ pub mod State
 pub mod Outcome
 pub mod Times
 pub mod Changes
+pub mod Placing
 pub mod Blocks
 pub mod Step
 pub mod Start
@@ -10,7 +11,8 @@ pub mod Numbers
 pub mod Operands
 pub mod Job
 pub mod Laws
-pub mod Standing
+pub mod Residence
+pub mod Places
 pub mod Typing
 pub mod Safety
 -- WHAT THE CALLS ANSWER
@@ -20,5 +22,6 @@ pub mod Answers
 pub mod View
 pub mod Coherence
 pub mod Makes
+pub mod Drawing
 pub mod JobView
 pub mod SimView

@@ -5,9 +5,10 @@ use Rattle.gw_object.specs.declared.parts.Block.{Block}
 use Rattle.gw_object.specs.declared.parts.Block.TheVariants as blocks
 use Rattle.gw_kinds.specs.Kinds.{block_at}
 
--- one of so many entities, and at most 2^20 units
+-- one of so many entities, and 1 to 2^20 units
 pub record UnitsFit (entities : ℕ) (u : Units) : Type 0 where
   pub entity : u.entity < entities
+  pub some : 0 < u.number
   pub number : u.number ≤ 2 ^ 20
 
 -- the operands of a block fit so many entities, and no first arrival comes before the clock's 0

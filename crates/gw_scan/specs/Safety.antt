@@ -38,4 +38,4 @@ AllJobsEnd = (j : Job) → Checked j.parts → 0 < j.budget → Ending j
 
 -- in no state that a job of a checked object reaches a storage holds more than its capacity
 abbrev pub StoragesKeepTheirCapacity : Type 0
-StoragesKeepTheirCapacity = (j : Job) (n : ℕ) (s : State) → Checked j.parts → Alone j n s → AreWithinCapacity s.goods
+StoragesKeepTheirCapacity = (j : Job) (n : ℕ) (s : State) → Checked j.parts → Alone j n s → AreWithinCapacity s.entities

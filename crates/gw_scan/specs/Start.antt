@@ -1,6 +1,6 @@
 -- The state before the first step.
-use Rattle.std.specs.Prelude.{ℕ, ◌+◌, ℤ, pos, List, [], ◌∷◌, map, length, replicate, Option, Some, None}
-use Rattle.gw_object.specs.declared.parts.Spread.{Spread}
+use Rattle.std.specs.Prelude.{ℕ, ◌+◌, ℤ, pos, List, [], ◌∷◌, map, length, replicate, Option, Some, None, false}
+use Rattle.gw_object.specs.declared.parts.Generate.{Generate}
 use Rattle.gw_object.specs.declared.parts.Block.{Block}
 use Rattle.gw_object.specs.declared.parts.Block.TheVariants as blocks
 use Rattle.gw_object.specs.declared.parts.Entity.{Entity}
@@ -10,12 +10,12 @@ use Rattle.gw_entities.specs.Facility.{idle}
 use Rattle.gw_object.specs.Entities.{capacity_of}
 use Rattle.gw_entities.specs.Storage.{vacant}
 use Rattle.gw_scan.specs.Outcome.{Outcome, Gives, EndsBy, StopsBy, ◌>>=◌}
-use Rattle.gw_scan.specs.State.{Goods, State, first_stream, with_stream}
-use Rattle.gw_scan.specs.Times.{drawn_moment}
+use Rattle.gw_scan.specs.State.{EntityStates, State, with_streams}
+use Rattle.gw_scan.specs.Times.{environment, drawn_moment}
 use Rattle.gw_scan.specs.Changes.{arrives}
 
 -- every facility is idle, and every storage and queue is empty
-abbrev pub untouched : List Entity → Goods
+abbrev pub untouched : List Entity → EntityStates
 untouched entities =
     record {
       facilities = map (λ _. idle) entities;
@@ -31,22 +31,23 @@ nothing parts count streams =
       count = pos count;
       steps = 0;
       streams = streams;
+      stir = false;
       scheduled = replicate (length parts.blocks + 1) 0;
       transactions = None ∷ [];
-      lists = record { active = None; current_events = []; future_events = []; delay_lists = replicate (length parts.entities) [] };
-      goods = untouched parts.entities;
+      lists = record { active = None; current_events = []; future_events = []; delay_lists = replicate (length parts.entities) []; retry = [] };
+      entities = untouched parts.entities;
       entries = replicate (length parts.blocks + 1) 0;
       ended = None;
     }
 
--- when the first arrival of a GENERATE block comes: at the time that the block gives, which draws nothing, else at a drawn moment
-abbrev pub first_moment : Option ℤ → Spread → State → Outcome (ℤ × ℕ)
-first_moment (Some time) interval s = Gives (time, first_stream s)
-first_moment None interval s = drawn_moment interval s.clock (first_stream s)
+-- when the first arrival of a GENERATE block comes, and the streams then: at the time that the block gives, which draws nothing, else at a drawn moment
+abbrev pub first_moment : Generate → State → Option ℤ → Outcome (ℤ × List ℕ)
+first_moment g s (Some time) = Gives (time, s.streams)
+first_moment g s None = drawn_moment (environment (length s.transactions) g.priority s.clock s) g.interval s.clock s.streams
 
 -- the first arrival of a block, b, if it is a GENERATE
 abbrev pub first_arrival : ℕ → Block → State → Outcome State
-first_arrival b (blocks.Generate g) s = first_moment g.first g.interval s >>= λ d. Gives (arrives b g.priority d.0 (with_stream d.1 s))
+first_arrival b (blocks.Generate g) s = first_moment g s g.first >>= λ d. Gives (arrives b g.priority d.0 (with_streams d.1 s))
 first_arrival b block s = Gives s
 
 -- one for each GENERATE, in ascending order; the first of these blocks has the number b

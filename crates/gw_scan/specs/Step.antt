@@ -2,20 +2,20 @@
 use Rattle.std.specs.Prelude.{ℕ, ◌+◌, List, [], ◌∷◌, Option, Some, None, ◌==◌, ◌&&◌, is_none, if◌then◌else◌}
 use Rattle.gw_object.specs.declared.parts.Block.{Block}
 use Rattle.gw_kinds.specs.Kinds.{block_at}
-use Rattle.gw_num.specs.Table.{at}
+use Rattle.gw_transactions.specs.Transactions.{attributes_at}
 use Rattle.gw_entities.specs.declared.stop.Stop.TheVariants.{NoBlock}
 use Rattle.gw_scan.specs.declared.ends.End.TheVariants.{NoMoreEvents, Budget}
 use Rattle.gw_scan.specs.Outcome.{Outcome, Gives, EndsBy, StopsBy, ◌>>=◌, or_stop}
 use Rattle.gw_scan.specs.State.{FutureEvent, State}
-use Rattle.gw_scan.specs.Changes.{clock_moves}
-use Rattle.gw_scan.specs.Blocks.{effect}
+use Rattle.gw_scan.specs.Changes.{clock_moves, woken}
+use Rattle.gw_scan.specs.Blocks.{act}
 
 -- THE SCAN
 
--- the clock goes to the first time of the future events chain; where that is empty, nothing is left to do
+-- the clock goes to the first time of the future events chain, and the retry list is woken then; where that chain is empty, nothing is left to do
 abbrev pub next_event : List FutureEvent → State → Outcome State
 next_event [] s = EndsBy NoMoreEvents
-next_event (e ∷ es) s = Gives (clock_moves e.time s)
+next_event (e ∷ es) s = Gives (woken (clock_moves e.time s))
 
 -- the first of the current events chain becomes active; where that is empty, the clock moves
 abbrev pub next_active : List ℕ → State → Outcome State
@@ -25,7 +25,7 @@ next_active (n ∷ ns) s = Gives (record s { lists = record s.lists { active = S
 -- what a step does, but for the count of steps: the active transaction meets its next block, or another becomes active
 abbrev pub scan : List Block → Option ℕ → State → Outcome State
 scan bs None s = next_active s.lists.current_events s
-scan bs (Some n) s = or_stop (at None s.transactions n) NoBlock >>= λ t. or_stop (block_at bs t.next) NoBlock >>= λ block. effect bs n t block s
+scan bs (Some n) s = or_stop (attributes_at n s.transactions) NoBlock >>= λ t. or_stop (block_at bs t.next) NoBlock >>= λ block. act bs n t block s
 
 -- THE STEP
 

@@ -1,24 +1,23 @@
 //! What the active transaction does at its next block.
 
-ghost use Rattle.std.specs.Prelude.{◌≡◌, ◌≤◌, ◌<◌, ◌+◌, ◌%◌, ◌^◌, true, not, nat_lt, sum, length, vec_len, OnOk, OnErr, IfOk};
+ghost use Rattle.std.specs.Prelude.{◌≡◌, ◌≤◌, ◌<◌, ◌+◌, ◌^◌, pos, ◌≤ℤ◌, [], true, not, nat_lt, sum, length, vec_len, OnOk, OnErr, IfOk};
 ghost use Rattle.gw_kinds.specs.Kinds.{block_at};
-ghost use Rattle.gw_num.specs.Generator.{next_after};
 ghost use Rattle.gw_num.specs.Table.{at};
 ghost use Rattle.gw_transactions.specs.Transactions.{Holds, live_count};
-ghost use Rattle.gw_scan.specs.Outcome.{Gives};
 ghost use Rattle.gw_scan.specs.State as state;
 ghost use Rattle.gw_scan.specs.Changes as change;
 ghost use Rattle.gw_scan.specs.Blocks as model;
+ghost use Rattle.gw_scan.specs.Placing.{placed};
 ghost use Rattle.gw_scan.specs.View.{state_of};
 ghost use Rattle.gw_scan.specs.Operands.{OperandsFit, UnitsFit};
-ghost use Rattle.gw_chains.specs.Lists.{list_of};
 ghost use Rattle.gw_entities.specs.Facility.{is_idle as is_idle_now};
-ghost use Rattle.gw_scan.specs.Coherence.{Linked, IsActive, IsPassing};
+ghost use Rattle.gw_scan.specs.Coherence.{Linked, HasRoom, CanBePlaced, IsActive, IsPassing};
 ghost use Rattle.gw_scan.specs.Makes.{Makes};
 
 use crate::ends::End;
 use crate::machine::{Machine, Made};
-use crate::times::{moment_from_first, value_of};
+use crate::placement::Placement;
+use crate::times::{drawn_moment, drawn_thousandths, drawn_time, end_by, moment_after, value_of};
 use crate::transfers::block_of;
 use gw_chains::{Memory, Tx};
 use gw_entities::Stop;
@@ -41,30 +40,29 @@ pub(crate) fn may_enter(blocks: &[Block], number: u16) -> bool
 }
 
 /// Where a TRANSFER by fraction, the block of this number, leads to when so many thousandths are drawn.
-fn chosen(block: u16, fraction: Fraction, drawn: u32) -> u16
+fn chosen(block: u16, fraction: Fraction, drawn: i64) -> u16
     requires { block ≤ 4096 }
     ensures { result ≡ model.chosen block fraction drawn }
 {
-    if drawn < fraction.thousandths as u32 {
+    if drawn < i64::from(fraction.thousandths) {
         fraction.target
     } else {
         fraction.otherwise.unwrap_or(block + 1)
     }
 }
 
-impl Machine {
-    // DRAWS
-
-    /// Thousandths drawn from the first stream, and that stream after the draw.
-    fn draw_thousandths(&self) -> (u32, Stream)
-        ensures drawn { result.0 ≡ next_after (state.first_stream (state_of self.now)) % 1000 }
-        ensures stream { result.1 ≡ next_after (state.first_stream (state_of self.now)) }
-    {
-        let mut stream = self.streams[0];
-        let drawn = stream.thousandths();
-        (drawn, stream)
+/// A transaction rests until a moment; where that is now it stays active.
+fn until(clock: i64, moment: i64) -> Placement
+    ensures { result ≡ model.until clock moment }
+{
+    if clock < moment {
+        Placement::RestsUntil(moment)
+    } else {
+        Placement::StaysActive
     }
+}
 
+impl Machine {
     // TIME
 
     /// Whether one more arrival is owed at a GENERATE block.
@@ -91,7 +89,7 @@ impl Machine {
         requires rank { state.priority_of self.old.transactions.txs tx.number ≡ transaction.priority }
         requires block { (transaction.next < vec_len self.old.entries) × (transaction.next ≤ 4096) }
         requires few { sum self.old.entries.items < 2 ^ 60 }
-        ensures state { state_of self.new ≡ model.passes tx.number (record transaction { mark = self.old.clock }) (state_of self.old) }
+        ensures state { state_of self.new ≡ change.enters_and_falls tx.number (record transaction { mark = self.old.clock }) (state_of self.old) }
         ensures linked { Linked self.old → Linked self.new }
     {
         let mut marked = transaction;
@@ -110,7 +108,7 @@ impl Machine {
         stream: Stream,
     ) -> Result<(), Memory>
         requires { IsActive blocks.now self.old tx transaction }
-        ensures ok { OnOk result (state_of self.new ≡ model.passes tx.number (record transaction { mark = self.old.clock }) (change.arrives transaction.next priority moment (state.with_stream stream (state_of self.old)))) }
+        ensures ok { OnOk result (state_of self.new ≡ change.enters_and_falls tx.number (record transaction { mark = self.old.clock }) (change.arrives transaction.next priority moment (state.with_first_stream stream (state_of self.old)))) }
         ensures err { OnErr result (state_of self.new ≡ state_of self.old) }
         ensures linked { Linked self.new }
     {
@@ -124,7 +122,7 @@ impl Machine {
     /// GENERATE where no arrival is owed: the transaction enters the model.
     fn generate_last(&mut self, blocks: &[Block], tx: Tx, transaction: Transaction) -> Made
         requires { IsActive blocks.now self.old tx transaction }
-        ensures made { Makes result (model.falls blocks.now transaction (Gives (model.passes tx.number (record transaction { mark = self.old.clock }) (state_of self.old)))) (state_of self.old) (state_of self.new) }
+        ensures made { Makes result (model.then_placed tx.number (model.leads blocks.now (transaction.next + 1) (model.stays (change.enters_and_falls tx.number (record transaction { mark = self.old.clock }) (state_of self.old))))) (state_of self.old) (state_of self.new) }
         ensures linked { Linked self.new }
     {
         if !may_enter(blocks, transaction.next + 1) {
@@ -143,14 +141,14 @@ impl Machine {
         g: Generate,
     ) -> Result<Made, Memory>
         requires { IsActive blocks.now self.old tx transaction }
-        ensures made { IfOk result (λ made. Makes made (model.generate blocks.now tx.number transaction g (state_of self.old)) (state_of self.old) (state_of self.new)) }
+        ensures made { IfOk result (λ made. Makes made (model.then_placed tx.number (model.generate blocks.now tx.number transaction g (state_of self.old))) (state_of self.old) (state_of self.new)) }
         ensures err { OnErr result (state_of self.new ≡ state_of self.old) }
         ensures linked { Linked self.new }
     {
         if !self.owes(transaction.next, g.limit) {
             return Ok(self.generate_last(blocks, tx, transaction));
         }
-        let (moment, stream) = match moment_from_first(g.interval, self.clock, &self.streams) {
+        let (moment, stream) = match drawn_moment(g.interval, self.clock, &self.streams) {
             Ok(drawn) => drawn,
             Err(end) => return Ok(Made::Ends(end)),
         };
@@ -164,78 +162,53 @@ impl Machine {
         Ok(Made::Step)
     }
 
-    /// The transaction enters its next block, and rests there until a moment; the first stream is now here.
-    fn pass_until(
+    /// The transaction enters its next block with the streams here, and is then placed.
+    fn pass_to(
         &mut self,
         blocks: &[Block],
         tx: Tx,
         transaction: Transaction,
-        moment: i64,
         stream: Stream,
-    ) -> Result<(), Memory>
-        requires { IsActive blocks.now self.old tx transaction }
-        ensures ok { OnOk result (state_of self.new ≡ change.rests_until tx.number moment (model.passes tx.number transaction (state.with_stream stream (state_of self.old)))) }
-        ensures err { OnErr result (state_of self.new ≡ state_of self.old) }
+        placement: Placement,
+    )
+        requires active { IsActive blocks.now self.old tx transaction }
+        requires room { HasRoom self.old }
+        requires there { CanBePlaced placement self.old }
+        ensures state { state_of self.new ≡ placed tx.number placement (change.enters_and_falls tx.number transaction (state.with_first_stream stream (state_of self.old))) }
         ensures linked { Linked self.new }
     {
-        self.reserve_event()?;
         self.set_stream(stream);
         self.enter(tx, transaction, transaction.next + 1);
-        self.rest_until(tx, moment);
-        Ok(())
+        self.place(tx, transaction.priority, placement);
     }
 
-    /// ADVANCE: the transaction rests until a drawn moment; one that is now passes at once.
-    fn advance(
-        &mut self,
-        blocks: &[Block],
-        tx: Tx,
-        transaction: Transaction,
-        time: Spread,
-    ) -> Result<Made, Memory>
-        requires { IsActive blocks.now self.old tx transaction }
-        ensures made { IfOk result (λ made. Makes made (model.advance blocks.now tx.number transaction time (state_of self.old)) (state_of self.old) (state_of self.new)) }
-        ensures err { OnErr result (state_of self.new ≡ state_of self.old) }
+    /// ADVANCE: the transaction rests for a drawn time; where that is 0 it stays active.
+    #[tactic(auto, unfolding(crate::specs::Blocks::act, crate::specs::Blocks::effect))]
+    fn advance(&mut self, blocks: &[Block], tx: Tx, transaction: Transaction, time: Spread) -> Made
+        requires active { IsActive blocks.now self.old tx transaction }
+        requires room { HasRoom self.old }
+        ensures made { Makes result (model.act blocks.now tx.number transaction (Block.Advance time) (state_of self.old)) (state_of self.old) (state_of self.new) }
         ensures linked { Linked self.new }
     {
-        let (moment, stream) = match moment_from_first(time, self.clock, &self.streams) {
+        let (time, stream) = match drawn_time(time, &self.streams) {
             Ok(drawn) => drawn,
-            Err(end) => return Ok(Made::Ends(end)),
+            Err(fault) => return Made::Ends(end_by(fault)),
+        };
+        let moment = match moment_after(self.clock, time) {
+            Ok(moment) => moment,
+            Err(end) => return Made::Ends(end),
         };
         if !may_enter(blocks, transaction.next + 1) {
-            return Ok(Made::Stops(Stop::NoBlock));
+            return Made::Stops(Stop::NoBlock);
         }
-        if moment <= self.clock {
-            self.set_stream(stream);
-            self.enter(tx, transaction, transaction.next + 1);
-            return Ok(Made::Step);
-        }
-        self.pass_until(blocks, tx, transaction, moment, stream)?;
-        Ok(Made::Step)
+        self.pass_to(blocks, tx, transaction, stream, until(self.clock, moment));
+        Made::Step
     }
 
     // FACILITIES
 
-    /// The transaction waits for an entity that refused it.
-    fn wait_for(
-        &mut self,
-        blocks: &[Block],
-        entity: u16,
-        tx: Tx,
-        transaction: Transaction,
-    ) -> Result<(), Memory>
-        requires active { IsActive blocks.now self.old tx transaction }
-        requires entity { entity < length self.old.facilities.facilities }
-        ensures ok { OnOk result (state_of self.new ≡ change.waits_for entity tx.number (state_of self.old)) }
-        ensures err { OnErr result (state_of self.new ≡ state_of self.old) }
-        ensures linked { Linked self.new }
-    {
-        self.reserve_waiter()?;
-        self.rest_for(entity, tx, transaction.priority);
-        Ok(())
-    }
-
     /// SEIZE: the transaction owns an idle facility from now on, and waits for one that another owns.
+    #[tactic(auto, unfolding(crate::specs::Blocks::effect))]
     fn seize(
         &mut self,
         blocks: &[Block],
@@ -244,17 +217,21 @@ impl Machine {
         f: u16,
     ) -> Result<Made, Memory>
         requires active { IsActive blocks.now self.old tx transaction }
+        requires room { HasRoom self.old }
         requires there { f < length self.old.facilities.facilities }
-        ensures made { IfOk result (λ made. Makes made (model.seize blocks.now tx.number transaction f (state_of self.old)) (state_of self.old) (state_of self.new)) }
+        ensures made { IfOk result (λ made. Makes made (model.meets blocks.now tx.number transaction (Block.Seize f) [] (state_of self.old)) (state_of self.old) (state_of self.new)) }
         ensures err { OnErr result (state_of self.new ≡ state_of self.old) }
         ensures linked { Linked self.new }
     {
+        if self.waits_for_facility(f, tx.number) {
+            self.wait_for(f, tx, transaction.priority)?;
+            return Ok(Made::Step);
+        }
         if !may_enter(blocks, transaction.next + 1) {
             return Ok(Made::Stops(Stop::NoBlock));
         }
         match self.seize_facility(f, tx.number) {
-            Ok(true) => self.enter(tx, transaction, transaction.next + 1),
-            Ok(false) => self.wait_for(blocks, f, tx, transaction)?,
+            Ok(_) => self.enter(tx, transaction, transaction.next + 1),
             Err(stop) => return Ok(Made::Stops(stop)),
         }
         Ok(Made::Step)
@@ -266,7 +243,7 @@ impl Machine {
         requires there { f < length self.old.facilities.facilities }
         requires idle { is_idle_now (change.facility f (state_of self.old)) ≡ true }
         requires room { 0 < self.old.current_events.room }
-        ensures state { state_of self.new ≡ model.hand_over blocks.now f (state.delay_list f (state_of self.old)) (model.passes tx.number transaction (state_of self.old)) }
+        ensures state { state_of self.new ≡ model.hand_over blocks.now f (state.delay_list f (state_of self.old)) (change.enters_and_falls tx.number transaction (state_of self.old)) }
         ensures linked { Linked self.new }
     {
         self.enter(tx, transaction, transaction.next + 1);
@@ -283,7 +260,7 @@ impl Machine {
     ) -> Result<Made, Memory>
         requires active { IsActive blocks.now self.old tx transaction }
         requires there { f < length self.old.facilities.facilities }
-        ensures made { IfOk result (λ made. Makes made (model.release blocks.now tx.number transaction f (state_of self.old)) (state_of self.old) (state_of self.new)) }
+        ensures made { IfOk result (λ made. Makes made (model.then_placed tx.number (model.release blocks.now tx.number transaction f (state_of self.old))) (state_of self.old) (state_of self.new)) }
         ensures err { OnErr result (state_of self.new ≡ state_of self.old) }
         ensures linked { Linked self.new }
     {
@@ -301,6 +278,7 @@ impl Machine {
     // STORAGES
 
     /// ENTER: units are taken where they are free; else the transaction waits.
+    #[tactic(auto, unfolding(crate::specs::Blocks::effect))]
     fn enter_storage(
         &mut self,
         blocks: &[Block],
@@ -309,17 +287,21 @@ impl Machine {
         u: Units,
     ) -> Result<Made, Memory>
         requires active { IsActive blocks.now self.old tx transaction }
+        requires room { HasRoom self.old }
         requires units { UnitsFit (length self.old.facilities.facilities) u }
-        ensures made { IfOk result (λ made. Makes made (model.enter blocks.now tx.number transaction u (state_of self.old)) (state_of self.old) (state_of self.new)) }
+        ensures made { IfOk result (λ made. Makes made (model.meets blocks.now tx.number transaction (Block.Enter u) [] (state_of self.old)) (state_of self.old) (state_of self.new)) }
         ensures err { OnErr result (state_of self.new ≡ state_of self.old) }
         ensures linked { Linked self.new }
     {
+        if self.waits_for_units(u) {
+            self.wait_for(u.entity, tx, transaction.priority)?;
+            return Ok(Made::Step);
+        }
         if !may_enter(blocks, transaction.next + 1) {
             return Ok(Made::Stops(Stop::NoBlock));
         }
         match self.take(u) {
-            Ok(true) => self.enter(tx, transaction, transaction.next + 1),
-            Ok(false) => self.wait_for(blocks, u.entity, tx, transaction)?,
+            Ok(_) => self.enter(tx, transaction, transaction.next + 1),
             Err(stop) => return Ok(Made::Stops(stop)),
         }
         Ok(Made::Step)
@@ -329,8 +311,8 @@ impl Machine {
     fn pass_and_admit(&mut self, blocks: &[Block], tx: Tx, transaction: Transaction, e: u16)
         requires passing { IsPassing blocks.now self.old tx transaction }
         requires there { e < length self.old.facilities.facilities }
-        requires room { length (list_of e self.old.waits.waiters) ≤ self.old.current_events.room }
-        ensures state { state_of self.new ≡ model.admission blocks.now e (state.delay_list e (state_of self.old)) (model.passes tx.number transaction (state_of self.old)) }
+        requires room { length (at [] self.old.waits.lists e) ≤ self.old.current_events.room }
+        ensures state { state_of self.new ≡ model.admission blocks.now e (state.delay_list e (state_of self.old)) (change.enters_and_falls tx.number transaction (state_of self.old)) }
         ensures linked { Linked self.new }
     {
         self.enter(tx, transaction, transaction.next + 1);
@@ -347,7 +329,7 @@ impl Machine {
     ) -> Result<Made, Memory>
         requires active { IsActive blocks.now self.old tx transaction }
         requires units { UnitsFit (length self.old.facilities.facilities) u }
-        ensures made { IfOk result (λ made. Makes made (model.leave blocks.now tx.number transaction u (state_of self.old)) (state_of self.old) (state_of self.new)) }
+        ensures made { IfOk result (λ made. Makes made (model.then_placed tx.number (model.leave blocks.now tx.number transaction u (state_of self.old))) (state_of self.old) (state_of self.new)) }
         ensures err { OnErr result (state_of self.new ≡ state_of self.old) }
         ensures linked { Linked self.new }
     {
@@ -369,7 +351,7 @@ impl Machine {
     fn join_queue(&mut self, blocks: &[Block], tx: Tx, transaction: Transaction, u: Units) -> Made
         requires active { IsActive blocks.now self.old tx transaction }
         requires units { UnitsFit (length self.old.facilities.facilities) u }
-        ensures made { Makes result (model.join_queue blocks.now tx.number transaction u (state_of self.old)) (state_of self.old) (state_of self.new) }
+        ensures made { Makes result (model.then_placed tx.number (model.join_queue blocks.now tx.number transaction u (state_of self.old))) (state_of self.old) (state_of self.new) }
         ensures linked { Linked self.new }
     {
         if !may_enter(blocks, transaction.next + 1) {
@@ -384,7 +366,7 @@ impl Machine {
     fn depart(&mut self, blocks: &[Block], tx: Tx, transaction: Transaction, u: Units) -> Made
         requires active { IsActive blocks.now self.old tx transaction }
         requires units { UnitsFit (length self.old.facilities.facilities) u }
-        ensures made { Makes result (model.depart blocks.now tx.number transaction u (state_of self.old)) (state_of self.old) (state_of self.new) }
+        ensures made { Makes result (model.then_placed tx.number (model.depart blocks.now tx.number transaction u (state_of self.old))) (state_of self.old) (state_of self.new) }
         ensures linked { Linked self.new }
     {
         if !may_enter(blocks, transaction.next + 1) {
@@ -402,7 +384,7 @@ impl Machine {
     /// TRANSFER in unconditional mode: the transaction goes to the block of a number.
     fn transfer(&mut self, blocks: &[Block], tx: Tx, transaction: Transaction, target: u16) -> Made
         requires { IsActive blocks.now self.old tx transaction }
-        ensures made { Makes result (model.transfer blocks.now tx.number transaction target (state_of self.old)) (state_of self.old) (state_of self.new) }
+        ensures made { Makes result (model.then_placed tx.number (model.transfer blocks.now tx.number transaction target (state_of self.old))) (state_of self.old) (state_of self.new) }
         ensures linked { Linked self.new }
     {
         if !may_enter(blocks, target) {
@@ -414,6 +396,7 @@ impl Machine {
 
     /// TRANSFER in fractional mode: thousandths are drawn from the first stream, and the transaction goes to one block or
     /// the other.
+    #[tactic(auto, unfolding(crate::specs::Blocks::act, crate::specs::Blocks::effect))]
     fn transfer_by_fraction(
         &mut self,
         blocks: &[Block],
@@ -422,10 +405,10 @@ impl Machine {
         fraction: Fraction,
     ) -> Made
         requires { IsActive blocks.now self.old tx transaction }
-        ensures made { Makes result (model.transfer_by_fraction blocks.now tx.number transaction fraction (state_of self.old)) (state_of self.old) (state_of self.new) }
+        ensures made { Makes result (model.act blocks.now tx.number transaction (Block.TransferByFraction fraction) (state_of self.old)) (state_of self.old) (state_of self.new) }
         ensures linked { Linked self.new }
     {
-        let (drawn, stream) = self.draw_thousandths();
+        let (drawn, stream) = drawn_thousandths(&self.streams);
         let target = chosen(transaction.next, fraction, drawn);
         if !may_enter(blocks, target) {
             return Made::Stops(Stop::NoBlock);
@@ -437,11 +420,25 @@ impl Machine {
 
     // THE END OF A TRANSACTION
 
+    /// The transaction enters its TERMINATE block, the termination count falls, and it is destroyed.
+    fn pass_and_leave(&mut self, blocks: &[Block], tx: Tx, transaction: Transaction, by: i64)
+        requires active { IsActive blocks.now self.old tx transaction }
+        requires room { HasRoom self.old }
+        requires by { pos 0 ≤ℤ by }
+        ensures state { state_of self.new ≡ placed tx.number Placement.LeavesModel (change.counted by (change.entered tx.number transaction transaction.next (state_of self.old))) }
+        ensures linked { Linked self.new }
+    {
+        self.enter(tx, transaction, transaction.next);
+        self.count_down(by);
+        self.place(tx, transaction.priority, Placement::LeavesModel);
+    }
+
     /// TERMINATE: the transaction, which owns nothing, is destroyed, and the termination count falls. Less than 0 is a
     /// named end.
     fn terminate(&mut self, blocks: &[Block], tx: Tx, transaction: Transaction, by: i64) -> Made
-        requires { IsActive blocks.now self.old tx transaction }
-        ensures made { Makes result (model.terminate tx.number transaction by (state_of self.old)) (state_of self.old) (state_of self.new) }
+        requires active { IsActive blocks.now self.old tx transaction }
+        requires room { HasRoom self.old }
+        ensures made { Makes result (model.then_placed tx.number (model.terminate tx.number transaction by (state_of self.old))) (state_of self.old) (state_of self.new) }
         ensures linked { Linked self.new }
     {
         if by < 0 {
@@ -450,14 +447,15 @@ impl Machine {
         if self.facilities.owns_any(tx.number) {
             return Made::Stops(Stop::OwnsAtEnd);
         }
-        self.destroy(tx, transaction);
-        self.count_down(by);
+        self.pass_and_leave(blocks, tx, transaction, by);
         Made::Step
     }
 
-    /// What the active transaction does at its next block; on Memory, nothing.
-    #[tactic(auto, unfolding(crate::specs::Blocks::effect))]
-    pub fn act(
+    // THE STEP
+
+    /// What the active transaction does at its next block, where there is room for it to rest; on Memory, nothing.
+    #[tactic(auto, unfolding(crate::specs::Blocks::act, crate::specs::Blocks::effect))]
+    fn meet(
         &mut self,
         blocks: &[Block],
         tx: Tx,
@@ -465,15 +463,16 @@ impl Machine {
         block: Block,
     ) -> Result<Made, Memory>
         requires active { IsActive blocks.now self.old tx transaction }
+        requires room { HasRoom self.old }
         requires operands { OperandsFit (length self.old.facilities.facilities) block }
-        ensures made { IfOk result (λ made. Makes made (model.effect blocks.now tx.number transaction block (state_of self.old)) (state_of self.old) (state_of self.new)) }
+        ensures made { IfOk result (λ made. Makes made (model.act blocks.now tx.number transaction block (state_of self.old)) (state_of self.old) (state_of self.new)) }
         ensures err { OnErr result (state_of self.new ≡ state_of self.old) }
         ensures linked { Linked self.new }
     {
         match block {
             Block::Generate(g) => self.generate(blocks, tx, transaction, g),
             Block::Terminate(by) => Ok(self.terminate(blocks, tx, transaction, value_of(by))),
-            Block::Advance(time) => self.advance(blocks, tx, transaction, time),
+            Block::Advance(time) => Ok(self.advance(blocks, tx, transaction, time)),
             Block::Seize(f) => self.seize(blocks, tx, transaction, f),
             Block::Release(f) => self.release(blocks, tx, transaction, f),
             Block::Enter(units) => self.enter_storage(blocks, tx, transaction, units),
@@ -485,5 +484,23 @@ impl Machine {
                 Ok(self.transfer_by_fraction(blocks, tx, transaction, fraction))
             }
         }
+    }
+
+    /// What the active transaction does at its next block; on Memory, nothing.
+    pub fn act(
+        &mut self,
+        blocks: &[Block],
+        tx: Tx,
+        transaction: Transaction,
+        block: Block,
+    ) -> Result<Made, Memory>
+        requires active { IsActive blocks.now self.old tx transaction }
+        requires operands { OperandsFit (length self.old.facilities.facilities) block }
+        ensures made { IfOk result (λ made. Makes made (model.act blocks.now tx.number transaction block (state_of self.old)) (state_of self.old) (state_of self.new)) }
+        ensures err { OnErr result (state_of self.new ≡ state_of self.old) }
+        ensures linked { Linked self.new }
+    {
+        self.reserve_rest()?;
+        self.meet(blocks, tx, transaction, block)
     }
 }

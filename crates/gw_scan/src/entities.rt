@@ -1,25 +1,56 @@
 //! What a block does to the entity that it names.
 
-ghost use Rattle.std.specs.Prelude.{◌≡◌, ◌≤◌, ◌<◌, ◌+◌, ◌^◌, pos, length, ◌≤ℤ◌, ◌-ℤ◌, unsigned_abs};
+ghost use Rattle.std.specs.Prelude.{◌≡◌, ◌≤◌, ◌<◌, ◌+◌, ◌^◌, Ok, false, length};
 ghost use Rattle.gw_num.specs.Table.{at};
 ghost use Rattle.gw_entities.specs.Contents.{empty};
-ghost use Rattle.gw_entities.specs.Facility.{idle};
-ghost use Rattle.gw_entities.specs.Storage.{vacant};
-ghost use Rattle.gw_scan.specs.Changes as model;
-ghost use Rattle.gw_scan.specs.View.{state_of, goods_of};
+ghost use Rattle.gw_entities.specs.Facility.{idle, seizing, releasing};
+ghost use Rattle.gw_entities.specs.Queue.{joined, departing};
+ghost use Rattle.gw_entities.specs.Storage.{vacant, entering, leaving};
+ghost use Rattle.gw_scan.specs.Blocks.{has_to_wait};
+ghost use Rattle.gw_scan.specs.Changes.{facility, storage, queue, put_facility, put_storage, put_queue};
+ghost use Rattle.gw_scan.specs.View.{state_of};
 ghost use Rattle.gw_scan.specs.Coherence.{Linked};
-ghost use Rattle.gw_scan.specs.Makes.{Seizes, Releases, Takes, GivesBack, Departs};
+ghost use Rattle.gw_scan.specs.Makes.{Leaves};
 
 use crate::machine::Machine;
-use gw_entities::Stop;
+use gw_entities::{Facility, Stop, Storage};
 use gw_object::Units;
 
+/// Whether the transaction of this number has to wait for a facility, since another owns it.
+fn is_anothers(facility: Facility, number: u64) -> bool
+    ensures { result ≡ has_to_wait (seizing number facility) }
+{
+    match facility.owner {
+        None => false,
+        Some(owner) => owner != number,
+    }
+}
+
+/// Whether so many units of a storage have to be waited for, since they are within its capacity and not free.
+fn is_short_of(storage: Storage, number: u32) -> bool
+    requires { storage.contents.content ≤ 2 ^ 62 }
+    ensures { result ≡ has_to_wait (entering number storage) }
+{
+    number <= storage.capacity
+        && storage.contents.content + u64::from(number) > u64::from(storage.capacity)
+}
+
 impl Machine {
+    // FACILITIES
+
+    /// Whether the transaction of this number has to wait for a facility.
+    pub fn waits_for_facility(&self, f: u16, number: u64) -> bool
+        requires { f < length self.now.facilities.facilities }
+        ensures { result ≡ has_to_wait (seizing number (facility f (state_of self.now))) }
+    {
+        is_anothers(self.facilities.get(f), number)
+    }
+
     /// The transaction of this number seizes a facility, if it is idle.
     pub fn seize_facility(&mut self, f: u16, number: u64) -> Result<bool, Stop>
         requires there { f < length self.old.facilities.facilities }
         requires few { (at idle self.old.facilities.facilities f).entries < 2 ^ 62 }
-        ensures made { Seizes result f number (state_of self.old) (state_of self.new) }
+        ensures made { Leaves result (seizing number (facility f (state_of self.old))) (λ v. put_facility f v (state_of self.old)) (state_of self.old) (state_of self.new) }
         ensures linked { Linked self.old → Linked self.new }
         ensures frame { self.new ≡ record self.old { facilities = self.new.facilities } }
         ensures table { length self.new.facilities.facilities ≡ length self.old.facilities.facilities }
@@ -30,7 +61,7 @@ impl Machine {
     /// The transaction of this number gives a facility up.
     pub fn release_facility(&mut self, f: u16, number: u64) -> Result<(), Stop>
         requires there { f < length self.old.facilities.facilities }
-        ensures made { Releases result f number (state_of self.old) (state_of self.new) }
+        ensures made { Leaves result (releasing number (facility f (state_of self.old))) (λ v. put_facility f v (state_of self.old)) (state_of self.old) (state_of self.new) }
         ensures linked { Linked self.old → Linked self.new }
         ensures frame { self.new ≡ record self.old { facilities = self.new.facilities } }
         ensures table { length self.new.facilities.facilities ≡ length self.old.facilities.facilities }
@@ -38,11 +69,22 @@ impl Machine {
         self.facilities.release(f, number)
     }
 
+    // STORAGES
+
+    /// Whether units of a storage have to be waited for.
+    pub fn waits_for_units(&self, u: Units) -> bool
+        requires { u.entity < length self.now.storages.storages }
+        ensures { result ≡ has_to_wait (entering u.number (storage u.entity (state_of self.now))) }
+    {
+        is_short_of(self.storages.get(u.entity), u.number)
+    }
+
     /// Units of a storage are taken, if they are free.
     pub fn take(&mut self, u: Units) -> Result<bool, Stop>
         requires there { u.entity < length self.old.storages.storages }
         requires few { (at (vacant 0) self.old.storages.storages u.entity).contents.entries + u.number ≤ 2 ^ 62 }
-        ensures made { Takes result u (state_of self.old) (state_of self.new) }
+        ensures made { Leaves result (entering u.number (storage u.entity (state_of self.old))) (λ v. put_storage u.entity v (state_of self.old)) (state_of self.old) (state_of self.new) }
+        ensures full { result ≡ Ok false → state_of self.new ≡ state_of self.old }
         ensures linked { Linked self.old → Linked self.new }
         ensures frame { self.new ≡ record self.old { storages = self.new.storages } }
     {
@@ -52,19 +94,21 @@ impl Machine {
     /// Units of a storage are given back.
     pub fn give_back(&mut self, u: Units) -> Result<(), Stop>
         requires there { u.entity < length self.old.storages.storages }
-        ensures made { GivesBack result u (state_of self.old) (state_of self.new) }
+        ensures made { Leaves result (leaving u.number (storage u.entity (state_of self.old))) (λ v. put_storage u.entity v (state_of self.old)) (state_of self.old) (state_of self.new) }
         ensures linked { Linked self.old → Linked self.new }
         ensures frame { self.new ≡ record self.old { storages = self.new.storages } }
     {
         self.storages.leave(u.entity, u.number)
     }
 
+    // QUEUES
+
     /// Units join a queue.
     pub fn join(&mut self, u: Units)
         requires there { u.entity < length self.old.queues.queues }
         requires inside { (at empty self.old.queues.queues u.entity).content ≤ (at empty self.old.queues.queues u.entity).entries }
         requires few { (at empty self.old.queues.queues u.entity).entries + u.number ≤ 2 ^ 62 }
-        ensures state { state_of self.new ≡ model.joins u (state_of self.old) }
+        ensures state { state_of self.new ≡ put_queue u.entity (joined u.number (queue u.entity (state_of self.old))) (state_of self.old) }
         ensures linked { Linked self.old → Linked self.new }
         ensures frame { self.new ≡ record self.old { queues = self.new.queues } }
     {
@@ -74,7 +118,7 @@ impl Machine {
     /// Units depart from a queue.
     pub fn depart_units(&mut self, u: Units) -> Result<(), Stop>
         requires there { u.entity < length self.old.queues.queues }
-        ensures made { Departs result u (state_of self.old) (state_of self.new) }
+        ensures made { Leaves result (departing u.number (queue u.entity (state_of self.old))) (λ v. put_queue u.entity v (state_of self.old)) (state_of self.old) (state_of self.new) }
         ensures linked { Linked self.old → Linked self.new }
         ensures frame { self.new ≡ record self.old { queues = self.new.queues } }
     {

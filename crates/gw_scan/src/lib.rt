@@ -7,6 +7,8 @@ mod ends;
 mod entities;
 mod laws;
 mod machine;
+mod placement;
+mod resting;
 mod scan;
 mod sim;
 mod spec;

@@ -3,7 +3,7 @@
 ghost use Rattle.std.specs.Prelude.{◌≡◌, ◌≤◌, ◌<◌, ◌+◌, ◌^◌, Some, None, length, vec_len, sum, OnOk, OnErr, pos, ◌<ℤ◌, ◌≤ℤ◌};
 ghost use Rattle.gw_num.specs.Table.{at};
 ghost use Rattle.gw_transactions.specs.Transactions.{Holds};
-ghost use Rattle.gw_scan.specs.State.{priority_of, raised, with_stream};
+ghost use Rattle.gw_scan.specs.State.{priority_of, raised, with_first_stream};
 ghost use Rattle.gw_scan.specs.Changes as model;
 ghost use Rattle.gw_scan.specs.View.{state_of};
 ghost use Rattle.gw_scan.specs.Coherence.{Linked, Carries, Every};
@@ -37,6 +37,8 @@ pub(crate) struct Machine {
     pub steps: u64,
     /// The streams, from the first on.
     pub streams: [Stream; 16],
+    /// Whether a block was entered since the retry list was last woken.
+    pub stir: bool,
     /// The arrivals scheduled so far, for each GENERATE block.
     pub scheduled: Vec<u64>,
     /// The live transactions, scheduled arrivals included.
@@ -47,7 +49,7 @@ pub(crate) struct Machine {
     pub current_events: Cec,
     /// Who waits for a later time.
     pub future_events: Fec,
-    /// Who waits on the delay list of a facility or storage.
+    /// Who waits on the delay list of a facility or storage, or on the retry list.
     pub waits: Waits,
     /// The facilities, each by its number as an entity.
     pub facilities: Facilities,
@@ -85,50 +87,24 @@ fn entry_or_none(counts: &[u64], place: usize) -> u64
 }
 
 impl Machine {
-    /// The transaction enters its next block; the one after is now `next`.
+    /// The transaction enters its next block; the one after is now `next`. So something has stirred.
     pub fn enter(&mut self, tx: Tx, transaction: Transaction, next: u16)
         requires held { Holds self.old.transactions tx }
         requires rank { priority_of self.old.transactions.txs tx.number ≡ transaction.priority }
-        requires block { transaction.next < vec_len self.old.entries }
+        requires block { (transaction.next < vec_len self.old.entries) × (transaction.next ≤ 4096) }
         requires few { sum self.old.entries.items < 2 ^ 60 }
         ensures state { state_of self.new ≡ model.entered tx.number transaction next (state_of self.old) }
         ensures linked { Linked self.old → Linked self.new }
         ensures held { Holds self.new.transactions tx }
-        ensures frame { self.new ≡ record self.old { entries = self.new.entries; transactions = self.new.transactions } }
+        ensures rank { priority_of self.new.transactions.txs tx.number ≡ transaction.priority }
+        ensures frame { self.new ≡ record self.old { stir = self.new.stir; entries = self.new.entries; transactions = self.new.transactions } }
     {
+        self.stir = true;
         raise(&mut self.entries, transaction.next as usize);
         let mut entered = transaction;
         entered.current = transaction.next;
         entered.next = next;
         self.transactions.set(tx, entered);
-    }
-
-    /// The active transaction enters its next block and is destroyed.
-    pub fn destroy(&mut self, tx: Tx, transaction: Transaction)
-        requires linked { Linked self.old }
-        requires active { self.old.active ≡ Some tx }
-        requires held { Holds self.old.transactions tx }
-        requires block { transaction.next < vec_len self.old.entries }
-        requires few { sum self.old.entries.items < 2 ^ 60 }
-        ensures state { state_of self.new ≡ model.destroyed tx.number transaction (state_of self.old) }
-        ensures linked { Linked self.new }
-    {
-        raise(&mut self.entries, transaction.next as usize);
-        let _ = self.transactions.remove(tx);
-        self.active = None;
-    }
-
-    /// The active transaction rests on the future events chain until a time.
-    pub fn rest_until(&mut self, tx: Tx, time: i64)
-        requires linked { Linked self.old }
-        requires active { self.old.active ≡ Some tx }
-        requires held { Holds self.old.transactions tx }
-        requires room { 0 < self.old.future_events.room }
-        ensures state { state_of self.new ≡ model.rests_until tx.number time (state_of self.old) }
-        ensures linked { Linked self.new }
-    {
-        self.active = None;
-        self.future_events.schedule(tx, time);
     }
 
     /// A new transaction is scheduled to arrive at its GENERATE block.
@@ -157,7 +133,7 @@ impl Machine {
 
     /// The first stream is now here.
     pub fn set_stream(&mut self, stream: Stream)
-        ensures state { state_of self.new ≡ with_stream stream (state_of self.old) }
+        ensures state { state_of self.new ≡ with_first_stream stream (state_of self.old) }
         ensures linked { Linked self.old → Linked self.new }
         ensures frame { self.new ≡ record self.old { streams = self.new.streams } }
     {
@@ -170,20 +146,11 @@ impl Machine {
         requires by { pos 0 ≤ℤ by }
         ensures state { state_of self.new ≡ model.counted by (state_of self.old) }
         ensures linked { Linked self.old → Linked self.new }
+        ensures frame { self.new ≡ record self.old { count = self.new.count; ended = self.new.ended } }
     {
         let count = self.count - by;
         self.count = count;
         self.ended = end_of(count);
-    }
-
-    /// Makes room for one more future event.
-    pub fn reserve_event(&mut self) -> Result<(), Memory>
-        ensures state { state_of self.new ≡ state_of self.old }
-        ensures linked { Linked self.old → Linked self.new }
-        ensures room { OnOk result (0 < self.new.future_events.room) }
-        ensures frame { self.new ≡ record self.old { future_events = self.new.future_events } }
-    {
-        self.future_events.reserve(1)
     }
 
     /// Makes room for one more transaction and its arrival.

@@ -28,6 +28,7 @@ fn move_due(
     requires room { length future_events.old.items ≤ current_events.old.room }
     ensures current { current_events.new.items ≡ all_behind (λ m. m.priority) (ranked transactions.now (due (λ e. e.time) time future_events.old.items)) current_events.old.items }
     ensures future { future_events.new.items ≡ later (λ e. e.time) time future_events.old.items }
+    ensures left { current_events.old.room ≤ current_events.new.room + length future_events.old.items }
 {
     while let Some(tx) = future_events.pop_due(time) {
         let priority = transactions.get(tx).priority;
@@ -36,15 +37,16 @@ fn move_due(
 }
 
 impl Machine {
-    /// The clock goes to a time, and all that are due join the current events chain.
-    fn move_clock(&mut self, time: i64) -> Result<(), Memory>
+    /// The clock goes to a time, and all that are due join the current events chain. There is room.
+    fn move_clock(&mut self, time: i64)
         requires linked { Linked self.old }
         requires later { (pos 0 ≤ℤ self.old.clock) × (self.old.clock ≤ℤ time) }
-        ensures ok { OnOk result (state_of self.new ≡ change.clock_moves time (state_of self.old)) }
-        ensures err { OnErr result (state_of self.new ≡ state_of self.old) }
+        requires room { length self.old.future_events.items ≤ self.old.current_events.room }
+        ensures state { state_of self.new ≡ change.clock_moves time (state_of self.old) }
         ensures linked { Linked self.new }
+        ensures room { self.old.current_events.room ≤ self.new.current_events.room + length self.old.future_events.items }
+        ensures waits { self.new.waits ≡ self.old.waits }
     {
-        self.current_events.reserve(self.future_events.len())?;
         move_due(
             &self.transactions,
             &mut self.future_events,
@@ -56,6 +58,21 @@ impl Machine {
         self.storages.pass_time(passed);
         self.queues.pass_time(passed);
         self.clock = time;
+    }
+
+    /// The clock goes to a time, all that are due join the current events chain, and the retry list is woken.
+    fn move_clock_and_wake(&mut self, time: i64) -> Result<(), Memory>
+        requires linked { Linked self.old }
+        requires later { (pos 0 ≤ℤ self.old.clock) × (self.old.clock ≤ℤ time) }
+        requires few { length self.old.future_events.items + length self.old.waits.retry < 2 ^ 60 }
+        ensures ok { OnOk result (state_of self.new ≡ change.woken (change.clock_moves time (state_of self.old))) }
+        ensures err { OnErr result (state_of self.new ≡ state_of self.old) }
+        ensures linked { Linked self.new }
+    {
+        let due = self.future_events.len();
+        self.current_events.reserve(due + self.waits.retrying())?;
+        self.move_clock(time);
+        self.wake();
         Ok(())
     }
 
@@ -72,7 +89,7 @@ impl Machine {
         }
         match self.future_events.first_time() {
             Some(time) => {
-                self.move_clock(time)?;
+                self.move_clock_and_wake(time)?;
                 Ok(Made::Step)
             }
             None => Ok(Made::Ends(End::NoMoreEvents)),
@@ -84,7 +101,7 @@ impl Machine {
         requires linked { Linked self.old }
         requires nobody { self.old.active ≡ None }
         ensures first { IsTrue result → (n : ℕ) × (ns : List ℕ) × ((state_of self.old).lists.current_events ≡ n ∷ ns) × (state_of self.new ≡ record (state_of self.old) { lists = record (lists_of self.old) { active = Some n; current_events = ns } }) }
-        ensures none { result ≡ false → ((state_of self.old).lists.current_events ≡ []) × (state_of self.new ≡ state_of self.old) × (self.new.future_events ≡ self.old.future_events) }
+        ensures none { result ≡ false → ((state_of self.old).lists.current_events ≡ []) × (state_of self.new ≡ state_of self.old) × (self.new.future_events ≡ self.old.future_events) × (self.new.waits ≡ self.old.waits) }
         ensures linked { Linked self.new }
     {
         match self.current_events.pop_first() {

@@ -134,7 +134,7 @@ impl Sim {
     }
 
     /// How many live transactions have the block of this number, from 1, as their current one. Number 0 asks for those
-    /// that were in no block yet: the scheduled arrivals. It looks at each transaction.
+    /// that were in no block yet: the scheduled arrivals.
     pub fn here(&self, block: u16) -> usize
         ensures { result ≡ here_count block self.now.state.transactions }
     {
@@ -143,7 +143,7 @@ impl Sim {
 
     /// The facilities, each by its number as an entity. The clock units that passed over them are the clock.
     pub fn facilities(&self) -> &Facilities
-        ensures facilities { result.now.facilities ≡ self.now.state.goods.facilities }
+        ensures facilities { result.now.facilities ≡ self.now.state.entities.facilities }
         ensures count { length result.now.facilities ≡ length self.now.job.parts.entities }
         ensures clock { pos result.now.passed ≡ self.now.state.clock }
     {
@@ -152,7 +152,7 @@ impl Sim {
 
     /// The storages, each by its number as an entity. The clock units that passed over them are the clock.
     pub fn storages(&self) -> &Storages
-        ensures storages { result.now.storages ≡ self.now.state.goods.storages }
+        ensures storages { result.now.storages ≡ self.now.state.entities.storages }
         ensures count { length result.now.storages ≡ length self.now.job.parts.entities }
         ensures clock { pos result.now.passed ≡ self.now.state.clock }
     {
@@ -161,7 +161,7 @@ impl Sim {
 
     /// The queues, each by its number as an entity. The clock units that passed over them are the clock.
     pub fn queues(&self) -> &Queues
-        ensures queues { result.now.queues ≡ self.now.state.goods.queues }
+        ensures queues { result.now.queues ≡ self.now.state.entities.queues }
         ensures count { length result.now.queues ≡ length self.now.job.parts.entities }
         ensures clock { pos result.now.passed ≡ self.now.state.clock }
     {

@@ -3,8 +3,9 @@
 ghost use Rattle.std.specs.Prelude.{◌≡◌, ◌≤◌, ◌<◌, ◌+◌, ◌^◌, length, sum, replicate, IfOk, OnOk};
 ghost use Rattle.gw_object.specs.Grammar.{HasSpelling};
 ghost use Rattle.gw_scan.specs.Outcome.{outcome_of};
-ghost use Rattle.gw_scan.specs.State.{State, first_stream};
+ghost use Rattle.gw_scan.specs.State.{State};
 ghost use Rattle.gw_scan.specs.Start as model;
+ghost use Rattle.gw_scan.specs.Drawing.{moment_from};
 ghost use Rattle.gw_scan.specs.View.{state_of};
 ghost use Rattle.gw_scan.specs.Coherence.{Linked};
 ghost use Rattle.gw_scan.specs.Makes.{Schedules};
@@ -15,23 +16,18 @@ use crate::times::drawn_moment;
 use gw_chains::{Cec, Fec, Memory, Waits};
 use gw_entities::{Facilities, Queues, Storages};
 use gw_num::Stream;
-use gw_object::{Block, Object, Spread};
+use gw_object::{Block, Generate, Object};
 use gw_transactions::Transactions;
 use std::alloc::Global;
 
 /// When the first arrival of a GENERATE block comes, in clock units, and where the first stream then is: at the time that
 /// the block gives, which draws nothing, else after a drawn time, which may be a named end.
-fn first_moment(
-    first: Option<i64>,
-    interval: Spread,
-    clock: i64,
-    stream: Stream,
-) -> Result<(i64, Stream), End>
-    ensures { (s : State) → s.clock ≡ clock → first_stream s ≡ stream → outcome_of result ≡ model.first_moment first interval s }
+fn first_moment(g: &Generate, clock: i64, streams: &[Stream; 16]) -> Result<(i64, Stream), End>
+    ensures { (s : State) → s.clock ≡ clock → s.streams ≡ streams.now → model.first_moment g.now s g.now.first ≡ moment_from streams.now (outcome_of result) }
 {
-    match first {
-        Some(time) => Ok((time, stream)),
-        None => drawn_moment(interval, clock, stream),
+    match g.first {
+        Some(time) => Ok((time, streams[0])),
+        None => drawn_moment(g.interval, clock, streams),
     }
 }
 
@@ -60,17 +56,20 @@ impl Machine {
         let facilities = Facilities::new(alloc, object)?;
         let storages = Storages::new(alloc, object)?;
         let queues = Queues::new(alloc, object)?;
+        let transactions = Transactions::new(alloc)?;
+        let waits = Waits::new(alloc, object.parts().entities.as_slice().len())?;
         Ok(Machine {
             clock: 0,
             count: count as i64,
             steps: 0,
             streams,
+            stir: false,
             scheduled,
-            transactions: Transactions::new(alloc),
+            transactions,
             active: None,
             current_events: Cec::new(alloc),
             future_events: Fec::new(alloc),
-            waits: Waits::new(alloc),
+            waits,
             facilities,
             storages,
             queues,
@@ -93,7 +92,7 @@ impl Machine {
             Block::Generate(g) => g,
             _ => return Ok(None),
         };
-        match first_moment(g.first, g.interval, self.clock, self.streams[0]) {
+        match first_moment(g, self.clock, &self.streams) {
             Ok((moment, stream)) => {
                 self.reserve_arrival()?;
                 self.set_stream(stream);

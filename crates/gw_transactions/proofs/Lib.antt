@@ -1,2 +1,4 @@
+pub mod Counts
+pub mod Here
 pub mod Slots
 pub mod Populations

@@ -1,14 +1,12 @@
 -- What the fields tell of the population, before a call and after it.
-use Rattle.std.proofs.Common.{◌≡◌, ℕ, ◌+◌, ◌^◌, ◌<◌, ◌==◌, List, [], ◌∷◌, length, set, Option, Some, None, is_some, Bool, false, cond, count_by, refl, sym, ap, ◌∙◌, subst, arith}
-use Rattle.std.specs.Option.{option_map_or}
-use Rattle.std.proofs.lemmas.List.Sums.{sum_by-cons}
-use Rattle.slab.specs.Slab.{Slab, get, Updates, slab_len, with_value, entries_from}
+use Rattle.std.proofs.Common.{◌≡◌, ℕ, ◌+◌, ◌^◌, ◌<◌, List, length, set, Option, Some, None, is_some, cond, refl, sym, ap, ◌∙◌, subst, arith}
+use Rattle.slab.specs.Slab.{Slab, get, Updates, slab_len, with_value}
 use Rattle.gw_chains.specs.declared.tx.Tx.{Tx}
 use Rattle.gw_transactions.specs.declared.Transaction.{Transaction}
 use Rattle.gw_transactions.specs.declared.Transactions.TheInside.{Inside}
 use Rattle.gw_num.specs.Table.{at, put}
-use Rattle.gw_transactions.specs.Transactions.{Population, Holds, IsSound, live_count, here_count}
-use Rattle.gw_transactions.specs.Slots.{by_number, population_of, AreNumbered}
+use Rattle.gw_transactions.specs.Transactions.{Population, LiveTransaction, as_made, put_attributes, Holds, IsSound, live_count}
+use Rattle.gw_transactions.specs.Slots.{by_number, population_of, AreNumbered, AreCounted}
 use Rattle.gw_num.proofs.Tables.{at_some, at-get_or, at_past, put-at, count_by-put}
 use Rattle.gw_transactions.proofs.Slots.{same_slot, own_number, entry_of, by_number-set, by_number-next, numbered-set, numbered-next, at-by_number, at-by_number_free, slot_of, length-by_number, count_by-by_number}
 
@@ -30,20 +28,20 @@ same_some (Some x) None to from = let value = (to (x, refl)).1 in absurd (cc)
 same_some (Some x) (Some y) to from = refl
 
 -- the place of a number that has a transaction
-pub place_of : (p : Population) → IsSound p → (number : ℕ) (t : Transaction) → at None p.txs number ≡ Some t → (place : ℕ) × (at None p.places number ≡ Some place)
+pub place_of : (p : Population) → IsSound p → (number : ℕ) (t : LiveTransaction) → at None p.txs number ≡ Some t → (place : ℕ) × (at None p.places number ≡ Some place)
 place_of p sound number t there = some_as (at None p.txs number) (at None p.places number) (sym (sound.placed number)) (t, there)
 
 -- the transaction of a handle
-pub transaction_of : (p : Population) → IsSound p → (tx : Tx) → Holds p tx → (t : Transaction) × (at None p.txs tx.number ≡ Some t)
+pub transaction_of : (p : Population) → IsSound p → (tx : Tx) → Holds p tx → (t : LiveTransaction) × (at None p.txs tx.number ≡ Some t)
 transaction_of p sound tx holds = some_as (at None p.places tx.number) (at None p.txs tx.number) (sound.placed tx.number) (tx.place, holds)
 
 -- THE TABLES OF A SLAB
 
 module _ (s : Slab (ℕ × Transaction)) (next : ℕ) where
-  slot_of_tx : (number : ℕ) (t : Transaction) → at None (population_of s next).txs number ≡ Some t → (p : ℕ) × (get s p ≡ Some (number, t))
+  slot_of_tx : (number : ℕ) (t : LiveTransaction) → at None (population_of s next).txs number ≡ Some t → (p : ℕ) × (x : Transaction) × (get s p ≡ Some (number, x))
   slot_of_tx number t there =
-      let slot = slot_of (λ place transaction. transaction) next 0 number s.slots t there in
-      (slot.0, slot.2 ∙ ap (λ x. Some (number, x)) (sym slot.3))
+      let slot = slot_of (λ place transaction. as_made transaction) next 0 number s.slots t there in
+      (slot.0, slot.1, slot.2)
 
   slot_at : (number place : ℕ) → at None (population_of s next).places number ≡ Some place → (t : Transaction) × (get s place ≡ Some (number, t))
   slot_at number place there =
@@ -52,8 +50,8 @@ module _ (s : Slab (ℕ × Transaction)) (next : ℕ) where
       (slot.1, ap (get s) (sym here) ∙ slot.2)
 
   module _ (num : AreNumbered s.slots next) where
-    tx-slot : (p number : ℕ) (t : Transaction) → get s p ≡ Some (number, t) → at None (population_of s next).txs number ≡ Some t
-    tx-slot p number t there = at-by_number (λ place transaction. transaction) next 0 p s.slots (number, t) num there
+    tx-slot : (p number : ℕ) (t : Transaction) → get s p ≡ Some (number, t) → at None (population_of s next).txs number ≡ Some (as_made t)
+    tx-slot p number t there = at-by_number (λ place transaction. as_made transaction) next 0 p s.slots (number, t) num there
 
     place-slot : (p number : ℕ) (t : Transaction) → get s p ≡ Some (number, t) → at None (population_of s next).places number ≡ Some p
     place-slot p number t there =
@@ -61,19 +59,19 @@ module _ (s : Slab (ℕ × Transaction)) (next : ℕ) where
         rw here at (at-by_number (λ place transaction. place) next 0 p s.slots (number, t) num there)
 
     pub length-txs : length (population_of s next).txs ≡ next
-    length-txs = length-by_number (λ place transaction. transaction) next 0 s.slots num
+    length-txs = length-by_number (λ place transaction. as_made transaction) next 0 s.slots num
 
     sound_from : 0 < next → IsSound (population_of s next)
     sound_from begun =
         record {
           begun = omega (arith, length-txs, begun);
           few = omega (arith, length-txs, num.few);
-          nobody = at-by_number_free (λ place transaction. transaction) next 0 0 s.slots (λ p a there zero_is. absurd (omega (arith, zero_is, (num.given p a there).0)));
+          nobody = at-by_number_free (λ place transaction. as_made transaction) next 0 0 s.slots (λ p a there zero_is. absurd (omega (arith, zero_is, (num.given p a there).0)));
           lengths = length-by_number (λ place transaction. place) next 0 s.slots num ∙ sym length-txs;
           placed = λ number.
               same_some (at None (population_of s next).places number) (at None (population_of s next).txs number)
-              (λ place. let slot = slot_at number place.0 place.1 in (slot.0, tx-slot place.0 number slot.0 slot.1))
-              (λ t. let slot = slot_of_tx number t.0 t.1 in (slot.0, place-slot slot.0 number t.0 slot.1));
+              (λ place. let slot = slot_at number place.0 place.1 in (as_made slot.0, tx-slot place.0 number slot.0 slot.1))
+              (λ t. let slot = slot_of_tx number t.0 t.1 in (slot.0, place-slot slot.0 number slot.1 slot.2));
           below = λ number place there. let slot = slot_at number place there in omega (arith, length-txs, (num.given place (number, slot.0) slot.1).1);
           apart = λ m n place at_m at_n.
               let a = slot_at m place at_m in
@@ -82,21 +80,10 @@ module _ (s : Slab (ℕ × Transaction)) (next : ℕ) where
         }
 
     live_count-slots : live_count (population_of s next).txs ≡ slab_len s
-    live_count-slots = count_by-by_number (λ place transaction. transaction) next 0 s.slots is_some is_some num refl refl (λ p a. refl)
-
-    pub here_count-slots : (block : ℕ) → here_count block (population_of s next).txs ≡ count_by (λ o. option_map_or (λ (a : ℕ × Transaction). a.1.current == block) o false) s.slots
-    here_count-slots block = count_by-by_number (λ place transaction. transaction) next 0 s.slots _ _ num refl refl (λ p a. refl)
+    live_count-slots = count_by-by_number (λ place transaction. as_made transaction) next 0 s.slots is_some is_some num refl refl (λ p a. refl)
 
 pub sound : (s : Slab (ℕ × Transaction)) (created : ℕ) → AreNumbered s.slots (created + 1) → IsSound (population_of s (created + 1))
 sound s created num = sound_from s (created + 1) num (omega arith)
-
--- a test of the values counts alike over the slots and over the entries
-pub count_by-entries : {X : Type 0} (test : X → Bool) (key : ℕ) (slots : List (Option X)) → count_by (λ (e : ℕ × X). test e.1) (entries_from key slots) ≡ count_by (λ o. option_map_or test o false) slots
-count_by-entries test key [] = refl
-count_by-entries {X} test key (None ∷ slots) =
-    omega (arith, sum_by-cons (λ (o : Option X). cond (option_map_or test o false) 1 0) None slots, count_by-entries test (key + 1) slots)
-count_by-entries {X} test key (Some x ∷ slots) =
-    omega (arith, sum_by-cons (λ (o : Option X). cond (option_map_or test o false) 1 0) (Some x) slots, sum_by-cons (λ (e : ℕ × X). cond (test e.1) 1 0) (key, x) (entries_from (key + 1) slots), count_by-entries test (key + 1) slots)
 
 -- THE POPULATION THAT THE FIELDS SHOW
 
@@ -111,10 +98,14 @@ module _ (inside : Inside) (num : AreNumbered inside.slots.slots (inside.created
   live_is = sym (live_count-slots inside.slots (inside.created + 1) num) ∙ ap (λ (q : Population). live_count q.txs) is
 
   -- the slot of a handle
-  pub held : (tx : Tx) → Holds p tx → (t : Transaction) × (get inside.slots tx.place ≡ Some (tx.number, t)) × (at None p.txs tx.number ≡ Some t)
+  pub held : (tx : Tx) → Holds p tx → (t : Transaction) × (get inside.slots tx.place ≡ Some (tx.number, t)) × (at None p.txs tx.number ≡ Some (as_made t))
   held tx holds =
       let slot = slot_at inside.slots (inside.created + 1) tx.number tx.place (subst (λ (q : Population). Holds q tx) (sym is) holds) in
-      (slot.0, slot.1, subst (λ (q : Population). at None q.txs tx.number ≡ Some slot.0) is (tx-slot inside.slots (inside.created + 1) num tx.place tx.number slot.0 slot.1))
+      (slot.0, slot.1, subst (λ (q : Population). at None q.txs tx.number ≡ Some (as_made slot.0)) is (tx-slot inside.slots (inside.created + 1) num tx.place tx.number slot.0 slot.1))
+
+  -- its value
+  pub value_of : (tx : Tx) → Holds p tx → (a : ℕ × Transaction) → get inside.slots tx.place ≡ Some a → at None p.txs tx.number ≡ Some (as_made a.1)
+  value_of tx holds a there = let slot = held tx holds in slot.2 ∙ ap (λ (b : ℕ × Transaction). Some (as_made b.1)) (same_slot (tx.number, slot.0) a (sym slot.1 ∙ there))
 
   -- EITHER TABLE
 
@@ -152,25 +143,36 @@ module _ (inside : Inside) (num : AreNumbered inside.slots.slots (inside.created
   pub places-put : (tx : Tx) → Holds p tx → put None p.places tx.number (Some tx.place) ≡ p.places
   places-put tx holds = ap (put None p.places tx.number) (sym holds) ∙ put-at None p.places tx.number (at_some p.places tx.number tx.place holds)
 
+  -- other attributes of the transaction of a handle: nothing lies beside them
+  pub attributes-put : (tx : Tx) (t : Transaction) → Holds p tx → put None p.txs tx.number (Some (as_made t)) ≡ put_attributes tx.number t p.txs
+  attributes-put tx t holds = let slot = held tx holds in rw slot.2 refl
+
+  -- HOW MANY ARE AT EACH BLOCK
+
+  pub counted_of : AreCounted inside.here (population_of inside.slots (inside.created + 1)).txs → AreCounted inside.here p.txs
+  counted_of counted = subst (λ (q : Population). AreCounted inside.here q.txs) is counted
+
   -- HOW MANY ARE LIVE
 
-  live_count-put : (number : ℕ) (was now : Option Transaction) → at None p.txs number ≡ was → live_count (put None p.txs number now) + cond (is_some was) 1 0 ≡ live_count p.txs + cond (is_some now) 1 0
+  live_count-put : (number : ℕ) (was now : Option LiveTransaction) → at None p.txs number ≡ was → live_count (put None p.txs number now) + cond (is_some was) 1 0 ≡ live_count p.txs + cond (is_some now) 1 0
   live_count-put number was now there =
       ap (λ t. live_count (put None p.txs number now) + cond (is_some t) 1 0) (sym there) ∙ count_by-put None is_some p.txs number now refl
 
-  pub live_count-write : (tx : Tx) (t : Transaction) → Holds p tx → live_count (put None p.txs tx.number (Some t)) ≡ live_count p.txs
-  live_count-write tx t holds = let slot = held tx holds in omega (arith, live_count-put tx.number (Some slot.0) (Some t) slot.2)
+  pub live_count-write : (tx : Tx) (t : Transaction) → Holds p tx → live_count (put_attributes tx.number t p.txs) ≡ live_count p.txs
+  live_count-write tx t holds =
+      let slot = held tx holds in
+      omega (arith, ap live_count (attributes-put tx t holds), live_count-put tx.number (Some (as_made slot.0)) (Some (as_made t)) slot.2)
 
   pub live_count-remove : (tx : Tx) → Holds p tx → live_count (put None p.txs tx.number None) + 1 ≡ live_count p.txs
-  live_count-remove tx holds = let slot = held tx holds in omega (arith, live_count-put tx.number (Some slot.0) None slot.2)
+  live_count-remove tx holds = let slot = held tx holds in omega (arith, live_count-put tx.number (Some (as_made slot.0)) None slot.2)
 
-  pub live_count-insert : (t : Transaction) → live_count (put None p.txs (length p.txs) (Some t)) ≡ live_count p.txs + 1
-  live_count-insert t = omega (arith, live_count-put (length p.txs) None (Some t) (at_past None p.txs (length p.txs) (omega arith)))
+  pub live_count-insert : (t : Transaction) → live_count (put None p.txs (length p.txs) (Some (as_made t))) ≡ live_count p.txs + 1
+  live_count-insert t = omega (arith, live_count-put (length p.txs) None (Some (as_made t)) (at_past None p.txs (length p.txs) (omega arith)))
 
   -- a write leaves as many slots taken
   pub slab_len-write : (tx : Tx) (t : Transaction) → Holds p tx → slab_len (with_value inside.slots tx.place (tx.number, t)) ≡ slab_len inside.slots
   slab_len-write tx t holds =
       sym (live_count-slots (with_value inside.slots tx.place (tx.number, t)) (inside.created + 1) (numbered-set_of tx (Some (tx.number, t)) holds (own_number _ _)))
-      ∙ ap live_count (table-set (λ place transaction. transaction) (λ q. q.txs) refl tx (Some (tx.number, t)) holds (own_number _ _))
+      ∙ ap live_count (table-set (λ place transaction. as_made transaction) (λ q. q.txs) refl tx (Some (tx.number, t)) holds (own_number _ _) ∙ attributes-put tx t holds)
       ∙ live_count-write tx t holds
       ∙ sym live_is

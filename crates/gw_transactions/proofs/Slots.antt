@@ -60,6 +60,15 @@ module _ {X : Type 0} where
             ];
       }
 
+  -- none was given out
+  pub numbered-none : (slots : List (Option (ℕ × X))) → slots ≡ [] → AreNumbered slots 1
+  numbered-none slots empty =
+      rw empty record {
+        few = omega arith;
+        given = λ p a there. absurd (no_slot a there);
+        distinct = λ p q a b there here same. absurd (no_slot a there);
+      }
+
   -- a slot is written under its own number, or emptied
   pub numbered-set : (slots : List (Option (ℕ × X))) (next p : ℕ) (a : ℕ × X) (v : Option (ℕ × X)) → p < length slots → get_or slots p None ≡ Some a → ((b : ℕ × X) → v ≡ Some b → b.0 ≡ a.0) → AreNumbered slots next → AreNumbered (set slots p v) next
   numbered-set slots next p a v within there own num =

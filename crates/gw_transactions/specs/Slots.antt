@@ -2,8 +2,8 @@
 use Rattle.std.specs.Prelude.{◌≡◌, ℕ, suc, ◌-◌, ◌^◌, ◌<◌, ◌≤◌, List, [], ◌∷◌, replicate, Option, Some, None, slice_index_or}
 use Rattle.slab.specs.Slab.{Slab, slab_len}
 use Rattle.gw_transactions.specs.declared.Transaction.{Transaction}
-use Rattle.gw_num.specs.Table.{put}
-use Rattle.gw_transactions.specs.Transactions.{Population}
+use Rattle.gw_num.specs.Table.{at, put}
+use Rattle.gw_transactions.specs.Transactions.{Population, LiveTransaction, as_made, here_count}
 
 module _ {X Y : Type 0} (entry : ℕ → X → Y) (next : ℕ) where
   -- the table of these slots up to the next number, the first slot being at this place: each slot's number has the
@@ -17,7 +17,7 @@ module _ {X Y : Type 0} (entry : ℕ → X → Y) (next : ℕ) where
 abbrev pub population_of : Slab (ℕ × Transaction) → ℕ → Population
 population_of s next =
     record {
-      txs = by_number (λ place transaction. transaction) next 0 s.slots;
+      txs = by_number (λ place transaction. as_made transaction) next 0 s.slots;
       places = by_number (λ place transaction. place) next 0 s.slots;
       room = s.capacity - slab_len s;
     }
@@ -27,3 +27,7 @@ pub record AreNumbered {X : Type 0} (slots : List (Option (ℕ × X))) (next : �
   pub few : next ≤ 2 ^ 62
   pub given : (p : ℕ) (a : ℕ × X) → slice_index_or slots p None ≡ Some a → (0 < a.0) × (a.0 < next)
   pub distinct : (p q : ℕ) (a b : ℕ × X) → slice_index_or slots p None ≡ Some a → slice_index_or slots q None ≡ Some b → a.0 ≡ b.0 → p ≡ q
+
+-- the count of each block is how many have it as their current one
+abbrev pub AreCounted : List ℕ → List (Option LiveTransaction) → Type 0
+AreCounted counts txs = (block : ℕ) → at 0 counts block ≡ here_count block txs

@@ -1,13 +1,38 @@
 -- What a contract sees of the transactions of a job: tables by number, which begin at number 0.
-use Rattle.std.specs.Prelude.{◌≡◌, ◌≢◌, ℕ, ◌^◌, ◌<◌, ◌≤◌, ◌==◌, List, length, Option, Some, None, is_some, false, count_by}
+use Rattle.std.specs.Prelude.{◌≡◌, ◌≢◌, ℕ, ◌^◌, ◌<◌, ◌≤◌, ◌==◌, ℤ, List, [], length, Option, Some, None, option_map, is_some, false, count_by}
 use Rattle.std.specs.Option.{option_map_or}
 use Rattle.gw_chains.specs.declared.tx.Tx.{Tx}
 use Rattle.gw_transactions.specs.declared.Transaction.{Transaction}
-use Rattle.gw_num.specs.Table.{at}
+use Rattle.gw_num.specs.Table.{at, put}
+
+-- a live transaction
+pub record LiveTransaction : Type 0 where
+  -- its blocks, its priority, its mark time and its assembly set
+  pub attributes : Transaction
+  -- its parameters by number, as far as they are set
+  pub parameters : List (Option ℤ)
+  -- the user chain that it is a member of
+  pub chain : Option ℕ
+
+-- a transaction as it is made: no parameter is set, and it is a member of no user chain
+abbrev pub as_made : Transaction → LiveTransaction
+as_made attributes = record { attributes = attributes; parameters = []; chain = None }
+
+-- a transaction with other attributes; its parameters and its user chain stay
+abbrev pub with_attributes : Transaction → LiveTransaction → LiveTransaction
+with_attributes attributes t = record t { attributes = attributes }
+
+-- the attributes of the transaction of a number, if it is there
+abbrev pub attributes_at : ℕ → List (Option LiveTransaction) → Option Transaction
+attributes_at n txs = option_map (λ (t : LiveTransaction). t.attributes) (at None txs n)
+
+-- the table in which the transaction of a number, if it is there, has other attributes
+abbrev pub put_attributes : ℕ → Transaction → List (Option LiveTransaction) → List (Option LiveTransaction)
+put_attributes n attributes txs = put None txs n (option_map (with_attributes attributes) (at None txs n))
 
 -- the transactions by number, their places by number, and how many more fit with no allocation
 pub record Population : Type 0 where
-  pub txs : List (Option Transaction)
+  pub txs : List (Option LiveTransaction)
   pub places : List (Option ℕ)
   pub room : ℕ
 
@@ -35,9 +60,9 @@ pub record IsSound (p : Population) : Type 0 where
   pub apart : (m n place : ℕ) → at None p.places m ≡ Some place → at None p.places n ≡ Some place → m ≡ n
 
 -- how many numbers have a transaction
-abbrev pub live_count : List (Option Transaction) → ℕ
+abbrev pub live_count : List (Option LiveTransaction) → ℕ
 live_count txs = count_by is_some txs
 
 -- how many transactions have this block as their current one
-abbrev pub here_count : ℕ → List (Option Transaction) → ℕ
-here_count block txs = count_by (λ t. option_map_or (λ (t : Transaction). t.current == block) t false) txs
+abbrev pub here_count : ℕ → List (Option LiveTransaction) → ℕ
+here_count block txs = count_by (λ t. option_map_or (λ (t : LiveTransaction). t.attributes.current == block) t false) txs

@@ -1,16 +1,19 @@
 //! The transactions of a job: each is kept under a number of its own, and contracts see tables by number.
 #![tactic(auto)]
 
-ghost use Rattle.std.specs.Prelude.{◌≡◌, ◌≤◌, ◌<◌, ◌+◌, ◌^◌, ◌∷◌, [], length, OnOk, OnErr};
-ghost use Rattle.gw_num.specs.Table.{at, put};
+ghost use Rattle.std.specs.Prelude.{◌≡◌, ◌≤◌, ◌<◌, ◌+◌, ◌^◌, ◌∷◌, [], length, IfOk, OnOk, OnErr};
+ghost use Rattle.gw_num.specs.Table.{put};
 
+mod block_counts;
+
+use crate::block_counts::BlockCounts;
 use gw_chains::{Memory, Tx};
 use slab::Slab;
 use std::alloc::Global;
 use std::marker::Model;
 
 /// A transaction: what moves through the blocks of a model, with the attributes that the GPSS World Reference Manual
-/// lists for it in its chapter on entities.
+/// lists for it in its chapter on entities, but for its parameters and its user chain, of which definitions speak beside.
 #[derive(Clone, Copy, Debug, PartialEq, Eq)]
 pub struct Transaction {
     /// The number of the block that it is in, from 1, or 0 before its first.
@@ -36,6 +39,8 @@ pub struct Transactions {
     slots: Slab<(u64, Transaction)>,
     // How many were made so far.
     created: u64,
+    // How many have the block of each number as their current one.
+    here: BlockCounts,
 }
 
 impl Model for Transactions {
@@ -45,26 +50,31 @@ impl Model for Transactions {
 
     ghost use Rattle.std.specs.Prelude.{◌+◌, ◌≤◌};
     ghost use Rattle.slab.specs.Slab.{slab_len};
-    ghost use Rattle.gw_transactions.specs.Slots.{population_of, AreNumbered};
+    ghost use Rattle.gw_transactions.specs.Slots.{population_of, AreNumbered, AreCounted};
 
     ghost view = { λ t. population_of t.slots (t.created + 1) };
 
-    ghost invariant = { λ t. AreNumbered t.slots.slots (t.created + 1) × (slab_len t.slots ≤ t.slots.capacity) };
+    ghost invariant = { λ t. AreNumbered t.slots.slots (t.created + 1) × (slab_len t.slots ≤ t.slots.capacity)
+        × AreCounted t.here (population_of t.slots (t.created + 1)).txs };
 }
 
 impl Transactions {
-    ghost use Rattle.gw_transactions.specs.Transactions.{Holds, KeepsHandles, KeepsOtherHandles, IsSound, live_count, here_count};
+    ghost use Rattle.gw_transactions.specs.Transactions.{Holds, KeepsHandles, KeepsOtherHandles, IsSound, as_made, attributes_at, put_attributes, live_count, here_count};
 
-    /// None yet: nothing is allocated, and the first number is 1.
-    pub fn new(alloc: Global) -> Self
-        ensures txs { result.txs ≡ None ∷ [] }
-        ensures places { result.places ≡ None ∷ [] }
-        ensures sound { IsSound result }
+    /// None yet: the first number is 1. It takes memory for the counts of `here`, and none for transactions.
+    ///
+    /// It fails for want of memory.
+    pub fn new(alloc: Global) -> Result<Self, Memory>
+        ensures txs { IfOk result (λ t. t.txs ≡ None ∷ []) }
+        ensures places { IfOk result (λ t. t.places ≡ None ∷ []) }
+        ensures sound { IfOk result IsSound }
     {
-        Transactions {
+        let here = BlockCounts::new(alloc)?;
+        Ok(Transactions {
             slots: Slab::new(alloc),
             created: 0,
-        }
+            here,
+        })
     }
 
     /// Makes room for so many more transactions, so that `insert` needs no memory.
@@ -100,25 +110,21 @@ impl Transactions {
     }
 
     /// How many transactions have this block as their current one: a block's number, from 1, or 0 for those that were in
-    /// none yet. It looks at each transaction.
+    /// none yet. The count is kept: it looks at no transaction.
     pub fn here(&self, block: u16) -> usize
         ensures { result ≡ here_count block self.now.txs }
     {
-        let mut count = 0;
-        for (_, slot) in &self.slots {
-            if slot.1.current == block {
-                count += 1;
-            }
-        }
-        count
+        self.here.get(block)
     }
 
-    /// Puts a transaction under the next number, in room that `reserve` made.
+    /// Puts a transaction under the next number, in room that `reserve` made. Its current block has a number from 0 to
+    /// 4,096.
     pub fn insert(&mut self, transaction: Transaction) -> Tx
         requires room { 0 < self.old.room }
+        requires block { transaction.current ≤ 4096 }
         requires few { length self.old.txs < 2 ^ 62 }
         ensures number { result.number ≡ length self.old.txs }
-        ensures txs { self.new.txs ≡ put None self.old.txs (length self.old.txs) (Some transaction) }
+        ensures txs { self.new.txs ≡ put None self.old.txs (length self.old.txs) (Some (as_made transaction)) }
         ensures places { self.new.places ≡ put None self.old.places (length self.old.txs) (Some result.place) }
         ensures room { self.old.room ≤ self.new.room + 1 }
 
@@ -133,22 +139,24 @@ impl Transactions {
         self.created += 1;
         let number = self.created;
         let place = self.slots.insert_reserved((number, transaction));
+        self.here.add(transaction.current);
         Tx { place, number }
     }
 
-    /// The transaction of a handle.
+    /// The attributes of the transaction of a handle.
     pub fn get(&self, tx: Tx) -> &Transaction
         requires { Holds self.now tx }
-        ensures value { at None self.now.txs tx.number ≡ Some result.now }
+        ensures value { attributes_at tx.number self.now.txs ≡ Some result.now }
         ensures sound { IsSound self.now }
     {
         &self.slots[tx.place].1
     }
 
-    /// Writes the transaction of a handle.
+    /// Writes the attributes of the transaction of a handle. Its current block has a number from 0 to 4,096.
     pub fn set(&mut self, tx: Tx, transaction: Transaction)
-        requires { Holds self.old tx }
-        ensures txs { self.new.txs ≡ put None self.old.txs tx.number (Some transaction) }
+        requires held { Holds self.old tx }
+        requires block { transaction.current ≤ 4096 }
+        ensures txs { self.new.txs ≡ put_attributes tx.number transaction self.old.txs }
         ensures places { self.new.places ≡ self.old.places }
         ensures room { self.old.room ≤ self.new.room }
 
@@ -158,13 +166,16 @@ impl Transactions {
         ensures handles { KeepsHandles self.old self.new }
         ensures sound { IsSound self.new }
     {
+        let was = self.slots[tx.place].1.current;
         self.slots[tx.place] = (tx.number, transaction);
+        self.here.take(was);
+        self.here.add(transaction.current);
     }
 
-    /// Takes the transaction of a handle out. Its number is not given out again.
+    /// Takes the transaction of a handle out, and answers its attributes. Its number is not given out again.
     pub fn remove(&mut self, tx: Tx) -> Transaction
         requires { Holds self.old tx }
-        ensures value { at None self.old.txs tx.number ≡ Some result }
+        ensures value { attributes_at tx.number self.old.txs ≡ Some result }
         ensures txs { self.new.txs ≡ put None self.old.txs tx.number None }
         ensures places { self.new.places ≡ put None self.old.places tx.number None }
         ensures room { self.old.room < self.new.room }
@@ -175,6 +186,8 @@ impl Transactions {
         ensures handles { KeepsOtherHandles tx.number self.old self.new }
         ensures sound { IsSound self.new }
     {
-        self.slots.remove(tx.place).1
+        let removed = self.slots.remove(tx.place).1;
+        self.here.take(removed.current);
+        removed
     }
 }

@@ -1,13 +1,12 @@
-use Rattle.std.proofs.Common.{◌≡◌, map, take}
+use Rattle.std.proofs.Common.{◌≡◌, take}
 use Rattle.std.specs.Prelude.{All}
 use Rattle.gw_flow.specs.declared.edges.Edge.{Edge}
-use Rattle.gw_flow.specs.declared.edges.FlowEdge.{FlowEdge}
-use Rattle.gw_flow.specs.Flow.{said}
+use Rattle.gw_flow.specs.Flow.{SayTheSame}
 use Rattle.gw_flow.proofs.flow.in_numbers_of.Given as goal
 
 -- so far each edge is the same, with the parameters that were given
 abbrev pub invariant-loop-edge : goal.invariant-loop-edge
 invariant-loop-edge l = record {
-  same : map said l.out.items ≡ map (λ (e : FlowEdge). (e.target, e.state)) (take l.edge-index l.edges);
+  same : SayTheSame l.out.items (take l.edge-index l.edges);
   own : All (λ (e : Edge). e.state.parameters ≡ l.given.parameters) l.out.items;
 }

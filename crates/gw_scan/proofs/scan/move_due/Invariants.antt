@@ -1,4 +1,4 @@
-use Rattle.std.proofs.Common.{◌≡◌, ◌≤◌, length}
+use Rattle.std.proofs.Common.{◌≡◌, ◌+◌, ◌≤◌, length}
 use Rattle.std.specs.List.{AllByRecursion}
 use Rattle.gw_chains.specs.Chain.{all_behind, due, later}
 use Rattle.gw_chains.specs.declared.tx.Member.{Member}
@@ -14,6 +14,7 @@ invariant-loop-tx l = record {
   future : later (λ (e : Event). e.time) l.time l.future_events.items ≡ later (λ (e : Event). e.time) l.time l.fn.future_events.items;
   held : AllByRecursion (IsHeld l.transactions) l.future_events.items;
   room : length l.future_events.items ≤ l.current_events.room;
+  left : l.fn.current_events.room + length l.future_events.items ≤ l.current_events.room + length l.fn.future_events.items;
 }
 
 abbrev pub decreases-loop-tx : goal.decreases-loop-tx

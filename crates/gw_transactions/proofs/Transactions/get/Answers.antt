@@ -1,7 +1,7 @@
-use Rattle.std.proofs.Common.{◌∙◌, sym, ap, arith, Some}
+use Rattle.std.proofs.Common.{ap, arith, option_map}
+use Rattle.gw_transactions.specs.Transactions.{LiveTransaction}
 use Rattle.std.proofs.lemmas.Grind.{common_steps}
-use Rattle.gw_transactions.proofs.Slots.{same_slot}
-use Rattle.gw_transactions.proofs.Populations.{held, sound_of}
+use Rattle.gw_transactions.proofs.Populations.{held, value_of, sound_of}
 use Rattle.gw_transactions.proofs.Transactions.get.Goals as goal
 
 pub index-requires : goal.index-requires
@@ -9,8 +9,7 @@ index-requires c = let slot = held c.self.inside c.self.invariant.0 _ c.self.vie
 
 pub returns-clause-value : goal.returns-clause-value
 returns-clause-value c =
-    let slot = held c.self.inside c.self.invariant.0 _ c.self.view_is c.args.tx c.requires in
-    slot.2 ∙ ap (λ a. Some a.1) (same_slot _ _ (sym slot.1 ∙ c.index.ensures))
+    ap (option_map (λ (t : LiveTransaction). t.attributes)) (value_of c.self.inside c.self.invariant.0 _ c.self.view_is c.args.tx c.requires _ c.index.ensures)
 
 pub returns-clause-sound : goal.returns-clause-sound
 returns-clause-sound c = sound_of c.self.inside c.self.invariant.0 _ c.self.view_is

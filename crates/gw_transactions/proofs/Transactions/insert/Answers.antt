@@ -1,9 +1,11 @@
-use Rattle.std.proofs.Common.{refl, length, Some, None, rules, ◌≡◌, ◌<◌, ◌+◌, ◌-◌, ◌^◌, ◌∙◌, ap, arith}
+use Rattle.std.proofs.Common.{refl, subst, sym, length, Some, None, rules, ◌≡◌, ◌<◌, ◌+◌, ◌-◌, ◌^◌, ◌∙◌, ap, arith}
 use Rattle.slab.specs.Slab.{slab_len}
-use Rattle.gw_transactions.specs.Transactions.{Population, live_count}
+use Rattle.gw_transactions.specs.Transactions.{Population, as_made, live_count}
+use Rattle.gw_transactions.specs.Slots.{AreCounted}
+use Rattle.gw_transactions.proofs.Here.{counted-few, counted-insert}
 use Rattle.gw_num.specs.Table.{at, put}
 use Rattle.gw_num.proofs.Tables.{at-put, at-put_past}
-use Rattle.gw_transactions.proofs.Populations.{length-txs, next_is, table-next, numbered-next_of, live_count-insert, sound_of, sound}
+use Rattle.gw_transactions.proofs.Populations.{length-txs, next_is, table-next, numbered-next_of, live_count-insert, counted_of, sound_of, sound}
 use Rattle.gw_transactions.proofs.Transactions.insert.Goals as goal
 
 pub overflow_add-self : goal.overflow_add-self
@@ -11,19 +13,26 @@ overflow_add-self c =
     let few : (c.self.inside.created + 1) < 2 ^ 62 = omega (arith, next_is c.self.inside c.self.invariant.0 _ c.self.view_is, c.requires.few) in
     search (rules, few)
 
+pub add-requires-clause-few : goal.add-requires-clause-few
+add-requires-clause-few c =
+    counted-few c.self.inside.here _ (counted_of c.self.inside c.self.invariant.0 _ c.self.view_is c.self.invariant.2)
+    (sound_of c.self.inside c.self.invariant.0 _ c.self.view_is).few c.args.transaction.current
+
+pub returns-clause-txs : goal.returns-clause-txs
+returns-clause-txs c =
+    table-next c.self.inside c.self.invariant.0 _ c.self.view_is (λ place transaction. as_made transaction) (λ p. p.txs) refl c.insert_reserved-place.new.self c.insert_reserved-place.result c.args.transaction c.requires.few c.insert_reserved-place.ensures.was_vacant c.insert_reserved-place.ensures.updates
+
 pub invariant_of-self : goal.invariant_of-self
 invariant_of-self c =
     let room : c.self.inside.slots.capacity - slab_len c.self.inside.slots ≡ c.args.self.now.room = ap (λ (p : Population). p.room) c.self.view_is in (
       numbered-next_of c.self.inside c.self.invariant.0 _ c.self.view_is c.insert_reserved-place.new.self c.insert_reserved-place.result c.args.transaction c.requires.few c.insert_reserved-place.ensures.updates,
       omega (arith, room, c.requires.room, c.insert_reserved-place.ensures.len, c.insert_reserved-place.ensures.capacity),
+      subst (AreCounted c.add.new.self) (sym (returns-clause-txs c))
+          (counted-insert c.self.inside.here c.args.self.now.txs (counted_of c.self.inside c.self.invariant.0 _ c.self.view_is c.self.invariant.2) c.add.new.self (as_made c.args.transaction) c.add.ensures),
     )
 
 pub returns-clause-number : goal.returns-clause-number
 returns-clause-number c = next_is c.self.inside c.self.invariant.0 _ c.self.view_is
-
-pub returns-clause-txs : goal.returns-clause-txs
-returns-clause-txs c =
-    table-next c.self.inside c.self.invariant.0 _ c.self.view_is (λ place transaction. transaction) (λ p. p.txs) refl c.insert_reserved-place.new.self c.insert_reserved-place.result c.args.transaction c.requires.few c.insert_reserved-place.ensures.was_vacant c.insert_reserved-place.ensures.updates
 
 pub returns-clause-places : goal.returns-clause-places
 returns-clause-places c =

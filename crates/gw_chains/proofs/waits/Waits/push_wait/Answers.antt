@@ -1,31 +1,38 @@
-use Rattle.std.proofs.Common.{rules, ◌≡◌, ◌∙◌, ap, ◌≤ℤ◌}
-use Rattle.std.specs.Prelude.{int_le, insert, AllPairs}
+use Rattle.std.proofs.Common.{◌+◌, [], arith, ap}
 use Rattle.std.proofs.lemmas.Int.{to_z-of_z}
-use Rattle.std.proofs.lemmas.List.Sorted.{IsPartitionPoint-from_clause}
-use Rattle.gw_chains.specs.Chain.{placed_behind}
-use Rattle.gw_chains.specs.Lists.{list_of}
-use Rattle.gw_chains.specs.declared.entry.Entry.{Entry}
+use Rattle.gw_chains.specs.Chain.{behind}
+use Rattle.gw_chains.specs.Lists.{Walked, room_of}
 use Rattle.gw_chains.specs.declared.tx.Member.{Member}
-use Rattle.gw_chains.proofs.Delays.{list_of-placed_behind}
-use Rattle.gw_chains.proofs.Places.{in_order, partitioned, ranks_behind}
+use Rattle.gw_chains.proofs.Each.{stands, here, changes, total, loses}
 use Rattle.gw_chains.proofs.waits.Waits.push_wait.Goals as goal
 
-abbrev newcomer : goal.After-insert_reserved → Entry Member
-newcomer c = record { entity = c.args.entity; item = record { tx = c.args.tx; priority = c.args.priority } }
+pub insert_behind-requires : goal.insert_behind-requires
+insert_behind-requires c =
+    let s = stands (λ (l : Walked). l.members) [] c.self.inside.delay_lists.items c.args.self.now.lists c.args.entity c.index_mut.result.now (ap (λ w. w.lists) c.self.view_is) c.requires.there c.index_mut.ensures.value in
+    let asked = rw (← c.self.view_is) at c.requires.room in
+    omega (arith, asked, here (λ (l : Walked). room_of c.self.inside.waiting l.room) 0 c.self.inside.delay_lists.items c.args.entity c.index_mut.result.now s)
 
-inserted : (c : goal.After-insert_reserved) → c.insert_reserved.new.queue.items ≡ insert c.self.inside.waiters.items c.partition_point-place.result (newcomer c)
-inserted c = let fits = c.ranges.priority in simp to_z-of_z at c.insert_reserved.ensures.items
-
--- the newcomer is at its place among all waiters, and the order is kept
-placed : (c : goal.After-insert_reserved) → AllPairs (λ (x y : Entry Member). y.item.priority ≤ℤ x.item.priority) c.insert_reserved.new.queue.items × (c.insert_reserved.new.queue.items ≡ placed_behind (λ (y : Entry Member). int_le c.args.priority y.item.priority) (newcomer c) c.self.inside.waiters.items)
-placed c =
-    in_order _ _ _ _ _ c.partition_point-place.result (ranks_behind (λ (y : Entry Member). y.item.priority) (newcomer c)) c.self.invariant (search rules) (λ parts. IsPartitionPoint-from_clause (λ (y : Entry Member). int_le c.args.priority y.item.priority) c.self.inside.waiters.items c.partition_point-place.result c.partition_point-place.ensures.partitioned parts (λ a r q k. search rules)) (inserted c)
+pub overflow_add-self : goal.overflow_add-self
+overflow_add-self c =
+    let s = stands (λ (l : Walked). l.members) [] c.self.inside.delay_lists.items c.args.self.now.lists c.args.entity c.index_mut.result.now (ap (λ w. w.lists) c.self.view_is) c.requires.there c.index_mut.ensures.value in
+    let asked = rw (← c.self.view_is) at c.requires.room in
+    omega (arith, asked, here (λ (l : Walked). room_of c.self.inside.waiting l.room) 0 c.self.inside.delay_lists.items c.args.entity c.index_mut.result.now s)
 
 pub invariant_of-self : goal.invariant_of-self
-invariant_of-self c = (placed c).0
+invariant_of-self c =
+    let s = stands (λ (l : Walked). l.members) [] c.self.inside.delay_lists.items c.args.self.now.lists c.args.entity c.index_mut.result.now (ap (λ w. w.lists) c.self.view_is) c.requires.there c.index_mut.ensures.value in
+    let asked = rw (← c.self.view_is) at c.requires.room in
+    (omega (arith, asked, here (λ (l : Walked). room_of c.self.inside.waiting l.room) 0 c.self.inside.delay_lists.items c.args.entity c.index_mut.result.now s), omega (arith, total (λ (l : Walked). l.members) c.self.inside.delay_lists.items c.args.entity c.index_mut.result.now c.insert_behind.new.self s))
 
 pub returns-clause-lists : goal.returns-clause-lists
 returns-clause-lists c =
-    λ e. rw (← c.self.view_is) (
-    ap (list_of e) (placed c).1
-    ∙ list_of-placed_behind (λ (m : Member). int_le c.args.priority m.priority) e (newcomer c) c.self.inside.waiters.items (partitioned _ _ (newcomer c) _ (ranks_behind (λ (y : Entry Member). y.item.priority) (newcomer c)) c.self.invariant))
+    let s = stands (λ (l : Walked). l.members) [] c.self.inside.delay_lists.items c.args.self.now.lists c.args.entity c.index_mut.result.now (ap (λ w. w.lists) c.self.view_is) c.requires.there c.index_mut.ensures.value in
+    let fits = c.ranges.priority in
+    rw (← c.self.view_is)
+    (changes (λ (l : Walked). l.members) c.self.inside.delay_lists.items c.args.entity c.index_mut.result.now c.insert_behind.new.self (behind (λ (m : Member). m.priority) (record { tx = c.args.tx; priority = c.args.priority })) s (simp to_z-of_z at c.insert_behind.ensures.members))
+
+pub returns-clause-room : goal.returns-clause-room
+returns-clause-room c =
+    let s = stands (λ (l : Walked). l.members) [] c.self.inside.delay_lists.items c.args.self.now.lists c.args.entity c.index_mut.result.now (ap (λ w. w.lists) c.self.view_is) c.requires.there c.index_mut.ensures.value in
+    rw (← c.self.view_is)
+    (loses (λ (l : Walked). room_of c.self.inside.waiting l.room) (λ (l : Walked). room_of (c.self.inside.waiting + 1) l.room) 1 (λ y. omega arith) c.self.inside.delay_lists.items c.args.entity c.index_mut.result.now c.insert_behind.new.self s (omega arith))

@@ -1,4 +1,5 @@
 use Rattle.std.proofs.Common.{rules, ◌≡◌, ◌+◌}
+use Rattle.gw_num.specs.Table.{at}
 use Rattle.gw_scan.specs.View.{state_of}
 use Rattle.gw_scan.specs.Blocks.{looked_at}
 use Rattle.gw_scan.proofs.Walks.{steady-looked_at}
@@ -9,4 +10,4 @@ state_is c = search rules
 
 pub returns-in-Some-clause-steady : goal.returns-in-Some-clause-steady
 returns-in-Some-clause-steady c =
-    steady-looked_at c.args.blocks.now c.args.self.now c.args.e c.requires.there (c.args.self.now.steps + 1) c.requires.steady c.args.place c.args.tx c.requires.waiter c.enter_if_free.new.self (state_is c) c.enter_if_free.ensures.linked c.enter_if_free.ensures.frame.1
+    steady-looked_at c.args.blocks.now c.args.self.now c.args.e c.requires.there (c.args.self.now.steps + 1) c.requires.steady (at 0 c.args.self.now.waits.places c.args.e) c.args.tx c.requires.waiter c.enter_if_free.new.self (state_is c) c.enter_if_free.ensures.linked c.enter_if_free.ensures.frame.1

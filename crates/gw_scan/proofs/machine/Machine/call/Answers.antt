@@ -1,8 +1,8 @@
-use Rattle.std.proofs.Common.{◌≡◌, refl}
+use Rattle.std.proofs.Common.{[], ◌≡◌, refl}
 use Rattle.std.specs.Prelude.{remove}
 use Rattle.std.proofs.lemmas.Int.{to_z-of_z}
 use Rattle.gw_chains.specs.Chain.{behind}
-use Rattle.gw_chains.specs.Lists.{list_of}
+use Rattle.gw_num.specs.Table.{at}
 use Rattle.gw_chains.specs.declared.tx.Member.{Member}
 use Rattle.gw_scan.proofs.Waiters.{ranked-at, changed-here, state-called, linked-called}
 use Rattle.gw_scan.proofs.machine.Machine.call.Goals as goal
@@ -12,13 +12,13 @@ joined c = let fits = c.ranges.priority in simp to_z-of_z at c.insert_behind.ens
 
 pub returns-clause-state : goal.returns-clause-state
 returns-clause-state c =
-    state-called c.args.self.now c.requires.linked c.args.entity c.requires.entity c.args.tx c.args.priority c.requires.rank c.args.place c.requires.there c.remove.new.self.waiters c.remove.ensures.lists c.insert_behind.new.self.items (joined c)
+    state-called c.args.self.now c.requires.linked c.args.entity c.requires.entity c.args.tx c.args.priority c.requires.rank c.args.place c.requires.there c.remove.new.self.lists c.remove.new.self.retry c.remove.ensures.retry c.remove.ensures.lists c.insert_behind.new.self.items (joined c)
 
 pub returns-clause-linked : goal.returns-clause-linked
 returns-clause-linked c =
-    linked-called c.args.self.now c.requires.linked c.args.entity c.requires.entity c.args.tx c.args.priority c.requires.rank c.args.place c.requires.there c.remove.new.self.waiters c.remove.ensures.lists _
-    (ranked-at c.args.self.now.transactions c.args.tx (list_of c.args.entity c.args.self.now.waits.waiters) c.args.place (c.requires.linked.delay_lists c.args.entity c.requires.entity) c.requires.there)
-    refl refl (joined c) refl refl refl refl refl refl (returns-clause-state c)
+    linked-called c.args.self.now c.requires.linked c.args.entity c.requires.entity c.args.tx c.args.priority c.requires.rank c.args.place c.requires.there c.remove.new.self.lists c.remove.new.self.retry c.remove.ensures.retry c.remove.ensures.lists _
+    (ranked-at c.args.self.now.transactions c.args.tx (at [] c.args.self.now.waits.lists c.args.entity) c.args.place (c.requires.linked.delay_lists c.args.entity c.requires.entity) c.requires.there)
+    refl refl (joined c) refl refl refl refl refl refl refl (returns-clause-state c)
 
 pub returns-clause-left : goal.returns-clause-left
-returns-clause-left c = changed-here c.args.entity (λ xs. remove xs c.args.place) c.args.self.now.waits.waiters c.remove.new.self.waiters c.remove.ensures.lists
+returns-clause-left c = changed-here c.args.entity (λ xs. remove xs c.args.place) c.args.self.now.waits.lists c.remove.new.self.lists c.remove.ensures.lists

@@ -6,4 +6,4 @@ pass_and_admit-requires-clause-passing c =
     let r = c.in_ok-reserve_current.ensures in
     let e = c.in-Ok.ensures in
     let linked = r.linked c.requires.active.steady.linked in
-    passing-given_back c.args.blocks.now c.args.self.now c.reserve_current.new.self c.give_back.new.self c.args.tx c.args.transaction c.args.u c.requires.active c.requires.units.entity r.state linked r.frame e.made.1 (e.linked linked) e.frame
+    passing-given_back c.args.blocks.now c.args.self.now c.reserve_current.new.self c.give_back.new.self c.args.tx c.args.transaction c.args.u _ c.requires.active c.requires.units.entity r.state linked r.frame e.made (e.linked linked) e.frame

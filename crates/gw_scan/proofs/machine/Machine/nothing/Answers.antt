@@ -1,4 +1,4 @@
-use Rattle.std.proofs.Common.{pos, to_z, w64, None, refl, rules}
+use Rattle.std.proofs.Common.{pos, to_z, w64, None, refl, rules, false}
 use Rattle.gw_scan.specs.declared.machine.Machine.{Machine}
 use Rattle.gw_scan.proofs.Beginning.{Begins, state-nothing, linked-nothing}
 use Rattle.gw_scan.proofs.machine.Machine.nothing.Goals as goal
@@ -9,12 +9,13 @@ made c = record {
   count = to_z w64 c.args.count;
   steps = 0;
   streams = c.args.streams;
+  stir = false;
   scheduled = c.in_ok-scheduled.scheduled;
-  transactions = c.new-4.result;
+  transactions = c.in_ok-transactions.transactions;
   active = None;
-  current_events = c.new-5.result;
-  future_events = c.new-6.result;
-  waits = c.new-7.result;
+  current_events = c.new-6.result;
+  future_events = c.new-7.result;
+  waits = c.in_ok-waits.waits;
   facilities = c.in_ok-facilities.facilities;
   storages = c.in_ok-storages.storages;
   queues = c.in_ok-queues.queues;
@@ -29,12 +30,14 @@ begins c = record {
   steps = refl;
   streams = refl;
   scheduled = search rules;
-  transactions = c.new-4.ensures.txs;
-  sound = c.new-4.ensures.sound;
+  transactions = c.in_ok-transactions.ensures.txs;
+  sound = c.in_ok-transactions.ensures.sound;
   active = refl;
-  current_events = c.new-5.ensures;
-  future_events = c.new-6.ensures;
-  waiters = c.new-7.ensures.waiters;
+  current_events = c.new-6.ensures;
+  future_events = c.new-7.ensures;
+  lists = search rules;
+  retry = c.in_ok-waits.ensures.retry;
+  stir = refl;
   facilities = c.in_ok-facilities.ensures;
   storages = c.in_ok-storages.ensures;
   queues = c.in_ok-queues.ensures;

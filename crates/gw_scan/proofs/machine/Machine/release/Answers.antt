@@ -2,7 +2,7 @@ use Rattle.std.proofs.Common.{◌∙◌, ap}
 use Rattle.gw_entities.specs.Facility.{is_idle}
 use Rattle.gw_scan.specs.State.{State}
 use Rattle.gw_scan.specs.Changes.{facility}
-use Rattle.gw_scan.proofs.Steady.{passing-released, idle-released}
+use Rattle.gw_scan.proofs.Steady.{passing-released, idle-released, released-as}
 use Rattle.gw_scan.specs.View.{state_of}
 use Rattle.gw_scan.proofs.machine.Machine.release.Goals as goal
 
@@ -11,8 +11,9 @@ pass_and_hand_over-requires-clause-passing c =
     let r = c.in_ok-reserve_current.ensures in
     let e = c.in-Ok.ensures in
     let linked = r.linked c.requires.active.steady.linked in
-    passing-released c.args.blocks.now c.args.self.now c.reserve_current.new.self c.release_facility.new.self c.args.tx c.args.transaction c.args.f c.requires.active c.requires.there r.state linked r.frame e.made.1 (e.linked linked) e.frame e.table
+    passing-released c.args.blocks.now c.args.self.now c.reserve_current.new.self c.release_facility.new.self c.args.tx c.args.transaction c.args.f c.args.tx.number _ c.requires.active c.requires.there r.state linked r.frame e.made (e.linked linked) e.frame e.table
 
 pub pass_and_hand_over-requires-clause-idle : goal.pass_and_hand_over-requires-clause-idle
 pass_and_hand_over-requires-clause-idle c =
-    ap (λ (s : State). is_idle (facility c.args.f s)) c.in-Ok.ensures.made.1 ∙ idle-released c.args.f (state_of c.reserve_current.new.self)
+    ap (λ (s : State). is_idle (facility c.args.f s)) (released-as c.args.f c.args.tx.number _ (state_of c.reserve_current.new.self) (state_of c.release_facility.new.self) c.in-Ok.ensures.made)
+    ∙ idle-released c.args.f (state_of c.reserve_current.new.self)

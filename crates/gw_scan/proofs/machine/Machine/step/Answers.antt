@@ -1,15 +1,15 @@
-use Rattle.std.proofs.Common.{◌+◌, length, ap, sym, ◌∙◌, Some, arith}
+use Rattle.std.proofs.Common.{◌+◌, ap, sym, ◌∙◌, Some, arith}
 use Rattle.gw_scan.specs.State.{State}
 use Rattle.gw_scan.specs.Step.{within_budget}
 use Rattle.gw_scan.specs.View.{state_of}
-use Rattle.gw_scan.proofs.Follows.{follows}
+use Rattle.gw_scan.proofs.Counting.{is_counted}
 use Rattle.gw_scan.proofs.Steps.{step-gives, step-ends, step-stops}
 use Rattle.gw_scan.proofs.machine.Machine.step.Goals as goal
 
 pub count_step-requires : goal.count_step-requires
 count_step-requires c =
     let old = state_of c.args.self.now in
-    let m = follows c.args.blocks.now (length c.args.self.now.facilities.facilities) c.args.self.now.steps old (state_of c.scan.new.self) c.requires.running.steady.fit c.requires.running.steady.within (rw c.in-Step.is at c.in_ok-scan.ensures.made) in
+    let m = is_counted c.args.blocks.now old (state_of c.scan.new.self) (rw c.in-Step.is at c.in_ok-scan.ensures.made) in
     omega (arith, m.steps, c.requires.runs.1)
 
 pub returns-in-Stops-clause-made : goal.returns-in-Stops-clause-made
@@ -23,7 +23,7 @@ returns-in-Step-clause-made c =
     let old = state_of c.args.self.now in
     let new = state_of c.scan.new.self in
     let made = rw c.in-Step.is at c.in_ok-scan.ensures.made in
-    let m = follows c.args.blocks.now (length c.args.self.now.facilities.facilities) c.args.self.now.steps old new c.requires.running.steady.fit c.requires.running.steady.within made in
+    let m = is_counted c.args.blocks.now old new made in
     step-gives c.args.blocks.now c.args.budget old c.requires.runs.0 new made
     ∙ ap Some (sym (c.count_step.ensures.state ∙ ap (λ k. within_budget c.args.budget (record new { steps = k + 1 })) m.steps))
 

@@ -1,0 +1,63 @@
+//! How many there are at each block.
+
+ghost use Rattle.std.specs.Prelude.{◌≡◌, ◌≤◌, ◌<◌, ◌+◌, ◌^◌, ◌==◌, if◌then◌else◌, ℕ, IfOk, replicate};
+ghost use Rattle.gw_num.specs.Table.{at};
+
+use gw_chains::Memory;
+use std::alloc::Global;
+use std::marker::Model;
+
+/// The greatest number of a block: an object has at most so many (docs/object-format.md).
+const LAST_BLOCK: usize = 4096;
+
+/// How many there are at each block, by its number from 1 to 4,096, and how many that were in none yet, at 0.
+#[derive(Debug, Drop)]
+pub(crate) struct BlockCounts {
+    counts: Vec<usize>,
+}
+
+impl Model for BlockCounts {
+    ghost use Rattle.std.specs.Prelude.{◌≡◌, ℕ, List, length};
+
+    ghost Value = { List ℕ };
+
+    ghost view = { λ c. c.counts.items };
+
+    ghost invariant = { λ c. length c.counts.items ≡ 4097 };
+}
+
+impl BlockCounts {
+    /// None at any block.
+    ///
+    /// It fails for want of memory.
+    pub fn new(alloc: Global) -> Result<BlockCounts, Memory>
+        ensures { IfOk result (λ c. c ≡ replicate 4097 0) }
+    {
+        let counts = vec![in alloc; 0usize; LAST_BLOCK + 1]?;
+        Ok(BlockCounts { counts })
+    }
+
+    /// How many there are at a block.
+    pub fn get(&self, block: u16) -> usize
+        ensures { result ≡ at 0 self.now block }
+    {
+        self.counts.get(block as usize).copied().unwrap_or(0)
+    }
+
+    /// One more is at a block.
+    pub fn add(&mut self, block: u16)
+        requires block { block ≤ 4096 }
+        requires few { at 0 self.old block ≤ 2 ^ 62 }
+        ensures { (b : ℕ) → at 0 self.new b ≡ at 0 self.old b + (if block == b then 1 else 0) }
+    {
+        self.counts[block as usize] += 1;
+    }
+
+    /// One that was at a block is there no more.
+    pub fn take(&mut self, block: u16)
+        requires { 0 < at 0 self.old block }
+        ensures { (b : ℕ) → at 0 self.new b + (if block == b then 1 else 0) ≡ at 0 self.old b }
+    {
+        self.counts[block as usize] -= 1;
+    }
+}
