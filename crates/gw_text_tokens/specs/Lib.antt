@@ -1,0 +1,5 @@
+pub mod Codes
+pub mod Faults
+pub mod Lines
+pub mod Names
+pub mod Numbers
