@@ -13,6 +13,7 @@ use std::alloc::Global;
 use std::process::Abort;
 use std::test::Fail;
 
+mod crowds;
 mod ends;
 mod entities;
 mod orders;
@@ -446,6 +447,15 @@ fn contents(content: u64, maximum: u64, entries: u64, time_sum: u128) -> Content
         maximum,
         entries,
         time_sum,
+    }
+}
+
+/// A facility with this owner, so many entries, and so many clock units owned.
+fn facility(owner: Option<u64>, entries: u64, busy: u128) -> Facility {
+    Facility {
+        owner,
+        entries,
+        busy,
     }
 }
 

@@ -31,15 +31,6 @@ fn serves(
     Ok(())
 }
 
-/// A facility with this owner, so many entries, and so many clock units owned.
-fn facility(owner: Option<u64>, entries: u64, busy: u128) -> Facility {
-    Facility {
-        owner,
-        entries,
-        busy,
-    }
-}
-
 /// GENERATE ,,,1 / ENTER S,3 / ADVANCE 10 / LEAVE S,1 / ADVANCE 10 / TERMINATE 1 / GENERATE ,,1,2 / ENTER S,3 / TERMINATE /
 /// GENERATE ,,2,1 / ENTER S / TERMINATE.
 fn one_unit_is_left() -> [Block; 12] {
