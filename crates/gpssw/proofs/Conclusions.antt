@@ -2,9 +2,9 @@
 use Rattle.std.proofs.Common.{◌≡◌, ◌<◌, ℕ, List, Some, inl, inr, refl}
 use Rattle.std.specs.Prelude.{◌⊎◌}
 use Rattle.gw_entities.specs.declared.stop.Stop.{Stop}
-use Rattle.gw_scan.specs.State.{State}
-use Rattle.gw_scan.specs.Job.{Job, Alone, IsFinal, IsStuck, stop_of}
-use Rattle.gw_scan.proofs.Rests.{all_come_to_rest}
+use Rattle.gw_step.specs.State.{State}
+use Rattle.gw_step.specs.Job.{Job, Alone, IsFinal, IsStuck, stop_of}
+use Rattle.gw_step.proofs.Rests.{all_come_to_rest}
 use Rattle.gw_report.specs.Report.{report_of, stopped_report_of}
 use Rattle.gpssw.specs.Status.{ended, refused}
 use Rattle.gpssw.specs.Answer.{Concludes}

@@ -1,10 +1,10 @@
 -- A lone run has at most one state without a step.
 use Rattle.std.proofs.Common.{◌≡◌, ◌+◌, ◌<◌, ◌-◌, ℕ, zero, suc, Option, Some, None, Bool, true, false, IsTrue, is_some, is_none, nat_lt, arith, refl, ap, ◌∙◌}
 use Rattle.std.proofs.lemmas.Bool.Decides.{nat_tests}
-use Rattle.gw_scan.specs.declared.ends.End.{End}
-use Rattle.gw_scan.specs.State.{State}
-use Rattle.gw_scan.specs.Step.{step}
-use Rattle.gw_scan.specs.Job.{Job, IsFinal, after, then_step}
+use Rattle.gw_step.specs.declared.ends.End.{End}
+use Rattle.gw_step.specs.State.{State}
+use Rattle.gw_step.specs.Step.{step}
+use Rattle.gw_step.specs.Job.{Job, IsFinal, after, then_step}
 
 not_running : (ended : Option End) → IsTrue (is_some ended) → is_none ended ≡ false
 not_running None h = cc

@@ -1,9 +1,9 @@
 -- Bytes, a seed and a count have at most one answer.
 use Rattle.std.proofs.Common.{◌≡◌, ℕ, List, Option, Some, None, Result, Ok, Err, MatchResult, IsTrue, is_some, inl, inr, sym, ap, ◌∙◌}
 use Rattle.gw_object.specs.declared.fault.Fault.{Fault}
-use Rattle.gw_scan.specs.declared.ends.End.{End}
-use Rattle.gw_scan.specs.State.{State}
-use Rattle.gw_scan.specs.Job.{Job, Progress, start_of}
+use Rattle.gw_step.specs.declared.ends.End.{End}
+use Rattle.gw_step.specs.State.{State}
+use Rattle.gw_step.specs.Job.{Job, Progress, start_of}
 use Rattle.gw_report.specs.Report.{report_of, stopped_report_of}
 use Rattle.gpssw.specs.Status.{refused}
 use Rattle.gpssw.specs.Refusal.{refusal_line}

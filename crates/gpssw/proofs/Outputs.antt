@@ -1,7 +1,7 @@
 -- What a run writes, by what stands in the place of its answer.
 use Rattle.std.proofs.Common.{◌≡◌, ◌≢◌, ◌⊎◌, ℕ, List, [], ◌∷◌, Option, Result, Ok, Err, IfOk, MatchResult, Contains, inl, inr, refl, sym, subst, arith}
 use Rattle.gw_object.specs.declared.fault.Fault.{Fault}
-use Rattle.gw_scan.specs.Job.{Job}
+use Rattle.gw_step.specs.Job.{Job}
 use Rattle.gpssw.specs.declared.answer.Answer.{Answer}
 use Rattle.gpssw.specs.declared.fault.ProgramFault.{ProgramFault}
 use Rattle.gpssw.specs.declared.fault.ProgramFault.TheVariants.{Read, Write, Memory}

@@ -6,7 +6,7 @@ use Rattle.gw_object.specs.declared.parts.Parts.{Parts}
 use Rattle.gw_object.specs.Reading.{first_fault}
 use Rattle.gw_verify.specs.Checks.{fault_of}
 use Rattle.gw_scan.specs.Making.{spec_fault, job_from}
-use Rattle.gw_scan.specs.Job.{Job}
+use Rattle.gw_step.specs.Job.{Job}
 use Rattle.gpssw.specs.Status.{refused, run_budget}
 use Rattle.gpssw.specs.Refusal.{refusal_line, start_refusal}
 use Rattle.gpssw.specs.Answer.{◌>>=◌, Concludes, job_of, unless, verified, job_made, seeds_given}

@@ -1,12 +1,12 @@
 -- A job that still runs has made a step.
 use Rattle.std.proofs.Common.{◌≡◌, ◌+◌, Option, Some, None}
-use Rattle.gw_scan.specs.State.{State}
-use Rattle.gw_scan.specs.Job.{Job}
-use Rattle.gw_scan.specs.declared.ends.End.{End}
+use Rattle.gw_step.specs.State.{State}
+use Rattle.gw_step.specs.Job.{Job}
+use Rattle.gw_step.specs.declared.ends.End.{End}
 use Rattle.gw_scan.specs.declared.sim.Status.{Status}
 use Rattle.gw_scan.specs.declared.sim.Status.TheVariants.{Running}
 use Rattle.gw_scan.specs.Answers.{Answers, AnswersFrom}
-use Rattle.gw_scan.proofs.LeftByEnds.{steps_are_counted}
+use Rattle.gw_step.proofs.LeftByEnds.{steps_are_counted}
 
 from_end : (ended : Option End) (j : Job) (s t : State) → AnswersFrom ended Running j s t → (t.steps ≡ s.steps + 1) × (t.ended ≡ None)
 from_end None j s t h = (steps_are_counted j s t h.0, h.1)

@@ -6,8 +6,8 @@ use Rattle.gw_object.specs.declared.parts.Parts.{Parts}
 use Rattle.gw_object.specs.Reading.{first_fault}
 use Rattle.gw_verify.specs.Checks.{fault_of}
 use Rattle.gw_entities.specs.declared.stop.Stop.{Stop}
-use Rattle.gw_scan.specs.State.{State}
-use Rattle.gw_scan.specs.Job.{Job, Alone, IsFinal, IsStuck, stop_of}
+use Rattle.gw_step.specs.State.{State}
+use Rattle.gw_step.specs.Job.{Job, Alone, IsFinal, IsStuck, stop_of}
 use Rattle.gw_scan.specs.Making.{spec_fault, job_from}
 use Rattle.gw_report.specs.Report.{report_of, stopped_report_of}
 use Rattle.gpssw.specs.Status.{ended, refused, run_budget}

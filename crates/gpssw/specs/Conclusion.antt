@@ -2,7 +2,7 @@
 use Rattle.std.specs.Prelude.{◌≡◌, Some}
 use Rattle.gw_scan.specs.declared.sim.Status.{Status}
 use Rattle.gw_scan.specs.declared.sim.Status.TheVariants.{Running, Ended, Stopped}
-use Rattle.gw_scan.specs.Job.{Progress, IsStuck, stop_of}
+use Rattle.gw_step.specs.Job.{Progress, IsStuck, stop_of}
 
 -- a named end stands, or the job is stuck at an error stop
 abbrev pub IsOver : Status → Progress → Type 0

@@ -1,7 +1,7 @@
 //! From the bytes of an object to a text and a status.
 
 ghost use Rattle.std.specs.Prelude.{◌≡◌, IfOk};
-ghost use Rattle.gw_scan.specs.Job.{Alone};
+ghost use Rattle.gw_step.specs.Job.{Alone};
 ghost use Rattle.gpssw.specs.Status.{refused as refused_status};
 ghost use Rattle.gpssw.specs.Refusal.{refusal_line};
 ghost use Rattle.gw_object.specs.Reading.{first_fault};

@@ -320,12 +320,12 @@ fn storage_of(sim: &Sim) -> Result<(Contents, Average), Fail> {
     Ok((sim.storages().get(S).contents, sim.storages().average(S)))
 }
 
-/// What is in the queue L, and its average content.
-fn queue_of(sim: &Sim) -> Result<(Contents, Average), Fail> {
-    if !has_entity(sim, L) {
+/// What is in a queue, and its average content.
+fn queue_of(sim: &Sim, entity: u16) -> Result<(Contents, Average), Fail> {
+    if !has_entity(sim, entity) {
         return Err("a queue".into());
     }
-    Ok((sim.queues().get(L), sim.queues().average(L)))
+    Ok((sim.queues().get(entity), sim.queues().average(entity)))
 }
 
 /// How many wait for an entity.
@@ -365,7 +365,7 @@ fn look(sim: &Sim, status: Status) -> Result<Seen, Fail> {
         here: here(sim),
         facility: facility_of(sim)?,
         storage: storage_of(sim)?,
-        queue: queue_of(sim)?,
+        queue: queue_of(sim, L)?,
         waiting: [waiting(sim, F)?, waiting(sim, S)?],
     })
 }

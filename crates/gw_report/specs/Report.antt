@@ -17,12 +17,12 @@ use Rattle.gw_entities.specs.Average.{average}
 use Rattle.gw_entities.specs.Contents.{empty}
 use Rattle.gw_entities.specs.Facility.{idle}
 use Rattle.gw_entities.specs.Storage.{vacant}
-use Rattle.gw_scan.specs.declared.ends.End.TheVariants.{Done, Number, ZeroDivisor, NegativeTime, LoopLimit, NoMoreEvents, Budget, Live}
-use Rattle.gw_scan.specs.State.{State, delay_list}
+use Rattle.gw_step.specs.declared.ends.End.TheVariants.{Done, Number, ZeroDivisor, NegativeTime, LoopLimit, NoMoreEvents, Budget, Live}
+use Rattle.gw_step.specs.State.{State, delay_list}
 use Rattle.gw_scan.specs.declared.sim.Status.{Status}
 use Rattle.gw_scan.specs.declared.sim.Status.TheVariants.{Running, Ended, Stopped}
 use Rattle.gw_scan.specs.Answers.{status_at}
-use Rattle.gw_scan.specs.Job.{Progress}
+use Rattle.gw_step.specs.Job.{Progress}
 
 -- how a job stands: the name of its end, if one stands
 abbrev pub status_word : Status → List ℕ

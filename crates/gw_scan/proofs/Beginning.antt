@@ -1,32 +1,22 @@
 -- A machine in which nothing is scheduled.
-use Rattle.std.proofs.Common.{◌≡◌, ℕ, zero, suc, ◌+◌, pos, List, [], ◌∷◌, map, length, replicate, Option, None, refl, sym, ap, ◌∙◌, subst, arith, false}
+use Rattle.std.proofs.Common.{◌≡◌, ℕ, zero, suc, ◌+◌, pos, List, [], ◌∷◌, map, length, replicate, None, refl, sym, ap, ◌∙◌, subst, false}
 use Rattle.std.proofs.lemmas.List.{length-map, length-replicate}
 use Rattle.gw_chains.specs.declared.tx.Member.{Member}
 use Rattle.gw_object.specs.declared.parts.Entity.{Entity}
 use Rattle.gw_object.specs.declared.parts.Parts.{Parts}
-use Rattle.gw_num.specs.Table.{at}
-use Rattle.gw_num.proofs.Tables.{sum_by-replicate, at-replicate}
-use Rattle.gw_transactions.specs.Transactions.{LiveTransaction}
+use Rattle.gw_num.proofs.Tables.{at-replicate}
 use Rattle.gw_transactions.specs.Transactions.{IsSound}
 use Rattle.gw_entities.specs.Contents.{empty}
 use Rattle.gw_entities.specs.Facility.{idle}
 use Rattle.gw_object.specs.Entities.{capacity_of}
 use Rattle.gw_entities.specs.Storage.{vacant}
 use Rattle.gw_entities.specs.Table.{FacilityTable, StorageTable, QueueTable}
+use Rattle.gw_step.proofs.Nothing.{resides-nothing}
 use Rattle.gw_scan.specs.declared.machine.Machine.{Machine}
-use Rattle.gw_scan.specs.Start.{nothing}
-use Rattle.gw_scan.specs.Residence.{occurrences, ResidesOnce}
+use Rattle.gw_step.specs.Start.{nothing}
+use Rattle.gw_step.specs.Residence.{ResidesOnce}
 use Rattle.gw_scan.specs.View.{state_of, member_number}
 use Rattle.gw_scan.specs.Coherence.{Linked}
-
-pub no_transaction : (n : ℕ) → at {X = Option LiveTransaction} None (None ∷ []) n ≡ None
-no_transaction zero = refl
-no_transaction (suc n) = refl
-
-pub resides-nothing : (p : Parts) (count : ℕ) (streams : List ℕ) → ResidesOnce (nothing p count streams)
-resides-nothing p count streams n =
-    let none = sum_by-replicate [] (occurrences n) (length p.entities) refl in
-    rw (no_transaction n) (omega (arith, none))
 
 -- what the parts of such a machine are
 pub record Begins (p : Parts) (n : ℕ) (ss : List ℕ) (m : Machine) : Type 0 where

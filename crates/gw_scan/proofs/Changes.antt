@@ -11,13 +11,13 @@ use Rattle.gw_transactions.specs.Transactions.{LiveTransaction, put_attributes, 
 use Rattle.gw_num.proofs.Tables.{at-put, set-put, at-get_or_any, at-map}
 use Rattle.gw_transactions.proofs.Populations.{transaction_of}
 use Rattle.gw_scan.specs.declared.machine.Machine.{Machine}
-use Rattle.gw_scan.specs.State.{FutureEvent, priority_of, raised, delay_list}
-use Rattle.gw_scan.specs.Residence.{ResidesOnce, occurrences}
-use Rattle.gw_scan.specs.Changes.{entered, destroyed, rests_until, arrives}
+use Rattle.gw_step.specs.State.{FutureEvent, priority_of, raised, delay_list}
+use Rattle.gw_step.specs.Residence.{ResidesOnce, occurrences}
+use Rattle.gw_step.specs.Changes.{entered, destroyed, rests_until, arrives}
 use Rattle.gw_scan.specs.View.{state_of, event_of, member_number}
 use Rattle.gw_scan.specs.Coherence.{Linked, IsTimed, IsHeld, CanRest, Carries, Every, Others}
-use Rattle.gw_scan.proofs.Lists.{all_placed, map-placed, all_same, map-map}
-use Rattle.gw_scan.proofs.Residence.{resides-entered, resides-destroyed, resides-rests, resides-arrives, alone}
+use Rattle.gw_step.proofs.Lists.{all_placed, map-placed, all_same, map-map}
+use Rattle.gw_step.proofs.Residence.{resides-entered, resides-destroyed, resides-rests, resides-arrives, alone}
 use Rattle.gw_scan.proofs.Handles.{active_carried, members_carried, events_carried, every, others, carries-set, carries-insert, carries-remove}
 
 -- one more at a place, as the code writes it

@@ -8,9 +8,9 @@ use Rattle.gw_flow.specs.Values.{Environment, Value, answered, operand_value, fi
 use Rattle.gw_object.specs.declared.parts.Block.{Block}
 use Rattle.gw_object.specs.declared.parts.Block.TheVariants as blocks
 use Rattle.gw_transactions.specs.declared.Transaction.{Transaction}
-use Rattle.gw_scan.specs.State.{State}
-use Rattle.gw_scan.specs.Times.{environment}
-use Rattle.gw_scan.specs.Blocks.{terminate, effect, then_placed, act}
+use Rattle.gw_step.specs.State.{State}
+use Rattle.gw_step.specs.Times.{environment}
+use Rattle.gw_step.specs.Blocks.{terminate, effect, then_placed, act}
 use Rattle.gw_scan.specs.Drawing.{drawn_from}
 
 -- the value of an operand reads nothing

@@ -12,13 +12,13 @@ use Rattle.gw_entities.specs.Storage.{storage_after}
 use Rattle.gw_entities.specs.Table.{FacilityTable, StorageTable, QueueTable}
 use Rattle.gw_transactions.specs.Transactions.{Population}
 use Rattle.gw_scan.specs.declared.machine.Machine.{Machine}
-use Rattle.gw_scan.specs.State.{FutureEvent, EntityStates, priority_of}
-use Rattle.gw_scan.specs.Residence.{ResidesOnce}
-use Rattle.gw_scan.specs.Changes.{time_passes, clock_moves, numbers}
+use Rattle.gw_step.specs.State.{FutureEvent, EntityStates, priority_of}
+use Rattle.gw_step.specs.Residence.{ResidesOnce}
+use Rattle.gw_step.specs.Changes.{time_passes, clock_moves, numbers}
 use Rattle.gw_scan.specs.View.{state_of, lists_of, entities_of, event_of, member_number}
 use Rattle.gw_scan.specs.Coherence.{Linked, IsTimed, IsRanked, IsHeld, ranked}
-use Rattle.gw_scan.proofs.Lists.{all_map, all_due, all_later, all_all_behind, map-all_behind, map-due, map-later, map-map}
-use Rattle.gw_scan.proofs.Residence.{resides-clock}
+use Rattle.gw_step.proofs.Lists.{all_map, all_due, all_later, all_all_behind, map-all_behind, map-due, map-later, map-map}
+use Rattle.gw_step.proofs.Residence.{resides-clock}
 
 priority : Member → ℤ
 priority m = m.priority

@@ -6,13 +6,13 @@ use Rattle.gw_object.specs.declared.parts.Block.{Block}
 use Rattle.gw_num.specs.Table.{at}
 use Rattle.gw_num.proofs.Tables.{at_past}
 use Rattle.gw_scan.specs.declared.machine.Machine.{Machine}
-use Rattle.gw_scan.specs.State.{State, without}
-use Rattle.gw_scan.specs.Residence.{occurrences, ResidesOnce}
-use Rattle.gw_scan.specs.Changes.{numbers}
+use Rattle.gw_step.specs.State.{State, without}
+use Rattle.gw_step.specs.Residence.{occurrences, ResidesOnce}
+use Rattle.gw_step.specs.Changes.{numbers}
 use Rattle.gw_scan.specs.View.{state_of, event_of, member_number}
 use Rattle.gw_scan.specs.Coherence.{IsSteady}
-use Rattle.gw_scan.proofs.Residence.{one_if, at_most_one, same_number, occurrences-without}
-use Rattle.gw_scan.proofs.Within.{length-without}
+use Rattle.gw_step.proofs.Residence.{one_if, at_most_one, same_number, occurrences-without}
+use Rattle.gw_step.proofs.Within.{length-without}
 
 one_or_none : (k : ℕ) → (k ≡ 0) ⊎ (1 ≤ k)
 one_or_none zero = inl refl

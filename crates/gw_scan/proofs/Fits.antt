@@ -5,7 +5,7 @@ use Rattle.std.specs.List.{All, AllByRecursion, list_all}
 use Rattle.std.proofs.lemmas.Bool.{leb-true, eqb-false, and_parts}
 use Rattle.std.proofs.lemmas.List.Elements.{All-from_get_or, recursion_from_All}
 use Rattle.std.proofs.lemmas.List.FromFn.{length-map-range_with_len, get_or-map-range_with_len}
-use Rattle.gw_scan.specs.Job.{seed_at, streams_of}
+use Rattle.gw_step.specs.Job.{seed_at, streams_of}
 use Rattle.gw_scan.specs.Making.{seeds_fit, seeds_or, count_or}
 
 tested : (seeds : List ℕ) → list_all (λ seed. nat_le seed 2147483646) seeds ≡ true → AllByRecursion (λ seed. seed ≤ 2147483646) seeds

@@ -9,11 +9,11 @@ use Rattle.gw_transactions.specs.declared.Transaction.{Transaction}
 use Rattle.gw_num.specs.Table.{at, put}
 use Rattle.gw_transactions.specs.Transactions.{LiveTransaction, Population, put_attributes, Holds, IsSound}
 use Rattle.gw_num.proofs.Tables.{at-put, at-put_other}
-use Rattle.gw_scan.specs.State.{priority_in, priority_of}
-use Rattle.gw_scan.specs.Residence.{occurrences}
+use Rattle.gw_step.specs.State.{priority_in, priority_of}
+use Rattle.gw_step.specs.Residence.{occurrences}
 use Rattle.gw_scan.specs.Coherence.{IsRanked, IsHeld, Carries, Every, Others}
-use Rattle.gw_scan.proofs.Residence.{same_number}
-use Rattle.gw_scan.proofs.Attributes.{priority-attributes}
+use Rattle.gw_step.proofs.Residence.{same_number}
+use Rattle.gw_step.proofs.Attributes.{priority-attributes}
 
 pub active_carried : (p q : Population) → Carries Every p q → (a : Option Tx) → IfSome a (Holds p) → IfSome a (Holds q)
 active_carried p q c None h = tt

@@ -6,13 +6,13 @@ use Rattle.gw_chains.specs.Lists.{Waiting}
 use Rattle.gw_chains.specs.declared.tx.Tx.{Tx}
 use Rattle.gw_chains.specs.declared.tx.Member.{Member}
 use Rattle.gw_scan.specs.declared.machine.Machine.{Machine}
-use Rattle.gw_scan.specs.State.{priority_of}
-use Rattle.gw_scan.specs.Residence.{ResidesOnce}
-use Rattle.gw_scan.specs.Changes.{retries, woken}
+use Rattle.gw_step.specs.State.{priority_of}
+use Rattle.gw_step.specs.Residence.{ResidesOnce}
+use Rattle.gw_step.specs.Changes.{retries, woken}
 use Rattle.gw_scan.specs.View.{state_of, lists_of, member_number}
 use Rattle.gw_scan.specs.Coherence.{Linked, IsRanked, CanRest}
-use Rattle.gw_scan.proofs.Lists.{all_all_behind, map-all_behind}
-use Rattle.gw_scan.proofs.Residence.{resides-retries, resides-woken}
+use Rattle.gw_step.proofs.Lists.{all_all_behind, map-all_behind}
+use Rattle.gw_step.proofs.Residence.{resides-retries, resides-woken}
 use Rattle.gw_scan.proofs.Changes.{timed-kept}
 use Rattle.gw_scan.proofs.Due.{agree}
 

@@ -1,19 +1,12 @@
 -- The first arrivals, block after block.
 use Rattle.std.proofs.Common.{◌≡◌, ℕ, suc, ◌+◌, ◌≤◌, ◌<◌, List, [], length, drop, drop-cons, get_or, Option, Some, None, is_some, true, false, refl, sym, ap, ◌∙◌, arith}
 use Rattle.std.proofs.lemmas.List.{drop_all}
-use Rattle.gw_object.specs.declared.parts.Generate.{Generate}
 use Rattle.gw_object.specs.declared.parts.Block.{Block}
-use Rattle.gw_object.specs.declared.parts.Block.TheVariants as blocks
-use Rattle.gw_scan.specs.declared.ends.End.{End}
-use Rattle.gw_scan.specs.Outcome.{Outcome, Gives, EndsBy, ◌>>=◌}
-use Rattle.gw_scan.specs.State.{State}
-use Rattle.gw_scan.specs.Start.{first_arrival, first_arrivals}
+use Rattle.gw_step.specs.declared.ends.End.{End}
+use Rattle.gw_step.specs.Outcome.{Outcome, Gives, EndsBy, ◌>>=◌}
+use Rattle.gw_step.specs.State.{State}
+use Rattle.gw_step.specs.Start.{first_arrival, first_arrivals}
 use Rattle.gw_scan.specs.Makes.{Schedules}
-use Rattle.gw_scan.proofs.PlainBlocks.{by_block}
-
--- a block by whether a first arrival is scheduled at it
-pub by_arrival : (P : Block → Type 0) → ((g : Generate) → P (blocks.Generate g)) → ((block : Block) → ((b : ℕ) (s : State) → first_arrival b block s ≡ Gives s) → P block) → (block : Block) → P block
-by_arrival P arrives none = by_block P arrives (λ f. none (blocks.Seize f) (λ b s. refl)) (λ u. none (blocks.Enter u) (λ b s. refl)) (λ block plain. none block plain.arrives)
 
 add_one : (i : ℕ) → i + 1 ≡ suc i
 add_one i = omega arith

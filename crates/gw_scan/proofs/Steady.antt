@@ -3,7 +3,6 @@ use Rattle.std.proofs.Common.{◌≡◌, ℕ, suc, ◌+◌, ◌^◌, ◌≤◌, 
 use Rattle.gw_object.specs.declared.parts.Units.{Units}
 use Rattle.gw_object.specs.declared.parts.Block.{Block}
 use Rattle.gw_chains.specs.declared.tx.Tx.{Tx}
-use Rattle.gw_num.proofs.Tables.{at-put}
 use Rattle.gw_transactions.specs.declared.Transaction.{Transaction}
 use Rattle.gw_transactions.specs.Transactions.{attributes_at}
 use Rattle.gw_entities.specs.declared.facilities.Facility.{Facility}
@@ -11,19 +10,19 @@ use Rattle.gw_entities.specs.declared.storages.Storage.{Storage}
 use Rattle.gw_entities.specs.declared.stop.Stop.{Stop}
 use Rattle.gw_entities.specs.declared.stop.Stop.TheVariants.{NotOwner, TooFew}
 use Rattle.gw_entities.specs.Contents.{holds}
-use Rattle.gw_entities.specs.Facility.{idle, is_idle, is_owned_by, released, releasing}
+use Rattle.gw_entities.specs.Facility.{is_owned_by, released, releasing}
 use Rattle.gw_entities.specs.Storage.{left, leaving}
 use Rattle.gw_entities.specs.Table.{FacilityTable}
 use Rattle.gw_scan.specs.declared.machine.Machine.{Machine}
-use Rattle.gw_scan.specs.State.{State}
-use Rattle.gw_scan.specs.Changes.{enters_and_falls, facility, storage, put_facility, put_storage}
-use Rattle.gw_scan.specs.Numbers.{IsWithin}
+use Rattle.gw_step.specs.State.{State}
+use Rattle.gw_step.specs.Changes.{enters_and_falls, facility, storage, put_facility, put_storage}
+use Rattle.gw_step.specs.Numbers.{IsWithin}
 use Rattle.gw_scan.specs.View.{state_of}
 use Rattle.gw_scan.specs.Coherence.{Linked, IsSteady, IsActive, IsPassing}
 use Rattle.gw_scan.specs.Makes.{Leaves}
-use Rattle.gw_scan.proofs.Within.{raises-same, within-entered, within-more}
-use Rattle.gw_scan.proofs.Follows.{within-released, within-given_back}
-use Rattle.gw_scan.proofs.Attributes.{number_below}
+use Rattle.gw_step.proofs.Within.{raises-same, within-entered, within-more}
+use Rattle.gw_step.proofs.Follows.{within-released, within-given_back}
+use Rattle.gw_step.proofs.Attributes.{number_below}
 
 -- a machine whose state keeps its numbers, and whose entities are as many as before
 pub steady-now : (bs : List Block) (k l : ℕ) (m new : Machine) → IsSteady bs k m → l ≤ k + 1 → length new.facilities.facilities ≡ length m.facilities.facilities → Linked new → IsWithin (length bs) (length m.facilities.facilities) l l (state_of new) → l ≤ 2 ^ 41 → IsSteady bs l new
@@ -125,9 +124,6 @@ passing-given_back bs m mid new tx t u x a here same linked frame is linked_new 
     (ap (λ (x : Machine). x.steps) frame_new ∙ ap (λ (x : Machine). x.steps) frame)
     (ap (λ (x : Machine). x.transactions) frame_new ∙ ap (λ (x : Machine). x.transactions) frame)
     (steady-given_back bs m.steps mid new u steady (rw fac here) (given_back-as u x (state_of mid) (state_of new) is) (ap (λ (x : Machine). x.facilities) frame_new) linked_new)
-
-pub idle-released : (f : ℕ) (s : State) → is_idle (facility f (put_facility f (released (facility f s)) s)) ≡ true
-idle-released f s = ap is_idle (at-put idle s.entities.facilities f (released (facility f s)))
 
 -- room was made
 pub active-same : (bs : List Block) (m new : Machine) (tx : Tx) (t : Transaction) → IsActive bs m tx t → state_of new ≡ state_of m → Linked new → new ≡ record m { current_events = new.current_events; future_events = new.future_events } → IsActive bs new tx t

@@ -11,13 +11,13 @@ use Rattle.gw_num.specs.Table.{at, put}
 use Rattle.gw_num.proofs.Tables.{at-put, at-put_other, length-put, map-put}
 use Rattle.gw_transactions.specs.Transactions.{Population, Holds}
 use Rattle.gw_scan.specs.declared.machine.Machine.{Machine}
-use Rattle.gw_scan.specs.State.{priority_of, delay_list, without}
-use Rattle.gw_scan.specs.Changes.{waits_for, called_from}
-use Rattle.gw_scan.specs.Residence.{ResidesOnce, occurrences}
+use Rattle.gw_step.specs.State.{priority_of, delay_list, without}
+use Rattle.gw_step.specs.Changes.{waits_for, called_from}
+use Rattle.gw_step.specs.Residence.{ResidesOnce, occurrences}
 use Rattle.gw_scan.specs.View.{state_of, lists_of, member_number}
 use Rattle.gw_scan.specs.Coherence.{Linked, IsRanked}
-use Rattle.gw_scan.proofs.Lists.{all_placed, map-behind}
-use Rattle.gw_scan.proofs.Residence.{same_number, waits-once, resides-waits, resides-called}
+use Rattle.gw_step.proofs.Lists.{all_placed, map-behind}
+use Rattle.gw_step.proofs.Residence.{same_number, waits-once, resides-waits, resides-called}
 use Rattle.gw_scan.proofs.Changes.{delay_list-at, timed-kept}
 use Rattle.gw_scan.proofs.Due.{agree}
 

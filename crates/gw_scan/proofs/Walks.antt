@@ -11,24 +11,24 @@ use Rattle.gw_chains.specs.declared.tx.Member.{Member}
 use Rattle.gw_transactions.specs.Transactions.{attributes_at}
 use Rattle.gw_entities.specs.Table.{FacilityTable}
 use Rattle.gw_scan.specs.declared.machine.Machine.{Machine}
-use Rattle.gw_scan.specs.State.{State, delay_list}
-use Rattle.gw_scan.specs.Blocks.{takes_over, hand_over, asked, enters_if_free, admitted, looked_at, is_full, admission}
-use Rattle.gw_scan.specs.Changes.{storage, put_storage, called_from, enters_and_falls}
-use Rattle.gw_scan.specs.Operands.{BlocksFit}
-use Rattle.gw_scan.proofs.Outcomes.{choose, by_option}
+use Rattle.gw_step.specs.State.{State, delay_list}
+use Rattle.gw_step.specs.Blocks.{takes_over, hand_over, asked, enters_if_free, admitted, looked_at, is_full, admission}
+use Rattle.gw_step.specs.Changes.{storage, put_storage, called_from, enters_and_falls}
+use Rattle.gw_step.specs.Operands.{BlocksFit}
+use Rattle.gw_step.proofs.Outcomes.{choose, by_option}
 use Rattle.gw_entities.specs.Storage.{has_room, entered}
 use Rattle.gw_kinds.specs.Kinds.{block_at}
 use Rattle.gw_object.specs.declared.parts.Units.{Units}
 use Rattle.gw_object.specs.declared.parts.Block.TheVariants as blocks
 use Rattle.gw_transactions.specs.declared.Transaction.{Transaction}
 use Rattle.std.proofs.lemmas.Bool.{leb-true}
-use Rattle.gw_scan.specs.Residence.{occurrences}
-use Rattle.gw_scan.specs.Numbers.{IsWithin}
+use Rattle.gw_step.specs.Residence.{occurrences}
+use Rattle.gw_step.specs.Numbers.{IsWithin}
 use Rattle.gw_scan.specs.View.{state_of, member_number}
 use Rattle.gw_scan.specs.Coherence.{Linked, IsSteady}
 use Rattle.gw_scan.specs.Makes.{Moves}
 use Rattle.gw_scan.proofs.Changes.{delay_list-at}
-use Rattle.gw_scan.proofs.Follows.{within-looked_at, asked-enter}
+use Rattle.gw_step.proofs.Follows.{within-looked_at, asked-enter}
 use Rattle.gw_scan.proofs.Waiters.{occurs-at, length-remove}
 
 abbrev pub handle : Member → Tx

@@ -1,10 +1,10 @@
 -- What a call of `step` answers.
 use Rattle.std.specs.Prelude.{◌≡◌, Option, Some, None}
-use Rattle.gw_scan.specs.declared.ends.End.{End}
+use Rattle.gw_step.specs.declared.ends.End.{End}
 use Rattle.gw_scan.specs.declared.sim.Status.{Status}
 use Rattle.gw_scan.specs.declared.sim.Status.TheVariants.{Running, Ended, Stopped}
-use Rattle.gw_scan.specs.State.{State}
-use Rattle.gw_scan.specs.Job.{Job, Step, IsStuck, stop_of}
+use Rattle.gw_step.specs.State.{State}
+use Rattle.gw_step.specs.Job.{Job, Step, IsStuck, stop_of}
 
 -- running, or the named end that stands
 abbrev pub status_at : Option End → Status

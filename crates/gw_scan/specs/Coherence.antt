@@ -9,12 +9,12 @@ use Rattle.gw_num.specs.Table.{at}
 use Rattle.gw_transactions.specs.declared.Transaction.{Transaction}
 use Rattle.gw_transactions.specs.Transactions.{Population, attributes_at, Holds, IsSound}
 use Rattle.gw_scan.specs.declared.machine.Machine.{Machine}
-use Rattle.gw_scan.specs.declared.placement.Placement.{Placement}
-use Rattle.gw_scan.specs.declared.placement.Placement.TheVariants.{JoinsDelayList, JoinsRetryList}
-use Rattle.gw_scan.specs.State.{priority_of}
-use Rattle.gw_scan.specs.Residence.{ResidesOnce}
-use Rattle.gw_scan.specs.Numbers.{IsWithin}
-use Rattle.gw_scan.specs.Operands.{BlocksFit}
+use Rattle.gw_step.specs.declared.placement.Placement.{Placement}
+use Rattle.gw_step.specs.declared.placement.Placement.TheVariants.{JoinsDelayList, JoinsRetryList}
+use Rattle.gw_step.specs.State.{priority_of}
+use Rattle.gw_step.specs.Residence.{ResidesOnce}
+use Rattle.gw_step.specs.Numbers.{IsWithin}
+use Rattle.gw_step.specs.Operands.{BlocksFit}
 use Rattle.gw_scan.specs.View.{state_of}
 
 -- HANDLES

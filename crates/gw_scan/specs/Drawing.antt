@@ -1,7 +1,7 @@
 -- What a call that drew from the first stream answers.
 use Rattle.std.specs.Prelude.{ℕ, ℤ, List}
 use Rattle.gw_flow.specs.Values.{Evaluation, Value, Fails, Unset, with_first}
-use Rattle.gw_scan.specs.Outcome.{Outcome, Gives, ◌>>=◌}
+use Rattle.gw_step.specs.Outcome.{Outcome, Gives, ◌>>=◌}
 
 -- the streams once the first of them is where the call says, with what was drawn
 abbrev pub with_streams_after : List ℕ → ℤ × ℕ → ℤ × List ℕ

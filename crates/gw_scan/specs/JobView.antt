@@ -1,6 +1,6 @@
 -- The job that a spec stands for.
 use Rattle.gw_scan.specs.declared.spec.Spec.TheInside.{Inside}
-use Rattle.gw_scan.specs.Job.{Job, JobFits}
+use Rattle.gw_step.specs.Job.{Job, JobFits}
 
 -- its object, seeds, count and budget
 abbrev pub job_of : Inside → Job

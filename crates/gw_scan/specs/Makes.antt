@@ -2,14 +2,14 @@
 use Rattle.std.specs.Prelude.{[], ◌≡◌, ℕ, ◌+◌, ◌≤◌, remove, List, Option, Some, None, Result, Ok, Err, Bool, true, false}
 use Rattle.gw_object.specs.declared.parts.Block.{Block}
 use Rattle.gw_entities.specs.declared.stop.Stop.{Stop}
-use Rattle.gw_scan.specs.declared.ends.End.{End}
+use Rattle.gw_step.specs.declared.ends.End.{End}
 use Rattle.gw_num.specs.Table.{at}
 use Rattle.gw_scan.specs.declared.machine.Machine.{Machine}
 use Rattle.gw_scan.specs.declared.machine.Made.{Made}
 use Rattle.gw_scan.specs.declared.machine.Made.TheVariants.{Step, Ends, Stops}
-use Rattle.gw_scan.specs.Outcome.{Outcome, Gives, EndsBy, StopsBy, stop_in}
-use Rattle.gw_scan.specs.State.{State}
-use Rattle.gw_scan.specs.Step.{step, scan}
+use Rattle.gw_step.specs.Outcome.{Outcome, Gives, EndsBy, StopsBy, stop_in}
+use Rattle.gw_step.specs.State.{State}
+use Rattle.gw_step.specs.Step.{step, scan}
 use Rattle.gw_scan.specs.View.{state_of}
 
 -- the outcome is the new state; or it is an end or an error stop, and nothing changed

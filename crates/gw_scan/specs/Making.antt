@@ -4,7 +4,7 @@ use Rattle.std.specs.List.{list_all}
 use Rattle.gw_object.specs.declared.parts.Parts.{Parts}
 use Rattle.gw_scan.specs.declared.spec.StartFault.{StartFault}
 use Rattle.gw_scan.specs.declared.spec.StartFault.TheVariants.{Seed, Count, Budget}
-use Rattle.gw_scan.specs.Job.{Job, streams_of}
+use Rattle.gw_step.specs.Job.{Job, streams_of}
 
 -- at most 16 seeds, each at most 2147483646
 abbrev pub seeds_fit : List ℕ → Bool

@@ -1,6 +1,6 @@
 -- The job and the state that a sim stands for.
 use Rattle.gw_scan.specs.declared.sim.Sim.TheInside.{Inside}
-use Rattle.gw_scan.specs.Job.{Progress, IsReached}
+use Rattle.gw_step.specs.Job.{Progress, IsReached}
 use Rattle.gw_scan.specs.View.{state_of}
 use Rattle.gw_scan.specs.Coherence.{Linked}
 

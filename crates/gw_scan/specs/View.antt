@@ -4,7 +4,7 @@ use Rattle.gw_chains.specs.declared.tx.Tx.{Tx}
 use Rattle.gw_chains.specs.declared.tx.Member.{Member}
 use Rattle.gw_chains.specs.declared.tx.Event.{Event}
 use Rattle.gw_scan.specs.declared.machine.Machine.{Machine}
-use Rattle.gw_scan.specs.State.{FutureEvent, Lists, EntityStates, State}
+use Rattle.gw_step.specs.State.{FutureEvent, Lists, EntityStates, State}
 
 -- the number of a member of a list by priority
 abbrev pub member_number : Member → ℕ

@@ -4,25 +4,24 @@ ghost use Rattle.std.specs.Prelude.{◌≡◌, ◌≤◌, ◌<◌, ◌+◌, ◌^
 ghost use Rattle.gw_kinds.specs.Kinds.{block_at};
 ghost use Rattle.gw_num.specs.Table.{at};
 ghost use Rattle.gw_transactions.specs.Transactions.{Holds, live_count};
-ghost use Rattle.gw_scan.specs.State as state;
-ghost use Rattle.gw_scan.specs.Changes as change;
-ghost use Rattle.gw_scan.specs.Blocks as model;
-ghost use Rattle.gw_scan.specs.Placing.{placed};
+ghost use Rattle.gw_step.specs.State as state;
+ghost use Rattle.gw_step.specs.Changes as change;
+ghost use Rattle.gw_step.specs.Blocks as model;
+ghost use Rattle.gw_step.specs.Placing.{placed};
 ghost use Rattle.gw_scan.specs.View.{state_of};
-ghost use Rattle.gw_scan.specs.Operands.{OperandsFit, UnitsFit};
+ghost use Rattle.gw_step.specs.Operands.{OperandsFit, UnitsFit};
 ghost use Rattle.gw_entities.specs.Facility.{is_idle as is_idle_now};
-ghost use Rattle.gw_scan.specs.Coherence.{Linked, HasRoom, CanBePlaced, IsActive, IsPassing};
+ghost use Rattle.gw_scan.specs.Coherence.{Linked, CanBePlaced, IsActive, IsPassing};
 ghost use Rattle.gw_scan.specs.Makes.{Makes};
 
-use crate::ends::End;
 use crate::machine::{Machine, Made};
-use crate::placement::Placement;
 use crate::times::{drawn_moment, drawn_thousandths, drawn_time, end_by, moment_after, value_of};
 use crate::transfers::block_of;
 use gw_chains::{Memory, Tx};
 use gw_entities::Stop;
 use gw_num::Stream;
 use gw_object::{Block, Fraction, Generate, Spread, Units};
+use gw_step::{End, Placement};
 use gw_transactions::Transaction;
 
 /// The most live transactions, scheduled arrivals included (ours: docs/machine.md).
@@ -170,45 +169,53 @@ impl Machine {
         transaction: Transaction,
         stream: Stream,
         placement: Placement,
-    )
+    ) -> Result<(), Memory>
         requires active { IsActive blocks.now self.old tx transaction }
-        requires room { HasRoom self.old }
         requires there { CanBePlaced placement self.old }
-        ensures state { state_of self.new ≡ placed tx.number placement (change.enters_and_falls tx.number transaction (state.with_first_stream stream (state_of self.old))) }
+        ensures ok { OnOk result (state_of self.new ≡ placed tx.number placement (change.enters_and_falls tx.number transaction (state.with_first_stream stream (state_of self.old)))) }
+        ensures err { OnErr result (state_of self.new ≡ state_of self.old) }
         ensures linked { Linked self.new }
     {
+        self.reserve_rest()?;
         self.set_stream(stream);
         self.enter(tx, transaction, transaction.next + 1);
         self.place(tx, transaction.priority, placement);
+        Ok(())
     }
 
     /// ADVANCE: the transaction rests for a drawn time; where that is 0 it stays active.
-    #[tactic(auto, unfolding(crate::specs::Blocks::act, crate::specs::Blocks::effect))]
-    fn advance(&mut self, blocks: &[Block], tx: Tx, transaction: Transaction, time: Spread) -> Made
-        requires active { IsActive blocks.now self.old tx transaction }
-        requires room { HasRoom self.old }
-        ensures made { Makes result (model.act blocks.now tx.number transaction (Block.Advance time) (state_of self.old)) (state_of self.old) (state_of self.new) }
+    #[tactic(auto, unfolding(gw_step::specs::Blocks::act, gw_step::specs::Blocks::effect))]
+    fn advance(
+        &mut self,
+        blocks: &[Block],
+        tx: Tx,
+        transaction: Transaction,
+        time: Spread,
+    ) -> Result<Made, Memory>
+        requires { IsActive blocks.now self.old tx transaction }
+        ensures made { IfOk result (λ made. Makes made (model.act blocks.now tx.number transaction (Block.Advance time) (state_of self.old)) (state_of self.old) (state_of self.new)) }
+        ensures err { OnErr result (state_of self.new ≡ state_of self.old) }
         ensures linked { Linked self.new }
     {
         let (time, stream) = match drawn_time(time, &self.streams) {
             Ok(drawn) => drawn,
-            Err(fault) => return Made::Ends(end_by(fault)),
+            Err(fault) => return Ok(Made::Ends(end_by(fault))),
         };
         let moment = match moment_after(self.clock, time) {
             Ok(moment) => moment,
-            Err(end) => return Made::Ends(end),
+            Err(end) => return Ok(Made::Ends(end)),
         };
         if !may_enter(blocks, transaction.next + 1) {
-            return Made::Stops(Stop::NoBlock);
+            return Ok(Made::Stops(Stop::NoBlock));
         }
-        self.pass_to(blocks, tx, transaction, stream, until(self.clock, moment));
-        Made::Step
+        self.pass_to(blocks, tx, transaction, stream, until(self.clock, moment))?;
+        Ok(Made::Step)
     }
 
     // FACILITIES
 
     /// SEIZE: the transaction owns an idle facility from now on, and waits for one that another owns.
-    #[tactic(auto, unfolding(crate::specs::Blocks::effect))]
+    #[tactic(auto, unfolding(gw_step::specs::Blocks::effect))]
     fn seize(
         &mut self,
         blocks: &[Block],
@@ -217,7 +224,6 @@ impl Machine {
         f: u16,
     ) -> Result<Made, Memory>
         requires active { IsActive blocks.now self.old tx transaction }
-        requires room { HasRoom self.old }
         requires there { f < length self.old.facilities.facilities }
         ensures made { IfOk result (λ made. Makes made (model.meets blocks.now tx.number transaction (Block.Seize f) [] (state_of self.old)) (state_of self.old) (state_of self.new)) }
         ensures err { OnErr result (state_of self.new ≡ state_of self.old) }
@@ -278,7 +284,7 @@ impl Machine {
     // STORAGES
 
     /// ENTER: units are taken where they are free; else the transaction waits.
-    #[tactic(auto, unfolding(crate::specs::Blocks::effect))]
+    #[tactic(auto, unfolding(gw_step::specs::Blocks::effect))]
     fn enter_storage(
         &mut self,
         blocks: &[Block],
@@ -287,7 +293,6 @@ impl Machine {
         u: Units,
     ) -> Result<Made, Memory>
         requires active { IsActive blocks.now self.old tx transaction }
-        requires room { HasRoom self.old }
         requires units { UnitsFit (length self.old.facilities.facilities) u }
         ensures made { IfOk result (λ made. Makes made (model.meets blocks.now tx.number transaction (Block.Enter u) [] (state_of self.old)) (state_of self.old) (state_of self.new)) }
         ensures err { OnErr result (state_of self.new ≡ state_of self.old) }
@@ -396,7 +401,7 @@ impl Machine {
 
     /// TRANSFER in fractional mode: thousandths are drawn from the first stream, and the transaction goes to one block or
     /// the other.
-    #[tactic(auto, unfolding(crate::specs::Blocks::act, crate::specs::Blocks::effect))]
+    #[tactic(auto, unfolding(gw_step::specs::Blocks::act, gw_step::specs::Blocks::effect))]
     fn transfer_by_fraction(
         &mut self,
         blocks: &[Block],
@@ -421,72 +426,54 @@ impl Machine {
     // THE END OF A TRANSACTION
 
     /// The transaction enters its TERMINATE block, the termination count falls, and it is destroyed.
-    fn pass_and_leave(&mut self, blocks: &[Block], tx: Tx, transaction: Transaction, by: i64)
-        requires active { IsActive blocks.now self.old tx transaction }
-        requires room { HasRoom self.old }
-        requires by { pos 0 ≤ℤ by }
-        ensures state { state_of self.new ≡ placed tx.number Placement.LeavesModel (change.counted by (change.entered tx.number transaction transaction.next (state_of self.old))) }
-        ensures linked { Linked self.new }
-    {
-        self.enter(tx, transaction, transaction.next);
-        self.count_down(by);
-        self.place(tx, transaction.priority, Placement::LeavesModel);
-    }
-
-    /// TERMINATE: the transaction, which owns nothing, is destroyed, and the termination count falls. Less than 0 is a
-    /// named end.
-    fn terminate(&mut self, blocks: &[Block], tx: Tx, transaction: Transaction, by: i64) -> Made
-        requires active { IsActive blocks.now self.old tx transaction }
-        requires room { HasRoom self.old }
-        ensures made { Makes result (model.then_placed tx.number (model.terminate tx.number transaction by (state_of self.old))) (state_of self.old) (state_of self.new) }
-        ensures linked { Linked self.new }
-    {
-        if by < 0 {
-            return Made::Ends(End::Number);
-        }
-        if self.facilities.owns_any(tx.number) {
-            return Made::Stops(Stop::OwnsAtEnd);
-        }
-        self.pass_and_leave(blocks, tx, transaction, by);
-        Made::Step
-    }
-
-    // THE STEP
-
-    /// What the active transaction does at its next block, where there is room for it to rest; on Memory, nothing.
-    #[tactic(auto, unfolding(crate::specs::Blocks::act, crate::specs::Blocks::effect))]
-    fn meet(
+    fn pass_and_leave(
         &mut self,
         blocks: &[Block],
         tx: Tx,
         transaction: Transaction,
-        block: Block,
-    ) -> Result<Made, Memory>
+        by: i64,
+    ) -> Result<(), Memory>
         requires active { IsActive blocks.now self.old tx transaction }
-        requires room { HasRoom self.old }
-        requires operands { OperandsFit (length self.old.facilities.facilities) block }
-        ensures made { IfOk result (λ made. Makes made (model.act blocks.now tx.number transaction block (state_of self.old)) (state_of self.old) (state_of self.new)) }
+        requires by { pos 0 ≤ℤ by }
+        ensures ok { OnOk result (state_of self.new ≡ placed tx.number Placement.LeavesModel (change.counted by (change.entered tx.number transaction transaction.next (state_of self.old)))) }
         ensures err { OnErr result (state_of self.new ≡ state_of self.old) }
         ensures linked { Linked self.new }
     {
-        match block {
-            Block::Generate(g) => self.generate(blocks, tx, transaction, g),
-            Block::Terminate(by) => Ok(self.terminate(blocks, tx, transaction, value_of(by))),
-            Block::Advance(time) => Ok(self.advance(blocks, tx, transaction, time)),
-            Block::Seize(f) => self.seize(blocks, tx, transaction, f),
-            Block::Release(f) => self.release(blocks, tx, transaction, f),
-            Block::Enter(units) => self.enter_storage(blocks, tx, transaction, units),
-            Block::Leave(units) => self.leave(blocks, tx, transaction, units),
-            Block::Queue(units) => Ok(self.join_queue(blocks, tx, transaction, units)),
-            Block::Depart(units) => Ok(self.depart(blocks, tx, transaction, units)),
-            Block::Transfer(target) => Ok(self.transfer(blocks, tx, transaction, target)),
-            Block::TransferByFraction(fraction) => {
-                Ok(self.transfer_by_fraction(blocks, tx, transaction, fraction))
-            }
-        }
+        self.reserve_rest()?;
+        self.enter(tx, transaction, transaction.next);
+        self.count_down(by);
+        self.place(tx, transaction.priority, Placement::LeavesModel);
+        Ok(())
     }
 
+    /// TERMINATE: the transaction, which owns nothing, is destroyed, and the termination count falls. Less than 0 is a
+    /// named end.
+    fn terminate(
+        &mut self,
+        blocks: &[Block],
+        tx: Tx,
+        transaction: Transaction,
+        by: i64,
+    ) -> Result<Made, Memory>
+        requires { IsActive blocks.now self.old tx transaction }
+        ensures made { IfOk result (λ made. Makes made (model.then_placed tx.number (model.terminate tx.number transaction by (state_of self.old))) (state_of self.old) (state_of self.new)) }
+        ensures err { OnErr result (state_of self.new ≡ state_of self.old) }
+        ensures linked { Linked self.new }
+    {
+        if by < 0 {
+            return Ok(Made::Ends(End::Number));
+        }
+        if self.facilities.owns_any(tx.number) {
+            return Ok(Made::Stops(Stop::OwnsAtEnd));
+        }
+        self.pass_and_leave(blocks, tx, transaction, by)?;
+        Ok(Made::Step)
+    }
+
+    // THE STEP
+
     /// What the active transaction does at its next block; on Memory, nothing.
+    #[tactic(auto, unfolding(gw_step::specs::Blocks::act, gw_step::specs::Blocks::effect))]
     pub fn act(
         &mut self,
         blocks: &[Block],
@@ -500,7 +487,20 @@ impl Machine {
         ensures err { OnErr result (state_of self.new ≡ state_of self.old) }
         ensures linked { Linked self.new }
     {
-        self.reserve_rest()?;
-        self.meet(blocks, tx, transaction, block)
+        match block {
+            Block::Generate(g) => self.generate(blocks, tx, transaction, g),
+            Block::Terminate(by) => self.terminate(blocks, tx, transaction, value_of(by)),
+            Block::Advance(time) => self.advance(blocks, tx, transaction, time),
+            Block::Seize(f) => self.seize(blocks, tx, transaction, f),
+            Block::Release(f) => self.release(blocks, tx, transaction, f),
+            Block::Enter(units) => self.enter_storage(blocks, tx, transaction, units),
+            Block::Leave(units) => self.leave(blocks, tx, transaction, units),
+            Block::Queue(units) => Ok(self.join_queue(blocks, tx, transaction, units)),
+            Block::Depart(units) => Ok(self.depart(blocks, tx, transaction, units)),
+            Block::Transfer(target) => Ok(self.transfer(blocks, tx, transaction, target)),
+            Block::TransferByFraction(fraction) => {
+                Ok(self.transfer_by_fraction(blocks, tx, transaction, fraction))
+            }
+        }
     }
 }

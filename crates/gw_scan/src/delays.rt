@@ -4,8 +4,8 @@ ghost use Rattle.std.specs.Prelude.{[], ◌≡◌, ◌≤◌, ◌<◌, ◌+◌, 
 ghost use Rattle.gw_num.specs.Table.{at};
 ghost use Rattle.gw_chains.specs.declared.tx.Member.{Member};
 ghost use Rattle.gw_transactions.specs.Transactions.{Holds};
-ghost use Rattle.gw_scan.specs.State.{priority_of};
-ghost use Rattle.gw_scan.specs.Changes as model;
+ghost use Rattle.gw_step.specs.State.{priority_of};
+ghost use Rattle.gw_step.specs.Changes as model;
 ghost use Rattle.gw_scan.specs.View.{state_of};
 ghost use Rattle.gw_scan.specs.Coherence.{Linked};
 

@@ -3,11 +3,8 @@
 
 mod blocks;
 mod delays;
-mod ends;
 mod entities;
-mod laws;
 mod machine;
-mod placement;
 mod resting;
 mod scan;
 mod sim;
@@ -16,11 +13,10 @@ mod start;
 mod times;
 mod transfers;
 
-pub use ends::End;
 pub use gw_entities::Stop;
-pub use laws::{
-    all_jobs_come_to_rest, ends_leave_the_rest, no_job_meets_an_error_stop, slices_reach_the_same,
-    steps_are_determined, typed_states_never_get_stuck,
+pub use gw_step::{
+    End, all_jobs_come_to_rest, ends_leave_the_rest, no_job_meets_an_error_stop,
+    slices_reach_the_same, steps_are_determined, typed_states_never_get_stuck,
 };
 pub use sim::{Sim, Status};
 pub use spec::{Spec, StartFault};

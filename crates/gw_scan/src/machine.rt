@@ -3,15 +3,15 @@
 ghost use Rattle.std.specs.Prelude.{◌≡◌, ◌≤◌, ◌<◌, ◌+◌, ◌^◌, Some, None, length, vec_len, sum, OnOk, OnErr, pos, ◌<ℤ◌, ◌≤ℤ◌};
 ghost use Rattle.gw_num.specs.Table.{at};
 ghost use Rattle.gw_transactions.specs.Transactions.{Holds};
-ghost use Rattle.gw_scan.specs.State.{priority_of, raised, with_first_stream};
-ghost use Rattle.gw_scan.specs.Changes as model;
+ghost use Rattle.gw_step.specs.State.{priority_of, raised, with_first_stream};
+ghost use Rattle.gw_step.specs.Changes as model;
 ghost use Rattle.gw_scan.specs.View.{state_of};
 ghost use Rattle.gw_scan.specs.Coherence.{Linked, Carries, Every};
 
-use crate::ends::End;
 use gw_chains::{Cec, Fec, Memory, Tx, Waits};
 use gw_entities::{Facilities, Queues, Stop, Storages};
 use gw_num::Stream;
+use gw_step::End;
 use gw_transactions::{Transaction, Transactions};
 
 /// What a call of the machine made.

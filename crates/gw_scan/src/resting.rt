@@ -4,15 +4,15 @@ ghost use Rattle.std.specs.Prelude.{◌≡◌, ◌≤◌, ◌<◌, None, Some, l
 ghost use Rattle.gw_num.specs.Table.{at};
 ghost use Rattle.gw_chains.specs.Lists.{LosesRoom};
 ghost use Rattle.gw_transactions.specs.Transactions.{Holds};
-ghost use Rattle.gw_scan.specs.State.{priority_of};
-ghost use Rattle.gw_scan.specs.Changes as model;
-ghost use Rattle.gw_scan.specs.Placing.{woken_if_stirred, placed};
+ghost use Rattle.gw_step.specs.State.{priority_of};
+ghost use Rattle.gw_step.specs.Changes as model;
+ghost use Rattle.gw_step.specs.Placing.{woken_if_stirred, placed};
 ghost use Rattle.gw_scan.specs.View.{state_of};
 ghost use Rattle.gw_scan.specs.Coherence.{Linked, HasRoom, CanRest, CanBePlaced};
 
 use crate::machine::Machine;
-use crate::placement::Placement;
 use gw_chains::{Memory, Tx};
+use gw_step::Placement;
 
 impl Machine {
     // ROOM
@@ -155,12 +155,12 @@ impl Machine {
     pub fn wait_for(&mut self, entity: u16, tx: Tx, priority: i32) -> Result<(), Memory>
         requires rests { CanRest self.old tx }
         requires rank { priority_of self.old.transactions.txs tx.number ≡ priority }
-        requires room { HasRoom self.old }
         requires entity { entity < length self.old.facilities.facilities }
         ensures ok { OnOk result (state_of self.new ≡ placed tx.number (Placement.JoinsDelayList entity) (state_of self.old)) }
         ensures err { OnErr result (state_of self.new ≡ state_of self.old) }
         ensures linked { Linked self.new }
     {
+        self.reserve_rest()?;
         self.reserve_wait(entity)?;
         self.place(tx, priority, Placement::JoinsDelayList(entity));
         Ok(())

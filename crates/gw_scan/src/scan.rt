@@ -3,18 +3,18 @@
 ghost use Rattle.std.specs.Prelude.{◌≡◌, ◌≤◌, ◌<◌, ◌+◌, ◌^◌, ℕ, List, [], ◌∷◌, pos, ◌≤ℤ◌, length, OnOk, OnErr, IfOk, IsTrue, false};
 ghost use Rattle.std.specs.List.{AllByRecursion};
 ghost use Rattle.gw_chains.specs.Chain.{all_behind, due, later};
-ghost use Rattle.gw_scan.specs.Changes as change;
-ghost use Rattle.gw_scan.specs.Step as model;
+ghost use Rattle.gw_step.specs.Changes as change;
+ghost use Rattle.gw_step.specs.Step as model;
 ghost use Rattle.gw_scan.specs.View.{state_of, lists_of};
 ghost use Rattle.gw_scan.specs.Coherence.{Linked, IsHeld, IsRunning, ranked};
 ghost use Rattle.gw_scan.specs.Makes.{Makes, MakesStep};
 
-use crate::ends::End;
 use crate::machine::{Machine, Made};
 use crate::transfers::block_of;
 use gw_chains::{Cec, Fec, Memory};
 use gw_entities::Stop;
 use gw_object::Block;
+use gw_step::End;
 use gw_transactions::Transactions;
 
 /// All that are due join the current events chain, each behind its peers. There is room.

@@ -3,14 +3,14 @@
 ghost use Rattle.std.specs.Prelude.{◌≡◌, ◌<◌, pos, length, sum, IfOk, IfErr, IsOk, OnErr};
 ghost use Rattle.gw_num.specs.Table.{at};
 ghost use Rattle.gw_transactions.specs.Transactions.{here_count};
-ghost use Rattle.gw_scan.specs.State.{delay_list};
-ghost use Rattle.gw_scan.specs.Job.{Alone, IsFinal, start_of};
+ghost use Rattle.gw_step.specs.State.{delay_list};
+ghost use Rattle.gw_step.specs.Job.{Alone, IsFinal, start_of};
 
-use crate::ends::End;
 use crate::machine::Machine;
 use crate::spec::{Spec, StartFault};
 use gw_chains::Memory;
 use gw_entities::{Facilities, Queues, Stop, Storages};
+use gw_step::End;
 use std::alloc::Global;
 use std::marker::Model;
 
@@ -33,7 +33,7 @@ pub struct Sim {
 }
 
 impl Model for Sim {
-    ghost use Rattle.gw_scan.specs.Job.{Progress};
+    ghost use Rattle.gw_step.specs.Job.{Progress};
 
     ghost Value = { Progress };
 
@@ -45,7 +45,7 @@ impl Model for Sim {
 }
 
 impl Sim {
-    ghost use Rattle.gw_scan.specs.Job.{IsReached};
+    ghost use Rattle.gw_step.specs.Job.{IsReached};
     ghost use Rattle.gw_scan.specs.Answers.{Answers, status_at};
 
     /// A job before its first step: at clock 0, with one arrival scheduled for each GENERATE block; or with a named end to

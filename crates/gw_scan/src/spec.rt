@@ -2,7 +2,7 @@
 
 ghost use Rattle.std.specs.Prelude.{◌≡◌, ◌≤◌, ◌<◌, nat_le, slice_index_or, IfOk, IfErr, Some, None};
 ghost use Rattle.std.specs.List.{All, list_all};
-ghost use Rattle.gw_scan.specs.Job as job;
+ghost use Rattle.gw_step.specs.Job as job;
 ghost use Rattle.gw_scan.specs.Making as model;
 
 use gw_num::Stream;
@@ -37,7 +37,7 @@ pub struct Spec {
 }
 
 impl Model for Spec {
-    ghost use Rattle.gw_scan.specs.Job.{Job};
+    ghost use Rattle.gw_step.specs.Job.{Job};
 
     ghost Value = { Job };
 
@@ -113,7 +113,7 @@ fn seeds_fit(seeds: &[u32]) -> bool
 
 impl Spec {
     ghost use Rattle.gw_verify.specs.Checks.{Checked};
-    ghost use Rattle.gw_scan.specs.Job.{JobFits};
+    ghost use Rattle.gw_step.specs.Job.{JobFits};
     ghost use Rattle.gw_scan.specs.Making.{job_from, spec_fault};
 
     /// A job of this object, with at most `budget` steps. An empty list of seeds, and a count of 0, mean the object's own;

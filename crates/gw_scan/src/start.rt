@@ -2,21 +2,21 @@
 
 ghost use Rattle.std.specs.Prelude.{◌≡◌, ◌≤◌, ◌<◌, ◌+◌, ◌^◌, length, sum, replicate, IfOk, OnOk};
 ghost use Rattle.gw_object.specs.Grammar.{HasSpelling};
-ghost use Rattle.gw_scan.specs.Outcome.{outcome_of};
-ghost use Rattle.gw_scan.specs.State.{State};
-ghost use Rattle.gw_scan.specs.Start as model;
+ghost use Rattle.gw_step.specs.Outcome.{outcome_of};
+ghost use Rattle.gw_step.specs.State.{State};
+ghost use Rattle.gw_step.specs.Start as model;
 ghost use Rattle.gw_scan.specs.Drawing.{moment_from};
 ghost use Rattle.gw_scan.specs.View.{state_of};
 ghost use Rattle.gw_scan.specs.Coherence.{Linked};
 ghost use Rattle.gw_scan.specs.Makes.{Schedules};
 
-use crate::ends::End;
 use crate::machine::Machine;
 use crate::times::drawn_moment;
 use gw_chains::{Cec, Fec, Memory, Waits};
 use gw_entities::{Facilities, Queues, Storages};
 use gw_num::Stream;
 use gw_object::{Block, Generate, Object};
+use gw_step::End;
 use gw_transactions::Transactions;
 use std::alloc::Global;
 

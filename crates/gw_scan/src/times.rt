@@ -4,14 +4,14 @@ ghost use Rattle.std.specs.Prelude.{◌≡◌, ◌%◌, List, ℕ, pos};
 ghost use Rattle.gw_num.specs.Generator as generator;
 ghost use Rattle.gw_flow.specs.Values as values;
 ghost use Rattle.gw_flow.specs.Values.{Environment, Value, answered};
-ghost use Rattle.gw_scan.specs.Outcome.{outcome_of};
-ghost use Rattle.gw_scan.specs.Outcome as outcomes;
-ghost use Rattle.gw_scan.specs.Times as model;
+ghost use Rattle.gw_step.specs.Outcome.{outcome_of};
+ghost use Rattle.gw_step.specs.Outcome as outcomes;
+ghost use Rattle.gw_step.specs.Times as model;
 ghost use Rattle.gw_scan.specs.Drawing.{with_streams_after, drawn_from, moment_from};
 
-use crate::ends::End;
 use gw_num::{NumFault, Stream, add};
 use gw_object::{Operand, Spread};
+use gw_step::End;
 
 /// An operand's value.
 pub(crate) fn value_of(operand: Operand) -> i64

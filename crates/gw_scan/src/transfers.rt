@@ -8,11 +8,11 @@ ghost use Rattle.gw_entities.specs.Storage.{vacant, has_room};
 ghost use Rattle.gw_chains.specs.declared.tx.Member.{Member};
 ghost use Rattle.gw_transactions.specs.Transactions.{Holds, attributes_at};
 ghost use Rattle.gw_kinds.specs.Kinds.{block_at};
-ghost use Rattle.gw_scan.specs.State.{delay_list};
-ghost use Rattle.gw_scan.specs.Changes as change;
-ghost use Rattle.gw_scan.specs.Changes.{facility, storage};
+ghost use Rattle.gw_step.specs.State.{delay_list};
+ghost use Rattle.gw_step.specs.Changes as change;
+ghost use Rattle.gw_step.specs.Changes.{facility, storage};
 ghost use Rattle.gw_scan.specs.Makes.{Moves};
-ghost use Rattle.gw_scan.specs.Blocks as model;
+ghost use Rattle.gw_step.specs.Blocks as model;
 ghost use Rattle.gw_scan.specs.View.{state_of};
 ghost use Rattle.gw_scan.specs.Coherence.{Linked, IsSteady};
 

@@ -122,3 +122,50 @@ fn crowd_comes_through_a_storage(rt: HostRuntime) -> Result<(), Fail> {
     assert!(rt; (storage.content, storage.entries, storage.time_sum) == (0, 900, 900));
     Ok(())
 }
+
+/// So many queues, each with its number as its name.
+fn numbered_queues(alloc: Global, count: u16) -> Result<Items<Entity>, Memory> {
+    let mut queues = Vec::new(alloc);
+    for i in 0..count {
+        let digits = [i / 100 % 10, i / 10 % 10, i % 10].map(|digit| b'0' + digit as u8);
+        queues.push(Entity {
+            name: Items::from_vec(Vec::from_slice(alloc, &digits)?),
+            kind: Kind::Queue,
+        })?;
+    }
+    Ok(Items::from_vec(queues))
+}
+
+/// So many rows of the state table that know of nothing held.
+fn rows_of_nothing(alloc: Global, count: usize) -> Result<Items<Option<TableState>>, Memory> {
+    let mut rows = Vec::new(alloc);
+    for _ in 0..count {
+        rows.push(Some(NOTHING.row(alloc)?))?;
+    }
+    Ok(Items::from_vec(rows))
+}
+
+#[test]
+fn clock_moves_past_hundreds_of_queues(rt: HostRuntime) -> Result<(), Fail> {
+    // GENERATE ,,,1, then for each of 300 queues QUEUE and ADVANCE 1, then TERMINATE 1: one unit comes into queue q at clock q,
+    // and is there until the end, at clock 300. 3 steps lead through GENERATE, 4 through each queue, and 1 ends the job.
+    let alloc = rt.alloc();
+    let mut blocks = Vec::new(alloc);
+    blocks.push(one_at(0, 0))?;
+    for entity in 0..300 {
+        blocks.push(Block::Queue(Units { entity, number: 1 }))?;
+        blocks.push(advance(1))?;
+    }
+    blocks.push(terminate(1))?;
+    let mut parts = parts(alloc, &[], 1, &blocks)?;
+    parts.entities = numbered_queues(alloc, 300)?;
+    parts.states = rows_of_nothing(alloc, 602)?;
+    let object = Object::build(parts).ok().ok_or("parts of an object")?;
+    let mut sim = job_of(alloc, accepted(alloc, object)?, AMPLE)?;
+    let status = run(&mut sim, AMPLE)?;
+    assert!(rt; status == Status::Ended(End::Done) && numbers(&sim) == (300, 1204, 602, 0));
+    assert!(rt; queue_of(&sim, 0)? == (contents(1, 1, 1, 300), average(1, 0)));
+    assert!(rt; queue_of(&sim, 100)? == (contents(1, 1, 1, 200), average(0, 666)));
+    assert!(rt; queue_of(&sim, 299)? == (contents(1, 1, 1, 1), average(0, 3)));
+    Ok(())
+}

@@ -1,6 +1,6 @@
 use Rattle.std.proofs.Common.{arith}
 use Rattle.std.proofs.lemmas.List.FromFn.{fill_by_all}
-use Rattle.gw_scan.specs.Job.{seed_at}
+use Rattle.gw_step.specs.Job.{seed_at}
 use Rattle.gw_scan.proofs.spec.streams_of.Goals as goal
 
 pub returns : goal.returns

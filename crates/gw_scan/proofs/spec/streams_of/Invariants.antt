@@ -1,5 +1,5 @@
 use Rattle.std.proofs.Common.{◌≡◌, ℕ, ◌<◌, length, get_or}
-use Rattle.gw_scan.specs.Job.{seed_at}
+use Rattle.gw_step.specs.Job.{seed_at}
 use Rattle.gw_scan.proofs.spec.streams_of.Given as goal
 
 -- each stream so far has its seed

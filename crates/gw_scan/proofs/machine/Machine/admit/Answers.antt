@@ -1,8 +1,8 @@
 use Rattle.std.proofs.Common.{◌+◌, ◌∙◌, sym, ap, subst, List, [], length, true, false, arith}
 use Rattle.gw_num.specs.Table.{at}
 use Rattle.gw_chains.specs.declared.tx.Member.{Member}
-use Rattle.gw_scan.specs.State.{delay_list}
-use Rattle.gw_scan.specs.Blocks.{admission}
+use Rattle.gw_step.specs.State.{delay_list}
+use Rattle.gw_step.specs.Blocks.{admission}
 use Rattle.gw_scan.specs.Coherence.{IsSteady}
 use Rattle.gw_scan.proofs.Walks.{rest_of_walk, walk-first, walk-ends, walk-same, walk-on, left-moved, left-place}
 use Rattle.gw_scan.proofs.Steady.{steady-same}

@@ -2,8 +2,8 @@ use Rattle.std.proofs.Common.{[], ◌≡◌, ◌+◌, ◌-◌, ◌≤◌, ◌<�
 use Rattle.gw_num.specs.Table.{at}
 use Rattle.gw_scan.specs.Coherence.{IsSteady}
 use Rattle.gw_scan.specs.View.{state_of}
-use Rattle.gw_scan.specs.State.{delay_list}
-use Rattle.gw_scan.specs.Blocks.{admission}
+use Rattle.gw_step.specs.State.{delay_list}
+use Rattle.gw_step.specs.Blocks.{admission}
 use Rattle.gw_scan.proofs.Walks.{rest_of_walk}
 use Rattle.gw_scan.proofs.machine.Machine.admit.Given as goal
 

@@ -1,7 +1,7 @@
 use Rattle.std.proofs.Common.{rules, ◌≡◌, ◌+◌}
 use Rattle.gw_num.specs.Table.{at}
 use Rattle.gw_scan.specs.View.{state_of}
-use Rattle.gw_scan.specs.Blocks.{looked_at}
+use Rattle.gw_step.specs.Blocks.{looked_at}
 use Rattle.gw_scan.proofs.Walks.{steady-looked_at}
 use Rattle.gw_scan.proofs.machine.Machine.admit_one.Goals as goal
 

@@ -4,8 +4,8 @@ use Rattle.gw_chains.specs.Chain.{in_time}
 use Rattle.gw_chains.specs.declared.tx.Event.{Event}
 use Rattle.gw_transactions.specs.Transactions.{LiveTransaction}
 use Rattle.gw_num.specs.Table.{put}
-use Rattle.gw_scan.specs.State.{FutureEvent, raised}
-use Rattle.gw_scan.specs.Changes.{newcomer}
+use Rattle.gw_step.specs.State.{FutureEvent, raised}
+use Rattle.gw_step.specs.Changes.{newcomer}
 use Rattle.gw_scan.specs.View.{state_of, lists_of, event_of}
 use Rattle.gw_scan.proofs.Changes.{events-in_time, linked-arrived}
 use Rattle.gw_scan.proofs.Handles.{carries-insert}

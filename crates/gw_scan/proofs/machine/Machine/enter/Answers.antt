@@ -1,8 +1,8 @@
 use Rattle.std.proofs.Common.{rules, refl, None, ap, ◌∙◌}
 use Rattle.gw_num.specs.Table.{at}
 use Rattle.gw_num.proofs.Tables.{at-put}
-use Rattle.gw_scan.proofs.Attributes.{priority-attributes}
-use Rattle.gw_scan.specs.State.{priority_in, priority_of}
+use Rattle.gw_step.proofs.Attributes.{priority-attributes}
+use Rattle.gw_step.specs.State.{priority_in, priority_of}
 use Rattle.gw_scan.proofs.Changes.{linked-entered}
 use Rattle.gw_scan.proofs.machine.Machine.enter.Goals as goal
 

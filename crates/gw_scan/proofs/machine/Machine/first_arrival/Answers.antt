@@ -1,9 +1,9 @@
 use Rattle.std.proofs.Common.{◌≡◌, ◌∙◌, None, length, ap, arith}
 use Rattle.std.specs.Prelude.{sum}
 use Rattle.gw_num.proofs.Tables.{length-put_next}
-use Rattle.gw_scan.specs.State.{State, raised}
+use Rattle.gw_step.specs.State.{State, raised}
 use Rattle.gw_scan.specs.View.{state_of}
-use Rattle.gw_scan.proofs.Within.{sum-raised, length-raised}
+use Rattle.gw_step.proofs.Within.{sum-raised, length-raised}
 use Rattle.gw_scan.proofs.machine.Machine.first_arrival.Goals as goal
 
 scheduled : (c : goal.After-arrive) → c.arrive.new.self.scheduled.items ≡ raised c.args.number c.args.self.now.scheduled.items

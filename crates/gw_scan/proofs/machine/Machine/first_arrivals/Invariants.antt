@@ -1,6 +1,6 @@
 use Rattle.std.proofs.Common.{◌≡◌, ◌+◌, ◌≤◌, drop, length}
 use Rattle.std.specs.Prelude.{sum}
-use Rattle.gw_scan.specs.Start.{first_arrivals}
+use Rattle.gw_step.specs.Start.{first_arrivals}
 use Rattle.gw_scan.specs.View.{state_of}
 use Rattle.gw_scan.specs.Coherence.{Linked}
 use Rattle.gw_scan.proofs.machine.Machine.first_arrivals.Given as goal

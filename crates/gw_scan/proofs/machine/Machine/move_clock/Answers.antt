@@ -4,7 +4,7 @@ use Rattle.std.proofs.lemmas.Int.{to_z-of_z, ints}
 use Rattle.gw_chains.specs.Chain.{all_behind, due, later}
 use Rattle.gw_chains.specs.declared.tx.Member.{Member}
 use Rattle.gw_chains.specs.declared.tx.Event.{Event}
-use Rattle.gw_scan.specs.Changes.{time_passes}
+use Rattle.gw_step.specs.Changes.{time_passes}
 use Rattle.gw_scan.specs.View.{entities_of}
 use Rattle.gw_scan.specs.Coherence.{ranked}
 use Rattle.gw_entities.specs.Table.{FacilityTable, StorageTable, QueueTable}

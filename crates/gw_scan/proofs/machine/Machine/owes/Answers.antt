@@ -2,7 +2,7 @@ use Rattle.std.proofs.Common.{◌∙◌, ap, sym, Option, ℕ}
 use Rattle.std.specs.Prelude.{nat_lt}
 use Rattle.gw_num.specs.Table.{at}
 use Rattle.gw_num.proofs.Tables.{at-get_or_any}
-use Rattle.gw_scan.specs.Blocks.{is_owed}
+use Rattle.gw_step.specs.Blocks.{is_owed}
 use Rattle.gw_scan.proofs.machine.Machine.owes.Goals as goal
 
 pub returns-in-Some : goal.returns-in-Some

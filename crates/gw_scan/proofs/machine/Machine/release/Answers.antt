@@ -1,8 +1,9 @@
 use Rattle.std.proofs.Common.{◌∙◌, ap}
 use Rattle.gw_entities.specs.Facility.{is_idle}
-use Rattle.gw_scan.specs.State.{State}
-use Rattle.gw_scan.specs.Changes.{facility}
-use Rattle.gw_scan.proofs.Steady.{passing-released, idle-released, released-as}
+use Rattle.gw_step.specs.State.{State}
+use Rattle.gw_step.specs.Changes.{facility}
+use Rattle.gw_step.proofs.Owning.{idle-released}
+use Rattle.gw_scan.proofs.Steady.{passing-released, released-as}
 use Rattle.gw_scan.specs.View.{state_of}
 use Rattle.gw_scan.proofs.machine.Machine.release.Goals as goal
 

@@ -2,7 +2,7 @@ use Rattle.std.proofs.Common.{refl, ap, ◌∙◌, ◌≡◌, List, None, map}
 use Rattle.std.proofs.lemmas.Int.{to_z-of_z}
 use Rattle.gw_chains.specs.Chain.{in_time}
 use Rattle.gw_chains.specs.declared.tx.Event.{Event}
-use Rattle.gw_scan.specs.State.{FutureEvent}
+use Rattle.gw_step.specs.State.{FutureEvent}
 use Rattle.gw_scan.specs.View.{state_of, lists_of, event_of}
 use Rattle.gw_scan.proofs.Changes.{events-in_time, linked-rested}
 use Rattle.gw_scan.proofs.machine.Machine.rest_until.Goals as goal

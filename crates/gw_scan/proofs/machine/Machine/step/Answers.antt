@@ -1,9 +1,9 @@
 use Rattle.std.proofs.Common.{◌+◌, ap, sym, ◌∙◌, Some, arith}
-use Rattle.gw_scan.specs.State.{State}
-use Rattle.gw_scan.specs.Step.{within_budget}
+use Rattle.gw_step.specs.State.{State}
+use Rattle.gw_step.specs.Step.{within_budget}
 use Rattle.gw_scan.specs.View.{state_of}
-use Rattle.gw_scan.proofs.Counting.{is_counted}
-use Rattle.gw_scan.proofs.Steps.{step-gives, step-ends, step-stops}
+use Rattle.gw_step.proofs.Counting.{is_counted}
+use Rattle.gw_step.proofs.Steps.{step-gives, step-ends, step-stops}
 use Rattle.gw_scan.proofs.machine.Machine.step.Goals as goal
 
 pub count_step-requires : goal.count_step-requires

@@ -1,7 +1,7 @@
 use Rattle.std.proofs.Common.{rules, ◌≡◌}
-use Rattle.gw_scan.specs.Job.{start_of}
+use Rattle.gw_step.specs.Job.{start_of}
 use Rattle.gw_scan.specs.View.{state_of}
-use Rattle.gw_scan.proofs.Reached.{reached_first}
+use Rattle.gw_step.proofs.Reached.{reached_first}
 use Rattle.gw_scan.proofs.sim.Sim.start.Goals as goal
 
 is_start : (c : goal.In-Ok) → state_of c.in-Ok.machine ≡ start_of c.args.spec

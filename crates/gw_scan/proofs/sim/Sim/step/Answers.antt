@@ -2,9 +2,9 @@ use Rattle.std.proofs.Common.{rules, ◌≡◌, List, None, sym, subst}
 use Rattle.gw_object.specs.declared.parts.Block.{Block}
 use Rattle.gw_scan.specs.Coherence.{IsRunning}
 use Rattle.gw_scan.proofs.Running.{running}
-use Rattle.gw_scan.specs.Job.{Step}
+use Rattle.gw_step.specs.Job.{Step}
 use Rattle.gw_scan.specs.View.{state_of}
-use Rattle.gw_scan.proofs.Reached.{reached_more}
+use Rattle.gw_step.proofs.Reached.{reached_more}
 use Rattle.gw_scan.proofs.sim.Sim.step.Goals as goal
 
 runs : (c : goal.In-None) → c.self.inside.machine.ended ≡ None

@@ -1,6 +1,6 @@
 use Rattle.std.proofs.Common.{◌<◌, ◌∙◌, sym, ap, subst, length}
-use Rattle.gw_scan.specs.State.{delay_list}
-use Rattle.gw_scan.specs.Job.{Progress}
+use Rattle.gw_step.specs.State.{delay_list}
+use Rattle.gw_step.specs.Job.{Progress}
 use Rattle.gw_scan.proofs.Running.{waiting-of}
 use Rattle.gw_scan.proofs.sim.Sim.waiting.Goals as goal
 

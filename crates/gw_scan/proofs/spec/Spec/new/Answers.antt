@@ -2,7 +2,7 @@ use Rattle.std.proofs.Common.{arith, rules, ◌≡◌, ◌∙◌, ℕ, ◌≤◌
 use Rattle.std.specs.List.{All}
 use Rattle.gw_object.specs.Grammar.{HasSpelling}
 use Rattle.gw_scan.specs.Making.{seeds_fit, seeds_or, count_or}
-use Rattle.gw_scan.specs.Job.{streams_of}
+use Rattle.gw_step.specs.Job.{streams_of}
 use Rattle.gw_scan.proofs.Fits.{seeds-within, length-streams, streams_fit, count-within}
 use Rattle.gw_scan.proofs.spec.Spec.new.Goals as goal
 

@@ -1,0 +1,160 @@
+-- Arrivals: what a GENERATE does, and the state before the first step.
+use Rattle.std.proofs.Common.{◌≡◌, ℕ, zero, suc, ◌+◌, ◌≤◌, List, [], ◌∷◌, length, map, Some, true, false, refl, sym, ap, ◌∙◌, subst, arith}
+use Rattle.std.specs.Prelude.{slice_get, nat_lt, IfSome}
+use Rattle.gw_object.specs.declared.parts.Generate.{Generate}
+use Rattle.gw_object.specs.declared.parts.Entity.{Entity}
+use Rattle.gw_object.specs.declared.parts.Block.{Block}
+use Rattle.gw_object.specs.declared.parts.Block.TheVariants as blocks
+use Rattle.gw_object.specs.declared.parts.Parts.{Parts}
+use Rattle.gw_object.specs.Entities.{capacity_of}
+use Rattle.gw_kinds.specs.Kinds.{block_at, is_generate}
+use Rattle.gw_flow.specs.Codes as codes
+use Rattle.gw_flow.specs.Rows.{Row, is_empty}
+use Rattle.gw_flow.specs.Blocks.{capacity_at}
+use Rattle.gw_flow.specs.Flow.{own_table, own_row}
+use Rattle.gw_flow.specs.Laws.{FlowHolds}
+use Rattle.gw_num.specs.Table.{at}
+use Rattle.gw_num.proofs.Tables.{at-replicate}
+use Rattle.gw_transactions.specs.declared.Transaction.{Transaction}
+use Rattle.gw_transactions.specs.Transactions.{live_count, attributes_at}
+use Rattle.gw_entities.specs.declared.contents.Contents.{Contents}
+use Rattle.gw_entities.specs.Contents.{empty}
+use Rattle.gw_entities.specs.Facility.{idle, is_owned_by}
+use Rattle.gw_entities.specs.Storage as storages
+use Rattle.gw_step.specs.Outcome.{Outcome, Gives, EndsBy, StopsBy}
+use Rattle.gw_step.specs.State.{State, with_streams}
+use Rattle.gw_step.specs.Times.{environment, drawn_moment}
+use Rattle.gw_step.specs.Changes.{arrives}
+use Rattle.gw_step.specs.Blocks.{is_owed, next_arrival, generate}
+use Rattle.gw_step.specs.Start.{nothing, first_moment, first_arrival, first_arrivals, started, start}
+use Rattle.gw_step.specs.Residence.{occurrences}
+use Rattle.gw_step.proofs.Outcomes.{OnGives, on_bind, on_both}
+use Rattle.gw_step.proofs.Nothing.{no_transaction, resides-nothing}
+use Rattle.gw_step.specs.Places.{row_of}
+use Rattle.gw_step.specs.Typing.{IsPlaced, lists_facility, WellTyped, AreWithinCapacity}
+use Rattle.gw_step.proofs.Balances.{balanced-nothing}
+use Rattle.gw_step.proofs.Traces.{Goes, Arrives, Draws, Trace, Done, Then, trace_on, present, arrived}
+use Rattle.gw_step.proofs.Unstopped.{Safe, safe_bind, safe_if}
+use Rattle.gw_step.proofs.Drawn.{IsDrawn, safe_drawn}
+use Rattle.gw_step.proofs.AtBlock.{first_may_be_entered}
+use Rattle.gw_step.proofs.Moving.{Acts, Enters, safe_leads, at_first, the_rule}
+use Rattle.gw_step.proofs.Calling.{some_of}
+use Rattle.gw_step.proofs.PlainBlocks.{by_arrival}
+use Rattle.gw_step.proofs.Attributes.{attributes-past}
+
+-- THE NEXT ARRIVAL
+
+-- the next arrival is scheduled, and the active transaction n, which is t, is as it was
+record Scheduled (p : Parts) (k : ℕ) (s : State) (n : ℕ) (t : Transaction) (after : State) : Type 0 where
+  arrivals : ℕ
+  trace : Trace p k k s k arrivals after
+  few : arrivals ≤ suc k
+  found : attributes_at n after.transactions ≡ Some t
+  active : after.lists.active ≡ s.lists.active
+
+module _ (p : Parts) (s : State) (n : ℕ) (t : Transaction) (k : ℕ) (g : Generate) (row : Row) (acts : Acts p s n t (blocks.Generate g) row) where
+  empty_row : is_empty row ≡ true
+  empty_row = the_rule p t.next codes.edge_state (is_empty row) (blocks.Generate g) row refl acts.flow
+
+  safe_next : Safe (Scheduled p k s n t) (next_arrival t.next g s)
+  safe_next =
+      safe_if (Scheduled p k s n t) (is_owed g.limit (at 0 s.scheduled t.next)) _ (Gives s)
+      (λ owed.
+      let env = environment (length s.transactions) g.priority s.clock s in
+      safe_bind (IsDrawn s.clock s.streams) (Scheduled p k s n t) (drawn_moment env g.interval s.clock s.streams) _ (safe_drawn env g.interval s.clock s.streams)
+      (λ d drawn.
+      safe_if (Scheduled p k s n t) (nat_lt (live_count s.transactions) 65536) (Gives (arrives t.next g.priority d.0 (with_streams d.1 s))) _
+      (λ few.
+      record {
+        arrivals = suc k;
+        trace = Then (Draws d.1 drawn.keeps) (Then (Arrives t.next g row g.priority d.0 acts.is.block_is acts.is.row_is empty_row drawn.later owed few) Done);
+        few = omega arith;
+        found = attributes-past s.transactions n t _ acts.is.found;
+        active = refl;
+      })
+      (λ many. tt)))
+      (λ none. record { arrivals = k; trace = Done; few = omega arith; found = acts.is.found; active = refl })
+
+  pub safe_generate : Safe (Enters p k s n) (generate p.blocks n t g s)
+  safe_generate =
+      let may = first_may_be_entered p t.next _ [] acts.kinds.exits in
+      safe_bind (Scheduled p k s n t) (Enters p k s n) (next_arrival t.next g s) _ safe_next
+      (λ after h.
+      safe_leads p (Enters p k s n) (t.next + 1) _ may
+      (record {
+        entries = suc k;
+        arrivals = h.arrivals;
+        trace = trace_on p h.trace
+            (Then (Goes n (t.next + 1) t (record t { mark = s.clock }) (blocks.Generate g) row row after.entities
+            (record { found = h.found; block_is = acts.is.block_is; row_is = acts.is.row_is }) refl
+            (present after.lists n (h.active ∙ acts.active)) (at_first _ []) may (balanced-nothing p n row after.entities)) Done);
+        may = tt;
+        few_entries = omega arith;
+        few_arrivals = h.few;
+      }))
+
+-- THE START
+
+vacant_at : (es : List Entity) (e : ℕ) → (at (storages.vacant 0) (map (λ (x : Entity). storages.vacant (capacity_of x.kind)) es) e).contents ≡ empty
+vacant_at [] e = refl
+vacant_at (x ∷ es) zero = refl
+vacant_at (x ∷ es) (suc e) = vacant_at es e
+
+idle_at : (es : List Entity) (f n : ℕ) → is_owned_by n (at idle (map (λ _. idle) es) f) ≡ false
+idle_at [] f n = refl
+idle_at (x ∷ es) zero n = refl
+idle_at (x ∷ es) (suc f) n = idle_at es f n
+
+sized_at : (es : List Entity) (e : ℕ) → (at (storages.vacant 0) (map (λ (x : Entity). storages.vacant (capacity_of x.kind)) es) e).capacity ≡ capacity_at es e
+sized_at [] e = refl
+sized_at (x ∷ es) zero = refl
+sized_at (x ∷ es) (suc e) = sized_at es e
+
+module _ (p : Parts) (count : ℕ) (streams : List ℕ) where
+  pub nothing_typed : WellTyped p (nothing p count streams)
+  nothing_typed = record {
+    resides = resides-nothing p count streams;
+    placed = λ n. subst (λ o. IfSome o (IsPlaced p)) (sym (no_transaction n)) tt;
+    owned = λ f n. idle_at p.entities f n ∙ sym (ap (λ o. lists_facility f (row_of p o)) (no_transaction n));
+    promised = λ e. omega arith;
+    waiting = λ e n h. absurd (omega (arith, h, ap (occurrences n) (at-replicate [] (length p.entities) e)));
+    sized = sized_at p.entities;
+  }
+
+  pub nothing_fills : AreWithinCapacity (nothing p count streams).entities
+  nothing_fills = record { contents = λ e. omega (arith, ap (λ (c : Contents). c.content) (vacant_at p.entities e)) }
+
+-- a state that comes of first arrivals
+pub record Starts (p : Parts) (s : State) : Type 0 where
+  pub typed : WellTyped p s
+  pub within : AreWithinCapacity s.entities
+
+module _ (p : Parts) (flow : FlowHolds p (own_table p)) where
+  first_typed : (b : ℕ) (block : Block) (s : State) → block_at p.blocks b ≡ Some block → Starts p s → OnGives (Starts p) (first_arrival b block s)
+  first_typed b block s =
+      by_arrival (λ x. block_at p.blocks b ≡ Some x → Starts p s → OnGives (Starts p) (first_arrival b x s))
+      (λ g is h.
+      let row = some_of (own_row p b) (flow.arrivals b (ap is_generate is)) in
+      let none = the_rule p b codes.edge_state (is_empty row.0) (blocks.Generate g) row.0 refl (flow.each_row b (blocks.Generate g) row.0 is row.1) in
+      on_bind (Starts p) (first_moment g s g.first) _ (λ d found. record { typed = arrived p flow (with_streams d.1 s) h.typed b g row.0 g.priority d.0 is row.1 none; within = h.within }))
+      (λ x none is h. subst (OnGives (Starts p)) (sym (none b s)) h)
+      block
+
+  firsts_typed : (b : ℕ) (bs : List Block) (s : State) → ((i : ℕ) (block : Block) → slice_get bs i ≡ Some block → block_at p.blocks (b + i) ≡ Some block) → Starts p s → OnGives (Starts p) (first_arrivals b bs s)
+  unfolding first_arrivals
+  firsts_typed b [] s there h = h
+  firsts_typed b (block ∷ rest) s there h =
+      on_both (Starts p) (Starts p) (first_arrival b block s) (first_arrivals (b + 1) rest)
+      (first_typed b block s (subst (λ k. block_at p.blocks k ≡ Some block) (omega arith) (there 0 block refl)) h)
+      (λ t h'. firsts_typed (b + 1) rest t (λ i x is. subst (λ k. block_at p.blocks k ≡ Some x) (omega arith) (there (suc i) x is)) h')
+
+  started_typed : (o : Outcome State) (s : State) → Starts p s → OnGives (Starts p) o → Starts p (started s o)
+  started_typed (Gives t) s h h' = h'
+  started_typed (EndsBy end) s h h' = record { typed = h.typed; within = h.within }
+  started_typed (StopsBy stop) s h h' = h
+
+  pub start_typed : (count : ℕ) (streams : List ℕ) → Starts p (start p count streams)
+  start_typed count streams =
+      let none : Starts p (nothing p count streams) = record { typed = nothing_typed p count streams; within = nothing_fills p count streams } in
+      started_typed (first_arrivals 1 p.blocks (nothing p count streams)) (nothing p count streams) none
+      (firsts_typed 1 p.blocks (nothing p count streams) (λ i block is. let one : suc i ≡ 1 + i = omega arith in subst (λ k. block_at p.blocks k ≡ Some block) one is) none)

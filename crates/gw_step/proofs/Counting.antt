@@ -1,0 +1,171 @@
+-- What a scan leaves of the counts: the steps, the end and the termination count.
+use Rattle.std.proofs.Common.{◌≡◌, ◌⊎◌, ℕ, ◌+◌, ℤ, pos, ◌<ℤ◌, List, [], ◌∷◌, length, Option, Some, None, Result, Ok, Err, Bool, true, false, not, if◌then◌else◌, nat_lt, refl, sym, ap, ◌∙◌, subst, arith, inl, inr}
+use Rattle.std.specs.Prelude.{int_lt}
+use Rattle.std.proofs.lemmas.Int.{ints}
+use Rattle.gw_object.specs.declared.parts.Generate.{Generate}
+use Rattle.gw_object.specs.declared.parts.Block.{Block}
+use Rattle.gw_object.specs.declared.parts.Block.TheVariants as blocks
+use Rattle.gw_kinds.specs.Kinds.{block_at}
+use Rattle.gw_flow.specs.Values.{operands}
+use Rattle.gw_num.specs.Table.{at}
+use Rattle.gw_transactions.specs.declared.Transaction.{Transaction}
+use Rattle.gw_transactions.specs.Transactions.{attributes_at}
+use Rattle.gw_transactions.specs.Transactions.{live_count}
+use Rattle.gw_entities.specs.declared.stop.Stop.{Stop}
+use Rattle.gw_entities.specs.declared.stop.Stop.TheVariants.{NoBlock, OwnsAtEnd}
+use Rattle.gw_entities.specs.Facility.{seizing, releasing, owns_any}
+use Rattle.gw_entities.specs.Storage.{entering, leaving}
+use Rattle.gw_entities.specs.Queue.{joined, departing}
+use Rattle.gw_step.specs.declared.ends.End.{End}
+use Rattle.gw_step.specs.declared.ends.End.TheVariants.{Done, Number, Live}
+use Rattle.gw_step.specs.declared.placement.Placement.{Placement}
+use Rattle.gw_step.specs.declared.placement.Placement.TheVariants.{StaysActive, RestsUntil, JoinsDelayList, JoinsRetryList, LeavesModel}
+use Rattle.gw_step.specs.Outcome.{Outcome, Gives, EndsBy, StopsBy, ◌>>=◌, or_stop, granted, evaluated}
+use Rattle.gw_step.specs.State.{FutureEvent, State, may_enter, with_streams, delay_list}
+use Rattle.gw_step.specs.Times.{environment, moment_after, drawn_moment}
+use Rattle.gw_step.specs.Changes.{entered, enters_and_falls, arrives, woken, facility, storage, queue, put_facility, put_storage, put_queue, end_at}
+use Rattle.gw_step.specs.Placing.{woken_if_stirred, placed}
+use Rattle.gw_step.specs.Blocks.{refuses, refusal, is_owed, next_arrival, chosen, the_value, effect, then_placed, meets, act}
+use Rattle.gw_step.specs.Step.{next_event, next_active, scan}
+use Rattle.gw_step.proofs.Outcomes.{OnGives, on_bind, on_test, on_if, on_both, choose}
+use Rattle.gw_step.proofs.Follows.{Stays, stays-same, stays-hand_over, stays-admission}
+
+-- from s to t the steps stay, and so do the end and the termination count, or the count brings the end
+pub record IsCounted (s t : State) : Type 0 where
+  pub steps : t.steps ≡ s.steps
+  pub ended : ((t.ended ≡ s.ended) × (t.count ≡ s.count)) ⊎ (t.ended ≡ end_at t.count)
+
+counted_same : (s t : State) → Stays s t → IsCounted s t
+counted_same s t h = record { steps = h.steps; ended = inl (h.ended, h.count) }
+
+counted_on : (s t u : State) → IsCounted s t → Stays t u → IsCounted s u
+counted_on s t u c h = record {
+  steps = h.steps ∙ c.steps;
+  ended = elim c.ended [
+    | inl same ↦ inl (h.ended ∙ same.0, h.count ∙ same.1)
+    | inr brought ↦ inr (h.ended ∙ brought ∙ ap end_at (sym h.count))
+  ];
+}
+
+-- PLACING
+
+woken_stays : (s : State) → Stays s (woken_if_stirred s)
+woken_stays s = choose (Stays s) s.stir (woken s) s (λ _. record { clock = refl; count = refl; steps = refl; ended = refl }) (λ _. stays-same s)
+
+placed_stays : (n : ℕ) (placement : Placement) (s : State) → Stays s (placed n placement s)
+placed_stays n StaysActive s = stays-same s
+placed_stays n (RestsUntil time) s = let h = woken_stays s in record { clock = h.clock; count = h.count; steps = h.steps; ended = h.ended }
+placed_stays n (JoinsDelayList e) s = let h = woken_stays s in record { clock = h.clock; count = h.count; steps = h.steps; ended = h.ended }
+placed_stays n JoinsRetryList s = let h = woken_stays s in record { clock = h.clock; count = h.count; steps = h.steps; ended = h.ended }
+placed_stays n LeavesModel s = let h = woken_stays s in record { clock = h.clock; count = h.count; steps = h.steps; ended = h.ended }
+
+-- BLOCKS
+
+on_then : {A : Type 0} (P Q : A → Type 0) (o : Outcome A) → OnGives P o → ((a : A) → P a → Q a) → OnGives Q o
+on_then P Q (Gives a) h k = k a h
+on_then P Q (EndsBy end) h k = tt
+on_then P Q (StopsBy stop) h k = tt
+
+on_granted : {A B : Type 0} (P : B → Type 0) (r : Result A Stop) (f : A → Outcome B) → ((a : A) → OnGives P (f a)) → OnGives P (granted r >>= f)
+on_granted P (Ok a) f h = h a
+on_granted P (Err stop) f h = tt
+
+module _ (s : State) where
+  abbrev Entered : State × Placement → Type 0
+  Entered e = IsCounted s e.0
+
+  -- it passes, and an entity changes
+  passed : (t : State) → t.steps ≡ s.steps → t.ended ≡ s.ended → t.count ≡ s.count → IsCounted s t
+  passed t steps ended count = record { steps = steps; ended = inl (ended, count) }
+
+  arrival_stays : (b : ℕ) (g : Generate) → OnGives (Stays s) (next_arrival b g s)
+  arrival_stays b g =
+      on_if (Stays s) (is_owed g.limit (at 0 s.scheduled b)) _ (Gives s)
+      (on_bind (Stays s) (drawn_moment (environment (length s.transactions) g.priority s.clock s) g.interval s.clock s.streams) _
+      (λ d _. on_if (Stays s) (nat_lt (live_count s.transactions) 65536) (Gives (arrives b g.priority d.0 (with_streams d.1 s))) (EndsBy Live) (record { clock = refl; count = refl; steps = refl; ended = refl }) tt))
+      (stays-same s)
+
+  effect_counted : (bs : List Block) (n : ℕ) (t : Transaction) (block : Block) (values : List ℤ) → OnGives Entered (effect bs n t block values s)
+  unfolding effect
+  effect_counted bs n t (blocks.Generate g) values =
+      on_both (Stays s) Entered (next_arrival t.next g s) _ (arrival_stays t.next g)
+      (λ u h. on_test Entered (may_enter (block_at bs (t.next + 1))) NoBlock _ (passed (enters_and_falls n (record t { mark = s.clock }) u) h.steps h.ended h.count))
+  effect_counted bs n t (blocks.Terminate by) values =
+      on_if Entered (int_lt (the_value values) (pos 0)) (EndsBy Number) _ tt (on_test Entered (not (owns_any n s.entities.facilities)) OwnsAtEnd _ (record { steps = refl; ended = inr refl }))
+  effect_counted bs n t (blocks.Advance time) values =
+      on_bind Entered (moment_after s.clock (the_value values)) _ (λ moment _. on_test Entered (may_enter (block_at bs (t.next + 1))) NoBlock _ (passed (enters_and_falls n t s) refl refl refl))
+  effect_counted bs n t (blocks.Seize f) values =
+      on_test Entered (may_enter (block_at bs (t.next + 1))) NoBlock _ (on_granted Entered (seizing n (facility f s)) _ (λ r. passed (put_facility f r.1 (enters_and_falls n t s)) refl refl refl))
+  effect_counted bs n t (blocks.Release f) values =
+      on_test Entered (may_enter (block_at bs (t.next + 1))) NoBlock _ (on_granted Entered (releasing n (facility f s)) _
+      (λ r. let u = put_facility f r.1 (enters_and_falls n t s) in counted_on s u _ (passed u refl refl refl) (stays-hand_over bs u f (delay_list f s))))
+  effect_counted bs n t (blocks.Enter u) values =
+      on_test Entered (may_enter (block_at bs (t.next + 1))) NoBlock _ (on_granted Entered (entering u.number (storage u.entity s)) _ (λ r. passed (put_storage u.entity r.1 (enters_and_falls n t s)) refl refl refl))
+  effect_counted bs n t (blocks.Leave u) values =
+      on_test Entered (may_enter (block_at bs (t.next + 1))) NoBlock _ (on_granted Entered (leaving u.number (storage u.entity s)) _
+      (λ r. let v = put_storage u.entity r.1 (enters_and_falls n t s) in counted_on s v _ (passed v refl refl refl) (stays-admission bs u.entity (delay_list u.entity s) v)))
+  effect_counted bs n t (blocks.Queue u) values = on_test Entered (may_enter (block_at bs (t.next + 1))) NoBlock _ (passed (put_queue u.entity (joined u.number (queue u.entity s)) (enters_and_falls n t s)) refl refl refl)
+  effect_counted bs n t (blocks.Depart u) values =
+      on_test Entered (may_enter (block_at bs (t.next + 1))) NoBlock _ (on_granted Entered (departing u.number (queue u.entity s)) _ (λ r. passed (put_queue u.entity r.1 (enters_and_falls n t s)) refl refl refl))
+  effect_counted bs n t (blocks.Transfer target) values = on_test Entered (may_enter (block_at bs target)) NoBlock _ (passed (entered n t target s) refl refl refl)
+  effect_counted bs n t (blocks.TransferByFraction f) values =
+      on_test Entered (may_enter (block_at bs (chosen t.next f (the_value values)))) NoBlock _ (passed (entered n t (chosen t.next f (the_value values)) s) refl refl refl)
+
+  meets_counted : (bs : List Block) (n : ℕ) (t : Transaction) (block : Block) (values : List ℤ) → OnGives (IsCounted s) (meets bs n t block values s)
+  meets_counted bs n t block values =
+      on_if (IsCounted s) (refuses n block values s) (Gives (placed n (refusal block) s)) (then_placed n (effect bs n t block values s))
+      (counted_same s _ (placed_stays n (refusal block) s))
+      (on_both Entered (IsCounted s) (effect bs n t block values s) _ (effect_counted bs n t block values) (λ e h. counted_on s e.0 _ h (placed_stays n e.1 e.0)))
+
+act_counted : (bs : List Block) (n : ℕ) (t : Transaction) (block : Block) (s : State) → OnGives (IsCounted s) (act bs n t block s)
+unfolding act
+act_counted bs n t block s =
+    on_bind (IsCounted s) (evaluated (operands (environment n t.priority t.mark s) block s.streams)) _
+    (λ read _. on_then (IsCounted (with_streams read.1 s)) (IsCounted s) (meets bs n t block read.0 (with_streams read.1 s)) (meets_counted (with_streams read.1 s) bs n t block read.0) (λ u h. record { steps = h.steps; ended = h.ended }))
+
+-- THE SCAN
+
+event_counted : (s : State) (es : List FutureEvent) → OnGives (IsCounted s) (next_event es s)
+event_counted s [] = tt
+event_counted s (e ∷ es) = record { steps = refl; ended = inl (refl, refl) }
+
+next_counted : (s : State) (ns : List ℕ) → OnGives (IsCounted s) (next_active ns s)
+next_counted s [] = event_counted s s.lists.future_events
+next_counted s (n ∷ ns) = record { steps = refl; ended = inl (refl, refl) }
+
+scan_counted : (bs : List Block) (a : Option ℕ) (s : State) → OnGives (IsCounted s) (scan bs a s)
+scan_counted bs None s = next_counted s s.lists.current_events
+scan_counted bs (Some n) s =
+    on_bind (IsCounted s) (or_stop (attributes_at n s.transactions) NoBlock) (λ t. or_stop (block_at bs t.next) NoBlock >>= λ block. act bs n t block s) (λ t _.
+    on_bind (IsCounted s) (or_stop (block_at bs t.next) NoBlock) (λ block. act bs n t block s) (λ block _. act_counted bs n t block s))
+
+pub is_counted : (bs : List Block) (s t : State) → scan bs s.lists.active s ≡ Gives t → IsCounted s t
+is_counted bs s t h = subst (OnGives (IsCounted s)) h (scan_counted bs s.lists.active s)
+
+-- where no named end stands, the count is still above 0
+still_counts : (count : ℤ) → end_at count ≡ None → pos 0 <ℤ count
+still_counts count h = by_test (int_lt (pos 0) count) refl h
+  where
+    by_test : (b : Bool) → int_lt (pos 0) count ≡ b → (if b then None else Some Done) ≡ None → pos 0 <ℤ count
+    by_test true is h = omega (arith, ints, is)
+    by_test false is h = absurd cc
+
+pub runs_still : (s t : State) → IsCounted s t → t.ended ≡ None → pos 0 <ℤ s.count → pos 0 <ℤ t.count
+runs_still s t c runs h = elim c.ended [
+  | inl same ↦ rw same.1 h
+  | inr brought ↦ still_counts t.count (sym brought ∙ runs)
+]
+
+-- the end of a state that a scan of a running one gives is Done, if it has one
+some_end : (a b : End) → Some a ≡ Some b → a ≡ b
+some_end a b h = cc
+
+by_count : (b : Bool) (end : End) → (if b then None else Some Done) ≡ Some end → end ≡ Done
+by_count true end h = absurd cc
+by_count false end h = sym (some_end Done end h)
+
+pub done_at_most : (s t : State) → s.ended ≡ None → IsCounted s t → (end : End) → t.ended ≡ Some end → end ≡ Done
+done_at_most s t runs c end h = elim c.ended [
+  | inl same ↦ let never : None ≡ Some end = sym (same.0 ∙ runs) ∙ h in absurd cc
+  | inr brought ↦ by_count (int_lt (pos 0) t.count) end (sym brought ∙ h)
+]

@@ -1,0 +1,252 @@
+-- What each block does to a well-typed state is a list of elementary changes, and never an error stop.
+use Rattle.std.proofs.Common.{◌≡◌, ℕ, suc, ◌+◌, ◌-◌, ◌≤◌, ℤ, pos, ◌≤ℤ◌, List, [], ◌∷◌, length, Option, Some, None, Result, Ok, Err, Bool, true, false, not, if◌then◌else◌, ◌==◌, ◌||◌, refl, sym, ap, ◌∙◌, subst, arith}
+use Rattle.std.specs.Prelude.{int_lt, nat_le, unwrap_or, Contains}
+use Rattle.std.specs.Option.{option_map_or}
+use Rattle.std.specs.List.{list_any}
+use Rattle.std.proofs.lemmas.Bool.{leb-true, le-leb, false≢true}
+use Rattle.gw_object.specs.declared.parts.Operand.{Operand}
+use Rattle.gw_object.specs.declared.parts.Spread.{Spread}
+use Rattle.gw_object.specs.declared.parts.Units.{Units}
+use Rattle.gw_object.specs.declared.parts.Fraction.{Fraction}
+use Rattle.gw_object.specs.declared.parts.Kind.{Kind}
+use Rattle.gw_object.specs.declared.parts.Kind.TheVariants as kinds
+use Rattle.gw_object.specs.declared.parts.Block.{Block}
+use Rattle.gw_object.specs.declared.parts.Block.TheVariants as blocks
+use Rattle.gw_object.specs.declared.parts.Parts.{Parts}
+use Rattle.gw_kinds.specs.declared.entities.EntityKind.TheVariants as needed
+use Rattle.gw_kinds.specs.declared.ways.Way.TheVariants.{Goes}
+use Rattle.gw_kinds.specs.Exits.{leads_to, at_once, goes_or_falls}
+use Rattle.gw_kinds.specs.Kinds.{kind_at, block_at, needs}
+use Rattle.gw_kinds.specs.Laws.{MayBeEntered, BlockHolds}
+use Rattle.gw_flow.specs.Codes as codes
+use Rattle.gw_flow.specs.Rows.{Row, owns, units_of, with_facility, without_facility, with_units}
+use Rattle.gw_flow.specs.Blocks.{capacity_at, move, edges}
+use Rattle.gw_flow.specs.Flow.{own_table}
+use Rattle.gw_flow.specs.Laws.{FlowHolds}
+use Rattle.gw_num.specs.Table.{at}
+use Rattle.gw_transactions.specs.declared.Transaction.{Transaction}
+use Rattle.gw_entities.specs.declared.facilities.Facility.{Facility}
+use Rattle.gw_entities.specs.declared.storages.Storage.{Storage}
+use Rattle.gw_entities.specs.declared.contents.Contents.{Contents}
+use Rattle.gw_entities.specs.declared.stop.Stop.{Stop}
+use Rattle.gw_entities.specs.declared.stop.Stop.TheVariants.{NotOwner, AlreadyOwned, TooFew, OverCapacity, OwnsAtEnd}
+use Rattle.gw_entities.specs.Contents.{holds}
+use Rattle.gw_entities.specs.Facility.{idle, seized, seizing, released, releasing, is_idle, is_owned_by, owns_any}
+use Rattle.gw_entities.specs.Storage as storages
+use Rattle.gw_entities.specs.Queue.{joined, departed, departing}
+use Rattle.gw_step.specs.declared.placement.Placement.{Placement}
+use Rattle.gw_step.specs.declared.placement.Placement.TheVariants.{StaysActive, RestsUntil, JoinsDelayList}
+use Rattle.gw_step.specs.Outcome.{Gives, ◌>>=◌, granted}
+use Rattle.gw_step.specs.State.{State, delay_list}
+use Rattle.gw_step.specs.Times.{moment_after}
+use Rattle.gw_step.specs.Changes.{enters_and_falls, facility, storage, queue, put_facility, put_storage, put_queue}
+use Rattle.gw_step.specs.Placing.{placed}
+use Rattle.gw_step.specs.Blocks.{has_to_wait, leads, stays, until, advance, hand_over, release, admission, leave, join_queue, depart, transfer, chosen, terminate, effect, then_placed, meets}
+use Rattle.gw_step.proofs.Outcomes.{choose}
+use Rattle.gw_step.proofs.Residence.{at-le-sum}
+use Rattle.gw_step.proofs.Owning.{idle-released}
+use Rattle.gw_step.proofs.Drawn.{safe_later}
+use Rattle.gw_step.specs.Places.{row_of}
+use Rattle.gw_step.specs.Typing.{promised_units, content_of, awaited, WaitsFor}
+use Rattle.gw_step.proofs.Owning.{lists-none}
+use Rattle.gw_step.proofs.Operands.{good_units}
+use Rattle.gw_step.proofs.Balances.{balanced-nothing, balanced-seize, balanced-release, balanced-storage, balanced-queue}
+use Rattle.gw_step.proofs.Traces.{EntersLast, Counts, Done, Then, change-keeps, present, Rested, credited, its_row}
+use Rattle.gw_step.proofs.Unstopped.{Safe, safe_bind, safe_test, safe_if}
+use Rattle.gw_step.proofs.AtBlock.{first_may_be_entered, second_may_be_entered, led_to, named_below, is_storage, is_queue}
+use Rattle.gw_step.proofs.Moving.{Acts, Reaches, Enters, entered_once, safe_placed, refused, safe_leads, at_first, at_second, the_rule, goes, just_goes, owner_as}
+use Rattle.gw_step.proofs.Calling.{handed_over, admits}
+use Rattle.gw_step.proofs.Attributes.{bearer_at, written_at}
+use Rattle.gw_transactions.specs.Transactions.{with_attributes}
+
+not-true : (b : Bool) → not b ≡ true → b ≡ false
+not-true true h = absurd (false≢true h)
+not-true false h = refl
+
+-- who owns none of the facilities
+owns_none : (fs : List Facility) (n : ℕ) → ((f : ℕ) → is_owned_by n (at idle fs f) ≡ false) → owns_any n fs ≡ false
+owns_none [] n h = refl
+owns_none (f ∷ fs) n h = ap (λ b. b || list_any (is_owned_by n) fs) (h 0) ∙ owns_none fs n (λ k. h (suc k))
+
+-- WHAT ENTITIES ANSWER
+
+-- a facility that n doesn't own is seized where it is idle, and else has to be waited for
+seize_cases : (P : Result (Bool × Facility) Stop → Type 0) (n : ℕ) (f : Facility) → is_owned_by n f ≡ false → (is_idle f ≡ true → P (Ok (true, seized n f))) → P (Ok (false, f)) → P (seizing n f)
+seize_cases P n f mine free busy = by_tests (is_owned_by n f) (is_idle f) mine refl
+  where
+    by_tests : (o i : Bool) → o ≡ false → is_idle f ≡ i → P (if◌then◌else◌ {A = Result (Bool × Facility) Stop} o (Err AlreadyOwned) (if◌then◌else◌ {A = Result (Bool × Facility) Stop} i (Ok (true, seized n f)) (Ok (false, f))))
+    by_tests true i h is = absurd (false≢true (sym h))
+    by_tests false true h is = free is
+    by_tests false false h is = busy
+
+-- units within the capacity are taken where they are free, and else have to be waited for
+enter_cases : (P : Result (Bool × Storage) Stop → Type 0) (n : ℕ) (e : Storage) → storages.fits_capacity n e ≡ true → (storages.has_room n e ≡ true → P (Ok (true, storages.entered n e))) → P (Ok (false, e)) → P (storages.entering n e)
+enter_cases P n e fits free full = by_tests (storages.fits_capacity n e) (storages.has_room n e) fits refl
+  where
+    by_tests : (f r : Bool) → f ≡ true → storages.has_room n e ≡ r → P (if◌then◌else◌ {A = Result (Bool × Storage) Stop} f (if◌then◌else◌ {A = Result (Bool × Storage) Stop} r (Ok (true, storages.entered n e)) (Ok (false, e))) (Err OverCapacity))
+    by_tests true true h is = free is
+    by_tests true false h is = full
+    by_tests false r h is = absurd (false≢true h)
+
+released_is : (n : ℕ) (f : Facility) → is_owned_by n f ≡ true → releasing n f ≡ Ok (tt, released f)
+released_is n f h = ap (λ b. if◌then◌else◌ {A = Result (Unit {0} × Facility) Stop} b (Ok (tt, released f)) (Err NotOwner)) h
+
+left_is : (n : ℕ) (e : Storage) → holds n e.contents ≡ true → storages.leaving n e ≡ Ok (tt, storages.left n e)
+left_is n e h = ap (λ b. if◌then◌else◌ {A = Result (Unit {0} × Storage) Stop} b (Ok (tt, storages.left n e)) (Err TooFew)) h
+
+departed_is : (n : ℕ) (q : Contents) → holds n q ≡ true → departing n q ≡ Ok (tt, departed n q)
+departed_is n q h = ap (λ b. if◌then◌else◌ {A = Result (Unit {0} × Contents) Stop} b (Ok (tt, departed n q)) (Err TooFew)) h
+
+module _ (p : Parts) (each_block : (b : ℕ) (block : Block) → block_at p.blocks b ≡ Some block → BlockHolds p b block) (flow : FlowHolds p (own_table p)) (s : State) (n : ℕ) (t : Transaction) (k : ℕ) where
+  -- the units that its row promises are inside
+  inside : (block : Block) (row : Row) → Acts p s n t block row → (e : ℕ) → units_of row e ≤ content_of e s.entities (kind_at p.entities e)
+  inside block row acts e =
+      omega (arith, acts.typed.promised e, at-le-sum None (λ t. promised_units e (row_of p t)) s.transactions n refl, ap (promised_units e) (its_row p s.transactions n t block row acts.is))
+
+  -- it waits for what its block asks for
+  asks : (block : Block) (row : Row) → Acts p s n t block row → (e : ℕ) → awaited block ≡ Some e → WaitsFor p e (at None s.transactions n)
+  asks block row acts e h =
+      let bears = bearer_at s.transactions n t acts.is.found in
+      subst (WaitsFor p e) (sym bears.1) (ap (λ (a : Transaction). option_map_or awaited (block_at p.blocks a.next) None) bears.2 ∙ ap (λ b. option_map_or awaited b None) acts.is.block_is ∙ h)
+
+  -- ADVANCE AND THE FACILITIES
+
+  until_rests : (clock moment : ℤ) (m : State) → m.lists.active ≡ Some n → m.clock ≡ clock → clock ≤ℤ moment → Rested p n (until clock moment) m
+  until_rests clock moment m active is later = choose (λ (x : Placement). Rested p n x m) (int_lt clock moment) (RestsUntil moment) StaysActive (λ _. (active, rw is later)) (λ _. tt)
+
+  until_credits : (clock moment : ℤ) (en : ℕ) → credited (until clock moment) en ≡ en
+  until_credits clock moment en = choose (λ (x : Placement). credited x en ≡ en) (int_lt clock moment) (RestsUntil moment) StaysActive (λ _. refl) (λ _. refl)
+
+  pub safe_advance : (time : Spread) (value : ℤ) (row : Row) → Acts p s n t (blocks.Advance time) row → Safe (Enters p k s n) (advance p.blocks n t value s)
+  safe_advance time value row acts =
+      let may = first_may_be_entered p t.next _ [] acts.kinds.exits in
+      safe_bind (λ moment. s.clock ≤ℤ moment) (Enters p k s n) (moment_after s.clock value) _ (safe_later s.clock value)
+      (λ moment later.
+      safe_leads p (Enters p k s n) (t.next + 1) _ may
+      (record {
+        entries = suc k;
+        arrivals = k;
+        trace = Then (goes p s n t (blocks.Advance time) row acts k k t (t.next + 1) row s.entities refl (at_first _ []) may (balanced-nothing p n row s.entities)) Done;
+        may = until_rests s.clock moment (enters_and_falls n t s) acts.active refl later;
+        few_entries = omega (arith, until_credits s.clock moment (suc k));
+        few_arrivals = omega arith;
+      }))
+
+  pub safe_seize : (f : ℕ) (values : List ℤ) (row : Row) → Acts p s n t (blocks.Seize f) row → Safe (Reaches p k s) (meets p.blocks n t (blocks.Seize f) values s)
+  unfolding effect
+  safe_seize f values row acts =
+      let may = first_may_be_entered p t.next _ [] acts.kinds.exits in
+      let below = named_below p.entities (needs needed.Facility f) acts.kinds.entities in
+      let rule = the_rule p t.next codes.already_owned (not (owns row f)) (blocks.Seize f) row refl acts.flow in
+      let mine : is_owned_by n (facility f s) ≡ false = owner_as p s n t (blocks.Seize f) row acts f ∙ not-true (owns row f) rule in
+      seize_cases
+      (λ r. Safe (Reaches p k s) (if has_to_wait r then Gives (placed n (JoinsDelayList f) s) else then_placed n (leads p.blocks (t.next + 1) (granted r >>= λ x. stays (put_facility f x.1 (enters_and_falls n t s))))))
+      n (facility f s) mine
+      (λ free.
+      safe_placed p k s n _ (safe_leads p (Enters p k s n) (t.next + 1) _ may
+      (just_goes p s n t (blocks.Seize f) row acts k (t.next + 1) (with_facility f row) (put_facility f (seized n (facility f s)) s).entities (at_first _ []) may (balanced-seize p n f row s.entities below free))))
+      (refused p k s n (JoinsDelayList f) (acts.active, asks (blocks.Seize f) row acts f refl, below) (omega arith))
+
+  pub safe_release : (f : ℕ) (row : Row) → Acts p s n t (blocks.Release f) row → Safe (Enters p k s n) (release p.blocks n t f s)
+  safe_release f row acts =
+      let may = first_may_be_entered p t.next _ [] acts.kinds.exits in
+      let below = named_below p.entities (needs needed.Facility f) acts.kinds.entities in
+      let owned = owner_as p s n t (blocks.Release f) row acts f ∙ the_rule p t.next codes.not_owner (owns row f) (blocks.Release f) row refl acts.flow in
+      let u : State = put_facility f (released (facility f s)) (enters_and_falls n t s) in
+      let gone = goes p s n t (blocks.Release f) row acts k k t (t.next + 1) (without_facility f row) u.entities refl (at_first _ []) may (balanced-release p n f row s.entities below owned) in
+      safe_leads p (Enters p k s n) (t.next + 1) _ may
+      (subst (λ r. Safe (Enters p k s n) (granted r >>= λ x. stays (hand_over p.blocks f (delay_list f s) (put_facility f x.1 (enters_and_falls n t s))))) (sym (released_is n (facility f s) owned))
+      (entered_once p k s n _ (Then gone (handed_over p each_block flow k k u (change-keeps p flow gone acts.typed) f (delay_list f s) below (idle-released f (enters_and_falls n t s)) (λ m. omega arith)))))
+
+  -- STORAGES AND QUEUES
+
+  pub safe_enter : (u : Units) (values : List ℤ) (row : Row) → Acts p s n t (blocks.Enter u) row → Safe (Reaches p k s) (meets p.blocks n t (blocks.Enter u) values s)
+  unfolding effect
+  safe_enter u values row acts =
+      let may = first_may_be_entered p t.next _ [] acts.kinds.exits in
+      let kind = is_storage p.entities u.entity acts.kinds.entities in
+      let fit = good_units p needed.Storage u acts.kinds.entities acts.kinds.constants in
+      let rule = the_rule p t.next codes.over_capacity (nat_le u.number (capacity_at p.entities u.entity)) (blocks.Enter u) row refl acts.flow in
+      enter_cases
+      (λ r. Safe (Reaches p k s) (if has_to_wait r then Gives (placed n (JoinsDelayList u.entity) s) else then_placed n (leads p.blocks (t.next + 1) (granted r >>= λ x. stays (put_storage u.entity x.1 (enters_and_falls n t s))))))
+      u.number (storage u.entity s) (ap (nat_le u.number) (acts.typed.sized u.entity) ∙ rule)
+      (λ free.
+      safe_placed p k s n _ (safe_leads p (Enters p k s n) (t.next + 1) _ may
+      (just_goes p s n t (blocks.Enter u) row acts k (t.next + 1) (with_units u.entity (units_of row u.entity + u.number) row) (put_storage u.entity (storages.entered u.number (storage u.entity s)) s).entities (at_first _ []) may
+      (balanced-storage p n u.entity (units_of row u.entity + u.number) (storages.entered u.number (storage u.entity s)) row s.entities kind.0 kind.1 refl (omega arith) (λ _. leb-true _ _ free) (omega (arith, fit.number))))))
+      (refused p k s n (JoinsDelayList u.entity) (acts.active, asks (blocks.Enter u) row acts u.entity refl, fit.entity) (omega arith))
+
+  -- what a storage holds of the units that a row promises
+  held : (u : Units) (row : Row) (kind : Option Kind) (capacity : ℕ) → kind ≡ Some (kinds.Storage capacity) → units_of row u.entity ≤ content_of u.entity s.entities kind → units_of row u.entity ≤ (storage u.entity s).contents.content
+  held u row kind capacity is h = subst (λ k. units_of row u.entity ≤ content_of u.entity s.entities k) is h
+
+  pub safe_leave : (u : Units) (row : Row) → Acts p s n t (blocks.Leave u) row → Safe (Enters p k s n) (leave p.blocks n t u s)
+  safe_leave u row acts =
+      let may = first_may_be_entered p t.next _ [] acts.kinds.exits in
+      let kind = is_storage p.entities u.entity acts.kinds.entities in
+      let enough = leb-true u.number (units_of row u.entity) (the_rule p t.next codes.too_few_units (nat_le u.number (units_of row u.entity)) (blocks.Leave u) row refl acts.flow) in
+      let within = held u row (kind_at p.entities u.entity) kind.0 kind.1 (inside (blocks.Leave u) row acts u.entity) in
+      let v : State = put_storage u.entity (storages.left u.number (storage u.entity s)) (enters_and_falls n t s) in
+      let gone = goes p s n t (blocks.Leave u) row acts k k t (t.next + 1) (with_units u.entity (units_of row u.entity - u.number) row) v.entities refl (at_first _ []) may
+      (balanced-storage p n u.entity (units_of row u.entity - u.number) (storages.left u.number (storage u.entity s)) row s.entities kind.0 kind.1 refl (omega (arith, enough, within)) (λ before. omega (arith, before)) (omega arith)) in
+      safe_leads p (Enters p k s n) (t.next + 1) _ may
+      (subst (λ r. Safe (Enters p k s n) (granted r >>= λ x. stays (admission p.blocks u.entity (delay_list u.entity s) (put_storage u.entity x.1 (enters_and_falls n t s))))) (sym (left_is u.number (storage u.entity s) (le-leb u.number (storage u.entity s).contents.content (omega (arith, enough, within)))))
+      (entered_once p k s n _ (Then gone (admits p each_block flow k k v (change-keeps p flow gone acts.typed) u.entity (delay_list u.entity s) (λ m. omega arith)))))
+
+  pub safe_join : (u : Units) (row : Row) → Acts p s n t (blocks.Queue u) row → Safe (Enters p k s n) (join_queue p.blocks n t u s)
+  safe_join u row acts =
+      let may = first_may_be_entered p t.next _ [] acts.kinds.exits in
+      let kind = is_queue p.entities u.entity acts.kinds.entities in
+      let fit = good_units p needed.Queue u acts.kinds.entities acts.kinds.constants in
+      safe_leads p (Enters p k s n) (t.next + 1) _ may
+      (just_goes p s n t (blocks.Queue u) row acts k (t.next + 1) (with_units u.entity (units_of row u.entity + u.number) row) (put_queue u.entity (joined u.number (queue u.entity s)) s).entities (at_first _ []) may
+      (balanced-queue p n u.entity (units_of row u.entity + u.number) (joined u.number (queue u.entity s)) row s.entities kind (omega arith) (omega (arith, fit.number)) (λ h. omega (arith, h))))
+
+  pub safe_depart : (u : Units) (row : Row) → Acts p s n t (blocks.Depart u) row → Safe (Enters p k s n) (depart p.blocks n t u s)
+  safe_depart u row acts =
+      let may = first_may_be_entered p t.next _ [] acts.kinds.exits in
+      let kind = is_queue p.entities u.entity acts.kinds.entities in
+      let enough = leb-true u.number (units_of row u.entity) (the_rule p t.next codes.too_few_units (nat_le u.number (units_of row u.entity)) (blocks.Depart u) row refl acts.flow) in
+      let within : units_of row u.entity ≤ (queue u.entity s).content = subst (λ k. units_of row u.entity ≤ content_of u.entity s.entities k) kind (inside (blocks.Depart u) row acts u.entity) in
+      safe_leads p (Enters p k s n) (t.next + 1) _ may
+      (subst (λ r. Safe (Enters p k s n) (granted r >>= λ x. stays (put_queue u.entity x.1 (enters_and_falls n t s)))) (sym (departed_is u.number (queue u.entity s) (le-leb u.number (queue u.entity s).content (omega (arith, enough, within)))))
+      (just_goes p s n t (blocks.Depart u) row acts k (t.next + 1) (with_units u.entity (units_of row u.entity - u.number) row) (put_queue u.entity (departed u.number (queue u.entity s)) s).entities (at_first _ []) may
+      (balanced-queue p n u.entity (units_of row u.entity - u.number) (departed u.number (queue u.entity s)) row s.entities kind (omega (arith, enough, within)) (omega arith) (λ h. omega (arith, h)))))
+
+  -- TRANSFERS
+
+  -- it goes along one of its edges
+  goes_to : (block : Block) (row : Row) → Acts p s n t block row → (to : ℕ) → Contains (edges p (own_table p) t.next block row) (move to row) → MayBeEntered p to → Safe (Enters p k s n) (transfer p.blocks n t to s)
+  goes_to block row acts to along may = safe_leads p (Enters p k s n) to _ may (just_goes p s n t block row acts k to row s.entities along may (balanced-nothing p n row s.entities))
+
+  pub safe_transfer : (to : ℕ) (row : Row) → Acts p s n t (blocks.Transfer to) row → Safe (Enters p k s n) (transfer p.blocks n t to s)
+  safe_transfer to row acts = goes_to (blocks.Transfer to) row acts to (at_first _ []) (first_may_be_entered p t.next _ [] acts.kinds.exits)
+
+  pub safe_fraction : (f : Fraction) (drawn : ℤ) (row : Row) → Acts p s n t (blocks.TransferByFraction f) row → Safe (Enters p k s n) (transfer p.blocks n t (chosen t.next f drawn) s)
+  safe_fraction f drawn row acts =
+      let others : ℕ = leads_to t.next (goes_or_falls f.otherwise) in
+      choose (λ to. Safe (Enters p k s n) (transfer p.blocks n t to s)) (int_lt drawn (pos f.thousandths)) f.target (unwrap_or f.otherwise (t.next + 1))
+      (λ is. goes_to (blocks.TransferByFraction f) row acts f.target (at_second (move others row) _ []) (second_may_be_entered p t.next _ _ [] acts.kinds.exits))
+      (λ other.
+      subst (λ to. Safe (Enters p k s n) (transfer p.blocks n t to s)) (led_to t.next f.otherwise)
+      (goes_to (blocks.TransferByFraction f) row acts others (at_first _ (move f.target row ∷ [])) (first_may_be_entered p t.next _ (at_once (Goes f.target) ∷ []) acts.kinds.exits)))
+
+  -- TERMINATE
+
+  pub safe_terminate : (by : Operand) (value : ℤ) (row : Row) → Acts p s n t (blocks.Terminate by) row → Safe (Enters p k s n) (terminate n t value s)
+  safe_terminate by value row acts =
+      let bears = bearer_at s.transactions n t acts.is.found in
+      let none = the_rule p t.next codes.owns_at_end (length row.facilities == 0) (blocks.Terminate by) row refl acts.flow in
+      safe_if (Enters p k s n) (int_lt value (pos 0)) _ _
+      (λ below. tt)
+      (λ counts.
+      safe_test (Enters p k s n) (not (owns_any n s.entities.facilities)) OwnsAtEnd _
+      (ap not (owns_none s.entities.facilities n (λ f. owner_as p s n t (blocks.Terminate by) row acts f ∙ lists-none row.facilities none f)))
+      (record {
+        entries = suc k;
+        arrivals = k;
+        trace = Then (EntersLast n t (blocks.Terminate by) row acts.is (present s.lists n acts.active)) (Then (Counts value) Done);
+        may = (acts.active, record { t = with_attributes (record t { current = t.next }) bears.0; row = row; found = written_at s.transactions n (record t { current = t.next }) bears.0 bears.1; row_is = acts.is.row_is; none = none });
+        few_entries = omega arith;
+        few_arrivals = omega arith;
+      }))

@@ -1,0 +1,107 @@
+-- The active transaction at its block, and where it goes.
+use Rattle.std.proofs.Common.{◌≡◌, ℕ, suc, ◌≤◌, List, [], ◌∷◌, Option, Some, None, Bool, true, false, not, refl, ap, ◌∙◌, subst, arith}
+use Rattle.std.specs.Prelude.{IsSomeAnd, Contains, All}
+use Rattle.std.proofs.lemmas.List.Elements.{All-head}
+use Rattle.gw_object.specs.declared.parts.Block.{Block}
+use Rattle.gw_object.specs.declared.parts.Parts.{Parts}
+use Rattle.gw_kinds.specs.Kinds.{block_at, is_generate}
+use Rattle.gw_kinds.specs.Laws.{MayBeEntered, BlockHolds}
+use Rattle.gw_flow.specs.Rows.{Row, owns}
+use Rattle.gw_flow.specs.Blocks.{Rule, rules, move, edges}
+use Rattle.gw_flow.specs.Flow.{own_table}
+use Rattle.gw_flow.specs.Laws.{MayPass}
+use Rattle.gw_num.specs.Table.{at}
+use Rattle.gw_transactions.specs.declared.Transaction.{Transaction}
+use Rattle.gw_entities.specs.declared.stop.Stop.TheVariants.{NoBlock}
+use Rattle.gw_entities.specs.Facility.{idle, is_owned_by}
+use Rattle.gw_step.specs.declared.placement.Placement.{Placement}
+use Rattle.gw_step.specs.declared.placement.Placement.TheVariants.{StaysActive}
+use Rattle.gw_step.specs.Placing.{placed}
+use Rattle.gw_step.specs.Outcome.{Outcome, Gives}
+use Rattle.gw_step.specs.State.{EntityStates, State, may_enter}
+use Rattle.gw_step.specs.Changes.{entered}
+use Rattle.gw_step.specs.Blocks.{leads, then_placed}
+use Rattle.gw_step.specs.Typing.{lists_facility, WellTyped}
+use Rattle.gw_step.proofs.Agreeing.{Balanced}
+use Rattle.gw_step.proofs.Traces.{IsAt, present, Rested, credited, Change, Goes, Trace, Done, Then, trace_on, placed_traced, its_row}
+use Rattle.gw_step.proofs.Unstopped.{Safe, safe_bind, safe_test}
+
+-- the active transaction of a well-typed state is at a block, in a row, and what kinds and flow say of the two
+pub record Acts (p : Parts) (s : State) (n : ℕ) (t : Transaction) (block : Block) (row : Row) : Type 0 where
+  pub typed : WellTyped p s
+  pub active : s.lists.active ≡ Some n
+  pub is : IsAt p s.transactions n t block row
+  pub kinds : BlockHolds p t.next block
+  pub flow : MayPass p (own_table p) t.next block row
+
+-- a block to which a transaction may go on may be entered
+enterable : (o : Option Block) → IsSomeAnd o (λ block. is_generate (Some block) ≡ false) → may_enter o ≡ true
+enterable None h = absurd h
+enterable (Some block) h = ap not h
+
+pub safe_leads : {A : Type 0} (p : Parts) (P : A → Type 0) (b : ℕ) (o : Outcome A) → MayBeEntered p b → Safe P o → Safe P (leads p.blocks b o)
+safe_leads p P b o may h = safe_test P (may_enter (block_at p.blocks b)) NoBlock o (enterable (block_at p.blocks b) may) h
+
+-- the first and the second edge of a block
+pub at_first : {A : Type 0} (x : A) (xs : List A) → Contains (x ∷ xs) x
+at_first x xs = (0, omega arith, refl)
+
+pub at_second : {A : Type 0} (x y : A) (xs : List A) → Contains (x ∷ y ∷ xs) y
+at_second x y xs = (1, omega arith, refl)
+
+-- the rule of a block that has one
+pub the_rule : (p : Parts) (b code : ℕ) (holds : Bool) (block : Block) (row : Row) → rules p block row ≡ (record { code = code; holds = holds }) ∷ [] → MayPass p (own_table p) b block row → holds ≡ true
+the_rule p b code holds block row is pass =
+    let one : Rule = record { code = code; holds = holds } in
+    All-head (λ (rule : Rule). rule.holds ≡ true) one [] (subst (All (λ (rule : Rule). rule.holds ≡ true)) is pass.each_rule)
+
+-- what a state comes to in a step, from so many entries and arrivals: at most one more of each
+pub record Reaches (p : Parts) (k : ℕ) (s t : State) : Type 0 where
+  pub entries : ℕ
+  pub arrivals : ℕ
+  pub trace : Trace p k k s entries arrivals t
+  pub few_entries : entries ≤ suc k
+  pub few_arrivals : arrivals ≤ suc k
+
+-- what entering comes to, and that the active transaction n may then be placed so
+pub record Enters (p : Parts) (k : ℕ) (s : State) (n : ℕ) (e : State × Placement) : Type 0 where
+  pub entries : ℕ
+  pub arrivals : ℕ
+  pub trace : Trace p k k s entries arrivals e.0
+  pub may : Rested p n e.1 e.0
+  pub few_entries : credited e.1 entries ≤ suc k
+  pub few_arrivals : arrivals ≤ suc k
+
+-- it entered, and stays active
+pub entered_once : (p : Parts) (k : ℕ) (s : State) (n : ℕ) (t : State) → Trace p k k s (suc k) k t → Enters p k s n (t, StaysActive)
+entered_once p k s n t xs = record { entries = suc k; arrivals = k; trace = xs; may = tt; few_entries = omega arith; few_arrivals = omega arith }
+
+-- then it is placed
+pub safe_placed : (p : Parts) (k : ℕ) (s : State) (n : ℕ) (o : Outcome (State × Placement)) → Safe (Enters p k s n) o → Safe (Reaches p k s) (then_placed n o)
+safe_placed p k s n o h =
+    safe_bind (Enters p k s n) (Reaches p k s) o (λ e. Gives (placed n e.1 e.0)) h
+    (λ e x. record {
+      entries = credited e.1 x.entries;
+      arrivals = x.arrivals;
+      trace = trace_on p x.trace (placed_traced p x.entries x.arrivals n e.1 e.0 x.may);
+      few_entries = x.few_entries;
+      few_arrivals = x.few_arrivals;
+    })
+
+-- it was refused
+pub refused : (p : Parts) (k : ℕ) (s : State) (n : ℕ) (placement : Placement) → Rested p n placement s → credited placement k ≤ suc k → Reaches p k s (placed n placement s)
+refused p k s n placement may few = record { entries = credited placement k; arrivals = k; trace = placed_traced p k k n placement s may; few_entries = few; few_arrivals = omega arith }
+
+module _ (p : Parts) (s : State) (n : ℕ) (t : Transaction) (block : Block) (row : Row) (acts : Acts p s n t block row) where
+  -- it goes along an edge
+  pub goes : (en ar : ℕ) (u : Transaction) (to : ℕ) (state : Row) (h : EntityStates) → u.next ≡ t.next → Contains (edges p (own_table p) t.next block row) (move to state) → MayBeEntered p to → Balanced p n (Some row) (Some state) s.entities h
+      → Change p en ar s (suc en) ar (record (entered n u to s) { entities = h })
+  goes en ar u to state h same along may balance = Goes n to t u block row state h acts.is same (present s.lists n acts.active) along may balance
+
+  -- and stays active, and nothing else happens
+  pub just_goes : (k : ℕ) (to : ℕ) (state : Row) (h : EntityStates) → Contains (edges p (own_table p) t.next block row) (move to state) → MayBeEntered p to → Balanced p n (Some row) (Some state) s.entities h → Enters p k s n (record (entered n t to s) { entities = h }, StaysActive)
+  just_goes k to state h along may balance = entered_once p k s n _ (Then (goes k k t to state h refl along may balance) Done)
+
+  -- what its row says of an owner, and what is inside at least
+  pub owner_as : (f : ℕ) → is_owned_by n (at idle s.entities.facilities f) ≡ owns row f
+  owner_as f = acts.typed.owned f n ∙ ap (lists_facility f) (its_row p s.transactions n t block row acts.is)

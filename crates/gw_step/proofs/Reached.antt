@@ -1,0 +1,286 @@
+-- A job's state through its start and through a step.
+use Rattle.gw_kinds.specs.Kinds.{block_at, is_none_or, has_good_constants}
+use Rattle.gw_transactions.specs.Transactions.{live_count}
+use Rattle.std.proofs.Common.{◌≡◌, ℕ, zero, suc, ◌+◌, ◌≤◌, ℤ, pos, ◌≤ℤ◌, List, [], ◌∷◌, map, length, replicate, Option, Some, None, IfSome, refl, sym, ap, ◌∙◌, subst, arith, ◌<◌}
+use Rattle.std.specs.Prelude.{sum, int_le, nat_lt, IfSome, IsTrue}
+use Rattle.std.specs.List.{AllByRecursion}
+use Rattle.std.proofs.lemmas.Bool.{and_parts, ltb-true}
+use Rattle.std.proofs.lemmas.List.{length-map, length-replicate}
+use Rattle.std.proofs.lemmas.Int.{ints}
+use Rattle.gw_object.specs.declared.parts.Generate.{Generate}
+use Rattle.gw_object.specs.declared.parts.Block.{Block}
+use Rattle.gw_object.specs.declared.parts.Block.TheVariants as blocks
+use Rattle.gw_object.specs.declared.parts.Entity.{Entity}
+use Rattle.gw_num.specs.Table.{at}
+use Rattle.gw_num.proofs.Tables.{sum_by-replicate, length-put_next, by_entry, at-replicate}
+use Rattle.gw_entities.specs.declared.facilities.Facility.{Facility}
+use Rattle.gw_entities.specs.declared.contents.Contents.{Contents}
+use Rattle.gw_entities.specs.Contents.{empty}
+use Rattle.gw_entities.specs.Facility.{idle}
+use Rattle.gw_object.specs.Entities.{capacity_of}
+use Rattle.gw_entities.specs.Storage.{vacant}
+use Rattle.gw_step.specs.declared.ends.End.{End}
+use Rattle.gw_step.specs.Outcome.{Outcome, Gives, EndsBy, StopsBy}
+use Rattle.gw_step.specs.State.{State, with_streams}
+use Rattle.gw_step.specs.Times.{environment, drawn_moment}
+use Rattle.gw_step.specs.Changes.{newcomer, arrives}
+use Rattle.gw_step.specs.Step.{scan, stepped, within_budget}
+use Rattle.gw_step.specs.Start.{nothing, first_moment, first_arrival, first_arrivals, started}
+use Rattle.gw_step.specs.Numbers.{IsWithin, AreWithinLimits, AreFewLive}
+use Rattle.gw_step.specs.Operands.{OperandsFit}
+use Rattle.gw_step.specs.Job.{Job, JobFits, IsBounded, IsReached, Step, Alone, after, then_step, start_of}
+use Rattle.gw_step.proofs.Outcomes.{OnGives, on_both}
+use Rattle.gw_step.proofs.Within.{sum-raised, within-arrives, within-streams, within-more, within-ended}
+use Rattle.gw_step.proofs.Counting.{IsCounted, is_counted, runs_still}
+use Rattle.gw_step.proofs.Traces.{KeepStreams, trace-within, trace-limits, trace-live, written-live}
+use Rattle.gw_step.proofs.Unstopped.{given}
+use Rattle.gw_step.proofs.Drawn.{IsDrawn, safe_drawn}
+use Rattle.gw_step.proofs.Safe.{kinds_of, reached_in_step, reached_states_are_well_typed}
+use Rattle.gw_step.proofs.Operands.{blocks_fit, all-operands}
+use Rattle.gw_step.proofs.Steps.{step-scan, by_budget, counts_more, some_is}
+use Rattle.gw_step.proofs.PlainBlocks.{by_arrival}
+
+-- ONE STEP MORE
+
+one_more : (j : Job) (n : ℕ) (s t : State) → Alone j n s → Step j s t → Alone j (n + 1) t
+unfolding after
+one_more j n s t h next = let e : n + 1 ≡ suc n = omega arith in ap (λ k. after j k (start_of j)) e ∙ ap (then_step j) h ∙ next
+
+-- the numbers after a step
+record Numbered (j : Job) (k : ℕ) (t : State) : Type 0 where
+  numbers : IsWithin (length j.parts.blocks) (length j.parts.entities) k k t
+  limits : AreWithinLimits j.parts.blocks t.scheduled
+  live : AreFewLive t.transactions
+
+-- what one step keeps of them
+bounded_more : (j : Job) (s u : State) → IsBounded j s → s.ended ≡ None → IsCounted s u → Numbered j (s.steps + 1) (within_budget j.budget (record u { steps = s.steps + 1 })) → IsBounded j (within_budget j.budget (record u { steps = s.steps + 1 }))
+bounded_more j s u b runs c =
+    by_budget (λ (v : State). Numbered j (s.steps + 1) v → IsBounded j v) j.budget (record u { steps = s.steps + 1 })
+    (λ _ same n. record {
+      steps = omega (arith, b.runs runs);
+      runs = λ e. absurd (cc);
+      counts = λ e. absurd (cc);
+      numbers = n.numbers;
+      limits = n.limits;
+      live = n.live;
+    })
+    (λ other n. record {
+      steps = omega (arith, b.runs runs);
+      runs = λ e. omega (arith, b.runs runs, other e);
+      counts = λ e. runs_still s u c e (b.counts runs);
+      numbers = n.numbers;
+      limits = n.limits;
+      live = n.live;
+    })
+
+bounded_ended : (j : Job) (s : State) (end : End) → IsBounded j s → s.ended ≡ None → IsBounded j (record s { steps = s.steps + 1; ended = Some end })
+bounded_ended j s end b runs =
+    let bs = length j.parts.blocks in
+    let es = length j.parts.entities in
+    record {
+      steps = omega (arith, b.runs runs);
+      runs = λ e. absurd (cc);
+      counts = λ e. absurd (cc);
+      numbers = within-ended bs es (s.steps + 1) (s.steps + 1) s (within-more bs es s.steps s.steps s b.numbers (s.steps + 1) (s.steps + 1) (omega arith) (omega arith)) (s.steps + 1) (Some end);
+      limits = b.limits;
+      live = b.live;
+    }
+
+-- what a step leads to
+record Leads (j : Job) (s t : State) : Type 0 where
+  bounded : IsBounded j t
+  steps : t.steps ≡ s.steps + 1
+
+leads_from : (j : Job) (s t : State) (o : Outcome State) → IsBounded j s → s.ended ≡ None → scan j.parts.blocks s.lists.active s ≡ o → Numbered j (s.steps + 1) t → stepped j.budget s o ≡ Some t → Leads j s t
+leads_from j s t (Gives u) b runs is n h =
+    let same = some_is _ t h in
+    subst (Leads j s) same
+    (record { bounded = bounded_more j s u b runs (is_counted j.parts.blocks s u is) (subst (Numbered j (s.steps + 1)) (sym same) n); steps = counts_more j.budget s u })
+leads_from j s t (EndsBy end) b runs is n h = subst (Leads j s) (some_is _ t h) (record { bounded = bounded_ended j s end b runs; steps = refl })
+leads_from j s t (StopsBy stop) b runs is n h = absurd cc
+
+-- the numbers after a step, by its elementary changes
+numbered_step : (j : Job) (s t : State) → IsReached (record { job = j; state = s }) → Step j s t → Numbered j (s.steps + 1) t
+numbered_step j s t r next =
+    let x = reached_in_step j s.steps s t r.fits.checked (reached_states_are_well_typed j s.steps s r.fits.checked r.alone) next in
+    record {
+      numbers = within-more (length j.parts.blocks) (length j.parts.entities) x.entries x.arrivals t (trace-within j.parts x.trace r.bounded.numbers) (s.steps + 1) (s.steps + 1) (omega (arith, x.few_entries)) (omega (arith, x.few_arrivals));
+      limits = trace-limits j.parts x.trace r.bounded.limits;
+      live = trace-live j.parts x.trace r.bounded.live;
+    }
+
+pub reached_more : (j : Job) (s t : State) → IsReached (record { job = j; state = s }) → s.ended ≡ None → Step j s t → IsReached (record { job = j; state = t })
+reached_more j s t r runs next =
+    let l = leads_from j s t (scan j.parts.blocks s.lists.active s) r.bounded runs refl (numbered_step j s t r next) (sym (step-scan j.parts.blocks j.budget s runs) ∙ next) in
+    record {
+      alone = subst (λ (k : ℕ). Alone j k t) (sym l.steps) (one_more j s.steps s t r.alone next);
+      fits = r.fits;
+      bounded = l.bounded;
+    }
+
+-- THE START
+
+-- the first arrivals of so many blocks, or fewer, are scheduled
+record Begun (bs es : ℕ) (count : ℤ) (k : ℕ) (t : State) : Type 0 where
+  within : IsWithin bs es 0 k t
+  made : length t.transactions ≤ k + 1
+  scheduled : sum t.scheduled ≤ k
+  clock : t.clock ≡ pos 0
+  steps : t.steps ≡ 0
+  counts : t.count ≡ count
+  -- no block has more than its first arrival, and those to come have none
+  first : (b : ℕ) → at 0 t.scheduled b ≤ 1
+  none : (b : ℕ) → k < b → at 0 t.scheduled b ≡ 0
+  live : live_count t.transactions ≤ k
+
+begun_more : (bs es : ℕ) (count : ℤ) (k l : ℕ) (t : State) → k ≤ l → Begun bs es count k t → Begun bs es count l t
+begun_more bs es count k l t le b = record {
+  within = within-more bs es 0 k t b.within 0 l (omega arith) le;
+  made = omega (arith, b.made, le);
+  scheduled = omega (arith, b.scheduled, le);
+  clock = b.clock;
+  steps = b.steps;
+  counts = b.counts;
+  first = b.first;
+  none = λ c above. b.none c (omega (arith, above, le));
+  live = omega (arith, b.live, le);
+}
+
+begun_arrives : (bs es : ℕ) (count : ℤ) (k : ℕ) (s : State) (b : ℕ) (priority time : ℤ) (streams : List ℕ) → b ≡ suc k → b ≤ bs → pos 0 ≤ℤ time → KeepStreams s.streams streams → Begun bs es count k s → Begun bs es count (suc k) (arrives b priority time (with_streams streams s))
+begun_arrives bs es count k s b priority time streams here block least keeps h = record {
+  within = within-arrives bs es 0 k (with_streams streams s) (within-streams bs es 0 k s h.within streams (keeps h.within.whole.streams)) b priority time block (rw h.clock least);
+  made = omega (arith, h.made, length-put_next None s.transactions (Some (newcomer b priority s)));
+  scheduled = omega (arith, h.scheduled, sum-raised b s.scheduled);
+  clock = h.clock;
+  steps = h.steps;
+  counts = h.counts;
+  first = by_entry 0 s.scheduled b (at 0 s.scheduled b + 1) (λ c n. n ≤ 1) (omega (arith, h.none b (omega (arith, here)))) (λ c apart. h.first c);
+  none = by_entry 0 s.scheduled b (at 0 s.scheduled b + 1) (λ c n. suc k < c → n ≡ 0) (λ above. absurd (omega (arith, here, above))) (λ c apart above. h.none c (omega (arith, above)));
+  live = omega (arith, h.live, written-live s.transactions (length s.transactions) (Some (newcomer b priority s)));
+}
+
+first-later : (g : Generate) (s : State) (o : Option ℤ) → s.clock ≡ pos 0 → IfSome o (λ time. pos 0 ≤ℤ time) → OnGives (IsDrawn (pos 0) s.streams) (first_moment g s o)
+first-later g s (Some time) clock least = record { later = least; keeps = λ h. h }
+first-later g s None clock least =
+    let env = environment (length s.transactions) g.priority s.clock s in
+    subst (λ c. OnGives (IsDrawn c s.streams) (drawn_moment env g.interval s.clock s.streams)) clock (given (IsDrawn s.clock s.streams) _ (safe_drawn env g.interval s.clock s.streams))
+
+module _ (bs es : ℕ) (count : ℤ) where
+  first_begins : (b : ℕ) (block : Block) (k : ℕ) (s : State) → b ≡ suc k → b ≤ bs → OperandsFit es block → Begun bs es count k s → OnGives (Begun bs es count (suc k)) (first_arrival b block s)
+  first_begins b block k s here below fits h =
+      by_arrival (λ x. OperandsFit es x → OnGives (Begun bs es count (suc k)) (first_arrival b x s))
+      (λ g least.
+      on_both (IsDrawn (pos 0) s.streams) (Begun bs es count (suc k)) (first_moment g s g.first) _ (first-later g s g.first h.clock least)
+      (λ d drawn. begun_arrives bs es count k s b g.priority d.0 d.1 here below drawn.later drawn.keeps h))
+      (λ x none _. subst (OnGives (Begun bs es count (suc k))) (sym (none b s)) (begun_more bs es count k (suc k) s (omega arith) h))
+      block fits
+
+  firsts_begin : (b : ℕ) (xs : List Block) (k : ℕ) (s : State) → b ≡ suc k → b + length xs ≤ suc bs → AllByRecursion (OperandsFit es) xs → Begun bs es count k s → OnGives (Begun bs es count (length xs + k)) (first_arrivals b xs s)
+  unfolding first_arrivals
+  firsts_begin b [] k s here below fits h = begun_more bs es count k (length {A = Block} [] + k) s (omega arith) h
+  firsts_begin b (x ∷ xs) k s here below fits h =
+      let e : length xs + suc k ≡ suc (length xs) + k = omega arith in
+      on_both (Begun bs es count (suc k)) (Begun bs es count (suc (length xs) + k)) (first_arrival b x s) (first_arrivals (b + 1) xs) (first_begins b x k s here (omega arith) fits.0 h)
+      (λ u more. subst (λ l. OnGives (Begun bs es count l) (first_arrivals (b + 1) xs u)) e (firsts_begin (b + 1) xs (suc k) u (omega (arith, here)) (omega arith) fits.1 more))
+
+-- a table of one value has it at each number, and as its default
+at-map_any : {X Y : Type 0} (xs : List X) (f : X → Y) (d : Y) (k : ℕ) → ((x : X) → f x ≡ d) → at d (map f xs) k ≡ d
+at-map_any [] f d k same = refl
+at-map_any (x ∷ xs) f d zero same = same x
+at-map_any (x ∷ xs) f d (suc k) same = at-map_any xs f d k same
+
+all_vacant : (es : List Entity) (k : ℕ) → (at (vacant 0) (map (λ (e : Entity). vacant (capacity_of e.kind)) es) k).contents.entries ≤ 0
+all_vacant [] k = omega arith
+all_vacant (e ∷ es) zero = omega arith
+all_vacant (e ∷ es) (suc k) = all_vacant es k
+
+-- the job begins with nothing scheduled
+nothing_begun : (j : Job) → JobFits j → Begun (length j.parts.blocks) (length j.parts.entities) (pos j.count) 0 (nothing j.parts j.count j.streams)
+nothing_begun j fits =
+    let bs = length j.parts.blocks in
+    let es = j.parts.entities in
+    let zero_sum = sum_by-replicate 0 (λ (x : ℕ). x) (bs + 1) refl in
+    let none_wait = sum_by-replicate [] (λ (xs : List ℕ). length xs) (length es) refl in
+    let table : length (replicate (bs + 1) zero) ≡ bs + 1 = length-replicate (bs + 1) zero in
+    record {
+      within = record {
+        entries = omega (arith, zero_sum, none_wait);
+        entity_entries = record {
+          facilities = λ f. omega (arith, ap (λ (x : Facility). x.entries) (at-map_any es (λ _. idle) idle f (λ _. refl)));
+          storages = λ e. omega (arith, all_vacant es e);
+          queues = λ q. omega (arith, ap (λ (x : Contents). x.entries) (at-map_any es (λ _. empty) empty q (λ _. refl)));
+          inside = λ q. subst (λ (x : Contents). x.content ≤ x.entries) (sym (at-map_any es (λ _. empty) empty q (λ _. refl))) (omega arith);
+        };
+        made = omega arith;
+        scheduled = omega (arith, zero_sum);
+        whole = record {
+          entries = table;
+          scheduled = table;
+          delay_lists = length-replicate (length es) [];
+          facilities = length-map es (λ _. idle);
+          storages = length-map es (λ (e : Entity). vacant (capacity_of e.kind));
+          queues = length-map es (λ _. empty);
+          streams = fits.streams;
+        };
+        clock = omega (arith, ints);
+        future = tt;
+      };
+      made = omega arith;
+      scheduled = omega (arith, zero_sum);
+      clock = refl;
+      steps = refl;
+      counts = refl;
+      first = λ b. omega (arith, at-replicate {X = ℕ} 0 (bs + 1) b);
+      none = λ b above. at-replicate {X = ℕ} 0 (bs + 1) b;
+      live = omega arith;
+    }
+
+-- a first arrival is within any limit
+within_limit : (limit : Option ℕ) (k : ℕ) → k ≤ 1 → IsTrue (is_none_or limit (nat_lt 0)) → IfSome limit (λ most. k ≤ most)
+within_limit None k h some = tt
+within_limit (Some most) k h some = omega (arith, h, ltb-true 0 most some)
+
+-- a state with as many arrivals as blocks, and no steps
+begun_bounded : (j : Job) (k : ℕ) (t : State) (end : Option End) → JobFits j → k ≤ 4096 → Begun (length j.parts.blocks) (length j.parts.entities) (pos j.count) k t → IsBounded j (record t { ended = end })
+begun_bounded j k t end fits few b =
+    let w = within-ended (length j.parts.blocks) (length j.parts.entities) 0 k t b.within t.steps end in
+    record {
+      steps = omega (arith, b.steps);
+      runs = λ _. omega (arith, b.steps, fits.budget_least);
+      counts = λ _. rw b.counts (omega (arith, ints, fits.count_least));
+      numbers = subst (λ n. IsWithin (length j.parts.blocks) (length j.parts.entities) n n (record t { ended = end })) (sym b.steps)
+          (record { entries = w.entries; entity_entries = w.entity_entries; made = omega (arith, b.made, few); scheduled = omega (arith, b.scheduled, few); whole = w.whole; clock = w.clock; future = w.future });
+      limits = record { arrivals = λ c g is. within_limit g.limit (at 0 t.scheduled c) (b.first c) (and_parts (is_none_or g.first (int_le (pos 0))) (is_none_or g.limit (nat_lt 0)) (constants c g is)).1 };
+      live = record { live = omega (arith, b.live, few) };
+    }
+  where
+    constants : (c : ℕ) (g : Generate) → block_at j.parts.blocks c ≡ Some (blocks.Generate g) → IsTrue (has_good_constants (blocks.Generate g))
+    constants c g is = (kinds_of j.parts fits.checked c (blocks.Generate g) is).constants
+
+-- what holds of the start state, however the first arrivals came out
+record Starts (j : Job) (s : State) : Type 0 where
+  bounded : IsBounded j s
+  steps : s.steps ≡ 0
+
+starts_from : (j : Job) (k : ℕ) (o : Outcome State) → JobFits j → k ≤ 4096 → OnGives (Begun (length j.parts.blocks) (length j.parts.entities) (pos j.count) k) o → Starts j (started (nothing j.parts j.count j.streams) o)
+starts_from j k (Gives t) fits few b = record { bounded = begun_bounded j k t t.ended fits few b; steps = b.steps }
+starts_from j k (EndsBy end) fits few b = record { bounded = begun_bounded j 0 (nothing j.parts j.count j.streams) (Some end) fits (omega arith) (nothing_begun j fits); steps = refl }
+starts_from j k (StopsBy stop) fits few b = record { bounded = begun_bounded j 0 (nothing j.parts j.count j.streams) None fits (omega arith) (nothing_begun j fits); steps = refl }
+
+alone_at_start : (j : Job) → Alone j 0 (start_of j)
+unfolding after
+alone_at_start j = refl
+
+pub reached_first : (j : Job) (s : State) → JobFits j → s ≡ start_of j → IsReached (record { job = j; state = s })
+reached_first j s fits is =
+    let bs = j.parts.blocks in
+    let n = nothing j.parts j.count j.streams in
+    let fit = blocks_fit j.parts fits.checked fits.spelled in
+    let b = firsts_begin (length bs) (length j.parts.entities) (pos j.count) 1 bs 0 n (omega arith) (omega arith) (all-operands (length j.parts.entities) bs (λ i block at. fit.operands (suc i) block at)) (nothing_begun j fits) in
+    let starts = starts_from j (length bs + 0) (first_arrivals 1 bs n) fits (omega (arith, fit.few)) b in
+    subst (λ (t : State). IsReached (record { job = j; state = t })) (sym is)
+    (record {
+      alone = subst (λ (k : ℕ). Alone j k (start_of j)) (sym starts.steps) (alone_at_start j);
+      fits = fits;
+      bounded = starts.bounded;
+    })

@@ -1,0 +1,205 @@
+-- Each elementary change keeps that each live transaction resides exactly once.
+use Rattle.std.proofs.Common.{◌≡◌, ◌≢◌, ℕ, zero, suc, ◌+◌, ◌≤◌, ℤ, List, [], ◌∷◌, ◌++◌, map, length, Option, Some, None, Bool, true, false, if◌then◌else◌, ◌==◌, is_some, option_map, refl, sym, ap, ◌∙◌, arith, inl, inr}
+use Rattle.std.specs.Prelude.{int_le, sum_by}
+use Rattle.std.proofs.lemmas.Bool.{cases_eq, eq-eqb, ne_eqb}
+use Rattle.gw_chains.specs.Chain.{behind, all_behind, due}
+use Rattle.gw_transactions.specs.declared.Transaction.{Transaction}
+use Rattle.gw_transactions.specs.Transactions.{LiveTransaction, with_attributes}
+use Rattle.gw_num.specs.Table.{at, put}
+use Rattle.std.proofs.lemmas.List.Sums.{sum_by-cons}
+use Rattle.gw_num.proofs.Tables.{at-put, at-put_other, at_past, sum_by-put}
+use Rattle.gw_step.specs.State.{FutureEvent, State, priority_of, delay_list, without}
+use Rattle.gw_step.specs.Residence.{occurrences, active_numbers, occurrences_in, ResidesOnce}
+use Rattle.gw_step.specs.Changes.{newcomer, retries, woken, entered, destroyed, rests_until, arrives, waits_for, called_from, clock_moves, numbers}
+use Rattle.gw_step.proofs.Attributes.{is_some-attributes}
+use Rattle.gw_step.proofs.Lists.{occurrences-placed, occurrences-all_behind, occurrences-due}
+
+-- 1 where it is there
+abbrev pub one_if : Bool → ℕ
+one_if b = if b then 1 else 0
+
+pub at_most_one : (b : Bool) → one_if b ≤ 1
+at_most_one true = omega arith
+at_most_one false = omega arith
+
+pub same_number : (m n : ℕ) → m ≡ n → one_if (m == n) ≡ 1
+same_number m n e = ap one_if (eq-eqb m n e)
+
+pub other_number : (m n : ℕ) → m ≢ n → one_if (m == n) ≡ 0
+other_number m n e = ap one_if (ne_eqb m n e)
+
+-- a table of options where one entry is written
+written_here : (xs : List (Option LiveTransaction)) (n : ℕ) (v : Option LiveTransaction) (k : ℕ) → k ≡ n → one_if (is_some (at None (put None xs n v) k)) ≡ one_if (is_some v)
+written_here xs n v k e = ap (λ j. one_if (is_some (at None (put None xs n v) j))) e ∙ ap (λ o. one_if (is_some o)) (at-put None xs n v)
+
+written_other : (xs : List (Option LiveTransaction)) (n : ℕ) (v : Option LiveTransaction) (k : ℕ) → k ≢ n → one_if (is_some (at None (put None xs n v) k)) ≡ one_if (is_some (at None xs k))
+written_other xs n v k e = ap (λ o. one_if (is_some o)) (at-put_other None xs n k v e)
+
+-- one entry of a table has no more than all of them
+pub at-le-sum : {X : Type 0} (d : X) (f : X → ℕ) (xs : List X) (k : ℕ) → f d ≡ 0 → f (at d xs k) ≤ sum_by f xs
+at-le-sum d f [] k none = omega (arith, none)
+at-le-sum d f (x ∷ xs) zero none = omega (arith, sum_by-cons f x xs)
+at-le-sum d f (x ∷ xs) (suc k) none = omega (arith, sum_by-cons f x xs, at-le-sum d f xs k none)
+
+-- one of the lists of a table has no more than all of them
+pub occurrences-one : (n : ℕ) (xs : List (List ℕ)) (e : ℕ) → occurrences n (at [] xs e) ≤ sum_by (occurrences n) xs
+occurrences-one n xs e = at-le-sum [] (occurrences n) xs e refl
+
+-- who resides on no list
+pub record Alone (n : ℕ) (s : State) : Type 0 where
+  pub current_events : occurrences n s.lists.current_events ≡ 0
+  pub future_events : occurrences n (map (λ (e : FutureEvent). e.number) s.lists.future_events) ≡ 0
+  pub delay_lists : (e : ℕ) → occurrences n (delay_list e s) ≡ 0
+  pub retry : occurrences n s.lists.retry ≡ 0
+
+-- who is active resides on no list
+pub alone : (n : ℕ) (s : State) → s.lists.active ≡ Some n → ResidesOnce s → Alone n s
+alone n s active h =
+    let a : occurrences n (active_numbers s.lists.active) ≡ one_if (n == n) + 0 = ap (λ o. occurrences n (active_numbers o)) active in
+    let one = same_number n n refl in
+    let before : occurrences_in s.lists n ≡ one_if (is_some (at None s.transactions n)) = h n in
+    let most : one_if (is_some (at None s.transactions n)) ≤ 1 = at_most_one (is_some (at None s.transactions n)) in
+    record {
+      current_events = omega (arith, a, one, before, most);
+      future_events = omega (arith, a, one, before, most);
+      delay_lists = λ e. omega (arith, a, one, before, most, occurrences-one n s.lists.delay_lists e);
+      retry = omega (arith, a, one, before, most);
+    }
+
+-- nobody resides twice on a delay list
+pub waits-once : (n : ℕ) (s : State) → ResidesOnce s → (e : ℕ) → occurrences n (delay_list e s) ≤ 1
+waits-once n s h e =
+    let all : occurrences_in s.lists n ≡ one_if (is_some (at None s.transactions n)) = h n in
+    let most : one_if (is_some (at None s.transactions n)) ≤ 1 = at_most_one (is_some (at None s.transactions n)) in
+    omega (arith, all, most, occurrences-one n s.lists.delay_lists e)
+
+pub resides-entered : (n : ℕ) (t : Transaction) (next : ℕ) (s : State) → ResidesOnce s → ResidesOnce (entered n t next s)
+resides-entered n t next s h k =
+    let u : Transaction = record t { current = t.next; next = next } in
+    let was = at None s.transactions n in
+    elim (cases_eq k n) [
+      | inl e ↦ h k ∙ ap (λ j. one_if (is_some (at None s.transactions j))) e ∙ ap one_if (sym (is_some-attributes u was)) ∙ sym (written_here s.transactions n (option_map (with_attributes u) was) k e)
+      | inr e ↦ h k ∙ sym (written_other s.transactions n (option_map (with_attributes u) was) k e)
+    ]
+
+pub resides-destroyed : (n : ℕ) (u : LiveTransaction) (s : State) → s.lists.active ≡ Some n → at None s.transactions n ≡ Some u → ResidesOnce s → ResidesOnce (destroyed n s)
+resides-destroyed n u s active there h k =
+    let before : occurrences_in s.lists k ≡ one_if (is_some (at None s.transactions k)) = h k in
+    let a : occurrences k (active_numbers s.lists.active) ≡ one_if (n == k) + 0 = ap (λ o. occurrences k (active_numbers o)) active in
+    elim (cases_eq k n) [
+      | inl e ↦
+          let one : one_if (is_some (at None s.transactions k)) ≡ 1 = ap (λ j. one_if (is_some (at None s.transactions j))) e ∙ ap (λ o. one_if (is_some o)) there in
+          let gone = written_here s.transactions n None k e in
+          let here = same_number n k (sym e) in
+          omega (arith, before, a, one, gone, here)
+      | inr e ↦
+          let kept = written_other s.transactions n None k e in
+          let other = other_number n k (λ d. e (sym d)) in
+          omega (arith, before, a, kept, other)
+    ]
+
+pub resides-rests : (n : ℕ) (time : ℤ) (s : State) → s.lists.active ≡ Some n → ResidesOnce s → ResidesOnce (rests_until n time s)
+resides-rests n time s active h k =
+    let before : occurrences_in s.lists k ≡ one_if (is_some (at None s.transactions k)) = h k in
+    let a : occurrences k (active_numbers s.lists.active) ≡ one_if (n == k) + 0 = ap (λ o. occurrences k (active_numbers o)) active in
+    let f = occurrences-placed k (λ (e : FutureEvent). e.number) (λ (y : FutureEvent). int_le y.time time) (record { time = time; number = n }) s.lists.future_events in
+    omega (arith, before, a, f)
+
+pub resides-arrives : (b : ℕ) (priority time : ℤ) (s : State) → ResidesOnce s → ResidesOnce (arrives b priority time s)
+resides-arrives b priority time s h k =
+    let n = length s.transactions in
+    let t : Option LiveTransaction = Some (newcomer b priority s) in
+    let before : occurrences_in s.lists k ≡ one_if (is_some (at None s.transactions k)) = h k in
+    let f = occurrences-placed k (λ (e : FutureEvent). e.number) (λ (y : FutureEvent). int_le y.time time) (record { time = time; number = n }) s.lists.future_events in
+    elim (cases_eq k n) [
+      | inl e ↦
+          let none : one_if (is_some (at None s.transactions k)) ≡ 0 = ap (λ o. one_if (is_some o)) (at_past None s.transactions k (omega (arith, e))) in
+          let new = written_here s.transactions n t k e in
+          let here = same_number n k (sym e) in
+          omega (arith, before, f, none, new, here)
+      | inr e ↦
+          let kept = written_other s.transactions n t k e in
+          let other = other_number n k (λ d. e (sym d)) in
+          omega (arith, before, f, kept, other)
+    ]
+
+-- the first of the current events chain becomes active
+pub resides-active : (n : ℕ) (ns : List ℕ) (s : State) → s.lists.active ≡ None → s.lists.current_events ≡ n ∷ ns → ResidesOnce s → ResidesOnce (record s { lists = record s.lists { active = Some n; current_events = ns } })
+resides-active n ns s nobody first h k =
+    let before : occurrences_in s.lists k ≡ one_if (is_some (at None s.transactions k)) = h k in
+    let a : occurrences k (active_numbers s.lists.active) ≡ 0 = ap (λ o. occurrences k (active_numbers o)) nobody in
+    let c : occurrences k s.lists.current_events ≡ one_if (n == k) + occurrences k ns = ap (occurrences k) first in
+    omega (arith, before, a, c)
+
+map-same : (ns : List ℕ) → map (λ (n : ℕ). n) ns ≡ ns
+map-same [] = refl
+map-same (n ∷ ns) = ap (λ ms. n ∷ ms) (map-same ns)
+
+pub resides-clock : (time : ℤ) (s : State) → ResidesOnce s → ResidesOnce (clock_moves time s)
+resides-clock time s h k =
+    let soon = due (λ (e : FutureEvent). e.time) time s.lists.future_events in
+    let joined = all_behind (priority_of s.transactions) (numbers soon) s.lists.current_events in
+    let before : occurrences_in s.lists k ≡ one_if (is_some (at None s.transactions k)) = h k in
+    let c : occurrences k joined ≡ occurrences k (numbers soon) + occurrences k s.lists.current_events =
+    ap (occurrences k) (sym (map-same joined)) ∙ occurrences-all_behind k (λ (n : ℕ). n) (priority_of s.transactions) (numbers soon) s.lists.current_events
+    ∙ ap (λ ns. occurrences k ns + occurrences k (map (λ (n : ℕ). n) s.lists.current_events)) (map-same (numbers soon)) ∙ ap (λ ns. occurrences k (numbers soon) + occurrences k ns) (map-same s.lists.current_events) in
+    let f = occurrences-due k (λ (e : FutureEvent). e.number) (λ (e : FutureEvent). e.time) time s.lists.future_events in
+    omega (arith, before, c, f)
+
+-- DELAY LISTS
+
+-- a list with one more member, behind its peers
+pub occurrences-joined : (k : ℕ) (priority : ℕ → ℤ) (n : ℕ) (xs : List ℕ) → occurrences k (behind priority n xs) ≡ one_if (n == k) + occurrences k xs
+occurrences-joined k priority n xs =
+    ap (occurrences k) (sym (map-same (behind priority n xs))) ∙ occurrences-placed k (λ (m : ℕ). m) (λ m. int_le (priority n) (priority m)) n xs
+    ∙ ap (λ ns. one_if (n == k) + occurrences k ns) (map-same xs)
+
+-- a list that one of its members left
+pub occurrences-without : (k n : ℕ) (xs : List ℕ) → 1 ≤ occurrences n xs → one_if (n == k) + occurrences k (without n xs) ≡ occurrences k xs
+occurrences-without k n [] h = absurd (omega (arith, h))
+occurrences-without k n (x ∷ xs) h =
+    elim (cases_eq x n) [
+      | inl e ↦ let same : without n (x ∷ xs) ≡ xs = rw (eq-eqb x n e) refl in rw (same, e) refl
+      | inr e ↦
+          let other : without n (x ∷ xs) ≡ x ∷ without n xs = rw (ne_eqb x n e) refl in
+          let rest = occurrences-without k n xs (omega (arith, h, other_number x n e)) in
+          rw other (omega (arith, rest))
+    ]
+
+pub resides-waits : (e n : ℕ) (s : State) → s.lists.active ≡ Some n → ResidesOnce s → ResidesOnce (waits_for e n s)
+resides-waits e n s active h k =
+    let before : occurrences_in s.lists k ≡ one_if (is_some (at None s.transactions k)) = h k in
+    let a : occurrences k (active_numbers s.lists.active) ≡ one_if (n == k) + 0 = ap (λ o. occurrences k (active_numbers o)) active in
+    let joined = occurrences-joined k (priority_of s.transactions) n (delay_list e s) in
+    let total = sum_by-put [] (occurrences k) s.lists.delay_lists e (behind (priority_of s.transactions) n (delay_list e s)) refl in
+    omega (arith, before, a, joined, total)
+
+pub resides-called : (e n : ℕ) (s : State) → 1 ≤ occurrences n (delay_list e s) → ResidesOnce s → ResidesOnce (called_from e n s)
+resides-called e n s there h k =
+    let before : occurrences_in s.lists k ≡ one_if (is_some (at None s.transactions k)) = h k in
+    let joined = occurrences-joined k (priority_of s.transactions) n s.lists.current_events in
+    let left = occurrences-without k n (delay_list e s) there in
+    let total = sum_by-put [] (occurrences k) s.lists.delay_lists e (without n (delay_list e s)) refl in
+    omega (arith, before, joined, left, total)
+
+-- THE RETRY LIST
+
+occurrences-append : (k : ℕ) (xs ys : List ℕ) → occurrences k (xs ++ ys) ≡ occurrences k xs + occurrences k ys
+occurrences-append k [] ys = omega arith
+occurrences-append k (x ∷ xs) ys = omega (arith, occurrences-append k xs ys)
+
+pub resides-retries : (n : ℕ) (s : State) → s.lists.active ≡ Some n → ResidesOnce s → ResidesOnce (retries n s)
+resides-retries n s active h k =
+    let before : occurrences_in s.lists k ≡ one_if (is_some (at None s.transactions k)) = h k in
+    let a : occurrences k (active_numbers s.lists.active) ≡ one_if (n == k) + 0 = ap (λ o. occurrences k (active_numbers o)) active in
+    omega (arith, before, a, occurrences-append k s.lists.retry (n ∷ []))
+
+-- all of some join the current events chain
+occurrences-joining : (k : ℕ) (priority : ℕ → ℤ) (ns xs : List ℕ) → occurrences k (all_behind priority ns xs) ≡ occurrences k ns + occurrences k xs
+occurrences-joining k priority [] xs = omega arith
+occurrences-joining k priority (n ∷ ns) xs = omega (arith, occurrences-joining k priority ns (behind priority n xs), occurrences-joined k priority n xs)
+
+pub resides-woken : (s : State) → ResidesOnce s → ResidesOnce (woken s)
+resides-woken s h k =
+    let before : occurrences_in s.lists k ≡ one_if (is_some (at None s.transactions k)) = h k in
+    omega (arith, before, occurrences-joining k (priority_of s.transactions) s.lists.retry s.lists.current_events)

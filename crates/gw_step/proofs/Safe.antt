@@ -1,0 +1,209 @@
+-- Typed states never get stuck.
+use Rattle.std.proofs.Common.{◌≡◌, ℕ, zero, suc, ◌+◌, ◌≤◌, ℤ, List, [], ◌∷◌, Option, Some, None, Bool, true, false, is_some, is_none, if◌then◌else◌, ◌==◌, ◌&&◌, refl, sym, ap, ◌∙◌, subst, arith, ⊎_elim}
+use Rattle.std.specs.Prelude.{IfSome}
+use Rattle.gw_object.specs.declared.parts.Block.{Block}
+use Rattle.gw_object.specs.declared.parts.Block.TheVariants as blocks
+use Rattle.gw_object.specs.declared.parts.Parts.{Parts}
+use Rattle.gw_kinds.specs.Kinds.{block_at}
+use Rattle.gw_kinds.specs.Laws.{BlockHolds}
+use Rattle.gw_kinds.proofs.KindsHold.{kinds_pass_at_each_place}
+use Rattle.gw_flow.specs.Rows.{Row}
+use Rattle.gw_flow.specs.Flow.{own_table}
+use Rattle.gw_flow.specs.Laws.{FlowHolds}
+use Rattle.gw_flow.proofs.Passing.{flow_passes_at_each_block}
+use Rattle.gw_verify.specs.Checks.{Checked}
+use Rattle.gw_verify.proofs.BothPass.{kinds_pass, flow_passes}
+use Rattle.gw_num.specs.Table.{at}
+use Rattle.gw_transactions.specs.declared.Transaction.{Transaction}
+use Rattle.gw_transactions.specs.Transactions.{LiveTransaction, attributes_at}
+use Rattle.gw_entities.specs.declared.stop.Stop.TheVariants.{NoBlock}
+use Rattle.gw_step.specs.declared.ends.End.TheVariants.{Budget}
+use Rattle.gw_step.specs.Outcome.{Outcome, Gives, EndsBy, StopsBy, evaluated}
+use Rattle.gw_step.specs.State.{FutureEvent, State, with_streams}
+use Rattle.gw_flow.specs.Values.{operands}
+use Rattle.gw_step.specs.Times.{environment}
+use Rattle.gw_step.specs.Changes.{woken, clock_moves}
+use Rattle.gw_step.specs.Blocks.{the_value, effect, meets, act}
+use Rattle.gw_step.specs.Step.{next_event, next_active, scan, within_budget, stepped, step}
+use Rattle.gw_step.specs.Residence.{occurrences, active_numbers}
+use Rattle.gw_step.specs.Job.{Job, Step, then_step, after, start_of}
+use Rattle.gw_step.proofs.Outcomes.{choose}
+use Rattle.gw_step.proofs.Rests.{all_come_to_rest}
+use Rattle.gw_step.proofs.Residence.{one_if, same_number}
+use Rattle.gw_step.specs.Typing.{IsPlaced, WellTyped, AreWithinCapacity}
+use Rattle.gw_step.specs.Safety.{StartIsWellTyped, StepsKeepTypes, WellTypedStatesStep, ReachedStatesAreWellTyped, NoJobIsStuck, AllJobsEnd, StoragesKeepTheirCapacity}
+use Rattle.gw_step.proofs.Traces.{Activates, ClockMoves, Woken, Draws, Marks, Change, Trace, Done, Then, trace_on, trace-keeps, trace-fills}
+use Rattle.gw_step.proofs.Unstopped.{Safe, safe_bind, safe_then, safe_found}
+use Rattle.gw_step.proofs.Drawn.{Read, safe_operands}
+use Rattle.gw_step.proofs.Moving.{Acts, Reaches, safe_placed}
+use Rattle.gw_step.proofs.Calling.{some_of, is_at}
+use Rattle.gw_step.proofs.Effects.{safe_advance, safe_seize, safe_release, safe_enter, safe_leave, safe_join, safe_depart, safe_transfer, safe_fraction, safe_terminate}
+use Rattle.gw_step.proofs.Arriving.{safe_generate, start_typed}
+use Rattle.gw_step.proofs.Attributes.{attributes_of}
+
+-- THE SCAN
+
+live : (o : Option LiveTransaction) → 1 ≤ one_if (is_some o) → is_some o ≡ true
+live None h = absurd (omega (arith, h))
+live (Some t) h = refl
+
+module _ (p : Parts) (each_block : (b : ℕ) (block : Block) → block_at p.blocks b ≡ Some block → BlockHolds p b block) (flow : FlowHolds p (own_table p)) (k : ℕ) where
+  -- the one walk over the blocks
+  safe_meets : (s : State) (n : ℕ) (t : Transaction) (block : Block) (values : List ℤ) (row : Row) → Acts p s n t block row → Safe (Reaches p k s) (meets p.blocks n t block values s)
+  unfolding effect
+  safe_meets s n t (blocks.Generate g) values row acts = safe_placed p k s n _ (safe_generate p s n t k g row acts)
+  safe_meets s n t (blocks.Terminate by) values row acts = safe_placed p k s n _ (safe_terminate p each_block flow s n t k by (the_value values) row acts)
+  safe_meets s n t (blocks.Advance time) values row acts = safe_placed p k s n _ (safe_advance p each_block flow s n t k time (the_value values) row acts)
+  safe_meets s n t (blocks.Seize f) values row acts = safe_seize p each_block flow s n t k f values row acts
+  safe_meets s n t (blocks.Release f) values row acts = safe_placed p k s n _ (safe_release p each_block flow s n t k f row acts)
+  safe_meets s n t (blocks.Enter u) values row acts = safe_enter p each_block flow s n t k u values row acts
+  safe_meets s n t (blocks.Leave u) values row acts = safe_placed p k s n _ (safe_leave p each_block flow s n t k u row acts)
+  safe_meets s n t (blocks.Queue u) values row acts = safe_placed p k s n _ (safe_join p each_block flow s n t k u row acts)
+  safe_meets s n t (blocks.Depart u) values row acts = safe_placed p k s n _ (safe_depart p each_block flow s n t k u row acts)
+  safe_meets s n t (blocks.Transfer target) values row acts = safe_placed p k s n _ (safe_transfer p each_block flow s n t k target row acts)
+  safe_meets s n t (blocks.TransferByFraction f) values row acts = safe_placed p k s n _ (safe_fraction p each_block flow s n t k f (the_value values) row acts)
+
+  safe_act : (s : State) (n : ℕ) (t : Transaction) (block : Block) (row : Row) → Acts p s n t block row → Safe (Reaches p k s) (act p.blocks n t block s)
+  unfolding act
+  safe_act s n t block row acts =
+      let env = environment n t.priority t.mark s in
+      safe_bind (Read s.streams) (Reaches p k s) (evaluated (operands env block s.streams)) _ (safe_operands env block s.streams)
+      (λ read keeps.
+      let u : State = with_streams read.1 s in
+      safe_then (Reaches p k u) (Reaches p k s) (meets p.blocks n t block read.0 u)
+      (safe_meets u n t block read.0 row (record { typed = acts.typed; active = acts.active; is = acts.is; kinds = acts.kinds; flow = acts.flow }))
+      (λ v x. record { entries = x.entries; arrivals = x.arrivals; trace = Then (Draws read.1 keeps) x.trace; few_entries = x.few_entries; few_arrivals = x.few_arrivals }))
+
+  safe_active : (s : State) → WellTyped p s → (n : ℕ) → s.lists.active ≡ Some n → Safe (Reaches p k s) (scan p.blocks (Some n) s)
+  safe_active s ty n active =
+      let here = live (at None s.transactions n) (omega (arith, ty.resides n, ap (λ a. occurrences n (active_numbers a)) active, same_number n n refl)) in
+      let bears = some_of (at None s.transactions n) here in
+      let t = bears.0.attributes in
+      let found : attributes_at n s.transactions ≡ Some t = attributes_of (at None s.transactions n) bears.0 bears.1 in
+      let place : IsPlaced p bears.0 = subst (λ o. IfSome o (IsPlaced p)) bears.1 (ty.placed n) in
+      let block = some_of (block_at p.blocks t.next) place.block in
+      let row = is_at p each_block flow s ty n t block.0 found block.1 in
+      safe_found (Reaches p k s) (attributes_at n s.transactions) NoBlock t _ found
+      (safe_found (Reaches p k s) (block_at p.blocks t.next) NoBlock block.0 _ block.1
+      (safe_act s n t block.0 row.0
+      (record { typed = ty; active = active; is = row.1; kinds = each_block t.next block.0 block.1; flow = flow.each_row t.next block.0 row.0 block.1 row.1.row_is })))
+
+  -- a step with no entry and no arrival
+  apart : (s t : State) → Trace p k k s k k t → Reaches p k s t
+  apart s t xs = record { entries = k; arrivals = k; trace = xs; few_entries = omega arith; few_arrivals = omega arith }
+
+  safe_events : (s : State) (events : List FutureEvent) → s.lists.future_events ≡ events → Safe (Reaches p k s) (next_event events s)
+  safe_events s [] is = tt
+  safe_events s (e ∷ es) is = apart s (woken (clock_moves e.time s)) (Then (ClockMoves e es is) (Then Woken Done))
+
+  safe_chain : (s : State) → s.lists.active ≡ None → (ns : List ℕ) → s.lists.current_events ≡ ns → Safe (Reaches p k s) (next_active ns s)
+  safe_chain s nobody [] is = safe_events s s.lists.future_events refl
+  safe_chain s nobody (n ∷ ns) is = apart s (record s { lists = record s.lists { active = Some n; current_events = ns } }) (Then (Activates n ns nobody is) Done)
+
+  safe_scan : (s : State) → WellTyped p s → (active : Option ℕ) → s.lists.active ≡ active → Safe (Reaches p k s) (scan p.blocks active s)
+  safe_scan s ty None is = safe_chain s is s.lists.current_events refl
+  safe_scan s ty (Some n) is = safe_active s ty n is
+
+  -- THE STEP
+
+  reaches_on : (s t u : State) (x : Reaches p k s t) → Change p x.entries x.arrivals t x.entries x.arrivals u → Reaches p k s u
+  reaches_on s t u x c = record { entries = x.entries; arrivals = x.arrivals; trace = trace_on p x.trace (Then c Done); few_entries = x.few_entries; few_arrivals = x.few_arrivals }
+
+  within_traced : (budget : ℕ) (s t : State) → Reaches p k s t → Reaches p k s (within_budget budget t)
+  within_traced budget s t x =
+      choose (Reaches p k s) (is_none t.ended && (t.steps == budget)) (record t { ended = Some Budget }) t (λ spent. reaches_on s t (record t { ended = Some Budget }) x (Marks t.steps (Some Budget))) (λ left. x)
+
+  stepped_traced : (budget : ℕ) (s t : State) (o : Outcome State) → Safe (Reaches p k s) o → stepped budget s o ≡ Some t → Reaches p k s t
+  stepped_traced budget s t (Gives u) h is =
+      let same : within_budget budget (record u { steps = s.steps + 1 }) ≡ t = cc in
+      subst (Reaches p k s) same (within_traced budget s (record u { steps = s.steps + 1 }) (reaches_on s u (record u { steps = s.steps + 1 }) h (Marks (s.steps + 1) u.ended)))
+  stepped_traced budget s t (EndsBy end) h is =
+      let same : record s { steps = s.steps + 1; ended = Some end } ≡ t = cc in
+      subst (Reaches p k s) same (apart s (record s { steps = s.steps + 1; ended = Some end }) (Then (Marks (s.steps + 1) (Some end)) Done))
+  stepped_traced budget s t (StopsBy stop) h is = absurd h
+
+  stepped_leads : (budget : ℕ) (s : State) (o : Outcome State) → Safe (Reaches p k s) o → (t : State) × (stepped budget s o ≡ Some t)
+  stepped_leads budget s (Gives u) h = (within_budget budget (record u { steps = s.steps + 1 }), refl)
+  stepped_leads budget s (EndsBy end) h = (record s { steps = s.steps + 1; ended = Some end }, refl)
+  stepped_leads budget s (StopsBy stop) h = absurd h
+
+  -- each step of a well-typed state is a list of elementary changes
+  step_traced : (budget : ℕ) (s t : State) → WellTyped p s → step p.blocks budget s ≡ Some t → Reaches p k s t
+  unfolding step
+  step_traced budget s t ty is = by_test (is_none s.ended) is
+    where
+      by_test : (b : Bool) → (if b then stepped budget s (scan p.blocks s.lists.active s) else None) ≡ Some t → Reaches p k s t
+      by_test true is = stepped_traced budget s t (scan p.blocks s.lists.active s) (safe_scan s ty s.lists.active refl) is
+      by_test false is = absurd cc
+
+  step_leads : (budget : ℕ) (s : State) → WellTyped p s → s.ended ≡ None → (t : State) × (step p.blocks budget s ≡ Some t)
+  unfolding step
+  step_leads budget s ty runs =
+      let found = stepped_leads budget s (scan p.blocks s.lists.active s) (safe_scan s ty s.lists.active refl) in
+      (found.0, ap (λ e. if is_none e then stepped budget s (scan p.blocks s.lists.active s) else None) runs ∙ found.1)
+
+-- THE LAWS
+
+pub kinds_of : (p : Parts) → Checked p → (b : ℕ) (block : Block) → block_at p.blocks b ≡ Some block → BlockHolds p b block
+kinds_of p checked = ((kinds_pass_at_each_place p).0 (kinds_pass p checked)).1
+
+flow_of : (p : Parts) → Checked p → FlowHolds p (own_table p)
+flow_of p checked = (flow_passes_at_each_block p (own_table p)).0 (flow_passes p checked)
+
+pub start_is_well_typed : StartIsWellTyped
+start_is_well_typed j checked = (start_typed j.parts (flow_of j.parts checked) j.count j.streams).typed
+
+-- a step, from so many entries and arrivals
+pub reached_in_step : (j : Job) (k : ℕ) (s t : State) → Checked j.parts → WellTyped j.parts s → Step j s t → Reaches j.parts k s t
+reached_in_step j k s t checked ty is = step_traced j.parts (kinds_of j.parts checked) (flow_of j.parts checked) k j.budget s t ty is
+
+pub steps_keep_types : StepsKeepTypes
+steps_keep_types j s t checked ty is = trace-keeps j.parts (flow_of j.parts checked) (reached_in_step j 0 s t checked ty is).trace ty
+
+pub well_typed_states_step : WellTypedStatesStep
+well_typed_states_step j s checked ty runs = step_leads j.parts (kinds_of j.parts checked) (flow_of j.parts checked) 0 j.budget s ty runs
+
+-- what a reached state is
+record IsKept (p : Parts) (s : State) : Type 0 where
+  typed : WellTyped p s
+  within : AreWithinCapacity s.entities
+
+kept_on : (j : Job) → Checked j.parts → (s t : State) → IsKept j.parts s → Step j s t → IsKept j.parts t
+kept_on j checked s t h is = record {
+  typed = steps_keep_types j s t checked h.typed is;
+  within = trace-fills j.parts (reached_in_step j 0 s t checked h.typed is).trace h.within;
+}
+
+one_more : (j : Job) → Checked j.parts → (s : State) (o : Option State) → ((m : State) → o ≡ Some m → IsKept j.parts m) → then_step j o ≡ Some s → IsKept j.parts s
+one_more j checked s None before is = absurd cc
+one_more j checked s (Some m) before is = kept_on j checked m s (before m refl) is
+
+reached : (j : Job) → Checked j.parts → (n : ℕ) (s : State) → after j n (start_of j) ≡ Some s → IsKept j.parts s
+unfolding after
+reached j checked zero s is =
+    let same : start_of j ≡ s = cc in
+    subst (IsKept j.parts) same
+    (record { typed = start_is_well_typed j checked; within = (start_typed j.parts (flow_of j.parts checked) j.count j.streams).within })
+reached j checked (suc n) s is = one_more j checked s (after j n (start_of j)) (λ m there. reached j checked n m there) is
+
+pub reached_states_are_well_typed : ReachedStatesAreWellTyped
+reached_states_are_well_typed j n s checked alone = (reached j checked n s alone).typed
+
+pub storages_keep_their_capacity : StoragesKeepTheirCapacity
+storages_keep_their_capacity j n s checked alone = (reached j checked n s alone).within
+
+pub no_job_is_stuck : NoJobIsStuck
+no_job_is_stuck j n s checked alone stuck =
+    let next = well_typed_states_step j s checked (reached_states_are_well_typed j n s checked alone) stuck.0 in
+    let never : None ≡ Some next.0 = sym stuck.1 ∙ next.1 in
+    absurd cc
+
+pub all_jobs_end : AllJobsEnd
+all_jobs_end j checked some =
+    let rest = all_come_to_rest j some in
+    record {
+      steps = rest.steps;
+      state = rest.state;
+      alone = rest.alone;
+      final = ⊎_elim (λ final. final) (λ stuck. absurd (no_job_is_stuck j rest.steps rest.state checked rest.alone stuck.0)) rest.over;
+    }

@@ -1,0 +1,423 @@
+-- A step is a list of elementary changes, and each keeps a state well-typed.
+use Rattle.gw_step.specs.Blocks.{is_owed}
+use Rattle.gw_transactions.specs.Transactions.{LiveTransaction, with_attributes, attributes_at, put_attributes, live_count}
+use Rattle.std.proofs.Common.{◌≡◌, ℕ, suc, ◌+◌, ◌<◌, ◌≤◌, ◌≤ℤ◌, ℤ, ◌-ℤ◌, List, [], ◌∷◌, length, map, Option, Some, None, Bool, true, false, is_some, if◌then◌else◌, ◌==◌, refl, sym, ap, ◌∙◌, subst, arith, inl, inr, IsSome, option_map}
+use Rattle.std.specs.Prelude.{IsSomeAnd, Contains, unsigned_abs, sum_by, IfSome, nat_lt}
+use Rattle.std.proofs.lemmas.Bool.{cases_eq, ltb-true}
+use Rattle.std.proofs.lemmas.List.Elements.{All-contains}
+use Rattle.gw_object.specs.declared.parts.Generate.{Generate}
+use Rattle.gw_object.specs.declared.parts.Kind.{Kind}
+use Rattle.gw_object.specs.declared.parts.Kind.TheVariants as kinds
+use Rattle.gw_object.specs.declared.parts.Block.{Block}
+use Rattle.gw_object.specs.declared.parts.Block.TheVariants as blocks
+use Rattle.gw_object.specs.declared.parts.Parts.{Parts}
+use Rattle.gw_kinds.specs.Kinds.{kind_at, block_at, is_generate}
+use Rattle.gw_kinds.specs.Laws.{MayBeEntered}
+use Rattle.gw_flow.specs.Rows.{Row, is_empty, Fits}
+use Rattle.gw_flow.specs.Blocks.{move, edges}
+use Rattle.gw_flow.specs.Flow.{own_table, own_row}
+use Rattle.gw_flow.specs.Laws.{MayPass, FlowHolds}
+use Rattle.gw_num.specs.Table.{at, put}
+use Rattle.gw_num.proofs.Tables.{at-map, at_some, by_entry, at_past, count_by-put}
+use Rattle.gw_chains.specs.Chain.{behind}
+use Rattle.gw_transactions.specs.declared.Transaction.{Transaction}
+use Rattle.gw_entities.specs.declared.facilities.Facility.{Facility}
+use Rattle.gw_entities.specs.declared.storages.Storage.{Storage}
+use Rattle.gw_entities.specs.declared.contents.Contents.{Contents}
+use Rattle.gw_entities.specs.Contents.{empty, contents_after}
+use Rattle.gw_entities.specs.Facility.{idle, is_idle, is_owned_by, facility_after}
+use Rattle.gw_entities.specs.Storage as storages
+use Rattle.gw_step.specs.declared.ends.End.{End}
+use Rattle.gw_step.specs.declared.placement.Placement.{Placement}
+use Rattle.gw_step.specs.declared.placement.Placement.TheVariants.{StaysActive, RestsUntil, JoinsDelayList, JoinsRetryList, LeavesModel}
+use Rattle.gw_step.specs.Placing.{placed_at, placed}
+use Rattle.gw_step.specs.Numbers.{IsWithin, AreWithinLimits, AreFewLive}
+use Rattle.gw_step.specs.State.{FutureEvent, Lists, EntityStates, State, with_streams, priority_of, delay_list, without, raised}
+use Rattle.gw_step.specs.Changes.{newcomer, entered, destroyed, arrives, rests_until, waits_for, retries, called_from, woken, counted, time_passes, clock_moves}
+use Rattle.gw_step.specs.Residence.{occurrences, active_numbers, occurrences_in}
+use Rattle.gw_step.proofs.Residence.{one_if, at_most_one, same_number, other_number, occurrences-one, occurrences-joined, occurrences-without, resides-entered, resides-destroyed, resides-rests, resides-arrives, resides-active, resides-clock, resides-waits, resides-called, resides-retries, resides-woken}
+use Rattle.gw_step.proofs.Within.{raises-same, within-entered, within-destroyed, within-retries, within-woken, within-counted, within-arrives, within-rests, within-streams, within-waits, within-called, within-active, within-ended}
+use Rattle.gw_step.proofs.Follows.{block_below, within-clock, at-map_same, nothing-after}
+use Rattle.gw_step.specs.Places.{place, row_of}
+use Rattle.gw_step.specs.Typing.{IsPlaced, promised_units, content_of, WaitsFor, Agree, WellTyped, AreWithinCapacity}
+use Rattle.gw_step.proofs.Owning.{lists-none}
+use Rattle.gw_step.proofs.Agreeing.{AreWhole, Balanced, agree-written, agree-moved, agree-apart}
+use Rattle.gw_step.proofs.Attributes.{bearer_at, number_below, is_some-attributes}
+use Rattle.gw_step.proofs.Balances.{balanced-nothing, balanced-fits, balanced-end, balanced-arrival}
+
+-- the transaction n, which is t, is at a block, in a row
+pub record IsAt (p : Parts) (transactions : List (Option LiveTransaction)) (n : ℕ) (t : Transaction) (block : Block) (row : Row) : Type 0 where
+  pub found : attributes_at n transactions ≡ Some t
+  pub block_is : block_at p.blocks t.next ≡ Some block
+  pub row_is : own_row p t.next ≡ Some row
+
+-- the row of its place
+pub its_row : (p : Parts) (ts : List (Option LiveTransaction)) (n : ℕ) (t : Transaction) (block : Block) (row : Row) → IsAt p ts n t block row → row_of p (at None ts n) ≡ Some row
+its_row p ts n t block row is = let bears = bearer_at ts n t is.found in ap (row_of p) bears.1 ∙ ap (λ (a : Transaction). own_row p a.next) bears.2 ∙ is.row_is
+
+-- n is active, or on the current events chain
+abbrev pub IsPresent : Lists → ℕ → Type 0
+IsPresent l n = 1 ≤ occurrences n (active_numbers l.active) + occurrences n l.current_events
+
+-- who may leave the model: its row owns nothing
+pub record OwnsNothing (p : Parts) (n : ℕ) (transactions : List (Option LiveTransaction)) : Type 0 where
+  pub t : LiveTransaction
+  pub row : Row
+  pub found : at None transactions n ≡ Some t
+  pub row_is : own_table p (place t) ≡ Some row
+  pub none : (length row.facilities == 0) ≡ true
+
+-- the transaction n may be placed so: where it doesn't stay active, it is the active one
+abbrev pub MayRest : Parts → ℕ → Placement → Option ℕ → ℤ → List (Option LiveTransaction) → Type 0
+MayRest p n StaysActive active clock ts = Unit {0}
+MayRest p n (RestsUntil time) active clock ts = (active ≡ Some n) × (clock ≤ℤ time)
+MayRest p n (JoinsDelayList e) active clock ts = (active ≡ Some n) × WaitsFor p e (at None ts n) × (e < length p.entities)
+MayRest p n JoinsRetryList active clock ts = active ≡ Some n
+MayRest p n LeavesModel active clock ts = (active ≡ Some n) × OwnsNothing p n ts
+
+-- and so it may in a state
+abbrev pub Rested : Parts → ℕ → Placement → State → Type 0
+Rested p n placement s = MayRest p n placement s.lists.active s.clock s.transactions
+
+-- the entries that a placement leaves to come, beside others: a waiter's
+abbrev pub credited : Placement → ℕ → ℕ
+credited (JoinsDelayList e) entries = suc entries
+credited JoinsRetryList entries = suc entries
+credited placement entries = entries
+
+-- as many streams as a job has stay as many
+abbrev pub KeepStreams : List ℕ → List ℕ → Type 0
+KeepStreams old new = length old ≡ 16 → length new ≡ 16
+
+-- the elementary changes. From so many entries, made or to come, and arrivals at most, to so many: an entry is one more, and a waiter has one to come
+pub data Change (p : Parts) : ℕ → ℕ → State → ℕ → ℕ → State → Type 0 where
+  -- a transaction enters its block and goes along one of its edges, and what the entities hold is in balance with that
+  Goes : {en ar : ℕ} {s : State} (n to : ℕ) (t u : Transaction) (block : Block) (row state : Row) (h : EntityStates) → IsAt p s.transactions n t block row → u.next ≡ t.next → IsPresent s.lists n
+      → Contains (edges p (own_table p) t.next block row) (move to state) → MayBeEntered p to → Balanced p n (Some row) (Some state) s.entities h → Change p en ar s (suc en) ar (record (entered n u to s) { entities = h })
+  -- a transaction enters its block, and goes nowhere from there
+  EntersLast : {en ar : ℕ} {s : State} (n : ℕ) (t : Transaction) (block : Block) (row : Row) → IsAt p s.transactions n t block row → IsPresent s.lists n → Change p en ar s (suc en) ar (entered n t t.next s)
+  -- a transaction is scheduled to arrive at a GENERATE
+  Arrives : {en ar : ℕ} {s : State} (b : ℕ) (g : Generate) (row : Row) (priority time : ℤ) → block_at p.blocks b ≡ Some (blocks.Generate g) → own_row p b ≡ Some row → is_empty row ≡ true → s.clock ≤ℤ time → is_owed g.limit (at 0 s.scheduled b) ≡ true → nat_lt (live_count s.transactions) 65536 ≡ true → Change p en ar s en (suc ar) (arrives b priority time s)
+  -- the active transaction is placed
+  Rests : {en ar : ℕ} {s : State} (n : ℕ) (placement : Placement) → Rested p n placement s → Change p en ar s (credited placement en) ar (placed_at n placement s)
+  -- a waiter is called
+  Called : {en ar : ℕ} {s : State} (e n : ℕ) → 1 ≤ occurrences n (delay_list e s) → e < length p.entities → Change p (suc en) ar s en ar (called_from e n s)
+  -- the retry list is woken
+  Woken : {en ar : ℕ} {s : State} → Change p en ar s en ar (woken s)
+  -- the first of the current events chain becomes active
+  Activates : {en ar : ℕ} {s : State} (n : ℕ) (ns : List ℕ) → s.lists.active ≡ None → s.lists.current_events ≡ n ∷ ns → Change p en ar s en ar (record s { lists = record s.lists { active = Some n; current_events = ns } })
+  -- the clock moves to the first future event
+  ClockMoves : {en ar : ℕ} {s : State} (e : FutureEvent) (es : List FutureEvent) → s.lists.future_events ≡ e ∷ es → Change p en ar s en ar (clock_moves e.time s)
+  -- draws
+  Draws : {en ar : ℕ} {s : State} (streams : List ℕ) → KeepStreams s.streams streams → Change p en ar s en ar (with_streams streams s)
+  -- the termination count falls
+  Counts : {en ar : ℕ} {s : State} (by : ℤ) → Change p en ar s en ar (counted by s)
+  -- a step is counted, and an end may stand
+  Marks : {en ar : ℕ} {s : State} (steps : ℕ) (ended : Option End) → Change p en ar s en ar (record s { steps = steps; ended = ended })
+
+-- some changes, one after the other
+pub data Trace (p : Parts) : ℕ → ℕ → State → ℕ → ℕ → State → Type 0 where
+  Done : {en ar : ℕ} {s : State} → Trace p en ar s en ar s
+  Then : {en ar en' ar' en2 ar2 : ℕ} {s t u : State} → Change p en ar s en' ar' t → Trace p en' ar' t en2 ar2 u → Trace p en ar s en2 ar2 u
+
+pub trace_on : (p : Parts) {en ar en' ar' en2 ar2 : ℕ} {s t u : State} → Trace p en ar s en' ar' t → Trace p en' ar' t en2 ar2 u → Trace p en ar s en2 ar2 u
+trace_on p Done ys = ys
+trace_on p (Then x xs) ys = Then x (trace_on p xs ys)
+
+-- PLACED
+
+stirs_rests : (b : Bool) (p : Parts) (en ar n : ℕ) (placement : Placement) (s : State) → Rested p n placement s → Trace p en ar s (credited placement en) ar (placed_at n placement (if b then woken s else s))
+stirs_rests true p en ar n placement s may = Then Woken (Then (Rests n placement may) Done)
+stirs_rests false p en ar n placement s may = Then (Rests n placement may) Done
+
+-- the one lemma on placements, for each block and each refusal
+pub placed_traced : (p : Parts) (en ar n : ℕ) (placement : Placement) (s : State) → Rested p n placement s → Trace p en ar s (credited placement en) ar (placed n placement s)
+placed_traced p en ar n StaysActive s may = Done
+placed_traced p en ar n (RestsUntil time) s may = stirs_rests s.stir p en ar n (RestsUntil time) s may
+placed_traced p en ar n (JoinsDelayList e) s may = stirs_rests s.stir p en ar n (JoinsDelayList e) s may
+placed_traced p en ar n JoinsRetryList s may = stirs_rests s.stir p en ar n JoinsRetryList s may
+placed_traced p en ar n LeavesModel s may = stirs_rests s.stir p en ar n LeavesModel s may
+
+-- WHO IS ON NO DELAY LIST
+
+most : (p : Parts) (ts : List (Option LiveTransaction)) (l : Lists) (g : EntityStates) → Agree p ts l g → (n : ℕ) → occurrences_in l n ≤ 1
+most p ts l g ty n = omega (arith, ty.resides n, at_most_one (is_some (at None ts n)))
+
+-- who is present waits for nothing
+pub nowhere : (p : Parts) (ts : List (Option LiveTransaction)) (l : Lists) (g : EntityStates) → Agree p ts l g → (n : ℕ) → IsPresent l n → (e : ℕ) → occurrences n (at [] l.delay_lists e) ≡ 0
+nowhere p ts l g ty n here e = omega (arith, most p ts l g ty n, occurrences-one n l.delay_lists e, here)
+
+-- who is active is present
+pub present : (l : Lists) (n : ℕ) → l.active ≡ Some n → IsPresent l n
+present l n is = omega (arith, ap (λ a. occurrences n (active_numbers a)) is, same_number n n refl)
+
+-- a fresh number waits for nothing
+fresh : (p : Parts) (ts : List (Option LiveTransaction)) (l : Lists) (g : EntityStates) → Agree p ts l g → (e : ℕ) → occurrences (length ts) (at [] l.delay_lists e) ≡ 0
+fresh p ts l g ty e = omega (arith, ty.resides (length ts), ap (λ o. one_if (is_some o)) (at_past None ts (length ts) (omega arith)), occurrences-one (length ts) l.delay_lists e)
+
+-- EACH CHANGE
+
+-- where a move leads there is a block, whose row the move's state fits
+pub record Leads (p : Parts) (to : ℕ) (state : Row) : Type 0 where
+  pub row : Row
+  pub is : own_row p to ≡ Some row
+  pub fits : Fits state row
+
+the_row : (r : Option Row) (state : Row) → IsSomeAnd r (Fits state) → (row : Row) × (r ≡ Some row) × Fits state row
+the_row None state h = absurd h
+the_row (Some row) state h = (row, refl, h)
+
+pub leads : (p : Parts) (b to : ℕ) (block : Block) (row state : Row) → MayPass p (own_table p) b block row → Contains (edges p (own_table p) b block row) (move to state) → Leads p to state
+leads p b to block row state pass along =
+    let found = the_row (own_row p to) state (All-contains (λ edge. IsSomeAnd (own_table p edge.target) (Fits edge.state)) (edges p (own_table p) b block row) (move to state) pass.each_edge along) in
+    record { row = found.0; is = found.1; fits = found.2 }
+
+there : (o : Option Block) → IsSomeAnd o (λ block. is_generate (Some block) ≡ false) → is_some o ≡ true
+there None h = absurd h
+there (Some block) h = refl
+
+storages-later : (time : ℕ) (xs : List Storage) (e : ℕ) → at (storages.vacant 0) (map (storages.storage_after time) xs) e ≡ storages.storage_after time (at (storages.vacant 0) xs e)
+storages-later time xs e = at-map_same (storages.storage_after time) (storages.vacant 0) xs e (ap (λ c. record (storages.vacant 0) { contents = c }) (nothing-after time))
+
+module _ (p : Parts) (flow : FlowHolds p (own_table p)) where
+  -- a transaction enters its block, and is at another place from then on
+  enters : (s : State) → WellTyped p s → (n to : ℕ) (t u : Transaction) (block : Block) (row next : Row) (h : EntityStates) → IsAt p s.transactions n t block row → IsPresent s.lists n
+      → IsSome (block_at p.blocks to) → own_row p to ≡ Some next → Balanced p n (Some row) (Some next) s.entities h → WellTyped p (record (entered n u to s) { entities = h })
+  enters s ty n to t u block row next h is here there lands balance =
+      let v : Transaction = record u { current = u.next; next = to } in
+      let bears = bearer_at s.transactions n t is.found in
+      let now : option_map (with_attributes v) (at None s.transactions n) ≡ Some (with_attributes v bears.0) = ap (option_map (with_attributes v)) bears.1 in
+      agree-written p s.transactions s.lists s.entities ty s.lists h n (option_map (with_attributes v) (at None s.transactions n))
+      (nowhere p s.transactions s.lists s.entities ty n here)
+      (resides-entered n u to s ty.resides) refl
+      (subst (λ o. IfSome o (IsPlaced p)) (sym now) (record { block = there; row = ap is_some lands }))
+      (subst (λ r. Balanced p n r (row_of p (option_map (with_attributes v) (at None s.transactions n))) s.entities h) (sym (its_row p s.transactions n t block row is))
+      (subst (λ r. Balanced p n (Some row) r s.entities h) (sym (ap (row_of p) now ∙ lands)) balance))
+
+  goes : (s : State) → WellTyped p s → (n to : ℕ) (t u : Transaction) (block : Block) (row state : Row) (h : EntityStates) → IsAt p s.transactions n t block row → IsPresent s.lists n
+      → Contains (edges p (own_table p) t.next block row) (move to state) → MayBeEntered p to → Balanced p n (Some row) (Some state) s.entities h → WellTyped p (record (entered n u to s) { entities = h })
+  goes s ty n to t u block row state h is here along may balance =
+      let lead = leads p t.next to block row state (flow.each_row t.next block row is.block_is is.row_is) along in
+      enters s ty n to t u block row lead.row h is here (there (block_at p.blocks to) may) lead.is (balanced-fits p n (Some row) state lead.row s.entities h balance lead.fits)
+
+  leaves : (s : State) → WellTyped p s → (n : ℕ) → s.lists.active ≡ Some n → OwnsNothing p n s.transactions → WellTyped p (destroyed n s)
+  leaves s ty n active is =
+      agree-written p s.transactions s.lists s.entities ty (destroyed n s).lists s.entities n None
+      (nowhere p s.transactions s.lists s.entities ty n (present s.lists n active))
+      (resides-destroyed n is.t s active is.found ty.resides) refl tt
+      (subst (λ r. Balanced p n r None s.entities s.entities) (sym (ap (row_of p) is.found ∙ is.row_is)) (balanced-end p n is.row s.entities (lists-none is.row.facilities is.none)))
+
+  pub arrived : (s : State) → WellTyped p s → (b : ℕ) (g : Generate) (row : Row) (priority time : ℤ) → block_at p.blocks b ≡ Some (blocks.Generate g) → own_row p b ≡ Some row → is_empty row ≡ true → WellTyped p (arrives b priority time s)
+  arrived s ty b g row priority time block is none =
+      let n = length s.transactions in
+      let v : LiveTransaction = newcomer b priority s in
+      agree-written p s.transactions s.lists s.entities ty (arrives b priority time s).lists s.entities n (Some v)
+      (fresh p s.transactions s.lists s.entities ty)
+      (resides-arrives b priority time s ty.resides) refl
+      (record { block = ap is_some block; row = ap is_some is })
+      (subst (λ t. Balanced p n (row_of p t) (own_row p b) s.entities s.entities) (sym (at_past None s.transactions n (omega arith)))
+      (subst (λ r. Balanced p n None r s.entities s.entities) (sym is) (balanced-arrival p n row s.entities none)))
+
+  waits : (s : State) → WellTyped p s → (e n : ℕ) → s.lists.active ≡ Some n → WaitsFor p e (at None s.transactions n) → WellTyped p (waits_for e n s)
+  waits s ty e n active asks =
+      let old = delay_list e s in
+      let new = behind (priority_of s.transactions) n old in
+      agree-moved p s.transactions s.lists s.entities ty (waits_for e n s).lists (resides-waits e n s active ty.resides)
+      (by_entry [] s.lists.delay_lists e new (λ d ns. (m : ℕ) → 1 ≤ occurrences m ns → WaitsFor p d (at None s.transactions m))
+      (λ m waits.
+      elim (cases_eq m n) [
+        | inl same ↦ subst (λ k. WaitsFor p e (at None s.transactions k)) (sym same) asks
+        | inr other ↦ ty.waiting e m (omega (arith, waits, occurrences-joined m (priority_of s.transactions) n old, other_number n m (λ same. other (sym same))))
+      ])
+      (λ d apart. ty.waiting d))
+
+  called : (s : State) → WellTyped p s → (e n : ℕ) → 1 ≤ occurrences n (delay_list e s) → WellTyped p (called_from e n s)
+  called s ty e n here =
+      let old = delay_list e s in
+      agree-moved p s.transactions s.lists s.entities ty (called_from e n s).lists (resides-called e n s here ty.resides)
+      (by_entry [] s.lists.delay_lists e (without n old) (λ d ns. (m : ℕ) → 1 ≤ occurrences m ns → WaitsFor p d (at None s.transactions m))
+      (λ m waits. ty.waiting e m (omega (arith, waits, occurrences-without m n old here)))
+      (λ d apart. ty.waiting d))
+
+  -- while time passes owners, contents and capacities stay
+  owner_stays : (time n : ℕ) (f : Facility) → is_owned_by n (facility_after time f) ≡ is_owned_by n f
+  owner_stays time n f = by_test (is_idle f)
+    where
+      by_test : (b : Bool) → is_owned_by n (if b then f else record f { busy = f.busy + time }) ≡ is_owned_by n f
+      by_test true = refl
+      by_test false = refl
+
+  contents_stay : (time e : ℕ) (g : EntityStates) (kind : Option Kind) → content_of e (time_passes time g) kind ≡ content_of e g kind
+  contents_stay time e g None = refl
+  contents_stay time e g (Some kinds.Facility) = refl
+  contents_stay time e g (Some (kinds.Storage capacity)) = ap (λ (x : Storage). x.contents.content) (storages-later time g.storages e)
+  contents_stay time e g (Some kinds.Queue) = ap (λ (x : Contents). x.content) (at-map_same (contents_after time) empty g.queues e (nothing-after time))
+
+  agree-later : (ts : List (Option LiveTransaction)) (l : Lists) (g : EntityStates) (time : ℕ) → Agree p ts l g → Agree p ts l (time_passes time g)
+  agree-later ts l g time ty = record {
+    resides = ty.resides;
+    placed = ty.placed;
+    owned = λ f n. ap (is_owned_by n) (at-map (facility_after time) idle g.facilities f) ∙ owner_stays time n (at idle g.facilities f) ∙ ty.owned f n;
+    promised = λ e. subst (λ k. sum_by (λ t. promised_units e (row_of p t)) ts ≤ k) (sym (contents_stay time e g (kind_at p.entities e))) (ty.promised e);
+    waiting = ty.waiting;
+    sized = λ e. ap (λ (x : Storage). x.capacity) (storages-later time g.storages e) ∙ ty.sized e;
+  }
+
+  moved_on : (s : State) → WellTyped p s → (time : ℤ) → WellTyped p (clock_moves time s)
+  moved_on s ty time =
+      agree-later s.transactions (clock_moves time s).lists s.entities (unsigned_abs (time -ℤ s.clock))
+      (agree-apart p s.transactions s.lists s.entities ty (clock_moves time s).lists (resides-clock time s ty.resides) refl)
+
+  rests : (s : State) → WellTyped p s → (n : ℕ) (placement : Placement) → Rested p n placement s → WellTyped p (placed_at n placement s)
+  rests s ty n StaysActive may = ty
+  rests s ty n (RestsUntil time) may = agree-apart p s.transactions s.lists s.entities ty (rests_until n time s).lists (resides-rests n time s may.0 ty.resides) refl
+  rests s ty n (JoinsDelayList e) may = waits s ty e n may.0 may.1
+  rests s ty n JoinsRetryList may = agree-apart p s.transactions s.lists s.entities ty (retries n s).lists (resides-retries n s may ty.resides) refl
+  rests s ty n LeavesModel may = leaves s ty n may.0 may.1
+
+  pub change-keeps : {en ar en' ar' : ℕ} {s t : State} → Change p en ar s en' ar' t → WellTyped p s → WellTyped p t
+  change-keeps (Goes {s = s} n to t u block row state h is same here along may balance) ty = goes s ty n to t u block row state h is here along may balance
+  change-keeps (EntersLast {s = s} n t block row is here) ty = enters s ty n t.next t t block row row s.entities is here (ap is_some is.block_is) is.row_is (balanced-nothing p n row s.entities)
+  change-keeps (Arrives {s = s} b g row priority time block is none later owed few) ty = arrived s ty b g row priority time block is none
+  change-keeps (Rests {s = s} n placement may) ty = rests s ty n placement may
+  change-keeps (Called {s = s} e n here below) ty = called s ty e n here
+  change-keeps (Woken {s = s}) ty = agree-apart p s.transactions s.lists s.entities ty (woken s).lists (resides-woken s ty.resides) refl
+  change-keeps (Activates {s = s} n ns nobody first) ty =
+      agree-apart p s.transactions s.lists s.entities ty (record s.lists { active = Some n; current_events = ns }) (resides-active n ns s nobody first ty.resides) refl
+  change-keeps (ClockMoves {s = s} e es is) ty = moved_on s ty e.time
+  change-keeps (Draws streams same) ty = ty
+  change-keeps (Counts by) ty = ty
+  change-keeps (Marks steps ended) ty = ty
+
+  pub trace-keeps : {en ar en' ar' : ℕ} {s t : State} → Trace p en ar s en' ar' t → WellTyped p s → WellTyped p t
+  trace-keeps Done ty = ty
+  trace-keeps (Then x xs) ty = trace-keeps xs (change-keeps x ty)
+
+-- WITHIN CAPACITY
+
+fills-later : (time : ℕ) (g : EntityStates) → AreWithinCapacity g → AreWithinCapacity (time_passes time g)
+fills-later time g w = record {
+  contents = λ e. subst (λ (x : Storage). x.contents.content ≤ x.capacity) (sym (storages-later time g.storages e)) (w.contents e);
+}
+
+-- what a placement leaves as it was: the entities and the arrivals; and it makes no more live
+record Leaves (s t : State) : Type 0 where
+  entities : t.entities ≡ s.entities
+  scheduled : t.scheduled ≡ s.scheduled
+  live : live_count t.transactions ≤ live_count s.transactions
+
+pub written-live : (ts : List (Option LiveTransaction)) (n : ℕ) (v : Option LiveTransaction) → live_count (put None ts n v) + one_if (is_some (at None ts n)) ≡ live_count ts + one_if (is_some v)
+written-live ts n v = count_by-put None is_some ts n v refl
+
+placed-leaves : (n : ℕ) (placement : Placement) (s : State) → Leaves s (placed_at n placement s)
+placed-leaves n StaysActive s = record { entities = refl; scheduled = refl; live = omega arith }
+placed-leaves n (RestsUntil time) s = record { entities = refl; scheduled = refl; live = omega arith }
+placed-leaves n (JoinsDelayList e) s = record { entities = refl; scheduled = refl; live = omega arith }
+placed-leaves n JoinsRetryList s = record { entities = refl; scheduled = refl; live = omega arith }
+placed-leaves n LeavesModel s = record { entities = refl; scheduled = refl; live = omega (arith, written-live s.transactions n None) }
+
+change-fills : (p : Parts) {en ar en' ar' : ℕ} {s t : State} → Change p en ar s en' ar' t → AreWithinCapacity s.entities → AreWithinCapacity t.entities
+change-fills p (Goes n to t u block row state h is same here along may balance) w = balance.filled w
+change-fills p (EntersLast n t block row is here) w = w
+change-fills p (Arrives b g row priority time block is none later owed few) w = w
+change-fills p (Rests {s = s} n placement may) w = subst AreWithinCapacity (sym (placed-leaves n placement s).entities) w
+change-fills p (Called e n here below) w = w
+change-fills p Woken w = w
+change-fills p (Activates n ns nobody first) w = w
+change-fills p (ClockMoves {s = s} e es is) w = fills-later (unsigned_abs (e.time -ℤ s.clock)) s.entities w
+change-fills p (Draws streams same) w = w
+change-fills p (Counts by) w = w
+change-fills p (Marks steps ended) w = w
+
+pub trace-fills : (p : Parts) {en ar en' ar' : ℕ} {s t : State} → Trace p en ar s en' ar' t → AreWithinCapacity s.entities → AreWithinCapacity t.entities
+trace-fills p Done w = w
+trace-fills p (Then x xs) w = trace-fills p xs (change-fills p x w)
+
+-- NUMBERS
+
+module _ (p : Parts) where
+  rests-within : (en ar n : ℕ) (placement : Placement) (s : State) → Rested p n placement s → IsWithin (length p.blocks) (length p.entities) en ar s → IsWithin (length p.blocks) (length p.entities) (credited placement en) ar (placed_at n placement s)
+  rests-within en ar n StaysActive s may w = w
+  rests-within en ar n (RestsUntil time) s may w = within-rests (length p.blocks) (length p.entities) en ar s w n time may.1
+  rests-within en ar n (JoinsDelayList e) s may w = within-waits (length p.blocks) (length p.entities) en ar s w e n may.2
+  rests-within en ar n JoinsRetryList s may w = within-retries (length p.blocks) (length p.entities) en ar s w n
+  rests-within en ar n LeavesModel s may w = within-destroyed (length p.blocks) (length p.entities) en ar s w n (at_some s.transactions n may.1.t may.1.found)
+
+  whole-of : (en ar : ℕ) (s : State) → IsWithin (length p.blocks) (length p.entities) en ar s → AreWhole (length p.entities) s.entities
+  whole-of en ar s w = record { facilities = w.whole.facilities; storages = w.whole.storages; queues = w.whole.queues }
+
+  change-within : {en ar en' ar' : ℕ} {s t : State} → Change p en ar s en' ar' t → IsWithin (length p.blocks) (length p.entities) en ar s → IsWithin (length p.blocks) (length p.entities) en' ar' t
+  change-within (Goes {en = en} {ar = ar} {s = s} n to t u block row state h is same here along may balance) w =
+      within-entered (length p.blocks) (length p.entities) en ar s w n u to h (omega (arith, same, block_below p.blocks t.next block is.block_is)) (number_below s.transactions n t is.found) (balance.raises (whole-of en ar s w))
+  change-within (EntersLast {en = en} {ar = ar} {s = s} n t block row is here) w =
+      within-entered (length p.blocks) (length p.entities) en ar s w n t t.next s.entities (block_below p.blocks t.next block is.block_is) (number_below s.transactions n t is.found) (raises-same s.entities)
+  change-within (Arrives {en = en} {ar = ar} {s = s} b g row priority time block is none later owed few) w =
+      within-arrives (length p.blocks) (length p.entities) en ar s w b priority time (block_below p.blocks b (blocks.Generate g) block) later
+  change-within (Rests {en = en} {ar = ar} {s = s} n placement may) w = rests-within en ar n placement s may w
+  change-within (Called {en = en} {ar = ar} {s = s} e n here below) w = within-called (length p.blocks) (length p.entities) (suc en) ar s w e n below here en refl
+  change-within (Woken {en = en} {ar = ar} {s = s}) w = within-woken (length p.blocks) (length p.entities) en ar s w
+  change-within (Activates {en = en} {ar = ar} {s = s} n ns nobody first) w = within-active (length p.blocks) (length p.entities) en ar s w n ns
+  change-within (ClockMoves {en = en} {ar = ar} {s = s} e es is) w = within-clock (length p.blocks) (length p.entities) en ar s w e es is
+  change-within (Draws {en = en} {ar = ar} {s = s} streams same) w = within-streams (length p.blocks) (length p.entities) en ar s w streams (same w.whole.streams)
+  change-within (Counts {en = en} {ar = ar} {s = s} by) w = within-counted (length p.blocks) (length p.entities) en ar s w by
+  change-within (Marks {en = en} {ar = ar} {s = s} steps ended) w = within-ended (length p.blocks) (length p.entities) en ar s w steps ended
+
+  pub trace-within : {en ar en' ar' : ℕ} {s t : State} → Trace p en ar s en' ar' t → IsWithin (length p.blocks) (length p.entities) en ar s → IsWithin (length p.blocks) (length p.entities) en' ar' t
+  trace-within Done w = w
+  trace-within (Then x xs) w = trace-within xs (change-within x w)
+
+-- ARRIVALS AND THE LIVE
+
+-- an entry changes nothing of how many live
+entered-live : (ts : List (Option LiveTransaction)) (n : ℕ) (a : Transaction) → live_count (put_attributes n a ts) ≡ live_count ts
+entered-live ts n a = omega (arith, written-live ts n (option_map (with_attributes a) (at None ts n)), ap one_if (is_some-attributes a (at None ts n)))
+
+same_generate : (g h : Generate) → Some (blocks.Generate g) ≡ Some (blocks.Generate h) → g ≡ h
+same_generate g h is = cc
+
+one_owed : (limit : Option ℕ) (k : ℕ) → is_owed limit k ≡ true → IfSome limit (λ most. k + 1 ≤ most)
+one_owed None k h = tt
+one_owed (Some most) k h = omega (arith, ltb-true k most h)
+
+-- one more arrival is scheduled
+pub limits-raised : (bs : List Block) (scheduled : List ℕ) (b : ℕ) (g : Generate) → block_at bs b ≡ Some (blocks.Generate g) → is_owed g.limit (at 0 scheduled b) ≡ true → AreWithinLimits bs scheduled → AreWithinLimits bs (raised b scheduled)
+limits-raised bs scheduled b g is owed l = record {
+  arrivals = by_entry 0 scheduled b (at 0 scheduled b + 1) (λ c k. (h : Generate) → block_at bs c ≡ Some (blocks.Generate h) → IfSome h.limit (λ limit. k ≤ limit))
+      (λ h here. subst (λ (x : Generate). IfSome x.limit (λ limit. at 0 scheduled b + 1 ≤ limit)) (same_generate g h (sym is ∙ here)) (one_owed g.limit (at 0 scheduled b) owed))
+      (λ c apart. l.arrivals c);
+}
+
+change-limits : (p : Parts) {en ar en' ar' : ℕ} {s t : State} → Change p en ar s en' ar' t → AreWithinLimits p.blocks s.scheduled → AreWithinLimits p.blocks t.scheduled
+change-limits p (Goes n to t u block row state h is same here along may balance) l = l
+change-limits p (EntersLast n t block row is here) l = l
+change-limits p (Arrives {s = s} b g row priority time block is none later owed few) l = limits-raised p.blocks s.scheduled b g block owed l
+change-limits p (Rests {s = s} n placement may) l = subst (AreWithinLimits p.blocks) (sym (placed-leaves n placement s).scheduled) l
+change-limits p (Called e n here below) l = l
+change-limits p Woken l = l
+change-limits p (Activates n ns nobody first) l = l
+change-limits p (ClockMoves e es is) l = l
+change-limits p (Draws streams same) l = l
+change-limits p (Counts by) l = l
+change-limits p (Marks steps ended) l = l
+
+pub trace-limits : (p : Parts) {en ar en' ar' : ℕ} {s t : State} → Trace p en ar s en' ar' t → AreWithinLimits p.blocks s.scheduled → AreWithinLimits p.blocks t.scheduled
+trace-limits p Done l = l
+trace-limits p (Then x xs) l = trace-limits p xs (change-limits p x l)
+
+change-live : (p : Parts) {en ar en' ar' : ℕ} {s t : State} → Change p en ar s en' ar' t → AreFewLive s.transactions → AreFewLive t.transactions
+change-live p (Goes {s = s} n to t u block row state h is same here along may balance) l = record { live = omega (arith, l.live, entered-live s.transactions n (record u { current = u.next; next = to })) }
+change-live p (EntersLast {s = s} n t block row is here) l = record { live = omega (arith, l.live, entered-live s.transactions n (record t { current = t.next })) }
+change-live p (Arrives {s = s} b g row priority time block is none later owed few) l =
+    record { live = omega (arith, ltb-true (live_count s.transactions) 65536 few, written-live s.transactions (length s.transactions) (Some (newcomer b priority s))) }
+change-live p (Rests {s = s} n placement may) l = record { live = omega (arith, l.live, (placed-leaves n placement s).live) }
+change-live p (Called e n here below) l = l
+change-live p Woken l = l
+change-live p (Activates n ns nobody first) l = l
+change-live p (ClockMoves e es is) l = l
+change-live p (Draws streams same) l = l
+change-live p (Counts by) l = l
+change-live p (Marks steps ended) l = l
+
+pub trace-live : (p : Parts) {en ar en' ar' : ℕ} {s t : State} → Trace p en ar s en' ar' t → AreFewLive s.transactions → AreFewLive t.transactions
+trace-live p Done l = l
+trace-live p (Then x xs) l = trace-live p xs (change-live p x l)

@@ -1,0 +1,210 @@
+-- What each block does to the active transaction: whether it refuses it, and what entering comes to.
+use Rattle.std.specs.Prelude.{ℕ, ◌+◌, ℤ, pos, List, [], ◌∷◌, length, Option, Some, None, Result, Ok, Err, Bool, true, false, not, nat_lt, nat_le, ◌==◌, if◌then◌else◌, int_lt, unwrap_or}
+use Rattle.std.specs.Option.{option_map_or}
+use Rattle.gw_object.specs.declared.parts.Generate.{Generate}
+use Rattle.gw_object.specs.declared.parts.Units.{Units}
+use Rattle.gw_object.specs.declared.parts.Fraction.{Fraction}
+use Rattle.gw_object.specs.declared.parts.Block.{Block}
+use Rattle.gw_object.specs.declared.parts.Block.TheVariants as blocks
+use Rattle.gw_kinds.specs.Kinds.{block_at}
+use Rattle.gw_flow.specs.Values.{operands}
+use Rattle.gw_num.specs.Table.{at}
+use Rattle.gw_transactions.specs.declared.Transaction.{Transaction}
+use Rattle.gw_transactions.specs.Transactions.{attributes_at, live_count}
+use Rattle.gw_entities.specs.declared.storages.Storage.{Storage}
+use Rattle.gw_entities.specs.declared.stop.Stop.{Stop}
+use Rattle.gw_entities.specs.declared.stop.Stop.TheVariants.{NoBlock, OwnsAtEnd}
+use Rattle.gw_entities.specs.Facility.{seized, seizing, releasing, owns_any}
+use Rattle.gw_entities.specs.Storage.{has_room, entered as with_units_entered, entering, leaving}
+use Rattle.gw_entities.specs.Queue.{joined, departing}
+use Rattle.gw_step.specs.declared.ends.End.TheVariants.{Number, Live}
+use Rattle.gw_step.specs.declared.placement.Placement.{Placement}
+use Rattle.gw_step.specs.declared.placement.Placement.TheVariants.{StaysActive, RestsUntil, JoinsDelayList, JoinsRetryList, LeavesModel}
+use Rattle.gw_step.specs.Outcome.{Outcome, Gives, EndsBy, ◌>>=◌, unless_stopped, granted, evaluated}
+use Rattle.gw_step.specs.State.{State, may_enter, with_streams, delay_list}
+use Rattle.gw_step.specs.Times.{environment, moment_after, drawn_moment}
+use Rattle.gw_step.specs.Changes.{entered, enters_and_falls, arrives, called_from, facility, storage, queue, put_facility, put_storage, put_queue, counted}
+use Rattle.gw_step.specs.Placing.{placed}
+
+-- REFUSAL
+
+-- an entity answers that who asks has to wait
+abbrev pub has_to_wait : {A : Type 0} → Result (Bool × A) Stop → Bool
+has_to_wait (Ok (true, a)) = false
+has_to_wait (Ok (false, a)) = true
+has_to_wait (Err stop) = false
+
+-- a block with these operand values refuses the transaction n: a SEIZE of a facility that another owns, an ENTER of units that are within the capacity and not free
+abbrev pub refuses : ℕ → Block → List ℤ → State → Bool
+refuses n (blocks.Seize f) values s = has_to_wait (seizing n (facility f s))
+refuses n (blocks.Enter u) values s = has_to_wait (entering u.number (storage u.entity s))
+refuses n block values s = false
+
+-- where a transaction rests that a block refused
+abbrev pub refusal : Block → Placement
+refusal (blocks.Seize f) = JoinsDelayList f
+refusal (blocks.Enter u) = JoinsDelayList u.entity
+refusal block = JoinsRetryList
+
+-- ENTERING
+
+-- a transaction goes on to the block of a number, which has to be there
+abbrev pub leads : {A : Type 0} → List Block → ℕ → Outcome A → Outcome A
+leads bs b outcome = unless_stopped (may_enter (block_at bs b)) NoBlock outcome
+
+-- the state after an entry, where who entered stays active
+abbrev pub stays : State → Outcome (State × Placement)
+stays s = Gives (s, StaysActive)
+
+-- the operand value of a block that has one
+abbrev pub the_value : List ℤ → ℤ
+the_value [] = pos 0
+the_value (value ∷ values) = value
+
+-- TIME
+
+-- whether an arrival is still to be scheduled, where so many were
+abbrev pub is_owed : Option ℕ → ℕ → Bool
+is_owed None scheduled = true
+is_owed (Some limit) scheduled = nat_lt scheduled limit
+
+-- one more transaction, where fewer than 65,536 live, scheduled arrivals included
+abbrev pub within_live_limit : State → Outcome State → Outcome State
+within_live_limit s outcome = if nat_lt (live_count s.transactions) 65536 then outcome else EndsBy Live
+
+-- the next arrival of a GENERATE block, b, is scheduled, if one is owed; the interval is evaluated for the coming transaction
+abbrev pub next_arrival : ℕ → Generate → State → Outcome State
+next_arrival b g s =
+    if is_owed g.limit (at 0 s.scheduled b)
+    then (drawn_moment (environment (length s.transactions) g.priority s.clock s) g.interval s.clock s.streams >>= λ d. within_live_limit s (Gives (arrives b g.priority d.0 (with_streams d.1 s))))
+    else Gives s
+
+-- the effect of GENERATE: the next arrival is scheduled, and the transaction enters with the clock as its mark time
+abbrev pub generate : List Block → ℕ → Transaction → Generate → State → Outcome (State × Placement)
+generate bs n t g s = next_arrival t.next g s >>= λ after. leads bs (t.next + 1) (stays (enters_and_falls n (record t { mark = s.clock }) after))
+
+-- a transaction rests until a moment; where that is now it stays active
+abbrev pub until : ℤ → ℤ → Placement
+until clock moment = if int_lt clock moment then RestsUntil moment else StaysActive
+
+-- the effect of ADVANCE: the transaction enters and rests for a time
+abbrev pub advance : List Block → ℕ → Transaction → ℤ → State → Outcome (State × Placement)
+advance bs n t time s = moment_after s.clock time >>= λ moment. leads bs (t.next + 1) (Gives (enters_and_falls n t s, until s.clock moment))
+
+-- FACILITIES
+
+-- the effect of SEIZE: the transaction enters and owns the facility from now on
+abbrev pub seize : List Block → ℕ → Transaction → ℕ → State → Outcome (State × Placement)
+seize bs n t f s = leads bs (t.next + 1) (granted (seizing n (facility f s)) >>= λ r. stays (put_facility f r.1 (enters_and_falls n t s)))
+
+-- whether a block is a SEIZE of this facility
+abbrev pub is_seize : ℕ → Option Block → Bool
+is_seize f (Some (blocks.Seize g)) = g == f
+is_seize f other = false
+
+-- the waiter n, which is t, is called, and owns the facility at once in its SEIZE block. Whether a move leads on from there isn't asked
+abbrev pub takes_over : List Block → ℕ → ℕ → State → Transaction → State
+takes_over bs f n s t = if is_seize f (block_at bs t.next) then put_facility f (seized n (facility f s)) (enters_and_falls n t (called_from f n s)) else s
+
+-- hand-over: to the first of these who wait for the facility
+abbrev pub hand_over : List Block → ℕ → List ℕ → State → State
+hand_over bs f [] s = s
+hand_over bs f (n ∷ ns) s = option_map_or (takes_over bs f n s) (attributes_at n s.transactions) s
+
+-- the effect of RELEASE: the transaction, its owner, enters and gives the facility up, and it is handed over
+abbrev pub release : List Block → ℕ → Transaction → ℕ → State → Outcome (State × Placement)
+release bs n t f s = leads bs (t.next + 1) (granted (releasing n (facility f s)) >>= λ r. stays (hand_over bs f (delay_list f s) (put_facility f r.1 (enters_and_falls n t s))))
+
+-- STORAGES
+
+-- the effect of ENTER: the transaction enters, and units of the storage are taken
+abbrev pub enter : List Block → ℕ → Transaction → Units → State → Outcome (State × Placement)
+enter bs n t u s = leads bs (t.next + 1) (granted (entering u.number (storage u.entity s)) >>= λ r. stays (put_storage u.entity r.1 (enters_and_falls n t s)))
+
+-- the units of a storage that a block asks for, if it is its ENTER
+abbrev pub asked : ℕ → Option Block → Option Units
+asked e (Some (blocks.Enter u)) = if u.entity == e then Some u else None
+asked e other = None
+
+-- the waiter n, which is t, is called, and enters its ENTER block, where the units that it asks for are free. Whether a move leads on from there isn't asked
+abbrev pub enters_if_free : ℕ → Transaction → State → Units → State
+enters_if_free n t s u =
+    if has_room u.number (storage u.entity s)
+    then put_storage u.entity (with_units_entered u.number (storage u.entity s)) (enters_and_falls n t (called_from u.entity n s))
+    else s
+
+-- the same, by what its next block asks of the storage
+abbrev pub admitted : List Block → ℕ → ℕ → State → Transaction → State
+admitted bs e n s t = option_map_or (enters_if_free n t s) (asked e (block_at bs t.next)) s
+
+-- the walk comes to the waiter n
+abbrev pub looked_at : List Block → ℕ → ℕ → State → State
+looked_at bs e n s = option_map_or (admitted bs e n s) (attributes_at n s.transactions) s
+
+-- no unit of a storage is free
+abbrev pub is_full : Storage → Bool
+is_full s = nat_le s.capacity s.contents.content
+
+-- admission: one walk over those who wait for a storage, in their order
+unfoldable pub admission : List Block → ℕ → List ℕ → State → State
+admission bs e [] s = s
+admission bs e (n ∷ ns) s = admission bs e ns (looked_at bs e n s)
+
+-- the effect of LEAVE: the transaction enters, units of the storage are given back, and waiters are admitted
+abbrev pub leave : List Block → ℕ → Transaction → Units → State → Outcome (State × Placement)
+leave bs n t u s =
+    leads bs (t.next + 1) (granted (leaving u.number (storage u.entity s)) >>= λ r. stays (admission bs u.entity (delay_list u.entity s) (put_storage u.entity r.1 (enters_and_falls n t s))))
+
+-- QUEUES
+
+-- the effect of QUEUE: the transaction enters, and units join the queue, which never refuses
+abbrev pub join_queue : List Block → ℕ → Transaction → Units → State → Outcome (State × Placement)
+join_queue bs n t u s = leads bs (t.next + 1) (stays (put_queue u.entity (joined u.number (queue u.entity s)) (enters_and_falls n t s)))
+
+-- the effect of DEPART: the transaction enters, and units depart from the queue
+abbrev pub depart : List Block → ℕ → Transaction → Units → State → Outcome (State × Placement)
+depart bs n t u s = leads bs (t.next + 1) (granted (departing u.number (queue u.entity s)) >>= λ r. stays (put_queue u.entity r.1 (enters_and_falls n t s)))
+
+-- TRANSFERS
+
+-- the effect of TRANSFER: the transaction enters and goes to a block
+abbrev pub transfer : List Block → ℕ → Transaction → ℕ → State → Outcome (State × Placement)
+transfer bs n t target s = leads bs target (stays (entered n t target s))
+
+-- where a TRANSFER by fraction, the block of number b, leads to when so many thousandths are drawn
+abbrev pub chosen : ℕ → Fraction → ℤ → ℕ
+chosen b f drawn = if int_lt drawn (pos f.thousandths) then f.target else unwrap_or f.otherwise (b + 1)
+
+-- THE END OF A TRANSACTION
+
+-- the effect of TERMINATE: the transaction, which owns nothing, enters and is destroyed, and the termination count falls, but not by less than 0
+abbrev pub terminate : ℕ → Transaction → ℤ → State → Outcome (State × Placement)
+terminate n t by s = if int_lt by (pos 0) then EndsBy Number else unless_stopped (not (owns_any n s.entities.facilities)) OwnsAtEnd (Gives (counted by (entered n t t.next s), LeavesModel))
+
+-- THE STEP OF THE ACTIVE TRANSACTION
+
+-- what entering comes to: the active transaction n, which is t, enters its next block, which has these operand values
+unfoldable pub effect : List Block → ℕ → Transaction → Block → List ℤ → State → Outcome (State × Placement)
+effect bs n t (blocks.Generate g) values s = generate bs n t g s
+effect bs n t (blocks.Terminate by) values s = terminate n t (the_value values) s
+effect bs n t (blocks.Advance time) values s = advance bs n t (the_value values) s
+effect bs n t (blocks.Seize f) values s = seize bs n t f s
+effect bs n t (blocks.Release f) values s = release bs n t f s
+effect bs n t (blocks.Enter u) values s = enter bs n t u s
+effect bs n t (blocks.Leave u) values s = leave bs n t u s
+effect bs n t (blocks.Queue u) values s = join_queue bs n t u s
+effect bs n t (blocks.Depart u) values s = depart bs n t u s
+effect bs n t (blocks.Transfer target) values s = transfer bs n t target s
+effect bs n t (blocks.TransferByFraction f) values s = transfer bs n t (chosen t.next f (the_value values)) s
+
+-- what entering came to, with the transaction n placed
+abbrev pub then_placed : ℕ → Outcome (State × Placement) → Outcome State
+then_placed n outcome = outcome >>= λ e. Gives (placed n e.1 e.0)
+
+-- the block refuses the active transaction n, which is t, or is entered by it
+abbrev pub meets : List Block → ℕ → Transaction → Block → List ℤ → State → Outcome State
+meets bs n t block values s = if refuses n block values s then Gives (placed n (refusal block) s) else then_placed n (effect bs n t block values s)
+
+-- the active transaction n, which is t, at its next block: the operands are evaluated before it enters, and their draws stand also where it is refused
+unfoldable pub act : List Block → ℕ → Transaction → Block → State → Outcome State
+act bs n t block s = evaluated (operands (environment n t.priority t.mark s) block s.streams) >>= λ read. meets bs n t block read.0 (with_streams read.1 s)

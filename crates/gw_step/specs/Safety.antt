@@ -1,0 +1,41 @@
+-- Typed states never get stuck: no job of a checked object meets an error stop.
+use Rattle.std.specs.Prelude.{◌≡◌, ℕ, ◌<◌, None}
+use Rattle.gw_verify.specs.Checks.{Checked}
+use Rattle.gw_step.specs.State.{State}
+use Rattle.gw_step.specs.Job.{Job, Step, IsFinal, IsStuck, Alone, start_of}
+use Rattle.gw_step.specs.Typing.{WellTyped, AreWithinCapacity}
+
+-- the start state is well-typed
+abbrev pub StartIsWellTyped : Type 0
+StartIsWellTyped = (j : Job) → Checked j.parts → WellTyped j.parts (start_of j)
+
+-- each step of a well-typed state leads to a well-typed state
+abbrev pub StepsKeepTypes : Type 0
+StepsKeepTypes = (j : Job) (s t : State) → Checked j.parts → WellTyped j.parts s → Step j s t → WellTyped j.parts t
+
+-- a well-typed state that runs has a step
+abbrev pub WellTypedStatesStep : Type 0
+WellTypedStatesStep = (j : Job) (s : State) → Checked j.parts → WellTyped j.parts s → s.ended ≡ None → (t : State) × Step j s t
+
+-- a state that a job of a checked object reaches is well-typed
+abbrev pub ReachedStatesAreWellTyped : Type 0
+ReachedStatesAreWellTyped = (j : Job) (n : ℕ) (s : State) → Checked j.parts → Alone j n s → WellTyped j.parts s
+
+-- and isn't stuck
+abbrev pub NoJobIsStuck : Type 0
+NoJobIsStuck = (j : Job) (n : ℕ) (s : State) → Checked j.parts → Alone j n s → IsStuck j s → ⊥
+
+-- where a job ends: after so many steps a named end stands
+pub record Ending (j : Job) : Type 0 where
+  pub steps : ℕ
+  pub state : State
+  pub alone : Alone j steps state
+  pub final : IsFinal state
+
+-- each job of a checked object comes to a named end
+abbrev pub AllJobsEnd : Type 0
+AllJobsEnd = (j : Job) → Checked j.parts → 0 < j.budget → Ending j
+
+-- in no state that a job of a checked object reaches a storage holds more than its capacity
+abbrev pub StoragesKeepTheirCapacity : Type 0
+StoragesKeepTheirCapacity = (j : Job) (n : ℕ) (s : State) → Checked j.parts → Alone j n s → AreWithinCapacity s.entities

@@ -1,0 +1,84 @@
+-- Well-typed states: who resides where, who owns what, and what is inside the entities is what the state table says of each transaction's place.
+use Rattle.std.specs.Prelude.{◌≡◌, ℕ, ◌≤◌, sum_by, List, [], Option, Some, None, IsSome, IfSome, Bool, false}
+use Rattle.std.specs.Option.{option_map_or}
+use Rattle.gw_object.specs.declared.parts.Kind.{Kind}
+use Rattle.gw_object.specs.declared.parts.Kind.TheVariants as kinds
+use Rattle.gw_object.specs.declared.parts.Block.{Block}
+use Rattle.gw_object.specs.declared.parts.Block.TheVariants as blocks
+use Rattle.gw_object.specs.declared.parts.Parts.{Parts}
+use Rattle.gw_kinds.specs.Kinds.{kind_at}
+use Rattle.gw_flow.specs.Rows.{Row, owns, units_of}
+use Rattle.gw_flow.specs.Blocks.{capacity_at}
+use Rattle.gw_flow.specs.Flow.{own_table}
+use Rattle.gw_num.specs.Table.{at}
+use Rattle.gw_transactions.specs.Transactions.{LiveTransaction}
+use Rattle.gw_entities.specs.Contents.{empty}
+use Rattle.gw_entities.specs.Facility.{idle, is_owned_by}
+use Rattle.gw_entities.specs.Storage.{vacant}
+use Rattle.gw_step.specs.State.{Lists, EntityStates, State}
+use Rattle.gw_step.specs.Residence.{occurrences, EachResidesOnce}
+use Rattle.gw_step.specs.Places.{place, block_of, row_of}
+
+-- PLACES
+
+-- the place of a transaction is a block of the object, and has a row in its state table
+pub record IsPlaced (p : Parts) (t : LiveTransaction) : Type 0 where
+  pub block : IsSome (block_of p (place t))
+  pub row : IsSome (own_table p (place t))
+
+-- whether the row of a place lists a facility as owned
+abbrev pub lists_facility : ℕ → Option Row → Bool
+lists_facility f row = option_map_or (λ row. owns row f) row false
+
+-- the units of an entity that the row of a place promises
+abbrev pub promised_units : ℕ → Option Row → ℕ
+promised_units e row = option_map_or (λ row. units_of row e) row 0
+
+-- ENTITIES
+
+-- the units inside a storage or a queue; inside a facility there are none
+abbrev pub content_of : ℕ → EntityStates → Option Kind → ℕ
+content_of e g None = 0
+content_of e g (Some kinds.Facility) = 0
+content_of e g (Some (kinds.Storage capacity)) = (at (vacant 0) g.storages e).contents.content
+content_of e g (Some kinds.Queue) = (at empty g.queues e).content
+
+-- WAITERS
+
+-- the entity for which a transaction may wait at a block: the facility of a SEIZE, the storage of an ENTER
+abbrev pub awaited : Block → Option ℕ
+awaited (blocks.Seize f) = Some f
+awaited (blocks.Enter u) = Some u.entity
+awaited block = None
+
+-- a waiter for an entity is a live transaction whose place is a SEIZE or an ENTER of that entity
+abbrev pub WaitsFor : Parts → ℕ → Option LiveTransaction → Type 0
+WaitsFor p e None = ⊥
+WaitsFor p e (Some t) = option_map_or awaited (block_of p (place t)) None ≡ Some e
+
+-- WELL-TYPED STATES
+
+-- transactions, lists and entities that agree with an object's state table
+pub record Agree (p : Parts) (transactions : List (Option LiveTransaction)) (lists : Lists) (entities : EntityStates) : Type 0 where
+  -- each live transaction resides exactly once, and no other number occurs
+  pub resides : EachResidesOnce transactions lists
+  -- each live transaction's place has a row
+  pub placed : (n : ℕ) → IfSome (at None transactions n) (IsPlaced p)
+  -- a facility is owned by exactly the transaction whose place lists it, and by nobody where no place does
+  pub owned : (f n : ℕ) → is_owned_by n (at idle entities.facilities f) ≡ lists_facility f (row_of p (at None transactions n))
+  -- the units of an entity that the places of all transactions promise are inside it
+  pub promised : (e : ℕ) → sum_by (λ t. promised_units e (row_of p t)) transactions ≤ content_of e entities (kind_at p.entities e)
+  -- who resides on the delay list of an entity waits for it
+  pub waiting : (e n : ℕ) → 1 ≤ occurrences n (at [] lists.delay_lists e) → WaitsFor p e (at None transactions n)
+  -- each storage has the capacity that the object gives it
+  pub sized : (e : ℕ) → (at (vacant 0) entities.storages e).capacity ≡ capacity_at p.entities e
+
+-- a well-typed state of an object
+abbrev pub WellTyped : Parts → State → Type 0
+WellTyped p s = Agree p s.transactions s.lists s.entities
+
+-- BESIDE TYPES
+
+-- no storage holds more than its capacity
+pub record AreWithinCapacity (entities : EntityStates) : Type 0 where
+  pub contents : (e : ℕ) → (at (vacant 0) entities.storages e).contents.content ≤ (at (vacant 0) entities.storages e).capacity

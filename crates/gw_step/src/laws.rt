@@ -1,0 +1,68 @@
+//! The laws of steps, each as the contract of a function that does nothing.
+
+ghost use Rattle.gw_step.specs.Laws.{
+  AtMostOneStep,
+  OneLoneState,
+  StepsAreCounted,
+  EndsAreFinal,
+  EndsLeaveTheRest,
+  AllComeToRest,
+  SlicesReachTheSame,
+  SlicesAreAlone,
+};
+ghost use Rattle.gw_step.specs.Safety.{
+  StartIsWellTyped,
+  StepsKeepTypes,
+  WellTypedStatesStep,
+  ReachedStatesAreWellTyped,
+  NoJobIsStuck,
+  AllJobsEnd,
+  StoragesKeepTheirCapacity,
+};
+
+/// Each state has at most one step, and so a job has at most one state after so many steps.
+#[tactic(auto, using(crate::proofs::Slices::one_step, crate::proofs::Slices::one_state))]
+pub fn steps_are_determined()
+    ensures steps { AtMostOneStep }
+    ensures states { OneLoneState }
+{}
+
+/// A step is one more in the count of steps, an ended job has none, and each named end but Done and Budget leaves the
+/// rest of the state as it was before the step.
+pub fn ends_leave_the_rest()
+    ensures counted { StepsAreCounted }
+    ensures last { EndsAreFinal }
+    ensures rest { EndsLeaveTheRest }
+{}
+
+/// Cutting a run into slices in any way reaches the same state, which is that of the lone run.
+#[tactic(auto, using(crate::proofs::Slices::slices_same, crate::proofs::Slices::slices_alone))]
+pub fn slices_reach_the_same()
+    ensures same { SlicesReachTheSame }
+    ensures alone { SlicesAreAlone }
+{}
+
+/// Each job comes to a named end within its budget, or is stuck at an error stop.
+#[tactic(auto, using(crate::proofs::Rests::all_come_to_rest))]
+pub fn all_jobs_come_to_rest()
+    ensures { AllComeToRest }
+{}
+
+/// Typed states never get stuck: the start state of a checked object is well-typed, each step of a well-typed state leads
+/// to a well-typed state, and a well-typed state that runs has a step (ours: docs/machine.md, "Well-typed states").
+#[tactic(auto, using(crate::proofs::Safe::start_is_well_typed, crate::proofs::Safe::steps_keep_types, crate::proofs::Safe::well_typed_states_step))]
+pub fn typed_states_never_get_stuck()
+    ensures start { StartIsWellTyped }
+    ensures kept { StepsKeepTypes }
+    ensures steps { WellTypedStatesStep }
+{}
+
+/// No job of a checked object meets an error stop: each state that it reaches is well-typed and isn't stuck, no storage
+/// holds more than its capacity, and within its budget the job comes to a named end.
+#[tactic(auto, using(crate::proofs::Safe::reached_states_are_well_typed, crate::proofs::Safe::no_job_is_stuck, crate::proofs::Safe::all_jobs_end, crate::proofs::Safe::storages_keep_their_capacity))]
+pub fn no_job_meets_an_error_stop()
+    ensures typed { ReachedStatesAreWellTyped }
+    ensures never { NoJobIsStuck }
+    ensures ends { AllJobsEnd }
+    ensures within { StoragesKeepTheirCapacity }
+{}

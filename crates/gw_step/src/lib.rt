@@ -1,0 +1,13 @@
+//! What a job is and does: its simulation state, its steps, and the laws of steps.
+#![tactic(auto)]
+
+mod ends;
+mod laws;
+mod placement;
+
+pub use ends::End;
+pub use laws::{
+    all_jobs_come_to_rest, ends_leave_the_rest, no_job_meets_an_error_stop, slices_reach_the_same,
+    steps_are_determined, typed_states_never_get_stuck,
+};
+pub use placement::Placement;
