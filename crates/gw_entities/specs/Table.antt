@@ -1,8 +1,10 @@
 -- What a contract sees of entities: tables by entity number, with an entry at the number of each entity of the object. The
 -- entry at the number of another kind of entity is that of one to which nothing happened.
-use Rattle.std.specs.Prelude.{ℕ, ◌+◌, List, map, Result, Ok, Err}
+use Rattle.std.specs.Prelude.{ℕ, ◌+◌, ℤ, pos, Bool, false, List, map, Result, Ok, Err}
 use Rattle.gw_num.specs.Table.{at, put}
 use Rattle.gw_object.specs.declared.parts.Entity.{Entity}
+use Rattle.gw_object.specs.declared.parts.Kind.{Kind}
+use Rattle.gw_object.specs.declared.parts.Kind.TheVariants.{Switch, Savevalue}
 use Rattle.gw_object.specs.Entities.{capacity_of}
 use Rattle.gw_entities.specs.declared.contents.Contents.{Contents}
 use Rattle.gw_entities.specs.declared.facilities.Facility.{Facility}
@@ -80,6 +82,44 @@ set_queue q queue t = record t { queues = put empty t.queues q queue }
 -- so many clock units later
 abbrev pub queues_after : ℕ → QueueTable → QueueTable
 queues_after dt t = record { queues = map (contents_after dt) t.queues; passed = t.passed + dt }
+
+-- LOGIC SWITCHES: whether each is set
+
+-- the initial setting of an entity; false where it is no logic switch
+abbrev pub initial_setting : Kind → Bool
+initial_setting (Switch set) = set
+initial_setting other = false
+
+-- the logic switches of an object with these entities, as they are at first
+abbrev pub switches_of : List Entity → List Bool
+switches_of entities = map (λ (e : Entity). initial_setting e.kind) entities
+
+-- whether the logic switch of a number is set
+abbrev pub switch_at : ℕ → List Bool → Bool
+switch_at s switches = at false switches s
+
+-- the table with this setting of the logic switch of a number, and every other one as it was
+abbrev pub set_switch : ℕ → Bool → List Bool → List Bool
+set_switch s on switches = put false switches s on
+
+-- SAVEVALUES: the value of each
+
+-- the initial value of an entity; 0 where it is no savevalue
+abbrev pub initial_value : Kind → ℤ
+initial_value (Savevalue value) = value
+initial_value other = pos 0
+
+-- the savevalues of an object with these entities, as they are at first
+abbrev pub savevalues_of : List Entity → List ℤ
+savevalues_of entities = map (λ (e : Entity). initial_value e.kind) entities
+
+-- the value of the savevalue of a number
+abbrev pub savevalue_at : ℕ → List ℤ → ℤ
+savevalue_at x savevalues = at (pos 0) savevalues x
+
+-- the table with this value of the savevalue of a number, and every other one as it was
+abbrev pub set_savevalue : ℕ → ℤ → List ℤ → List ℤ
+set_savevalue x value savevalues = put (pos 0) savevalues x value
 
 -- ANSWERS
 

@@ -98,12 +98,12 @@ pub cuts_still : {A B : Type 0} (read : List ℕ → Result A Bad) (next : List 
 cuts_still read next text cuts front begins = cut_stays (read front) (next front) (cuts front begins)
 
 -- no bytes have no proper front
-no_front : {P : Type 0} (front : List ℕ) → IsProperFront front [] → P
+pub no_front : {P : Type 0} (front : List ℕ) → IsProperFront front [] → P
 no_front [] (rest, more, e) = absurd (more (sym e))
 no_front (b ∷ front) (rest, more, e) = absurd cc
 
 -- a proper front of a byte and a text is empty, or the byte and a proper front of the text
-front_tail : (b c : ℕ) (text front : List ℕ) → IsProperFront (c ∷ front) (b ∷ text) → (b ≡ c) × IsProperFront front text
+pub front_tail : (b c : ℕ) (text front : List ℕ) → IsProperFront (c ∷ front) (b ∷ text) → (b ≡ c) × IsProperFront front text
 front_tail b c text front (rest, more, e) = (cc, (rest, more, cc))
 
 -- where a proper front of two texts ends: in the first, or behind it

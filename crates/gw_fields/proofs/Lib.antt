@@ -1,3 +1,4 @@
 pub mod Ascending
 pub mod Exact
 mod Loop
+pub mod OneOf

@@ -1,5 +1,5 @@
 -- Fields of a format: how a value is spelled in bytes, how it is read, and which values have a spelling.
-use Rattle.std.specs.Prelude.{◌≡◌, ◌≢◌, ℕ, zero, suc, ◌-◌, ◌≤◌, ◌<◌, ◌^◌, ℤ, FitsSigned, Bool, true, IsTrue, if◌then◌else◌, ◌==◌, nat_lt, nat_le, ◌&&◌, List, [], ◌∷◌, ◌++◌, length, take, drop, slice_get, Option, Some, None, IfSome, SomeIff, Result, Ok, Err}
+use Rattle.std.specs.Prelude.{◌≡◌, ◌≢◌, ℕ, zero, suc, ◌-◌, ◌≤◌, ◌<◌, ◌^◌, ℤ, FitsSigned, Bool, true, false, IsTrue, if◌then◌else◌, ◌==◌, nat_lt, nat_le, ◌&&◌, List, [], ◌∷◌, ◌++◌, length, take, drop, slice_get, Option, Some, None, IfSome, SomeIff, Result, Ok, Err}
 use Rattle.std.specs.List.{flat_map}
 use Rattle.std.specs.Option.{option_map}
 use Rattle.std.specs.Int.{Width, w32, byte_len, to_be_bytes, from_be_bytes, cast_signed, cast_unsigned}
@@ -154,6 +154,35 @@ form_read (f ∷ forms) tag bytes rest = if tag == f.0 then f.1 rest else form_r
 -- a tag, and what stands behind it
 abbrev pub by_tag : {A : Type 0} → List (Form A) → List ℕ → Read A
 by_tag forms bytes = byte_read bytes >>= λ tag. form_read forms tag.0 bytes tag.1
+
+-- ---- one of several values, by a byte
+
+-- the first of these values for which this byte stands
+abbrev pub value_of : {A : Type 0} → (A → ℕ) → List A → ℕ → Option A
+value_of byte_of [] b = None
+value_of byte_of (x ∷ xs) b = if b == byte_of x then Some x else value_of byte_of xs b
+
+-- a value before the rest; without one a fault of the bytes
+abbrev pub value_read : {A : Type 0} → Option A → List ℕ → List ℕ → Read A
+value_read None bytes rest = Err (bad codes.tag bytes)
+value_read (Some x) bytes rest = Ok (x, rest)
+
+-- one of these values, by the byte that stands for it; another byte is a fault
+abbrev pub one_of : {A : Type 0} → (A → ℕ) → List A → Field A
+one_of byte_of values = record {
+  spell = λ x. byte_of x ∷ [];
+  read = λ bytes. byte_read bytes >>= λ b. value_read (value_of byte_of values b.0) bytes b.1;
+  Fits = λ _. Unit {0};
+}
+
+-- the byte that stands for a truth value
+abbrev pub flag_byte : Bool → ℕ
+flag_byte false = 0
+flag_byte true = 1
+
+-- 00 for false, 01 for true
+abbrev pub flag : Field Bool
+flag = one_of flag_byte (false ∷ true ∷ [])
 
 -- ---- lists
 

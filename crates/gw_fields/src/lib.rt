@@ -3,18 +3,22 @@
 //! It knows of no format: what an object consists of is `gw_object`'s.
 #![tactic(auto)]
 
+mod choices;
 pub mod codes;
 mod error;
 mod lists;
 mod numbers;
 mod spelled;
 
+pub use choices::{OneByte, read_one_of};
 pub use error::{Bad, ReadError, fault};
 pub use lists::{
     Elements, Plain, put_elements, put_listed, read_elements, read_listed, room_after_elements,
     room_after_listed,
 };
-pub use numbers::{put_count, read_count, read_ranged_u32, read_ranged_u64, room_after_count};
+pub use numbers::{
+    put_count, read_count, read_ranged_u8, read_ranged_u32, read_ranged_u64, room_after_count,
+};
 pub use spelled::Spelled;
 /// The answer where there was no memory.
 pub use std::alloc::AllocError as Memory;

@@ -182,6 +182,22 @@ impl<T: Spelled> Spelled for Option<T> {
 }
 
 /// A number within two limits.
+pub fn read_ranged_u8(
+    alloc: Global,
+    bytes: &[u8],
+    least: u8,
+    most: u8,
+) -> Result<(u8, &[u8]), ReadError>
+    ensures { Gives (λ x. (x.0, x.1.now)) result ((ranged least most byte).read bytes.now) }
+{
+    let (number, rest) = u8::read(alloc, bytes)?;
+    if number < least || most < number {
+        return Err(fault(LIMIT, bytes));
+    }
+    Ok((number, rest))
+}
+
+/// A number within two limits.
 pub fn read_ranged_u32(
     alloc: Global,
     bytes: &[u8],

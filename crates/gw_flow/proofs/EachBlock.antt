@@ -1,11 +1,21 @@
 -- One check of each element holds exactly where what it decides is true of each; and the checks of blocks, by their numbers.
-use Rattle.std.proofs.Common.{◌≡◌, ◌↔◌, ℕ, zero, suc, List, [], ◌∷◌, map, Some, refl, arith}
+use Rattle.std.proofs.Common.{◌≡◌, ◌↔◌, ℕ, zero, suc, List, [], ◌∷◌, ◌++◌, map, Some, refl, arith}
 use Rattle.std.specs.Prelude.{All, Decides}
 use Rattle.std.proofs.lemmas.List.Elements.{All-nil, All-cons, All-head, All-tail}
 use Rattle.gw_object.specs.declared.parts.Block.{Block}
 use Rattle.gw_kinds.specs.Checks.{Check, first_broken, numbered}
 use Rattle.gw_kinds.specs.Kinds.{block_at}
 use Rattle.gw_kinds.proofs.Each.{Hold, first_and_others, first_with_others, at_number, each_holds, all_hold}
+
+-- what holds of each of two lists holds of each of the first, and of each of the second
+module _ {A : Type 0} (P : A → Type 0) where
+  pub All-front : (xs ys : List A) → All P (xs ++ ys) → All P xs
+  All-front [] ys h = All-nil P
+  All-front (x ∷ xs) ys h = All-cons P x xs (All-head P x (xs ++ ys) h) (All-front xs ys (All-tail P x (xs ++ ys) h))
+
+  pub All-back : (xs ys : List A) → All P (xs ++ ys) → All P ys
+  All-back [] ys h = h
+  All-back (x ∷ xs) ys h = All-back xs ys (All-tail P x (xs ++ ys) h)
 
 -- one check of each element holds exactly where what it decides is true of each
 pub each_decided : {A : Type 0} (f : A → Check) (P : A → Type 0) → ((x : A) → Decides (f x).holds (P x)) → (xs : List A) → Hold (map f xs) ↔ All P xs

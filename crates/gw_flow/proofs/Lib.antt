@@ -6,6 +6,9 @@ pub mod Amounts
 pub mod Found
 pub mod Rooms
 pub mod Fitting
+pub mod Unfit
+pub mod Own
+pub mod Parameters
 pub mod EachBlock
 pub mod Passing
 pub mod Monotone

@@ -1,24 +1,41 @@
 -- A state that fits a row may pass each block that the row may pass.
-use Rattle.std.proofs.Common.{◌≡◌, ℕ, ◌+◌, ◌-◌, ◌≤◌, List, [], ◌∷◌, length, Option, Some, None, Bool, true, false, not, if◌then◌else◌, ◌==◌, sym, ap, subst, arith}
-use Rattle.std.specs.Prelude.{All, IsSomeAnd}
-use Rattle.std.proofs.lemmas.Bool.{le-leb, leb-true}
-use Rattle.std.proofs.lemmas.List.Elements.{All-nil, All-cons, All-head, All-tail}
+use Rattle.std.proofs.Common.{◌≡◌, ℕ, ◌+◌, ◌-◌, ◌≤◌, List, [], ◌∷◌, length, Option, Some, None, Bool, true, false, not, ◌||◌, if◌then◌else◌, ◌==◌, IsTrue, refl, sym, ap, subst, arith}
+use Rattle.std.specs.Prelude.{All, IsSomeAnd, is_some}
+use Rattle.std.specs.List.{flat_map}
+use Rattle.std.proofs.lemmas.Bool.{le-leb, leb-true, false≢true, not-false}
+use Rattle.std.proofs.lemmas.List.Elements.{All-nil, All-cons, All-head, All-tail, All-append}
 use Rattle.gw_object.specs.declared.parts.Block.{Block}
 use Rattle.gw_object.specs.declared.parts.Block.TheVariants as blocks
 use Rattle.gw_object.specs.declared.parts.Parts.{Parts}
 use Rattle.gw_kinds.specs.declared.ways.Exit.{Exit}
 use Rattle.gw_kinds.specs.Exits.{leads_to, exits}
-use Rattle.gw_kinds.specs.Kinds.{is_generate}
+use Rattle.gw_kinds.specs.Kinds.{values}
 use Rattle.gw_flow.specs.Codes as codes
 use Rattle.gw_flow.specs.Entries.{lists, with_number, without_number}
-use Rattle.gw_flow.specs.Rows.{Row, units_of, with_facility, without_facility, with_units, Fits}
+use Rattle.gw_flow.specs.Rows.{Row, ParamKind, Num, Ret, kind_of, is_number, is_return, units_of, with_parameter, with_facility, without_facility, with_units, kind_fits, Fits}
 use Rattle.gw_flow.specs.declared.edges.FlowEdge.{FlowEdge}
-use Rattle.gw_flow.specs.Blocks.{Table, Rule, rule, holds_units, rules, after, move, edges_along}
-use Rattle.gw_flow.specs.Laws.{FittingStatesPass}
-use Rattle.gw_flow.proofs.Entries.{amount-with_entry}
+use Rattle.gw_flow.specs.Blocks.{Table, Rule, rule, holds_units, number_rules, parameters_read, value_rules, replaces, own_rules, after, with_set, move, edges_along}
+use Rattle.gw_flow.specs.Laws.{forbids, FittingStatesPass}
+use Rattle.gw_flow.proofs.Entries.{entry-with_entry, amount-with_entry}
+use Rattle.gw_flow.proofs.EachBlock.{All-front, All-back}
 use Rattle.gw_flow.proofs.Fitting.{fits_on}
 
 -- CHANGES
+
+kind_if : (b : Bool) (j k : Option ParamKind) → IsTrue (kind_fits j k) → IsTrue (kind_fits (if b then Some Num else j) (if b then Some Num else k))
+kind_if true j k h = refl
+kind_if false j k h = h
+
+fits_parameter : (p : ℕ) (state row : Row) → Fits state row → Fits (with_parameter p state) (with_parameter p row)
+fits_parameter p state row h = record {
+  params = λ q. rw (entry-with_entry p (Some Num) state.params q, entry-with_entry p (Some Num) row.params q) (kind_if (p == q) (kind_of state q) (kind_of row q) (h.params q));
+  facilities = h.facilities;
+  units = h.units;
+}
+
+fits_set : (p : Option ℕ) (state row : Row) → Fits state row → Fits (with_set p state) (with_set p row)
+fits_set None state row h = h
+fits_set (Some p) state row h = fits_parameter p state row h
 
 fits_facility : (f : ℕ) (state row : Row) → Fits state row → Fits (with_facility f state) (with_facility f row)
 fits_facility f state row h = record { params = h.params; facilities = ap (with_number f) h.facilities; units = h.units }
@@ -52,9 +69,43 @@ by_units e n state row h g =
     let enough = leb-true n (units_of row e) (All-head Holds (holds_units row e n) [] g) in
     All-cons Holds (holds_units state e n) [] (le-leb n (units_of state e) (omega (arith, h.units e))) (All-nil Holds)
 
--- of a state that fits a row: the rules of a block hold that hold in the row, and so it fits once it has passed the block
+-- a parameter that is set, and one that is a number, is so in a state that fits
+set_on : (kind said : Option ParamKind) → IsTrue (kind_fits kind said) → is_some said ≡ true → is_some kind ≡ true
+set_on None (Some k) h g = absurd (false≢true h)
+set_on (Some k) (Some j) h g = refl
+set_on kind None h g = absurd (false≢true g)
+
+number_on : (kind said : Option ParamKind) → IsTrue (kind_fits kind said) → is_number said ≡ true → is_number kind ≡ true
+number_on None (Some Num) h g = absurd (false≢true h)
+number_on (Some Num) (Some Num) h g = refl
+number_on (Some (Ret bs)) (Some Num) h g = absurd (false≢true h)
+number_on kind (Some (Ret cs)) h g = absurd (false≢true g)
+number_on kind None h g = absurd (false≢true g)
+
+-- the rules of a parameter that is used as a number
+by_number : (p : ℕ) (state row : Row) → Fits state row → All Holds (number_rules row p) → All Holds (number_rules state p)
+by_number p state row h hold =
+    let set = rule codes.unset_param (is_some (kind_of state p)) in
+    let number = rule codes.param_kind (is_number (kind_of state p)) in
+    All-cons Holds set (number ∷ [])
+    (set_on (kind_of state p) (kind_of row p) (h.params p) (All-head Holds (rule codes.unset_param (is_some (kind_of row p))) (rule codes.param_kind (is_number (kind_of row p)) ∷ []) hold))
+    (All-cons Holds number [] (number_on (kind_of state p) (kind_of row p) (h.params p) (All-head Holds (rule codes.param_kind (is_number (kind_of row p))) [] (All-tail Holds (rule codes.unset_param (is_some (kind_of row p))) (rule codes.param_kind (is_number (kind_of row p)) ∷ []) hold))) (All-nil Holds))
+
+-- and of several
+by_numbers : (ps : List ℕ) (state row : Row) → Fits state row → All Holds (flat_map (number_rules row) ps) → All Holds (flat_map (number_rules state) ps)
+by_numbers [] state row h hold = All-nil Holds
+by_numbers (p ∷ ps) state row h hold =
+    All-append Holds (number_rules state p) (flat_map (number_rules state) ps)
+    (by_number p state row h (All-front Holds (number_rules row p) (flat_map (number_rules row) ps) hold))
+    (by_numbers ps state row h (All-back Holds (number_rules row p) (flat_map (number_rules row) ps) hold))
+
+-- a rule that holds in each state
+always : (code : ℕ) (holds other : Bool) → holds ≡ true → All Holds (rule code (holds || other) ∷ [])
+always code holds other h = All-cons Holds (rule code (holds || other)) [] (ap (λ b. b || other) h) (All-nil Holds)
+
+-- of a state that fits a row: its own rules of a block that hold in the row hold, and so it fits once it has passed the block
 record PassesLike (p : Parts) (block : Block) (state row : Row) : Type 0 where
-  rules_hold : is_generate (Some block) ≡ false → All Holds (rules p block row) → All Holds (rules p block state)
+  rules_hold : forbids block ≡ false → All Holds (own_rules p block row) → All Holds (own_rules p block state)
   after_fits : Fits (after block state) (after block row)
 
 -- more units, and fewer
@@ -74,6 +125,14 @@ passes_like p (blocks.Enter u) state row h = record { rules_hold = λ _ hold. ho
 passes_like p (blocks.Leave u) state row h = record { rules_hold = λ _ hold. by_units u.entity u.number state row h hold; after_fits = fewer_units u.entity u.number state row h }
 passes_like p (blocks.Queue u) state row h = record { rules_hold = λ _ hold. hold; after_fits = more_units u.entity u.number state row h }
 passes_like p (blocks.Depart u) state row h = record { rules_hold = λ _ hold. by_units u.entity u.number state row h hold; after_fits = fewer_units u.entity u.number state row h }
+passes_like p (blocks.Assign a) state row h = record {
+  rules_hold = λ sets hold. always codes.param_kind (replaces a.mode) (not (is_return (kind_of state a.parameter))) (not-false (replaces a.mode) sets);
+  after_fits = fits_parameter a.parameter state row h;
+}
+passes_like p (blocks.Loop l) state row h = record { rules_hold = λ _ hold. by_number l.parameter state row h hold; after_fits = h }
+passes_like p (blocks.Logic l) state row h = record { rules_hold = λ _ hold. hold; after_fits = h }
+passes_like p (blocks.Savevalue s) state row h = record { rules_hold = λ _ hold. hold; after_fits = h }
+passes_like p (blocks.Mark p') state row h = record { rules_hold = λ _ hold. hold; after_fits = fits_set p' state row h }
 passes_like p (blocks.Transfer target) state row h = record { rules_hold = λ _ hold. hold; after_fits = h }
 passes_like p (blocks.TransferByFraction f) state row h = record { rules_hold = λ _ hold. hold; after_fits = h }
 
@@ -100,6 +159,8 @@ pub fitting_states_pass : FittingStatesPass
 fitting_states_pass p table b block state row isnt h pass =
     let like = passes_like p block state row h in
     record {
-      each_rule = like.rules_hold isnt pass.each_rule;
+      each_rule = All-append Holds (value_rules block state) (own_rules p block state)
+          (by_numbers (parameters_read (values block)) state row h (All-front Holds (value_rules block row) (own_rules p block row) pass.each_rule))
+          (like.rules_hold isnt (All-back Holds (value_rules block row) (own_rules p block row) pass.each_rule));
       each_edge = edges_fit table b (exits block) (after block state) (after block row) like.after_fits pass.each_edge;
     }

@@ -5,6 +5,7 @@ use Rattle.std.proofs.lemmas.List.Elements.{All-nil, All-cons, All-append, All-m
 use Rattle.std.proofs.lemmas.List.Kept.{AllPairs-filter}
 use Rattle.std.proofs.lemmas.Bool.{eq-eqb}
 use Rattle.gw_object.specs.declared.parts.Units.{Units}
+use Rattle.gw_object.specs.declared.parts.TableParameter.{TableParameter}
 use Rattle.gw_object.specs.declared.parts.TableState.{TableState}
 use Rattle.gw_object.specs.Grammar.{HeldFits, IsAscending}
 use Rattle.gw_flow.specs.declared.abstract_state.Parameter.{Parameter}
@@ -12,8 +13,8 @@ use Rattle.gw_flow.specs.declared.abstract_state.Amount.{Amount}
 use Rattle.gw_flow.specs.declared.abstract_state.StateParts.{StateParts}
 use Rattle.gw_flow.specs.declared.state.Param.{Param}
 use Rattle.gw_flow.specs.Entries.{with_number, with_entry}
-use Rattle.gw_flow.specs.Rows.{Row, ParamKind, IsOrdered, with_facility, without_facility, with_units, nonzero}
-use Rattle.gw_flow.specs.Seen.{kind_seen, known, seen}
+use Rattle.gw_flow.specs.Rows.{Row, ParamKind, Num, IsOrdered, with_parameter, with_facility, without_facility, with_units, nonzero}
+use Rattle.gw_flow.specs.Seen.{kind_seen, kind_said, known, seen}
 use Rattle.gw_flow.specs.Viewed.{held_kind, viewed}
 use Rattle.gw_flow.proofs.Ascending.{Ascends, All-from_map, AllPairs-map, AllPairs-from_map, ascends_placed}
 
@@ -57,7 +58,7 @@ module _ (ps : List Param) (fs : List ℕ) (us : List Amount) (h : IsOrdered (vi
 -- what a row of the state table says is ordered
 pub row_ordered : (row : TableState) → IsAscending row → All HeldFits row.units → IsOrdered (seen row)
 row_ordered row up held = record {
-  params = λ i j d lt within. absurd (omega arith);
+  params = AllPairs-map (λ (a b : ℕ × ParamKind). a.0 < b.0) (λ (p : TableParameter). (p.number, kind_said p.kind)) row.parameters up.parameters;
   facilities = up.facilities;
   units = AllPairs-map (λ (a b : ℕ × ℕ). a.0 < b.0) (λ (u : Units). (u.entity, u.number)) row.units up.units;
   amounts = All-map (λ (e : ℕ × ℕ). e.1 ≢ 0) (λ (u : Units). (u.entity, u.number)) row.units (λ i d within zero. omega (arith, (held i d within).least));
@@ -102,6 +103,9 @@ with_entry_not_0 e n es all =
     (All-filter (λ x. nat_lt e x.0) (λ (x : ℕ × ℕ). x.1 ≢ 0) es all)
 
 module _ (row : Row) (h : IsOrdered row) where
+  pub with_parameter_ordered : (p : ℕ) → IsOrdered (with_parameter p row)
+  with_parameter_ordered p = record { params = with_entry_ascends p (Some Num) row.params h.params; facilities = h.facilities; units = h.units; amounts = h.amounts }
+
   pub with_facility_ordered : (f : ℕ) → IsOrdered (with_facility f row)
   with_facility_ordered f = record { params = h.params; facilities = with_number_ascends f row.facilities h.facilities; units = h.units; amounts = h.amounts }
 

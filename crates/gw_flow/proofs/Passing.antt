@@ -1,15 +1,17 @@
 -- Flow passes exactly where it holds at each block.
-use Rattle.std.proofs.Common.{◌≡◌, ◌↔◌, ℕ, [], ◌∷◌, map, Option, Some, None, Bool, true, false, if◌then◌else◌, refl, sym, ap, subst, ◌∙◌}
+use Rattle.std.proofs.Common.{◌≡◌, ◌↔◌, ℕ, List, [], ◌∷◌, ◌++◌, map, Option, Some, None, Bool, true, false, if◌then◌else◌, refl, sym, ap, subst, ◌∙◌}
 use Rattle.std.specs.Prelude.{All, Decides, IsSome, IsSomeAnd}
 use Rattle.std.proofs.lemmas.Bool.{false≢true}
+use Rattle.std.proofs.lemmas.List.{map-append}
 use Rattle.gw_object.specs.declared.parts.Block.{Block}
 use Rattle.gw_object.specs.declared.parts.Parts.{Parts}
+use Rattle.gw_kinds.specs.Checks.{first_broken}
 use Rattle.gw_kinds.specs.Kinds.{block_at, is_generate}
 use Rattle.gw_flow.specs.Codes as codes
-use Rattle.gw_flow.specs.Rows.{Row, Fits}
+use Rattle.gw_flow.specs.Rows.{Row, nothing_known, Fits}
 use Rattle.gw_flow.specs.declared.edges.Target.TheVariants as targets
 use Rattle.gw_flow.specs.declared.edges.FlowEdge.{FlowEdge}
-use Rattle.gw_flow.specs.Blocks.{Table, Rule, rule, rules, edges}
+use Rattle.gw_flow.specs.Blocks.{Table, Rule, rule, value_rules, rules, edges}
 use Rattle.gw_flow.specs.Flow.{fits_row, rule_check, edge_check, rule_checks, edge_checks, checks_in, checks_at, flow_checks, FlowPasses}
 use Rattle.gw_flow.specs.Laws.{MayPass, FlowHolds, FlowPassesAtEachBlock}
 use Rattle.gw_kinds.proofs.Each.{Hold, parts_hold, hold_together}
@@ -19,6 +21,10 @@ use Rattle.gw_flow.proofs.Fitting.{fits_is_decided}
 row_decided : (state : Row) (row : Option Row) → Decides (fits_row state row) (IsSomeAnd row (Fits state))
 row_decided state None = (λ h. false≢true h, λ h. absurd h)
 row_decided state (Some row) = fits_is_decided state row
+
+-- what a block without a row asks, if it is a GENERATE
+abbrev rules_if : Block → Bool → List Rule
+rules_if block g = if g then value_rules block nothing_known ++ rule codes.edge_state false ∷ [] else []
 
 module _ (p : Parts) (table : Table) where
   -- what is decided of an edge: where it leads there is a row that its state fits
@@ -41,17 +47,20 @@ module _ (p : Parts) (table : Table) where
       hold_together (rule_checks p b block row) (edge_checks p table b block row) ((rules_decided b block row).1 h.each_rule) ((edges_decided b block row).1 h.each_edge)
 
   -- the checks of a block without a row hold exactly where it is no GENERATE
-  without_row : (b : ℕ) (g : Bool) → (g ≡ true → false ≡ true) → Hold (map (rule_check b) (if g then rule codes.edge_state false ∷ [] else []))
-  without_row b true own = absurd (false≢true (own refl))
-  without_row b false own = refl
+  without_row : (b : ℕ) (block : Block) (g : Bool) → (g ≡ true → false ≡ true) → Hold (map (rule_check b) (rules_if block g))
+  without_row b block true own = absurd (false≢true (own refl))
+  without_row b block false own = refl
 
-  lacks_row : (b : ℕ) (g : Bool) → Hold (map (rule_check b) (if g then rule codes.edge_state false ∷ [] else [])) → g ≡ true → false ≡ true
-  lacks_row b true h is = absurd (cc)
-  lacks_row b false h is = is
+  lacks_row : (b : ℕ) (block : Block) (g : Bool) → Hold (map (rule_check b) (rules_if block g)) → g ≡ true → false ≡ true
+  lacks_row b block true h is =
+      let values = value_rules block nothing_known in
+      let parts = parts_hold (map (rule_check b) values) (map (rule_check b) (rule codes.edge_state false ∷ [])) (sym (ap first_broken (map-append (rule_check b) values (rule codes.edge_state false ∷ []))) ∙ h) in
+      absurd (cc)
+  lacks_row b block false h is = is
 
   -- the checks of a block hold where it has no row and is no GENERATE, or may be passed
   checks_hold : (b : ℕ) (block : Block) (row : Option Row) → (is_generate (Some block) ≡ true → IsSome row) → ((r : Row) → row ≡ Some r → MayPass p table b block r) → Hold (checks_in p table b block row)
-  checks_hold b block None own passes = without_row b (is_generate (Some block)) own
+  checks_hold b block None own passes = without_row b block (is_generate (Some block)) own
   checks_hold b block (Some row) own passes = may_pass_holds b block row (passes row refl)
 
   -- a block is there where it is a GENERATE
@@ -61,7 +70,7 @@ module _ (p : Parts) (table : Table) where
 
   -- a GENERATE whose checks hold has a row
   arrival : (b : ℕ) (block : Block) (row : Option Row) → Hold (checks_in p table b block row) → is_generate (Some block) ≡ true → IsSome row
-  arrival b block None h g = lacks_row b (is_generate (Some block)) h g
+  arrival b block None h g = lacks_row b block (is_generate (Some block)) h g
   arrival b block (Some row) h g = refl
 
   holds : FlowPasses p table → FlowHolds p table

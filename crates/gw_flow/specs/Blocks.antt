@@ -1,19 +1,25 @@
 -- Blocks: what each asks of a transaction that enters it, and what is known of the transaction where it goes on.
-use Rattle.std.specs.Prelude.{ℕ, ◌+◌, ◌-◌, List, [], ◌∷◌, map, length, Option, Some, Bool, false, if◌then◌else◌, not, ◌==◌, nat_le}
+use Rattle.std.specs.Prelude.{ℕ, ◌+◌, ◌-◌, List, [], ◌∷◌, ◌++◌, map, filter_map, length, Option, Some, None, is_some, Bool, true, false, if◌then◌else◌, not, ◌||◌, ◌==◌, nat_le}
+use Rattle.std.specs.List.{flat_map}
 use Rattle.std.specs.Option.{option_map_or}
 use Rattle.gw_object.specs.Entities.{capacity_of}
 use Rattle.gw_object.specs.declared.parts.Entity.{Entity}
+use Rattle.gw_object.specs.declared.parts.Mode.{Mode}
+use Rattle.gw_object.specs.declared.parts.Mode.TheVariants.{Set, Add, Subtract}
+use Rattle.gw_object.specs.declared.parts.Operand.{Operand}
+use Rattle.gw_object.specs.declared.parts.Operand.TheVariants as forms
 use Rattle.gw_object.specs.declared.parts.Block.{Block}
 use Rattle.gw_object.specs.declared.parts.Block.TheVariants as blocks
 use Rattle.gw_object.specs.declared.parts.Parts.{Parts}
 use Rattle.gw_kinds.specs.declared.ways.Exit.{Exit}
 use Rattle.gw_kinds.specs.Exits.{leads_to, exits}
-use Rattle.gw_kinds.specs.Kinds.{kind_at, is_generate}
+use Rattle.gw_kinds.specs.Kinds.{kind_at, is_generate, values}
 use Rattle.gw_flow.specs.declared.edges.Target.{Target}
 use Rattle.gw_flow.specs.declared.edges.Target.TheVariants as targets
 use Rattle.gw_flow.specs.declared.edges.FlowEdge.{FlowEdge}
 use Rattle.gw_flow.specs.Codes as codes
-use Rattle.gw_flow.specs.Rows.{Row, owns, units_of, is_empty, with_facility, without_facility, with_units}
+use Rattle.gw_flow.specs.Entries.{in_order}
+use Rattle.gw_flow.specs.Rows.{Row, kind_of, is_number, is_return, owns, units_of, is_empty, nothing_known, with_parameter, with_facility, without_facility, with_units}
 
 -- a state table: what is known of a transaction that is about to go to a target, if it says that one may go there
 abbrev pub Table : Type 0
@@ -38,26 +44,68 @@ capacity_at es e = option_map_or capacity_of (kind_at es e) 0
 abbrev pub holds_units : Row → ℕ → ℕ → Rule
 holds_units state e n = rule codes.too_few_units (nat_le n (units_of state e))
 
+-- a parameter that is used as a number is set (20), and to a number (27)
+abbrev pub number_rules : Row → ℕ → List Rule
+number_rules state p = rule codes.unset_param (is_some (kind_of state p)) ∷ rule codes.param_kind (is_number (kind_of state p)) ∷ []
+
+-- the parameter that an operand reads, if it reads one
+abbrev pub parameter_of : Operand → Option ℕ
+parameter_of (forms.Parameter p) = Some p
+parameter_of operand = None
+
+-- the parameters that operands read, ascending, each once
+abbrev pub parameters_read : List Operand → List ℕ
+parameters_read os = in_order (filter_map parameter_of os)
+
+-- the first rule of each block: each parameter that its values read is set, to a number
+abbrev pub value_rules : Block → Row → List Rule
+value_rules block state = flat_map (number_rules state) (parameters_read (values block))
+
+-- whether a value takes the place of another one
+abbrev pub replaces : Mode → Bool
+replaces Set = true
+replaces Add = false
+replaces Subtract = false
+
+-- what each block asks besides, in order
+abbrev pub own_rules : Parts → Block → Row → List Rule
+-- of an arrival nothing is known but that it owns nothing (25)
+own_rules p (blocks.Generate g) state = rule codes.edge_state (is_empty state) ∷ []
+-- who ends owns nothing (24)
+own_rules p (blocks.Terminate by) state = rule codes.owns_at_end (length state.facilities == 0) ∷ []
+-- a facility isn't seized by its owner (21), and is released by its owner alone (22)
+own_rules p (blocks.Seize f) state = rule codes.already_owned (not (owns state f)) ∷ []
+own_rules p (blocks.Release f) state = rule codes.not_owner (owns state f) ∷ []
+-- a request is within the capacity (28)
+own_rules p (blocks.Enter u) state = rule codes.over_capacity (nat_le u.number (capacity_at p.entities u.entity)) ∷ []
+own_rules p (blocks.Leave u) state = holds_units state u.entity u.number ∷ []
+own_rules p (blocks.Depart u) state = holds_units state u.entity u.number ∷ []
+-- nothing is added to a return or subtracted from it (27)
+own_rules p (blocks.Assign a) state = rule codes.param_kind (replaces a.mode || not (is_return (kind_of state a.parameter))) ∷ []
+-- what a LOOP counts down is a number (20, 27)
+own_rules p (blocks.Loop l) state = number_rules state l.parameter
+own_rules p block state = []
+
 -- the rules of a block in a state, in order
 abbrev pub rules : Parts → Block → Row → List Rule
--- of an arrival nothing is known but that it owns nothing (25)
-rules p (blocks.Generate g) state = rule codes.edge_state (is_empty state) ∷ []
--- who ends owns nothing (24)
-rules p (blocks.Terminate by) state = rule codes.owns_at_end (length state.facilities == 0) ∷ []
--- a facility isn't seized by its owner (21), and is released by its owner alone (22)
-rules p (blocks.Seize f) state = rule codes.already_owned (not (owns state f)) ∷ []
-rules p (blocks.Release f) state = rule codes.not_owner (owns state f) ∷ []
--- a request is within the capacity (28)
-rules p (blocks.Enter u) state = rule codes.over_capacity (nat_le u.number (capacity_at p.entities u.entity)) ∷ []
-rules p (blocks.Leave u) state = holds_units state u.entity u.number ∷ []
-rules p (blocks.Depart u) state = holds_units state u.entity u.number ∷ []
-rules p block state = []
+rules p block state = value_rules block state ++ own_rules p block state
 
--- the rules of a block for which the table has no row: a GENERATE has one (25)
+-- the rules of a block for which the table has no row: a GENERATE has one (25). No parameter is set in a row that isn't there (20)
 abbrev pub rules_without_row : Block → List Rule
-rules_without_row block = if is_generate (Some block) then rule codes.edge_state false ∷ [] else []
+rules_without_row block = if is_generate (Some block) then value_rules block nothing_known ++ rule codes.edge_state false ∷ [] else []
 
 -- EDGES
+
+-- the parameter that a block sets to a number, if it sets one
+abbrev pub parameter_set : Block → Option ℕ
+parameter_set (blocks.Assign a) = Some a.parameter
+parameter_set (blocks.Mark p) = p
+parameter_set block = None
+
+-- the state once a parameter is set to a number, if one is
+abbrev pub with_set : Option ℕ → Row → Row
+with_set None state = state
+with_set (Some p) state = with_parameter p state
 
 -- what is known of a transaction once it has passed a block in a state; most blocks change nothing of it
 abbrev pub after : Block → Row → Row
@@ -67,6 +115,8 @@ after (blocks.Enter u) state = with_units u.entity (units_of state u.entity + u.
 after (blocks.Leave u) state = with_units u.entity (units_of state u.entity - u.number) state
 after (blocks.Queue u) state = with_units u.entity (units_of state u.entity + u.number) state
 after (blocks.Depart u) state = with_units u.entity (units_of state u.entity - u.number) state
+after (blocks.Assign a) state = with_parameter a.parameter state
+after (blocks.Mark p) state = with_set p state
 after block state = state
 
 -- a transaction goes on to a block

@@ -1,6 +1,10 @@
 -- The codes of refusals that checking flow answers.
 use Rattle.std.specs.Prelude.{ℕ}
 
+-- a block would read a parameter of a transaction that isn't sure to be set
+abbrev pub unset_param : ℕ
+unset_param = 20
+
 -- a transaction would SEIZE a facility that it owns
 abbrev pub already_owned : ℕ
 already_owned = 21
@@ -20,6 +24,10 @@ owns_at_end = 24
 -- what is known of a transaction doesn't fit the row of the state table
 abbrev pub edge_state : ℕ
 edge_state = 25
+
+-- a block would use a parameter that isn't sure to hold a number
+abbrev pub param_kind : ℕ
+param_kind = 27
 
 -- a transaction would ENTER a storage with more units than its capacity
 abbrev pub over_capacity : ℕ

@@ -1,14 +1,22 @@
 -- Lists of numbers, and of entries by number. They ascend; what is read of them by number doesn't depend on it.
 use Rattle.std.specs.Prelude.{ℕ, List, [], ◌∷◌, ◌++◌, Option, Some, None, Bool, not, if◌then◌else◌, ◌==◌, nat_lt, filter, option_to_list, option_map, unwrap_or}
-use Rattle.std.specs.List.{list_any}
+use Rattle.std.specs.List.{list_any, fold}
 
 -- whether a number is in a list
 abbrev pub lists : List ℕ → ℕ → Bool
 lists ns n = list_any (λ m. m == n) ns
 
+-- a list that ascends by a key, with an element in its place; it stands there for the one of its key
+abbrev pub in_place : {X : Type 0} → (X → ℕ) → X → List X → List X
+in_place key x xs = filter (λ y. nat_lt (key y) (key x)) xs ++ x ∷ filter (λ y. nat_lt (key x) (key y)) xs
+
 -- a list with a number, in its ascending place
 abbrev pub with_number : ℕ → List ℕ → List ℕ
-with_number n ns = filter (λ m. nat_lt m n) ns ++ n ∷ filter (λ m. nat_lt n m) ns
+with_number n ns = in_place (λ m. m) n ns
+
+-- numbers in ascending order, each once
+abbrev pub in_order : List ℕ → List ℕ
+in_order ns = fold (λ all n. with_number n all) [] ns
 
 -- a list without a number
 abbrev pub without_number : ℕ → List ℕ → List ℕ

@@ -1,5 +1,5 @@
 -- Flow: each block's rules hold in its row of a state table, and what is known of a transaction where it goes on fits the row there.
-use Rattle.std.specs.Prelude.{◌≡◌, ◌⊎◌, ℕ, zero, suc, List, ◌++◌, map, Option, Some, None, Result, Ok, Err, Vec, Bool, false, slice_get, option_map}
+use Rattle.std.specs.Prelude.{◌≡◌, ◌⊎◌, ℕ, zero, suc, List, ◌++◌, map, Option, Some, None, Result, Ok, Err, Vec, Bool, false, slice_get, option_map, All}
 use Rattle.std.specs.Option.{option_flatten}
 use Rattle.std.specs.Global.{Global}
 use Rattle.gw_object.specs.Reading.{out_of_memory}
@@ -9,13 +9,14 @@ use Rattle.gw_object.specs.declared.fault.Place.TheVariants as places
 use Rattle.gw_object.specs.declared.parts.Block.{Block}
 use Rattle.gw_object.specs.declared.parts.Parts.{Parts}
 use Rattle.gw_kinds.specs.Checks.{Check, check, first_broken, numbered}
+use Rattle.gw_flow.specs.declared.abstract_state.Parameter.{Parameter}
 use Rattle.gw_flow.specs.declared.edges.Target.{Target}
 use Rattle.gw_flow.specs.declared.edges.Target.TheVariants as targets
 use Rattle.gw_flow.specs.declared.edges.Edge.{Edge}
 use Rattle.gw_flow.specs.declared.edges.FlowEdge.{FlowEdge}
 use Rattle.gw_flow.specs.Rows.{Row, fits}
-use Rattle.gw_flow.specs.Seen.{known, seen}
-use Rattle.gw_flow.specs.Blocks.{Table, Rule, rules, rules_without_row, edges}
+use Rattle.gw_flow.specs.Seen.{known, seen, parameters_with}
+use Rattle.gw_flow.specs.Blocks.{Table, Rule, rules, rules_without_row, parameter_set, edges}
 
 -- TABLES
 
@@ -98,6 +99,10 @@ said_by_flow e = (e.target, e.state)
 -- these edges lead where flow edges lead, in the same order, and their states say the same
 abbrev pub SayTheSame : List Edge → List FlowEdge → Type 0
 SayTheSame out es = map said out ≡ map said_by_flow es
+
+-- the states of edges of a block have the parameters that were given, but the one that the block sets to a number
+abbrev pub HaveOwn : List Edge → Block → List Parameter → Type 0
+HaveOwn out block given = All (λ (e : Edge). e.state.parameters ≡ parameters_with (parameter_set block) given) out
 
 -- what a call answers for the edges of a block, where these are the checks of its rules: the fault of the first rule that is broken; else where each edge leads and its state, in order, unless memory ran out
 abbrev pub AnswersEdges : Result (Vec Edge Global) Fault → List Check → List FlowEdge → Type 0

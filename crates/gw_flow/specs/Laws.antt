@@ -1,11 +1,12 @@
 -- What an object and a table keep at each block where flow passes, said apart from the order of the checks; and what fitting is.
-use Rattle.std.specs.Prelude.{◌≡◌, ◌↔◌, ℕ, Some, IsSome, true, false, All, IsSomeAnd, Decides}
+use Rattle.std.specs.Prelude.{◌≡◌, ◌↔◌, ℕ, Some, IsSome, Bool, true, false, not, All, IsSomeAnd, Decides}
 use Rattle.gw_object.specs.declared.parts.Block.{Block}
+use Rattle.gw_object.specs.declared.parts.Block.TheVariants as blocks
 use Rattle.gw_object.specs.declared.parts.Parts.{Parts}
 use Rattle.gw_kinds.specs.Kinds.{block_at, is_generate}
 use Rattle.gw_flow.specs.declared.edges.Target.TheVariants as targets
 use Rattle.gw_flow.specs.Rows.{Row, fits, Fits}
-use Rattle.gw_flow.specs.Blocks.{Table, rules, edges}
+use Rattle.gw_flow.specs.Blocks.{Table, replaces, rules, edges}
 use Rattle.gw_flow.specs.Flow.{FlowPasses}
 
 -- a transaction in this state may enter the block of number b and go on from it: each rule holds, and where each edge leads the table has a row that the edge's state fits
@@ -34,8 +35,14 @@ FitsItself = (state : Row) → Fits state state
 abbrev pub FitsOn : Type 0
 FitsOn = (state row other : Row) → Fits state row → Fits row other → Fits state other
 
--- a transaction that fits a row may pass each block that the row may pass; but GENERATE, where nothing may be held
+-- whether a block forbids what a state may know and a row that it fits may not: GENERATE that anything is set or held, and ASSIGN by addition or subtraction that its parameter is a return
+abbrev pub forbids : Block → Bool
+forbids (blocks.Generate g) = true
+forbids (blocks.Assign a) = not (replaces a.mode)
+forbids block = false
+
+-- a transaction that fits a row may pass each block that the row may pass, but those that forbid something
 abbrev pub FittingStatesPass : Type 0
 FittingStatesPass =
     (p : Parts) (table : Table) (b : ℕ) (block : Block) (state row : Row) →
-    is_generate (Some block) ≡ false → Fits state row → MayPass p table b block row → MayPass p table b block state
+    forbids block ≡ false → Fits state row → MayPass p table b block row → MayPass p table b block state

@@ -5,6 +5,7 @@ pub mod Rows
 pub mod Seen
 pub mod Viewed
 pub mod Blocks
+pub mod Unfit
 pub mod Flow
 pub mod Laws
 pub mod Values

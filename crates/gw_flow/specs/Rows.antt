@@ -1,5 +1,5 @@
 -- Abstract states: what is known of a transaction that is about to enter a block.
-use Rattle.std.specs.Prelude.{◌≡◌, ◌≢◌, ℕ, ◌≤◌, ◌<◌, ◌^◌, List, length, Option, Some, None, Bool, IsTrue, true, false, ◌&&◌, ◌==◌, nat_eq, nat_le, if◌then◌else◌, All, AllPairs}
+use Rattle.std.specs.Prelude.{◌≡◌, ◌≢◌, ℕ, ◌≤◌, ◌<◌, ◌^◌, List, [], length, Option, Some, None, Bool, IsTrue, true, false, ◌&&◌, ◌==◌, nat_eq, nat_le, if◌then◌else◌, All, AllPairs}
 use Rattle.std.specs.List.{list_all}
 use Rattle.std.specs.Cmp.Lexicographic.{pointwise}
 use Rattle.gw_flow.specs.Entries.{lists, with_number, without_number, entry, amount_of, with_entry}
@@ -26,6 +26,18 @@ pub record IsOrdered (row : Row) : Type 0 where
 abbrev pub kind_of : Row → ℕ → Option ParamKind
 kind_of row p = entry row.params p
 
+-- whether a parameter is set to a number
+abbrev pub is_number : Option ParamKind → Bool
+is_number None = false
+is_number (Some Num) = true
+is_number (Some (Ret bs)) = false
+
+-- whether a parameter is set to a return
+abbrev pub is_return : Option ParamKind → Bool
+is_return None = false
+is_return (Some Num) = false
+is_return (Some (Ret bs)) = true
+
 -- whether a facility is owned
 abbrev pub owns : Row → ℕ → Bool
 owns row f = lists row.facilities f
@@ -37,6 +49,14 @@ units_of row e = amount_of row.units e
 -- it is known that no facility is owned, and nothing else is known: of no parameter that it is set, of no units that they are held
 abbrev pub is_empty : Row → Bool
 is_empty row = (length row.params == 0) && (length row.facilities == 0) && (length row.units == 0)
+
+-- a state of which nothing is known, but that no facility is owned
+abbrev pub nothing_known : Row
+nothing_known = record { params = []; facilities = []; units = [] }
+
+-- the state once a parameter is set to a number
+abbrev pub with_parameter : ℕ → Row → Row
+with_parameter p row = record row { params = with_entry p (Some Num) row.params }
 
 -- the state once a facility is owned
 abbrev pub with_facility : ℕ → Row → Row

@@ -4,6 +4,9 @@ ghost use Rattle.std.specs.Prelude.{◌≡◌};
 ghost use Rattle.std.specs.Option.{option_copied};
 ghost use Rattle.gw_flow.specs.Names.{name_of};
 
+/// A block would read a parameter of a transaction that isn't sure to be set.
+pub const UNSET_PARAM: u16 = 20;
+
 /// A transaction would SEIZE a facility that it owns.
 pub const ALREADY_OWNED: u16 = 21;
 
@@ -19,6 +22,9 @@ pub const OWNS_AT_END: u16 = 24;
 /// What is known of a transaction doesn't fit the row of the state table.
 pub const EDGE_STATE: u16 = 25;
 
+/// A block would use a parameter that isn't sure to hold a number.
+pub const PARAM_KIND: u16 = 27;
+
 /// A transaction would ENTER a storage with more units than its capacity.
 pub const OVER_CAPACITY: u16 = 28;
 
@@ -27,11 +33,13 @@ pub fn name(code: u16) -> Option<&'static str>
     ensures { option_copied result ≡ name_of code }
 {
     match code {
+        UNSET_PARAM => Some("UnsetParam"),
         ALREADY_OWNED => Some("AlreadyOwned"),
         NOT_OWNER => Some("NotOwner"),
         TOO_FEW_UNITS => Some("TooFewUnits"),
         OWNS_AT_END => Some("OwnsAtEnd"),
         EDGE_STATE => Some("EdgeState"),
+        PARAM_KIND => Some("ParamKind"),
         OVER_CAPACITY => Some("OverCapacity"),
         _ => None,
     }

@@ -6,12 +6,12 @@ ghost use Rattle.gw_flow.specs.Blocks as model;
 ghost use Rattle.gw_flow.specs.Flow.{said};
 ghost use Rattle.gw_flow.specs.Seen.{params_of};
 
-use crate::abstract_state::AbsState;
+use crate::abstract_state::{AbsState, Parameter};
 use crate::codes::EDGE_STATE;
 use crate::lookups::Lookups;
 use crate::state::State;
 use gw_kinds::{Exit, exits, leads_to};
-use gw_object::{Block, Memory};
+use gw_object::{Block, Items, Memory};
 use std::alloc::Global;
 
 /// Where an edge leads.
@@ -42,16 +42,41 @@ pub struct FlowEdge {
 }
 
 impl FlowEdge {
-    /// This edge in the numbers of the state that was given: no block changes a parameter.
-    pub(crate) fn in_numbers_of(&self, alloc: Global, given: &AbsState) -> Result<Edge, Memory>
-        requires { self.now.state.params ≡ params_of given.now.parameters }
+    /// This edge in the numbers of these parameters, which say what its state says of them.
+    pub(crate) fn in_numbers_of(
+        &self,
+        alloc: Global,
+        parameters: &Items<Parameter>,
+    ) -> Result<Edge, Memory>
+        requires { self.now.state.params ≡ params_of parameters.now }
         ensures same { IfOk result (λ e. said e ≡ (self.now.target, self.now.state)) }
-        ensures own { IfOk result (λ e. e.state.parameters ≡ given.now.parameters) }
+        ensures own { IfOk result (λ e. e.state.parameters ≡ parameters.now) }
     {
         Ok(Edge {
             target: self.target,
-            state: self.state.in_numbers_of(alloc, given)?,
+            state: self.state.in_numbers_of(alloc, parameters)?,
         })
+    }
+}
+
+/// The parameter that a block sets to a number, if it sets one.
+pub(crate) fn parameter_set(block: &Block) -> Option<u8>
+    ensures { result ≡ model.parameter_set block.now }
+{
+    match block {
+        Block::Assign(assign) => Some(assign.parameter),
+        Block::Mark(parameter) => *parameter,
+        _ => None,
+    }
+}
+
+/// The state once a parameter is set to a number, if one is.
+fn with_set(alloc: Global, number: Option<u8>, state: &State) -> Result<State, Memory>
+    ensures { IfOk result (λ s. s ≡ model.with_set number state.now) }
+{
+    match number {
+        Some(number) => state.with_parameter(alloc, number),
+        None => state.copy(alloc),
     }
 }
 
@@ -71,7 +96,7 @@ fn after(alloc: Global, block: &Block, state: &State) -> Result<State, Memory>
             let units = state.units_of(u.entity).saturating_sub(u.number as u64);
             state.with_units(alloc, u.entity, units)
         }
-        _ => state.copy(alloc),
+        _ => with_set(alloc, parameter_set(block), state),
     }
 }
 

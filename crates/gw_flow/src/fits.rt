@@ -8,19 +8,13 @@ ghost use Rattle.gw_flow.specs.Seen.{amounts_of};
 ghost use Rattle.gw_flow.specs.Viewed.{held_kind, params_viewed};
 
 use crate::abstract_state::Amount;
+use crate::lists::Keyed;
 use crate::state::{Holds, Param};
 
 /// An entry of a list that ascends by number.
-trait Entry {
-    /// The number that it is of.
-    ghost key: { Self → ℕ };
-
+trait Entry: Keyed {
     /// Whether the first, which is held, suffices for the second, which is asked.
     ghost enough: { Self → Self → Bool };
-
-    /// The number that it is of.
-    fn number(&self) -> u16
-        ensures { result ≡ key self.now };
 
     /// Whether it suffices where another of its number is asked.
     fn suffices(&self, asked: &Self) -> bool
@@ -28,13 +22,7 @@ trait Entry {
 }
 
 impl Entry for Param {
-    ghost key = { λ p. p.number };
-
     ghost enough = { λ held asked. rows.kind_fits (Some (held_kind held.holds)) (Some (held_kind asked.holds)) };
-
-    fn number(&self) -> u16 {
-        self.number as u16
-    }
 
     fn suffices(&self, asked: &Param) -> bool {
         match (self.holds, asked.holds) {
@@ -44,13 +32,7 @@ impl Entry for Param {
 }
 
 impl Entry for Amount {
-    ghost key = { λ a. a.entity };
-
     ghost enough = { λ held asked. nat_le asked.number held.number };
-
-    fn number(&self) -> u16 {
-        self.entity
-    }
 
     fn suffices(&self, asked: &Amount) -> bool {
         asked.number <= self.number
@@ -68,10 +50,10 @@ fn has_each<T: Entry>(held: &[T], asked: &[T]) -> bool
         let Some((next, later)) = left.split_first() else {
             return true;
         };
-        if next.number() < entry.number() {
+        if next.key() < entry.key() {
             return false;
         }
-        if next.number() == entry.number() {
+        if next.key() == entry.key() {
             if !entry.suffices(next) {
                 return false;
             }

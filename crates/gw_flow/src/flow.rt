@@ -1,26 +1,28 @@
 //! The checks of flow, in order.
 
-ghost use Rattle.std.specs.Prelude.{◌≡◌, ◌⊎◌, ◌<◌, ◌≤◌, ◌+◌, Some, None, IfOk, IfErr, IfSome, IsSome, All, map, length, option_copied, [], ◌∷◌};
+ghost use Rattle.std.specs.Prelude.{◌≡◌, ◌≤◌, Some, IfOk, IfSome, IsSome, All, map, length, option_copied, [], ◌∷◌};
 ghost use Rattle.gw_object.specs.declared.parts.Block.{Block};
 ghost use Rattle.gw_kinds.specs.Checks.{Finds, first_broken};
 ghost use Rattle.gw_kinds.specs.Kinds.{block_at};
 ghost use Rattle.gw_flow.specs.Rows.{HasRoom};
 ghost use Rattle.gw_flow.specs.Blocks.{edges_from, edges};
 ghost use Rattle.gw_flow.specs.Flow as model;
-ghost use Rattle.gw_flow.specs.Flow.{FindsOrLacksMemory, SayTheSame, AnswersEdges, table_of};
+ghost use Rattle.gw_flow.specs.Flow.{FindsOrLacksMemory, SayTheSame, HaveOwn, AnswersEdges, table_of};
+ghost use Rattle.gw_flow.specs.Seen as carried;
 ghost use Rattle.gw_flow.specs.Seen.{known, params_of};
 ghost use Rattle.gw_flow.specs.declared.edges.Edge.{Edge as DeclaredEdge};
 ghost use Rattle.gw_flow.specs.declared.edges.FlowEdge.{FlowEdge as DeclaredFlowEdge};
 
-use crate::abstract_state::AbsState;
-use crate::edges::{Edge, FlowEdge, Target, edges_of};
+use crate::abstract_state::{AbsState, Parameter, ParameterKind};
+use crate::edges::{Edge, FlowEdge, Target, edges_of, parameter_set};
+use crate::lists::{copy_of, in_place};
 use crate::lookups::Lookups;
 use crate::rules::{check_rules, check_without_row};
 use crate::state::State;
 use crate::table::own_rows;
 use gw_kinds::check;
 use gw_object::codes::MEMORY;
-use gw_object::{Block, Fault, Memory, Object, Parts, Place};
+use gw_object::{Block, Fault, Items, Memory, Object, Parts, Place};
 use std::alloc::{AllocError, Global};
 
 /// That memory ran out.
@@ -125,15 +127,37 @@ fn check_blocks(alloc: Global, parts: &Parts, rows: &[Option<State>]) -> Result<
     Ok(())
 }
 
-/// Edges in the numbers of the state that was given.
-fn in_numbers_of(alloc: Global, edges: &[FlowEdge], given: &AbsState) -> Result<Vec<Edge>, Memory>
-    requires { All (λ (e : DeclaredFlowEdge). e.state.params ≡ params_of given.now.parameters) edges.now }
+/// The parameters of a state once one is set to a number, if one is: each other one is as it was given.
+fn parameters_with(
+    alloc: Global,
+    number: Option<u8>,
+    given: &Items<Parameter>,
+) -> Result<Items<Parameter>, Memory>
+    ensures { IfOk result (λ own. own ≡ carried.parameters_with number given.now) }
+{
+    match number {
+        Some(number) => {
+            let kind = ParameterKind::Num;
+            let all = in_place(alloc, given.as_slice(), Parameter { number, kind })?;
+            Ok(Items::from_vec(all))
+        }
+        None => copy_of(alloc, given),
+    }
+}
+
+/// Edges in the numbers of these parameters, which say what the edges' states say of them.
+fn in_numbers_of(
+    alloc: Global,
+    edges: &[FlowEdge],
+    parameters: &Items<Parameter>,
+) -> Result<Vec<Edge>, Memory>
+    requires { All (λ (e : DeclaredFlowEdge). e.state.params ≡ params_of parameters.now) edges.now }
     ensures same { IfOk result (λ out. SayTheSame out.items edges.now) }
-    ensures own { IfOk result (λ out. All (λ (e : DeclaredEdge). e.state.parameters ≡ given.now.parameters) out.items) }
+    ensures own { IfOk result (λ out. All (λ (e : DeclaredEdge). e.state.parameters ≡ parameters.now) out.items) }
 {
     let mut out = Vec::new(alloc);
     for edge in edges {
-        out.push(edge.in_numbers_of(alloc, given)?)?;
+        out.push(edge.in_numbers_of(alloc, parameters)?)?;
     }
     Ok(out)
 }
@@ -148,11 +172,12 @@ fn own_edges(
     requires number { number ≤ 4096 }
     requires room { HasRoom (known state.now) }
     ensures same { IfOk result (λ out. SayTheSame out.items (edges_from number block.now (known state.now))) }
-    ensures own { IfOk result (λ out. All (λ (e : DeclaredEdge). e.state.parameters ≡ state.now.parameters) out.items) }
+    ensures own { IfOk result (λ out. HaveOwn out.items block.now state.now.parameters) }
 {
     let seen = State::of(alloc, state)?;
     let edges = edges_of(alloc, number, block, &seen)?;
-    in_numbers_of(alloc, &edges, state)
+    let parameters = parameters_with(alloc, parameter_set(block), &state.parts().parameters)?;
+    in_numbers_of(alloc, &edges, &parameters)
 }
 
 /// The edges of the block of this number in a state; else the fault of the first rule that is broken, or that memory ran
@@ -167,7 +192,7 @@ fn edges_or_fault(
     requires number { number ≤ 4096 }
     requires room { HasRoom (known state.now) }
     ensures edges { AnswersEdges result (model.rule_checks parts.now number block.now (known state.now)) (edges_from number block.now (known state.now)) }
-    ensures own { IfOk result (λ out. All (λ (e : DeclaredEdge). e.state.parameters ≡ state.now.parameters) out.items) }
+    ensures own { IfOk result (λ out. HaveOwn out.items block.now state.now.parameters) }
 {
     check_rules(parts, number, block, state)?;
     match own_edges(alloc, number, block, state) {
@@ -178,9 +203,10 @@ fn edges_or_fault(
 
 /// The edges of the block of this number, from 1, that is there, for a transaction in a state: where it goes on to, and
 /// what is known of it there, in the numbers of that state: a parameter that the block leaves alone comes back as it was
-/// given. Else the fault of the block's first rule that is broken in that state: 21 AlreadyOwned, 22 NotOwner,
-/// 23 TooFewUnits, 24 OwnsAtEnd, 25 EdgeState for a GENERATE, or 28 OverCapacity (ours: docs/refusals.md); or 8 Memory at
-/// Nowhere where memory runs out.
+/// given, and one that it sets is a number. Else the fault of the block's first rule that is broken in that state: first
+/// 20 UnsetParam or 27 ParamKind of a parameter that its values read; then 21 AlreadyOwned, 22 NotOwner, 23 TooFewUnits,
+/// 24 OwnsAtEnd, 25 EdgeState for a GENERATE, 28 OverCapacity, or 20 and 27 of a parameter that it changes (ours:
+/// docs/refusals.md); or 8 Memory at Nowhere where memory runs out.
 pub fn out_edges(
     alloc: Global,
     object: &Object,
@@ -191,7 +217,7 @@ pub fn out_edges(
     requires room { HasRoom (known state.now) }
     ensures edges { (k : Block) → block_at object.now.blocks block ≡ Some k →
         AnswersEdges result (model.rule_checks object.now block k (known state.now)) (edges object.now (model.own_table object.now) block k (known state.now)) }
-    ensures own { IfOk result (λ out. All (λ (e : DeclaredEdge). e.state.parameters ≡ state.now.parameters) out.items) }
+    ensures own { (k : Block) → block_at object.now.blocks block ≡ Some k → IfOk result (λ out. HaveOwn out.items k state.now.parameters) }
 {
     let parts = object.parts();
     let there = &parts.blocks.as_slice()[block as usize - 1];
@@ -200,9 +226,9 @@ pub fn out_edges(
 
 /// Accepts an object exactly where flow holds of it and its own state table: each GENERATE has a row, the rules of each
 /// block with a row hold in it, and what is known of a transaction where it goes on to fits the row there. Else the first
-/// fault: the blocks in ascending order, and of one block its rules and then its edges in order: 21 AlreadyOwned,
-/// 22 NotOwner, 23 TooFewUnits, 24 OwnsAtEnd, 25 EdgeState, 28 OverCapacity (ours: docs/refusals.md); or 8 Memory at
-/// Nowhere where memory runs out.
+/// fault: the blocks in ascending order, and of one block its rules and then its edges in order: 20 UnsetParam,
+/// 21 AlreadyOwned, 22 NotOwner, 23 TooFewUnits, 24 OwnsAtEnd, 25 EdgeState, 27 ParamKind, 28 OverCapacity (ours:
+/// docs/refusals.md); or 8 Memory at Nowhere where memory runs out.
 pub fn check_flow(alloc: Global, object: &Object) -> Result<(), Fault>
     ensures { FindsOrLacksMemory result (model.flow_checks object.now (model.own_table object.now)) }
 {

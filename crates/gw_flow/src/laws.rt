@@ -19,7 +19,8 @@ pub fn states_fit()
     ensures on { FitsOn }
 {}
 
-/// A transaction that fits a row may pass each block that the row may pass, but GENERATE.
+/// A transaction that fits a row may pass each block that the row may pass, but those that forbid what the row needn't know
+/// of: GENERATE, where nothing may be held or set, and ASSIGN by addition or subtraction, whose parameter may be no return.
 pub fn fitting_states_pass()
     ensures { FittingStatesPass }
 {}

@@ -1,11 +1,12 @@
 //! The lists of abstract states.
 
-ghost use Rattle.std.specs.Prelude.{◌≡◌, ◌≤◌, ◌^◌, IfOk, All};
+ghost use Rattle.std.specs.Prelude.{◌≡◌, ◌≤◌, ◌^◌, ℕ, ◌==◌, IfOk, All};
+ghost use Rattle.std.specs.List.{find};
 ghost use Rattle.gw_flow.specs.Entries as entries;
 ghost use Rattle.gw_flow.specs.Rows as rows;
 ghost use Rattle.gw_flow.specs.Seen.{amounts_of, units_seen};
 
-use crate::abstract_state::Amount;
+use crate::abstract_state::{Amount, Parameter};
 use gw_object::{Items, Memory, Units};
 use std::alloc::Global;
 
@@ -32,20 +33,67 @@ pub(crate) fn amounts_seen(alloc: Global, units: &[Units]) -> Result<Vec<Amount>
     Ok(amounts)
 }
 
-/// A list with a number, in its ascending place.
-pub(crate) fn with_number(alloc: Global, numbers: &[u16], number: u16) -> Result<Vec<u16>, Memory>
-    ensures { IfOk result (λ all. all.items ≡ entries.with_number number numbers.now) }
+/// An element of a list that ascends by a key.
+pub(crate) trait Keyed: Copy {
+    /// Its key.
+    ghost key: { Self → ℕ };
+
+    /// Its key.
+    fn key(&self) -> u16
+        ensures { result ≡ key self.now };
+}
+
+impl Keyed for u16 {
+    ghost key = { λ n. n };
+
+    fn key(&self) -> u16 {
+        *self
+    }
+}
+
+impl Keyed for Amount {
+    ghost key = { λ a. a.entity };
+
+    fn key(&self) -> u16 {
+        self.entity
+    }
+}
+
+impl Keyed for Parameter {
+    ghost key = { λ p. p.number };
+
+    fn key(&self) -> u16 {
+        self.number as u16
+    }
+}
+
+/// The first element of a key, if there is one.
+pub(crate) fn of_key<T: Keyed>(items: &[T], key: u16) -> Option<T>
+    ensures { result ≡ find (λ item. T.key item == key) items.now }
 {
-    let mut all: Vec<u16> = numbers
+    for item in items {
+        if item.key() == key {
+            return Some(*item);
+        }
+    }
+    None
+}
+
+/// A list with an element, in its place by its key; it stands there for the one of its key.
+pub(crate) fn in_place<T: Keyed>(alloc: Global, items: &[T], item: T) -> Result<Vec<T>, Memory>
+    ensures { IfOk result (λ all. all.items ≡ entries.in_place T.key item items.now) }
+{
+    let key = item.key();
+    let mut all: Vec<T> = items
         .iter()
         .copied()
-        .filter(|n| *n < number)
+        .filter(|other| other.key() < key)
         .collect(alloc)?;
-    all.push(number)?;
-    let above: Vec<u16> = numbers
+    all.push(item)?;
+    let above: Vec<T> = items
         .iter()
         .copied()
-        .filter(|n| number < *n)
+        .filter(|other| key < other.key())
         .collect(alloc)?;
     all.extend_from_slice(&above)?;
     Ok(all)
@@ -70,12 +118,7 @@ pub(crate) fn without_number(
 pub(crate) fn amount_in(amounts: &[Amount], entity: u16) -> u64
     ensures { result ≡ entries.amount_of (amounts_of amounts.now) entity }
 {
-    for amount in amounts {
-        if amount.entity == entity {
-            return amount.number;
-        }
-    }
-    0
+    of_key(amounts, entity).map_or(0, |amount| amount.number)
 }
 
 /// The amounts with this one for its entity, in its ascending place; without one of 0.

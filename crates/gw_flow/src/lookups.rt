@@ -1,12 +1,14 @@
 //! What the rules of blocks look up in what is known of a transaction.
 
-ghost use Rattle.std.specs.Prelude.{◌≡◌, ◌==◌, length};
+ghost use Rattle.std.specs.Prelude.{◌≡◌, ◌==◌, length, is_some, option_map};
 ghost use Rattle.gw_flow.specs.Rows.{Row};
 ghost use Rattle.gw_flow.specs.Rows as rows;
+ghost use Rattle.gw_flow.specs.Viewed.{held_kind};
 ghost use Rattle.gw_flow.specs.Seen.{known as known_of, amounts_of};
 
 use crate::abstract_state::{AbsState, Amount};
-use crate::lists::amount_in;
+use crate::lists::{amount_in, of_key};
+use crate::state::{Holds, param_seen};
 
 /// What is known of a transaction, by lookups that take no memory.
 pub(crate) trait Lookups {
@@ -17,6 +19,10 @@ pub(crate) trait Lookups {
     fn sets_nothing(&self) -> bool
         ensures { result ≡ (length (known self.now).params == 0) };
 
+    /// What a parameter, given by its number, is sure to hold.
+    fn kind_of(&self, parameter: u8) -> Option<Holds>
+        ensures { option_map held_kind result ≡ rows.kind_of (known self.now) parameter };
+
     /// The facilities that are owned.
     fn facilities(&self) -> &[u16]
         ensures { result.now ≡ (known self.now).facilities };
@@ -24,6 +30,32 @@ pub(crate) trait Lookups {
     /// The units that are sure to be held.
     fn units(&self) -> &[Amount]
         ensures { amounts_of result.now ≡ (known self.now).units };
+
+    /// Whether a parameter is sure to be set.
+    fn is_set(&self, parameter: u8) -> bool
+        ensures { result ≡ is_some (rows.kind_of (known self.now) parameter) }
+    {
+        self.kind_of(parameter).is_some()
+    }
+
+    /// Whether a parameter is sure to hold a number.
+    fn is_number(&self, parameter: u8) -> bool
+        ensures { result ≡ rows.is_number (rows.kind_of (known self.now) parameter) }
+    {
+        match self.kind_of(parameter) {
+            Some(Holds::Num) => true,
+            None => false,
+        }
+    }
+
+    /// Whether a parameter is known to hold a return.
+    fn is_return(&self, parameter: u8) -> bool
+        ensures { result ≡ rows.is_return (rows.kind_of (known self.now) parameter) }
+    {
+        match self.kind_of(parameter) {
+            Some(Holds::Num) | None => false,
+        }
+    }
 
     /// Whether no facility is owned.
     fn owns_nothing(&self) -> bool
@@ -61,11 +93,39 @@ impl Lookups for AbsState {
         self.parts().parameters.as_slice().is_empty()
     }
 
+    fn kind_of(&self, parameter: u8) -> Option<Holds> {
+        let parameters = self.parts().parameters.as_slice();
+        of_key(parameters, parameter as u16).map(|found| param_seen(&found).holds)
+    }
+
     fn facilities(&self) -> &[u16] {
         self.parts().facilities.as_slice()
     }
 
     fn units(&self) -> &[Amount] {
         self.parts().units.as_slice()
+    }
+}
+
+/// A row that isn't there: by it nothing is known.
+pub(crate) struct NoRow;
+
+impl Lookups for NoRow {
+    ghost known = { λ _. rows.nothing_known };
+
+    fn sets_nothing(&self) -> bool {
+        true
+    }
+
+    fn kind_of(&self, _: u8) -> Option<Holds> {
+        None
+    }
+
+    fn facilities(&self) -> &[u16] {
+        &[]
+    }
+
+    fn units(&self) -> &[Amount] {
+        &[]
     }
 }

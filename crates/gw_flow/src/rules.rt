@@ -1,14 +1,16 @@
-//! The rules of blocks: what a transaction must own and hold to enter one.
+//! The rules of blocks: what a transaction must own, hold and have set to enter one.
 
 ghost use Rattle.std.specs.Prelude.{◌≡◌, map};
+ghost use Rattle.std.specs.List.{find};
 ghost use Rattle.gw_kinds.specs.Checks.{Finds};
 ghost use Rattle.gw_flow.specs.Blocks as model;
 ghost use Rattle.gw_flow.specs.Flow.{rule_check, rule_checks};
+ghost use Rattle.gw_flow.specs.Unfit as unfit;
 
 use crate::codes::*;
-use crate::lookups::Lookups;
-use gw_kinds::check;
-use gw_object::{Block, Entity, Fault, Kind, Parts, Place};
+use crate::lookups::{Lookups, NoRow};
+use gw_kinds::{check, values};
+use gw_object::{Block, Entity, Fault, Kind, Mode, Operand, Parts, Place};
 
 /// The capacity of the entity of this number; 0 where it is no storage, or isn't there.
 fn capacity_at(entities: &[Entity], number: u16) -> u32
@@ -25,14 +27,85 @@ fn capacity_at(entities: &[Entity], number: u16) -> u32
     }
 }
 
-/// The fault of the first rule of the block of this number that is broken in a state, if there is one.
-pub(crate) fn check_rules<S: Lookups>(
+/// The parameter that an operand reads, if it reads one.
+fn parameter_of(operand: &Operand) -> Option<u8>
+    ensures { result ≡ model.parameter_of operand.now }
+{
+    match operand {
+        Operand::Parameter(number) => Some(*number),
+        _ => None,
+    }
+}
+
+/// The lesser of two parameters, or the one that there is.
+fn lower(least: Option<u8>, number: u8) -> Option<u8>
+    ensures { result ≡ unfit.lower least number }
+{
+    match least {
+        Some(other) if other <= number => Some(other),
+        _ => Some(number),
+    }
+}
+
+/// The least so far, lowered to the parameter that an operand reads, if that one isn't sure to hold a number.
+fn lowered<S: Lookups>(least: Option<u8>, operand: &Operand, state: &S) -> Option<u8>
+    ensures { result ≡ unfit.lowered (S.known state.now) (model.parameter_of operand.now) least }
+{
+    match parameter_of(operand) {
+        Some(number) if !state.is_number(number) => lower(least, number),
+        _ => least,
+    }
+}
+
+/// The least parameter that operands read and that isn't sure to hold a number, if there is one.
+fn first_unfit<S: Lookups>(operands: &[Operand], state: &S) -> Option<u8>
+    ensures { result ≡ find (unfit.is_unfit (S.known state.now)) (model.parameters_read operands.now) }
+{
+    let mut least = None;
+    for operand in operands {
+        least = lowered(least, operand, state);
+    }
+    least
+}
+
+/// The fault of a parameter that the block of this number uses as a number, if it isn't sure to be one.
+fn check_number<S: Lookups>(number: u16, parameter: u8, state: &S) -> Result<(), Fault>
+    ensures { Finds result (map (rule_check number) (model.number_rules (S.known state.now) parameter)) }
+{
+    let place = Place::Block(number);
+    check(UNSET_PARAM, place, state.is_set(parameter))?;
+    check(PARAM_KIND, place, state.is_number(parameter))
+}
+
+/// The fault of the first parameter that the values of the block of this number read, and that isn't sure to hold a
+/// number, if there is one.
+fn check_values<S: Lookups>(number: u16, block: &Block, state: &S) -> Result<(), Fault>
+    ensures { Finds result (map (rule_check number) (model.value_rules block.now (S.known state.now))) }
+{
+    match first_unfit(values(block).as_slice(), state) {
+        Some(parameter) => check_number(number, parameter, state),
+        None => Ok(()),
+    }
+}
+
+/// Whether a value takes the place of another one.
+fn replaces(mode: Mode) -> bool
+    ensures { result ≡ model.replaces mode }
+{
+    match mode {
+        Mode::Set => true,
+        Mode::Add | Mode::Subtract => false,
+    }
+}
+
+/// The fault of the first of its own rules of the block of this number that is broken in a state, if there is one.
+fn check_own_rules<S: Lookups>(
     parts: &Parts,
     number: u16,
     block: &Block,
     state: &S,
 ) -> Result<(), Fault>
-    ensures { Finds result (rule_checks parts.now number block.now (S.known state.now)) }
+    ensures { Finds result (map (rule_check number) (model.own_rules parts.now block.now (S.known state.now))) }
 {
     let place = Place::Block(number);
     match block {
@@ -48,16 +121,38 @@ pub(crate) fn check_rules<S: Lookups>(
             let held = state.units_of(u.entity);
             check(TOO_FEW_UNITS, place, u.number as u64 <= held)
         }
+        Block::Assign(assign) => {
+            let may_change = replaces(assign.mode) || !state.is_return(assign.parameter);
+            check(PARAM_KIND, place, may_change)
+        }
+        Block::Loop(counting) => check_number(number, counting.parameter, state),
         _ => Ok(()),
     }
 }
 
-/// The fault of a block for which the state table has no row, if it is to have one: a GENERATE.
+/// The fault of the first rule of the block of this number that is broken in a state, if there is one.
+pub(crate) fn check_rules<S: Lookups>(
+    parts: &Parts,
+    number: u16,
+    block: &Block,
+    state: &S,
+) -> Result<(), Fault>
+    ensures { Finds result (rule_checks parts.now number block.now (S.known state.now)) }
+{
+    check_values(number, block, state)?;
+    check_own_rules(parts, number, block, state)
+}
+
+/// The fault of a block for which the state table has no row, if it is to have one: a GENERATE. Where its values read a
+/// parameter, that one isn't set.
 pub(crate) fn check_without_row(number: u16, block: &Block) -> Result<(), Fault>
     ensures { Finds result (map (rule_check number) (model.rules_without_row block.now)) }
 {
     match block {
-        Block::Generate(_) => check(EDGE_STATE, Place::Block(number), false),
+        Block::Generate(_) => {
+            check_values(number, block, &NoRow)?;
+            check(EDGE_STATE, Place::Block(number), false)
+        }
         _ => Ok(()),
     }
 }

@@ -6,14 +6,14 @@ ghost use Rattle.gw_object.specs.Grammar.{IsAscending, HeldFits};
 ghost use Rattle.gw_object.specs.declared.parts.Units.{Units};
 ghost use Rattle.gw_flow.specs.Entries as entries;
 ghost use Rattle.gw_flow.specs.Rows as rows;
-ghost use Rattle.gw_flow.specs.Seen.{kind_seen, params_of, seen, known};
+ghost use Rattle.gw_flow.specs.Seen.{kind_seen, kind_said, params_of, params_said as params_of_row, seen, known};
 ghost use Rattle.gw_flow.specs.Viewed.{held_kind, params_viewed};
 
 use crate::abstract_state::{AbsState, Amount, Parameter, ParameterKind, StateParts};
 use crate::fits::{has_params, has_units};
-use crate::lists::{amounts_seen, copy_of, with_amount, with_number, without_number};
+use crate::lists::{Keyed, amounts_seen, copy_of, in_place, of_key, with_amount, without_number};
 use crate::lookups::Lookups;
-use gw_object::{Items, Memory, TableState};
+use gw_object::{Items, Memory, TableKind, TableParameter, TableState};
 use std::alloc::Global;
 use std::marker::Model;
 
@@ -31,6 +31,14 @@ pub(crate) struct Param {
     pub number: u8,
     /// What it holds.
     pub holds: Holds,
+}
+
+impl Keyed for Param {
+    ghost key = { λ p. p.number };
+
+    fn key(&self) -> u16 {
+        self.number as u16
+    }
 }
 
 /// An abstract state; its lists ascend, and no amount is 0.
@@ -52,8 +60,28 @@ impl Model for State {
     ghost invariant = { λ s. IsOrdered (viewed s.params s.facilities s.units) };
 }
 
+/// A parameter of a row of the state table, as flow works with it.
+fn param_said(parameter: &TableParameter) -> Param
+    ensures number { result.number ≡ parameter.now.number }
+    ensures holds { held_kind result.holds ≡ kind_said parameter.now.kind }
+{
+    Param {
+        number: parameter.number,
+        holds: match parameter.kind {
+            TableKind::Num => Holds::Num,
+        },
+    }
+}
+
+/// The parameters of a row of the state table, as flow works with them.
+fn params_said(alloc: Global, parameters: &[TableParameter]) -> Result<Vec<Param>, Memory>
+    ensures { IfOk result (λ params. params_viewed params.items ≡ params_of_row parameters.now) }
+{
+    parameters.iter().map(|p| param_said(p)).collect(alloc)
+}
+
 /// A parameter as flow works with it.
-fn param_seen(parameter: &Parameter) -> Param
+pub(crate) fn param_seen(parameter: &Parameter) -> Param
     ensures number { result.number ≡ parameter.now.number }
     ensures holds { held_kind result.holds ≡ kind_seen parameter.now.kind }
 {
@@ -80,9 +108,10 @@ impl State {
         ensures same { IfOk result (λ state. state ≡ seen row.now) }
         ensures room { IfOk result (λ state. rows.HasRoom state) }
     {
+        let params = params_said(alloc, row.parameters.as_slice())?;
         let units = amounts_seen(alloc, row.units.as_slice())?;
         Ok(State {
-            params: Items::from_vec(Vec::new(alloc)),
+            params: Items::from_vec(params),
             facilities: copy_of(alloc, &row.facilities)?,
             units: Items::from_vec(units),
         })
@@ -101,14 +130,18 @@ impl State {
         })
     }
 
-    /// This state in the numbers of the one that was given: no block changes a parameter.
-    pub(crate) fn in_numbers_of(&self, alloc: Global, given: &AbsState) -> Result<AbsState, Memory>
-        requires { self.now.params ≡ params_of given.now.parameters }
+    /// This state in the numbers of these parameters, which say what it says of them.
+    pub(crate) fn in_numbers_of(
+        &self,
+        alloc: Global,
+        parameters: &Items<Parameter>,
+    ) -> Result<AbsState, Memory>
+        requires { self.now.params ≡ params_of parameters.now }
         ensures same { IfOk result (λ s. known s ≡ self.now) }
-        ensures own { IfOk result (λ s. s.parameters ≡ given.now.parameters) }
+        ensures own { IfOk result (λ s. s.parameters ≡ parameters.now) }
     {
         Ok(AbsState::of(StateParts {
-            parameters: copy_of(alloc, &given.parts().parameters)?,
+            parameters: copy_of(alloc, parameters)?,
             facilities: copy_of(alloc, &self.facilities)?,
             units: copy_of(alloc, &self.units)?,
         }))
@@ -125,11 +158,27 @@ impl State {
         })
     }
 
+    /// The state once a parameter is set to a number.
+    pub(crate) fn with_parameter(&self, alloc: Global, number: u8) -> Result<State, Memory>
+        ensures { IfOk result (λ state. state ≡ rows.with_parameter number self.now) }
+    {
+        let param = Param {
+            number,
+            holds: Holds::Num,
+        };
+        let params = in_place(alloc, self.params.as_slice(), param)?;
+        Ok(State {
+            params: Items::from_vec(params),
+            facilities: copy_of(alloc, &self.facilities)?,
+            units: copy_of(alloc, &self.units)?,
+        })
+    }
+
     /// The state once a facility is owned.
     pub(crate) fn with_facility(&self, alloc: Global, facility: u16) -> Result<State, Memory>
         ensures { IfOk result (λ state. state ≡ rows.with_facility facility self.now) }
     {
-        let facilities = with_number(alloc, self.facilities.as_slice(), facility)?;
+        let facilities = in_place(alloc, self.facilities.as_slice(), facility)?;
         Ok(State {
             params: copy_of(alloc, &self.params)?,
             facilities: Items::from_vec(facilities),
@@ -182,6 +231,10 @@ impl Lookups for State {
 
     fn sets_nothing(&self) -> bool {
         self.params.as_slice().is_empty()
+    }
+
+    fn kind_of(&self, parameter: u8) -> Option<Holds> {
+        of_key(self.params.as_slice(), parameter as u16).map(|param| param.holds)
     }
 
     fn facilities(&self) -> &[u16] {

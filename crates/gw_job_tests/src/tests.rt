@@ -4,8 +4,9 @@ ghost use Rattle.std.specs.Prelude.{◌<◌, length, IsTrue};
 
 use gw_entities::{Average, Contents, Facility};
 use gw_object::{
-    Block, Entity, Fraction, Generate, Items, Kind, Memory, Object, Operand, Parts, Spread,
-    TableState, Units,
+    Assign, Attribute, Block, Entity, EntityAttribute, Fraction, Generate, Items, Kind, Logic,
+    Loop, Memory, Mode, Numbered, Object, Operand, Parts, Save, Spread, SwitchAction, TableKind,
+    TableParameter, TableState, Units,
 };
 use gw_scan::{End, Sim, Spec, Status};
 use gw_verify::{Verified, verify};
@@ -13,14 +14,19 @@ use std::alloc::Global;
 use std::process::Abort;
 use std::test::Fail;
 
+mod arrivals;
 mod crowds;
+mod draws;
 mod ends;
 mod entities;
 mod orders;
+mod parameters;
 mod reports;
+mod settings;
 mod specs;
 mod times;
 mod transfers;
+mod values;
 
 /// The budget of jobs that end by something else.
 const AMPLE: u64 = 1_000_000_000;
@@ -33,6 +39,73 @@ const S: u16 = 1;
 
 /// The number of the queue that each object has.
 const L: u16 = 2;
+
+/// The number of the logic switch that each object has, which is reset at first.
+const G: u16 = 3;
+
+/// The number of the savevalue that each object has, which is 100 at first.
+const X: u16 = 4;
+
+/// The number of the other savevalue that each object has, which is 42 at first.
+const Y: u16 = 5;
+
+/// The least value.
+const LEAST: i64 = -9_223_372_036_854_775_808;
+
+/// The greatest value.
+const GREATEST: i64 = 9_223_372_036_854_775_807;
+
+// OPERANDS
+
+/// P1, the value of a parameter.
+const P1: Operand = Operand::Parameter(1);
+
+/// P2, the value of a parameter.
+const P2: Operand = Operand::Parameter(2);
+
+/// C1, the clock.
+const C1: Operand = Operand::Attribute(Attribute::Clock);
+
+/// PR, the priority.
+const PR: Operand = Operand::Attribute(Attribute::Priority);
+
+/// M1, the transit time.
+const M1: Operand = Operand::Attribute(Attribute::TransitTime);
+
+/// XN1, the transaction's number.
+const XN1: Operand = Operand::Attribute(Attribute::TransactionNumber);
+
+/// TG1, the termination count.
+const TG1: Operand = Operand::Attribute(Attribute::TerminationCount);
+
+/// RN1, a draw from the first stream.
+const RN1: Operand = Operand::Random(1);
+
+/// RN2, a draw from the second stream.
+const RN2: Operand = Operand::Random(2);
+
+/// RN16, a draw from the last stream.
+const RN16: Operand = Operand::Random(16);
+
+/// An attribute of an entity or a block.
+fn of(attribute: EntityAttribute, number: u16) -> Operand {
+    Operand::OfEntity(Numbered { attribute, number })
+}
+
+/// X$X or X$Y, the value of a savevalue.
+fn value_of(savevalue: u16) -> Operand {
+    of(EntityAttribute::SavevalueValue, savevalue)
+}
+
+/// N$b, the entries of a block.
+fn entries_of(block: u16) -> Operand {
+    of(EntityAttribute::BlockEntries, block)
+}
+
+/// W$b, how many have a block as their current one.
+fn count_of(block: u16) -> Operand {
+    of(EntityAttribute::BlockCount, block)
+}
 
 // BLOCKS
 
@@ -62,6 +135,11 @@ fn one_at(first: i64, priority: i32) -> Block {
 /// ADVANCE A.
 fn advance(time: i64) -> Block {
     Block::Advance(always(time))
+}
+
+/// ADVANCE A,B.
+fn advance_by(mean: Operand, half: Operand) -> Block {
+    Block::Advance(Spread { mean, half })
 }
 
 /// TERMINATE A.
@@ -95,6 +173,34 @@ fn depart() -> Block {
     })
 }
 
+/// ASSIGN p,A, ASSIGN p+,A or ASSIGN p-,A.
+fn assign(parameter: u8, mode: Mode, value: Operand) -> Block {
+    Block::Assign(Assign {
+        parameter,
+        mode,
+        value,
+    })
+}
+
+/// LOOP p,b.
+fn loop_to(parameter: u8, target: u16) -> Block {
+    Block::Loop(Loop { parameter, target })
+}
+
+/// LOGIC S,G, LOGIC R,G or LOGIC I,G.
+fn logic(action: SwitchAction) -> Block {
+    Block::Logic(Logic { action, switch: G })
+}
+
+/// SAVEVALUE x,A, SAVEVALUE x+,A or SAVEVALUE x-,A.
+fn save(savevalue: u16, mode: Mode, value: Operand) -> Block {
+    Block::Savevalue(Save {
+        savevalue,
+        mode,
+        value,
+    })
+}
+
 /// GENERATE 10 / ADVANCE 3 / TERMINATE 1.
 fn three_blocks() -> [Block; 3] {
     [generate(10, None, None, 0), advance(3), terminate(1)]
@@ -102,9 +208,11 @@ fn three_blocks() -> [Block; 3] {
 
 // THE STATE TABLE
 
-/// What a transaction holds on its way: the facility F or not, and units of the storage S and of the queue L.
-#[derive(Clone, Copy, Debug, PartialEq, Eq)]
+/// What is known of a transaction on its way: which parameters are set, by their numbers; whether it owns the facility F;
+/// and how many units of the storage S and of the queue L it holds.
+#[derive(Clone, Copy)]
 struct Held {
+    parameters: [bool; 256],
     facility: bool,
     storage: u32,
     queue: u32,
@@ -112,12 +220,20 @@ struct Held {
 
 /// What an arrival holds.
 const NOTHING: Held = Held {
+    parameters: [false; 256],
     facility: false,
     storage: 0,
     queue: 0,
 };
 
 impl Held {
+    /// With one more parameter set.
+    fn with_parameter(self, number: u8) -> Held {
+        let mut parameters = self.parameters;
+        parameters[number as usize] = true;
+        Held { parameters, ..self }
+    }
+
     /// What it holds after a block.
     fn after(self, block: Block) -> Held {
         match block {
@@ -145,8 +261,22 @@ impl Held {
                 queue: self.queue.saturating_sub(units.number),
                 ..self
             },
+            Block::Assign(assign) => self.with_parameter(assign.parameter),
+            Block::Mark(Some(parameter)) => self.with_parameter(parameter),
             _ => self,
         }
+    }
+
+    /// The parameters that are set, ascending.
+    fn parameters(self, alloc: Global) -> Result<Items<TableParameter>, Memory> {
+        let mut parameters = Vec::new(alloc);
+        for number in 1..=64u8 {
+            if self.parameters[number as usize] {
+                let kind = TableKind::Num;
+                parameters.push(TableParameter { number, kind })?;
+            }
+        }
+        Ok(Items::from_vec(parameters))
     }
 
     /// The row of the state table that says so.
@@ -162,13 +292,15 @@ impl Held {
             }
         }
         Ok(TableState {
+            parameters: self.parameters(alloc)?,
             facilities: Items::from_vec(facilities),
             units: Items::from_vec(units),
         })
     }
 }
 
-/// The state table of blocks each of which is entered from the block before it, but for GENERATE.
+/// The state table of blocks each of which is entered from the block before it, but for GENERATE; a block may also be entered
+/// from a later one that knows as much.
 fn straight_table(alloc: Global, blocks: &[Block]) -> Result<Items<Option<TableState>>, Memory> {
     let mut rows = Vec::new(alloc);
     let mut held = NOTHING;
@@ -192,12 +324,16 @@ fn entity(alloc: Global, name: u8, kind: Kind) -> Result<Entity, Memory> {
     })
 }
 
-/// The entities of each object: the facility F, the storage S of 3 units, and the queue L.
-fn three_entities(alloc: Global) -> Result<Items<Entity>, Memory> {
+/// The entities of each object: the facility F, the storage S of 3 units, the queue L, the logic switch G, and the savevalues
+/// X and Y.
+fn six_entities(alloc: Global) -> Result<Items<Entity>, Memory> {
     Ok(Items::from_vec(vec![in alloc;
         entity(alloc, b'F', Kind::Facility)?,
         entity(alloc, b'S', Kind::Storage(3))?,
         entity(alloc, b'L', Kind::Queue)?,
+        entity(alloc, b'G', Kind::Switch(false))?,
+        entity(alloc, b'X', Kind::Savevalue(100))?,
+        entity(alloc, b'Y', Kind::Savevalue(42))?,
     ]?))
 }
 
@@ -206,7 +342,7 @@ fn parts(alloc: Global, seeds: &[u32], count: u64, blocks: &[Block]) -> Result<P
     Ok(Parts {
         seeds: Items::from_vec(Vec::from_slice(alloc, seeds)?),
         count,
-        entities: three_entities(alloc)?,
+        entities: six_entities(alloc)?,
         blocks: Items::from_vec(Vec::from_slice(alloc, blocks)?),
         states: straight_table(alloc, blocks)?,
         weights: Items::from_vec(vec![in alloc; 1u32; blocks.len()]?),
@@ -274,6 +410,10 @@ struct Seen {
     queue: (Contents, Average),
     /// How many wait for the facility F and for the storage S.
     waiting: [usize; 2],
+    /// Whether the logic switch G is set.
+    switch: bool,
+    /// The values of the savevalues X and Y.
+    savevalues: [i64; 2],
 }
 
 impl Seen {
@@ -328,6 +468,22 @@ fn queue_of(sim: &Sim, entity: u16) -> Result<(Contents, Average), Fail> {
     Ok((sim.queues().get(entity), sim.queues().average(entity)))
 }
 
+/// Whether the logic switch G is set.
+fn switch_of(sim: &Sim) -> Result<bool, Fail> {
+    if !has_entity(sim, G) {
+        return Err("a logic switch".into());
+    }
+    Ok(sim.switches().get(G))
+}
+
+/// The value of a savevalue.
+fn savevalue_of(sim: &Sim, entity: u16) -> Result<i64, Fail> {
+    if !has_entity(sim, entity) {
+        return Err("a savevalue".into());
+    }
+    Ok(sim.savevalues().get(entity))
+}
+
 /// How many wait for an entity.
 fn waiting(sim: &Sim, entity: u16) -> Result<usize, Fail> {
     if !has_entity(sim, entity) {
@@ -367,6 +523,8 @@ fn look(sim: &Sim, status: Status) -> Result<Seen, Fail> {
         storage: storage_of(sim)?,
         queue: queue_of(sim, L)?,
         waiting: [waiting(sim, F)?, waiting(sim, S)?],
+        switch: switch_of(sim)?,
+        savevalues: [savevalue_of(sim, X)?, savevalue_of(sim, Y)?],
     })
 }
 
@@ -407,6 +565,11 @@ fn after_steps(
 /// What there is to see of the job of these blocks at its end.
 fn at_end(alloc: Global, count: u64, blocks: &[Block]) -> Result<Seen, Fail> {
     after_steps(alloc, count, AMPLE, blocks, 10_000_000)
+}
+
+/// What the savevalues X and Y are at the end of the job of these blocks.
+fn saved(alloc: Global, count: u64, blocks: &[Block]) -> Result<[i64; 2], Fail> {
+    Ok(at_end(alloc, count, blocks)?.savevalues)
 }
 
 /// How the job of these blocks stands after slices of so many steps, one after the other.

@@ -1,10 +1,12 @@
 -- What kinds are where their checks hold.
-use Rattle.std.proofs.Common.{◌≡◌, ℕ, zero, suc, ◌<◌, List, [], ◌∷◌, ◌++◌, length, Option, Some, None, Bool, true, false, not, nat_lt, refl, ap, arith}
+use Rattle.std.proofs.Common.{◌≡◌, ℕ, zero, suc, ◌<◌, List, [], ◌∷◌, ◌++◌, length, Option, Some, None, Bool, true, false, not, nat_lt, refl, sym, ap, ◌∙◌, arith}
 use Rattle.std.specs.Prelude.{◌&&◌, is_some, filter_map, IfSome, IsTrue}
 use Rattle.std.specs.List.{All, list_all, cons_option}
 use Rattle.std.specs.Option.{IsSomeAnd}
 use Rattle.std.proofs.lemmas.Bool.{ltb-true, lt-ltb}
 use Rattle.std.proofs.lemmas.List.Elements.{All-nil, All-cons, All-head, All-tail}
+use Rattle.std.proofs.lemmas.List.Folds.{list_all-append}
+use Rattle.std.proofs.lemmas.List.Sums.{AllPass-from_list_all, list_all-from_AllPass}
 use Rattle.gw_object.specs.declared.fault.Place.{Place}
 use Rattle.gw_object.specs.declared.fault.Place.TheVariants as places
 use Rattle.gw_object.specs.declared.parts.Entity.{Entity}
@@ -18,7 +20,7 @@ use Rattle.gw_kinds.specs.declared.ways.Way.TheVariants.{Falls, Goes}
 use Rattle.gw_kinds.specs.declared.ways.Exit.{Exit}
 use Rattle.gw_kinds.specs.Checks.{Check, numbered}
 use Rattle.gw_kinds.specs.Exits.{leads_to, exits}
-use Rattle.gw_kinds.specs.Kinds.{is_none_or, kind_at, serves_as, named_entities, entities_of_row, names_no_other_kind, are_there, block_at, is_generate, number_of, stays_inside, entity_checks, exit_checks, constant_checks, row_checks, block_checks, kinds_checks}
+use Rattle.gw_kinds.specs.Kinds.{is_none_or, kind_at, serves_as, values, named_entities, entities_of_row, names_no_other_kind, are_there, block_at, is_generate, number_of, block_of, named_blocks, has_named_blocks, stays_inside, entity_checks, exit_checks, constant_checks, row_checks, block_checks, kinds_checks}
 use Rattle.gw_kinds.specs.Laws.{IsEntity, MayBeEntered, BlockHolds, KindsPassAtEachPlace}
 use Rattle.gw_kinds.proofs.Each.{Hold, at_number, first_and_others, first_with_others, parts_hold, hold_together, each_holds, all_hold, each_has, from_each}
 
@@ -114,9 +116,9 @@ module _ (p : Parts) (b : ℕ) where
   way_there Falls targets named inside = (inside, named)
   way_there (Goes target) targets named inside = both_true _ _ named
 
-  from_way : (way : Way) (targets : List ℕ) → is_some (block_at p.blocks (leads_to b way)) ≡ true → are_blocks targets ≡ true → (are_blocks (cons_option (number_of way) targets) ≡ true) × (stays_inside p.blocks b way ≡ true)
-  from_way Falls targets there others = (others, there)
-  from_way (Goes target) targets there others = (with_both _ _ there others, refl)
+  from_way : (way : Way) → is_some (block_at p.blocks (leads_to b way)) ≡ true → stays_inside p.blocks b way ≡ true
+  from_way Falls there = there
+  from_way (Goes target) there = refl
 
   -- the tests of exits: the blocks that they name, that none is a GENERATE, and that none falls off
   abbrev named : List Exit → Bool
@@ -136,15 +138,24 @@ module _ (p : Parts) (b : ℕ) where
       let there = way_there e.way (filter_map (λ (exit : Exit). number_of exit.way) es) n i'.0 in
       All-cons Leads e es (enterable (block_at p.blocks (leads_to b e.way)) there.0 g'.0) (lead_on es there.1 g'.1 i'.1)
 
-  from_leads : (es : List Exit) → All Leads es → (named es ≡ true) × (no_generate es ≡ true) × (inside es ≡ true)
-  from_leads [] h = (refl, refl, refl)
+  from_leads : (es : List Exit) → All Leads es → (no_generate es ≡ true) × (inside es ≡ true)
+  from_leads [] h = (refl, refl)
   from_leads (e ∷ es) h =
       let one = from_enterable (block_at p.blocks (leads_to b e.way)) (All-head Leads e es h) in
       let others = from_leads es (All-tail Leads e es h) in
-      let way = from_way e.way (filter_map (λ (exit : Exit). number_of exit.way) es) one.0 others.0 in
-      (way.0, with_both _ _ one.1 others.1, with_both _ _ way.1 others.2)
+      (with_both _ _ one.1 others.0, with_both _ _ (from_way e.way one.0) others.1)
 
 -- THE BLOCK
+
+-- the blocks that are named: those of exits, and those of values
+abbrev is_block : Parts → ℕ → Bool
+is_block p named = is_some (block_at p.blocks named)
+
+abbrev targets : Block → List ℕ
+targets block = filter_map (λ (exit : Exit). number_of exit.way) (exits block)
+
+targets_there : (p : Parts) (block : Block) → has_named_blocks p.blocks block ≡ true → list_all (is_block p) (targets block) ≡ true
+targets_there p block h = (both_true _ _ (sym (list_all-append (is_block p) (targets block) (filter_map block_of (values block))) ∙ h)).0
 
 block_from_checks : (p : Parts) (b : ℕ) (block : Block) → Hold (block_checks p b block) → BlockHolds p b block
 block_from_checks p b block h =
@@ -154,7 +165,8 @@ block_from_checks p b block h =
     let enters = first_and_others _ _ _ named.1 in
     record {
       entities = entities_from_checks p.entities (places.Block b) (named_entities block) two.0;
-      exits = lead_on p b (exits block) named.0 enters.0 (first_and_others _ _ _ enters.1).0;
+      blocks = AllPass-from_list_all (is_block p) (named_blocks block) named.0;
+      exits = lead_on p b (exits block) (targets_there p block named.0) enters.0 (first_and_others _ _ _ enters.1).0;
       constants = (first_and_others _ _ _ three.1).0;
     }
 
@@ -164,7 +176,7 @@ checks_from_block p b block h =
     hold_together (entity_checks p.entities (places.Block b) (named_entities block)) (exit_checks p.blocks b block ++ constant_checks b block)
     (checks_from_entities p.entities (places.Block b) (named_entities block) h.entities)
     (hold_together (exit_checks p.blocks b block) (constant_checks b block)
-    (first_with_others _ _ _ e.0 (first_with_others _ _ _ e.1 (first_with_others _ _ _ e.2 refl)))
+    (first_with_others _ _ _ (list_all-from_AllPass (is_block p) (named_blocks block) h.blocks) (first_with_others _ _ _ e.0 (first_with_others _ _ _ e.1 refl)))
     (first_with_others _ _ _ h.constants refl))
 
 -- THE OBJECT

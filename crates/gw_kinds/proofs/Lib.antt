@@ -1,3 +1,4 @@
 pub mod Broken
 pub mod Each
+pub mod EachNamed
 pub mod KindsHold

@@ -9,7 +9,7 @@ wrong_kind = 10
 abbrev pub no_entity : ℕ
 no_entity = 11
 
--- a transaction would be sent to a block that isn't there
+-- a block is named that isn't there
 abbrev pub no_block : ℕ
 no_block = 12
 

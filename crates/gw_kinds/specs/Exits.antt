@@ -17,9 +17,10 @@ leads_to b (Goes target) = target
 abbrev pub at_once : Way → Exit
 at_once way = record { way = way; passes_time = false }
 
--- whether the least time that may be drawn is 1 or more, with this mean and half the range: half the range is 0 or more, and the mean is above it
+-- whether the least time that may be drawn is known to be 1 or more, with this mean and half the range: both are constants, half the range is 0 or more, and the mean is above it
 abbrev pub takes_time : Operand → Operand → Bool
 takes_time (Constant mean) (Constant half) = int_le (pos 0) half && int_lt half mean
+takes_time mean half = false
 
 -- to the block of this number; without one to the next
 abbrev pub goes_or_falls : Option ℕ → Way
@@ -32,4 +33,5 @@ exits (blocks.Terminate by) = []
 exits (blocks.Advance time) = record { way = Falls; passes_time = takes_time time.mean time.half } ∷ []
 exits (blocks.Transfer target) = at_once (Goes target) ∷ []
 exits (blocks.TransferByFraction f) = at_once (goes_or_falls f.otherwise) ∷ at_once (Goes f.target) ∷ []
+exits (blocks.Loop l) = at_once Falls ∷ at_once (Goes l.target) ∷ []
 exits block = at_once Falls ∷ []

@@ -1,19 +1,23 @@
 -- Kinds: what every number in an object names.
-use Rattle.std.specs.Prelude.{◌≡◌, ℕ, zero, suc, ◌+◌, ◌^◌, pos, List, [], ◌∷◌, ◌++◌, length, map, filter_map, Option, Some, None, is_some, Bool, true, false, not, ◌&&◌, nat_lt, nat_le, int_le, slice_get}
+use Rattle.std.specs.Prelude.{◌≡◌, ℕ, zero, suc, ◌+◌, ◌^◌, pos, List, [], ◌∷◌, ◌++◌, length, map, filter_map, Option, Some, None, is_some, Bool, true, false, if◌then◌else◌, not, ◌&&◌, nat_lt, nat_le, int_le, slice_get}
 use Rattle.std.specs.Option.{option_map}
-use Rattle.std.specs.List.{list_all}
+use Rattle.std.specs.List.{list_all, cons_option}
 use Rattle.gw_object.specs.declared.fault.Place.{Place}
 use Rattle.gw_object.specs.declared.fault.Place.TheVariants as places
 use Rattle.gw_object.specs.declared.parts.Kind.{Kind}
 use Rattle.gw_object.specs.declared.parts.Kind.TheVariants as kinds
 use Rattle.gw_object.specs.declared.parts.Entity.{Entity}
+use Rattle.gw_object.specs.declared.parts.EntityAttribute.{EntityAttribute}
+use Rattle.gw_object.specs.declared.parts.EntityAttribute.TheVariants.{FacilityOwned, StorageContent, StorageRemaining, QueueContent, SavevalueValue, SwitchSetting, BlockEntries, BlockCount}
+use Rattle.gw_object.specs.declared.parts.Operand.{Operand}
+use Rattle.gw_object.specs.declared.parts.Operand.TheVariants.{OfEntity}
 use Rattle.gw_object.specs.declared.parts.Units.{Units}
 use Rattle.gw_object.specs.declared.parts.Block.{Block}
 use Rattle.gw_object.specs.declared.parts.Block.TheVariants as blocks
 use Rattle.gw_object.specs.declared.parts.TableState.{TableState}
 use Rattle.gw_object.specs.declared.parts.Parts.{Parts}
 use Rattle.gw_kinds.specs.declared.entities.EntityKind.{EntityKind}
-use Rattle.gw_kinds.specs.declared.entities.EntityKind.TheVariants.{Facility, Storage, Queue, StorageOrQueue}
+use Rattle.gw_kinds.specs.declared.entities.EntityKind.TheVariants.{Facility, Storage, Queue, Switch, Savevalue, StorageOrQueue}
 use Rattle.gw_kinds.specs.declared.entities.Named.{Named}
 use Rattle.gw_kinds.specs.declared.ways.Way.{Way}
 use Rattle.gw_kinds.specs.declared.ways.Way.TheVariants.{Falls, Goes}
@@ -27,6 +31,17 @@ abbrev pub is_none_or : {A : Type 0} → Option A → (A → Bool) → Bool
 is_none_or None test = true
 is_none_or (Some x) test = test x
 
+-- VALUES
+
+-- the operands of a block that are evaluated, in order
+abbrev pub values : Block → List Operand
+values (blocks.Generate g) = g.interval.mean ∷ g.interval.half ∷ []
+values (blocks.Terminate by) = by ∷ []
+values (blocks.Advance time) = time.mean ∷ time.half ∷ []
+values (blocks.Assign a) = a.value ∷ []
+values (blocks.Savevalue s) = s.value ∷ []
+values block = []
+
 -- ENTITIES
 
 -- the kind of the entity of a number; entities count from 0
@@ -38,6 +53,8 @@ abbrev pub serves_as : EntityKind → Kind → Bool
 serves_as Facility kinds.Facility = true
 serves_as Storage (kinds.Storage capacity) = true
 serves_as Queue kinds.Queue = true
+serves_as Switch (kinds.Switch set) = true
+serves_as Savevalue (kinds.Savevalue value) = true
 serves_as StorageOrQueue (kinds.Storage capacity) = true
 serves_as StorageOrQueue kinds.Queue = true
 serves_as needed kind = false
@@ -46,15 +63,37 @@ serves_as needed kind = false
 abbrev pub needs : EntityKind → ℕ → Named
 needs needed e = record { needed = needed; entity = e }
 
--- the entities that a block names, in order
+-- what an attribute needs its entity to be; an attribute of a block needs none
+abbrev pub needed_for : EntityAttribute → Option EntityKind
+needed_for FacilityOwned = Some Facility
+needed_for StorageContent = Some Storage
+needed_for StorageRemaining = Some Storage
+needed_for QueueContent = Some Queue
+needed_for SavevalueValue = Some Savevalue
+needed_for SwitchSetting = Some Switch
+needed_for BlockEntries = None
+needed_for BlockCount = None
+
+-- the entity that an operand names, if it does
+abbrev pub entity_of : Operand → Option Named
+entity_of (OfEntity a) = option_map (λ needed. needs needed a.number) (needed_for a.attribute)
+entity_of operand = None
+
+-- the entity that a block itself names, if it does
+abbrev pub own_entity : Block → Option Named
+own_entity (blocks.Seize f) = Some (needs Facility f)
+own_entity (blocks.Release f) = Some (needs Facility f)
+own_entity (blocks.Enter u) = Some (needs Storage u.entity)
+own_entity (blocks.Leave u) = Some (needs Storage u.entity)
+own_entity (blocks.Queue u) = Some (needs Queue u.entity)
+own_entity (blocks.Depart u) = Some (needs Queue u.entity)
+own_entity (blocks.Logic l) = Some (needs Switch l.switch)
+own_entity (blocks.Savevalue s) = Some (needs Savevalue s.savevalue)
+own_entity block = None
+
+-- the entities that a block names, in order: its own, and then those of its values
 abbrev pub named_entities : Block → List Named
-named_entities (blocks.Seize f) = needs Facility f ∷ []
-named_entities (blocks.Release f) = needs Facility f ∷ []
-named_entities (blocks.Enter u) = needs Storage u.entity ∷ []
-named_entities (blocks.Leave u) = needs Storage u.entity ∷ []
-named_entities (blocks.Queue u) = needs Queue u.entity ∷ []
-named_entities (blocks.Depart u) = needs Queue u.entity ∷ []
-named_entities block = []
+named_entities block = cons_option (own_entity block) (filter_map entity_of (values block))
 
 -- the entities that a row of the state table names: the facilities that are owned, and then the storages and queues in which units are held
 abbrev pub entities_of_row : TableState → List Named
@@ -85,9 +124,14 @@ abbrev pub number_of : Way → Option ℕ
 number_of Falls = None
 number_of (Goes target) = Some target
 
--- the blocks that a block names by their numbers: those to which it sends transactions
+-- the block that an operand names, if it does: that of an attribute that needs no entity
+abbrev pub block_of : Operand → Option ℕ
+block_of (OfEntity a) = if is_some (needed_for a.attribute) then None else Some a.number
+block_of operand = None
+
+-- the blocks that a block names by their numbers, in order: those to which it sends transactions, and then those of its values
 abbrev pub named_blocks : Block → List ℕ
-named_blocks block = filter_map (λ (exit : Exit). number_of exit.way) (exits block)
+named_blocks block = filter_map (λ (exit : Exit). number_of exit.way) (exits block) ++ filter_map block_of (values block)
 
 -- the blocks that a block names are there
 abbrev pub has_named_blocks : List Block → Block → Bool

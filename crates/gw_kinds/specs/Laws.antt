@@ -1,14 +1,14 @@
 -- What an object keeps at each block and each row where kinds pass, said apart from the order of the checks.
 use Rattle.std.specs.Prelude.{◌≡◌, ◌↔◌, ℕ, List, Some, IfSome, IsTrue, false}
 use Rattle.std.specs.List.{All}
-use Rattle.std.specs.Option.{IsSomeAnd}
+use Rattle.std.specs.Option.{IsSome, IsSomeAnd}
 use Rattle.gw_object.specs.declared.parts.Entity.{Entity}
 use Rattle.gw_object.specs.declared.parts.Block.{Block}
 use Rattle.gw_object.specs.declared.parts.Parts.{Parts}
 use Rattle.gw_kinds.specs.declared.entities.Named.{Named}
 use Rattle.gw_kinds.specs.declared.ways.Exit.{Exit}
 use Rattle.gw_kinds.specs.Exits.{leads_to, exits}
-use Rattle.gw_kinds.specs.Kinds.{kind_at, serves_as, named_entities, entities_of_row, block_at, is_generate, has_good_constants, KindsPass}
+use Rattle.gw_kinds.specs.Kinds.{kind_at, serves_as, named_entities, entities_of_row, block_at, named_blocks, is_generate, has_good_constants, KindsPass}
 
 -- an entity that is named is there, and is what it is needed as
 abbrev pub IsEntity : List Entity → Named → Type 0
@@ -18,9 +18,10 @@ IsEntity es named = IsSomeAnd (kind_at es named.entity) (λ kind. IsTrue (serves
 abbrev pub MayBeEntered : Parts → ℕ → Type 0
 MayBeEntered p b = IsSomeAnd (block_at p.blocks b) (λ block. is_generate (Some block) ≡ false)
 
--- kinds, at the block of number b: the entities that it names, where it goes on, and its constants
+-- kinds, at the block of number b: the entities and the blocks that it names, where it goes on, and its constants
 pub record BlockHolds (p : Parts) (b : ℕ) (block : Block) : Type 0 where
   pub entities : All (IsEntity p.entities) (named_entities block)
+  pub blocks : All (λ named. IsSome (block_at p.blocks named)) (named_blocks block)
   pub exits : All (λ (exit : Exit). MayBeEntered p (leads_to b exit.way)) (exits block)
   pub constants : IsTrue (has_good_constants block)
 

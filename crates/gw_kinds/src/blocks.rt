@@ -8,7 +8,7 @@ ghost use Rattle.gw_kinds.specs.Kinds as model;
 use crate::checks::{NumberedChecks, check, check_each};
 use crate::codes::*;
 use crate::constants::has_good_constants;
-use crate::entities::{are_there, named_entities, names_no_other_kind};
+use crate::entities::{are_there, names_no_other_kind};
 use crate::rows::Rows;
 use crate::targets::{enters_no_generate, has_named_blocks, never_falls_off};
 use gw_object::{Block, Fault, Object, Parts, Place, TableState};
@@ -22,9 +22,8 @@ impl NumberedChecks<Block> for Blocks {
     fn check_one(parts: &Parts, number: u16, element: &Block) -> Result<(), Fault> {
         let place = Place::Block(number);
         let entities = parts.entities.as_slice();
-        let named = named_entities(element);
-        check(WRONG_KIND, place, names_no_other_kind(entities, &named))?;
-        check(NO_ENTITY, place, are_there(entities, &named))?;
+        check(WRONG_KIND, place, names_no_other_kind(entities, element))?;
+        check(NO_ENTITY, place, are_there(entities, element))?;
         let blocks = parts.blocks.as_slice();
         check(NO_BLOCK, place, has_named_blocks(blocks, element))?;
         check(
@@ -65,8 +64,8 @@ fn check_parts(parts: &Parts) -> Result<(), Fault>
 
 /// Accepts an object exactly where its numbers name what they must; else the first fault: of the state table's rows, then of
 /// the blocks, each in ascending order, and in one place the lowest code. 10 WrongKind and 11 NoEntity are of an entity
-/// that a row or a block names, 12 NoBlock of a block to which transactions are sent, 13 EntersGenerate and 14 FallsOff of
-/// where they go on, and 15 BadConstant of a constant (ours: docs/refusals.md). It takes no memory.
+/// that a row or a block names, 12 NoBlock of a block that a block names, 13 EntersGenerate and 14 FallsOff of where
+/// transactions go on, and 15 BadConstant of a constant (ours: docs/refusals.md). It takes no memory.
 pub fn check_kinds(object: &Object) -> Result<(), Fault>
     ensures { Finds result (model.kinds_checks object.now) }
 {

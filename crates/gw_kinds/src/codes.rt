@@ -10,7 +10,7 @@ pub const WRONG_KIND: u16 = 10;
 /// An entity is named that isn't there.
 pub const NO_ENTITY: u16 = 11;
 
-/// A transaction would be sent to a block that isn't there.
+/// A block is named that isn't there.
 pub const NO_BLOCK: u16 = 12;
 
 /// A transaction would go on to a GENERATE block.

@@ -1,14 +1,14 @@
 //! The entities that blocks and rows of the state table name.
 
-ghost use Rattle.std.specs.Prelude.{◌≡◌, nat_lt, length};
+ghost use Rattle.std.specs.Prelude.{◌≡◌, nat_lt, length, filter_map};
 ghost use Rattle.gw_kinds.specs.Kinds as model;
 ghost use Rattle.gw_kinds.specs.declared.entities.EntityKind.TheVariants as needed;
 
-use arrayvec::ArrayVec;
-use gw_object::{Block, Entity, Kind};
+use crate::evaluated::values;
+use gw_object::{Block, Entity, EntityAttribute, Kind, Operand};
 
-/// What an entity is needed as: SEIZE and RELEASE need a facility, ENTER and LEAVE a storage, QUEUE and DEPART a queue
-/// (GPSS World Reference Manual, chapter 7).
+/// What an entity is needed as: SEIZE and RELEASE need a facility, ENTER and LEAVE a storage, QUEUE and DEPART a queue,
+/// LOGIC a logic switch and SAVEVALUE a savevalue (GPSS World Reference Manual, chapter 7).
 #[derive(Clone, Copy, Debug, PartialEq, Eq)]
 pub enum EntityKind {
     /// A facility.
@@ -17,6 +17,10 @@ pub enum EntityKind {
     Storage,
     /// A queue.
     Queue,
+    /// A logic switch.
+    Switch,
+    /// A savevalue.
+    Savevalue,
     /// What units can be inside: a storage or a queue.
     StorageOrQueue,
 }
@@ -46,18 +50,44 @@ pub(crate) fn needs(needed: EntityKind, entity: u16) -> Named
     Named { needed, entity }
 }
 
-/// The entities that a block names, in order.
-pub(crate) fn named_entities(block: &Block) -> ArrayVec<Named, 1>
-    ensures { result.items ≡ model.named_entities block.now }
+/// What an attribute needs its entity to be; an attribute of a block needs none.
+pub(crate) fn needed_for(attribute: EntityAttribute) -> Option<EntityKind>
+    ensures { result ≡ model.needed_for attribute }
 {
-    let mut named = ArrayVec::new();
-    match block {
-        Block::Seize(f) | Block::Release(f) => named.push(needs(EntityKind::Facility, *f)),
-        Block::Enter(u) | Block::Leave(u) => named.push(needs(EntityKind::Storage, u.entity)),
-        Block::Queue(u) | Block::Depart(u) => named.push(needs(EntityKind::Queue, u.entity)),
-        _ => {}
+    match attribute {
+        EntityAttribute::FacilityOwned => Some(EntityKind::Facility),
+        EntityAttribute::StorageContent | EntityAttribute::StorageRemaining => {
+            Some(EntityKind::Storage)
+        }
+        EntityAttribute::QueueContent => Some(EntityKind::Queue),
+        EntityAttribute::SavevalueValue => Some(EntityKind::Savevalue),
+        EntityAttribute::SwitchSetting => Some(EntityKind::Switch),
+        EntityAttribute::BlockEntries | EntityAttribute::BlockCount => None,
     }
-    named
+}
+
+/// The entity that an operand names, if it does.
+fn entity_of(operand: &Operand) -> Option<Named>
+    ensures { result ≡ model.entity_of operand.now }
+{
+    match operand {
+        Operand::OfEntity(of) => needed_for(of.attribute).map(|needed| needs(needed, of.number)),
+        _ => None,
+    }
+}
+
+/// The entity that a block itself names, if it does.
+fn own_entity(block: &Block) -> Option<Named>
+    ensures { result ≡ model.own_entity block.now }
+{
+    match block {
+        Block::Seize(f) | Block::Release(f) => Some(needs(EntityKind::Facility, *f)),
+        Block::Enter(u) | Block::Leave(u) => Some(needs(EntityKind::Storage, u.entity)),
+        Block::Queue(u) | Block::Depart(u) => Some(needs(EntityKind::Queue, u.entity)),
+        Block::Logic(l) => Some(needs(EntityKind::Switch, l.switch)),
+        Block::Savevalue(s) => Some(needs(EntityKind::Savevalue, s.savevalue)),
+        _ => None,
+    }
 }
 
 /// Whether an entity is what it is needed as.
@@ -68,6 +98,8 @@ fn serves_as(needed: EntityKind, kind: &Kind) -> bool
         (EntityKind::Facility, Kind::Facility) => true,
         (EntityKind::Storage | EntityKind::StorageOrQueue, Kind::Storage(_)) => true,
         (EntityKind::Queue | EntityKind::StorageOrQueue, Kind::Queue) => true,
+        (EntityKind::Switch, Kind::Switch(_)) => true,
+        (EntityKind::Savevalue, Kind::Savevalue(_)) => true,
         _ => false,
     }
 }
@@ -81,11 +113,24 @@ pub(crate) fn is_no_other_kind(entities: &[Entity], named: Named) -> bool
         .is_none_or(|entity| serves_as(named.needed, &entity.kind))
 }
 
-/// Whether none of these entities is of another kind than what it is needed as.
-pub(crate) fn names_no_other_kind(entities: &[Entity], named: &[Named]) -> bool
-    ensures { result ≡ model.names_no_other_kind entities.now named.now }
+/// Whether none of the entities that operands name is of another kind than what it is needed as.
+fn read_no_other_kind(entities: &[Entity], operands: &[Operand]) -> bool
+    ensures { result ≡ model.names_no_other_kind entities.now (filter_map model.entity_of operands.now) }
 {
-    named.iter().all(|named| is_no_other_kind(entities, *named))
+    operands
+        .iter()
+        .filter_map(entity_of)
+        .all(|named| is_no_other_kind(entities, named))
+}
+
+/// Whether none of the entities that a block names is of another kind than what it is needed as.
+#[tactic(auto, using(crate::proofs::EachNamed::tests_both))]
+pub(crate) fn names_no_other_kind(entities: &[Entity], block: &Block) -> bool
+    ensures { result ≡ model.names_no_other_kind entities.now (model.named_entities block.now) }
+{
+    let own = own_entity(block);
+    own.is_none_or(|named| is_no_other_kind(entities, named))
+        && read_no_other_kind(entities, values(block).as_slice())
 }
 
 /// Whether an entity that is named is there.
@@ -95,9 +140,22 @@ pub(crate) fn is_there(entities: &[Entity], named: Named) -> bool
     (named.entity as usize) < entities.len()
 }
 
-/// Whether these entities are there.
-pub(crate) fn are_there(entities: &[Entity], named: &[Named]) -> bool
-    ensures { result ≡ model.are_there entities.now named.now }
+/// Whether the entities that operands name are there.
+fn read_are_there(entities: &[Entity], operands: &[Operand]) -> bool
+    ensures { result ≡ model.are_there entities.now (filter_map model.entity_of operands.now) }
 {
-    named.iter().all(|named| is_there(entities, *named))
+    operands
+        .iter()
+        .filter_map(entity_of)
+        .all(|named| is_there(entities, named))
+}
+
+/// Whether the entities that a block names are there.
+#[tactic(auto, using(crate::proofs::EachNamed::tests_both))]
+pub(crate) fn are_there(entities: &[Entity], block: &Block) -> bool
+    ensures { result ≡ model.are_there entities.now (model.named_entities block.now) }
+{
+    let own = own_entity(block);
+    own.is_none_or(|named| is_there(entities, named))
+        && read_are_there(entities, values(block).as_slice())
 }

@@ -4,8 +4,10 @@ ghost use Rattle.std.specs.Prelude.{◌≡◌, ◌≤◌, ◌+◌, Some, is_some
 ghost use Rattle.gw_kinds.specs.Exits.{leads_to as leads};
 ghost use Rattle.gw_kinds.specs.Kinds as model;
 
+use crate::entities::needed_for;
+use crate::evaluated::values;
 use crate::ways::{Way, exits, leads_to};
-use gw_object::Block;
+use gw_object::{Block, Operand};
 
 /// Whether there is a block of this number, from 1.
 fn is_block(blocks: &[Block], number: u16) -> bool
@@ -38,14 +40,25 @@ fn number_of(way: Way) -> Option<u16>
     }
 }
 
+/// The block that an operand names, if it does: that of an attribute that needs no entity.
+fn block_of(operand: &Operand) -> Option<u16>
+    ensures { result ≡ model.block_of operand.now }
+{
+    match operand {
+        Operand::OfEntity(of) if needed_for(of.attribute).is_none() => Some(of.number),
+        _ => None,
+    }
+}
+
 /// Whether the blocks that a block names by their numbers are there.
 pub(crate) fn has_named_blocks(blocks: &[Block], block: &Block) -> bool
     ensures { result ≡ model.has_named_blocks blocks.now block.now }
 {
-    exits(block)
-        .iter()
-        .filter_map(|exit| number_of(exit.way))
-        .all(|target| is_block(blocks, target))
+    let exits = exits(block);
+    let values = values(block);
+    let targets = exits.iter().filter_map(|exit| number_of(exit.way));
+    let read = values.as_slice().iter().filter_map(block_of);
+    targets.chain(read).all(|named| is_block(blocks, named))
 }
 
 /// Whether no exit of the block of this number leads to a GENERATE.

@@ -48,9 +48,10 @@ fn at_once(way: Way) -> Exit
 fn takes_time(time: Spread) -> bool
     ensures { result ≡ model.takes_time time.mean time.half }
 {
-    let Operand::Constant(mean) = time.mean;
-    let Operand::Constant(half) = time.half;
-    0 <= half && half < mean
+    match (time.mean, time.half) {
+        (Operand::Constant(mean), Operand::Constant(half)) => 0 <= half && half < mean,
+        _ => false,
+    }
 }
 
 /// The exits of a block, in order: where it sends transactions, and whether time passes (GPSS World Reference Manual,
@@ -69,6 +70,10 @@ pub fn exits(block: &Block) -> ArrayVec<Exit, 2>
         Block::TransferByFraction(fraction) => {
             exits.push(at_once(goes_or_falls(fraction.otherwise)));
             exits.push(at_once(Way::Goes(fraction.target)));
+        }
+        Block::Loop(looping) => {
+            exits.push(at_once(Way::Falls));
+            exits.push(at_once(Way::Goes(looping.target)));
         }
         _ => exits.push(at_once(Way::Falls)),
     }

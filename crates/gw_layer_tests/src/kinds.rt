@@ -1,5 +1,7 @@
 //! Kinds: objects of a few blocks, with numbers that name what they must, and that don't.
 
+mod named;
+
 use crate::models::*;
 use gw_kinds::{Way, check, check_kinds, codes, exits, leads_to};
 use gw_object::{Block, Fault, Generate, Memory, Operand, Place, Spread, TableState};

@@ -19,6 +19,10 @@ mod numbers;
 #[cfg(test)]
 mod objects;
 #[cfg(test)]
+mod parameters;
+#[cfg(test)]
+mod settings;
+#[cfg(test)]
 mod streams;
 #[cfg(test)]
 mod transactions;

@@ -103,6 +103,7 @@ pub(crate) fn row<'a>(facilities: &'a [u16], units: &'a [Units]) -> Row<'a> {
 pub(crate) fn state(alloc: Global, row: Row) -> Result<TableState, Memory> {
     let (facilities, units) = row;
     Ok(TableState {
+        parameters: Items::from_vec(Vec::new(alloc)),
         facilities: Items::from_vec(Vec::from_slice(alloc, facilities)?),
         units: Items::from_vec(Vec::from_slice(alloc, units)?),
     })

@@ -12,6 +12,7 @@ use std::test::Fail;
 mod blocks;
 mod entities;
 mod states;
+mod values;
 
 /// `GENERATE 10 / ADVANCE 3 / TERMINATE 1` with termination count 2.
 const THREE_BLOCKS: [u8; 97] = [
@@ -186,15 +187,15 @@ const FAULTS: [(usize, usize, &'static [u8], u16, u32); 30] = [
     (16, 1, &[0x01], LIMIT, 16),
     (17, 1, &[0xff, 0x00, 0x00, 0x10, 0x01], LIMIT, 17),
     (17, 1, &[0xff, 0x00, 0x00, 0x00, 0xfe], NOT_CANONICAL, 17),
-    (18, 1, &[0x0a], TAG, 18),
-    (19, 1, &[0x01], TAG, 19),
-    (28, 1, &[0x04], TAG, 28),
+    (18, 1, &[0x0b], TAG, 18),
+    (19, 1, &[0x05], TAG, 19),
+    (28, 1, &[0x06], TAG, 28),
     (37, 1, &[0x02], TAG, 37),
     (38, 1, &[0xff], TAG, 38),
-    (63, 1, &[0x02], TAG, 63),
+    (63, 1, &[0x05], TAG, 63),
     (72, 1, &[0x01], LIMIT, 72),
     (73, 1, &[0x02], TAG, 73),
-    (74, 1, &[0x01], LIMIT, 74),
+    (74, 1, &[0x41], LIMIT, 74),
     // A facility and no units: four bytes less for the next two states, and four are left in the end.
     (75, 1, &[0x01], TRAILING, 93),
     (84, 1, &[0xff, 0x00, 0x00, 0x00, 0x00], NOT_CANONICAL, 84),

@@ -2,7 +2,7 @@
 use Rattle.std.proofs.Common.{◌≡◌, ℕ, suc, ◌+◌, ◌<◌, Bool, true, false, IsTrue, not, List, [], ◌∷◌, ◌++◌, length, get_or, take, refl, sym, subst, ◌∙◌, append_assoc, add-one, arith}
 use Rattle.std.specs.Bool.{Decides}
 use Rattle.std.specs.List.{All, AllPairs, list_any}
-use Rattle.std.specs.Int.{w32}
+use Rattle.std.specs.Int.{w32, w64}
 use Rattle.std.proofs.Math.ListN.{get_or-append}
 use Rattle.std.proofs.Math.Seq.{take-suc, get_or-append_seam}
 use Rattle.std.proofs.lemmas.Bool.Decides.{Decides-and, Decides-eqb, nat_tests}
@@ -13,11 +13,12 @@ use Rattle.std.proofs.lemmas.Slice.Eq.{bytes_eq-Decides}
 use Rattle.gw_object.specs.Codes as codes
 use Rattle.gw_object.specs.Limits.{most_letters, greatest_capacity}
 use Rattle.gw_object.specs.declared.parts.Kind.{Kind}
-use Rattle.gw_object.specs.declared.parts.Kind.TheVariants.{Facility, Storage, Queue}
+use Rattle.gw_object.specs.declared.parts.Kind.TheVariants.{Facility, Storage, Queue, Switch, Savevalue}
 use Rattle.gw_object.specs.declared.parts.Entity.{Entity}
-use Rattle.gw_fields.specs.Fields.{Field, byte, number, tested, both, nothing, form_read, by_tag, plain, ElementsFit}
-use Rattle.gw_object.specs.Entities.{is_letter, letter, name, kind_tag, capacity, kind_fields, KindFits, IsLettered, EntityFits, IsNamed, AreNamesakes, is_named, new_name, kind_form, kind_forms, entity_spelling, entity_read, FitsBehind, entity}
-use Rattle.gw_fields.proofs.Exact.{ReadsBack, ◌also◌, IsExact, IsExactForm, AreExactForms, IsExactElement, behind_exact, by_tag_takes, by_tag_within, tag_reads_back, byte_exact, wide32, number_exact, tested_exact, both_exact, fitting_exact, ranged_exact, nothing_exact, plain_exact, listed_exact, All-from_fit, fit-from_All}
+use Rattle.gw_fields.specs.Fields.{Field, byte, flag, number, tested, both, nothing, form_read, by_tag, plain, ElementsFit}
+use Rattle.gw_object.specs.Entities.{is_letter, letter, name, kind_tag, capacity, initial_value, kind_fields, KindFits, IsLettered, EntityFits, IsNamed, AreNamesakes, is_named, new_name, kind_form, kind_forms, entity_spelling, entity_read, FitsBehind, entity}
+use Rattle.gw_fields.proofs.OneOf.{flag_exact}
+use Rattle.gw_fields.proofs.Exact.{ReadsBack, ◌also◌, IsExact, IsExactForm, AreExactForms, IsExactElement, behind_exact, by_tag_takes, by_tag_within, tag_reads_back, byte_exact, wide32, wide64, number_exact, signed_exact, tested_exact, both_exact, fitting_exact, ranged_exact, nothing_exact, plain_exact, listed_exact, All-from_fit, fit-from_All}
 
 -- ---- names
 
@@ -59,6 +60,9 @@ to_not false h = refl
 capacity_exact : IsExact capacity
 capacity_exact = ranged_exact 1 greatest_capacity (number w32) (λ n h. omega arith) (number_exact w32 wide32)
 
+initial_value_exact : IsExact initial_value
+initial_value_exact = signed_exact w64 wide64
+
 -- a kind whose byte and fields are these
 kind_form_exact : {A : Type 0} (front : List Entity) (tag : ℕ) (make : A → Kind) (fields : Field A) → ((x : A) → kind_tag (make x) ≡ tag) → ((x : A) → fields.spell x ≡ kind_fields (make x)) → ((x : A) → fields.Fits x → KindFits (make x)) → IsExact fields
     → IsExactForm entity_spelling (FitsBehind front) (kind_form front tag make fields)
@@ -77,6 +81,8 @@ kind_forms_exact front =
     kind_form_exact front 1 (λ _. Facility) nothing (λ x. refl) (λ x. refl) (λ x h. tt) nothing_exact
     also kind_form_exact front 2 (λ n. Storage n) capacity (λ x. refl) (λ x. refl) (λ x h. h) capacity_exact
     also kind_form_exact front 3 (λ _. Queue) nothing (λ x. refl) (λ x. refl) (λ x h. tt) nothing_exact
+    also kind_form_exact front 4 (λ set. Switch set) flag (λ x. refl) (λ x. refl) (λ x h. tt) flag_exact
+    also kind_form_exact front 5 (λ n. Savevalue n) initial_value (λ x. refl) (λ x. refl) (λ x h. h) initial_value_exact
     also tt
 
 -- ---- entities
@@ -99,6 +105,8 @@ unfolding entity_read
 kind_reads_back front n Facility h = form_reads_back front 1 (λ _. Facility) nothing (λ _ _. refl) nothing_exact n tt (name_is_new front _ h) tt
 kind_reads_back front n (Storage c) h = form_reads_back front 2 (λ c. Storage c) capacity (λ _ _. refl) capacity_exact n c (name_is_new front _ h) h.limits.kind
 kind_reads_back front n Queue h = form_reads_back front 3 (λ _. Queue) nothing (λ _ _. refl) nothing_exact n tt (name_is_new front _ h) tt
+kind_reads_back front n (Switch set) h = form_reads_back front 4 (λ set. Switch set) flag (λ _ _. refl) flag_exact n set (name_is_new front _ h) tt
+kind_reads_back front n (Savevalue z) h = form_reads_back front 5 (λ z. Savevalue z) initial_value (λ _ _. refl) initial_value_exact n z (name_is_new front _ h) h.limits.kind
 
 pub entity_exact : IsExactElement entity
 unfolding entity_read

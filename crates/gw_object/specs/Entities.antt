@@ -1,14 +1,14 @@
 -- Entities: their kinds and names, and how they stand in the bytes.
-use Rattle.std.specs.Prelude.{◌≡◌, ℕ, ◌≤◌, Bool, IsTrue, not, ◌==◌, ◌&&◌, ◌||◌, List, [], ◌∷◌, ◌++◌, length, bytes_eq}
+use Rattle.std.specs.Prelude.{◌≡◌, ℕ, ◌≤◌, ℤ, Bool, IsTrue, not, ◌==◌, ◌&&◌, ◌||◌, List, [], ◌∷◌, ◌++◌, length, bytes_eq}
 use Rattle.std.specs.List.{All, list_any}
 use Rattle.std.specs.Char.{is_ascii_uppercase, is_ascii_digit}
-use Rattle.std.specs.Int.{w32}
+use Rattle.std.specs.Int.{w32, w64}
 use Rattle.gw_object.specs.Codes as codes
 use Rattle.gw_object.specs.Limits.{most_letters, greatest_capacity}
 use Rattle.gw_object.specs.declared.parts.Kind.{Kind}
-use Rattle.gw_object.specs.declared.parts.Kind.TheVariants.{Facility, Storage, Queue}
+use Rattle.gw_object.specs.declared.parts.Kind.TheVariants.{Facility, Storage, Queue, Switch, Savevalue}
 use Rattle.gw_object.specs.declared.parts.Entity.{Entity}
-use Rattle.gw_fields.specs.Fields.{Read, Field, byte, number, tested, both, fitting, ranged, nothing, Form, behind, by_tag, Element, plain, listed}
+use Rattle.gw_fields.specs.Fields.{Read, Field, byte, number, signed, flag, tested, both, fitting, ranged, nothing, Form, behind, by_tag, Element, plain, listed}
 
 -- ---- names
 
@@ -31,10 +31,16 @@ abbrev pub kind_tag : Kind → ℕ
 kind_tag Facility = 1
 kind_tag (Storage n) = 2
 kind_tag Queue = 3
+kind_tag (Switch set) = 4
+kind_tag (Savevalue n) = 5
 
 -- a storage's capacity, in units
 abbrev pub capacity : Field ℕ
 capacity = ranged 1 greatest_capacity (number w32)
+
+-- a savevalue's initial value
+abbrev pub initial_value : Field ℤ
+initial_value = signed w64
 
 -- the capacity of an entity, in units; 0 where it is no storage
 abbrev pub capacity_of : Kind → ℕ
@@ -46,12 +52,16 @@ abbrev pub kind_fields : Kind → List ℕ
 kind_fields Facility = []
 kind_fields (Storage n) = capacity.spell n
 kind_fields Queue = []
+kind_fields (Switch set) = flag.spell set
+kind_fields (Savevalue n) = initial_value.spell n
 
 -- the fields of a kind are within limits
 abbrev pub KindFits : Kind → Type 0
 KindFits Facility = Unit {0}
 KindFits (Storage n) = capacity.Fits n
 KindFits Queue = Unit {0}
+KindFits (Switch set) = Unit {0}
+KindFits (Savevalue n) = initial_value.Fits n
 
 -- ---- entities
 
@@ -95,6 +105,8 @@ kind_forms front =
     kind_form front 1 (λ _. Facility) nothing
     ∷ kind_form front 2 (λ n. Storage n) capacity
     ∷ kind_form front 3 (λ _. Queue) nothing
+    ∷ kind_form front 4 (λ set. Switch set) flag
+    ∷ kind_form front 5 (λ n. Savevalue n) initial_value
     ∷ []
 
 -- an entity behind those at the front, by its kind; another byte there is a fault

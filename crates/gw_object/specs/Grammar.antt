@@ -1,35 +1,134 @@
 -- The object grammar: which parts have a spelling, and which bytes spell them.
-use Rattle.std.specs.Prelude.{◌≡◌, ◌≢◌, ◌⊎◌, ℕ, ◌-◌, ◌≤◌, ◌<◌, ◌^◌, ℤ, FitsSigned, List, [], ◌∷◌, length, slice_get, Option, Some, IfSome, nat_lt}
+use Rattle.std.specs.Prelude.{◌≡◌, ◌≢◌, ◌⊎◌, ℕ, ◌-◌, ◌≤◌, ◌<◌, ◌^◌, FitsSigned, List, [], ◌∷◌, length, slice_get, Option, Some, IfSome, nat_lt}
 use Rattle.std.specs.List.{All, AllPairs}
 use Rattle.std.specs.Int.{w16, w32, w64}
 use Rattle.gw_object.specs.Codes as codes
-use Rattle.gw_object.specs.Limits.{most_bytes, most_seeds, greatest_seed, greatest_count, most_entities, greatest_units, most_blocks, greatest_weight}
+use Rattle.gw_object.specs.Limits.{most_bytes, most_seeds, greatest_seed, greatest_count, most_entities, most_parameters, most_streams, greatest_units, most_blocks, greatest_weight}
+use Rattle.gw_object.specs.declared.parts.Attribute.{Attribute as OwnAttribute}
+use Rattle.gw_object.specs.declared.parts.Attribute.TheVariants.{Clock, AbsoluteClock, Priority, TransitTime, TransactionNumber, TerminationCount}
+use Rattle.gw_object.specs.declared.parts.EntityAttribute.{EntityAttribute}
+use Rattle.gw_object.specs.declared.parts.EntityAttribute.TheVariants.{FacilityOwned, StorageContent, StorageRemaining, QueueContent, SavevalueValue, SwitchSetting, BlockEntries, BlockCount}
+use Rattle.gw_object.specs.declared.parts.Numbered.{Numbered}
 use Rattle.gw_object.specs.declared.parts.Operand.{Operand}
-use Rattle.gw_object.specs.declared.parts.Operand.TheVariants.{Constant}
+use Rattle.gw_object.specs.declared.parts.Operand.TheVariants.{Constant, Parameter, Attribute, OfEntity, Random}
 use Rattle.gw_object.specs.declared.parts.Spread.{Spread}
 use Rattle.gw_object.specs.declared.parts.Generate.{Generate as GenerateOperands}
 use Rattle.gw_object.specs.declared.parts.Block.{Block}
 use Rattle.gw_object.specs.declared.parts.Units.{Units}
 use Rattle.gw_object.specs.declared.parts.Fraction.{Fraction}
-use Rattle.gw_object.specs.declared.parts.Block.TheVariants.{Generate, Terminate, Advance, Seize, Release, Enter, Leave, Queue, Depart, Transfer, TransferByFraction}
+use Rattle.gw_object.specs.declared.parts.Mode.{Mode}
+use Rattle.gw_object.specs.declared.parts.Mode.TheVariants.{Set, Add, Subtract}
+use Rattle.gw_object.specs.declared.parts.Assign.{Assign as AssignOperands}
+use Rattle.gw_object.specs.declared.parts.Loop.{Loop as LoopOperands}
+use Rattle.gw_object.specs.declared.parts.SwitchAction.{SwitchAction}
+use Rattle.gw_object.specs.declared.parts.SwitchAction.TheVariants.{Set as SetSwitch, Reset as ResetSwitch, Invert as InvertSwitch}
+use Rattle.gw_object.specs.declared.parts.Logic.{Logic as LogicOperands}
+use Rattle.gw_object.specs.declared.parts.Save.{Save}
+use Rattle.gw_object.specs.declared.parts.Block.TheVariants.{Generate, Terminate, Advance, Seize, Release, Enter, Leave, Queue, Depart, Assign, Transfer, TransferByFraction, Loop, Logic, Savevalue, Mark}
+use Rattle.gw_object.specs.declared.parts.TableKind.{TableKind}
+use Rattle.gw_object.specs.declared.parts.TableKind.TheVariants.{Num}
+use Rattle.gw_object.specs.declared.parts.TableParameter.{TableParameter}
 use Rattle.gw_object.specs.declared.parts.TableState.{TableState}
 use Rattle.gw_object.specs.declared.parts.Parts.{Parts}
-use Rattle.gw_fields.specs.Fields.{Read, Field, byte, number, signed, made, both, and_then, constant, fitting, ranged, optional, Form, behind, by_tag, nothing, count, Element, plain, last_tested, ascending, elements, listed}
+use Rattle.gw_fields.specs.Fields.{Read, Field, byte, number, signed, made, both, and_then, constant, fitting, ranged, optional, Form, behind, by_tag, one_of, nothing, count, Element, plain, last_tested, ascending, elements, listed}
 use Rattle.gw_object.specs.Entities.{entity, EntityFits, IsLettered, AreNamesakes}
+
+-- ---- numbers
+
+-- an entity's number
+abbrev pub entity_number : Field ℕ
+entity_number = number w16
+
+-- a block's number
+abbrev pub block_number : Field ℕ
+block_number = number w16
+
+-- a parameter's number
+abbrev pub parameter_number : Field ℕ
+parameter_number = ranged 1 most_parameters byte
+
+-- a stream's number
+abbrev pub stream_number : Field ℕ
+stream_number = ranged 1 most_streams byte
 
 -- ---- operands
 
--- the number of a constant
-abbrev pub constant_of : Operand → ℤ
-constant_of (Constant n) = n
+-- the byte that stands for an attribute of the clock, the termination count or the transaction
+abbrev pub attribute_byte : OwnAttribute → ℕ
+attribute_byte Clock = 0
+attribute_byte AbsoluteClock = 1
+attribute_byte Priority = 2
+attribute_byte TransitTime = 3
+attribute_byte TransactionNumber = 4
+attribute_byte TerminationCount = 5
 
--- the number takes at most eight bytes
+-- these attributes
+abbrev pub attributes : List OwnAttribute
+attributes = Clock ∷ AbsoluteClock ∷ Priority ∷ TransitTime ∷ TransactionNumber ∷ TerminationCount ∷ []
+
+-- one of them
+abbrev pub attribute : Field OwnAttribute
+attribute = one_of attribute_byte attributes
+
+-- the byte that stands for an attribute of an entity or a block
+abbrev pub entity_attribute_byte : EntityAttribute → ℕ
+entity_attribute_byte FacilityOwned = 0
+entity_attribute_byte StorageContent = 1
+entity_attribute_byte StorageRemaining = 2
+entity_attribute_byte QueueContent = 3
+entity_attribute_byte SavevalueValue = 4
+entity_attribute_byte SwitchSetting = 5
+entity_attribute_byte BlockEntries = 10
+entity_attribute_byte BlockCount = 11
+
+-- these attributes
+abbrev pub entity_attributes : List EntityAttribute
+entity_attributes = FacilityOwned ∷ StorageContent ∷ StorageRemaining ∷ QueueContent ∷ SavevalueValue ∷ SwitchSetting ∷ BlockEntries ∷ BlockCount ∷ []
+
+-- the number of the entity or the block fits
+abbrev pub NumberedFits : Numbered → Type 0
+NumberedFits n = n.number < 2 ^ 16
+
+-- an attribute, and the number of the entity or the block
+unfoldable pub numbered : Field Numbered
+numbered = fitting NumberedFits (made
+    (λ (of, n). record { attribute = of; number = n })
+    (λ n. (n.attribute, n.number))
+    (both (one_of entity_attribute_byte entity_attributes) (number w16)))
+
+-- the value of an operand fits
 abbrev pub OperandFits : Operand → Type 0
 OperandFits (Constant n) = FitsSigned w64 n
+OperandFits (Parameter p) = parameter_number.Fits p
+OperandFits (Attribute a) = Unit {0}
+OperandFits (OfEntity n) = NumberedFits n
+OperandFits (Random s) = stream_number.Fits s
 
--- 00 and the number
-unfoldable pub operand : Field Operand
-operand = fitting OperandFits (made (λ x. Constant x.1) (λ x. (tt, constant_of x)) (both (constant 0 codes.tag byte) (signed w64)))
+-- the tag, and the value behind it
+abbrev pub operand_spelling : Operand → List ℕ
+operand_spelling (Constant n) = 0 ∷ (signed w64).spell n
+operand_spelling (Parameter p) = 1 ∷ parameter_number.spell p
+operand_spelling (Attribute a) = 2 ∷ attribute.spell a
+operand_spelling (OfEntity n) = 3 ∷ numbered.spell n
+operand_spelling (Random s) = 4 ∷ stream_number.spell s
+
+-- the operands
+abbrev pub operand_forms : List (Form Operand)
+operand_forms =
+    behind 0 (λ n. Constant n) (signed w64)
+    ∷ behind 1 (λ p. Parameter p) parameter_number
+    ∷ behind 2 (λ a. Attribute a) attribute
+    ∷ behind 3 (λ n. OfEntity n) numbered
+    ∷ behind 4 (λ s. Random s) stream_number
+    ∷ []
+
+-- by its tag; another tag is a fault
+unfoldable pub operand_read : List ℕ → Read Operand
+operand_read = by_tag operand_forms
+
+-- an operand
+abbrev pub operand : Field Operand
+operand = record { spell = operand_spelling; read = operand_read; Fits = OperandFits }
 
 -- the mean and half the range fit
 pub record SpreadFits (s : Spread) : Type 0 where
@@ -56,10 +155,6 @@ generate = fitting GenerateFits (made
     (λ g. (g.interval, (g.first, (g.limit, g.priority))))
     (both spread (both (optional (signed w64)) (both (optional (number w32)) (signed w32)))))
 
--- an entity's number
-abbrev pub entity_number : Field ℕ
-entity_number = number w16
-
 -- the entity's number and the number of units fit
 pub record UnitsFit (u : Units) : Type 0 where
   pub entity : entity_number.Fits u.entity
@@ -68,10 +163,6 @@ pub record UnitsFit (u : Units) : Type 0 where
 -- the entity's number and the number of units
 unfoldable pub units : Field Units
 units = fitting UnitsFit (made (λ (entity, n). record { entity = entity; number = n }) (λ u. (u.entity, u.number)) (both entity_number (number w32)))
-
--- a block's number
-abbrev pub block_number : Field ℕ
-block_number = number w16
 
 -- each operand fits
 pub record FractionFits (f : Fraction) : Type 0 where
@@ -86,6 +177,71 @@ fraction = fitting FractionFits (made
     (λ f. (f.thousandths, (f.otherwise, f.target)))
     (both (number w16) (both (optional block_number) block_number)))
 
+-- the byte that stands for a mode
+abbrev pub mode_byte : Mode → ℕ
+mode_byte Set = 0
+mode_byte Add = 1
+mode_byte Subtract = 2
+
+-- the modes
+abbrev pub modes : List Mode
+modes = Set ∷ Add ∷ Subtract ∷ []
+
+-- a mode
+abbrev pub mode : Field Mode
+mode = one_of mode_byte modes
+
+-- each operand fits
+pub record AssignFits (a : AssignOperands) : Type 0 where
+  pub parameter : parameter_number.Fits a.parameter
+  pub value : OperandFits a.value
+
+-- the parameter's number, the mode and the value
+unfoldable pub assign : Field AssignOperands
+assign = fitting AssignFits (made
+    (λ (parameter, (how, value)). record { parameter = parameter; mode = how; value = value })
+    (λ a. (a.parameter, (a.mode, a.value)))
+    (both parameter_number (both mode operand)))
+
+-- each operand fits
+pub record LoopFits (l : LoopOperands) : Type 0 where
+  pub parameter : parameter_number.Fits l.parameter
+  pub target : block_number.Fits l.target
+
+-- the parameter's number and the target
+unfoldable pub countdown : Field LoopOperands
+countdown = fitting LoopFits (made (λ (parameter, target). record { parameter = parameter; target = target }) (λ l. (l.parameter, l.target)) (both parameter_number block_number))
+
+-- the byte that stands for what is done with a switch
+abbrev pub action_byte : SwitchAction → ℕ
+action_byte SetSwitch = 0
+action_byte ResetSwitch = 1
+action_byte InvertSwitch = 2
+
+-- what may be done with a switch
+abbrev pub actions : List SwitchAction
+actions = SetSwitch ∷ ResetSwitch ∷ InvertSwitch ∷ []
+
+-- the switch's number fits
+abbrev pub LogicFits : LogicOperands → Type 0
+LogicFits l = entity_number.Fits l.switch
+
+-- what is done, and the switch's number
+unfoldable pub logic : Field LogicOperands
+logic = fitting LogicFits (made (λ (action, switch). record { action = action; switch = switch }) (λ l. (l.action, l.switch)) (both (one_of action_byte actions) entity_number))
+
+-- each operand fits
+pub record SaveFits (s : Save) : Type 0 where
+  pub savevalue : entity_number.Fits s.savevalue
+  pub value : OperandFits s.value
+
+-- the savevalue's number, the mode and the value
+unfoldable pub save : Field Save
+save = fitting SaveFits (made
+    (λ (savevalue, (how, value)). record { savevalue = savevalue; mode = how; value = value })
+    (λ s. (s.savevalue, (s.mode, s.value)))
+    (both entity_number (both mode operand)))
+
 -- the operands of a block fit
 abbrev pub BlockFits : Block → Type 0
 BlockFits (Generate g) = GenerateFits g
@@ -97,8 +253,13 @@ BlockFits (Enter u) = UnitsFit u
 BlockFits (Leave u) = UnitsFit u
 BlockFits (Queue u) = UnitsFit u
 BlockFits (Depart u) = UnitsFit u
+BlockFits (Assign a) = AssignFits a
 BlockFits (Transfer target) = block_number.Fits target
 BlockFits (TransferByFraction f) = FractionFits f
+BlockFits (Loop l) = LoopFits l
+BlockFits (Logic l) = LogicFits l
+BlockFits (Savevalue s) = SaveFits s
+BlockFits (Mark parameter) = IfSome parameter parameter_number.Fits
 
 -- the tag, and the operands behind it
 abbrev pub block_spelling : Block → List ℕ
@@ -111,8 +272,13 @@ block_spelling (Enter u) = 6 ∷ units.spell u
 block_spelling (Leave u) = 7 ∷ units.spell u
 block_spelling (Queue u) = 8 ∷ units.spell u
 block_spelling (Depart u) = 9 ∷ units.spell u
+block_spelling (Assign a) = 10 ∷ assign.spell a
 block_spelling (Transfer target) = 13 ∷ block_number.spell target
 block_spelling (TransferByFraction f) = 14 ∷ fraction.spell f
+block_spelling (Loop l) = 17 ∷ countdown.spell l
+block_spelling (Logic l) = 22 ∷ logic.spell l
+block_spelling (Savevalue s) = 23 ∷ save.spell s
+block_spelling (Mark parameter) = 24 ∷ (optional parameter_number).spell parameter
 
 -- the blocks
 abbrev pub block_forms : List (Form Block)
@@ -126,8 +292,13 @@ block_forms =
     ∷ behind 7 (λ u. Leave u) units
     ∷ behind 8 (λ u. Queue u) units
     ∷ behind 9 (λ u. Depart u) units
+    ∷ behind 10 (λ a. Assign a) assign
     ∷ behind 13 (λ target. Transfer target) block_number
     ∷ behind 14 (λ f. TransferByFraction f) fraction
+    ∷ behind 17 (λ l. Loop l) countdown
+    ∷ behind 22 (λ l. Logic l) logic
+    ∷ behind 23 (λ s. Savevalue s) save
+    ∷ behind 24 (λ parameter. Mark parameter) (optional parameter_number)
     ∷ []
 
 -- by its tag; another tag is a fault
@@ -144,6 +315,26 @@ block = record { spell = block_spelling; read = block_read; Fits = BlockFits }
 abbrev pub no_elements : Field (Unit {0})
 no_elements = made (λ _. tt) (λ _. 0) (count 0 0)
 
+-- the byte that stands for what a parameter holds
+abbrev pub table_kind_byte : TableKind → ℕ
+table_kind_byte Num = 0
+
+-- what a parameter may hold
+abbrev pub table_kinds : List TableKind
+table_kinds = Num ∷ []
+
+-- what a parameter holds
+abbrev pub table_kind : Field TableKind
+table_kind = one_of table_kind_byte table_kinds
+
+-- the parameter's number fits
+abbrev pub ParameterFits : TableParameter → Type 0
+ParameterFits p = parameter_number.Fits p.number
+
+-- a parameter that is set, above the one before it
+abbrev pub parameter : Element TableParameter
+parameter = ascending nat_lt (λ (n, kind). record { number = n; kind = kind }) (λ p. (p.number, p.kind)) parameter_number table_kind
+
 -- a facility that a transaction owns, above the one before it
 abbrev pub owned : Element ℕ
 owned = ascending nat_lt (λ x. x.0) (λ facility. (facility, tt)) entity_number nothing
@@ -158,24 +349,27 @@ pub record HeldFits (u : Units) : Type 0 where
   pub least : 1 ≤ u.number
   pub most : u.number ≤ greatest_units
 
--- the facilities and units are within limits
+-- the parameters, facilities and units are within limits
 pub record StateFits (s : TableState) : Type 0 where
+  pub parameters : length s.parameters ≤ most_parameters
+  pub each_parameter : All ParameterFits s.parameters
   pub facilities : length s.facilities ≤ most_entities
   pub each_facility : All entity_number.Fits s.facilities
   pub units : length s.units ≤ most_entities
   pub each_unit : All HeldFits s.units
 
--- the facilities, and the entities of the units, ascend
+-- the numbers of the parameters, the facilities, and the entities of the units ascend
 pub record IsAscending (s : TableState) : Type 0 where
+  pub parameters : AllPairs (λ (a b : TableParameter). a.number < b.number) s.parameters
   pub facilities : AllPairs (λ a b. a < b) s.facilities
   pub units : AllPairs (λ (a b : Units). a.entity < b.entity) s.units
 
--- parameters (none yet), facilities and units
+-- parameters, facilities and units
 unfoldable pub state : Field TableState
 state = fitting (λ s. StateFits s × IsAscending s) (made
-    (λ (_, (facilities, units)). record { facilities = facilities; units = units })
-    (λ s. (tt, (s.facilities, s.units)))
-    (both no_elements (both (listed 0 most_entities owned) (listed 0 most_entities held))))
+    (λ (parameters, (facilities, units)). record { parameters = parameters; facilities = facilities; units = units })
+    (λ s. (s.parameters, (s.facilities, s.units)))
+    (both (listed 0 most_parameters parameter) (both (listed 0 most_entities owned) (listed 0 most_entities held))))
 
 -- a certified weight
 abbrev pub weight : Field ℕ

@@ -5,9 +5,13 @@ use Rattle.std.specs.Prelude.{ℕ, ◌^◌}
 abbrev pub most_bytes : ℕ
 most_bytes = 2 ^ 20
 
+-- streams of random numbers
+abbrev pub most_streams : ℕ
+most_streams = 16
+
 -- seeds: one for each stream
 abbrev pub most_seeds : ℕ
-most_seeds = 16
+most_seeds = most_streams
 
 -- a seed
 abbrev pub greatest_seed : ℕ
@@ -28,6 +32,10 @@ most_letters = 32
 -- a capacity, in units
 abbrev pub greatest_capacity : ℕ
 greatest_capacity = 2147483647
+
+-- parameters of a transaction
+abbrev pub most_parameters : ℕ
+most_parameters = 64
 
 -- units of one entity that the state table says of a transaction
 abbrev pub greatest_units : ℕ

@@ -1,74 +1,16 @@
-//! Blocks and their operands, in bytes.
+//! Blocks, in bytes and against the rules of the object format.
 
-ghost use Rattle.std.specs.Prelude.{◌≡◌};
-ghost use Rattle.gw_object.specs.Grammar.{operand, spread, generate, units, fraction, block};
+ghost use Rattle.std.specs.Prelude.{◌≡◌, ◌↔◌, IsTrue};
+ghost use Rattle.std.specs.List.{All};
+ghost use Rattle.gw_object.specs.Grammar.{generate, GenerateFits, units, fraction, block, BlockFits};
 ghost use Rattle.gw_fields.specs.Answers.{Gives};
 
 use crate::Memory;
 use crate::codes::*;
+use crate::operands::*;
 use crate::parts::*;
 use gw_fields::{ReadError, Spelled, fault};
 use std::alloc::Global;
-
-impl Spelled for Operand {
-    ghost spelling = { operand.spell };
-
-    ghost reading = { operand.read };
-
-    #[tactic(auto, unfolding(crate::specs::Grammar::operand))]
-    fn put(&self, out: &mut Vec<u8>) -> Result<(), Memory> {
-        match self {
-            Operand::Constant(number) => {
-                out.push(0)?;
-                number.put(out)?;
-            }
-        }
-        Ok(())
-    }
-
-    #[tactic(auto, unfolding(crate::specs::Grammar::operand))]
-    fn room_after(&self, room: usize) -> Option<usize> {
-        let room = room.checked_sub(1)?;
-        match self {
-            Operand::Constant(number) => number.room_after(room),
-        }
-    }
-
-    #[tactic(auto, unfolding(crate::specs::Grammar::operand))]
-    fn read(alloc: Global, bytes: &[u8]) -> Result<(Operand, &[u8]), ReadError> {
-        let (tag, rest) = u8::read(alloc, bytes)?;
-        if tag != 0 {
-            return Err(fault(TAG, bytes));
-        }
-        let (number, rest) = i64::read(alloc, rest)?;
-        Ok((Operand::Constant(number), rest))
-    }
-}
-
-impl Spelled for Spread {
-    ghost spelling = { spread.spell };
-
-    ghost reading = { spread.read };
-
-    #[tactic(auto, unfolding(crate::specs::Grammar::spread))]
-    fn put(&self, out: &mut Vec<u8>) -> Result<(), Memory> {
-        self.mean.put(out)?;
-        self.half.put(out)
-    }
-
-    #[tactic(auto, unfolding(crate::specs::Grammar::spread))]
-    fn room_after(&self, room: usize) -> Option<usize> {
-        let room = self.mean.room_after(room)?;
-        self.half.room_after(room)
-    }
-
-    #[tactic(auto, unfolding(crate::specs::Grammar::spread))]
-    fn read(alloc: Global, bytes: &[u8]) -> Result<(Spread, &[u8]), ReadError> {
-        let (mean, rest) = Operand::read(alloc, bytes)?;
-        let (half, rest) = Operand::read(alloc, rest)?;
-        Ok((Spread { mean, half }, rest))
-    }
-}
 
 impl Spelled for Generate {
     ghost spelling = { generate.spell };
@@ -208,6 +150,10 @@ impl Spelled for Block {
                 out.push(9)?;
                 units.put(out)?;
             }
+            Block::Assign(assign) => {
+                out.push(10)?;
+                assign.put(out)?;
+            }
             Block::Transfer(target) => {
                 out.push(13)?;
                 target.put(out)?;
@@ -215,6 +161,22 @@ impl Spelled for Block {
             Block::TransferByFraction(fraction) => {
                 out.push(14)?;
                 fraction.put(out)?;
+            }
+            Block::Loop(counted) => {
+                out.push(17)?;
+                counted.put(out)?;
+            }
+            Block::Logic(logic) => {
+                out.push(22)?;
+                logic.put(out)?;
+            }
+            Block::Savevalue(save) => {
+                out.push(23)?;
+                save.put(out)?;
+            }
+            Block::Mark(parameter) => {
+                out.push(24)?;
+                parameter.put(out)?;
             }
         }
         Ok(())
@@ -231,8 +193,13 @@ impl Spelled for Block {
             | Block::Leave(units)
             | Block::Queue(units)
             | Block::Depart(units) => { units.room_after(room) }
+            Block::Assign(assign) => assign.room_after(room),
             Block::Transfer(target) => target.room_after(room),
             Block::TransferByFraction(fraction) => fraction.room_after(room),
+            Block::Loop(counted) => counted.room_after(room),
+            Block::Logic(logic) => logic.room_after(room),
+            Block::Savevalue(save) => save.room_after(room),
+            Block::Mark(parameter) => parameter.room_after(room),
         }
     }
 
@@ -276,6 +243,10 @@ impl Spelled for Block {
                 let (units, rest) = Units::read(alloc, rest)?;
                 Ok((Block::Depart(units), rest))
             }
+            10 => {
+                let (assign, rest) = Assign::read(alloc, rest)?;
+                Ok((Block::Assign(assign), rest))
+            }
             13 => {
                 let (target, rest) = u16::read(alloc, rest)?;
                 Ok((Block::Transfer(target), rest))
@@ -284,7 +255,53 @@ impl Spelled for Block {
                 let (fraction, rest) = Fraction::read(alloc, rest)?;
                 Ok((Block::TransferByFraction(fraction), rest))
             }
+            17 => {
+                let (counted, rest) = Loop::read(alloc, rest)?;
+                Ok((Block::Loop(counted), rest))
+            }
+            22 => {
+                let (logic, rest) = Logic::read(alloc, rest)?;
+                Ok((Block::Logic(logic), rest))
+            }
+            23 => {
+                let (save, rest) = Save::read(alloc, rest)?;
+                Ok((Block::Savevalue(save), rest))
+            }
+            24 => {
+                let (parameter, rest) = read_parameter_if_any(alloc, rest)?;
+                Ok((Block::Mark(parameter), rest))
+            }
             _ => Err(fault(TAG, bytes)),
         }
     }
+}
+
+/// Whether the operands of a GENERATE block keep their limits.
+fn generate_fits(generate: Generate) -> bool
+    ensures { IsTrue result ↔ GenerateFits generate }
+{
+    spread_fits(generate.interval)
+}
+
+/// Whether a block's operands keep their limits; those of the blocks that aren't named here do by their types.
+fn block_fits(block: Block) -> bool
+    ensures { IsTrue result ↔ BlockFits block }
+{
+    match block {
+        Block::Generate(generate) => generate_fits(generate),
+        Block::Terminate(decrement) => operand_fits(decrement),
+        Block::Advance(time) => spread_fits(time),
+        Block::Assign(assign) => is_parameter(assign.parameter) && operand_fits(assign.value),
+        Block::Loop(counted) => is_parameter(counted.parameter),
+        Block::Savevalue(save) => operand_fits(save.value),
+        Block::Mark(parameter) => parameter.is_none_or(is_parameter),
+        _ => true,
+    }
+}
+
+/// Whether each block keeps its limits.
+pub fn blocks_fit(blocks: &[Block]) -> bool
+    ensures { IsTrue result ↔ All BlockFits blocks.now }
+{
+    blocks.iter().all(|block| block_fits(*block))
 }

@@ -12,8 +12,9 @@ use crate::items::Items;
 use crate::limits::*;
 use crate::parts::*;
 use gw_fields::{
-    Elements, Plain, ReadError, Spelled, fault, put_count, put_listed, read_count, read_listed,
-    read_ranged_u32, room_after_count, room_after_elements, room_after_listed,
+    Elements, OneByte, Plain, ReadError, Spelled, fault, put_count, put_listed, read_count,
+    read_listed, read_one_of, read_ranged_u32, room_after_count, room_after_elements,
+    room_after_listed,
 };
 use std::alloc::Global;
 
@@ -32,6 +33,8 @@ fn tag_of(kind: Kind) -> u8
         Kind::Facility => 1,
         Kind::Storage(_) => 2,
         Kind::Queue => 3,
+        Kind::Switch(_) => 4,
+        Kind::Savevalue(_) => 5,
     }
 }
 
@@ -77,6 +80,8 @@ fn put_fields(out: &mut Vec<u8>, kind: Kind) -> Result<(), Memory>
     match kind {
         Kind::Facility | Kind::Queue => Ok(()),
         Kind::Storage(capacity) => capacity.put(out),
+        Kind::Switch(set) => Ok(out.push(set.byte())?),
+        Kind::Savevalue(value) => value.put(out),
     }
 }
 
@@ -89,6 +94,8 @@ fn room_after_entity(entity: &Entity, room: usize) -> Option<usize>
     match entity.kind {
         Kind::Facility | Kind::Queue => Some(room),
         Kind::Storage(capacity) => capacity.room_after(room),
+        Kind::Switch(_) => room.checked_sub(1),
+        Kind::Savevalue(value) => value.room_after(room),
     }
 }
 
@@ -163,6 +170,18 @@ impl Elements for Entities {
                 let kind = Kind::Queue;
                 Ok((Entity { name, kind }, rest))
             }
+            4 => {
+                let (name, rest) = read_new_name(alloc, front, tag, rest)?;
+                let (set, rest) = read_one_of::<bool>(alloc, rest)?;
+                let kind = Kind::Switch(set);
+                Ok((Entity { name, kind }, rest))
+            }
+            5 => {
+                let (name, rest) = read_new_name(alloc, front, tag, rest)?;
+                let (value, rest) = i64::read(alloc, rest)?;
+                let kind = Kind::Savevalue(value);
+                Ok((Entity { name, kind }, rest))
+            }
             _ => Err(fault(TAG, bytes)),
         }
     }
@@ -191,7 +210,7 @@ fn kind_fits(kind: Kind) -> bool
     ensures { IsTrue result ↔ KindFits kind }
 {
     match kind {
-        Kind::Facility | Kind::Queue => true,
+        Kind::Facility | Kind::Queue | Kind::Switch(_) | Kind::Savevalue(_) => true,
         Kind::Storage(capacity) => 1 <= capacity && capacity <= GREATEST_CAPACITY,
     }
 }

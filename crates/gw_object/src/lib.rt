@@ -2,6 +2,7 @@
 #![tactic(auto)]
 
 mod blocks;
+mod changes;
 pub mod codes;
 mod entities;
 mod fault;
@@ -10,6 +11,7 @@ pub mod laws;
 mod limits;
 mod lists;
 mod object;
+mod operands;
 mod parts;
 mod reading;
 mod rules;
@@ -20,11 +22,13 @@ pub use fault::{Fault, Place};
 pub use items::Items;
 pub use limits::{
     GREATEST_CAPACITY, GREATEST_COUNT, GREATEST_SEED, GREATEST_UNITS, GREATEST_WEIGHT, MOST_BLOCKS,
-    MOST_BYTES, MOST_ENTITIES, MOST_LETTERS, MOST_SEEDS,
+    MOST_BYTES, MOST_ENTITIES, MOST_LETTERS, MOST_PARAMETERS, MOST_SEEDS, MOST_STREAMS,
 };
 pub use object::Object;
 pub use parts::{
-    Block, Entity, Fraction, Generate, Kind, Operand, Parts, Spread, TableState, Units,
+    Assign, Attribute, Block, Entity, EntityAttribute, Fraction, Generate, Kind, Logic, Loop, Mode,
+    Numbered, Operand, Parts, Save, Spread, SwitchAction, TableKind, TableParameter, TableState,
+    Units,
 };
 pub use reading::read;
 pub use std::alloc::AllocError as Memory;

@@ -3,8 +3,11 @@
 /// The most bytes that spell an object: 1 MiB.
 pub const MOST_BYTES: usize = 1_048_576;
 
+/// The most streams of random numbers.
+pub const MOST_STREAMS: usize = 16;
+
 /// The most seeds: one for each stream.
-pub const MOST_SEEDS: usize = 16;
+pub const MOST_SEEDS: usize = MOST_STREAMS;
 
 /// The greatest seed.
 pub const GREATEST_SEED: u32 = 2_147_483_646;
@@ -20,6 +23,9 @@ pub const MOST_LETTERS: usize = 32;
 
 /// The greatest capacity of a storage, in units.
 pub const GREATEST_CAPACITY: u32 = 2_147_483_647;
+
+/// The most parameters of a transaction.
+pub const MOST_PARAMETERS: usize = 64;
 
 /// The greatest number of units of one entity that the state table says of a transaction.
 pub const GREATEST_UNITS: u32 = 2_147_483_647;

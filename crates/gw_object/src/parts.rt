@@ -12,9 +12,13 @@ pub enum Kind {
     Storage(u32),
     /// Counts units, without a limit.
     Queue,
+    /// A logic switch, with its initial setting: whether it is set.
+    Switch(bool),
+    /// A savevalue, with its initial value.
+    Savevalue(i64),
 }
 
-/// An entity: a facility, a storage or a queue.
+/// An entity: a facility, a storage, a queue, a logic switch or a savevalue.
 #[derive(Debug, Drop, PartialEq, Eq)]
 pub struct Entity {
     /// Its name: 1 to 32 letters `A` to `Z`, digits and `_`. No two entities of a kind have one name.
@@ -23,11 +27,66 @@ pub struct Entity {
     pub kind: Kind,
 }
 
+/// A system numerical attribute of the clock, the termination count or the active transaction.
+#[derive(Clone, Copy, Debug, PartialEq, Eq)]
+pub enum Attribute {
+    /// C1: the clock, in clock units.
+    Clock,
+    /// AC1: the clock since the job's start, which here is the clock.
+    AbsoluteClock,
+    /// PR: the transaction's priority.
+    Priority,
+    /// M1: the transit time, which is the clock less the transaction's mark time.
+    TransitTime,
+    /// XN1: the transaction's number.
+    TransactionNumber,
+    /// TG1: what is left of the termination count.
+    TerminationCount,
+}
+
+/// A system numerical attribute of an entity or a block.
+#[derive(Clone, Copy, Debug, PartialEq, Eq)]
+pub enum EntityAttribute {
+    /// F: 1 where the facility is owned, else 0.
+    FacilityOwned,
+    /// S: the content of a storage, in units.
+    StorageContent,
+    /// R: what is left of a storage's capacity, in units.
+    StorageRemaining,
+    /// Q: the content of a queue, in units.
+    QueueContent,
+    /// X: the value of a savevalue.
+    SavevalueValue,
+    /// LS: 1 where the logic switch is set, else 0.
+    SwitchSetting,
+    /// N: the entries of a block so far.
+    BlockEntries,
+    /// W: how many transactions have the block as their current one.
+    BlockCount,
+}
+
+/// A system numerical attribute of one entity, by its number from 0, or of one block, by its number from 1.
+#[derive(Clone, Copy, Debug, PartialEq, Eq)]
+pub struct Numbered {
+    /// Which attribute.
+    pub attribute: EntityAttribute,
+    /// The number of the entity or the block.
+    pub number: u16,
+}
+
 /// An operand of a block.
 #[derive(Clone, Copy, Debug, PartialEq, Eq)]
 pub enum Operand {
     /// A number that stands in the object.
     Constant(i64),
+    /// The value of a parameter, by its number from 1 to 64.
+    Parameter(u8),
+    /// An attribute of the clock, the termination count or the transaction.
+    Attribute(Attribute),
+    /// An attribute of an entity or a block.
+    OfEntity(Numbered),
+    /// A number from 0 to 999, drawn from a stream, which is given by its number from 1 to 16.
+    Random(u8),
 }
 
 /// A random time in clock units: the mean, and how far it may lie to either side (half the range).
@@ -72,6 +131,68 @@ pub struct Fraction {
     pub target: u16,
 }
 
+/// How a value is put where another one is.
+#[derive(Clone, Copy, Debug, PartialEq, Eq)]
+pub enum Mode {
+    /// It takes its place.
+    Set,
+    /// It is added to it.
+    Add,
+    /// It is subtracted from it.
+    Subtract,
+}
+
+/// The operands of an ASSIGN block.
+#[derive(Clone, Copy, Debug, PartialEq, Eq)]
+pub struct Assign {
+    /// The parameter's number, from 1 to 64.
+    pub parameter: u8,
+    /// How the value is put there; a parameter that isn't set counts as 0.
+    pub mode: Mode,
+    /// The value.
+    pub value: Operand,
+}
+
+/// The operands of a LOOP block.
+#[derive(Clone, Copy, Debug, PartialEq, Eq)]
+pub struct Loop {
+    /// The number of the parameter that counts down, from 1 to 64.
+    pub parameter: u8,
+    /// The number of the block to which transactions go while it is above 0, from 1.
+    pub target: u16,
+}
+
+/// What a LOGIC block does with a logic switch.
+#[derive(Clone, Copy, Debug, PartialEq, Eq)]
+pub enum SwitchAction {
+    /// It is set.
+    Set,
+    /// It is reset.
+    Reset,
+    /// It is set where it was reset, and reset where it was set.
+    Invert,
+}
+
+/// The operands of a LOGIC block.
+#[derive(Clone, Copy, Debug, PartialEq, Eq)]
+pub struct Logic {
+    /// What happens to the switch.
+    pub action: SwitchAction,
+    /// The switch's entity's number, from 0.
+    pub switch: u16,
+}
+
+/// The operands of a SAVEVALUE block.
+#[derive(Clone, Copy, Debug, PartialEq, Eq)]
+pub struct Save {
+    /// The savevalue's entity's number, from 0.
+    pub savevalue: u16,
+    /// How the value is put there.
+    pub mode: Mode,
+    /// The value.
+    pub value: Operand,
+}
+
 /// A block.
 #[derive(Clone, Copy, Debug, PartialEq, Eq)]
 pub enum Block {
@@ -93,16 +214,45 @@ pub enum Block {
     Queue(Units),
     /// Transactions take units off the content of a queue.
     Depart(Units),
+    /// Transactions put a value into a parameter of theirs.
+    Assign(Assign),
     /// Transactions go to a block, which is given by its number from 1: TRANSFER in unconditional mode.
     Transfer(u16),
     /// A part of the transactions goes to one block, the others to another: TRANSFER in fractional mode.
     TransferByFraction(Fraction),
+    /// Transactions count a parameter of theirs down, and go to a block as long as it is above 0.
+    Loop(Loop),
+    /// Transactions set, reset or invert a logic switch.
+    Logic(Logic),
+    /// Transactions put a value into a savevalue.
+    Savevalue(Save),
+    /// Transactions put the clock into a parameter, which is given by its number from 1 to 64; without one it becomes
+    /// their mark time.
+    Mark(Option<u8>),
+}
+
+/// A parameter that a row of the state table says is set. (Ours: docs/object-format.md.)
+#[derive(Clone, Copy, Debug, PartialEq, Eq)]
+pub struct TableParameter {
+    /// The parameter's number, from 1 to 64.
+    pub number: u8,
+    /// What it holds.
+    pub kind: TableKind,
+}
+
+/// What a parameter holds by a row of the state table. (Ours: docs/object-format.md.)
+#[derive(Clone, Copy, Debug, PartialEq, Eq)]
+pub enum TableKind {
+    /// A number.
+    Num,
 }
 
 /// What the state table says of a transaction that is about to enter a block. (Ours:
 /// docs/object-format.md.)
 #[derive(Debug, Drop, PartialEq, Eq)]
 pub struct TableState {
+    /// The parameters that are sure to be set, ascending by number; at most 64.
+    pub parameters: Items<TableParameter>,
     /// The facilities that it owns, by their entities' numbers from 0, ascending; at most 1,024.
     pub facilities: Items<u16>,
     /// The units that it is sure to hold, of storages and queues, ascending by entity; at most 1,024, each from

@@ -3,8 +3,9 @@
 ghost use Rattle.std.specs.Prelude.{◌≡◌, ◌↔◌, ◌≤◌, length, IsTrue, MatchOption};
 ghost use Rattle.std.specs.List.{All};
 ghost use Rattle.gw_object.specs.Limits.{most_bytes, greatest_seed, greatest_weight};
-ghost use Rattle.gw_object.specs.Grammar.{BlockFits, HasLetters, IsWithinLimits, IsCanonical, HasSpelling, Refuses, spelling};
+ghost use Rattle.gw_object.specs.Grammar.{HasLetters, IsWithinLimits, IsCanonical, HasSpelling, Refuses, spelling};
 
+use crate::blocks::blocks_fit;
 use crate::codes::*;
 use crate::entities::{are_lettered, entities_fit, names_are_own};
 use crate::limits::*;
@@ -17,20 +18,6 @@ fn seeds_fit(seeds: &[u32]) -> bool
     ensures { IsTrue result ↔ All (λ seed. seed ≤ greatest_seed) seeds.now }
 {
     seeds.iter().all(|seed| *seed <= GREATEST_SEED)
-}
-
-/// Whether a block's operands keep their limits. Those of the blocks so far do by their types.
-fn block_fits(_block: Block) -> bool
-    ensures { IsTrue result ↔ BlockFits _block }
-{
-    true
-}
-
-/// Whether each block keeps its limits.
-fn blocks_fit(blocks: &[Block]) -> bool
-    ensures { IsTrue result ↔ All BlockFits blocks.now }
-{
-    blocks.iter().all(|block| block_fits(*block))
 }
 
 /// Whether each weight is in range.

@@ -1,9 +1,10 @@
 -- The text of a report: one line per item, words separated by one space, each ended by LF.
-use Rattle.std.specs.Prelude.{ℕ, ◌+◌, ◌/◌, ◌%◌, List, [], ◌∷◌, ◌++◌, length, codes, sum, unsigned_abs}
+use Rattle.std.specs.Prelude.{ℕ, ◌+◌, ◌/◌, ◌%◌, pos, false, List, [], ◌∷◌, ◌++◌, length, codes, sum, unsigned_abs}
 use Rattle.std.specs.Fmt.{decimal, signed_decimal}
+use Rattle.std.specs.Int.{from_bool}
 use Rattle.std.specs.Option.{unwrap_or}
 use Rattle.gw_object.specs.declared.parts.Block.{Block}
-use Rattle.gw_object.specs.declared.parts.Block.TheVariants.{Generate, Terminate, Advance, Seize, Release, Enter, Leave, Queue, Depart, Transfer, TransferByFraction}
+use Rattle.gw_object.specs.declared.parts.Block.TheVariants.{Generate, Terminate, Advance, Seize, Release, Enter, Leave, Queue, Depart, Assign, Transfer, TransferByFraction, Loop, Logic, Savevalue, Mark}
 use Rattle.gw_object.specs.declared.parts.Entity.{Entity}
 use Rattle.gw_object.specs.declared.parts.Kind.{Kind}
 use Rattle.gw_object.specs.declared.parts.Kind.TheVariants as kinds
@@ -48,8 +49,13 @@ block_word (Enter units) = codes "ENTER"
 block_word (Leave units) = codes "LEAVE"
 block_word (Queue units) = codes "QUEUE"
 block_word (Depart units) = codes "DEPART"
+block_word (Assign a) = codes "ASSIGN"
 block_word (Transfer target) = codes "TRANSFER"
 block_word (TransferByFraction fraction) = codes "TRANSFER"
+block_word (Loop l) = codes "LOOP"
+block_word (Logic l) = codes "LOGIC"
+block_word (Savevalue save) = codes "SAVEVALUE"
+block_word (Mark parameter) = codes "MARK"
 
 -- the entries of all blocks, and the termination count
 abbrev pub counts : State → List ℕ
@@ -115,11 +121,21 @@ queue_line s e name =
     let queue = at empty s.entities.queues e in
     codes "QUEUE " ++ name ++ contents_text queue ++ codes " AVG " ++ average_so_far queue.time_sum s ++ codes "\n"
 
+-- the logic switch of a number and a name: 1 where it is set, 0 where it is reset
+abbrev pub switch_line : State → ℕ → List ℕ → List ℕ
+switch_line s e name = codes "SWITCH " ++ name ++ codes " " ++ decimal (from_bool (at false s.entities.switches e)) ++ codes "\n"
+
+-- the savevalue of a number and a name: its value
+abbrev pub savevalue_line : State → ℕ → List ℕ → List ℕ
+savevalue_line s e name = codes "SAVEVALUE " ++ name ++ codes " " ++ signed_decimal (at (pos 0) s.entities.savevalues e) ++ codes "\n"
+
 -- the line of an entity of this kind, by its number and its name
 abbrev pub line_of_kind : Kind → State → ℕ → List ℕ → List ℕ
 line_of_kind kinds.Facility = facility_line
 line_of_kind (kinds.Storage capacity) = storage_line
 line_of_kind kinds.Queue = queue_line
+line_of_kind (kinds.Switch set) = switch_line
+line_of_kind (kinds.Savevalue value) = savevalue_line
 
 -- the line of an entity, by its number
 abbrev pub entity_line : State → ℕ → Entity → List ℕ

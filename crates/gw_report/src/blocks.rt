@@ -21,7 +21,12 @@ fn block_word(block: &Block) -> &'static str
         Block::Leave(_) => "LEAVE",
         Block::Queue(_) => "QUEUE",
         Block::Depart(_) => "DEPART",
+        Block::Assign(_) => "ASSIGN",
         Block::Transfer(_) | Block::TransferByFraction(_) => "TRANSFER",
+        Block::Loop(_) => "LOOP",
+        Block::Logic(_) => "LOGIC",
+        Block::Savevalue(_) => "SAVEVALUE",
+        Block::Mark(_) => "MARK",
     }
 }
 

@@ -8,6 +8,8 @@ ghost use Rattle.gw_report.specs.Report.{
   facility_line,
   storage_line,
   queue_line,
+  switch_line,
+  savevalue_line,
   entity_line,
   entity_lines,
 };
@@ -80,6 +82,26 @@ fn put_queue_line(out: &mut Vec<u8>, sim: &Sim, number: u16, name: &[u8]) -> Res
     put(out, "\n")
 }
 
+fn put_switch_line(out: &mut Vec<u8>, sim: &Sim, number: u16, name: &[u8]) -> Result<(), Memory>
+    requires { number < length sim.now.job.parts.entities }
+    ensures { OnOk result (out.new.items ≡ out.old.items ++ switch_line sim.now.state number name.now) }
+{
+    put(out, "SWITCH ")?;
+    out.extend_from_slice(name)?;
+    put_number(out, " ", u8::from(sim.switches().get(number)))?;
+    put(out, "\n")
+}
+
+fn put_savevalue_line(out: &mut Vec<u8>, sim: &Sim, number: u16, name: &[u8]) -> Result<(), Memory>
+    requires { number < length sim.now.job.parts.entities }
+    ensures { OnOk result (out.new.items ≡ out.old.items ++ savevalue_line sim.now.state number name.now) }
+{
+    put(out, "SAVEVALUE ")?;
+    out.extend_from_slice(name)?;
+    put_number(out, " ", sim.savevalues().get(number))?;
+    put(out, "\n")
+}
+
 fn put_entity_line(out: &mut Vec<u8>, sim: &Sim, number: u16, entity: &Entity) -> Result<(), Memory>
     requires { number < length sim.now.job.parts.entities }
     ensures { OnOk result (out.new.items ≡ out.old.items ++ entity_line sim.now.state number entity.now) }
@@ -89,6 +111,8 @@ fn put_entity_line(out: &mut Vec<u8>, sim: &Sim, number: u16, entity: &Entity) -
         Kind::Facility => put_facility_line(out, sim, number, name),
         Kind::Storage(_) => put_storage_line(out, sim, number, name),
         Kind::Queue => put_queue_line(out, sim, number, name),
+        Kind::Switch(_) => put_switch_line(out, sim, number, name),
+        Kind::Savevalue(_) => put_savevalue_line(out, sim, number, name),
     }
 }
 

@@ -1,22 +1,25 @@
 -- A machine in which nothing is scheduled.
-use Rattle.std.proofs.Common.{◌≡◌, ℕ, zero, suc, ◌+◌, pos, List, [], ◌∷◌, map, length, replicate, None, refl, sym, ap, ◌∙◌, subst, false}
+use Rattle.std.proofs.Common.{◌≡◌, ℕ, zero, suc, ◌+◌, pos, List, [], ◌∷◌, map, length, replicate, None, refl, sym, ap, ◌∙◌, subst, false, arith}
+use Rattle.std.specs.Prelude.{sum, Bool, ℤ}
+use Rattle.std.proofs.lemmas.Int.{ints}
 use Rattle.std.proofs.lemmas.List.{length-map, length-replicate}
 use Rattle.gw_chains.specs.declared.tx.Member.{Member}
 use Rattle.gw_object.specs.declared.parts.Entity.{Entity}
 use Rattle.gw_object.specs.declared.parts.Parts.{Parts}
-use Rattle.gw_num.proofs.Tables.{at-replicate}
+use Rattle.gw_num.proofs.Tables.{at-replicate, sum_by-replicate}
 use Rattle.gw_transactions.specs.Transactions.{IsSound}
 use Rattle.gw_entities.specs.Contents.{empty}
 use Rattle.gw_entities.specs.Facility.{idle}
 use Rattle.gw_object.specs.Entities.{capacity_of}
 use Rattle.gw_entities.specs.Storage.{vacant}
-use Rattle.gw_entities.specs.Table.{FacilityTable, StorageTable, QueueTable}
+use Rattle.gw_entities.specs.Table.{FacilityTable, StorageTable, QueueTable, switches_of, savevalues_of, initial_setting, initial_value}
 use Rattle.gw_step.proofs.Nothing.{resides-nothing}
 use Rattle.gw_scan.specs.declared.machine.Machine.{Machine}
 use Rattle.gw_step.specs.Start.{nothing}
 use Rattle.gw_step.specs.Residence.{ResidesOnce}
 use Rattle.gw_scan.specs.View.{state_of, member_number}
 use Rattle.gw_scan.specs.Coherence.{Linked}
+use Rattle.gw_scan.specs.Evaluating.{IsReadable}
 
 -- what the parts of such a machine are
 pub record Begins (p : Parts) (n : ℕ) (ss : List ℕ) (m : Machine) : Type 0 where
@@ -36,6 +39,8 @@ pub record Begins (p : Parts) (n : ℕ) (ss : List ℕ) (m : Machine) : Type 0 w
   pub facilities : m.facilities ≡ record { facilities = map (λ _. idle) p.entities; passed = 0 }
   pub storages : m.storages ≡ record { storages = map (λ (e : Entity). vacant (capacity_of e.kind)) p.entities; passed = 0 }
   pub queues : m.queues ≡ record { queues = map (λ _. empty) p.entities; passed = 0 }
+  pub switches : m.switches ≡ switches_of p.entities
+  pub savevalues : m.savevalues ≡ savevalues_of p.entities
   pub entries : m.entries.items ≡ replicate (length p.blocks + 1) 0
   pub ended : m.ended ≡ None
 
@@ -56,7 +61,7 @@ module _ (p : Parts) (count : ℕ) (streams : List ℕ) (m : Machine) (b : Begin
       let f = ap (λ (x : FacilityTable). x.facilities) b.facilities in
       let s = ap (λ (x : StorageTable). x.storages) b.storages in
       let q = ap (λ (x : QueueTable). x.queues) b.queues in
-      rw (delay_lists, f, s, q, b.clock, b.count, b.steps, b.streams, b.scheduled, b.transactions, b.active, b.current_events, b.future_events, b.retry, b.stir, b.entries, b.ended) refl
+      rw (delay_lists, f, s, q, b.switches, b.savevalues, b.clock, b.count, b.steps, b.streams, b.scheduled, b.transactions, b.active, b.current_events, b.future_events, b.retry, b.stir, b.entries, b.ended) refl
 
   pub linked-nothing : Linked m
   linked-nothing = record {
@@ -69,4 +74,15 @@ module _ (p : Parts) (count : ℕ) (streams : List ℕ) (m : Machine) (b : Begin
     sound = b.sound;
     resides = subst ResidesOnce (sym state-nothing) (resides-nothing p count streams);
     timed = record { facilities = rw (b.facilities, b.clock) refl; storages = rw (b.storages, b.clock) refl; queues = rw (b.queues, b.clock) refl };
+  }
+
+  pub readable-nothing : IsReadable m
+  readable-nothing = record {
+    storages = ap (λ (x : StorageTable). length x.storages) b.storages ∙ length-map p.entities (λ (e : Entity). vacant (capacity_of e.kind)) ∙ sym entities;
+    queues = ap (λ (x : QueueTable). length x.queues) b.queues ∙ length-map p.entities (λ _. empty) ∙ sym entities;
+    switches = ap (λ (xs : List Bool). length xs) b.switches ∙ length-map p.entities (λ (e : Entity). initial_setting e.kind) ∙ sym entities;
+    savevalues = ap (λ (xs : List ℤ). length xs) b.savevalues ∙ length-map p.entities (λ (e : Entity). initial_value e.kind) ∙ sym entities;
+    entries = omega (arith, ap sum b.entries, sum_by-replicate 0 (λ (x : ℕ). x) (length p.blocks + 1) refl);
+    clock = rw b.clock (grind (arith, ints));
+    sound = b.sound;
   }

@@ -7,18 +7,18 @@ use Rattle.gw_chains.specs.declared.tx.Tx.{Tx}
 use Rattle.gw_chains.specs.declared.tx.Member.{Member}
 use Rattle.gw_chains.specs.declared.tx.Event.{Event}
 use Rattle.gw_transactions.specs.declared.Transaction.{Transaction}
-use Rattle.gw_transactions.specs.Transactions.{LiveTransaction, put_attributes, Holds, IsSound}
+use Rattle.gw_transactions.specs.Transactions.{LiveTransaction, put_attributes, put_parameter, Holds, IsSound}
 use Rattle.gw_num.proofs.Tables.{at-put, set-put, at-get_or_any, at-map}
 use Rattle.gw_transactions.proofs.Populations.{transaction_of}
 use Rattle.gw_scan.specs.declared.machine.Machine.{Machine}
 use Rattle.gw_step.specs.State.{FutureEvent, priority_of, raised, delay_list}
 use Rattle.gw_step.specs.Residence.{ResidesOnce, occurrences}
-use Rattle.gw_step.specs.Changes.{entered, destroyed, rests_until, arrives}
+use Rattle.gw_step.specs.Changes.{entered, assigned, destroyed, rests_until, arrives}
 use Rattle.gw_scan.specs.View.{state_of, event_of, member_number}
 use Rattle.gw_scan.specs.Coherence.{Linked, IsTimed, IsHeld, CanRest, Carries, Every, Others}
 use Rattle.gw_step.proofs.Lists.{all_placed, map-placed, all_same, map-map}
-use Rattle.gw_step.proofs.Residence.{resides-entered, resides-destroyed, resides-rests, resides-arrives, alone}
-use Rattle.gw_scan.proofs.Handles.{active_carried, members_carried, events_carried, every, others, carries-set, carries-insert, carries-remove}
+use Rattle.gw_step.proofs.Residence.{resides-entered, resides-assigned, resides-destroyed, resides-rests, resides-arrives, alone}
+use Rattle.gw_scan.proofs.Handles.{active_carried, members_carried, events_carried, every, others, carries-set, carries-assign, carries-same, carries-insert, carries-remove}
 
 -- one more at a place, as the code writes it
 pub raised_is : (counts : List ℕ) (place was : ℕ) → place < length counts → was ≡ get_or counts place was → slice_set counts place (was + 1) ≡ raised place counts
@@ -72,6 +72,20 @@ pub linked-entered : (m new : Machine) (tx : Tx) (t : Transaction) (next : ℕ)
 linked-entered m new tx t next ts ps sound a cs fs k is pr l =
     linked-carried m new (carries-set m.transactions new.transactions tx.number (record t { current = t.next; next = next }) ts ps pr) sound a cs fs k
     (subst ResidesOnce (sym is) (resides-entered tx.number t next (state_of m) l.resides)) l
+
+pub linked-assigned : (m new : Machine) (tx : Tx) (k : ℕ) (value : ℤ)
+    → new.transactions.txs ≡ put_parameter tx.number k value m.transactions.txs → new.transactions.places ≡ m.transactions.places → IsSound new.transactions
+    → new.active ≡ m.active → new.current_events.items ≡ m.current_events.items → new.future_events.items ≡ m.future_events.items → Keeps m new
+    → state_of new ≡ assigned tx.number k value (state_of m) → Linked m → Linked new
+linked-assigned m new tx k value ts ps sound a cs fs keeps is l =
+    linked-carried m new (carries-assign m.transactions new.transactions tx.number k value ts ps) sound a cs fs keeps
+    (subst ResidesOnce (sym is) (resides-assigned tx.number k value (state_of m) l.resides)) l
+
+pub linked-same : (m new : Machine)
+    → new.transactions.txs ≡ m.transactions.txs → new.transactions.places ≡ m.transactions.places → IsSound new.transactions
+    → new.active ≡ m.active → new.current_events.items ≡ m.current_events.items → new.future_events.items ≡ m.future_events.items → Keeps m new
+    → state_of new ≡ state_of m → Linked m → Linked new
+linked-same m new ts ps sound a cs fs keeps is l = linked-carried m new (carries-same m.transactions new.transactions ts ps) sound a cs fs keeps (subst ResidesOnce (sym is) l.resides) l
 
 pub linked-destroyed : (m new : Machine) (tx : Tx)
     → new.transactions.txs ≡ put None m.transactions.txs tx.number None → new.transactions.places ≡ put None m.transactions.places tx.number None → IsSound new.transactions

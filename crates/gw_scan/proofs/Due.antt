@@ -85,11 +85,11 @@ pub entities-passed : (m : Machine) (dt : ℕ) (f : FacilityTable) (s : StorageT
     → f ≡ record { facilities = map (facility_after dt) m.facilities.facilities; passed = m.facilities.passed + dt }
     → s ≡ record { storages = map (storage_after dt) m.storages.storages; passed = m.storages.passed + dt }
     → q ≡ record { queues = map (contents_after dt) m.queues.queues; passed = m.queues.passed + dt }
-    → record { facilities = f.facilities; storages = s.storages; queues = q.queues } ≡ time_passes dt (entities_of m)
+    → record (entities_of m) { facilities = f.facilities; storages = s.storages; queues = q.queues } ≡ time_passes dt (entities_of m)
 entities-passed m dt f s q ff ss qq =
-    ap (λ (x : FacilityTable). record { facilities = x.facilities; storages = s.storages; queues = q.queues }) ff
-    ∙ ap (λ (x : StorageTable). record { facilities = map (facility_after dt) m.facilities.facilities; storages = x.storages; queues = q.queues }) ss
-    ∙ ap (λ (x : QueueTable). record { facilities = map (facility_after dt) m.facilities.facilities; storages = map (storage_after dt) m.storages.storages; queues = x.queues }) qq
+    ap (λ (x : FacilityTable). record (entities_of m) { facilities = x.facilities; storages = s.storages; queues = q.queues }) ff
+    ∙ ap (λ (x : StorageTable). record (entities_of m) { facilities = map (facility_after dt) m.facilities.facilities; storages = x.storages; queues = q.queues }) ss
+    ∙ ap (λ (x : QueueTable). record (entities_of m) { facilities = map (facility_after dt) m.facilities.facilities; storages = map (storage_after dt) m.storages.storages; queues = x.queues }) qq
 
 pub count-passed : (m : Machine) (dt : ℕ) (f : FacilityTable) → f ≡ record { facilities = map (facility_after dt) m.facilities.facilities; passed = m.facilities.passed + dt } → length f.facilities ≡ length m.facilities.facilities
 count-passed m dt f ff = ap (λ (x : FacilityTable). length x.facilities) ff ∙ length-map m.facilities.facilities (facility_after dt)

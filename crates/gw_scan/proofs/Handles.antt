@@ -1,5 +1,5 @@
 -- The handles of a machine through a change of its transactions.
-use Rattle.std.proofs.Common.{◌≡◌, ℕ, List, [], ◌∷◌, map, length, Option, Some, None, IfSome, sym, ap, ◌∙◌, arith, inl, inr}
+use Rattle.std.proofs.Common.{◌≡◌, ℕ, ℤ, List, [], ◌∷◌, map, length, Option, Some, None, IfSome, option_map, refl, sym, ap, ◌∙◌, arith, inl, inr}
 use Rattle.std.specs.List.{AllByRecursion}
 use Rattle.std.proofs.lemmas.Bool.{cases_eq}
 use Rattle.gw_chains.specs.declared.tx.Tx.{Tx}
@@ -7,7 +7,7 @@ use Rattle.gw_chains.specs.declared.tx.Member.{Member}
 use Rattle.gw_chains.specs.declared.tx.Event.{Event}
 use Rattle.gw_transactions.specs.declared.Transaction.{Transaction}
 use Rattle.gw_num.specs.Table.{at, put}
-use Rattle.gw_transactions.specs.Transactions.{LiveTransaction, Population, put_attributes, Holds, IsSound}
+use Rattle.gw_transactions.specs.Transactions.{LiveTransaction, Population, put_attributes, put_parameter, with_parameter, Holds, IsSound}
 use Rattle.gw_num.proofs.Tables.{at-put, at-put_other}
 use Rattle.gw_step.specs.State.{priority_in, priority_of}
 use Rattle.gw_step.specs.Residence.{occurrences}
@@ -42,6 +42,17 @@ others f n (x ∷ xs) h = (
   others f n xs (omega (arith, h)),
 )
 
+-- a parameter that is set changes no priority
+priority-parameter : (k : ℕ) (value : ℤ) (o : Option LiveTransaction) → priority_in (option_map (with_parameter k value) o) ≡ priority_in o
+priority-parameter k value None = refl
+priority-parameter k value (Some t) = refl
+
+pub priority-assigned : (n k : ℕ) (value : ℤ) (ts : List (Option LiveTransaction)) (m : ℕ) → priority_of (put_parameter n k value ts) m ≡ priority_of ts m
+priority-assigned n k value ts m = elim (cases_eq m n) [
+  | inl e ↦ ap (priority_of (put_parameter n k value ts)) e ∙ ap priority_in (at-put None ts n _) ∙ priority-parameter k value (at None ts n) ∙ sym (ap (priority_of ts) e)
+  | inr e ↦ ap priority_in (at-put_other None ts n m _ e)
+]
+
 -- WHAT EACH CALL CARRIES
 
 -- one transaction was written, with the priority that it had
@@ -52,6 +63,17 @@ carries-set p q n t ts ps pr = record {
     | inl e ↦ ap (λ xs. priority_of xs h.number) ts ∙ ap (priority_of (put_attributes n t p.txs)) e ∙ ap priority_in (at-put None p.txs n _) ∙ priority-attributes t (at None p.txs n) pr ∙ sym (ap (priority_of p.txs) e)
     | inr e ↦ ap (λ xs. priority_of xs h.number) ts ∙ ap priority_in (at-put_other None p.txs n h.number _ e)
   ];
+}
+
+-- nothing changed
+pub carries-same : (p q : Population) → q.txs ≡ p.txs → q.places ≡ p.places → Carries Every p q
+carries-same p q ts ps = record { held = λ h _ is. ap (λ xs. at None xs h.number) ps ∙ is; rank = λ h _ is. ap (λ xs. priority_of xs h.number) ts }
+
+-- a parameter of one was set
+pub carries-assign : (p q : Population) (n k : ℕ) (value : ℤ) → q.txs ≡ put_parameter n k value p.txs → q.places ≡ p.places → Carries Every p q
+carries-assign p q n k value ts ps = record {
+  held = λ h _ is. ap (λ xs. at None xs h.number) ps ∙ is;
+  rank = λ h _ is. ap (λ xs. priority_of xs h.number) ts ∙ priority-assigned n k value p.txs h.number;
 }
 
 -- one was made

@@ -1,4 +1,5 @@
 pub mod Fits
+pub mod Evaluating
 pub mod Handles
 pub mod Changes
 pub mod Due
@@ -9,6 +10,5 @@ pub mod Joining
 pub mod Beginning
 pub mod Running
 pub mod Starting
-pub mod Drawing
 pub mod Retrying
 pub mod FewReside

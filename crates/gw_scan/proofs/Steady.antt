@@ -20,7 +20,7 @@ use Rattle.gw_step.specs.Numbers.{IsWithin}
 use Rattle.gw_scan.specs.View.{state_of}
 use Rattle.gw_scan.specs.Coherence.{Linked, IsSteady, IsActive, IsPassing}
 use Rattle.gw_scan.specs.Makes.{Leaves}
-use Rattle.gw_step.proofs.Within.{raises-same, within-entered, within-more}
+use Rattle.gw_step.proofs.Within.{raises-same, within-entered, within-more, mark_from}
 use Rattle.gw_step.proofs.Follows.{within-released, within-given_back}
 use Rattle.gw_step.proofs.Attributes.{number_below}
 
@@ -38,7 +38,7 @@ pub steady-entered : (bs : List Block) (m new : Machine) (tx : Tx) (t : Transact
     → state_of new ≡ enters_and_falls tx.number t (state_of m) → new.facilities ≡ m.facilities → Linked new → IsSteady bs (m.steps + 1) new
 steady-entered bs m new tx t s few block live is fac linked =
     let es = length m.facilities.facilities in
-    let w = within-entered (length bs) es m.steps m.steps (state_of m) s.within tx.number t (t.next + 1) (state_of m).entities block (number_below m.transactions.txs tx.number t live) (raises-same (state_of m).entities) in
+    let w = within-entered (length bs) es m.steps m.steps (state_of m) s.within tx.number t (t.next + 1) (state_of m).entities block (number_below m.transactions.txs tx.number t live) (mark_from m.transactions.txs tx.number t s.within.marked live) (raises-same (state_of m).entities) in
     let e : suc m.steps ≡ m.steps + 1 = omega arith in
     let v = within-more (length bs) es (suc m.steps) m.steps (enters_and_falls tx.number t (state_of m)) w (m.steps + 1) (m.steps + 1) (omega arith) (omega arith) in
     steady-now bs m.steps (m.steps + 1) m new s (omega arith) (ap (λ (f : FacilityTable). length f.facilities) fac) linked

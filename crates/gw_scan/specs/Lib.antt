@@ -5,6 +5,6 @@ pub mod Answers
 pub mod View
 pub mod Coherence
 pub mod Makes
-pub mod Drawing
+pub mod Evaluating
 pub mod JobView
 pub mod SimView

@@ -2,15 +2,18 @@
 use Rattle.std.specs.Prelude.{[], ◌≡◌, ℕ, ◌+◌, ◌≤◌, remove, List, Option, Some, None, Result, Ok, Err, Bool, true, false}
 use Rattle.gw_object.specs.declared.parts.Block.{Block}
 use Rattle.gw_entities.specs.declared.stop.Stop.{Stop}
-use Rattle.gw_step.specs.declared.ends.End.{End}
 use Rattle.gw_num.specs.Table.{at}
+use Rattle.gw_scan.specs.declared.halt.Halt.{Halt}
 use Rattle.gw_scan.specs.declared.machine.Machine.{Machine}
 use Rattle.gw_scan.specs.declared.machine.Made.{Made}
 use Rattle.gw_scan.specs.declared.machine.Made.TheVariants.{Step, Ends, Stops}
 use Rattle.gw_step.specs.Outcome.{Outcome, Gives, EndsBy, StopsBy, stop_in}
+use Rattle.gw_step.specs.declared.placement.Placement.{Placement}
 use Rattle.gw_step.specs.State.{State}
+use Rattle.gw_step.specs.Blocks.{then_placed}
 use Rattle.gw_step.specs.Step.{step, scan}
 use Rattle.gw_scan.specs.View.{state_of}
+use Rattle.gw_scan.specs.Evaluating.{halted}
 
 -- the outcome is the new state; or it is an end or an error stop, and nothing changed
 abbrev pub Makes : Made → Outcome State → State → State → Type 0
@@ -18,15 +21,23 @@ Makes Step outcome old new = outcome ≡ Gives new
 Makes (Ends end) outcome old new = (outcome ≡ EndsBy end) × (new ≡ old)
 Makes (Stops stop) outcome old new = (outcome ≡ StopsBy stop) × (new ≡ old)
 
+-- the same for a call on a machine: the outcome is said of the state that it was in
+abbrev pub MakesFrom : Made → (State → Outcome State) → Machine → Machine → Type 0
+MakesFrom made outcome old new = Makes made (outcome (state_of old)) (state_of old) (state_of new)
+
+-- and for a block of this effect on the active transaction n, which enters it and is placed
+abbrev pub Enters : Made → ℕ → (State → Outcome (State × Placement)) → Machine → Machine → Type 0
+Enters made n effect old new = MakesFrom made (λ s. then_placed n (effect s)) old new
+
 -- a step of a running state was made; or there is none, for the error stop that is answered, and nothing changed
 abbrev pub MakesStep : Option Stop → List Block → ℕ → State → State → Type 0
 MakesStep None bs budget old new = step bs budget old ≡ Some new
 MakesStep (Some stop) bs budget old new = (step bs budget old ≡ None) × (stop_in (scan bs old.lists.active old) ≡ Some stop) × (new ≡ old)
 
--- the first arrivals are scheduled; or the named end that they come to is answered, and nothing is said of the new state
-abbrev pub Schedules : Option End → Outcome State → State → Type 0
+-- the first arrivals are scheduled; or the halt that they come to is answered, and nothing is said of the new state
+abbrev pub Schedules : Option Halt → Outcome State → State → Type 0
 Schedules None outcome new = outcome ≡ Gives new
-Schedules (Some end) outcome new = outcome ≡ EndsBy end
+Schedules (Some halt) outcome new = outcome ≡ halted halt
 
 -- ENTITIES
 

@@ -9,18 +9,18 @@ ghost use Rattle.gw_step.specs.Changes as change;
 ghost use Rattle.gw_step.specs.Blocks as model;
 ghost use Rattle.gw_step.specs.Placing.{placed};
 ghost use Rattle.gw_scan.specs.View.{state_of};
-ghost use Rattle.gw_step.specs.Operands.{OperandsFit, UnitsFit};
+ghost use Rattle.gw_step.specs.Operands.{OperandsFit, GenerateFits, SpreadFits, UnitsFit, ValueFits};
 ghost use Rattle.gw_entities.specs.Facility.{is_idle as is_idle_now};
 ghost use Rattle.gw_scan.specs.Coherence.{Linked, CanBePlaced, IsActive, IsPassing};
-ghost use Rattle.gw_scan.specs.Makes.{Makes};
+ghost use Rattle.gw_scan.specs.Makes.{MakesFrom, Enters};
 
 use crate::machine::{Machine, Made};
-use crate::times::{drawn_moment, drawn_thousandths, drawn_time, end_by, moment_after, value_of};
 use crate::transfers::block_of;
+use crate::values::{active_subject, drawn_thousandths};
 use gw_chains::{Memory, Tx};
 use gw_entities::Stop;
 use gw_num::Stream;
-use gw_object::{Block, Fraction, Generate, Spread, Units};
+use gw_object::{Block, Fraction, Generate, Operand, Spread, Units};
 use gw_step::{End, Placement};
 use gw_transactions::Transaction;
 
@@ -82,21 +82,7 @@ impl Machine {
         self.transactions.live() >= MOST_LIVE
     }
 
-    /// The transaction enters the model by its GENERATE block: its mark time is the clock.
-    fn enter_model(&mut self, tx: Tx, transaction: Transaction)
-        requires held { Holds self.old.transactions tx }
-        requires rank { state.priority_of self.old.transactions.txs tx.number ≡ transaction.priority }
-        requires block { (transaction.next < vec_len self.old.entries) × (transaction.next ≤ 4096) }
-        requires few { sum self.old.entries.items < 2 ^ 60 }
-        ensures state { state_of self.new ≡ change.enters_and_falls tx.number (record transaction { mark = self.old.clock }) (state_of self.old) }
-        ensures linked { Linked self.old → Linked self.new }
-    {
-        let mut marked = transaction;
-        marked.mark = self.clock;
-        self.enter(tx, marked, transaction.next + 1);
-    }
-
-    /// GENERATE, with the next arrival at a moment, after which the first stream is here.
+    /// GENERATE, with the next arrival at a moment, after whose draw the streams are here.
     fn generate_and_arrive(
         &mut self,
         blocks: &[Block],
@@ -104,31 +90,20 @@ impl Machine {
         transaction: Transaction,
         priority: i32,
         moment: i64,
-        stream: Stream,
+        streams: &[Stream; 16],
     ) -> Result<(), Memory>
         requires { IsActive blocks.now self.old tx transaction }
-        ensures ok { OnOk result (state_of self.new ≡ change.enters_and_falls tx.number (record transaction { mark = self.old.clock }) (change.arrives transaction.next priority moment (state.with_first_stream stream (state_of self.old)))) }
+        ensures ok { OnOk result (state_of self.new ≡
+            change.enters_and_falls tx.number (record transaction { mark = self.old.clock })
+            (change.arrives transaction.next priority moment (state.with_streams streams.now (state_of self.old)))) }
         ensures err { OnErr result (state_of self.new ≡ state_of self.old) }
         ensures linked { Linked self.new }
     {
         self.reserve_arrival()?;
-        self.set_stream(stream);
+        self.set_streams(streams);
         self.arrive(transaction.next, priority, moment);
-        self.enter_model(tx, transaction);
+        self.enter_marked(tx, transaction);
         Ok(())
-    }
-
-    /// GENERATE where no arrival is owed: the transaction enters the model.
-    fn generate_last(&mut self, blocks: &[Block], tx: Tx, transaction: Transaction) -> Made
-        requires { IsActive blocks.now self.old tx transaction }
-        ensures made { Makes result (model.then_placed tx.number (model.leads blocks.now (transaction.next + 1) (model.stays (change.enters_and_falls tx.number (record transaction { mark = self.old.clock }) (state_of self.old))))) (state_of self.old) (state_of self.new) }
-        ensures linked { Linked self.new }
-    {
-        if !may_enter(blocks, transaction.next + 1) {
-            return Made::Stops(Stop::NoBlock);
-        }
-        self.enter_model(tx, transaction);
-        Made::Step
     }
 
     /// GENERATE: the transaction enters the model, and the next arrival is scheduled, if one is owed.
@@ -139,17 +114,20 @@ impl Machine {
         transaction: Transaction,
         g: Generate,
     ) -> Result<Made, Memory>
-        requires { IsActive blocks.now self.old tx transaction }
-        ensures made { IfOk result (λ made. Makes made (model.then_placed tx.number (model.generate blocks.now tx.number transaction g (state_of self.old))) (state_of self.old) (state_of self.new)) }
+        requires active { IsActive blocks.now self.old tx transaction }
+        requires operands { GenerateFits (length self.old.facilities.facilities) g }
+        ensures made { IfOk result (λ made. Enters made tx.number (model.generate blocks.now tx.number transaction g) self.old self.new) }
         ensures err { OnErr result (state_of self.new ≡ state_of self.old) }
         ensures linked { Linked self.new }
     {
         if !self.owes(transaction.next, g.limit) {
-            return Ok(self.generate_last(blocks, tx, transaction));
+            return Ok(self.mark(blocks, tx, transaction));
         }
-        let (moment, stream) = match drawn_moment(g.interval, self.clock, &self.streams) {
-            Ok(drawn) => drawn,
-            Err(end) => return Ok(Made::Ends(end)),
+        let mut streams = self.streams;
+        let next = self.next_subject(g.priority);
+        let moment = match self.drawn_moment(next, g.interval, &mut streams) {
+            Ok(moment) => moment,
+            Err(halt) => return Ok(halt.made()),
         };
         if self.is_full() {
             return Ok(Made::Ends(End::Live));
@@ -157,7 +135,7 @@ impl Machine {
         if !may_enter(blocks, transaction.next + 1) {
             return Ok(Made::Stops(Stop::NoBlock));
         }
-        self.generate_and_arrive(blocks, tx, transaction, g.priority, moment, stream)?;
+        self.generate_and_arrive(blocks, tx, transaction, g.priority, moment, &streams)?;
         Ok(Made::Step)
     }
 
@@ -167,17 +145,19 @@ impl Machine {
         blocks: &[Block],
         tx: Tx,
         transaction: Transaction,
-        stream: Stream,
+        streams: &[Stream; 16],
         placement: Placement,
     ) -> Result<(), Memory>
         requires active { IsActive blocks.now self.old tx transaction }
         requires there { CanBePlaced placement self.old }
-        ensures ok { OnOk result (state_of self.new ≡ placed tx.number placement (change.enters_and_falls tx.number transaction (state.with_first_stream stream (state_of self.old)))) }
+        ensures ok { OnOk result (state_of self.new ≡
+            placed tx.number placement (change.enters_and_falls tx.number transaction
+            (state.with_streams streams.now (state_of self.old)))) }
         ensures err { OnErr result (state_of self.new ≡ state_of self.old) }
         ensures linked { Linked self.new }
     {
         self.reserve_rest()?;
-        self.set_stream(stream);
+        self.set_streams(streams);
         self.enter(tx, transaction, transaction.next + 1);
         self.place(tx, transaction.priority, placement);
         Ok(())
@@ -192,23 +172,23 @@ impl Machine {
         transaction: Transaction,
         time: Spread,
     ) -> Result<Made, Memory>
-        requires { IsActive blocks.now self.old tx transaction }
-        ensures made { IfOk result (λ made. Makes made (model.act blocks.now tx.number transaction (Block.Advance time) (state_of self.old)) (state_of self.old) (state_of self.new)) }
+        requires active { IsActive blocks.now self.old tx transaction }
+        requires operands { SpreadFits (length self.old.facilities.facilities) time }
+        ensures made { IfOk result (λ made. MakesFrom made
+            (model.act blocks.now tx.number transaction (Block.Advance time)) self.old self.new) }
         ensures err { OnErr result (state_of self.new ≡ state_of self.old) }
         ensures linked { Linked self.new }
     {
-        let (time, stream) = match drawn_time(time, &self.streams) {
-            Ok(drawn) => drawn,
-            Err(fault) => return Ok(Made::Ends(end_by(fault))),
-        };
-        let moment = match moment_after(self.clock, time) {
+        let mut streams = self.streams;
+        let subject = active_subject(tx, transaction);
+        let moment = match self.drawn_moment(subject, time, &mut streams) {
             Ok(moment) => moment,
-            Err(end) => return Ok(Made::Ends(end)),
+            Err(halt) => return Ok(halt.made()),
         };
         if !may_enter(blocks, transaction.next + 1) {
             return Ok(Made::Stops(Stop::NoBlock));
         }
-        self.pass_to(blocks, tx, transaction, stream, until(self.clock, moment))?;
+        self.pass_to(blocks, tx, transaction, &streams, until(self.clock, moment))?;
         Ok(Made::Step)
     }
 
@@ -225,7 +205,8 @@ impl Machine {
     ) -> Result<Made, Memory>
         requires active { IsActive blocks.now self.old tx transaction }
         requires there { f < length self.old.facilities.facilities }
-        ensures made { IfOk result (λ made. Makes made (model.meets blocks.now tx.number transaction (Block.Seize f) [] (state_of self.old)) (state_of self.old) (state_of self.new)) }
+        ensures made { IfOk result (λ made. MakesFrom made
+            (model.meets blocks.now tx.number transaction (Block.Seize f) []) self.old self.new) }
         ensures err { OnErr result (state_of self.new ≡ state_of self.old) }
         ensures linked { Linked self.new }
     {
@@ -249,7 +230,8 @@ impl Machine {
         requires there { f < length self.old.facilities.facilities }
         requires idle { is_idle_now (change.facility f (state_of self.old)) ≡ true }
         requires room { 0 < self.old.current_events.room }
-        ensures state { state_of self.new ≡ model.hand_over blocks.now f (state.delay_list f (state_of self.old)) (change.enters_and_falls tx.number transaction (state_of self.old)) }
+        ensures state { state_of self.new ≡ model.hand_over blocks.now f (state.delay_list f (state_of self.old))
+            (change.enters_and_falls tx.number transaction (state_of self.old)) }
         ensures linked { Linked self.new }
     {
         self.enter(tx, transaction, transaction.next + 1);
@@ -266,7 +248,7 @@ impl Machine {
     ) -> Result<Made, Memory>
         requires active { IsActive blocks.now self.old tx transaction }
         requires there { f < length self.old.facilities.facilities }
-        ensures made { IfOk result (λ made. Makes made (model.then_placed tx.number (model.release blocks.now tx.number transaction f (state_of self.old))) (state_of self.old) (state_of self.new)) }
+        ensures made { IfOk result (λ made. Enters made tx.number (model.release blocks.now tx.number transaction f) self.old self.new) }
         ensures err { OnErr result (state_of self.new ≡ state_of self.old) }
         ensures linked { Linked self.new }
     {
@@ -294,7 +276,8 @@ impl Machine {
     ) -> Result<Made, Memory>
         requires active { IsActive blocks.now self.old tx transaction }
         requires units { UnitsFit (length self.old.facilities.facilities) u }
-        ensures made { IfOk result (λ made. Makes made (model.meets blocks.now tx.number transaction (Block.Enter u) [] (state_of self.old)) (state_of self.old) (state_of self.new)) }
+        ensures made { IfOk result (λ made. MakesFrom made
+            (model.meets blocks.now tx.number transaction (Block.Enter u) []) self.old self.new) }
         ensures err { OnErr result (state_of self.new ≡ state_of self.old) }
         ensures linked { Linked self.new }
     {
@@ -317,7 +300,8 @@ impl Machine {
         requires passing { IsPassing blocks.now self.old tx transaction }
         requires there { e < length self.old.facilities.facilities }
         requires room { length (at [] self.old.waits.lists e) ≤ self.old.current_events.room }
-        ensures state { state_of self.new ≡ model.admission blocks.now e (state.delay_list e (state_of self.old)) (change.enters_and_falls tx.number transaction (state_of self.old)) }
+        ensures state { state_of self.new ≡ model.admission blocks.now e (state.delay_list e (state_of self.old))
+            (change.enters_and_falls tx.number transaction (state_of self.old)) }
         ensures linked { Linked self.new }
     {
         self.enter(tx, transaction, transaction.next + 1);
@@ -334,7 +318,7 @@ impl Machine {
     ) -> Result<Made, Memory>
         requires active { IsActive blocks.now self.old tx transaction }
         requires units { UnitsFit (length self.old.facilities.facilities) u }
-        ensures made { IfOk result (λ made. Makes made (model.then_placed tx.number (model.leave blocks.now tx.number transaction u (state_of self.old))) (state_of self.old) (state_of self.new)) }
+        ensures made { IfOk result (λ made. Enters made tx.number (model.leave blocks.now tx.number transaction u) self.old self.new) }
         ensures err { OnErr result (state_of self.new ≡ state_of self.old) }
         ensures linked { Linked self.new }
     {
@@ -356,7 +340,7 @@ impl Machine {
     fn join_queue(&mut self, blocks: &[Block], tx: Tx, transaction: Transaction, u: Units) -> Made
         requires active { IsActive blocks.now self.old tx transaction }
         requires units { UnitsFit (length self.old.facilities.facilities) u }
-        ensures made { Makes result (model.then_placed tx.number (model.join_queue blocks.now tx.number transaction u (state_of self.old))) (state_of self.old) (state_of self.new) }
+        ensures made { Enters result tx.number (model.join_queue blocks.now tx.number transaction u) self.old self.new }
         ensures linked { Linked self.new }
     {
         if !may_enter(blocks, transaction.next + 1) {
@@ -371,7 +355,7 @@ impl Machine {
     fn depart(&mut self, blocks: &[Block], tx: Tx, transaction: Transaction, u: Units) -> Made
         requires active { IsActive blocks.now self.old tx transaction }
         requires units { UnitsFit (length self.old.facilities.facilities) u }
-        ensures made { Makes result (model.then_placed tx.number (model.depart blocks.now tx.number transaction u (state_of self.old))) (state_of self.old) (state_of self.new) }
+        ensures made { Enters result tx.number (model.depart blocks.now tx.number transaction u) self.old self.new }
         ensures linked { Linked self.new }
     {
         if !may_enter(blocks, transaction.next + 1) {
@@ -389,7 +373,7 @@ impl Machine {
     /// TRANSFER in unconditional mode: the transaction goes to the block of a number.
     fn transfer(&mut self, blocks: &[Block], tx: Tx, transaction: Transaction, target: u16) -> Made
         requires { IsActive blocks.now self.old tx transaction }
-        ensures made { Makes result (model.then_placed tx.number (model.transfer blocks.now tx.number transaction target (state_of self.old))) (state_of self.old) (state_of self.new) }
+        ensures made { Enters result tx.number (model.transfer blocks.now tx.number transaction target) self.old self.new }
         ensures linked { Linked self.new }
     {
         if !may_enter(blocks, target) {
@@ -410,15 +394,16 @@ impl Machine {
         fraction: Fraction,
     ) -> Made
         requires { IsActive blocks.now self.old tx transaction }
-        ensures made { Makes result (model.act blocks.now tx.number transaction (Block.TransferByFraction fraction) (state_of self.old)) (state_of self.old) (state_of self.new) }
+        ensures made { MakesFrom result (model.act blocks.now tx.number transaction (Block.TransferByFraction fraction)) self.old self.new }
         ensures linked { Linked self.new }
     {
-        let (drawn, stream) = drawn_thousandths(&self.streams);
+        let mut streams = self.streams;
+        let drawn = drawn_thousandths(1, &mut streams);
         let target = chosen(transaction.next, fraction, drawn);
         if !may_enter(blocks, target) {
             return Made::Stops(Stop::NoBlock);
         }
-        self.set_stream(stream);
+        self.set_streams(&streams);
         self.enter(tx, transaction, target);
         Made::Step
     }
@@ -432,14 +417,18 @@ impl Machine {
         tx: Tx,
         transaction: Transaction,
         by: i64,
+        streams: &[Stream; 16],
     ) -> Result<(), Memory>
         requires active { IsActive blocks.now self.old tx transaction }
         requires by { pos 0 ≤ℤ by }
-        ensures ok { OnOk result (state_of self.new ≡ placed tx.number Placement.LeavesModel (change.counted by (change.entered tx.number transaction transaction.next (state_of self.old)))) }
+        ensures ok { OnOk result (state_of self.new ≡
+            placed tx.number Placement.LeavesModel (change.counted by
+            (change.entered tx.number transaction transaction.next (state.with_streams streams.now (state_of self.old))))) }
         ensures err { OnErr result (state_of self.new ≡ state_of self.old) }
         ensures linked { Linked self.new }
     {
         self.reserve_rest()?;
+        self.set_streams(streams);
         self.enter(tx, transaction, transaction.next);
         self.count_down(by);
         self.place(tx, transaction.priority, Placement::LeavesModel);
@@ -448,25 +437,33 @@ impl Machine {
 
     /// TERMINATE: the transaction, which owns nothing, is destroyed, and the termination count falls. Less than 0 is a
     /// named end.
+    #[tactic(auto, unfolding(gw_step::specs::Blocks::act, gw_step::specs::Blocks::effect))]
     fn terminate(
         &mut self,
         blocks: &[Block],
         tx: Tx,
         transaction: Transaction,
-        by: i64,
+        by: Operand,
     ) -> Result<Made, Memory>
-        requires { IsActive blocks.now self.old tx transaction }
-        ensures made { IfOk result (λ made. Makes made (model.then_placed tx.number (model.terminate tx.number transaction by (state_of self.old))) (state_of self.old) (state_of self.new)) }
+        requires active { IsActive blocks.now self.old tx transaction }
+        requires operands { ValueFits (length self.old.facilities.facilities) by }
+        ensures made { IfOk result (λ made. MakesFrom made
+            (model.act blocks.now tx.number transaction (Block.Terminate by)) self.old self.new) }
         ensures err { OnErr result (state_of self.new ≡ state_of self.old) }
         ensures linked { Linked self.new }
     {
+        let mut streams = self.streams;
+        let subject = active_subject(tx, transaction);
+        let Some(by) = self.value(subject, by, &mut streams) else {
+            return Ok(Made::Stops(Stop::UnsetParam));
+        };
         if by < 0 {
             return Ok(Made::Ends(End::Number));
         }
         if self.facilities.owns_any(tx.number) {
             return Ok(Made::Stops(Stop::OwnsAtEnd));
         }
-        self.pass_and_leave(blocks, tx, transaction, by)?;
+        self.pass_and_leave(blocks, tx, transaction, by, &streams)?;
         Ok(Made::Step)
     }
 
@@ -483,13 +480,13 @@ impl Machine {
     ) -> Result<Made, Memory>
         requires active { IsActive blocks.now self.old tx transaction }
         requires operands { OperandsFit (length self.old.facilities.facilities) block }
-        ensures made { IfOk result (λ made. Makes made (model.act blocks.now tx.number transaction block (state_of self.old)) (state_of self.old) (state_of self.new)) }
+        ensures made { IfOk result (λ made. MakesFrom made (model.act blocks.now tx.number transaction block) self.old self.new) }
         ensures err { OnErr result (state_of self.new ≡ state_of self.old) }
         ensures linked { Linked self.new }
     {
         match block {
             Block::Generate(g) => self.generate(blocks, tx, transaction, g),
-            Block::Terminate(by) => self.terminate(blocks, tx, transaction, value_of(by)),
+            Block::Terminate(by) => self.terminate(blocks, tx, transaction, by),
             Block::Advance(time) => self.advance(blocks, tx, transaction, time),
             Block::Seize(f) => self.seize(blocks, tx, transaction, f),
             Block::Release(f) => self.release(blocks, tx, transaction, f),
@@ -498,6 +495,12 @@ impl Machine {
             Block::Queue(units) => Ok(self.join_queue(blocks, tx, transaction, units)),
             Block::Depart(units) => Ok(self.depart(blocks, tx, transaction, units)),
             Block::Transfer(target) => Ok(self.transfer(blocks, tx, transaction, target)),
+            Block::Assign(assign) => self.assign_parameter(blocks, tx, transaction, assign),
+            Block::Loop(l) => self.loop_back(blocks, tx, transaction, l),
+            Block::Logic(logic) => Ok(self.logic(blocks, tx, transaction, logic)),
+            Block::Savevalue(save) => Ok(self.save(blocks, tx, transaction, save)),
+            Block::Mark(None) => Ok(self.mark(blocks, tx, transaction)),
+            Block::Mark(Some(p)) => self.mark_parameter(blocks, tx, transaction, p),
             Block::TransferByFraction(fraction) => {
                 Ok(self.transfer_by_fraction(blocks, tx, transaction, fraction))
             }

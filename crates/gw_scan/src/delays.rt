@@ -55,7 +55,8 @@ impl Machine {
     pub fn call_current(&mut self, entity: u16, tx: Tx, priority: i32)
         requires linked { Linked self.old }
         requires entity { entity < length self.old.facilities.facilities }
-        requires there { option_map (λ (m : Member). m.tx) (slice_get (at [] self.old.waits.lists entity) (at 0 self.old.waits.places entity)) ≡ Some tx }
+        requires there { option_map (λ (m : Member). m.tx)
+            (slice_get (at [] self.old.waits.lists entity) (at 0 self.old.waits.places entity)) ≡ Some tx }
         requires rank { priority_of self.old.transactions.txs tx.number ≡ priority }
         requires room { 0 < self.old.current_events.room }
         ensures state { state_of self.new ≡ model.called_from entity tx.number (state_of self.old) }

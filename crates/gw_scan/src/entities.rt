@@ -6,15 +6,15 @@ ghost use Rattle.gw_entities.specs.Contents.{empty};
 ghost use Rattle.gw_entities.specs.Facility.{idle, seizing, releasing};
 ghost use Rattle.gw_entities.specs.Queue.{joined, departing};
 ghost use Rattle.gw_entities.specs.Storage.{vacant, entering, leaving};
-ghost use Rattle.gw_step.specs.Blocks.{has_to_wait};
-ghost use Rattle.gw_step.specs.Changes.{facility, storage, queue, put_facility, put_storage, put_queue};
+ghost use Rattle.gw_step.specs.Blocks.{has_to_wait, turned};
+ghost use Rattle.gw_step.specs.Changes.{facility, storage, queue, switch, put_facility, put_storage, put_queue, put_switch, put_savevalue};
 ghost use Rattle.gw_scan.specs.View.{state_of};
 ghost use Rattle.gw_scan.specs.Coherence.{Linked};
 ghost use Rattle.gw_scan.specs.Makes.{Leaves};
 
 use crate::machine::Machine;
 use gw_entities::{Facility, Stop, Storage};
-use gw_object::Units;
+use gw_object::{Logic, SwitchAction, Units};
 
 /// Whether the transaction of this number has to wait for a facility, since another owns it.
 fn is_anothers(facility: Facility, number: u64) -> bool
@@ -50,7 +50,8 @@ impl Machine {
     pub fn seize_facility(&mut self, f: u16, number: u64) -> Result<bool, Stop>
         requires there { f < length self.old.facilities.facilities }
         requires few { (at idle self.old.facilities.facilities f).entries < 2 ^ 62 }
-        ensures made { Leaves result (seizing number (facility f (state_of self.old))) (λ v. put_facility f v (state_of self.old)) (state_of self.old) (state_of self.new) }
+        ensures made { Leaves result (seizing number (facility f (state_of self.old))) (λ v. put_facility f v (state_of self.old))
+            (state_of self.old) (state_of self.new) }
         ensures linked { Linked self.old → Linked self.new }
         ensures frame { self.new ≡ record self.old { facilities = self.new.facilities } }
         ensures table { length self.new.facilities.facilities ≡ length self.old.facilities.facilities }
@@ -61,7 +62,8 @@ impl Machine {
     /// The transaction of this number gives a facility up.
     pub fn release_facility(&mut self, f: u16, number: u64) -> Result<(), Stop>
         requires there { f < length self.old.facilities.facilities }
-        ensures made { Leaves result (releasing number (facility f (state_of self.old))) (λ v. put_facility f v (state_of self.old)) (state_of self.old) (state_of self.new) }
+        ensures made { Leaves result (releasing number (facility f (state_of self.old))) (λ v. put_facility f v (state_of self.old))
+            (state_of self.old) (state_of self.new) }
         ensures linked { Linked self.old → Linked self.new }
         ensures frame { self.new ≡ record self.old { facilities = self.new.facilities } }
         ensures table { length self.new.facilities.facilities ≡ length self.old.facilities.facilities }
@@ -83,7 +85,8 @@ impl Machine {
     pub fn take(&mut self, u: Units) -> Result<bool, Stop>
         requires there { u.entity < length self.old.storages.storages }
         requires few { (at (vacant 0) self.old.storages.storages u.entity).contents.entries + u.number ≤ 2 ^ 62 }
-        ensures made { Leaves result (entering u.number (storage u.entity (state_of self.old))) (λ v. put_storage u.entity v (state_of self.old)) (state_of self.old) (state_of self.new) }
+        ensures made { Leaves result (entering u.number (storage u.entity (state_of self.old)))
+            (λ v. put_storage u.entity v (state_of self.old)) (state_of self.old) (state_of self.new) }
         ensures full { result ≡ Ok false → state_of self.new ≡ state_of self.old }
         ensures linked { Linked self.old → Linked self.new }
         ensures frame { self.new ≡ record self.old { storages = self.new.storages } }
@@ -94,7 +97,8 @@ impl Machine {
     /// Units of a storage are given back.
     pub fn give_back(&mut self, u: Units) -> Result<(), Stop>
         requires there { u.entity < length self.old.storages.storages }
-        ensures made { Leaves result (leaving u.number (storage u.entity (state_of self.old))) (λ v. put_storage u.entity v (state_of self.old)) (state_of self.old) (state_of self.new) }
+        ensures made { Leaves result (leaving u.number (storage u.entity (state_of self.old)))
+            (λ v. put_storage u.entity v (state_of self.old)) (state_of self.old) (state_of self.new) }
         ensures linked { Linked self.old → Linked self.new }
         ensures frame { self.new ≡ record self.old { storages = self.new.storages } }
     {
@@ -118,10 +122,38 @@ impl Machine {
     /// Units depart from a queue.
     pub fn depart_units(&mut self, u: Units) -> Result<(), Stop>
         requires there { u.entity < length self.old.queues.queues }
-        ensures made { Leaves result (departing u.number (queue u.entity (state_of self.old))) (λ v. put_queue u.entity v (state_of self.old)) (state_of self.old) (state_of self.new) }
+        ensures made { Leaves result (departing u.number (queue u.entity (state_of self.old)))
+            (λ v. put_queue u.entity v (state_of self.old)) (state_of self.old) (state_of self.new) }
         ensures linked { Linked self.old → Linked self.new }
         ensures frame { self.new ≡ record self.old { queues = self.new.queues } }
     {
         self.queues.depart(u.entity, u.number)
+    }
+
+    // LOGIC SWITCHES AND SAVEVALUES
+
+    /// A logic switch is set, reset or inverted.
+    pub fn turn_switch(&mut self, logic: Logic)
+        requires { logic.switch < length self.old.switches }
+        ensures state { state_of self.new ≡ put_switch logic.switch (turned logic.action (switch logic.switch (state_of self.old)))
+            (state_of self.old) }
+        ensures linked { Linked self.old → Linked self.new }
+        ensures frame { self.new ≡ record self.old { switches = self.new.switches } }
+    {
+        match logic.action {
+            SwitchAction::Set => self.switches.set_switch(logic.switch, true),
+            SwitchAction::Reset => self.switches.set_switch(logic.switch, false),
+            SwitchAction::Invert => self.switches.invert(logic.switch),
+        }
+    }
+
+    /// A savevalue has this value from now on.
+    pub fn set_savevalue(&mut self, savevalue: u16, value: i64)
+        requires { savevalue < length self.old.savevalues }
+        ensures state { state_of self.new ≡ put_savevalue savevalue value (state_of self.old) }
+        ensures linked { Linked self.old → Linked self.new }
+        ensures frame { self.new ≡ record self.old { savevalues = self.new.savevalues } }
+    {
+        self.savevalues.set(savevalue, value);
     }
 }

@@ -1,9 +1,11 @@
 //! The step machine: a job, its simulation state, and its steps.
 #![tactic(auto)]
 
+mod assigning;
 mod blocks;
 mod delays;
 mod entities;
+mod halt;
 mod machine;
 mod resting;
 mod scan;
@@ -12,6 +14,7 @@ mod spec;
 mod start;
 mod times;
 mod transfers;
+mod values;
 
 pub use gw_entities::Stop;
 pub use gw_step::{

@@ -3,13 +3,13 @@
 ghost use Rattle.std.specs.Prelude.{◌≡◌, ◌≤◌, ◌<◌, ◌+◌, ◌^◌, Some, None, length, vec_len, sum, OnOk, OnErr, pos, ◌<ℤ◌, ◌≤ℤ◌};
 ghost use Rattle.gw_num.specs.Table.{at};
 ghost use Rattle.gw_transactions.specs.Transactions.{Holds};
-ghost use Rattle.gw_step.specs.State.{priority_of, raised, with_first_stream};
+ghost use Rattle.gw_step.specs.State.{priority_of, raised, with_streams};
 ghost use Rattle.gw_step.specs.Changes as model;
 ghost use Rattle.gw_scan.specs.View.{state_of};
 ghost use Rattle.gw_scan.specs.Coherence.{Linked, Carries, Every};
 
 use gw_chains::{Cec, Fec, Memory, Tx, Waits};
-use gw_entities::{Facilities, Queues, Stop, Storages};
+use gw_entities::{Facilities, Queues, Savevalues, Stop, Storages, Switches};
 use gw_num::Stream;
 use gw_step::End;
 use gw_transactions::{Transaction, Transactions};
@@ -57,6 +57,10 @@ pub(crate) struct Machine {
     pub storages: Storages,
     /// The queues, each by its number as an entity.
     pub queues: Queues,
+    /// The logic switches, each by its number as an entity.
+    pub switches: Switches,
+    /// The savevalues, each by its number as an entity.
+    pub savevalues: Savevalues,
     /// The entries so far, for each block.
     pub entries: Vec<u64>,
     /// The named end, if one stands.
@@ -97,7 +101,8 @@ impl Machine {
         ensures linked { Linked self.old → Linked self.new }
         ensures held { Holds self.new.transactions tx }
         ensures rank { priority_of self.new.transactions.txs tx.number ≡ transaction.priority }
-        ensures frame { self.new ≡ record self.old { stir = self.new.stir; entries = self.new.entries; transactions = self.new.transactions } }
+        ensures frame { self.new ≡ record self.old
+            { stir = self.new.stir; entries = self.new.entries; transactions = self.new.transactions } }
     {
         self.stir = true;
         raise(&mut self.entries, transaction.next as usize);
@@ -116,7 +121,8 @@ impl Machine {
         ensures state { state_of self.new ≡ model.arrives block priority time (state_of self.old) }
         ensures linked { Linked self.new }
         ensures carries { Carries Every self.old.transactions self.new.transactions }
-        ensures frame { self.new ≡ record self.old { transactions = self.new.transactions; future_events = self.new.future_events; scheduled = self.new.scheduled } }
+        ensures frame { self.new ≡ record self.old
+            { transactions = self.new.transactions; future_events = self.new.future_events; scheduled = self.new.scheduled } }
     {
         let number = self.transactions.next_number();
         let mark = self.clock;
@@ -131,13 +137,29 @@ impl Machine {
         raise(&mut self.scheduled, block as usize);
     }
 
-    /// The first stream is now here.
-    pub fn set_stream(&mut self, stream: Stream)
-        ensures state { state_of self.new ≡ with_first_stream stream (state_of self.old) }
+    /// A parameter of a transaction, by its number from 1 to 64, has this value from now on.
+    ///
+    /// It fails for want of memory, and changes nothing then.
+    pub fn assign(&mut self, tx: Tx, parameter: u8, value: i64) -> Result<(), Memory>
+        requires held { Holds self.old.transactions tx }
+        requires parameter { parameter ≤ 64 }
+        ensures ok { OnOk result (state_of self.new ≡ model.assigned tx.number parameter value (state_of self.old)) }
+        ensures err { OnErr result (state_of self.new ≡ state_of self.old) }
+        ensures linked { Linked self.old → Linked self.new }
+        ensures held { Holds self.new.transactions tx }
+        ensures rank { priority_of self.new.transactions.txs tx.number ≡ priority_of self.old.transactions.txs tx.number }
+        ensures frame { self.new ≡ record self.old { transactions = self.new.transactions } }
+    {
+        self.transactions.assign(tx, parameter, value)
+    }
+
+    /// The streams are now here.
+    pub fn set_streams(&mut self, streams: &[Stream; 16])
+        ensures state { state_of self.new ≡ with_streams streams.now (state_of self.old) }
         ensures linked { Linked self.old → Linked self.new }
         ensures frame { self.new ≡ record self.old { streams = self.new.streams } }
     {
-        self.streams[0] = stream;
+        self.streams = *streams;
     }
 
     /// The termination count falls; where it is then 0 or less, the job is done.

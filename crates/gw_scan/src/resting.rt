@@ -50,7 +50,8 @@ impl Machine {
         ensures state { state_of self.new ≡ model.woken (state_of self.old) }
         ensures linked { Linked self.new }
         ensures room { LosesRoom 0 self.old.waits.rooms self.new.waits.rooms × (self.old.waits.retry_room ≤ self.new.waits.retry_room) }
-        ensures frame { self.new ≡ record self.old { stir = self.new.stir; current_events = self.new.current_events; waits = self.new.waits } }
+        ensures frame { self.new ≡ record self.old
+            { stir = self.new.stir; current_events = self.new.current_events; waits = self.new.waits } }
     {
         self.waits.wake_all(&mut self.current_events);
         self.stir = false;
@@ -63,7 +64,8 @@ impl Machine {
         ensures state { state_of self.new ≡ woken_if_stirred (state_of self.old) }
         ensures linked { Linked self.new }
         ensures room { LosesRoom 0 self.old.waits.rooms self.new.waits.rooms × (self.old.waits.retry_room ≤ self.new.waits.retry_room) }
-        ensures frame { self.new ≡ record self.old { stir = self.new.stir; current_events = self.new.current_events; waits = self.new.waits } }
+        ensures frame { self.new ≡ record self.old
+            { stir = self.new.stir; current_events = self.new.current_events; waits = self.new.waits } }
     {
         if self.stir {
             self.wake();

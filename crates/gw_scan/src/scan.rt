@@ -7,7 +7,7 @@ ghost use Rattle.gw_step.specs.Changes as change;
 ghost use Rattle.gw_step.specs.Step as model;
 ghost use Rattle.gw_scan.specs.View.{state_of, lists_of};
 ghost use Rattle.gw_scan.specs.Coherence.{Linked, IsHeld, IsRunning, ranked};
-ghost use Rattle.gw_scan.specs.Makes.{Makes, MakesStep};
+ghost use Rattle.gw_scan.specs.Makes.{MakesFrom, MakesStep};
 
 use crate::machine::{Machine, Made};
 use crate::transfers::block_of;
@@ -26,7 +26,8 @@ fn move_due(
 )
     requires held { AllByRecursion (IsHeld transactions.now) future_events.old.items }
     requires room { length future_events.old.items ≤ current_events.old.room }
-    ensures current { current_events.new.items ≡ all_behind (λ m. m.priority) (ranked transactions.now (due (λ e. e.time) time future_events.old.items)) current_events.old.items }
+    ensures current { current_events.new.items ≡
+        all_behind (λ m. m.priority) (ranked transactions.now (due (λ e. e.time) time future_events.old.items)) current_events.old.items }
     ensures future { future_events.new.items ≡ later (λ e. e.time) time future_events.old.items }
     ensures left { current_events.old.room ≤ current_events.new.room + length future_events.old.items }
 {
@@ -80,7 +81,7 @@ impl Machine {
     fn next_active(&mut self, blocks: &[Block]) -> Result<Made, Memory>
         requires running { IsRunning blocks.now self.old }
         requires nobody { self.old.active ≡ None }
-        ensures made { IfOk result (λ made. Makes made (model.next_active (state_of self.old).lists.current_events (state_of self.old)) (state_of self.old) (state_of self.new)) }
+        ensures made { IfOk result (λ made. MakesFrom made (model.next_active (state_of self.old).lists.current_events) self.old self.new) }
         ensures err { OnErr result (state_of self.new ≡ state_of self.old) }
         ensures linked { Linked self.new }
     {
@@ -100,8 +101,11 @@ impl Machine {
     fn activate_first(&mut self) -> bool
         requires linked { Linked self.old }
         requires nobody { self.old.active ≡ None }
-        ensures first { IsTrue result → (n : ℕ) × (ns : List ℕ) × ((state_of self.old).lists.current_events ≡ n ∷ ns) × (state_of self.new ≡ record (state_of self.old) { lists = record (lists_of self.old) { active = Some n; current_events = ns } }) }
-        ensures none { result ≡ false → ((state_of self.old).lists.current_events ≡ []) × (state_of self.new ≡ state_of self.old) × (self.new.future_events ≡ self.old.future_events) × (self.new.waits ≡ self.old.waits) }
+        ensures first { IsTrue result → (n : ℕ) × (ns : List ℕ) × ((state_of self.old).lists.current_events ≡ n ∷ ns) ×
+            (state_of self.new ≡ record (state_of self.old)
+            { lists = record (lists_of self.old) { active = Some n; current_events = ns } }) }
+        ensures none { result ≡ false → ((state_of self.old).lists.current_events ≡ []) × (state_of self.new ≡ state_of self.old) ×
+            (self.new.future_events ≡ self.old.future_events) × (self.new.waits ≡ self.old.waits) }
         ensures linked { Linked self.new }
     {
         match self.current_events.pop_first() {
@@ -116,7 +120,7 @@ impl Machine {
     /// What a step does, but for the count of steps.
     fn scan(&mut self, blocks: &[Block]) -> Result<Made, Memory>
         requires { IsRunning blocks.now self.old }
-        ensures made { IfOk result (λ made. Makes made (model.scan blocks.now (state_of self.old).lists.active (state_of self.old)) (state_of self.old) (state_of self.new)) }
+        ensures made { IfOk result (λ made. MakesFrom made (model.scan blocks.now (state_of self.old).lists.active) self.old self.new) }
         ensures err { OnErr result (state_of self.new ≡ state_of self.old) }
         ensures linked { Linked self.new }
     {

@@ -9,7 +9,7 @@ ghost use Rattle.gw_step.specs.Job.{Alone, IsFinal, start_of};
 use crate::machine::Machine;
 use crate::spec::{Spec, StartFault};
 use gw_chains::Memory;
-use gw_entities::{Facilities, Queues, Stop, Storages};
+use gw_entities::{Facilities, Queues, Savevalues, Stop, Storages, Switches};
 use gw_step::End;
 use std::alloc::Global;
 use std::marker::Model;
@@ -166,6 +166,22 @@ impl Sim {
         ensures clock { pos result.now.passed ≡ self.now.state.clock }
     {
         &self.machine.queues
+    }
+
+    /// The logic switches, each by its number as an entity: whether it is set.
+    pub fn switches(&self) -> &Switches
+        ensures switches { result.now ≡ self.now.state.entities.switches }
+        ensures count { length result.now ≡ length self.now.job.parts.entities }
+    {
+        &self.machine.switches
+    }
+
+    /// The savevalues, each by its number as an entity: its value.
+    pub fn savevalues(&self) -> &Savevalues
+        ensures savevalues { result.now ≡ self.now.state.entities.savevalues }
+        ensures count { length result.now ≡ length self.now.job.parts.entities }
+    {
+        &self.machine.savevalues
     }
 
     /// How many transactions wait for an entity, by its number from 0: the length of its delay list.

@@ -127,7 +127,8 @@ impl Spec {
         count: u64,
         budget: u64,
     ) -> Result<Spec, (Verified, StartFault)>
-        ensures made { IfOk result (λ spec. (spec ≡ job_from verified seeds.now count budget) × (spec_fault seeds.now count budget ≡ None)) }
+        ensures made { IfOk result (λ spec. (spec ≡ job_from verified seeds.now count budget) ×
+            (spec_fault seeds.now count budget ≡ None)) }
         ensures refused { IfErr result (λ e. (e.0 ≡ verified) × (spec_fault seeds.now count budget ≡ Some e.1)) }
     {
         if !seeds_fit(seeds) {

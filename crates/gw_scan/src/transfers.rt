@@ -73,7 +73,8 @@ impl Machine {
         requires idle { is_idle_now (facility f (state_of self.old)) ≡ true }
         requires first { option_map (λ (m : Member). m.tx) (slice_get (at [] self.old.waits.lists f) 0) ≡ Some tx }
         requires room { 0 < self.old.current_events.room }
-        ensures state { state_of self.new ≡ option_map_or (model.takes_over blocks.now f tx.number (state_of self.old)) (attributes_at tx.number self.old.transactions.txs) (state_of self.old) }
+        ensures state { state_of self.new ≡ option_map_or (model.takes_over blocks.now f tx.number (state_of self.old))
+            (attributes_at tx.number self.old.transactions.txs) (state_of self.old) }
         ensures linked { Linked self.new }
     {
         let transaction = *self.transactions.get(tx);
@@ -93,7 +94,8 @@ impl Machine {
         requires block { (transaction.next < length self.old.entries.items) × (transaction.next ≤ 4096) }
         requires few { (sum self.old.entries.items < 2 ^ 60) × ((at idle self.old.facilities.facilities f).entries < 2 ^ 62) }
         requires room { 0 < self.old.current_events.room }
-        ensures state { state_of self.new ≡ change.put_facility f (seized tx.number (facility f (state_of self.old))) (change.enters_and_falls tx.number transaction (change.called_from f tx.number (state_of self.old))) }
+        ensures state { state_of self.new ≡ change.put_facility f (seized tx.number (facility f (state_of self.old)))
+            (change.enters_and_falls tx.number transaction (change.called_from f tx.number (state_of self.old))) }
         ensures linked { Linked self.new }
     {
         self.call(f, 0, tx, transaction.priority);
@@ -126,7 +128,8 @@ impl Machine {
         requires linked { Linked self.now }
         requires there { (e < length self.now.facilities.facilities) × (e < length self.now.storages.storages) }
         ensures { MatchOption result
-            ((option_map (λ (m : Member). m.tx) (slice_get (at [] self.now.waits.lists e) (at 0 self.now.waits.places e)) ≡ None) ⊎ (model.is_full (storage e (state_of self.now)) ≡ true))
+            ((option_map (λ (m : Member). m.tx) (slice_get (at [] self.now.waits.lists e) (at 0 self.now.waits.places e)) ≡ None) ⊎
+            (model.is_full (storage e (state_of self.now)) ≡ true))
             (λ tx. option_map (λ (m : Member). m.tx) (slice_get (at [] self.now.waits.lists e) (at 0 self.now.waits.places e)) ≡ Some tx) }
     {
         if self.has_nothing_free(e) {
@@ -155,7 +158,8 @@ impl Machine {
     fn admit_one(&mut self, blocks: &[Block], e: u16, tx: Tx) -> bool
         requires steady { IsSteady blocks.now (self.old.steps + 1) self.old }
         requires there { e < length self.old.facilities.facilities }
-        requires waiter { option_map (λ (m : Member). m.tx) (slice_get (at [] self.old.waits.lists e) (at 0 self.old.waits.places e)) ≡ Some tx }
+        requires waiter { option_map (λ (m : Member). m.tx) (slice_get (at [] self.old.waits.lists e) (at 0 self.old.waits.places e)) ≡
+            Some tx }
         requires room { 0 < self.old.current_events.room }
         ensures state { state_of self.new ≡ model.looked_at blocks.now e tx.number (state_of self.old) }
         ensures steady { IsSteady blocks.now (self.old.steps + 1) self.new }
@@ -173,11 +177,13 @@ impl Machine {
     fn enter_if_free(&mut self, units: Units, tx: Tx, transaction: Transaction) -> bool
         requires linked { Linked self.old }
         requires there { (units.entity < length self.old.facilities.facilities) × (units.entity < length self.old.storages.storages) }
-        requires waiter { option_map (λ (m : Member). m.tx) (slice_get (at [] self.old.waits.lists units.entity) (at 0 self.old.waits.places units.entity)) ≡ Some tx }
+        requires waiter { option_map (λ (m : Member). m.tx)
+            (slice_get (at [] self.old.waits.lists units.entity) (at 0 self.old.waits.places units.entity)) ≡ Some tx }
         requires held { Holds self.old.transactions tx }
         requires found { attributes_at tx.number self.old.transactions.txs ≡ Some transaction }
         requires block { (transaction.next < length self.old.entries.items) × (transaction.next ≤ 4096) }
-        requires few { (sum self.old.entries.items < 2 ^ 60) × ((at (vacant 0) self.old.storages.storages units.entity).contents.entries + units.number ≤ 2 ^ 62) }
+        requires few { (sum self.old.entries.items < 2 ^ 60) ×
+            ((at (vacant 0) self.old.storages.storages units.entity).contents.entries + units.number ≤ 2 ^ 62) }
         requires room { 0 < self.old.current_events.room }
         ensures state { state_of self.new ≡ model.enters_if_free tx.number transaction (state_of self.old) units }
         ensures linked { Linked self.new }

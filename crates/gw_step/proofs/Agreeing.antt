@@ -21,6 +21,8 @@ pub record AreWhole (entities : ℕ) (g : EntityStates) : Type 0 where
   pub facilities : length g.facilities ≡ entities
   pub storages : length g.storages ≡ entities
   pub queues : length g.queues ≡ entities
+  pub switches : length g.switches ≡ entities
+  pub savevalues : length g.savevalues ≡ entities
 
 -- the transaction n goes from one row to another, and what the entities hold goes with it, from g to h
 pub record Balanced (p : Parts) (n : ℕ) (old new : Option Row) (g h : EntityStates) : Type 0 where

@@ -1,5 +1,6 @@
 -- Arrivals: what a GENERATE does, and the state before the first step.
-use Rattle.std.proofs.Common.{◌≡◌, ℕ, zero, suc, ◌+◌, ◌≤◌, List, [], ◌∷◌, length, map, Some, true, false, refl, sym, ap, ◌∙◌, subst, arith}
+use Rattle.std.proofs.Common.{◌≡◌, ℕ, zero, suc, ◌+◌, ◌≤◌, List, [], ◌∷◌, length, map, Some, true, false, is_some, pos, ◌≤ℤ◌, refl, sym, ap, ◌∙◌, subst, arith}
+use Rattle.std.proofs.lemmas.Bool.{false≢true}
 use Rattle.std.specs.Prelude.{slice_get, nat_lt, IfSome}
 use Rattle.gw_object.specs.declared.parts.Generate.{Generate}
 use Rattle.gw_object.specs.declared.parts.Entity.{Entity}
@@ -7,12 +8,14 @@ use Rattle.gw_object.specs.declared.parts.Block.{Block}
 use Rattle.gw_object.specs.declared.parts.Block.TheVariants as blocks
 use Rattle.gw_object.specs.declared.parts.Parts.{Parts}
 use Rattle.gw_object.specs.Entities.{capacity_of}
-use Rattle.gw_kinds.specs.Kinds.{block_at, is_generate}
+use Rattle.gw_kinds.specs.Kinds.{block_at, is_generate, values}
 use Rattle.gw_flow.specs.Codes as codes
 use Rattle.gw_flow.specs.Rows.{Row, is_empty}
 use Rattle.gw_flow.specs.Blocks.{capacity_at}
 use Rattle.gw_flow.specs.Flow.{own_table, own_row}
-use Rattle.gw_flow.specs.Laws.{FlowHolds}
+use Rattle.gw_flow.specs.Laws.{MayPass, FlowHolds}
+use Rattle.gw_flow.specs.Values.{Environment}
+use Rattle.gw_flow.proofs.Parameters.{values_are_numbers}
 use Rattle.gw_num.specs.Table.{at}
 use Rattle.gw_num.proofs.Tables.{at-replicate}
 use Rattle.gw_transactions.specs.declared.Transaction.{Transaction}
@@ -23,7 +26,7 @@ use Rattle.gw_entities.specs.Facility.{idle, is_owned_by}
 use Rattle.gw_entities.specs.Storage as storages
 use Rattle.gw_step.specs.Outcome.{Outcome, Gives, EndsBy, StopsBy}
 use Rattle.gw_step.specs.State.{State, with_streams}
-use Rattle.gw_step.specs.Times.{environment, drawn_moment}
+use Rattle.gw_step.specs.Times.{environment_of_next, drawn_moment}
 use Rattle.gw_step.specs.Changes.{arrives}
 use Rattle.gw_step.specs.Blocks.{is_owed, next_arrival, generate}
 use Rattle.gw_step.specs.Start.{nothing, first_moment, first_arrival, first_arrivals, started, start}
@@ -33,13 +36,13 @@ use Rattle.gw_step.proofs.Nothing.{no_transaction, resides-nothing}
 use Rattle.gw_step.specs.Places.{row_of}
 use Rattle.gw_step.specs.Typing.{IsPlaced, lists_facility, WellTyped, AreWithinCapacity}
 use Rattle.gw_step.proofs.Balances.{balanced-nothing}
-use Rattle.gw_step.proofs.Traces.{Goes, Arrives, Draws, Trace, Done, Then, trace_on, present, arrived}
+use Rattle.gw_step.proofs.Traces.{none_known, Goes, Arrives, Draws, Trace, Done, Then, trace_on, present, arrived}
 use Rattle.gw_step.proofs.Unstopped.{Safe, safe_bind, safe_if}
-use Rattle.gw_step.proofs.Drawn.{IsDrawn, safe_drawn}
+use Rattle.gw_step.proofs.Drawn.{IsDrawn, safe_drawn, AreRead}
 use Rattle.gw_step.proofs.AtBlock.{first_may_be_entered}
 use Rattle.gw_step.proofs.Moving.{Acts, Enters, safe_leads, at_first, the_rule}
 use Rattle.gw_step.proofs.Calling.{some_of}
-use Rattle.gw_step.proofs.PlainBlocks.{by_arrival}
+use Rattle.gw_step.proofs.PlainBlocks.{by_block, by_arrival}
 use Rattle.gw_step.proofs.Attributes.{attributes-past}
 
 -- THE NEXT ARRIVAL
@@ -51,6 +54,12 @@ record Scheduled (p : Parts) (k : ℕ) (s : State) (n : ℕ) (t : Transaction) (
   few : arrivals ≤ suc k
   found : attributes_at n after.transactions ≡ Some t
   active : after.lists.active ≡ s.lists.active
+  clock : after.clock ≡ s.clock
+
+-- the interval of a GENERATE reads no parameter, since nothing is known where one arrives
+pub interval_read : (p : Parts) (b : ℕ) (g : Generate) (row : Row) → MayPass p (own_table p) b (blocks.Generate g) row → is_empty row ≡ true → (env : Environment) → AreRead env (values (blocks.Generate g))
+interval_read p b g row pass empty env k d within q is =
+    absurd (none_known row empty q (ap is_some (values_are_numbers p (own_table p) b (blocks.Generate g) row pass k d within q is)))
 
 module _ (p : Parts) (s : State) (n : ℕ) (t : Transaction) (k : ℕ) (g : Generate) (row : Row) (acts : Acts p s n t (blocks.Generate g) row) where
   empty_row : is_empty row ≡ true
@@ -60,8 +69,8 @@ module _ (p : Parts) (s : State) (n : ℕ) (t : Transaction) (k : ℕ) (g : Gene
   safe_next =
       safe_if (Scheduled p k s n t) (is_owed g.limit (at 0 s.scheduled t.next)) _ (Gives s)
       (λ owed.
-      let env = environment (length s.transactions) g.priority s.clock s in
-      safe_bind (IsDrawn s.clock s.streams) (Scheduled p k s n t) (drawn_moment env g.interval s.clock s.streams) _ (safe_drawn env g.interval s.clock s.streams)
+      let env = environment_of_next g.priority s in
+      safe_bind (IsDrawn s.clock s.streams) (Scheduled p k s n t) (drawn_moment env g.interval s.clock s.streams) _ (safe_drawn env g.interval s.clock s.streams (interval_read p t.next g row acts.flow empty_row env))
       (λ d drawn.
       safe_if (Scheduled p k s n t) (nat_lt (live_count s.transactions) 65536) (Gives (arrives t.next g.priority d.0 (with_streams d.1 s))) _
       (λ few.
@@ -71,9 +80,10 @@ module _ (p : Parts) (s : State) (n : ℕ) (t : Transaction) (k : ℕ) (g : Gene
         few = omega arith;
         found = attributes-past s.transactions n t _ acts.is.found;
         active = refl;
+        clock = refl;
       })
       (λ many. tt)))
-      (λ none. record { arrivals = k; trace = Done; few = omega arith; found = acts.is.found; active = refl })
+      (λ none. record { arrivals = k; trace = Done; few = omega arith; found = acts.is.found; active = refl; clock = refl })
 
   pub safe_generate : Safe (Enters p k s n) (generate p.blocks n t g s)
   safe_generate =
@@ -86,8 +96,8 @@ module _ (p : Parts) (s : State) (n : ℕ) (t : Transaction) (k : ℕ) (g : Gene
         arrivals = h.arrivals;
         trace = trace_on p h.trace
             (Then (Goes n (t.next + 1) t (record t { mark = s.clock }) (blocks.Generate g) row row after.entities
-            (record { found = h.found; block_is = acts.is.block_is; row_is = acts.is.row_is }) refl
-            (present after.lists n (h.active ∙ acts.active)) (at_first _ []) may (balanced-nothing p n row after.entities)) Done);
+            (record { found = h.found; block_is = acts.is.block_is; row_is = acts.is.row_is }) (record { next = refl; mark = λ clock mark. subst (λ z. pos 0 ≤ℤ z) h.clock clock })
+            (present after.lists n (h.active ∙ acts.active)) (λ q some. absurd (none_known row empty_row q some)) (at_first _ []) may (balanced-nothing p n row after.entities)) Done);
         may = tt;
         few_entries = omega arith;
         few_arrivals = h.few;
@@ -138,6 +148,19 @@ module _ (p : Parts) (flow : FlowHolds p (own_table p)) where
       let none = the_rule p b codes.edge_state (is_empty row.0) (blocks.Generate g) row.0 refl (flow.each_row b (blocks.Generate g) row.0 is row.1) in
       on_bind (Starts p) (first_moment g s g.first) _ (λ d found. record { typed = arrived p flow (with_streams d.1 s) h.typed b g row.0 g.priority d.0 is row.1 none; within = h.within }))
       (λ x none is h. subst (OnGives (Starts p)) (sym (none b s)) h)
+      block
+
+  -- a GENERATE's interval reads no parameter
+  pub no_parameters_read : (b : ℕ) (block : Block) → block_at p.blocks b ≡ Some block → is_generate (Some block) ≡ true → (env : Environment) → AreRead env (values block)
+  no_parameters_read b block =
+      by_block (λ x. block_at p.blocks b ≡ Some x → is_generate (Some x) ≡ true → (env : Environment) → AreRead env (values x))
+      (λ g is generate.
+      let row = some_of (own_row p b) (flow.arrivals b (ap is_generate is)) in
+      let pass = flow.each_row b (blocks.Generate g) row.0 is row.1 in
+      interval_read p b g row.0 pass (the_rule p b codes.edge_state (is_empty row.0) (blocks.Generate g) row.0 refl pass))
+      (λ f is generate. absurd (false≢true generate))
+      (λ u is generate. absurd (false≢true generate))
+      (λ x plain is generate. absurd (false≢true (sym plain.generates ∙ generate)))
       block
 
   firsts_typed : (b : ℕ) (bs : List Block) (s : State) → ((i : ℕ) (block : Block) → slice_get bs i ≡ Some block → block_at p.blocks (b + i) ≡ Some block) → Starts p s → OnGives (Starts p) (first_arrivals b bs s)

@@ -44,8 +44,8 @@ pub kind_below : (es : List Entity) (e : ℕ) (kind : Kind) → kind_at es e ≡
 kind_below es e kind is = below (λ k. Unit {0}) es e (subst (λ o. IsSomeAnd o (λ k. Unit {0})) (sym is) tt)
 
 -- the entity that a block names is there
-pub named_below : (es : List Entity) (n : Named) → All (IsEntity es) (n ∷ []) → n.entity < length es
-named_below es n h = below (λ kind. IsTrue (serves_as n.needed kind)) es n.entity (All-head (IsEntity es) n [] h)
+pub named_below : (es : List Entity) (n : Named) (ns : List Named) → All (IsEntity es) (n ∷ ns) → n.entity < length es
+named_below es n ns h = below (λ kind. IsTrue (serves_as n.needed kind)) es n.entity (All-head (IsEntity es) n ns h)
 
 -- it is a storage of some capacity where it is needed as one
 pub is_storage : (es : List Entity) (e : ℕ) → All (IsEntity es) (needs needed.Storage e ∷ []) → (capacity : ℕ) × (kind_at es e ≡ Some (kinds.Storage capacity))
@@ -56,6 +56,8 @@ is_storage es e h = by_kind (kind_at es e) (All-head (IsEntity es) (needs needed
     by_kind (Some kinds.Facility) h = absurd (false≢true h)
     by_kind (Some (kinds.Storage capacity)) h = (capacity, refl)
     by_kind (Some kinds.Queue) h = absurd (false≢true h)
+    by_kind (Some (kinds.Switch set)) h = absurd (false≢true h)
+    by_kind (Some (kinds.Savevalue value)) h = absurd (false≢true h)
 
 -- it is a queue where it is needed as one
 pub is_queue : (es : List Entity) (e : ℕ) → All (IsEntity es) (needs needed.Queue e ∷ []) → kind_at es e ≡ Some kinds.Queue
@@ -66,3 +68,5 @@ is_queue es e h = by_kind (kind_at es e) (All-head (IsEntity es) (needs needed.Q
     by_kind (Some kinds.Facility) h = absurd (false≢true h)
     by_kind (Some (kinds.Storage capacity)) h = absurd (false≢true h)
     by_kind (Some kinds.Queue) h = refl
+    by_kind (Some (kinds.Switch set)) h = absurd (false≢true h)
+    by_kind (Some (kinds.Savevalue value)) h = absurd (false≢true h)

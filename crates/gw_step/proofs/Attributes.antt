@@ -1,9 +1,9 @@
 -- The attributes of a transaction, in the table of transactions.
-use Rattle.std.proofs.Common.{◌≡◌, ℕ, ◌<◌, List, length, Option, Some, None, is_some, option_map, refl, sym, ap, ◌∙◌, arith}
+use Rattle.std.proofs.Common.{◌≡◌, ℕ, ◌<◌, ℤ, List, length, Option, Some, None, is_some, option_map, refl, sym, ap, ◌∙◌, arith}
 use Rattle.gw_num.specs.Table.{at, put}
 use Rattle.gw_num.proofs.Tables.{at_some, at-put, at-put_past}
 use Rattle.gw_transactions.specs.declared.Transaction.{Transaction}
-use Rattle.gw_transactions.specs.Transactions.{LiveTransaction, with_attributes, attributes_at, put_attributes}
+use Rattle.gw_transactions.specs.Transactions.{LiveTransaction, with_attributes, with_parameter, attributes_at, put_attributes, put_parameter}
 use Rattle.gw_step.specs.State.{priority_in}
 
 -- a transaction that has these attributes
@@ -43,3 +43,16 @@ is_some-attributes b (Some t) = refl
 pub priority-attributes : (b : Transaction) (o : Option LiveTransaction) → priority_in o ≡ b.priority → priority_in (option_map (with_attributes b) o) ≡ priority_in o
 priority-attributes b None h = refl
 priority-attributes b (Some t) h = sym h
+
+-- who has another parameter is there as before
+pub is_some-parameter : (q : ℕ) (value : ℤ) (o : Option LiveTransaction) → is_some (option_map (with_parameter q value) o) ≡ is_some o
+is_some-parameter q value None = refl
+is_some-parameter q value (Some t) = refl
+
+-- and has the same attributes
+pub attributes-parameter : (ts : List (Option LiveTransaction)) (n q : ℕ) (value : ℤ) → attributes_at n (put_parameter n q value ts) ≡ attributes_at n ts
+attributes-parameter ts n q value = ap (option_map (λ (t : LiveTransaction). t.attributes)) (at-put None ts n _) ∙ by_option (at None ts n)
+  where
+    by_option : (o : Option LiveTransaction) → option_map (λ (t : LiveTransaction). t.attributes) (option_map (with_parameter q value) o) ≡ option_map (λ (t : LiveTransaction). t.attributes) o
+    by_option None = refl
+    by_option (Some t) = refl

@@ -1,5 +1,5 @@
 -- What each block does to the entities is in balance with what is known of the transaction before and after it.
-use Rattle.std.proofs.Common.{◌≡◌, ◌≢◌, ℕ, ◌+◌, ◌^◌, ◌<◌, ◌≤◌, List, [], ◌∷◌, length, Option, Some, None, is_none, true, false, ◌&&◌, ◌==◌, refl, sym, ap, ◌∙◌, subst, arith, inl, inr}
+use Rattle.std.proofs.Common.{◌≡◌, ◌≢◌, ℕ, ◌+◌, ◌^◌, ◌<◌, ◌≤◌, ℤ, Bool, List, [], ◌∷◌, length, Option, Some, None, is_none, true, false, ◌&&◌, ◌==◌, refl, sym, ap, ◌∙◌, subst, arith, inl, inr}
 use Rattle.std.proofs.lemmas.Bool.{cases_eq, eq-eqb, ne_eqb, eqb-true, false≢true, and_parts}
 use Rattle.std.specs.Option.{option_map_or}
 use Rattle.gw_object.specs.declared.parts.Kind.{Kind}
@@ -17,18 +17,64 @@ use Rattle.gw_entities.specs.declared.contents.Contents.{Contents}
 use Rattle.gw_entities.specs.Contents.{empty}
 use Rattle.gw_entities.specs.Facility.{idle, seized, released, is_idle, is_owned_by}
 use Rattle.gw_entities.specs.Storage.{vacant}
+use Rattle.gw_entities.specs.Table.{set_switch, set_savevalue}
 use Rattle.gw_step.specs.State.{EntityStates}
 use Rattle.gw_step.specs.Typing.{content_of}
 use Rattle.gw_step.proofs.Owning.{lists-with, lists-with_other, lists-without, lists-without_other, lists-none}
 use Rattle.gw_step.proofs.Within.{raises-same}
-use Rattle.gw_step.proofs.Follows.{raises-seized, raises-released, raises-storage, raises-queue}
+use Rattle.gw_step.proofs.Follows.{raises-seized, raises-released, raises-storage, raises-queue, raises-switch, raises-savevalue}
 use Rattle.gw_step.proofs.AtBlock.{kind_below}
 use Rattle.gw_step.proofs.Agreeing.{Balanced}
 
 -- ENTITIES LEFT ALONE
 
+pub balanced-same : (p : Parts) (n : ℕ) (row : Option Row) (g : EntityStates) → Balanced p n row row g g
+balanced-same p n row g = record { others = λ f m other. refl; own = λ f h. h; units = λ e. omega arith; sized = λ e. refl; filled = λ w. w; raises = λ w. raises-same g }
+
 pub balanced-nothing : (p : Parts) (n : ℕ) (row : Row) (g : EntityStates) → Balanced p n (Some row) (Some row) g g
-balanced-nothing p n row g = record { others = λ f m other. refl; own = λ f h. h; units = λ e. omega arith; sized = λ e. refl; filled = λ w. w; raises = λ w. raises-same g }
+balanced-nothing p n row g = balanced-same p n (Some row) g
+
+-- where only parameters are known besides
+pub balanced-parameters : (p : Parts) (n : ℕ) (row state : Row) (g : EntityStates) → state.facilities ≡ row.facilities → state.units ≡ row.units → Balanced p n (Some row) (Some state) g g
+balanced-parameters p n row state g facilities units = record {
+  others = λ f m other. refl;
+  own = λ f h. h ∙ ap (λ fs. lists fs f) (sym facilities);
+  units = λ e. omega (arith, ap (λ us. amount_of us e) units);
+  sized = λ e. refl;
+  filled = λ w. w;
+  raises = λ w. raises-same g;
+}
+
+-- LOGIC SWITCHES AND SAVEVALUES
+
+-- what is inside the entities doesn't depend on them
+apart_from_settings : (switches : List Bool) (savevalues : List ℤ) (g : EntityStates) (e : ℕ) (kind : Option Kind) → content_of e (record g { switches = switches; savevalues = savevalues }) kind ≡ content_of e g kind
+apart_from_settings switches savevalues g e None = refl
+apart_from_settings switches savevalues g e (Some kinds.Facility) = refl
+apart_from_settings switches savevalues g e (Some (kinds.Storage capacity)) = refl
+apart_from_settings switches savevalues g e (Some kinds.Queue) = refl
+apart_from_settings switches savevalues g e (Some (kinds.Switch set)) = refl
+apart_from_settings switches savevalues g e (Some (kinds.Savevalue value)) = refl
+
+pub balanced-switch : (p : Parts) (n l : ℕ) (on : Bool) (row : Row) (g : EntityStates) → l < length p.entities → Balanced p n (Some row) (Some row) g (record g { switches = set_switch l on g.switches })
+balanced-switch p n l on row g there = record {
+  others = λ f m other. refl;
+  own = λ f h. h;
+  units = λ e. omega (arith, apart_from_settings (set_switch l on g.switches) g.savevalues g e (kind_at p.entities e));
+  sized = λ e. refl;
+  filled = λ w. record { contents = w.contents };
+  raises = λ w. raises-switch l on g (omega (arith, there, w.switches));
+}
+
+pub balanced-savevalue : (p : Parts) (n x : ℕ) (value : ℤ) (row : Row) (g : EntityStates) → x < length p.entities → Balanced p n (Some row) (Some row) g (record g { savevalues = set_savevalue x value g.savevalues })
+balanced-savevalue p n x value row g there = record {
+  others = λ f m other. refl;
+  own = λ f h. h;
+  units = λ e. omega (arith, apart_from_settings g.switches (set_savevalue x value g.savevalues) g e (kind_at p.entities e));
+  sized = λ e. refl;
+  filled = λ w. record { contents = w.contents };
+  raises = λ w. raises-savevalue x value g (omega (arith, there, w.savevalues));
+}
 
 -- the row may promise less
 pub balanced-fits : (p : Parts) (n : ℕ) (old : Option Row) (state row : Row) (g h : EntityStates) → Balanced p n old (Some state) g h → Fits state row → Balanced p n old (Some row) g h
@@ -85,6 +131,8 @@ apart_from_facilities fs g e None = refl
 apart_from_facilities fs g e (Some kinds.Facility) = refl
 apart_from_facilities fs g e (Some (kinds.Storage capacity)) = refl
 apart_from_facilities fs g e (Some kinds.Queue) = refl
+apart_from_facilities fs g e (Some (kinds.Switch set)) = refl
+apart_from_facilities fs g e (Some (kinds.Savevalue value)) = refl
 
 pub balanced-seize : (p : Parts) (n f : ℕ) (row : Row) (g : EntityStates) → f < length p.entities → is_idle (at idle g.facilities f) ≡ true → Balanced p n (Some row) (Some (with_facility f row)) g (record g { facilities = put idle g.facilities f (seized n (at idle g.facilities f)) })
 balanced-seize p n f row g below free =
@@ -154,6 +202,8 @@ balanced-storage p n e k v row g capacity kind same less within more = record {
     by_kind d apart (Some kinds.Facility) = omega (arith, units_apart e k row d apart)
     by_kind d apart (Some (kinds.Storage c)) = omega (arith, units_apart e k row d apart, ap (λ (x : Storage). x.contents.content) (at-put_other (vacant 0) g.storages e d v apart))
     by_kind d apart (Some kinds.Queue) = omega (arith, units_apart e k row d apart)
+    by_kind d apart (Some (kinds.Switch set)) = omega (arith, units_apart e k row d apart)
+    by_kind d apart (Some (kinds.Savevalue value)) = omega (arith, units_apart e k row d apart)
 
 -- a queue of which a row promises so many units
 pub balanced-queue : (p : Parts) (n e k : ℕ) (v : Contents) (row : Row) (g : EntityStates) → kind_at p.entities e ≡ Some kinds.Queue
@@ -180,3 +230,5 @@ balanced-queue p n e k v row g kind less more inside = record {
     by_kind d apart (Some kinds.Facility) = omega (arith, units_apart e k row d apart)
     by_kind d apart (Some (kinds.Storage c)) = omega (arith, units_apart e k row d apart)
     by_kind d apart (Some kinds.Queue) = omega (arith, units_apart e k row d apart, ap (λ (x : Contents). x.content) (at-put_other empty g.queues e d v apart))
+    by_kind d apart (Some (kinds.Switch set)) = omega (arith, units_apart e k row d apart)
+    by_kind d apart (Some (kinds.Savevalue value)) = omega (arith, units_apart e k row d apart)

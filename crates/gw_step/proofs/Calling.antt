@@ -26,10 +26,10 @@ use Rattle.gw_step.proofs.Residence.{one_if, same_number, occurrences-joined, oc
 use Rattle.gw_step.proofs.Follows.{asked-enter}
 use Rattle.gw_step.specs.Typing.{IsPlaced, WellTyped}
 use Rattle.gw_step.proofs.Balances.{balanced-seize, balanced-storage}
-use Rattle.gw_step.proofs.Traces.{IsAt, IsPresent, Goes, Called, Trace, Done, Then, trace_on, trace-keeps}
+use Rattle.gw_step.proofs.Traces.{IsAt, its_parameters, IsPresent, Goes, Called, Trace, Done, Then, trace_on, trace-keeps}
 use Rattle.gw_step.proofs.AtBlock.{first_may_be_entered, is_storage, kind_below}
 use Rattle.gw_step.proofs.Operands.{good_units}
-use Rattle.gw_step.proofs.Moving.{at_first}
+use Rattle.gw_step.proofs.Moving.{at_first, unchanged}
 use Rattle.gw_transactions.specs.Transactions.{attributes_at}
 use Rattle.gw_step.proofs.Attributes.{bearer_at}
 use Rattle.gw_step.proofs.PlainBlocks.{by_block}
@@ -67,7 +67,7 @@ module _ (p : Parts) (each_block : (b : ℕ) (block : Block) → block_at p.bloc
   taken_over k ar s ty f w t below idle waits live there =
       let found = is_at s ty w t (blocks.Seize f) live there in
       Then (Called f w waits below)
-      (Then (Goes w (t.next + 1) t t (blocks.Seize f) found.0 (with_facility f found.0) (put_facility f (seized w (facility f s)) s).entities found.1 refl (called_is_present f w s) (at_first _ []) (first_may_be_entered p t.next _ [] (each_block t.next (blocks.Seize f) there).exits) (balanced-seize p w f found.0 s.entities below idle)) Done)
+      (Then (Goes w (t.next + 1) t t (blocks.Seize f) found.0 (with_facility f found.0) (put_facility f (seized w (facility f s)) s).entities found.1 (unchanged (called_from f w s) t) (called_is_present f w s) (its_parameters p s ty w t (blocks.Seize f) found.0 found.1) (at_first _ []) (first_may_be_entered p t.next _ [] (each_block t.next (blocks.Seize f) there).exits) (balanced-seize p w f found.0 s.entities below idle)) Done)
 
   pub handed_over : (k ar : ℕ) (s : State) → WellTyped p s → (f : ℕ) (ws : List ℕ) → f < length p.entities → is_idle (facility f s) ≡ true → ((m : ℕ) → occurrences m ws ≤ occurrences m (delay_list f s)) → Trace p (suc k) ar s (suc k) ar (hand_over p.blocks f ws s)
   handed_over k ar s ty f [] below idle among = Done
@@ -98,7 +98,7 @@ module _ (p : Parts) (each_block : (b : ℕ) (block : Block) → block_at p.bloc
       let old = delay_list u.entity s in
       record {
         trace = Then (Called u.entity w waits (kind_below p.entities u.entity (kinds.Storage kind.0) kind.1))
-            (Then (Goes w (t.next + 1) t t (blocks.Enter u) found.0 (with_units u.entity (units_of found.0 u.entity + u.number) found.0) (put_storage u.entity (storages.entered u.number (storage u.entity s)) s).entities found.1 refl (called_is_present u.entity w s) (at_first _ []) (first_may_be_entered p t.next _ [] holds.exits)
+            (Then (Goes w (t.next + 1) t t (blocks.Enter u) found.0 (with_units u.entity (units_of found.0 u.entity + u.number) found.0) (put_storage u.entity (storages.entered u.number (storage u.entity s)) s).entities found.1 (unchanged (called_from u.entity w s) t) (called_is_present u.entity w s) (its_parameters p s ty w t (blocks.Enter u) found.0 found.1) (at_first _ []) (first_may_be_entered p t.next _ [] holds.exits)
             (balanced-storage p w u.entity (units_of found.0 u.entity + u.number) (storages.entered u.number (storage u.entity s)) found.0 s.entities kind.0 kind.1 refl (omega arith) (λ _. leb-true _ _ free) (omega (arith, (good_units p needed.Storage u holds.entities holds.constants).number)))) Done);
         left = λ m. omega (arith, occurrences-without m w old waits, ap (occurrences m) (at-put [] s.lists.delay_lists u.entity (without w old)));
       }

@@ -1,18 +1,19 @@
 -- What a scan leaves of the counts: the steps, the end and the termination count.
-use Rattle.std.proofs.Common.{◌≡◌, ◌⊎◌, ℕ, ◌+◌, ℤ, pos, ◌<ℤ◌, List, [], ◌∷◌, length, Option, Some, None, Result, Ok, Err, Bool, true, false, not, if◌then◌else◌, nat_lt, refl, sym, ap, ◌∙◌, subst, arith, inl, inr}
-use Rattle.std.specs.Prelude.{int_lt}
+use Rattle.std.proofs.Common.{◌≡◌, ◌⊎◌, ℕ, ◌+◌, ℤ, pos, ◌<ℤ◌, List, [], ◌∷◌, Option, Some, None, Result, Ok, Err, Bool, true, false, not, if◌then◌else◌, nat_lt, refl, sym, ap, ◌∙◌, subst, arith, inl, inr}
+use Rattle.std.specs.Prelude.{int_lt, unwrap_or}
 use Rattle.std.proofs.lemmas.Int.{ints}
 use Rattle.gw_object.specs.declared.parts.Generate.{Generate}
 use Rattle.gw_object.specs.declared.parts.Block.{Block}
 use Rattle.gw_object.specs.declared.parts.Block.TheVariants as blocks
 use Rattle.gw_kinds.specs.Kinds.{block_at}
-use Rattle.gw_flow.specs.Values.{operands}
+use Rattle.gw_flow.specs.Values.{answered, operands}
+use Rattle.gw_num.specs.Arithmetic.{difference_of}
 use Rattle.gw_num.specs.Table.{at}
 use Rattle.gw_transactions.specs.declared.Transaction.{Transaction}
-use Rattle.gw_transactions.specs.Transactions.{attributes_at}
+use Rattle.gw_transactions.specs.Transactions.{attributes_at, parameter_at}
 use Rattle.gw_transactions.specs.Transactions.{live_count}
 use Rattle.gw_entities.specs.declared.stop.Stop.{Stop}
-use Rattle.gw_entities.specs.declared.stop.Stop.TheVariants.{NoBlock, OwnsAtEnd}
+use Rattle.gw_entities.specs.declared.stop.Stop.TheVariants.{NoBlock, OwnsAtEnd, UnsetParam}
 use Rattle.gw_entities.specs.Facility.{seizing, releasing, owns_any}
 use Rattle.gw_entities.specs.Storage.{entering, leaving}
 use Rattle.gw_entities.specs.Queue.{joined, departing}
@@ -22,10 +23,10 @@ use Rattle.gw_step.specs.declared.placement.Placement.{Placement}
 use Rattle.gw_step.specs.declared.placement.Placement.TheVariants.{StaysActive, RestsUntil, JoinsDelayList, JoinsRetryList, LeavesModel}
 use Rattle.gw_step.specs.Outcome.{Outcome, Gives, EndsBy, StopsBy, ◌>>=◌, or_stop, granted, evaluated}
 use Rattle.gw_step.specs.State.{FutureEvent, State, may_enter, with_streams, delay_list}
-use Rattle.gw_step.specs.Times.{environment, moment_after, drawn_moment}
-use Rattle.gw_step.specs.Changes.{entered, enters_and_falls, arrives, woken, facility, storage, queue, put_facility, put_storage, put_queue, end_at}
+use Rattle.gw_step.specs.Times.{environment_of, environment_of_next, moment_after, drawn_moment}
+use Rattle.gw_step.specs.Changes.{entered, enters_and_falls, assigned, arrives, woken, facility, storage, queue, switch, savevalue, put_facility, put_storage, put_queue, put_switch, put_savevalue, end_at}
 use Rattle.gw_step.specs.Placing.{woken_if_stirred, placed}
-use Rattle.gw_step.specs.Blocks.{refuses, refusal, is_owed, next_arrival, chosen, the_value, effect, then_placed, meets, act}
+use Rattle.gw_step.specs.Blocks.{refuses, refusal, is_owed, next_arrival, chosen, put_by, looped, turned, the_value, effect, then_placed, meets, act}
 use Rattle.gw_step.specs.Step.{next_event, next_active, scan}
 use Rattle.gw_step.proofs.Outcomes.{OnGives, on_bind, on_test, on_if, on_both, choose}
 use Rattle.gw_step.proofs.Follows.{Stays, stays-same, stays-hand_over, stays-admission}
@@ -81,7 +82,7 @@ module _ (s : State) where
   arrival_stays : (b : ℕ) (g : Generate) → OnGives (Stays s) (next_arrival b g s)
   arrival_stays b g =
       on_if (Stays s) (is_owed g.limit (at 0 s.scheduled b)) _ (Gives s)
-      (on_bind (Stays s) (drawn_moment (environment (length s.transactions) g.priority s.clock s) g.interval s.clock s.streams) _
+      (on_bind (Stays s) (drawn_moment (environment_of_next g.priority s) g.interval s.clock s.streams) _
       (λ d _. on_if (Stays s) (nat_lt (live_count s.transactions) 65536) (Gives (arrives b g.priority d.0 (with_streams d.1 s))) (EndsBy Live) (record { clock = refl; count = refl; steps = refl; ended = refl }) tt))
       (stays-same s)
 
@@ -107,9 +108,23 @@ module _ (s : State) where
   effect_counted bs n t (blocks.Queue u) values = on_test Entered (may_enter (block_at bs (t.next + 1))) NoBlock _ (passed (put_queue u.entity (joined u.number (queue u.entity s)) (enters_and_falls n t s)) refl refl refl)
   effect_counted bs n t (blocks.Depart u) values =
       on_test Entered (may_enter (block_at bs (t.next + 1))) NoBlock _ (on_granted Entered (departing u.number (queue u.entity s)) _ (λ r. passed (put_queue u.entity r.1 (enters_and_falls n t s)) refl refl refl))
+  effect_counted bs n t (blocks.Assign a) values =
+      on_bind Entered (evaluated (answered (put_by a.mode (unwrap_or (parameter_at n a.parameter s.transactions) (pos 0)) (the_value values)))) _
+      (λ new _. on_test Entered (may_enter (block_at bs (t.next + 1))) NoBlock _ (passed (enters_and_falls n t (assigned n a.parameter new s)) refl refl refl))
   effect_counted bs n t (blocks.Transfer target) values = on_test Entered (may_enter (block_at bs target)) NoBlock _ (passed (entered n t target s) refl refl refl)
   effect_counted bs n t (blocks.TransferByFraction f) values =
       on_test Entered (may_enter (block_at bs (chosen t.next f (the_value values)))) NoBlock _ (passed (entered n t (chosen t.next f (the_value values)) s) refl refl refl)
+  effect_counted bs n t (blocks.Loop l) values =
+      on_bind Entered (or_stop (parameter_at n l.parameter s.transactions) UnsetParam) _
+      (λ old _. on_bind Entered (evaluated (answered (difference_of old (pos 1)))) _
+      (λ left _. on_test Entered (may_enter (block_at bs (looped t.next l.target left))) NoBlock _ (passed (entered n t (looped t.next l.target left) (assigned n l.parameter left s)) refl refl refl)))
+  effect_counted bs n t (blocks.Logic l) values =
+      on_test Entered (may_enter (block_at bs (t.next + 1))) NoBlock _ (passed (put_switch l.switch (turned l.action (switch l.switch s)) (enters_and_falls n t s)) refl refl refl)
+  effect_counted bs n t (blocks.Savevalue a) values =
+      on_bind Entered (evaluated (answered (put_by a.mode (savevalue a.savevalue s) (the_value values)))) _
+      (λ new _. on_test Entered (may_enter (block_at bs (t.next + 1))) NoBlock _ (passed (put_savevalue a.savevalue new (enters_and_falls n t s)) refl refl refl))
+  effect_counted bs n t (blocks.Mark None) values = on_test Entered (may_enter (block_at bs (t.next + 1))) NoBlock _ (passed (enters_and_falls n (record t { mark = s.clock }) s) refl refl refl)
+  effect_counted bs n t (blocks.Mark (Some q)) values = on_test Entered (may_enter (block_at bs (t.next + 1))) NoBlock _ (passed (enters_and_falls n t (assigned n q s.clock s)) refl refl refl)
 
   meets_counted : (bs : List Block) (n : ℕ) (t : Transaction) (block : Block) (values : List ℤ) → OnGives (IsCounted s) (meets bs n t block values s)
   meets_counted bs n t block values =
@@ -120,7 +135,7 @@ module _ (s : State) where
 act_counted : (bs : List Block) (n : ℕ) (t : Transaction) (block : Block) (s : State) → OnGives (IsCounted s) (act bs n t block s)
 unfolding act
 act_counted bs n t block s =
-    on_bind (IsCounted s) (evaluated (operands (environment n t.priority t.mark s) block s.streams)) _
+    on_bind (IsCounted s) (evaluated (operands (environment_of n t s) block s.streams)) _
     (λ read _. on_then (IsCounted (with_streams read.1 s)) (IsCounted s) (meets bs n t block read.0 (with_streams read.1 s)) (meets_counted (with_streams read.1 s) bs n t block read.0) (λ u h. record { steps = h.steps; ended = h.ended }))
 
 -- THE SCAN

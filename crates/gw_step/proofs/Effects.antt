@@ -1,13 +1,17 @@
 -- What each block does to a well-typed state is a list of elementary changes, and never an error stop.
-use Rattle.std.proofs.Common.{◌≡◌, ℕ, suc, ◌+◌, ◌-◌, ◌≤◌, ℤ, pos, ◌≤ℤ◌, List, [], ◌∷◌, length, Option, Some, None, Result, Ok, Err, Bool, true, false, not, if◌then◌else◌, ◌==◌, ◌||◌, refl, sym, ap, ◌∙◌, subst, arith}
+use Rattle.std.proofs.Common.{◌≡◌, ℕ, suc, ◌+◌, ◌-◌, ◌≤◌, ℤ, pos, ◌≤ℤ◌, List, [], ◌∷◌, length, Option, Some, None, Result, Ok, Err, Bool, true, false, not, if◌then◌else◌, ◌==◌, ◌||◌, is_some, option_map, IsSome, ◌⊎◌, inl, inr, refl, sym, ap, ◌∙◌, subst, arith}
 use Rattle.std.specs.Prelude.{int_lt, nat_le, unwrap_or, Contains}
-use Rattle.std.specs.Option.{option_map_or}
+use Rattle.std.specs.Option.{option_map_or, option_flatten}
 use Rattle.std.specs.List.{list_any}
-use Rattle.std.proofs.lemmas.Bool.{leb-true, le-leb, false≢true}
+use Rattle.std.proofs.lemmas.Bool.{cases_eq, leb-true, le-leb, false≢true}
 use Rattle.gw_object.specs.declared.parts.Operand.{Operand}
 use Rattle.gw_object.specs.declared.parts.Spread.{Spread}
 use Rattle.gw_object.specs.declared.parts.Units.{Units}
 use Rattle.gw_object.specs.declared.parts.Fraction.{Fraction}
+use Rattle.gw_object.specs.declared.parts.Assign.{Assign}
+use Rattle.gw_object.specs.declared.parts.Loop.{Loop}
+use Rattle.gw_object.specs.declared.parts.Logic.{Logic}
+use Rattle.gw_object.specs.declared.parts.Save.{Save}
 use Rattle.gw_object.specs.declared.parts.Kind.{Kind}
 use Rattle.gw_object.specs.declared.parts.Kind.TheVariants as kinds
 use Rattle.gw_object.specs.declared.parts.Block.{Block}
@@ -19,29 +23,33 @@ use Rattle.gw_kinds.specs.Exits.{leads_to, at_once, goes_or_falls}
 use Rattle.gw_kinds.specs.Kinds.{kind_at, block_at, needs}
 use Rattle.gw_kinds.specs.Laws.{MayBeEntered, BlockHolds}
 use Rattle.gw_flow.specs.Codes as codes
-use Rattle.gw_flow.specs.Rows.{Row, owns, units_of, with_facility, without_facility, with_units}
+use Rattle.gw_flow.specs.Rows.{Row, kind_of, owns, units_of, with_parameter, with_facility, without_facility, with_units}
+use Rattle.gw_flow.specs.Values.{answered}
+use Rattle.gw_flow.proofs.Parameters.{loop_is_number, kind_of_other}
+use Rattle.gw_num.specs.Arithmetic.{difference_of}
 use Rattle.gw_flow.specs.Blocks.{capacity_at, move, edges}
 use Rattle.gw_flow.specs.Flow.{own_table}
 use Rattle.gw_flow.specs.Laws.{FlowHolds}
-use Rattle.gw_num.specs.Table.{at}
+use Rattle.gw_num.specs.Table.{at, put}
+use Rattle.gw_num.proofs.Tables.{at-put}
 use Rattle.gw_transactions.specs.declared.Transaction.{Transaction}
 use Rattle.gw_entities.specs.declared.facilities.Facility.{Facility}
 use Rattle.gw_entities.specs.declared.storages.Storage.{Storage}
 use Rattle.gw_entities.specs.declared.contents.Contents.{Contents}
 use Rattle.gw_entities.specs.declared.stop.Stop.{Stop}
-use Rattle.gw_entities.specs.declared.stop.Stop.TheVariants.{NotOwner, AlreadyOwned, TooFew, OverCapacity, OwnsAtEnd}
+use Rattle.gw_entities.specs.declared.stop.Stop.TheVariants.{NotOwner, AlreadyOwned, TooFew, OverCapacity, OwnsAtEnd, UnsetParam}
 use Rattle.gw_entities.specs.Contents.{holds}
 use Rattle.gw_entities.specs.Facility.{idle, seized, seizing, released, releasing, is_idle, is_owned_by, owns_any}
 use Rattle.gw_entities.specs.Storage as storages
 use Rattle.gw_entities.specs.Queue.{joined, departed, departing}
 use Rattle.gw_step.specs.declared.placement.Placement.{Placement}
 use Rattle.gw_step.specs.declared.placement.Placement.TheVariants.{StaysActive, RestsUntil, JoinsDelayList}
-use Rattle.gw_step.specs.Outcome.{Gives, ◌>>=◌, granted}
+use Rattle.gw_step.specs.Outcome.{Gives, ◌>>=◌, granted, evaluated}
 use Rattle.gw_step.specs.State.{State, delay_list}
-use Rattle.gw_step.specs.Times.{moment_after}
-use Rattle.gw_step.specs.Changes.{enters_and_falls, facility, storage, queue, put_facility, put_storage, put_queue}
+use Rattle.gw_step.specs.Times.{moment_after, parameters_of}
+use Rattle.gw_step.specs.Changes.{entered, assigned, enters_and_falls, facility, storage, queue, switch, savevalue, put_facility, put_storage, put_queue, put_switch, put_savevalue}
 use Rattle.gw_step.specs.Placing.{placed}
-use Rattle.gw_step.specs.Blocks.{has_to_wait, leads, stays, until, advance, hand_over, release, admission, leave, join_queue, depart, transfer, chosen, terminate, effect, then_placed, meets}
+use Rattle.gw_step.specs.Blocks.{has_to_wait, leads, stays, until, advance, hand_over, release, admission, leave, join_queue, depart, transfer, chosen, put_by, assign, loop, mark, turned, logic, save, terminate, effect, then_placed, meets}
 use Rattle.gw_step.proofs.Outcomes.{choose}
 use Rattle.gw_step.proofs.Residence.{at-le-sum}
 use Rattle.gw_step.proofs.Owning.{idle-released}
@@ -50,14 +58,15 @@ use Rattle.gw_step.specs.Places.{row_of}
 use Rattle.gw_step.specs.Typing.{promised_units, content_of, awaited, WaitsFor}
 use Rattle.gw_step.proofs.Owning.{lists-none}
 use Rattle.gw_step.proofs.Operands.{good_units}
-use Rattle.gw_step.proofs.Balances.{balanced-nothing, balanced-seize, balanced-release, balanced-storage, balanced-queue}
-use Rattle.gw_step.proofs.Traces.{EntersLast, Counts, Done, Then, change-keeps, present, Rested, credited, its_row}
-use Rattle.gw_step.proofs.Unstopped.{Safe, safe_bind, safe_test, safe_if}
+use Rattle.gw_step.proofs.Balances.{balanced-nothing, balanced-parameters, balanced-switch, balanced-savevalue, balanced-seize, balanced-release, balanced-storage, balanced-queue}
+use Rattle.gw_step.proofs.Traces.{Assigns, its_parameters, EntersLast, Counts, Done, Then, change-keeps, present, Rested, credited, its_row}
+use Rattle.gw_step.proofs.Unstopped.{Safe, Any, safe_bind, safe_test, safe_if, safe_found, safe_answered}
 use Rattle.gw_step.proofs.AtBlock.{first_may_be_entered, second_may_be_entered, led_to, named_below, is_storage, is_queue}
-use Rattle.gw_step.proofs.Moving.{Acts, Reaches, Enters, entered_once, safe_placed, refused, safe_leads, at_first, at_second, the_rule, goes, just_goes, owner_as}
-use Rattle.gw_step.proofs.Calling.{handed_over, admits}
+use Rattle.gw_step.proofs.Moving.{Acts, unchanged, assigned_acts, parameters-assigned, Reaches, Enters, entered_once, safe_placed, refused, safe_leads, at_first, at_second, the_rule, goes, just_goes, owner_as}
+use Rattle.gw_step.proofs.Calling.{some_of, handed_over, admits}
 use Rattle.gw_step.proofs.Attributes.{bearer_at, written_at}
-use Rattle.gw_transactions.specs.Transactions.{with_attributes}
+use Rattle.gw_transactions.specs.Parameters.{no_parameters}
+use Rattle.gw_transactions.specs.Transactions.{LiveTransaction, parameter_at, with_attributes}
 
 not-true : (b : Bool) → not b ≡ true → b ≡ false
 not-true true h = absurd (false≢true h)
@@ -97,6 +106,16 @@ left_is n e h = ap (λ b. if◌then◌else◌ {A = Result (Unit {0} × Storage) 
 departed_is : (n : ℕ) (q : Contents) → holds n q ≡ true → departing n q ≡ Ok (tt, departed n q)
 departed_is n q h = ap (λ b. if◌then◌else◌ {A = Result (Unit {0} × Contents) Stop} b (Ok (tt, departed n q)) (Err TooFew)) h
 
+-- what is known where a parameter is set: a number there, and the rest as before
+set_or_same : (q r : ℕ) (row : Row) → (kind_of (with_parameter q row) r ≡ kind_of row r) ⊎ (q ≡ r)
+set_or_same q r row = elim (cases_eq q r) [ inl same ↦ inr same | inr other ↦ inl (kind_of_other q r row other) ]
+
+-- the value of a parameter is read of who is there
+parameter_read : (s : State) (n q : ℕ) (b : LiveTransaction) → at None s.transactions n ≡ Some b → at None (parameters_of n s) q ≡ parameter_at n q s.transactions
+parameter_read s n q b found =
+    ap (λ o. at None (option_map_or (λ (t : LiveTransaction). t.parameters) o no_parameters) q) found
+    ∙ sym (ap (λ o. option_flatten (option_map (λ (t : LiveTransaction). at None t.parameters q) o)) found)
+
 module _ (p : Parts) (each_block : (b : ℕ) (block : Block) → block_at p.blocks b ≡ Some block → BlockHolds p b block) (flow : FlowHolds p (own_table p)) (s : State) (n : ℕ) (t : Transaction) (k : ℕ) where
   -- the units that its row promises are inside
   inside : (block : Block) (row : Row) → Acts p s n t block row → (e : ℕ) → units_of row e ≤ content_of e s.entities (kind_at p.entities e)
@@ -126,7 +145,7 @@ module _ (p : Parts) (each_block : (b : ℕ) (block : Block) → block_at p.bloc
       (record {
         entries = suc k;
         arrivals = k;
-        trace = Then (goes p s n t (blocks.Advance time) row acts k k t (t.next + 1) row s.entities refl (at_first _ []) may (balanced-nothing p n row s.entities)) Done;
+        trace = Then (goes p s n t (blocks.Advance time) row acts k k t (t.next + 1) row s.entities (unchanged s t) (λ q. inl refl) (at_first _ []) may (balanced-nothing p n row s.entities)) Done;
         may = until_rests s.clock moment (enters_and_falls n t s) acts.active refl later;
         few_entries = omega (arith, until_credits s.clock moment (suc k));
         few_arrivals = omega arith;
@@ -136,7 +155,7 @@ module _ (p : Parts) (each_block : (b : ℕ) (block : Block) → block_at p.bloc
   unfolding effect
   safe_seize f values row acts =
       let may = first_may_be_entered p t.next _ [] acts.kinds.exits in
-      let below = named_below p.entities (needs needed.Facility f) acts.kinds.entities in
+      let below = named_below p.entities (needs needed.Facility f) [] acts.kinds.entities in
       let rule = the_rule p t.next codes.already_owned (not (owns row f)) (blocks.Seize f) row refl acts.flow in
       let mine : is_owned_by n (facility f s) ≡ false = owner_as p s n t (blocks.Seize f) row acts f ∙ not-true (owns row f) rule in
       seize_cases
@@ -144,16 +163,16 @@ module _ (p : Parts) (each_block : (b : ℕ) (block : Block) → block_at p.bloc
       n (facility f s) mine
       (λ free.
       safe_placed p k s n _ (safe_leads p (Enters p k s n) (t.next + 1) _ may
-      (just_goes p s n t (blocks.Seize f) row acts k (t.next + 1) (with_facility f row) (put_facility f (seized n (facility f s)) s).entities (at_first _ []) may (balanced-seize p n f row s.entities below free))))
+      (just_goes p s n t (blocks.Seize f) row acts k (t.next + 1) (with_facility f row) (put_facility f (seized n (facility f s)) s).entities (λ q. inl refl) (at_first _ []) may (balanced-seize p n f row s.entities below free))))
       (refused p k s n (JoinsDelayList f) (acts.active, asks (blocks.Seize f) row acts f refl, below) (omega arith))
 
   pub safe_release : (f : ℕ) (row : Row) → Acts p s n t (blocks.Release f) row → Safe (Enters p k s n) (release p.blocks n t f s)
   safe_release f row acts =
       let may = first_may_be_entered p t.next _ [] acts.kinds.exits in
-      let below = named_below p.entities (needs needed.Facility f) acts.kinds.entities in
+      let below = named_below p.entities (needs needed.Facility f) [] acts.kinds.entities in
       let owned = owner_as p s n t (blocks.Release f) row acts f ∙ the_rule p t.next codes.not_owner (owns row f) (blocks.Release f) row refl acts.flow in
       let u : State = put_facility f (released (facility f s)) (enters_and_falls n t s) in
-      let gone = goes p s n t (blocks.Release f) row acts k k t (t.next + 1) (without_facility f row) u.entities refl (at_first _ []) may (balanced-release p n f row s.entities below owned) in
+      let gone = goes p s n t (blocks.Release f) row acts k k t (t.next + 1) (without_facility f row) u.entities (unchanged s t) (λ q. inl refl) (at_first _ []) may (balanced-release p n f row s.entities below owned) in
       safe_leads p (Enters p k s n) (t.next + 1) _ may
       (subst (λ r. Safe (Enters p k s n) (granted r >>= λ x. stays (hand_over p.blocks f (delay_list f s) (put_facility f x.1 (enters_and_falls n t s))))) (sym (released_is n (facility f s) owned))
       (entered_once p k s n _ (Then gone (handed_over p each_block flow k k u (change-keeps p flow gone acts.typed) f (delay_list f s) below (idle-released f (enters_and_falls n t s)) (λ m. omega arith)))))
@@ -172,7 +191,7 @@ module _ (p : Parts) (each_block : (b : ℕ) (block : Block) → block_at p.bloc
       u.number (storage u.entity s) (ap (nat_le u.number) (acts.typed.sized u.entity) ∙ rule)
       (λ free.
       safe_placed p k s n _ (safe_leads p (Enters p k s n) (t.next + 1) _ may
-      (just_goes p s n t (blocks.Enter u) row acts k (t.next + 1) (with_units u.entity (units_of row u.entity + u.number) row) (put_storage u.entity (storages.entered u.number (storage u.entity s)) s).entities (at_first _ []) may
+      (just_goes p s n t (blocks.Enter u) row acts k (t.next + 1) (with_units u.entity (units_of row u.entity + u.number) row) (put_storage u.entity (storages.entered u.number (storage u.entity s)) s).entities (λ q. inl refl) (at_first _ []) may
       (balanced-storage p n u.entity (units_of row u.entity + u.number) (storages.entered u.number (storage u.entity s)) row s.entities kind.0 kind.1 refl (omega arith) (λ _. leb-true _ _ free) (omega (arith, fit.number))))))
       (refused p k s n (JoinsDelayList u.entity) (acts.active, asks (blocks.Enter u) row acts u.entity refl, fit.entity) (omega arith))
 
@@ -187,7 +206,7 @@ module _ (p : Parts) (each_block : (b : ℕ) (block : Block) → block_at p.bloc
       let enough = leb-true u.number (units_of row u.entity) (the_rule p t.next codes.too_few_units (nat_le u.number (units_of row u.entity)) (blocks.Leave u) row refl acts.flow) in
       let within = held u row (kind_at p.entities u.entity) kind.0 kind.1 (inside (blocks.Leave u) row acts u.entity) in
       let v : State = put_storage u.entity (storages.left u.number (storage u.entity s)) (enters_and_falls n t s) in
-      let gone = goes p s n t (blocks.Leave u) row acts k k t (t.next + 1) (with_units u.entity (units_of row u.entity - u.number) row) v.entities refl (at_first _ []) may
+      let gone = goes p s n t (blocks.Leave u) row acts k k t (t.next + 1) (with_units u.entity (units_of row u.entity - u.number) row) v.entities (unchanged s t) (λ q. inl refl) (at_first _ []) may
       (balanced-storage p n u.entity (units_of row u.entity - u.number) (storages.left u.number (storage u.entity s)) row s.entities kind.0 kind.1 refl (omega (arith, enough, within)) (λ before. omega (arith, before)) (omega arith)) in
       safe_leads p (Enters p k s n) (t.next + 1) _ may
       (subst (λ r. Safe (Enters p k s n) (granted r >>= λ x. stays (admission p.blocks u.entity (delay_list u.entity s) (put_storage u.entity x.1 (enters_and_falls n t s))))) (sym (left_is u.number (storage u.entity s) (le-leb u.number (storage u.entity s).contents.content (omega (arith, enough, within)))))
@@ -199,7 +218,7 @@ module _ (p : Parts) (each_block : (b : ℕ) (block : Block) → block_at p.bloc
       let kind = is_queue p.entities u.entity acts.kinds.entities in
       let fit = good_units p needed.Queue u acts.kinds.entities acts.kinds.constants in
       safe_leads p (Enters p k s n) (t.next + 1) _ may
-      (just_goes p s n t (blocks.Queue u) row acts k (t.next + 1) (with_units u.entity (units_of row u.entity + u.number) row) (put_queue u.entity (joined u.number (queue u.entity s)) s).entities (at_first _ []) may
+      (just_goes p s n t (blocks.Queue u) row acts k (t.next + 1) (with_units u.entity (units_of row u.entity + u.number) row) (put_queue u.entity (joined u.number (queue u.entity s)) s).entities (λ q. inl refl) (at_first _ []) may
       (balanced-queue p n u.entity (units_of row u.entity + u.number) (joined u.number (queue u.entity s)) row s.entities kind (omega arith) (omega (arith, fit.number)) (λ h. omega (arith, h))))
 
   pub safe_depart : (u : Units) (row : Row) → Acts p s n t (blocks.Depart u) row → Safe (Enters p k s n) (depart p.blocks n t u s)
@@ -210,14 +229,14 @@ module _ (p : Parts) (each_block : (b : ℕ) (block : Block) → block_at p.bloc
       let within : units_of row u.entity ≤ (queue u.entity s).content = subst (λ k. units_of row u.entity ≤ content_of u.entity s.entities k) kind (inside (blocks.Depart u) row acts u.entity) in
       safe_leads p (Enters p k s n) (t.next + 1) _ may
       (subst (λ r. Safe (Enters p k s n) (granted r >>= λ x. stays (put_queue u.entity x.1 (enters_and_falls n t s)))) (sym (departed_is u.number (queue u.entity s) (le-leb u.number (queue u.entity s).content (omega (arith, enough, within)))))
-      (just_goes p s n t (blocks.Depart u) row acts k (t.next + 1) (with_units u.entity (units_of row u.entity - u.number) row) (put_queue u.entity (departed u.number (queue u.entity s)) s).entities (at_first _ []) may
+      (just_goes p s n t (blocks.Depart u) row acts k (t.next + 1) (with_units u.entity (units_of row u.entity - u.number) row) (put_queue u.entity (departed u.number (queue u.entity s)) s).entities (λ q. inl refl) (at_first _ []) may
       (balanced-queue p n u.entity (units_of row u.entity - u.number) (departed u.number (queue u.entity s)) row s.entities kind (omega (arith, enough, within)) (omega arith) (λ h. omega (arith, h)))))
 
   -- TRANSFERS
 
   -- it goes along one of its edges
   goes_to : (block : Block) (row : Row) → Acts p s n t block row → (to : ℕ) → Contains (edges p (own_table p) t.next block row) (move to row) → MayBeEntered p to → Safe (Enters p k s n) (transfer p.blocks n t to s)
-  goes_to block row acts to along may = safe_leads p (Enters p k s n) to _ may (just_goes p s n t block row acts k to row s.entities along may (balanced-nothing p n row s.entities))
+  goes_to block row acts to along may = safe_leads p (Enters p k s n) to _ may (just_goes p s n t block row acts k to row s.entities (λ q. inl refl) along may (balanced-nothing p n row s.entities))
 
   pub safe_transfer : (to : ℕ) (row : Row) → Acts p s n t (blocks.Transfer to) row → Safe (Enters p k s n) (transfer p.blocks n t to s)
   safe_transfer to row acts = goes_to (blocks.Transfer to) row acts to (at_first _ []) (first_may_be_entered p t.next _ [] acts.kinds.exits)
@@ -230,6 +249,75 @@ module _ (p : Parts) (each_block : (b : ℕ) (block : Block) → block_at p.bloc
       (λ other.
       subst (λ to. Safe (Enters p k s n) (transfer p.blocks n t to s)) (led_to t.next f.otherwise)
       (goes_to (blocks.TransferByFraction f) row acts others (at_first _ (move f.target row ∷ [])) (first_may_be_entered p t.next _ (at_once (Goes f.target) ∷ []) acts.kinds.exits)))
+
+  -- PARAMETERS
+
+  -- a parameter of it is set, and it goes along an edge of its block
+  with_assigned : (block : Block) (row state : Row) → Acts p s n t block row → (q : ℕ) (value : ℤ) (to : ℕ) → Contains (edges p (own_table p) t.next block row) (move to state) → MayBeEntered p to
+      → ((r : ℕ) → (kind_of state r ≡ kind_of row r) ⊎ (q ≡ r)) → state.facilities ≡ row.facilities → state.units ≡ row.units → Enters p k s n (entered n t to (assigned n q value s), StaysActive)
+  with_assigned block row state acts q value to along may known facilities units =
+      let bears = bearer_at s.transactions n t acts.is.found in
+      let after = assigned n q value s in
+      let set : (r : ℕ) → q ≡ r → IsSome (at None (parameters_of n after) r) = λ r same.
+      subst (λ ps. IsSome (at None ps r)) (sym (parameters-assigned s n q value bears.0 bears.1)) (subst (λ i. IsSome (at None (put None bears.0.parameters q (Some value)) i)) same (ap is_some (at-put None bears.0.parameters q (Some value)))) in
+      entered_once p k s n _
+      (Then (Assigns n q value bears.0 bears.1 (present s.lists n acts.active))
+      (Then (goes p after n t block row (assigned_acts p flow s n t block row q value acts bears.0 bears.1) k k t to state after.entities (unchanged after t)
+      (λ r. elim (known r) [ inl same ↦ inl same | inr here ↦ inr (set r here) ]) along may (balanced-parameters p n row state after.entities facilities units)) Done))
+
+  pub safe_assign : (a : Assign) (value : ℤ) (row : Row) → Acts p s n t (blocks.Assign a) row → Safe (Enters p k s n) (assign p.blocks n t a value s)
+  safe_assign a value row acts =
+      let may = first_may_be_entered p t.next _ [] acts.kinds.exits in
+      safe_bind Any (Enters p k s n) (evaluated (answered (put_by a.mode (unwrap_or (parameter_at n a.parameter s.transactions) (pos 0)) value))) _ (safe_answered _)
+      (λ new _.
+      safe_leads p (Enters p k s n) (t.next + 1) _ may
+      (with_assigned (blocks.Assign a) row (with_parameter a.parameter row) acts a.parameter new (t.next + 1) (at_first _ []) may (λ r. set_or_same a.parameter r row) refl refl))
+
+  pub safe_loop : (l : Loop) (row : Row) → Acts p s n t (blocks.Loop l) row → Safe (Enters p k s n) (loop p.blocks n t l s)
+  safe_loop l row acts =
+      let bears = bearer_at s.transactions n t acts.is.found in
+      let known : IsSome (kind_of row l.parameter) = ap is_some (loop_is_number p (own_table p) t.next l row acts.flow) in
+      let read : IsSome (parameter_at n l.parameter s.transactions) = subst IsSome (parameter_read s n l.parameter bears.0 bears.1) (its_parameters p s acts.typed n t (blocks.Loop l) row acts.is l.parameter known) in
+      let old = some_of (parameter_at n l.parameter s.transactions) read in
+      safe_found (Enters p k s n) (parameter_at n l.parameter s.transactions) UnsetParam old.0 _ old.1
+      (safe_bind Any (Enters p k s n) (evaluated (answered (difference_of old.0 (pos 1)))) _ (safe_answered _)
+      (λ left _.
+      choose (λ to. Safe (Enters p k s n) (leads p.blocks to (stays (entered n t to (assigned n l.parameter left s))))) (int_lt (pos 0) left) l.target (t.next + 1)
+      (λ above.
+      let may = second_may_be_entered p t.next _ _ [] acts.kinds.exits in
+      safe_leads p (Enters p k s n) l.target _ may (with_assigned (blocks.Loop l) row row acts l.parameter left l.target (at_second (move (t.next + 1) row) _ []) may (λ r. inl refl) refl refl))
+      (λ falls.
+      let may = first_may_be_entered p t.next _ (at_once (Goes l.target) ∷ []) acts.kinds.exits in
+      safe_leads p (Enters p k s n) (t.next + 1) _ may (with_assigned (blocks.Loop l) row row acts l.parameter left (t.next + 1) (at_first _ (move l.target row ∷ [])) may (λ r. inl refl) refl refl))))
+
+  pub safe_mark : (o : Option ℕ) (row : Row) → Acts p s n t (blocks.Mark o) row → Safe (Enters p k s n) (mark p.blocks n t o s)
+  safe_mark None row acts =
+      let may = first_may_be_entered p t.next _ [] acts.kinds.exits in
+      safe_leads p (Enters p k s n) (t.next + 1) _ may
+      (entered_once p k s n _ (Then (goes p s n t (blocks.Mark None) row acts k k (record t { mark = s.clock }) (t.next + 1) row s.entities (record { next = refl; mark = λ clock mark. clock }) (λ q. inl refl) (at_first _ []) may (balanced-nothing p n row s.entities)) Done))
+  safe_mark (Some q) row acts =
+      let may = first_may_be_entered p t.next _ [] acts.kinds.exits in
+      safe_leads p (Enters p k s n) (t.next + 1) _ may
+      (with_assigned (blocks.Mark (Some q)) row (with_parameter q row) acts q s.clock (t.next + 1) (at_first _ []) may (λ r. set_or_same q r row) refl refl)
+
+  -- LOGIC SWITCHES AND SAVEVALUES
+
+  pub safe_logic : (l : Logic) (row : Row) → Acts p s n t (blocks.Logic l) row → Safe (Enters p k s n) (logic p.blocks n t l s)
+  safe_logic l row acts =
+      let may = first_may_be_entered p t.next _ [] acts.kinds.exits in
+      let below = named_below p.entities (needs needed.Switch l.switch) [] acts.kinds.entities in
+      safe_leads p (Enters p k s n) (t.next + 1) _ may
+      (just_goes p s n t (blocks.Logic l) row acts k (t.next + 1) row (put_switch l.switch (turned l.action (switch l.switch s)) s).entities (λ q. inl refl) (at_first _ []) may
+      (balanced-switch p n l.switch (turned l.action (switch l.switch s)) row s.entities below))
+
+  pub safe_save : (a : Save) (value : ℤ) (row : Row) → Acts p s n t (blocks.Savevalue a) row → Safe (Enters p k s n) (save p.blocks n t a value s)
+  safe_save a value row acts =
+      let may = first_may_be_entered p t.next _ [] acts.kinds.exits in
+      let below = named_below p.entities (needs needed.Savevalue a.savevalue) _ acts.kinds.entities in
+      safe_bind Any (Enters p k s n) (evaluated (answered (put_by a.mode (savevalue a.savevalue s) value))) _ (safe_answered _)
+      (λ new _.
+      safe_leads p (Enters p k s n) (t.next + 1) _ may
+      (just_goes p s n t (blocks.Savevalue a) row acts k (t.next + 1) row (put_savevalue a.savevalue new s).entities (λ q. inl refl) (at_first _ []) may (balanced-savevalue p n a.savevalue new row s.entities below)))
 
   -- TERMINATE
 

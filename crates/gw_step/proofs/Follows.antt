@@ -20,6 +20,7 @@ use Rattle.gw_entities.specs.declared.contents.Contents.{Contents}
 use Rattle.gw_entities.specs.Contents.{empty, contents_after}
 use Rattle.gw_entities.specs.Facility.{idle, seized, released, is_idle, facility_after}
 use Rattle.gw_entities.specs.Storage as storages
+use Rattle.gw_entities.specs.Table.{set_switch, set_savevalue}
 use Rattle.gw_step.specs.declared.ends.End.TheVariants.{NegativeTime}
 use Rattle.gw_step.specs.Outcome.{Gives, EndsBy, evaluated}
 use Rattle.gw_step.specs.State.{FutureEvent, EntityStates, State, delay_list}
@@ -30,7 +31,7 @@ use Rattle.gw_step.specs.Residence.{occurrences}
 use Rattle.gw_step.specs.Numbers.{IsFrom, AreEntered, IsWithin}
 use Rattle.gw_step.specs.Operands.{UnitsFit, BlocksFit}
 use Rattle.gw_step.proofs.Outcomes.{choose, by_option}
-use Rattle.gw_step.proofs.Within.{Raises, raised_by_put, within-entered, called-less, within-called, from-later}
+use Rattle.gw_step.proofs.Within.{Raises, raised_by_put, mark_from, within-entered, called-less, within-called, from-later}
 use Rattle.gw_transactions.specs.Transactions.{attributes_at}
 use Rattle.gw_step.proofs.Attributes.{number_below}
 use Rattle.gw_step.proofs.PlainBlocks.{by_block}
@@ -80,6 +81,8 @@ raises-seized f n g there = record {
   facility_table = length-put idle g.facilities f (seized n (at idle g.facilities f)) there;
   storage_table = refl;
   queue_table = refl;
+  switch_table = refl;
+  savevalue_table = refl;
 }
 
 pub raises-released : (f : ℕ) (g : EntityStates) → f < length g.facilities → Raises g (record g { facilities = put idle g.facilities f (released (at idle g.facilities f)) })
@@ -91,6 +94,8 @@ raises-released f g there = record {
   facility_table = length-put idle g.facilities f (released (at idle g.facilities f)) there;
   storage_table = refl;
   queue_table = refl;
+  switch_table = refl;
+  savevalue_table = refl;
 }
 
 pub raises-storage : (e : ℕ) (v : Storage) (g : EntityStates) → e < length g.storages → v.contents.entries ≤ (at (storages.vacant 0) g.storages e).contents.entries + 2 ^ 20
@@ -103,6 +108,8 @@ raises-storage e v g there more = record {
   facility_table = refl;
   storage_table = length-put (storages.vacant 0) g.storages e v there;
   queue_table = refl;
+  switch_table = refl;
+  savevalue_table = refl;
 }
 
 pub raises-queue : (q : ℕ) (v : Contents) (g : EntityStates) → q < length g.queues → v.entries ≤ (at empty g.queues q).entries + 2 ^ 20 → ((at empty g.queues q).content ≤ (at empty g.queues q).entries → v.content ≤ v.entries) → Raises g (record g { queues = put empty g.queues q v })
@@ -114,16 +121,46 @@ raises-queue q v g there more inside = record {
   facility_table = refl;
   storage_table = refl;
   queue_table = length-put empty g.queues q v there;
+  switch_table = refl;
+  savevalue_table = refl;
+}
+
+-- a logic switch or a savevalue changes: nothing is entered
+pub raises-switch : (l : ℕ) (on : Bool) (g : EntityStates) → l < length g.switches → Raises g (record g { switches = set_switch l on g.switches })
+raises-switch l on g there = record {
+  facilities = λ f. omega arith;
+  storages = λ e. omega arith;
+  queues = λ q. omega arith;
+  inside = λ q h. h;
+  facility_table = refl;
+  storage_table = refl;
+  queue_table = refl;
+  switch_table = length-put false g.switches l on there;
+  savevalue_table = refl;
+}
+
+pub raises-savevalue : (x : ℕ) (value : ℤ) (g : EntityStates) → x < length g.savevalues → Raises g (record g { savevalues = set_savevalue x value g.savevalues })
+raises-savevalue x value g there = record {
+  facilities = λ f. omega arith;
+  storages = λ e. omega arith;
+  queues = λ q. omega arith;
+  inside = λ q h. h;
+  facility_table = refl;
+  storage_table = refl;
+  queue_table = refl;
+  switch_table = refl;
+  savevalue_table = length-put (pos 0) g.savevalues x value there;
 }
 
 -- what is given up or given back enters nothing
 module _ (bs es en ar : ℕ) (s : State) (w : IsWithin bs es en ar s) where
-  with_entities : (g : EntityStates) → AreEntered (sum s.entries) g → length g.facilities ≡ length s.entities.facilities → length g.storages ≡ length s.entities.storages → g.queues ≡ s.entities.queues → IsWithin bs es en ar (record s { entities = g })
-  with_entities g entered fac sto que = record {
+  with_entities : (g : EntityStates) → AreEntered (sum s.entries) g → length g.facilities ≡ length s.entities.facilities → length g.storages ≡ length s.entities.storages → g.queues ≡ s.entities.queues → g.switches ≡ s.entities.switches → g.savevalues ≡ s.entities.savevalues → IsWithin bs es en ar (record s { entities = g })
+  with_entities g entered fac sto que swi sav = record {
     entries = w.entries;
     entity_entries = entered;
     made = w.made;
     scheduled = w.scheduled;
+    marked = w.marked;
     whole = record {
       entries = w.whole.entries;
       scheduled = w.whole.scheduled;
@@ -131,6 +168,8 @@ module _ (bs es en ar : ℕ) (s : State) (w : IsWithin bs es en ar s) where
       facilities = fac ∙ w.whole.facilities;
       storages = sto ∙ w.whole.storages;
       queues = ap length que ∙ w.whole.queues;
+      switches = ap length swi ∙ w.whole.switches;
+      savevalues = ap length sav ∙ w.whole.savevalues;
       streams = w.whole.streams;
     };
     clock = w.clock;
@@ -147,7 +186,7 @@ module _ (bs es en ar : ℕ) (s : State) (w : IsWithin bs es en ar s) where
         queues = w.entity_entries.queues;
         inside = w.entity_entries.inside;
       })
-      (length-put idle s.entities.facilities f v (omega (arith, w.whole.facilities, here))) refl refl
+      (length-put idle s.entities.facilities f v (omega (arith, w.whole.facilities, here))) refl refl refl refl
 
   pub within-given_back : (u : Units) → u.entity < es → IsWithin bs es en ar (put_storage u.entity (storages.left u.number (storage u.entity s)) s)
   within-given_back u here =
@@ -159,7 +198,7 @@ module _ (bs es en ar : ℕ) (s : State) (w : IsWithin bs es en ar s) where
         queues = w.entity_entries.queues;
         inside = w.entity_entries.inside;
       })
-      refl (length-put (storages.vacant 0) s.entities.storages u.entity v (omega (arith, w.whole.storages, here))) refl
+      refl (length-put (storages.vacant 0) s.entities.storages u.entity v (omega (arith, w.whole.storages, here))) refl refl refl
 
 -- WAITERS
 
@@ -171,7 +210,7 @@ module _ (bs : List Block) (es en ar : ℕ) where
       let less : en ≡ suc (en - 1) = omega (arith, called-less (length bs) es en ar s w e n there waits) in
       let c = within-called (length bs) es en ar s w e n there waits (en - 1) less in
       subst (λ k. IsWithin (length bs) es k ar (record (entered n t next (called_from e n s)) { entities = g })) (sym less)
-      (within-entered (length bs) es (en - 1) ar (called_from e n s) c n t next g block (number_below s.transactions n t live) r)
+      (within-entered (length bs) es (en - 1) ar (called_from e n s) c n t next g block (number_below s.transactions n t live) (mark_from s.transactions n t w.marked live) r)
 
   pub within-enters_if_free : (s : State) → IsWithin (length bs) es en ar s → (n : ℕ) (t : Transaction) (u : Units) → UnitsFit es u → 1 ≤ occurrences n (delay_list u.entity s) → t.next ≤ length bs → attributes_at n s.transactions ≡ Some t
       → IsWithin (length bs) es en ar (enters_if_free n t s u)
@@ -261,6 +300,7 @@ within-clock bs es en ar s w e rest is =
       entity_entries = entered-after (sum s.entries) time s.entities w.entity_entries;
       made = w.made;
       scheduled = w.scheduled;
+      marked = w.marked;
       whole = record {
         entries = w.whole.entries;
         scheduled = w.whole.scheduled;
@@ -268,6 +308,8 @@ within-clock bs es en ar s w e rest is =
         facilities = length-map s.entities.facilities (facility_after time) ∙ w.whole.facilities;
         storages = length-map s.entities.storages (storages.storage_after time) ∙ w.whole.storages;
         queues = length-map s.entities.queues (contents_after time) ∙ w.whole.queues;
+        switches = w.whole.switches;
+        savevalues = w.whole.savevalues;
         streams = w.whole.streams;
       };
       clock = omega (arith, ints, w.clock, from.0);

@@ -1,17 +1,22 @@
 -- The active transaction at its block, and where it goes.
-use Rattle.std.proofs.Common.{◌≡◌, ℕ, suc, ◌≤◌, List, [], ◌∷◌, Option, Some, None, Bool, true, false, not, refl, ap, ◌∙◌, subst, arith}
+use Rattle.std.proofs.Common.{◌≡◌, ◌⊎◌, ℕ, suc, ◌≤◌, ℤ, List, [], ◌∷◌, Option, Some, None, Bool, true, false, not, option_map, refl, ap, ◌∙◌, subst, arith, inl, inr, IsSome}
+use Rattle.std.specs.Option.{option_map_or}
 use Rattle.std.specs.Prelude.{IsSomeAnd, Contains, All}
 use Rattle.std.proofs.lemmas.List.Elements.{All-head}
 use Rattle.gw_object.specs.declared.parts.Block.{Block}
 use Rattle.gw_object.specs.declared.parts.Parts.{Parts}
 use Rattle.gw_kinds.specs.Kinds.{block_at, is_generate}
 use Rattle.gw_kinds.specs.Laws.{MayBeEntered, BlockHolds}
-use Rattle.gw_flow.specs.Rows.{Row, owns}
-use Rattle.gw_flow.specs.Blocks.{Rule, rules, move, edges}
+use Rattle.gw_flow.specs.Rows.{Row, kind_of, owns}
+use Rattle.gw_flow.specs.Blocks.{Rule, own_rules, move, edges}
+use Rattle.gw_flow.proofs.Parameters.{own_rules_hold}
 use Rattle.gw_flow.specs.Flow.{own_table}
-use Rattle.gw_flow.specs.Laws.{MayPass}
-use Rattle.gw_num.specs.Table.{at}
+use Rattle.gw_flow.specs.Laws.{MayPass, FlowHolds}
+use Rattle.gw_num.specs.Table.{at, put}
+use Rattle.gw_num.proofs.Tables.{at-put}
 use Rattle.gw_transactions.specs.declared.Transaction.{Transaction}
+use Rattle.gw_transactions.specs.Parameters.{no_parameters}
+use Rattle.gw_transactions.specs.Transactions.{LiveTransaction, with_parameter}
 use Rattle.gw_entities.specs.declared.stop.Stop.TheVariants.{NoBlock}
 use Rattle.gw_entities.specs.Facility.{idle, is_owned_by}
 use Rattle.gw_step.specs.declared.placement.Placement.{Placement}
@@ -19,11 +24,13 @@ use Rattle.gw_step.specs.declared.placement.Placement.TheVariants.{StaysActive}
 use Rattle.gw_step.specs.Placing.{placed}
 use Rattle.gw_step.specs.Outcome.{Outcome, Gives}
 use Rattle.gw_step.specs.State.{EntityStates, State, may_enter}
-use Rattle.gw_step.specs.Changes.{entered}
+use Rattle.gw_step.specs.Changes.{entered, assigned}
+use Rattle.gw_step.specs.Times.{parameters_of}
 use Rattle.gw_step.specs.Blocks.{leads, then_placed}
-use Rattle.gw_step.specs.Typing.{lists_facility, WellTyped}
+use Rattle.gw_step.specs.Typing.{AreSet, lists_facility, WellTyped}
 use Rattle.gw_step.proofs.Agreeing.{Balanced}
-use Rattle.gw_step.proofs.Traces.{IsAt, present, Rested, credited, Change, Goes, Trace, Done, Then, trace_on, placed_traced, its_row}
+use Rattle.gw_step.proofs.Traces.{IsAt, Becomes, its_parameters, present, Rested, credited, Change, Assigns, Goes, change-keeps, Trace, Done, Then, trace_on, placed_traced, its_row}
+use Rattle.gw_step.proofs.Attributes.{attributes-parameter}
 use Rattle.gw_step.proofs.Unstopped.{Safe, safe_bind, safe_test}
 
 -- the active transaction of a well-typed state is at a block, in a row, and what kinds and flow say of the two
@@ -33,6 +40,23 @@ pub record Acts (p : Parts) (s : State) (n : ℕ) (t : Transaction) (block : Blo
   pub is : IsAt p s.transactions n t block row
   pub kinds : BlockHolds p t.next block
   pub flow : MayPass p (own_table p) t.next block row
+
+-- a parameter of it is set: all else stays as it was
+pub assigned_acts : (p : Parts) (flow : FlowHolds p (own_table p)) (s : State) (n : ℕ) (t : Transaction) (block : Block) (row : Row) (q : ℕ) (value : ℤ) → Acts p s n t block row → (b : LiveTransaction) → at None s.transactions n ≡ Some b → Acts p (assigned n q value s) n t block row
+assigned_acts p flow s n t block row q value acts b found =
+    let change : Change p 0 0 s 0 0 (assigned n q value s) = Assigns n q value b found (present s.lists n acts.active) in
+    record {
+      typed = change-keeps p flow change acts.typed;
+      active = acts.active;
+      is = record { found = attributes-parameter s.transactions n q value ∙ acts.is.found; block_is = acts.is.block_is; row_is = acts.is.row_is };
+      kinds = acts.kinds;
+      flow = acts.flow;
+    }
+
+-- the parameter is what it was set to
+pub parameters-assigned : (s : State) (n q : ℕ) (value : ℤ) (b : LiveTransaction) → at None s.transactions n ≡ Some b → parameters_of n (assigned n q value s) ≡ put None b.parameters q (Some value)
+parameters-assigned s n q value b found =
+    ap (λ o. option_map_or (λ (t : LiveTransaction). t.parameters) o no_parameters) (at-put None s.transactions n _ ∙ ap (option_map (with_parameter q value)) found)
 
 -- a block to which a transaction may go on may be entered
 enterable : (o : Option Block) → IsSomeAnd o (λ block. is_generate (Some block) ≡ false) → may_enter o ≡ true
@@ -49,11 +73,11 @@ at_first x xs = (0, omega arith, refl)
 pub at_second : {A : Type 0} (x y : A) (xs : List A) → Contains (x ∷ y ∷ xs) y
 at_second x y xs = (1, omega arith, refl)
 
--- the rule of a block that has one
-pub the_rule : (p : Parts) (b code : ℕ) (holds : Bool) (block : Block) (row : Row) → rules p block row ≡ (record { code = code; holds = holds }) ∷ [] → MayPass p (own_table p) b block row → holds ≡ true
+-- the rule of its own that a block has
+pub the_rule : (p : Parts) (b code : ℕ) (holds : Bool) (block : Block) (row : Row) → own_rules p block row ≡ (record { code = code; holds = holds }) ∷ [] → MayPass p (own_table p) b block row → holds ≡ true
 the_rule p b code holds block row is pass =
     let one : Rule = record { code = code; holds = holds } in
-    All-head (λ (rule : Rule). rule.holds ≡ true) one [] (subst (All (λ (rule : Rule). rule.holds ≡ true)) is pass.each_rule)
+    All-head (λ (rule : Rule). rule.holds ≡ true) one [] (subst (All (λ (rule : Rule). rule.holds ≡ true)) is (own_rules_hold p (own_table p) b block row pass))
 
 -- what a state comes to in a step, from so many entries and arrivals: at most one more of each
 pub record Reaches (p : Parts) (k : ℕ) (s t : State) : Type 0 where
@@ -92,15 +116,30 @@ safe_placed p k s n o h =
 pub refused : (p : Parts) (k : ℕ) (s : State) (n : ℕ) (placement : Placement) → Rested p n placement s → credited placement k ≤ suc k → Reaches p k s (placed n placement s)
 refused p k s n placement may few = record { entries = credited placement k; arrivals = k; trace = placed_traced p k k n placement s may; few_entries = few; few_arrivals = omega arith }
 
+-- it enters its block as it is
+pub unchanged : (s : State) (t : Transaction) → Becomes s t t
+unchanged s t = record { next = refl; mark = λ clock mark. mark }
+
+-- what a state knows of each parameter the row knows too, or the parameter is set
+abbrev pub Knows : ℕ → State → Row → Row → Type 0
+Knows n s row state = (q : ℕ) → (kind_of state q ≡ kind_of row q) ⊎ IsSome (at None (parameters_of n s) q)
+
 module _ (p : Parts) (s : State) (n : ℕ) (t : Transaction) (block : Block) (row : Row) (acts : Acts p s n t block row) where
+  all_set : (state : Row) → Knows n s row state → AreSet (Some state) (parameters_of n s)
+  all_set state known q some = elim (known q) [
+    | inl same ↦ its_parameters p s acts.typed n t block row acts.is q (subst IsSome same some)
+    | inr set ↦ set
+  ]
+
   -- it goes along an edge
-  pub goes : (en ar : ℕ) (u : Transaction) (to : ℕ) (state : Row) (h : EntityStates) → u.next ≡ t.next → Contains (edges p (own_table p) t.next block row) (move to state) → MayBeEntered p to → Balanced p n (Some row) (Some state) s.entities h
+  pub goes : (en ar : ℕ) (u : Transaction) (to : ℕ) (state : Row) (h : EntityStates) → Becomes s t u → Knows n s row state → Contains (edges p (own_table p) t.next block row) (move to state) → MayBeEntered p to → Balanced p n (Some row) (Some state) s.entities h
       → Change p en ar s (suc en) ar (record (entered n u to s) { entities = h })
-  goes en ar u to state h same along may balance = Goes n to t u block row state h acts.is same (present s.lists n acts.active) along may balance
+  goes en ar u to state h same known along may balance = Goes n to t u block row state h acts.is same (present s.lists n acts.active) (all_set state known) along may balance
 
   -- and stays active, and nothing else happens
-  pub just_goes : (k : ℕ) (to : ℕ) (state : Row) (h : EntityStates) → Contains (edges p (own_table p) t.next block row) (move to state) → MayBeEntered p to → Balanced p n (Some row) (Some state) s.entities h → Enters p k s n (record (entered n t to s) { entities = h }, StaysActive)
-  just_goes k to state h along may balance = entered_once p k s n _ (Then (goes k k t to state h refl along may balance) Done)
+  pub just_goes : (k : ℕ) (to : ℕ) (state : Row) (h : EntityStates) → Knows n s row state → Contains (edges p (own_table p) t.next block row) (move to state) → MayBeEntered p to → Balanced p n (Some row) (Some state) s.entities h
+      → Enters p k s n (record (entered n t to s) { entities = h }, StaysActive)
+  just_goes k to state h known along may balance = entered_once p k s n _ (Then (goes k k t to state h (unchanged s t) known along may balance) Done)
 
   -- what its row says of an owner, and what is inside at least
   pub owner_as : (f : ℕ) → is_owned_by n (at idle s.entities.facilities f) ≡ owns row f

@@ -1,7 +1,8 @@
 -- A job's state through its start and through a step.
-use Rattle.gw_kinds.specs.Kinds.{block_at, is_none_or, has_good_constants}
-use Rattle.gw_transactions.specs.Transactions.{live_count}
-use Rattle.std.proofs.Common.{◌≡◌, ℕ, zero, suc, ◌+◌, ◌≤◌, ℤ, pos, ◌≤ℤ◌, List, [], ◌∷◌, map, length, replicate, Option, Some, None, IfSome, refl, sym, ap, ◌∙◌, subst, arith, ◌<◌}
+use Rattle.gw_kinds.specs.Kinds.{block_at, is_generate, values, is_none_or, has_good_constants}
+use Rattle.gw_flow.specs.Values.{Environment}
+use Rattle.gw_transactions.specs.Transactions.{LiveTransaction, live_count}
+use Rattle.std.proofs.Common.{◌≡◌, ℕ, zero, suc, ◌+◌, ◌≤◌, ℤ, pos, ◌≤ℤ◌, List, [], ◌∷◌, map, length, replicate, Option, Some, None, true, IfSome, refl, sym, ap, ◌∙◌, subst, arith, ◌<◌}
 use Rattle.std.specs.Prelude.{sum, int_le, nat_lt, IfSome, IsTrue}
 use Rattle.std.specs.List.{AllByRecursion}
 use Rattle.std.proofs.lemmas.Bool.{and_parts, ltb-true}
@@ -19,10 +20,11 @@ use Rattle.gw_entities.specs.Contents.{empty}
 use Rattle.gw_entities.specs.Facility.{idle}
 use Rattle.gw_object.specs.Entities.{capacity_of}
 use Rattle.gw_entities.specs.Storage.{vacant}
+use Rattle.gw_entities.specs.Table.{initial_setting, initial_value}
 use Rattle.gw_step.specs.declared.ends.End.{End}
 use Rattle.gw_step.specs.Outcome.{Outcome, Gives, EndsBy, StopsBy}
 use Rattle.gw_step.specs.State.{State, with_streams}
-use Rattle.gw_step.specs.Times.{environment, drawn_moment}
+use Rattle.gw_step.specs.Times.{environment_of_next, drawn_moment}
 use Rattle.gw_step.specs.Changes.{newcomer, arrives}
 use Rattle.gw_step.specs.Step.{scan, stepped, within_budget}
 use Rattle.gw_step.specs.Start.{nothing, first_moment, first_arrival, first_arrivals, started}
@@ -34,11 +36,13 @@ use Rattle.gw_step.proofs.Within.{sum-raised, within-arrives, within-streams, wi
 use Rattle.gw_step.proofs.Counting.{IsCounted, is_counted, runs_still}
 use Rattle.gw_step.proofs.Traces.{KeepStreams, trace-within, trace-limits, trace-live, written-live}
 use Rattle.gw_step.proofs.Unstopped.{given}
-use Rattle.gw_step.proofs.Drawn.{IsDrawn, safe_drawn}
-use Rattle.gw_step.proofs.Safe.{kinds_of, reached_in_step, reached_states_are_well_typed}
-use Rattle.gw_step.proofs.Operands.{blocks_fit, all-operands}
+use Rattle.gw_step.proofs.Drawn.{IsDrawn, AreRead, safe_drawn}
+use Rattle.gw_step.proofs.Arriving.{no_parameters_read}
+use Rattle.gw_step.proofs.Safe.{kinds_of, flow_of, reached_in_step, reached_states_are_well_typed}
+use Rattle.gw_step.proofs.Operands.{blocks_fit, all-blocks}
 use Rattle.gw_step.proofs.Steps.{step-scan, by_budget, counts_more, some_is}
 use Rattle.gw_step.proofs.PlainBlocks.{by_arrival}
+use Rattle.gw_step.proofs.Nothing.{no_transaction}
 
 -- ONE STEP MORE
 
@@ -159,23 +163,28 @@ begun_arrives bs es count k s b priority time streams here block least keeps h =
   live = omega (arith, h.live, written-live s.transactions (length s.transactions) (Some (newcomer b priority s)));
 }
 
-first-later : (g : Generate) (s : State) (o : Option ℤ) → s.clock ≡ pos 0 → IfSome o (λ time. pos 0 ≤ℤ time) → OnGives (IsDrawn (pos 0) s.streams) (first_moment g s o)
-first-later g s (Some time) clock least = record { later = least; keeps = λ h. h }
-first-later g s None clock least =
-    let env = environment (length s.transactions) g.priority s.clock s in
-    subst (λ c. OnGives (IsDrawn c s.streams) (drawn_moment env g.interval s.clock s.streams)) clock (given (IsDrawn s.clock s.streams) _ (safe_drawn env g.interval s.clock s.streams))
+first-later : (g : Generate) (s : State) (o : Option ℤ) → s.clock ≡ pos 0 → IfSome o (λ time. pos 0 ≤ℤ time) → ((env : Environment) → AreRead env (values (blocks.Generate g))) → OnGives (IsDrawn (pos 0) s.streams) (first_moment g s o)
+first-later g s (Some time) clock least read = record { later = least; keeps = λ h. h }
+first-later g s None clock least read =
+    let env = environment_of_next g.priority s in
+    subst (λ c. OnGives (IsDrawn c s.streams) (drawn_moment env g.interval s.clock s.streams)) clock (given (IsDrawn s.clock s.streams) _ (safe_drawn env g.interval s.clock s.streams (read env)))
+
+-- a block with which a job may begin: its operands fit, and if it is a GENERATE its interval reads no parameter
+record Begins (es : ℕ) (block : Block) : Type 0 where
+  operands : OperandsFit es block
+  interval : is_generate (Some block) ≡ true → (env : Environment) → AreRead env (values block)
 
 module _ (bs es : ℕ) (count : ℤ) where
-  first_begins : (b : ℕ) (block : Block) (k : ℕ) (s : State) → b ≡ suc k → b ≤ bs → OperandsFit es block → Begun bs es count k s → OnGives (Begun bs es count (suc k)) (first_arrival b block s)
+  first_begins : (b : ℕ) (block : Block) (k : ℕ) (s : State) → b ≡ suc k → b ≤ bs → Begins es block → Begun bs es count k s → OnGives (Begun bs es count (suc k)) (first_arrival b block s)
   first_begins b block k s here below fits h =
-      by_arrival (λ x. OperandsFit es x → OnGives (Begun bs es count (suc k)) (first_arrival b x s))
-      (λ g least.
-      on_both (IsDrawn (pos 0) s.streams) (Begun bs es count (suc k)) (first_moment g s g.first) _ (first-later g s g.first h.clock least)
+      by_arrival (λ x. Begins es x → OnGives (Begun bs es count (suc k)) (first_arrival b x s))
+      (λ g begins.
+      on_both (IsDrawn (pos 0) s.streams) (Begun bs es count (suc k)) (first_moment g s g.first) _ (first-later g s g.first h.clock begins.operands.first (begins.interval refl))
       (λ d drawn. begun_arrives bs es count k s b g.priority d.0 d.1 here below drawn.later drawn.keeps h))
       (λ x none _. subst (OnGives (Begun bs es count (suc k))) (sym (none b s)) (begun_more bs es count k (suc k) s (omega arith) h))
       block fits
 
-  firsts_begin : (b : ℕ) (xs : List Block) (k : ℕ) (s : State) → b ≡ suc k → b + length xs ≤ suc bs → AllByRecursion (OperandsFit es) xs → Begun bs es count k s → OnGives (Begun bs es count (length xs + k)) (first_arrivals b xs s)
+  firsts_begin : (b : ℕ) (xs : List Block) (k : ℕ) (s : State) → b ≡ suc k → b + length xs ≤ suc bs → AllByRecursion (Begins es) xs → Begun bs es count k s → OnGives (Begun bs es count (length xs + k)) (first_arrivals b xs s)
   unfolding first_arrivals
   firsts_begin b [] k s here below fits h = begun_more bs es count k (length {A = Block} [] + k) s (omega arith) h
   firsts_begin b (x ∷ xs) k s here below fits h =
@@ -213,6 +222,7 @@ nothing_begun j fits =
         };
         made = omega arith;
         scheduled = omega (arith, zero_sum);
+        marked = record { marks = λ n. subst (λ o. IfSome o (λ (t : LiveTransaction). pos 0 ≤ℤ t.attributes.mark)) (sym (no_transaction n)) tt };
         whole = record {
           entries = table;
           scheduled = table;
@@ -220,6 +230,8 @@ nothing_begun j fits =
           facilities = length-map es (λ _. idle);
           storages = length-map es (λ (e : Entity). vacant (capacity_of e.kind));
           queues = length-map es (λ _. empty);
+          switches = length-map es (λ (e : Entity). initial_setting e.kind);
+          savevalues = length-map es (λ (e : Entity). initial_value e.kind);
           streams = fits.streams;
         };
         clock = omega (arith, ints);
@@ -249,7 +261,7 @@ begun_bounded j k t end fits few b =
       runs = λ _. omega (arith, b.steps, fits.budget_least);
       counts = λ _. rw b.counts (omega (arith, ints, fits.count_least));
       numbers = subst (λ n. IsWithin (length j.parts.blocks) (length j.parts.entities) n n (record t { ended = end })) (sym b.steps)
-          (record { entries = w.entries; entity_entries = w.entity_entries; made = omega (arith, b.made, few); scheduled = omega (arith, b.scheduled, few); whole = w.whole; clock = w.clock; future = w.future });
+          (record { entries = w.entries; entity_entries = w.entity_entries; made = omega (arith, b.made, few); scheduled = omega (arith, b.scheduled, few); marked = w.marked; whole = w.whole; clock = w.clock; future = w.future });
       limits = record { arrivals = λ c g is. within_limit g.limit (at 0 t.scheduled c) (b.first c) (and_parts (is_none_or g.first (int_le (pos 0))) (is_none_or g.limit (nat_lt 0)) (constants c g is)).1 };
       live = record { live = omega (arith, b.live, few) };
     }
@@ -276,7 +288,7 @@ reached_first j s fits is =
     let bs = j.parts.blocks in
     let n = nothing j.parts j.count j.streams in
     let fit = blocks_fit j.parts fits.checked fits.spelled in
-    let b = firsts_begin (length bs) (length j.parts.entities) (pos j.count) 1 bs 0 n (omega arith) (omega arith) (all-operands (length j.parts.entities) bs (λ i block at. fit.operands (suc i) block at)) (nothing_begun j fits) in
+    let b = firsts_begin (length bs) (length j.parts.entities) (pos j.count) 1 bs 0 n (omega arith) (omega arith) (all-blocks (Begins (length j.parts.entities)) bs (λ i block at. record { operands = fit.operands (suc i) block at; interval = no_parameters_read j.parts (flow_of j.parts fits.checked) (suc i) block at })) (nothing_begun j fits) in
     let starts = starts_from j (length bs + 0) (first_arrivals 1 bs n) fits (omega (arith, fit.few)) b in
     subst (λ (t : State). IsReached (record { job = j; state = t })) (sym is)
     (record {

@@ -4,14 +4,14 @@ use Rattle.std.specs.Prelude.{int_le, sum_by}
 use Rattle.std.proofs.lemmas.Bool.{cases_eq, eq-eqb, ne_eqb}
 use Rattle.gw_chains.specs.Chain.{behind, all_behind, due}
 use Rattle.gw_transactions.specs.declared.Transaction.{Transaction}
-use Rattle.gw_transactions.specs.Transactions.{LiveTransaction, with_attributes}
+use Rattle.gw_transactions.specs.Transactions.{LiveTransaction, with_attributes, with_parameter}
 use Rattle.gw_num.specs.Table.{at, put}
 use Rattle.std.proofs.lemmas.List.Sums.{sum_by-cons}
 use Rattle.gw_num.proofs.Tables.{at-put, at-put_other, at_past, sum_by-put}
 use Rattle.gw_step.specs.State.{FutureEvent, State, priority_of, delay_list, without}
 use Rattle.gw_step.specs.Residence.{occurrences, active_numbers, occurrences_in, ResidesOnce}
-use Rattle.gw_step.specs.Changes.{newcomer, retries, woken, entered, destroyed, rests_until, arrives, waits_for, called_from, clock_moves, numbers}
-use Rattle.gw_step.proofs.Attributes.{is_some-attributes}
+use Rattle.gw_step.specs.Changes.{newcomer, retries, woken, entered, assigned, destroyed, rests_until, arrives, waits_for, called_from, clock_moves, numbers}
+use Rattle.gw_step.proofs.Attributes.{is_some-attributes, is_some-parameter}
 use Rattle.gw_step.proofs.Lists.{occurrences-placed, occurrences-all_behind, occurrences-due}
 
 -- 1 where it is there
@@ -80,6 +80,14 @@ resides-entered n t next s h k =
     elim (cases_eq k n) [
       | inl e ↦ h k ∙ ap (λ j. one_if (is_some (at None s.transactions j))) e ∙ ap one_if (sym (is_some-attributes u was)) ∙ sym (written_here s.transactions n (option_map (with_attributes u) was) k e)
       | inr e ↦ h k ∙ sym (written_other s.transactions n (option_map (with_attributes u) was) k e)
+    ]
+
+pub resides-assigned : (n q : ℕ) (value : ℤ) (s : State) → ResidesOnce s → ResidesOnce (assigned n q value s)
+resides-assigned n q value s h k =
+    let was = at None s.transactions n in
+    elim (cases_eq k n) [
+      | inl e ↦ h k ∙ ap (λ j. one_if (is_some (at None s.transactions j))) e ∙ ap one_if (sym (is_some-parameter q value was)) ∙ sym (written_here s.transactions n (option_map (with_parameter q value) was) k e)
+      | inr e ↦ h k ∙ sym (written_other s.transactions n (option_map (with_parameter q value) was) k e)
     ]
 
 pub resides-destroyed : (n : ℕ) (u : LiveTransaction) (s : State) → s.lists.active ≡ Some n → at None s.transactions n ≡ Some u → ResidesOnce s → ResidesOnce (destroyed n s)

@@ -4,7 +4,7 @@ use Rattle.std.specs.Prelude.{IfSome}
 use Rattle.gw_object.specs.declared.parts.Block.{Block}
 use Rattle.gw_object.specs.declared.parts.Block.TheVariants as blocks
 use Rattle.gw_object.specs.declared.parts.Parts.{Parts}
-use Rattle.gw_kinds.specs.Kinds.{block_at}
+use Rattle.gw_kinds.specs.Kinds.{block_at, values}
 use Rattle.gw_kinds.specs.Laws.{BlockHolds}
 use Rattle.gw_kinds.proofs.KindsHold.{kinds_pass_at_each_place}
 use Rattle.gw_flow.specs.Rows.{Row}
@@ -21,7 +21,8 @@ use Rattle.gw_step.specs.declared.ends.End.TheVariants.{Budget}
 use Rattle.gw_step.specs.Outcome.{Outcome, Gives, EndsBy, StopsBy, evaluated}
 use Rattle.gw_step.specs.State.{FutureEvent, State, with_streams}
 use Rattle.gw_flow.specs.Values.{operands}
-use Rattle.gw_step.specs.Times.{environment}
+use Rattle.gw_step.specs.Times.{environment_of}
+use Rattle.gw_flow.proofs.Parameters.{values_are_numbers}
 use Rattle.gw_step.specs.Changes.{woken, clock_moves}
 use Rattle.gw_step.specs.Blocks.{the_value, effect, meets, act}
 use Rattle.gw_step.specs.Step.{next_event, next_active, scan, within_budget, stepped, step}
@@ -32,12 +33,12 @@ use Rattle.gw_step.proofs.Rests.{all_come_to_rest}
 use Rattle.gw_step.proofs.Residence.{one_if, same_number}
 use Rattle.gw_step.specs.Typing.{IsPlaced, WellTyped, AreWithinCapacity}
 use Rattle.gw_step.specs.Safety.{StartIsWellTyped, StepsKeepTypes, WellTypedStatesStep, ReachedStatesAreWellTyped, NoJobIsStuck, AllJobsEnd, StoragesKeepTheirCapacity}
-use Rattle.gw_step.proofs.Traces.{Activates, ClockMoves, Woken, Draws, Marks, Change, Trace, Done, Then, trace_on, trace-keeps, trace-fills}
+use Rattle.gw_step.proofs.Traces.{its_parameters, Activates, ClockMoves, Woken, Draws, Marks, Change, Trace, Done, Then, trace_on, trace-keeps, trace-fills}
 use Rattle.gw_step.proofs.Unstopped.{Safe, safe_bind, safe_then, safe_found}
-use Rattle.gw_step.proofs.Drawn.{Read, safe_operands}
+use Rattle.gw_step.proofs.Drawn.{Read, AreRead, safe_operands}
 use Rattle.gw_step.proofs.Moving.{Acts, Reaches, safe_placed}
 use Rattle.gw_step.proofs.Calling.{some_of, is_at}
-use Rattle.gw_step.proofs.Effects.{safe_advance, safe_seize, safe_release, safe_enter, safe_leave, safe_join, safe_depart, safe_transfer, safe_fraction, safe_terminate}
+use Rattle.gw_step.proofs.Effects.{safe_advance, safe_seize, safe_release, safe_enter, safe_leave, safe_join, safe_depart, safe_assign, safe_transfer, safe_fraction, safe_loop, safe_logic, safe_save, safe_mark, safe_terminate}
 use Rattle.gw_step.proofs.Arriving.{safe_generate, start_typed}
 use Rattle.gw_step.proofs.Attributes.{attributes_of}
 
@@ -60,14 +61,24 @@ module _ (p : Parts) (each_block : (b : ℕ) (block : Block) → block_at p.bloc
   safe_meets s n t (blocks.Leave u) values row acts = safe_placed p k s n _ (safe_leave p each_block flow s n t k u row acts)
   safe_meets s n t (blocks.Queue u) values row acts = safe_placed p k s n _ (safe_join p each_block flow s n t k u row acts)
   safe_meets s n t (blocks.Depart u) values row acts = safe_placed p k s n _ (safe_depart p each_block flow s n t k u row acts)
+  safe_meets s n t (blocks.Assign a) values row acts = safe_placed p k s n _ (safe_assign p each_block flow s n t k a (the_value values) row acts)
   safe_meets s n t (blocks.Transfer target) values row acts = safe_placed p k s n _ (safe_transfer p each_block flow s n t k target row acts)
   safe_meets s n t (blocks.TransferByFraction f) values row acts = safe_placed p k s n _ (safe_fraction p each_block flow s n t k f (the_value values) row acts)
+  safe_meets s n t (blocks.Loop l) values row acts = safe_placed p k s n _ (safe_loop p each_block flow s n t k l row acts)
+  safe_meets s n t (blocks.Logic l) values row acts = safe_placed p k s n _ (safe_logic p each_block flow s n t k l row acts)
+  safe_meets s n t (blocks.Savevalue a) values row acts = safe_placed p k s n _ (safe_save p each_block flow s n t k a (the_value values) row acts)
+  safe_meets s n t (blocks.Mark q) values row acts = safe_placed p k s n _ (safe_mark p each_block flow s n t k q row acts)
+
+  -- the parameters that the values of its block read are set
+  are_read : (s : State) (n : ℕ) (t : Transaction) (block : Block) (row : Row) → Acts p s n t block row → AreRead (environment_of n t s) (values block)
+  are_read s n t block row acts i d within q is =
+      its_parameters p s acts.typed n t block row acts.is q (ap is_some (values_are_numbers p (own_table p) t.next block row acts.flow i d within q is))
 
   safe_act : (s : State) (n : ℕ) (t : Transaction) (block : Block) (row : Row) → Acts p s n t block row → Safe (Reaches p k s) (act p.blocks n t block s)
   unfolding act
   safe_act s n t block row acts =
-      let env = environment n t.priority t.mark s in
-      safe_bind (Read s.streams) (Reaches p k s) (evaluated (operands env block s.streams)) _ (safe_operands env block s.streams)
+      let env = environment_of n t s in
+      safe_bind (Read s.streams) (Reaches p k s) (evaluated (operands env block s.streams)) _ (safe_operands env block s.streams (are_read s n t block row acts))
       (λ read keeps.
       let u : State = with_streams read.1 s in
       safe_then (Reaches p k u) (Reaches p k s) (meets p.blocks n t block read.0 u)
@@ -147,7 +158,7 @@ module _ (p : Parts) (each_block : (b : ℕ) (block : Block) → block_at p.bloc
 pub kinds_of : (p : Parts) → Checked p → (b : ℕ) (block : Block) → block_at p.blocks b ≡ Some block → BlockHolds p b block
 kinds_of p checked = ((kinds_pass_at_each_place p).0 (kinds_pass p checked)).1
 
-flow_of : (p : Parts) → Checked p → FlowHolds p (own_table p)
+pub flow_of : (p : Parts) → Checked p → FlowHolds p (own_table p)
 flow_of p checked = (flow_passes_at_each_block p (own_table p)).0 (flow_passes p checked)
 
 pub start_is_well_typed : StartIsWellTyped

@@ -55,7 +55,7 @@ pub safe_found : {A B : Type 0} (P : B → Type 0) (o : Option A) (stop : Stop) 
 safe_found P o stop a f is h = subst (λ x. Safe P (or_stop x stop >>= f)) (sym is) h
 
 -- arithmetic never stops a job
-safe_answered : {A : Type 0} (r : Result A NumFault) → Safe Any (evaluated (answered r))
+pub safe_answered : {A : Type 0} (r : Result A NumFault) → Safe Any (evaluated (answered r))
 safe_answered (Ok a) = tt
 safe_answered (Err fault) = tt
 

@@ -1,22 +1,22 @@
 -- What each elementary change does to the numbers of a state.
 use Rattle.gw_step.specs.declared.ends.End.{End}
-use Rattle.std.proofs.Common.{◌≡◌, ℕ, suc, ◌+◌, ◌^◌, ◌≤◌, ◌<◌, ℤ, ◌≤ℤ◌, List, [], ◌∷◌, ◌++◌, length, Some, None, Bool, true, false, if◌then◌else◌, ◌==◌, refl, ap, ◌∙◌, arith, inl, inr, Option, sym, subst, option_map}
+use Rattle.std.proofs.Common.{◌≡◌, ℕ, suc, ◌+◌, ◌^◌, ◌≤◌, ◌<◌, ℤ, pos, ◌≤ℤ◌, List, [], ◌∷◌, ◌++◌, length, Some, None, Bool, true, false, if◌then◌else◌, ◌==◌, refl, ap, ◌∙◌, arith, inl, inr, Option, sym, subst, option_map}
 use Rattle.std.proofs.lemmas.Int.{ints}
-use Rattle.std.specs.Prelude.{sum, int_le}
+use Rattle.std.specs.Prelude.{sum, int_le, IfSome}
 use Rattle.std.proofs.lemmas.Bool.{cases_eq, eq-eqb, ne_eqb}
 use Rattle.gw_chains.specs.Chain.{placed_behind, behind, in_time, later}
 use Rattle.gw_num.specs.Table.{at, put}
 use Rattle.gw_num.proofs.Tables.{by_entry, length-put, length-put_next, sum_by-put}
 use Rattle.gw_transactions.specs.declared.Transaction.{Transaction}
-use Rattle.gw_transactions.specs.Transactions.{LiveTransaction, with_attributes}
+use Rattle.gw_transactions.specs.Transactions.{LiveTransaction, with_attributes, with_parameter, attributes_at, put_attributes, put_parameter}
 use Rattle.gw_entities.specs.Contents.{empty}
 use Rattle.gw_entities.specs.Facility.{idle}
 use Rattle.gw_entities.specs.Storage.{vacant}
 use Rattle.gw_step.specs.State.{FutureEvent, EntityStates, State, priority_of, raised, with_streams, delay_list, without}
-use Rattle.gw_step.specs.Changes.{newcomer, retries, woken, entered, destroyed, arrives, rests_until, waits_for, called_from, counted}
+use Rattle.gw_step.specs.Changes.{newcomer, retries, woken, entered, assigned, destroyed, arrives, rests_until, waits_for, called_from, counted}
 use Rattle.gw_step.specs.Residence.{occurrences}
 use Rattle.gw_step.proofs.Residence.{one_if}
-use Rattle.gw_step.specs.Numbers.{IsFrom, waiting, IsWithin, AreEntered}
+use Rattle.gw_step.specs.Numbers.{IsFrom, waiting, IsWithin, AreEntered, AreMarked}
 
 -- LENGTHS AND SUMS
 
@@ -81,12 +81,44 @@ pub record Raises (g h : EntityStates) : Type 0 where
   pub facility_table : length h.facilities ≡ length g.facilities
   pub storage_table : length h.storages ≡ length g.storages
   pub queue_table : length h.queues ≡ length g.queues
+  pub switch_table : length h.switches ≡ length g.switches
+  pub savevalue_table : length h.savevalues ≡ length g.savevalues
 
 pub raises-same : (g : EntityStates) → Raises g g
-raises-same g = record { facilities = λ f. omega arith; storages = λ e. omega arith; queues = λ q. omega arith; inside = λ q h. h; facility_table = refl; storage_table = refl; queue_table = refl }
+raises-same g = record { facilities = λ f. omega arith; storages = λ e. omega arith; queues = λ q. omega arith; inside = λ q h. h; facility_table = refl; storage_table = refl; queue_table = refl; switch_table = refl; savevalue_table = refl }
 
 pub raised_by_put : {X : Type 0} (d : X) (xs : List X) (k : ℕ) (v : X) (f : X → ℕ) (more : ℕ) → f v ≤ f (at d xs k) + more → (j : ℕ) → f (at d (put d xs k v) j) ≤ f (at d xs j) + more
 raised_by_put d xs k v f more here = by_entry d xs k v (λ j x. f x ≤ f (at d xs j) + more) here (λ j other. omega arith)
+
+-- MARK TIMES
+
+-- one transaction is now another, or gone
+pub marked-put : (ts : List (Option LiveTransaction)) (n : ℕ) (v : Option LiveTransaction) → IfSome v (λ t. pos 0 ≤ℤ t.attributes.mark) → AreMarked ts → AreMarked (put None ts n v)
+marked-put ts n v here m = record { marks = by_entry None ts n v (λ k o. IfSome o (λ (t : LiveTransaction). pos 0 ≤ℤ t.attributes.mark)) here (λ k other. m.marks k) }
+
+if_written : (a : Transaction) (o : Option LiveTransaction) → pos 0 ≤ℤ a.mark → IfSome (option_map (with_attributes a) o) (λ t. pos 0 ≤ℤ t.attributes.mark)
+if_written a None h = tt
+if_written a (Some t) h = h
+
+-- one has other attributes
+pub marked-written : (ts : List (Option LiveTransaction)) (n : ℕ) (a : Transaction) → pos 0 ≤ℤ a.mark → AreMarked ts → AreMarked (put_attributes n a ts)
+marked-written ts n a h m = marked-put ts n (option_map (with_attributes a) (at None ts n)) (if_written a (at None ts n) h) m
+
+if_assigned : (p : ℕ) (value : ℤ) (o : Option LiveTransaction) → IfSome o (λ (t : LiveTransaction). pos 0 ≤ℤ t.attributes.mark) → IfSome (option_map (with_parameter p value) o) (λ (t : LiveTransaction). pos 0 ≤ℤ t.attributes.mark)
+if_assigned p value None h = tt
+if_assigned p value (Some t) h = h
+
+-- one has another parameter
+pub marked-assigned : (ts : List (Option LiveTransaction)) (n p : ℕ) (value : ℤ) → AreMarked ts → AreMarked (put_parameter n p value ts)
+marked-assigned ts n p value m = marked-put ts n (option_map (with_parameter p value) (at None ts n)) (if_assigned p value (at None ts n) (m.marks n)) m
+
+-- the mark time of the transaction n, which is t
+pub mark_from : (ts : List (Option LiveTransaction)) (n : ℕ) (t : Transaction) → AreMarked ts → attributes_at n ts ≡ Some t → pos 0 ≤ℤ t.mark
+mark_from ts n t m found = by_option (at None ts n) (m.marks n) found
+  where
+    by_option : (o : Option LiveTransaction) → IfSome o (λ (t : LiveTransaction). pos 0 ≤ℤ t.attributes.mark) → option_map (λ (t : LiveTransaction). t.attributes) o ≡ Some t → pos 0 ≤ℤ t.mark
+    by_option None h is = absurd cc
+    by_option (Some u) h is = let same : u.attributes ≡ t = cc in subst (λ (a : Transaction). pos 0 ≤ℤ a.mark) same h
 
 -- CHANGES
 
@@ -99,6 +131,7 @@ module _ (bs es en ar : ℕ) (s : State) (w : IsWithin bs es en ar s) where
     entity_entries = subst (λ (g : EntityStates). AreEntered (sum t.entries) g) (sym entities) (subst (λ (xs : List ℕ). AreEntered (sum xs) s.entities) (sym entries) w.entity_entries);
     made = omega (arith, w.made, ap (λ (xs : List (Option LiveTransaction)). length xs) ts);
     scheduled = omega (arith, w.scheduled, ap sum scheduled);
+    marked = rw ts w.marked;
     whole = record {
       entries = ap length entries ∙ w.whole.entries;
       scheduled = ap length scheduled ∙ w.whole.scheduled;
@@ -106,6 +139,8 @@ module _ (bs es en ar : ℕ) (s : State) (w : IsWithin bs es en ar s) where
       facilities = ap (λ (g : EntityStates). length g.facilities) entities ∙ w.whole.facilities;
       storages = ap (λ (g : EntityStates). length g.storages) entities ∙ w.whole.storages;
       queues = ap (λ (g : EntityStates). length g.queues) entities ∙ w.whole.queues;
+      switches = ap (λ (g : EntityStates). length g.switches) entities ∙ w.whole.switches;
+      savevalues = ap (λ (g : EntityStates). length g.savevalues) entities ∙ w.whole.savevalues;
       streams = streams;
     };
     clock = rw clock w.clock;
@@ -128,8 +163,8 @@ module _ (bs es en ar : ℕ) (s : State) (w : IsWithin bs es en ar s) where
   within-counted by = within-apart (counted by s) refl refl refl refl refl (omega arith) w.whole.streams refl refl
 
   -- an entry, and what it does to an entity
-  pub within-entered : (n : ℕ) (t : Transaction) (next : ℕ) (g : EntityStates) → t.next ≤ bs → n < length s.transactions → Raises s.entities g → IsWithin bs es (suc en) ar (record (entered n t next s) { entities = g })
-  within-entered n t next g block there r =
+  pub within-entered : (n : ℕ) (t : Transaction) (next : ℕ) (g : EntityStates) → t.next ≤ bs → n < length s.transactions → pos 0 ≤ℤ t.mark → Raises s.entities g → IsWithin bs es (suc en) ar (record (entered n t next s) { entities = g })
+  within-entered n t next g block there marks r =
       let table = w.whole.entries in
       let more = sum-raised t.next s.entries in
       let entries = w.entries in
@@ -143,6 +178,7 @@ module _ (bs es en ar : ℕ) (s : State) (w : IsWithin bs es en ar s) where
         };
         made = omega (arith, w.made, length-put None s.transactions n (option_map (with_attributes (record t { current = t.next; next = next })) (at None s.transactions n)) there);
         scheduled = w.scheduled;
+        marked = marked-written s.transactions n (record t { current = t.next; next = next }) marks w.marked;
         whole = record {
           entries = length-raised t.next s.entries (omega (arith, table, block)) ∙ table;
           scheduled = w.whole.scheduled;
@@ -150,6 +186,8 @@ module _ (bs es en ar : ℕ) (s : State) (w : IsWithin bs es en ar s) where
           facilities = r.facility_table ∙ w.whole.facilities;
           storages = r.storage_table ∙ w.whole.storages;
           queues = r.queue_table ∙ w.whole.queues;
+          switches = r.switch_table ∙ w.whole.switches;
+          savevalues = r.savevalue_table ∙ w.whole.savevalues;
           streams = w.whole.streams;
         };
         clock = w.clock;
@@ -162,7 +200,21 @@ module _ (bs es en ar : ℕ) (s : State) (w : IsWithin bs es en ar s) where
     entity_entries = w.entity_entries;
     made = omega (arith, w.made, length-put None s.transactions n None there);
     scheduled = w.scheduled;
-    whole = record { entries = w.whole.entries; scheduled = w.whole.scheduled; delay_lists = w.whole.delay_lists; facilities = w.whole.facilities; storages = w.whole.storages; queues = w.whole.queues; streams = w.whole.streams };
+    marked = marked-put s.transactions n None tt w.marked;
+    whole = record { entries = w.whole.entries; scheduled = w.whole.scheduled; delay_lists = w.whole.delay_lists; facilities = w.whole.facilities; storages = w.whole.storages; queues = w.whole.queues; switches = w.whole.switches; savevalues = w.whole.savevalues; streams = w.whole.streams };
+    clock = w.clock;
+    future = w.future;
+  }
+
+  -- a parameter is set
+  pub within-assigned : (n p : ℕ) (value : ℤ) → n < length s.transactions → IsWithin bs es en ar (assigned n p value s)
+  within-assigned n p value there = record {
+    entries = w.entries;
+    entity_entries = w.entity_entries;
+    made = omega (arith, w.made, length-put None s.transactions n (option_map (with_parameter p value) (at None s.transactions n)) there);
+    scheduled = w.scheduled;
+    marked = marked-assigned s.transactions n p value w.marked;
+    whole = record { entries = w.whole.entries; scheduled = w.whole.scheduled; delay_lists = w.whole.delay_lists; facilities = w.whole.facilities; storages = w.whole.storages; queues = w.whole.queues; switches = w.whole.switches; savevalues = w.whole.savevalues; streams = w.whole.streams };
     clock = w.clock;
     future = w.future;
   }
@@ -173,7 +225,8 @@ module _ (bs es en ar : ℕ) (s : State) (w : IsWithin bs es en ar s) where
     entity_entries = w.entity_entries;
     made = w.made;
     scheduled = w.scheduled;
-    whole = record { entries = w.whole.entries; scheduled = w.whole.scheduled; delay_lists = w.whole.delay_lists; facilities = w.whole.facilities; storages = w.whole.storages; queues = w.whole.queues; streams = w.whole.streams };
+    marked = w.marked;
+    whole = record { entries = w.whole.entries; scheduled = w.whole.scheduled; delay_lists = w.whole.delay_lists; facilities = w.whole.facilities; storages = w.whole.storages; queues = w.whole.queues; switches = w.whole.switches; savevalues = w.whole.savevalues; streams = w.whole.streams };
     clock = w.clock;
     future = w.future;
   }
@@ -186,6 +239,7 @@ module _ (bs es en ar : ℕ) (s : State) (w : IsWithin bs es en ar s) where
         entity_entries = w.entity_entries;
         made = omega (arith, w.made, length-put_next None s.transactions (Some (newcomer b priority s)));
         scheduled = omega (arith, w.scheduled, sum-raised b s.scheduled);
+        marked = marked-put s.transactions (length s.transactions) (Some (newcomer b priority s)) w.clock w.marked;
         whole = record {
           entries = w.whole.entries;
           scheduled = length-raised b s.scheduled (omega (arith, table, block)) ∙ table;
@@ -193,6 +247,8 @@ module _ (bs es en ar : ℕ) (s : State) (w : IsWithin bs es en ar s) where
           facilities = w.whole.facilities;
           storages = w.whole.storages;
           queues = w.whole.queues;
+          switches = w.whole.switches;
+          savevalues = w.whole.savevalues;
           streams = w.whole.streams;
         };
         clock = w.clock;
@@ -205,7 +261,8 @@ module _ (bs es en ar : ℕ) (s : State) (w : IsWithin bs es en ar s) where
     entity_entries = w.entity_entries;
     made = w.made;
     scheduled = w.scheduled;
-    whole = record { entries = w.whole.entries; scheduled = w.whole.scheduled; delay_lists = w.whole.delay_lists; facilities = w.whole.facilities; storages = w.whole.storages; queues = w.whole.queues; streams = w.whole.streams };
+    marked = w.marked;
+    whole = record { entries = w.whole.entries; scheduled = w.whole.scheduled; delay_lists = w.whole.delay_lists; facilities = w.whole.facilities; storages = w.whole.storages; queues = w.whole.queues; switches = w.whole.switches; savevalues = w.whole.savevalues; streams = w.whole.streams };
     clock = w.clock;
     future = from-in_time s.clock (record { time = time; number = n }) s.lists.future_events later w.future;
   }
@@ -222,6 +279,7 @@ module _ (bs es en ar : ℕ) (s : State) (w : IsWithin bs es en ar s) where
         entity_entries = w.entity_entries;
         made = w.made;
         scheduled = w.scheduled;
+        marked = w.marked;
         whole = record {
           entries = w.whole.entries;
           scheduled = w.whole.scheduled;
@@ -229,6 +287,8 @@ module _ (bs es en ar : ℕ) (s : State) (w : IsWithin bs es en ar s) where
           facilities = w.whole.facilities;
           storages = w.whole.storages;
           queues = w.whole.queues;
+          switches = w.whole.switches;
+          savevalues = w.whole.savevalues;
           streams = w.whole.streams;
         };
         clock = w.clock;
@@ -251,6 +311,7 @@ module _ (bs es en ar : ℕ) (s : State) (w : IsWithin bs es en ar s) where
         entity_entries = w.entity_entries;
         made = w.made;
         scheduled = w.scheduled;
+        marked = w.marked;
         whole = record {
           entries = w.whole.entries;
           scheduled = w.whole.scheduled;
@@ -258,6 +319,8 @@ module _ (bs es en ar : ℕ) (s : State) (w : IsWithin bs es en ar s) where
           facilities = w.whole.facilities;
           storages = w.whole.storages;
           queues = w.whole.queues;
+          switches = w.whole.switches;
+          savevalues = w.whole.savevalues;
           streams = w.whole.streams;
         };
         clock = w.clock;
@@ -270,6 +333,7 @@ module _ (bs es en ar : ℕ) (s : State) (w : IsWithin bs es en ar s) where
     entity_entries = w.entity_entries;
     made = omega (arith, w.made, le');
     scheduled = omega (arith, w.scheduled, le');
+    marked = w.marked;
     whole = w.whole;
     clock = w.clock;
     future = w.future;

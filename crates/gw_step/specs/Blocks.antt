@@ -1,29 +1,39 @@
 -- What each block does to the active transaction: whether it refuses it, and what entering comes to.
-use Rattle.std.specs.Prelude.{ℕ, ◌+◌, ℤ, pos, List, [], ◌∷◌, length, Option, Some, None, Result, Ok, Err, Bool, true, false, not, nat_lt, nat_le, ◌==◌, if◌then◌else◌, int_lt, unwrap_or}
+use Rattle.std.specs.Prelude.{ℕ, ◌+◌, ℤ, pos, List, [], ◌∷◌, Option, Some, None, Result, Ok, Err, Bool, true, false, not, nat_lt, nat_le, ◌==◌, if◌then◌else◌, int_lt, unwrap_or}
 use Rattle.std.specs.Option.{option_map_or}
 use Rattle.gw_object.specs.declared.parts.Generate.{Generate}
 use Rattle.gw_object.specs.declared.parts.Units.{Units}
 use Rattle.gw_object.specs.declared.parts.Fraction.{Fraction}
+use Rattle.gw_object.specs.declared.parts.Mode.{Mode}
+use Rattle.gw_object.specs.declared.parts.Mode.TheVariants.{Set, Add, Subtract}
+use Rattle.gw_object.specs.declared.parts.Assign.{Assign}
+use Rattle.gw_object.specs.declared.parts.Loop.{Loop}
+use Rattle.gw_object.specs.declared.parts.SwitchAction.{SwitchAction}
+use Rattle.gw_object.specs.declared.parts.SwitchAction.TheVariants as switches
+use Rattle.gw_object.specs.declared.parts.Logic.{Logic}
+use Rattle.gw_object.specs.declared.parts.Save.{Save}
 use Rattle.gw_object.specs.declared.parts.Block.{Block}
 use Rattle.gw_object.specs.declared.parts.Block.TheVariants as blocks
 use Rattle.gw_kinds.specs.Kinds.{block_at}
-use Rattle.gw_flow.specs.Values.{operands}
+use Rattle.gw_flow.specs.Values.{answered, operands}
+use Rattle.gw_num.specs.declared.arithmetic.NumFault.{NumFault}
+use Rattle.gw_num.specs.Arithmetic.{sum_of, difference_of}
 use Rattle.gw_num.specs.Table.{at}
 use Rattle.gw_transactions.specs.declared.Transaction.{Transaction}
-use Rattle.gw_transactions.specs.Transactions.{attributes_at, live_count}
+use Rattle.gw_transactions.specs.Transactions.{attributes_at, parameter_at, live_count}
 use Rattle.gw_entities.specs.declared.storages.Storage.{Storage}
 use Rattle.gw_entities.specs.declared.stop.Stop.{Stop}
-use Rattle.gw_entities.specs.declared.stop.Stop.TheVariants.{NoBlock, OwnsAtEnd}
+use Rattle.gw_entities.specs.declared.stop.Stop.TheVariants.{NoBlock, OwnsAtEnd, UnsetParam}
 use Rattle.gw_entities.specs.Facility.{seized, seizing, releasing, owns_any}
 use Rattle.gw_entities.specs.Storage.{has_room, entered as with_units_entered, entering, leaving}
 use Rattle.gw_entities.specs.Queue.{joined, departing}
 use Rattle.gw_step.specs.declared.ends.End.TheVariants.{Number, Live}
 use Rattle.gw_step.specs.declared.placement.Placement.{Placement}
 use Rattle.gw_step.specs.declared.placement.Placement.TheVariants.{StaysActive, RestsUntil, JoinsDelayList, JoinsRetryList, LeavesModel}
-use Rattle.gw_step.specs.Outcome.{Outcome, Gives, EndsBy, ◌>>=◌, unless_stopped, granted, evaluated}
+use Rattle.gw_step.specs.Outcome.{Outcome, Gives, EndsBy, ◌>>=◌, unless_stopped, or_stop, granted, evaluated}
 use Rattle.gw_step.specs.State.{State, may_enter, with_streams, delay_list}
-use Rattle.gw_step.specs.Times.{environment, moment_after, drawn_moment}
-use Rattle.gw_step.specs.Changes.{entered, enters_and_falls, arrives, called_from, facility, storage, queue, put_facility, put_storage, put_queue, counted}
+use Rattle.gw_step.specs.Times.{environment_of, environment_of_next, moment_after, drawn_moment}
+use Rattle.gw_step.specs.Changes.{entered, enters_and_falls, arrives, called_from, assigned, facility, storage, queue, switch, savevalue, put_facility, put_storage, put_queue, put_switch, put_savevalue, counted}
 use Rattle.gw_step.specs.Placing.{placed}
 
 -- REFUSAL
@@ -76,7 +86,7 @@ within_live_limit s outcome = if nat_lt (live_count s.transactions) 65536 then o
 abbrev pub next_arrival : ℕ → Generate → State → Outcome State
 next_arrival b g s =
     if is_owed g.limit (at 0 s.scheduled b)
-    then (drawn_moment (environment (length s.transactions) g.priority s.clock s) g.interval s.clock s.streams >>= λ d. within_live_limit s (Gives (arrives b g.priority d.0 (with_streams d.1 s))))
+    then (drawn_moment (environment_of_next g.priority s) g.interval s.clock s.streams >>= λ d. within_live_limit s (Gives (arrives b g.priority d.0 (with_streams d.1 s))))
     else Gives s
 
 -- the effect of GENERATE: the next arrival is scheduled, and the transaction enters with the clock as its mark time
@@ -175,6 +185,54 @@ transfer bs n t target s = leads bs target (stays (entered n t target s))
 abbrev pub chosen : ℕ → Fraction → ℤ → ℕ
 chosen b f drawn = if int_lt drawn (pos f.thousandths) then f.target else unwrap_or f.otherwise (b + 1)
 
+-- PARAMETERS
+
+-- a value put where an old one is: it takes its place, or is added to it, or subtracted from it
+abbrev pub put_by : Mode → ℤ → ℤ → Result ℤ NumFault
+put_by Set old value = Ok value
+put_by Add old value = sum_of old value
+put_by Subtract old value = difference_of old value
+
+-- the effect of ASSIGN: a parameter of the transaction is set, where it has no value yet that counts as 0, and the transaction enters
+abbrev pub assign : List Block → ℕ → Transaction → Assign → ℤ → State → Outcome (State × Placement)
+assign bs n t a value s =
+    evaluated (answered (put_by a.mode (unwrap_or (parameter_at n a.parameter s.transactions) (pos 0)) value)) >>= λ new.
+    leads bs (t.next + 1) (stays (enters_and_falls n t (assigned n a.parameter new s)))
+
+-- where a LOOP, the block of number b, leads to when its parameter has come to this
+abbrev pub looped : ℕ → ℕ → ℤ → ℕ
+looped b target left = if int_lt (pos 0) left then target else b + 1
+
+-- the effect of LOOP: a parameter of the transaction, which has to be set, falls by one, and the transaction enters
+abbrev pub loop : List Block → ℕ → Transaction → Loop → State → Outcome (State × Placement)
+loop bs n t l s =
+    or_stop (parameter_at n l.parameter s.transactions) UnsetParam >>= λ old.
+    evaluated (answered (difference_of old (pos 1))) >>= λ left.
+    leads bs (looped t.next l.target left) (stays (entered n t (looped t.next l.target left) (assigned n l.parameter left s)))
+
+-- the effect of MARK: the clock is the transaction's mark time from now on, or the value of a parameter, and the transaction enters
+abbrev pub mark : List Block → ℕ → Transaction → Option ℕ → State → Outcome (State × Placement)
+mark bs n t None s = leads bs (t.next + 1) (stays (enters_and_falls n (record t { mark = s.clock }) s))
+mark bs n t (Some p) s = leads bs (t.next + 1) (stays (enters_and_falls n t (assigned n p s.clock s)))
+
+-- LOGIC SWITCHES AND SAVEVALUES
+
+-- what becomes of a logic switch
+abbrev pub turned : SwitchAction → Bool → Bool
+turned switches.Set on = true
+turned switches.Reset on = false
+turned switches.Invert on = not on
+
+-- the effect of LOGIC: the transaction enters, and the logic switch is set, reset or inverted
+abbrev pub logic : List Block → ℕ → Transaction → Logic → State → Outcome (State × Placement)
+logic bs n t l s = leads bs (t.next + 1) (stays (put_switch l.switch (turned l.action (switch l.switch s)) (enters_and_falls n t s)))
+
+-- the effect of SAVEVALUE: the transaction enters, and the savevalue has another value
+abbrev pub save : List Block → ℕ → Transaction → Save → ℤ → State → Outcome (State × Placement)
+save bs n t a value s =
+    evaluated (answered (put_by a.mode (savevalue a.savevalue s) value)) >>= λ new.
+    leads bs (t.next + 1) (stays (put_savevalue a.savevalue new (enters_and_falls n t s)))
+
 -- THE END OF A TRANSACTION
 
 -- the effect of TERMINATE: the transaction, which owns nothing, enters and is destroyed, and the termination count falls, but not by less than 0
@@ -194,8 +252,13 @@ effect bs n t (blocks.Enter u) values s = enter bs n t u s
 effect bs n t (blocks.Leave u) values s = leave bs n t u s
 effect bs n t (blocks.Queue u) values s = join_queue bs n t u s
 effect bs n t (blocks.Depart u) values s = depart bs n t u s
+effect bs n t (blocks.Assign a) values s = assign bs n t a (the_value values) s
 effect bs n t (blocks.Transfer target) values s = transfer bs n t target s
 effect bs n t (blocks.TransferByFraction f) values s = transfer bs n t (chosen t.next f (the_value values)) s
+effect bs n t (blocks.Loop l) values s = loop bs n t l s
+effect bs n t (blocks.Logic l) values s = logic bs n t l s
+effect bs n t (blocks.Savevalue a) values s = save bs n t a (the_value values) s
+effect bs n t (blocks.Mark p) values s = mark bs n t p s
 
 -- what entering came to, with the transaction n placed
 abbrev pub then_placed : ℕ → Outcome (State × Placement) → Outcome State
@@ -207,4 +270,4 @@ meets bs n t block values s = if refuses n block values s then Gives (placed n (
 
 -- the active transaction n, which is t, at its next block: the operands are evaluated before it enters, and their draws stand also where it is refused
 unfoldable pub act : List Block → ℕ → Transaction → Block → State → Outcome State
-act bs n t block s = evaluated (operands (environment n t.priority t.mark s) block s.streams) >>= λ read. meets bs n t block read.0 (with_streams read.1 s)
+act bs n t block s = evaluated (operands (environment_of n t s) block s.streams) >>= λ read. meets bs n t block read.0 (with_streams read.1 s)

@@ -1,15 +1,16 @@
 -- The elementary changes of a state.
-use Rattle.std.specs.Prelude.{ℕ, ℤ, pos, ◌-ℤ◌, unsigned_abs, List, [], ◌∷◌, ◌++◌, ◌+◌, map, length, Option, Some, None, true, false, if◌then◌else◌, int_lt}
+use Rattle.std.specs.Prelude.{ℕ, ℤ, pos, ◌-ℤ◌, unsigned_abs, List, [], ◌∷◌, ◌++◌, ◌+◌, map, length, Option, Some, None, Bool, true, false, if◌then◌else◌, int_lt}
 use Rattle.gw_chains.specs.Chain.{behind, in_time, all_behind, due, later}
 use Rattle.gw_num.specs.Table.{at, put}
 use Rattle.gw_transactions.specs.declared.Transaction.{Transaction}
-use Rattle.gw_transactions.specs.Transactions.{LiveTransaction, as_made, put_attributes}
+use Rattle.gw_transactions.specs.Transactions.{LiveTransaction, as_made, put_attributes, put_parameter}
 use Rattle.gw_entities.specs.declared.facilities.Facility.{Facility}
 use Rattle.gw_entities.specs.declared.storages.Storage.{Storage}
 use Rattle.gw_entities.specs.declared.contents.Contents.{Contents}
 use Rattle.gw_entities.specs.Contents.{empty, contents_after}
 use Rattle.gw_entities.specs.Facility.{idle, facility_after}
 use Rattle.gw_entities.specs.Storage as storages
+use Rattle.gw_entities.specs.Table.{switch_at, set_switch, savevalue_at, set_savevalue}
 use Rattle.gw_step.specs.declared.ends.End.{End}
 use Rattle.gw_step.specs.declared.ends.End.TheVariants.{Done}
 use Rattle.gw_step.specs.State.{FutureEvent, EntityStates, State, priority_of, raised, delay_list, without}
@@ -41,6 +42,10 @@ arrives b priority time s =
       transactions = put None s.transactions (length s.transactions) (Some (newcomer b priority s));
       lists = record s.lists { future_events = in_time (λ (e : FutureEvent). e.time) (record { time = time; number = length s.transactions }) s.lists.future_events };
     }
+
+-- a parameter of the transaction n has this value
+abbrev pub assigned : ℕ → ℕ → ℤ → State → State
+assigned n p value s = record s { transactions = put_parameter n p value s.transactions }
 
 -- RESTS
 
@@ -112,10 +117,26 @@ put_storage e v s = record s { entities = record s.entities { storages = put (st
 abbrev pub put_queue : ℕ → Contents → State → State
 put_queue q v s = record s { entities = record s.entities { queues = put empty s.entities.queues q v } }
 
+-- whether the logic switch of a number is set
+abbrev pub switch : ℕ → State → Bool
+switch l s = switch_at l s.entities.switches
+
+-- the value of the savevalue of a number
+abbrev pub savevalue : ℕ → State → ℤ
+savevalue x s = savevalue_at x s.entities.savevalues
+
+-- the logic switch of this number is now so
+abbrev pub put_switch : ℕ → Bool → State → State
+put_switch l on s = record s { entities = record s.entities { switches = set_switch l on s.entities.switches } }
+
+-- the savevalue of this number now has this value
+abbrev pub put_savevalue : ℕ → ℤ → State → State
+put_savevalue x value s = record s { entities = record s.entities { savevalues = set_savevalue x value s.entities.savevalues } }
+
 -- so many clock units pass: what each entity holds is added up over them
 abbrev pub time_passes : ℕ → EntityStates → EntityStates
 time_passes time g =
-    record {
+    record g {
       facilities = map (facility_after time) g.facilities;
       storages = map (storages.storage_after time) g.storages;
       queues = map (contents_after time) g.queues;

@@ -1,5 +1,5 @@
 -- How far the numbers of a state may have come.
-use Rattle.std.specs.Prelude.{◌≡◌, ℕ, ◌+◌, ◌*◌, ◌^◌, ◌≤◌, ℤ, pos, ◌≤ℤ◌, sum, sum_by, List, [], ◌∷◌, length, Option, Some, IfSome}
+use Rattle.std.specs.Prelude.{◌≡◌, ℕ, ◌+◌, ◌*◌, ◌^◌, ◌≤◌, ℤ, pos, ◌≤ℤ◌, sum, sum_by, List, [], ◌∷◌, length, Option, Some, None, IfSome}
 use Rattle.gw_object.specs.declared.parts.Generate.{Generate}
 use Rattle.gw_object.specs.declared.parts.Block.{Block}
 use Rattle.gw_object.specs.declared.parts.Block.TheVariants as blocks
@@ -28,6 +28,8 @@ pub record IsWhole (blocks entities : ℕ) (s : State) : Type 0 where
   pub facilities : length s.entities.facilities ≡ entities
   pub storages : length s.entities.storages ≡ entities
   pub queues : length s.entities.queues ≡ entities
+  pub switches : length s.entities.switches ≡ entities
+  pub savevalues : length s.entities.savevalues ≡ entities
   pub streams : length s.streams ≡ 16
 
 -- each entity has at most so many entries, of at most 2^20 units each, and a queue holds no more than ever joined it
@@ -37,6 +39,10 @@ pub record AreEntered (entries : ℕ) (g : EntityStates) : Type 0 where
   pub queues : (q : ℕ) → (at empty g.queues q).entries ≤ entries * 2 ^ 20
   pub inside : (q : ℕ) → (at empty g.queues q).content ≤ (at empty g.queues q).entries
 
+-- no mark time lies before clock 0
+pub record AreMarked (transactions : List (Option LiveTransaction)) : Type 0 where
+  pub marks : (n : ℕ) → IfSome (at None transactions n) (λ t. pos 0 ≤ℤ t.attributes.mark)
+
 -- the numbers of a state in which so many entries and arrivals were made; each waiter is an entry that is still to come
 pub record IsWithin (blocks entities entered arrived : ℕ) (s : State) : Type 0 where
   pub entries : sum s.entries + waiting s ≤ entered
@@ -45,6 +51,7 @@ pub record IsWithin (blocks entities entered arrived : ℕ) (s : State) : Type 0
   pub made : length s.transactions ≤ arrived + 4097
   pub scheduled : sum s.scheduled ≤ arrived + 4096
   pub whole : IsWhole blocks entities s
+  pub marked : AreMarked s.transactions
   -- no future event lies before the clock
   pub clock : pos 0 ≤ℤ s.clock
   pub future : IsFrom s.clock s.lists.future_events

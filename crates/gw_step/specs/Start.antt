@@ -9,18 +9,21 @@ use Rattle.gw_entities.specs.Contents.{empty}
 use Rattle.gw_entities.specs.Facility.{idle}
 use Rattle.gw_object.specs.Entities.{capacity_of}
 use Rattle.gw_entities.specs.Storage.{vacant}
+use Rattle.gw_entities.specs.Table.{switches_of, savevalues_of}
 use Rattle.gw_step.specs.Outcome.{Outcome, Gives, EndsBy, StopsBy, ◌>>=◌}
 use Rattle.gw_step.specs.State.{EntityStates, State, with_streams}
-use Rattle.gw_step.specs.Times.{environment, drawn_moment}
+use Rattle.gw_step.specs.Times.{environment_of_next, drawn_moment}
 use Rattle.gw_step.specs.Changes.{arrives}
 
--- every facility is idle, and every storage and queue is empty
+-- every facility is idle, every storage and queue is empty, and logic switches and savevalues are as the object gives them
 abbrev pub untouched : List Entity → EntityStates
 untouched entities =
     record {
       facilities = map (λ _. idle) entities;
       storages = map (λ (e : Entity). vacant (capacity_of e.kind)) entities;
       queues = map (λ _. empty) entities;
+      switches = switches_of entities;
+      savevalues = savevalues_of entities;
     }
 
 -- nothing is scheduled: an object, this termination count, these streams
@@ -43,7 +46,7 @@ nothing parts count streams =
 -- when the first arrival of a GENERATE block comes, and the streams then: at the time that the block gives, which draws nothing, else at a drawn moment
 abbrev pub first_moment : Generate → State → Option ℤ → Outcome (ℤ × List ℕ)
 first_moment g s (Some time) = Gives (time, s.streams)
-first_moment g s None = drawn_moment (environment (length s.transactions) g.priority s.clock s) g.interval s.clock s.streams
+first_moment g s None = drawn_moment (environment_of_next g.priority s) g.interval s.clock s.streams
 
 -- the first arrival of a block, b, if it is a GENERATE
 abbrev pub first_arrival : ℕ → Block → State → Outcome State

@@ -31,6 +31,10 @@ pub record EntityStates : Type 0 where
   pub facilities : List Facility
   pub storages : List Storage
   pub queues : List Contents
+  -- whether each logic switch is set
+  pub switches : List Bool
+  -- in each savevalue, its value
+  pub savevalues : List ℤ
 
 -- the state of a job; a table has an entry at each number, that of a block or of a transaction, from 1
 pub record State : Type 0 where

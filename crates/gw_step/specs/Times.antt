@@ -1,15 +1,58 @@
--- Moments, and what operands read.
-use Rattle.std.specs.Prelude.{ℕ, ℤ, pos, List, if◌then◌else◌, int_lt}
+-- What operands read, and moments.
+use Rattle.std.specs.Prelude.{ℕ, ℤ, pos, ◌-ℤ◌, List, length, Option, None, Bool, false, not, if◌then◌else◌, int_lt}
+use Rattle.std.specs.Option.{option_map_or}
+use Rattle.gw_object.specs.declared.parts.EntityAttribute.{EntityAttribute}
+use Rattle.gw_object.specs.declared.parts.EntityAttribute.TheVariants.{FacilityOwned, StorageContent, StorageRemaining, QueueContent, SavevalueValue, SwitchSetting, BlockEntries, BlockCount}
+use Rattle.gw_object.specs.declared.parts.Numbered.{Numbered}
 use Rattle.gw_object.specs.declared.parts.Spread.{Spread}
 use Rattle.gw_num.specs.Arithmetic.{sum_of}
+use Rattle.gw_num.specs.Table.{at}
+use Rattle.gw_transactions.specs.declared.Transaction.{Transaction}
+use Rattle.gw_transactions.specs.Parameters.{no_parameters}
+use Rattle.gw_transactions.specs.Transactions.{LiveTransaction, here_count}
+use Rattle.gw_entities.specs.Contents.{empty}
+use Rattle.gw_entities.specs.Facility.{idle, is_idle}
+use Rattle.gw_entities.specs.Storage.{vacant}
 use Rattle.gw_flow.specs.Values.{Environment, answered, drawn_time}
 use Rattle.gw_step.specs.declared.ends.End.TheVariants.{NegativeTime}
 use Rattle.gw_step.specs.Outcome.{Outcome, Gives, EndsBy, ◌>>=◌, evaluated}
 use Rattle.gw_step.specs.State.{State}
 
--- what operands read in a state, for the transaction of a number, with this priority and mark time
-abbrev pub environment : ℕ → ℤ → ℤ → State → Environment
-environment n priority mark s = record { clock = s.clock; count = s.count; number = n; priority = priority; mark = mark }
+-- WHAT OPERANDS READ
+
+-- 1 for what is so, else 0
+abbrev pub one_where : Bool → ℤ
+one_where so = if so then pos 1 else pos 0
+
+-- an attribute of an entity or a block, by its number
+abbrev pub attribute_of : State → EntityAttribute → ℕ → ℤ
+attribute_of s FacilityOwned f = one_where (not (is_idle (at idle s.entities.facilities f)))
+attribute_of s StorageContent e = pos (at (vacant 0) s.entities.storages e).contents.content
+attribute_of s StorageRemaining e = pos (at (vacant 0) s.entities.storages e).capacity -ℤ pos (at (vacant 0) s.entities.storages e).contents.content
+attribute_of s QueueContent q = pos (at empty s.entities.queues q).content
+attribute_of s SavevalueValue x = at (pos 0) s.entities.savevalues x
+attribute_of s SwitchSetting l = one_where (at false s.entities.switches l)
+attribute_of s BlockEntries b = pos (at 0 s.entries b)
+attribute_of s BlockCount b = pos (here_count b s.transactions)
+
+-- the parameters of the transaction of a number
+abbrev pub parameters_of : ℕ → State → List (Option ℤ)
+parameters_of n s = option_map_or (λ (t : LiveTransaction). t.parameters) (at None s.transactions n) no_parameters
+
+-- what operands read in a state, for the transaction of a number, with this priority, mark time and parameters
+abbrev pub environment : ℕ → ℤ → ℤ → List (Option ℤ) → State → Environment
+environment n priority mark parameters s =
+    record { clock = s.clock; count = s.count; number = n; priority = priority; mark = mark; parameters = parameters; of_entity = λ (a : Numbered). attribute_of s a.attribute a.number }
+
+-- for the transaction n, which is t
+abbrev pub environment_of : ℕ → Transaction → State → Environment
+environment_of n t s = environment n t.priority t.mark (parameters_of n s) s
+
+-- for the next that is to arrive, with this priority: it has the next number, and enters the model now; no parameter of it is set
+abbrev pub environment_of_next : ℤ → State → Environment
+environment_of_next priority s = environment (length s.transactions) priority s.clock no_parameters s
+
+-- MOMENTS
 
 -- the clock so much later; a time below 0, and a moment that an i64 can't hold, are named ends
 abbrev pub moment_after : ℤ → ℤ → Outcome ℤ

@@ -1,5 +1,5 @@
 -- Well-typed states: who resides where, who owns what, and what is inside the entities is what the state table says of each transaction's place.
-use Rattle.std.specs.Prelude.{◌≡◌, ℕ, ◌≤◌, sum_by, List, [], Option, Some, None, IsSome, IfSome, Bool, false}
+use Rattle.std.specs.Prelude.{◌≡◌, ℕ, ◌≤◌, ℤ, sum_by, List, [], Option, Some, None, IsSome, IfSome, Bool, false}
 use Rattle.std.specs.Option.{option_map_or}
 use Rattle.gw_object.specs.declared.parts.Kind.{Kind}
 use Rattle.gw_object.specs.declared.parts.Kind.TheVariants as kinds
@@ -7,7 +7,7 @@ use Rattle.gw_object.specs.declared.parts.Block.{Block}
 use Rattle.gw_object.specs.declared.parts.Block.TheVariants as blocks
 use Rattle.gw_object.specs.declared.parts.Parts.{Parts}
 use Rattle.gw_kinds.specs.Kinds.{kind_at}
-use Rattle.gw_flow.specs.Rows.{Row, owns, units_of}
+use Rattle.gw_flow.specs.Rows.{ParamKind, Row, kind_of, owns, units_of}
 use Rattle.gw_flow.specs.Blocks.{capacity_at}
 use Rattle.gw_flow.specs.Flow.{own_table}
 use Rattle.gw_num.specs.Table.{at}
@@ -21,10 +21,19 @@ use Rattle.gw_step.specs.Places.{place, block_of, row_of}
 
 -- PLACES
 
--- the place of a transaction is a block of the object, and has a row in its state table
+-- what the row of a place knows of a parameter, if it knows that it is set
+abbrev pub known_kind : ℕ → Option Row → Option ParamKind
+known_kind q row = option_map_or (λ row. kind_of row q) row None
+
+-- each parameter that a row knows to be set is set
+abbrev pub AreSet : Option Row → List (Option ℤ) → Type 0
+AreSet row parameters = (q : ℕ) → IsSome (known_kind q row) → IsSome (at None parameters q)
+
+-- the place of a transaction is a block of the object, and has a row in its state table, whose parameters are set
 pub record IsPlaced (p : Parts) (t : LiveTransaction) : Type 0 where
   pub block : IsSome (block_of p (place t))
   pub row : IsSome (own_table p (place t))
+  pub parameters : AreSet (own_table p (place t)) t.parameters
 
 -- whether the row of a place lists a facility as owned
 abbrev pub lists_facility : ℕ → Option Row → Bool
@@ -36,12 +45,12 @@ promised_units e row = option_map_or (λ row. units_of row e) row 0
 
 -- ENTITIES
 
--- the units inside a storage or a queue; inside a facility there are none
+-- the units inside a storage or a queue; inside another entity there are none
 abbrev pub content_of : ℕ → EntityStates → Option Kind → ℕ
 content_of e g None = 0
-content_of e g (Some kinds.Facility) = 0
 content_of e g (Some (kinds.Storage capacity)) = (at (vacant 0) g.storages e).contents.content
 content_of e g (Some kinds.Queue) = (at empty g.queues e).content
+content_of e g (Some kind) = 0
 
 -- WAITERS
 

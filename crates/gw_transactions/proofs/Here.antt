@@ -5,9 +5,9 @@ use Rattle.std.proofs.lemmas.Bool.{eq-eqb}
 use Rattle.std.proofs.lemmas.List.Sums.{count_by-le-length}
 use Rattle.gw_num.specs.Table.{at, put}
 use Rattle.gw_num.proofs.Tables.{at_past, at-replicate, count_by-put}
-use Rattle.gw_transactions.specs.declared.Transaction.{Transaction}
-use Rattle.gw_transactions.specs.Transactions.{LiveTransaction, as_made, here_count}
-use Rattle.gw_transactions.specs.Slots.{by_number, AreCounted}
+use Rattle.gw_transactions.specs.declared.Kept.{Kept}
+use Rattle.gw_transactions.specs.Transactions.{LiveTransaction, here_count}
+use Rattle.gw_transactions.specs.Slots.{live_as, by_number, AreCounted}
 
 -- one at a block
 abbrev one_at : ℕ → LiveTransaction → ℕ
@@ -43,12 +43,17 @@ module _ (counts : List ℕ) (txs : List (Option LiveTransaction)) (counted : Ar
   counted-set less new number was t there fallen risen =
       λ block. omega (arith, fallen block, risen block, counted block, here-put number (Some was) (Some t) there block)
 
+  -- one changes, and stays at its block
+  pub counted-kept : (number : ℕ) (was t : LiveTransaction) → at None txs number ≡ Some was → was.attributes.current ≡ t.attributes.current → AreCounted counts (put None txs number (Some t))
+  counted-kept number was t there same =
+      λ block. omega (arith, counted block, here-put number (Some was) (Some t) there block, ap {B = ℕ} (λ current. if current == block then 1 else 0) same)
+
   -- one goes
   pub counted-remove : (new : List ℕ) (number : ℕ) (was : LiveTransaction) → at None txs number ≡ Some was → ((block : ℕ) → at 0 new block + one_at block was ≡ at 0 counts block) → AreCounted new (put None txs number None)
   counted-remove new number was there fallen =
       λ block. omega (arith, fallen block, counted block, here-put number (Some was) None there block)
 
 -- nobody is anywhere
-pub none_counted : (counts : List ℕ) (n : ℕ) (slots : List (Option (ℕ × Transaction))) → counts ≡ replicate n 0 → slots ≡ [] → AreCounted counts (by_number (λ place transaction. as_made transaction) 1 0 slots)
+pub none_counted : (counts : List ℕ) (n : ℕ) (slots : List (Option (ℕ × Kept))) → counts ≡ replicate n 0 → slots ≡ [] → AreCounted counts (by_number (λ place kept. live_as kept) 1 0 slots)
 none_counted counts n slots zeros empty =
-    λ block. ap (λ xs. at 0 xs block) zeros ∙ at-replicate 0 n block ∙ ap (λ xs. here_count block (by_number (λ place transaction. as_made transaction) 1 0 xs)) (sym empty)
+    λ block. ap (λ xs. at 0 xs block) zeros ∙ at-replicate 0 n block ∙ ap (λ xs. here_count block (by_number (λ place kept. live_as kept) 1 0 xs)) (sym empty)

@@ -2,3 +2,4 @@ pub mod Counts
 pub mod Here
 pub mod Slots
 pub mod Populations
+pub mod Shown

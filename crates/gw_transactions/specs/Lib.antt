@@ -1,2 +1,3 @@
+pub mod Parameters
 pub mod Transactions
 pub mod Slots

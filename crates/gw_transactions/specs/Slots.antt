@@ -1,9 +1,9 @@
 -- The tables by number that the slots of a slab make: each slot that is taken has a number and a value.
 use Rattle.std.specs.Prelude.{◌≡◌, ℕ, suc, ◌-◌, ◌^◌, ◌<◌, ◌≤◌, List, [], ◌∷◌, replicate, Option, Some, None, slice_index_or}
 use Rattle.slab.specs.Slab.{Slab, slab_len}
-use Rattle.gw_transactions.specs.declared.Transaction.{Transaction}
+use Rattle.gw_transactions.specs.declared.Kept.{Kept}
 use Rattle.gw_num.specs.Table.{at, put}
-use Rattle.gw_transactions.specs.Transactions.{Population, LiveTransaction, as_made, here_count}
+use Rattle.gw_transactions.specs.Transactions.{Population, LiveTransaction, here_count}
 
 module _ {X Y : Type 0} (entry : ℕ → X → Y) (next : ℕ) where
   -- the table of these slots up to the next number, the first slot being at this place: each slot's number has the
@@ -13,12 +13,16 @@ module _ {X Y : Type 0} (entry : ℕ → X → Y) (next : ℕ) where
   by_number place (None ∷ slots) = by_number (suc place) slots
   by_number place (Some slot ∷ slots) = put None (by_number (suc place) slots) slot.0 (Some (entry place slot.1))
 
+-- a transaction that is kept; it is a member of no user chain
+abbrev pub live_as : Kept → LiveTransaction
+live_as kept = record { attributes = kept.attributes; parameters = kept.parameters; chain = None }
+
 -- what the slots and the next number show
-abbrev pub population_of : Slab (ℕ × Transaction) → ℕ → Population
+abbrev pub population_of : Slab (ℕ × Kept) → ℕ → Population
 population_of s next =
     record {
-      txs = by_number (λ place transaction. as_made transaction) next 0 s.slots;
-      places = by_number (λ place transaction. place) next 0 s.slots;
+      txs = by_number (λ place kept. live_as kept) next 0 s.slots;
+      places = by_number (λ place kept. place) next 0 s.slots;
       room = s.capacity - slab_len s;
     }
 

@@ -1,9 +1,10 @@
 -- What a contract sees of the transactions of a job: tables by number, which begin at number 0.
-use Rattle.std.specs.Prelude.{◌≡◌, ◌≢◌, ℕ, ◌^◌, ◌<◌, ◌≤◌, ◌==◌, ℤ, List, [], length, Option, Some, None, option_map, is_some, false, count_by}
-use Rattle.std.specs.Option.{option_map_or}
+use Rattle.std.specs.Prelude.{◌≡◌, ◌≢◌, ℕ, ◌^◌, ◌<◌, ◌≤◌, ◌==◌, ℤ, List, length, Option, Some, None, option_map, is_some, false, count_by}
+use Rattle.std.specs.Option.{option_map_or, option_flatten}
 use Rattle.gw_chains.specs.declared.tx.Tx.{Tx}
 use Rattle.gw_transactions.specs.declared.Transaction.{Transaction}
 use Rattle.gw_num.specs.Table.{at, put}
+use Rattle.gw_transactions.specs.Parameters.{no_parameters}
 
 -- a live transaction
 pub record LiveTransaction : Type 0 where
@@ -16,7 +17,7 @@ pub record LiveTransaction : Type 0 where
 
 -- a transaction as it is made: no parameter is set, and it is a member of no user chain
 abbrev pub as_made : Transaction → LiveTransaction
-as_made attributes = record { attributes = attributes; parameters = []; chain = None }
+as_made attributes = record { attributes = attributes; parameters = no_parameters; chain = None }
 
 -- a transaction with other attributes; its parameters and its user chain stay
 abbrev pub with_attributes : Transaction → LiveTransaction → LiveTransaction
@@ -29,6 +30,18 @@ attributes_at n txs = option_map (λ (t : LiveTransaction). t.attributes) (at No
 -- the table in which the transaction of a number, if it is there, has other attributes
 abbrev pub put_attributes : ℕ → Transaction → List (Option LiveTransaction) → List (Option LiveTransaction)
 put_attributes n attributes txs = put None txs n (option_map (with_attributes attributes) (at None txs n))
+
+-- the value of a parameter of the transaction of a number, if it is there and the parameter is set
+abbrev pub parameter_at : ℕ → ℕ → List (Option LiveTransaction) → Option ℤ
+parameter_at n p txs = option_flatten (option_map (λ (t : LiveTransaction). at None t.parameters p) (at None txs n))
+
+-- a transaction with this value of a parameter
+abbrev pub with_parameter : ℕ → ℤ → LiveTransaction → LiveTransaction
+with_parameter p value t = record t { parameters = put None t.parameters p (Some value) }
+
+-- the table in which the transaction of a number, if it is there, has this value of a parameter
+abbrev pub put_parameter : ℕ → ℕ → ℤ → List (Option LiveTransaction) → List (Option LiveTransaction)
+put_parameter n p value txs = put None txs n (option_map (with_parameter p value) (at None txs n))
 
 -- the transactions by number, their places by number, and how many more fit with no allocation
 pub record Population : Type 0 where

@@ -5,15 +5,18 @@ ghost use Rattle.std.specs.Prelude.{◌≡◌, ◌≤◌, ◌<◌, ◌+◌, ◌^
 ghost use Rattle.gw_num.specs.Table.{put};
 
 mod block_counts;
+mod parameters;
 
 use crate::block_counts::BlockCounts;
+use crate::parameters::Parameters;
 use gw_chains::{Memory, Tx};
 use slab::Slab;
 use std::alloc::Global;
 use std::marker::Model;
 
 /// A transaction: what moves through the blocks of a model, with the attributes that the GPSS World Reference Manual
-/// lists for it in its chapter on entities, but for its parameters and its user chain, of which definitions speak beside.
+/// lists for it in its chapter on entities, but for its parameters, which lie beside it, and its user chain, of which
+/// definitions speak beside.
 #[derive(Clone, Copy, Debug, PartialEq, Eq)]
 pub struct Transaction {
     /// The number of the block that it is in, from 1, or 0 before its first.
@@ -28,6 +31,15 @@ pub struct Transaction {
     pub set: u64,
 }
 
+/// A transaction as it is kept: its parameters lie beside the attributes, and are never copied.
+#[derive(Debug, Drop)]
+pub(crate) struct Kept {
+    /// Its attributes.
+    pub attributes: Transaction,
+    /// Its parameters.
+    pub parameters: Parameters,
+}
+
 /// The live transactions of a job, each under a number of its own: 1 for the first, then 2, and no number twice.
 ///
 /// A handle, `Tx`, has a transaction's number and its place in memory; from `insert` to `remove` it serves to read
@@ -36,11 +48,13 @@ pub struct Transaction {
 #[derive(Debug, Drop)]
 pub struct Transactions {
     // Each transaction with its number.
-    slots: Slab<(u64, Transaction)>,
+    slots: Slab<(u64, Kept)>,
     // How many were made so far.
     created: u64,
     // How many have the block of each number as their current one.
     here: BlockCounts,
+    // Where parameters get their memory.
+    alloc: Global,
 }
 
 impl Model for Transactions {
@@ -59,7 +73,7 @@ impl Model for Transactions {
 }
 
 impl Transactions {
-    ghost use Rattle.gw_transactions.specs.Transactions.{Holds, KeepsHandles, KeepsOtherHandles, IsSound, as_made, attributes_at, put_attributes, live_count, here_count};
+    ghost use Rattle.gw_transactions.specs.Transactions.{Holds, KeepsHandles, KeepsOtherHandles, IsSound, as_made, attributes_at, put_attributes, parameter_at, put_parameter, live_count, here_count};
 
     /// None yet: the first number is 1. It takes memory for the counts of `here`, and none for transactions.
     ///
@@ -74,6 +88,7 @@ impl Transactions {
             slots: Slab::new(alloc),
             created: 0,
             here,
+            alloc,
         })
     }
 
@@ -117,8 +132,8 @@ impl Transactions {
         self.here.get(block)
     }
 
-    /// Puts a transaction under the next number, in room that `reserve` made. Its current block has a number from 0 to
-    /// 4,096.
+    /// Puts a transaction under the next number, in room that `reserve` made; no parameter of it is set. Its current block
+    /// has a number from 0 to 4,096.
     pub fn insert(&mut self, transaction: Transaction) -> Tx
         requires room { 0 < self.old.room }
         requires block { transaction.current ≤ 4096 }
@@ -138,7 +153,11 @@ impl Transactions {
     {
         self.created += 1;
         let number = self.created;
-        let place = self.slots.insert_reserved((number, transaction));
+        let kept = Kept {
+            attributes: transaction,
+            parameters: Parameters::new(self.alloc),
+        };
+        let place = self.slots.insert_reserved((number, kept));
         self.here.add(transaction.current);
         Tx { place, number }
     }
@@ -149,7 +168,7 @@ impl Transactions {
         ensures value { attributes_at tx.number self.now.txs ≡ Some result.now }
         ensures sound { IsSound self.now }
     {
-        &self.slots[tx.place].1
+        &self.slots[tx.place].1.attributes
     }
 
     /// Writes the attributes of the transaction of a handle. Its current block has a number from 0 to 4,096.
@@ -166,10 +185,39 @@ impl Transactions {
         ensures handles { KeepsHandles self.old self.new }
         ensures sound { IsSound self.new }
     {
-        let was = self.slots[tx.place].1.current;
-        self.slots[tx.place] = (tx.number, transaction);
+        let was = self.slots[tx.place].1.attributes.current;
+        self.slots[tx.place].1.attributes = transaction;
         self.here.take(was);
         self.here.add(transaction.current);
+    }
+
+    /// The value of a parameter of the transaction of a handle, if it is set.
+    pub fn parameter(&self, tx: Tx, number: u8) -> Option<i64>
+        requires { Holds self.now tx }
+        ensures { result ≡ parameter_at tx.number number self.now.txs }
+    {
+        self.slots[tx.place].1.parameters.get(number)
+    }
+
+    /// Sets a parameter, by its number from 1 to 64, of the transaction of a handle.
+    ///
+    /// It fails for want of memory, only where no parameter of it was set before, and then leaves the transactions as they
+    /// were.
+    pub fn assign(&mut self, tx: Tx, number: u8, value: i64) -> Result<(), Memory>
+        requires held { Holds self.old tx }
+        requires number { number ≤ 64 }
+        ensures ok { OnOk result (self.new.txs ≡ put_parameter tx.number number value self.old.txs) }
+        ensures err { OnErr result (self.new.txs ≡ self.old.txs) }
+        ensures places { self.new.places ≡ self.old.places }
+        ensures room { self.old.room ≤ self.new.room }
+
+        // What follows for callers.
+        ensures made { length self.new.txs ≡ length self.old.txs }
+        ensures live { live_count self.new.txs ≡ live_count self.old.txs }
+        ensures handles { KeepsHandles self.old self.new }
+        ensures sound { IsSound self.new }
+    {
+        self.slots[tx.place].1.parameters.set(number, value)
     }
 
     /// Takes the transaction of a handle out, and answers its attributes. Its number is not given out again.
@@ -186,7 +234,7 @@ impl Transactions {
         ensures handles { KeepsOtherHandles tx.number self.old self.new }
         ensures sound { IsSound self.new }
     {
-        let removed = self.slots.remove(tx.place).1;
+        let removed = self.slots.remove(tx.place).1.attributes;
         self.here.take(removed.current);
         removed
     }

@@ -41,7 +41,7 @@ fn check_all(alloc: Global, object: &Object) -> Result<(), Fault>
 }
 
 /// Accepts an object exactly where every check holds of it; else hands it back with the first fault: kinds (10 to 15)
-/// before flow (21 to 28), and block by block; or with 8 Memory, at Nowhere (ours: docs/refusals.md).
+/// before flow (20 to 28), and block by block; or with 8 Memory, at Nowhere (ours: docs/refusals.md).
 #[tactic(auto, unfolding(crate::specs::Checks::fault_of))]
 pub fn verify(alloc: Global, object: Object) -> Result<Verified, (Object, Fault)>
     ensures accepted { IfOk result (λ v. (v ≡ object) × Checked object) }

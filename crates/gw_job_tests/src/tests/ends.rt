@@ -3,7 +3,7 @@
 use super::*;
 
 /// The greatest clock time.
-const LAST: i64 = 9_223_372_036_854_775_807;
+const LAST: i64 = GREATEST;
 
 /// How jobs of these blocks come to rest, each with a count of 1.
 fn ends_of(alloc: Global, jobs: &[&[Block]]) -> Result<Vec<Stand>, Fail> {
@@ -137,5 +137,59 @@ fn ended_job_stays_as_it_is(rt: HostRuntime) -> Result<(), Fail> {
     let stands = stands(rt.alloc(), 2, &three_blocks(), &[14, 1, 1])?;
     let done = (Status::Ended(End::Done), (23, 14, 6, 0));
     assert!(rt; stands.as_slice() == [done, done, done].as_slice());
+    Ok(())
+}
+
+/// GENERATE ,,,1 / SAVEVALUE X,2^63-1 / ASSIGN 1,-2^63, then this block, then TERMINATE 1.
+fn at_the_limits(block: Block) -> [Block; 5] {
+    [
+        one_at(0, 0),
+        save(X, Mode::Set, Operand::Constant(GREATEST)),
+        assign(1, Mode::Set, Operand::Constant(LEAST)),
+        block,
+        terminate(1),
+    ]
+}
+
+/// Who is active, the entries of the blocks and who is in them, the logic switch, and the savevalues.
+type Rest = (Option<u64>, [u64; 4], [usize; 4], bool, [i64; 2]);
+
+/// How the job at the limits stands after 5, 6 and 7 steps, and the rest of what there is to see.
+fn before_and_after(alloc: Global, block: Block) -> Result<Vec<(Stand, Rest)>, Fail> {
+    let blocks = at_the_limits(block);
+    let mut stands = Vec::new(alloc);
+    for seen in &after_slices(alloc, 1, AMPLE, &blocks, &[5, 1, 1])? {
+        let (entries, here, savevalues) = (seen.entries, seen.here, seen.savevalues);
+        let rest = (seen.active, entries, here, seen.switch, savevalues);
+        stands.push((seen.stand, rest))?;
+    }
+    Ok(stands)
+}
+
+#[test]
+fn named_ends_by_operands_leave_all_but_the_steps(rt: HostRuntime) -> Result<(), Fail> {
+    let ends = [
+        // 2^63 - 1 + 271, and 2^63 - 1 + 2^63.
+        (save(X, Mode::Add, RN1), End::Number),
+        (save(X, Mode::Subtract, P1), End::Number),
+        // -2^63 - 271, -2^63 - 2^63, and 0 + 2^63 where nothing is set.
+        (assign(1, Mode::Subtract, RN1), End::Number),
+        (assign(1, Mode::Add, P1), End::Number),
+        (assign(2, Mode::Subtract, P1), End::Number),
+        // -2^63 - 1.
+        (loop_to(1, 2), End::Number),
+        // 271 - 794 + 285, the rest of 1291394886 by 1589; and half a range below 0.
+        (advance_by(RN1, RN1), End::NegativeTime),
+        (advance_by(RN1, P1), End::Number),
+        (advance_by(P1, Operand::Constant(0)), End::NegativeTime),
+        (Block::Terminate(P1), End::Number),
+    ];
+    let rest = (Some(1), [1, 1, 1, 0], [0, 0, 0, 1], false, [GREATEST, 42]);
+    for (block, end) in ends {
+        let ended = ((Status::Ended(end), (0, 6, 3, 1)), rest);
+        let expected = [((Status::Running, (0, 5, 3, 1)), rest), ended, ended];
+        let stands = before_and_after(rt.alloc(), block)?;
+        assert!(rt; stands.as_slice() == expected.as_slice(), "{block:?}");
+    }
     Ok(())
 }

@@ -1,4 +1,4 @@
-//! The reports of the first example, and of jobs with facilities, storages and queues.
+//! The reports of the first example, and of jobs with facilities, storages, queues, loops and savevalues.
 
 use super::{accepted, job_of};
 use gw_object::{Memory, read};
@@ -100,6 +100,43 @@ const OWNING: &[u8] = b"\
     \x01\0\0\0\
     \x01\0\0\0\
     \0\0\0\x01\0\0\0\x01\0\0\0\x01\0\0\0\x01\0\0\0\x01\0\0\0\x01\0\0\0\x01";
+
+/// GENERATE ,,,1 / ASSIGN 1,3 / BACK ADVANCE 2 / LOOP 1,BACK / TERMINATE 1, with a termination count of 1.
+const LOOPING: &[u8] = b"\
+    GPSO\0\x01\0\0\0\0\0\0\0\0\x01\0\0\x05\
+    \x01\0\0\0\0\0\0\0\0\0\0\0\0\0\0\0\0\0\0\0\x01\0\0\0\x01\0\0\0\0\
+    \x0a\x01\0\0\0\0\0\0\0\0\0\x03\
+    \x03\0\0\0\0\0\0\0\0\x02\0\0\0\0\0\0\0\0\0\
+    \x11\x01\0\x03\
+    \x02\0\0\0\0\0\0\0\0\x01\
+    \0\x01\0\0\0\
+    \x01\0\0\0\
+    \x01\x01\x01\0\0\0\
+    \x01\x01\x01\0\0\0\
+    \x01\x01\x01\0\0\0\
+    \0\0\0\x01\0\0\0\x01\0\0\0\x01\0\0\0\x01\0\0\0\x01";
+
+/// GENERATE ,,,1 / SAVEVALUE A+,1 / TERMINATE 1, with a termination count of 1 and a savevalue A of 2^63-1.
+const RISING: &[u8] = b"\
+    GPSO\0\x01\0\0\0\0\0\0\0\0\x01\x01\x05\x01A\x7f\xff\xff\xff\xff\xff\xff\xff\0\x03\
+    \x01\0\0\0\0\0\0\0\0\0\0\0\0\0\0\0\0\0\0\0\x01\0\0\0\x01\0\0\0\0\
+    \x17\0\0\x01\0\0\0\0\0\0\0\0\x01\
+    \x02\0\0\0\0\0\0\0\0\x01\
+    \0\x01\0\0\0\
+    \x01\0\0\0\
+    \x01\0\0\0\
+    \0\0\0\x01\0\0\0\x01\0\0\0\x01";
+
+/// GENERATE ,,,1 / SAVEVALUE A-,1 / TERMINATE 1, with a termination count of 1 and a savevalue A of -2^63.
+const FALLING: &[u8] = b"\
+    GPSO\0\x01\0\0\0\0\0\0\0\0\x01\x01\x05\x01A\x80\0\0\0\0\0\0\0\0\x03\
+    \x01\0\0\0\0\0\0\0\0\0\0\0\0\0\0\0\0\0\0\0\x01\0\0\0\x01\0\0\0\0\
+    \x17\0\0\x02\0\0\0\0\0\0\0\0\x01\
+    \x02\0\0\0\0\0\0\0\0\x01\
+    \0\x01\0\0\0\
+    \x01\0\0\0\
+    \x01\0\0\0\
+    \0\0\0\x01\0\0\0\x01\0\0\0\x01";
 
 /// The job of the object of these bytes before its first step, with a budget of so many steps.
 fn job(alloc: Global, bytes: &[u8], budget: u64) -> Result<Sim, Fail> {
@@ -219,5 +256,30 @@ fn an_owned_facility_is_reported_with_its_owner_and_leading_zeros(
     let first = "END Done CLOCK 1000 STEPS 13 ENTRIES 6 COUNT 0\n";
     let last = "\nFACILITY F ENTRIES 1 OWNER 1 WAIT 1 UTIL 0.005\n";
     assert!(rt; shows(text.as_slice(), first, last));
+    Ok(())
+}
+
+#[test]
+fn a_loop_is_reported_with_the_entries_of_each_time_round(rt: HostRuntime) -> Result<(), Fail> {
+    let text = reported(rt.alloc(), LOOPING, 1_000, 1_000)?;
+    let expected = b"END Done CLOCK 6 STEPS 17 ENTRIES 9 COUNT 0\n\
+        BLOCK 1 GENERATE 1 0\nBLOCK 2 ASSIGN 1 0\nBLOCK 3 ADVANCE 3 0\nBLOCK 4 LOOP 3 0\n\
+        BLOCK 5 TERMINATE 1 0\n";
+    assert!(rt; text.as_slice() == expected.as_slice());
+    Ok(())
+}
+
+#[test]
+fn a_savevalue_at_its_limits_is_reported_as_it_was(rt: HostRuntime) -> Result<(), Fail> {
+    let rising = reported(rt.alloc(), RISING, 1_000, 1_000)?;
+    let expected = b"END Number CLOCK 0 STEPS 4 ENTRIES 1 COUNT 1\n\
+        BLOCK 1 GENERATE 1 1\nBLOCK 2 SAVEVALUE 0 0\nBLOCK 3 TERMINATE 0 0\n\
+        SAVEVALUE A 9223372036854775807\n";
+    assert!(rt; rising.as_slice() == expected.as_slice());
+    let falling = reported(rt.alloc(), FALLING, 1_000, 1_000)?;
+    let expected = b"END Number CLOCK 0 STEPS 4 ENTRIES 1 COUNT 1\n\
+        BLOCK 1 GENERATE 1 1\nBLOCK 2 SAVEVALUE 0 0\nBLOCK 3 TERMINATE 0 0\n\
+        SAVEVALUE A -9223372036854775808\n";
+    assert!(rt; falling.as_slice() == expected.as_slice());
     Ok(())
 }

@@ -24,7 +24,7 @@ fn amount(entity: u16, number: u64) -> Amount {
 }
 
 /// Whether there is a block of this number.
-fn is_block(object: &Object, number: u16) -> bool
+pub(super) fn is_block(object: &Object, number: u16) -> bool
     ensures { result ≡ is_some (block_at object.now.blocks number) }
 {
     number != 0 && number as usize <= object.parts().blocks.as_slice().len()
@@ -65,7 +65,7 @@ fn state_of(alloc: Global, row: Row) -> Result<Option<AbsState>, Memory>
 }
 
 /// An object of three blocks with no rows, of which the second is this one.
-fn three_blocks(alloc: Global, second: Block) -> Result<Object, Fail> {
+pub(super) fn three_blocks(alloc: Global, second: Block) -> Result<Object, Fail> {
     let blocks = Vec::from_slice(alloc, &[GENERATE, second, TERMINATE])?;
     object_of(alloc, blocks, no_states(alloc, 3)?)
 }

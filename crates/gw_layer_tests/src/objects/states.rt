@@ -80,7 +80,7 @@ fn each_cut_of_states_is_truncated_at_the_cut_field(rt: HostRuntime) {
 fn each_fault_of_a_state_is_named_by_its_code_and_place(rt: HostRuntime) -> Result<(), Fail> {
     const FAULTS: &[(usize, usize, &'static [u8], u16, u32)] = &[
         (28, 1, &[0x02], TAG, 28),
-        (29, 1, &[0x01], LIMIT, 29),
+        (29, 1, &[0x41], LIMIT, 29),
         (43, 1, &[0xff, 0x00, 0x00, 0x00, 0x00], NOT_CANONICAL, 43),
         (30, 1, &[0xff, 0x00, 0x00, 0x04, 0x01], LIMIT, 30),
         (30, 1, &[0xff, 0xff, 0xff, 0xff, 0xff], LIMIT, 30),

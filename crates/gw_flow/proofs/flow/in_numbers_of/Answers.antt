@@ -15,5 +15,5 @@ loop-edge-preserved c =
           ∙ ap (λ xs. xs ++ said made ∷ []) c.loop-edge.invariant.same
           ∙ ap (λ x. map said_by_flow (take c.loop-edge.edge-index c.args.edges.now) ++ x ∷ []) c.in_ok-in_numbers_of.ensures.same
           ∙ sym both ∙ ap (map said_by_flow) (ap (λ x. take c.loop-edge.edge-index c.args.edges.now ++ x ∷ []) c.edge-item.is ∙ sym more));
-      own = rw c.in_ok-push.ensures.items (All-push (λ (e : Edge). e.state.parameters ≡ c.args.given.now.parameters) c.loop-edge.out.items made c.loop-edge.invariant.own c.in_ok-in_numbers_of.ensures.own);
+      own = rw c.in_ok-push.ensures.items (All-push (λ (e : Edge). e.state.parameters ≡ c.args.parameters.now) c.loop-edge.out.items made c.loop-edge.invariant.own c.in_ok-in_numbers_of.ensures.own);
     }

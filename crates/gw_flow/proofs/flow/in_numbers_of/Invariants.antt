@@ -4,9 +4,9 @@ use Rattle.gw_flow.specs.declared.edges.Edge.{Edge}
 use Rattle.gw_flow.specs.Flow.{SayTheSame}
 use Rattle.gw_flow.proofs.flow.in_numbers_of.Given as goal
 
--- so far each edge is the same, with the parameters that were given
+-- so far each edge is the same, with these parameters
 abbrev pub invariant-loop-edge : goal.invariant-loop-edge
 invariant-loop-edge l = record {
   same : SayTheSame l.out.items (take l.edge-index l.edges);
-  own : All (λ (e : Edge). e.state.parameters ≡ l.given.parameters) l.out.items;
+  own : All (λ (e : Edge). e.state.parameters ≡ l.parameters) l.out.items;
 }

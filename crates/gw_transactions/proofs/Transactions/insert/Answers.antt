@@ -1,7 +1,8 @@
 use Rattle.std.proofs.Common.{refl, subst, sym, length, Some, None, rules, ◌≡◌, ◌<◌, ◌+◌, ◌-◌, ◌^◌, ◌∙◌, ap, arith}
 use Rattle.slab.specs.Slab.{slab_len}
 use Rattle.gw_transactions.specs.Transactions.{Population, as_made, live_count}
-use Rattle.gw_transactions.specs.Slots.{AreCounted}
+use Rattle.gw_transactions.specs.declared.Kept.{Kept}
+use Rattle.gw_transactions.specs.Slots.{live_as, AreCounted}
 use Rattle.gw_transactions.proofs.Here.{counted-few, counted-insert}
 use Rattle.gw_num.specs.Table.{at, put}
 use Rattle.gw_num.proofs.Tables.{at-put, at-put_past}
@@ -18,14 +19,21 @@ add-requires-clause-few c =
     counted-few c.self.inside.here _ (counted_of c.self.inside c.self.invariant.0 _ c.self.view_is c.self.invariant.2)
     (sound_of c.self.inside c.self.invariant.0 _ c.self.view_is).few c.args.transaction.current
 
+abbrev kept : (c : goal.After-add) → Kept
+kept c = record { attributes = c.args.transaction; parameters = c.new.result }
+
+made : (c : goal.After-add) → live_as (kept c) ≡ as_made c.args.transaction
+made c = ap (λ ps. record { attributes = c.args.transaction; parameters = ps; chain = None }) c.new.ensures
+
 pub returns-clause-txs : goal.returns-clause-txs
 returns-clause-txs c =
-    table-next c.self.inside c.self.invariant.0 _ c.self.view_is (λ place transaction. as_made transaction) (λ p. p.txs) refl c.insert_reserved-place.new.self c.insert_reserved-place.result c.args.transaction c.requires.few c.insert_reserved-place.ensures.was_vacant c.insert_reserved-place.ensures.updates
+    table-next c.self.inside c.self.invariant.0 _ c.self.view_is (λ place kept. live_as kept) (λ p. p.txs) refl c.insert_reserved-place.new.self c.insert_reserved-place.result (kept c) c.requires.few c.insert_reserved-place.ensures.was_vacant c.insert_reserved-place.ensures.updates
+    ∙ ap (λ t. put None c.args.self.now.txs (length c.args.self.now.txs) (Some t)) (made c)
 
 pub invariant_of-self : goal.invariant_of-self
 invariant_of-self c =
     let room : c.self.inside.slots.capacity - slab_len c.self.inside.slots ≡ c.args.self.now.room = ap (λ (p : Population). p.room) c.self.view_is in (
-      numbered-next_of c.self.inside c.self.invariant.0 _ c.self.view_is c.insert_reserved-place.new.self c.insert_reserved-place.result c.args.transaction c.requires.few c.insert_reserved-place.ensures.updates,
+      numbered-next_of c.self.inside c.self.invariant.0 _ c.self.view_is c.insert_reserved-place.new.self c.insert_reserved-place.result (kept c) c.requires.few c.insert_reserved-place.ensures.updates,
       omega (arith, room, c.requires.room, c.insert_reserved-place.ensures.len, c.insert_reserved-place.ensures.capacity),
       subst (AreCounted c.add.new.self) (sym (returns-clause-txs c))
           (counted-insert c.self.inside.here c.args.self.now.txs (counted_of c.self.inside c.self.invariant.0 _ c.self.view_is c.self.invariant.2) c.add.new.self (as_made c.args.transaction) c.add.ensures),
@@ -36,7 +44,7 @@ returns-clause-number c = next_is c.self.inside c.self.invariant.0 _ c.self.view
 
 pub returns-clause-places : goal.returns-clause-places
 returns-clause-places c =
-    table-next c.self.inside c.self.invariant.0 _ c.self.view_is (λ place transaction. place) (λ p. p.places) refl c.insert_reserved-place.new.self c.insert_reserved-place.result c.args.transaction c.requires.few c.insert_reserved-place.ensures.was_vacant c.insert_reserved-place.ensures.updates
+    table-next c.self.inside c.self.invariant.0 _ c.self.view_is (λ place kept. place) (λ p. p.places) refl c.insert_reserved-place.new.self c.insert_reserved-place.result (kept c) c.requires.few c.insert_reserved-place.ensures.was_vacant c.insert_reserved-place.ensures.updates
 
 pub returns-clause-made : goal.returns-clause-made
 returns-clause-made c =
@@ -44,7 +52,7 @@ returns-clause-made c =
 
 pub returns-clause-live : goal.returns-clause-live
 returns-clause-live c =
-    ap live_count (returns-clause-txs c) ∙ live_count-insert c.self.inside c.self.invariant.0 _ c.self.view_is c.args.transaction
+    ap live_count (returns-clause-txs c) ∙ live_count-insert c.self.inside c.self.invariant.0 _ c.self.view_is (as_made c.args.transaction)
 
 pub returns-clause-held : goal.returns-clause-held
 returns-clause-held c =

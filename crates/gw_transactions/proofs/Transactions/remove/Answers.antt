@@ -1,7 +1,7 @@
 use Rattle.std.proofs.Common.{option_map, refl, subst, ◌∙◌, ◌+◌, sym, ap, arith, ◌≡◌, Some, None}
 use Rattle.std.proofs.lemmas.Grind.{common_steps}
-use Rattle.gw_transactions.specs.Transactions.{LiveTransaction, as_made, live_count}
-use Rattle.gw_transactions.specs.Slots.{AreNumbered, AreCounted}
+use Rattle.gw_transactions.specs.Transactions.{LiveTransaction, live_count}
+use Rattle.gw_transactions.specs.Slots.{live_as, AreNumbered, AreCounted}
 use Rattle.gw_transactions.proofs.Here.{counted-one, counted-remove}
 use Rattle.gw_transactions.proofs.Slots.{no_slot}
 use Rattle.gw_num.specs.Table.{at}
@@ -12,7 +12,7 @@ use Rattle.gw_transactions.proofs.Transactions.remove.Goals as goal
 pub remove-requires : goal.remove-requires
 remove-requires c = let slot = held c.self.inside c.self.invariant.0 _ c.self.view_is c.args.tx c.requires in grind (arith, common_steps, slot.1)
 
-was_there : (c : goal.After-take) → at None c.args.self.now.txs c.args.tx.number ≡ Some (as_made c.remove.result.1)
+was_there : (c : goal.After-take) → at None c.args.self.now.txs c.args.tx.number ≡ Some (live_as c.remove.result.1)
 was_there c = value_of c.self.inside c.self.invariant.0 _ c.self.view_is c.args.tx c.requires _ c.remove.ensures.value
 
 pub returns-clause-value : goal.returns-clause-value
@@ -20,7 +20,7 @@ returns-clause-value c = ap (option_map (λ (t : LiveTransaction). t.attributes)
 
 pub take-requires : goal.take-requires
 take-requires c =
-    counted-one c.self.inside.here _ (counted_of c.self.inside c.self.invariant.0 _ c.self.view_is c.self.invariant.2) c.args.tx.number (as_made c.remove.result.1)
+    counted-one c.self.inside.here _ (counted_of c.self.inside c.self.invariant.0 _ c.self.view_is c.self.invariant.2) c.args.tx.number (live_as c.remove.result.1)
     (value_of c.self.inside c.self.invariant.0 _ c.self.view_is c.args.tx c.requires _ c.remove.ensures.value)
 
 numbered : (c : goal.After-take) → AreNumbered c.remove.new.self.slots (c.self.inside.created + 1)
@@ -28,11 +28,11 @@ numbered c = rw c.remove.ensures.slots (numbered-set_of c.self.inside c.self.inv
 
 pub returns-clause-txs : goal.returns-clause-txs
 returns-clause-txs c =
-    rw c.remove.ensures.slots (table-set c.self.inside c.self.invariant.0 _ c.self.view_is (λ place transaction. as_made transaction) (λ p. p.txs) refl c.args.tx None c.requires (λ b e. absurd (no_slot b e)))
+    rw c.remove.ensures.slots (table-set c.self.inside c.self.invariant.0 _ c.self.view_is (λ place kept. live_as kept) (λ p. p.txs) refl c.args.tx None c.requires (λ b e. absurd (no_slot b e)))
 
 pub returns-clause-places : goal.returns-clause-places
 returns-clause-places c =
-    rw c.remove.ensures.slots (table-set c.self.inside c.self.invariant.0 _ c.self.view_is (λ place transaction. place) (λ p. p.places) refl c.args.tx None c.requires (λ b e. absurd (no_slot b e)))
+    rw c.remove.ensures.slots (table-set c.self.inside c.self.invariant.0 _ c.self.view_is (λ place kept. place) (λ p. p.places) refl c.args.tx None c.requires (λ b e. absurd (no_slot b e)))
 
 pub returns-clause-made : goal.returns-clause-made
 returns-clause-made c =
@@ -56,5 +56,5 @@ invariant_of-self c = (
   numbered c,
   omega (arith, c.self.invariant.1, c.remove.ensures.len, c.remove.ensures.capacity),
   subst (AreCounted c.take.new.self) (sym (returns-clause-txs c))
-      (counted-remove c.self.inside.here c.args.self.now.txs (counted_of c.self.inside c.self.invariant.0 _ c.self.view_is c.self.invariant.2) c.take.new.self c.args.tx.number (as_made c.remove.result.1) (was_there c) c.take.ensures),
+      (counted-remove c.self.inside.here c.args.self.now.txs (counted_of c.self.inside c.self.invariant.0 _ c.self.view_is c.self.invariant.2) c.take.new.self c.args.tx.number (live_as c.remove.result.1) (was_there c) c.take.ensures),
 )

@@ -9,7 +9,7 @@ use Rattle.gw_scan.proofs.machine.Machine.first_arrival.Goals as goal
 scheduled : (c : goal.After-arrive) → c.arrive.new.self.scheduled.items ≡ raised c.args.number c.args.self.now.scheduled.items
 scheduled c =
     ap (λ (s : State). s.scheduled) c.arrive.ensures.state
-    ∙ ap (raised c.args.number) (ap (λ (s : State). s.scheduled) c.set_stream.ensures.state ∙ ap (λ (s : State). s.scheduled) c.in_ok-reserve_arrival-in-Ok.ensures.state)
+    ∙ ap (raised c.args.number) (ap (λ (s : State). s.scheduled) c.set_streams.ensures.state ∙ ap (λ (s : State). s.scheduled) c.in_ok-reserve_arrival-in-Ok.ensures.state)
 
 pub returns-in_ok-reserve_arrival-in-Ok-clause-scheduled : goal.returns-in_ok-reserve_arrival-in-Ok-clause-scheduled
 returns-in_ok-reserve_arrival-in-Ok-clause-scheduled c =
@@ -20,6 +20,6 @@ returns-in_ok-reserve_arrival-in-Ok-clause-scheduled c =
 
 pub returns-in_ok-reserve_arrival-in-Ok-clause-made_by : goal.returns-in_ok-reserve_arrival-in-Ok-clause-made_by
 returns-in_ok-reserve_arrival-in-Ok-clause-made_by c =
-    let before = ap (λ (s : State). length s.transactions) c.set_stream.ensures.state ∙ ap (λ (s : State). length s.transactions) c.in_ok-reserve_arrival-in-Ok.ensures.state in
-    let after = ap (λ (s : State). length s.transactions) c.arrive.ensures.state ∙ length-put_next None (state_of c.set_stream.new.self).transactions _ in
+    let before = ap (λ (s : State). length s.transactions) c.set_streams.ensures.state ∙ ap (λ (s : State). length s.transactions) c.in_ok-reserve_arrival-in-Ok.ensures.state in
+    let after = ap (λ (s : State). length s.transactions) c.arrive.ensures.state ∙ length-put_next None (state_of c.set_streams.new.self).transactions _ in
     omega (arith, before, after)

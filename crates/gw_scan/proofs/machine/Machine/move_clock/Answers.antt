@@ -22,7 +22,7 @@ left c = let fits = c.ranges.time in simp to_z-of_z at c.move_due.ensures.future
 time_is : (c : goal.After-self-1) → c.abs_diff-passed.result ≡ unsigned_abs (c.args.time -ℤ c.args.self.now.clock)
 time_is c = search rules
 
-entities : (c : goal.After-self-1) → record { facilities = c.pass_time.new.self.facilities; storages = c.pass_time-2.new.self.storages; queues = c.pass_time-3.new.self.queues } ≡ time_passes (unsigned_abs (c.args.time -ℤ c.args.self.now.clock)) (entities_of c.args.self.now)
+entities : (c : goal.After-self-1) → record (entities_of c.args.self.now) { facilities = c.pass_time.new.self.facilities; storages = c.pass_time-2.new.self.storages; queues = c.pass_time-3.new.self.queues } ≡ time_passes (unsigned_abs (c.args.time -ℤ c.args.self.now.clock)) (entities_of c.args.self.now)
 entities c =
     entities-passed c.args.self.now c.abs_diff-passed.result c.pass_time.new.self c.pass_time-2.new.self c.pass_time-3.new.self c.pass_time.ensures c.pass_time-2.ensures c.pass_time-3.ensures
     ∙ ap (λ dt. time_passes dt (entities_of c.args.self.now)) (time_is c)

@@ -1,11 +1,22 @@
-use Rattle.std.proofs.Common.{rules, ◌≡◌}
+use Rattle.std.proofs.Common.{rules, ◌≡◌, length, sym, subst}
+use Rattle.gw_object.specs.declared.parts.Parts.{Parts}
+use Rattle.gw_step.specs.Operands.{BlocksFit}
 use Rattle.gw_step.specs.Job.{start_of}
 use Rattle.gw_scan.specs.View.{state_of}
+use Rattle.gw_step.proofs.Operands.{blocks_fit}
 use Rattle.gw_step.proofs.Reached.{reached_first}
 use Rattle.gw_scan.proofs.sim.Sim.start.Goals as goal
 
 is_start : (c : goal.In-Ok) → state_of c.in-Ok.machine ≡ start_of c.args.spec
 is_start c = search rules
+
+object_is : (c : goal.After-streams) → c.object.result.now ≡ c.args.spec.parts
+object_is c = search rules
+
+pub start-requires-clause-fit : goal.start-requires-clause-fit
+start-requires-clause-fit c =
+    let fits = c.verified.ensures.fits in
+    subst (λ (p : Parts). BlocksFit (length p.entities) p.blocks) (sym (object_is c)) (blocks_fit c.args.spec.parts fits.checked fits.spelled)
 
 pub invariant_of-result : goal.invariant_of-result
 invariant_of-result c = record {

@@ -1,0 +1,152 @@
+-- Parameters that a transaction is sure to have set, where it may pass a block and once it has passed it.
+use Rattle.std.proofs.Common.{◌≡◌, ◌≢◌, ◌⊎◌, inl, inr, ⊎_elim, ℕ, ◌<◌, nat_lt, List, [], ◌∷◌, Option, Some, None, true, refl, sym, ap, subst, ◌∙◌, arith}
+use Rattle.std.specs.Prelude.{All, is_some, filter, filter_map}
+use Rattle.std.specs.List.{flat_map, fold, cons_option}
+use Rattle.std.proofs.lemmas.Bool.{cases_eq, cases_order, eq-eqb, ne_eqb, lt-ltb, le-ltb, false≢true}
+use Rattle.std.proofs.lemmas.List.Elements.{All-nil, All-cons, All-head, All-tail}
+use Rattle.gw_object.specs.declared.parts.Operand.{Operand}
+use Rattle.gw_object.specs.declared.parts.Operand.TheVariants as forms
+use Rattle.gw_object.specs.declared.parts.Loop.{Loop}
+use Rattle.gw_object.specs.declared.parts.Block.{Block}
+use Rattle.gw_object.specs.declared.parts.Block.TheVariants as blocks
+use Rattle.gw_object.specs.declared.parts.Parts.{Parts}
+use Rattle.gw_kinds.specs.Kinds.{values}
+use Rattle.gw_flow.specs.Codes as codes
+use Rattle.gw_flow.specs.Entries.{with_number}
+use Rattle.gw_flow.specs.Rows.{Row, ParamKind, Num, Ret, kind_of, is_number, with_parameter}
+use Rattle.gw_flow.specs.Blocks.{Table, Rule, rule, number_rules, parameter_of, parameters_read, value_rules, own_rules, parameter_set, with_set, after}
+use Rattle.gw_flow.specs.Laws.{MayPass}
+use Rattle.gw_flow.proofs.Entries.{entry-with_entry}
+use Rattle.gw_flow.proofs.EachBlock.{All-front, All-back}
+
+-- AFTER A BLOCK
+
+-- a parameter that is set to a number is one
+pub kind_of_set : (p : ℕ) (row : Row) → kind_of (with_parameter p row) p ≡ Some Num
+kind_of_set p row = entry-with_entry p (Some Num) row.params p ∙ rw (eq-eqb p p refl) refl
+
+-- and each other one holds what it held
+pub kind_of_other : (p q : ℕ) (row : Row) → p ≢ q → kind_of (with_parameter p row) q ≡ kind_of row q
+kind_of_other p q row ne = entry-with_entry p (Some Num) row.params q ∙ rw (ne_eqb p q ne) refl
+
+-- a block sets the parameter that it sets, and no other
+pub after_params : (block : Block) (row : Row) → (after block row).params ≡ (with_set (parameter_set block) row).params
+after_params (blocks.Generate g) row = refl
+after_params (blocks.Terminate by) row = refl
+after_params (blocks.Advance time) row = refl
+after_params (blocks.Seize f) row = refl
+after_params (blocks.Release f) row = refl
+after_params (blocks.Enter u) row = refl
+after_params (blocks.Leave u) row = refl
+after_params (blocks.Queue u) row = refl
+after_params (blocks.Depart u) row = refl
+after_params (blocks.Assign a) row = refl
+after_params (blocks.Transfer target) row = refl
+after_params (blocks.TransferByFraction f) row = refl
+after_params (blocks.Loop l) row = refl
+after_params (blocks.Logic l) row = refl
+after_params (blocks.Savevalue s) row = refl
+after_params (blocks.Mark p) row = refl
+
+-- what a parameter holds once a block has been passed is what it held, or the block has set it to a number
+abbrev Stays : Option ℕ → Row → Row → ℕ → Type 0
+Stays set before later q = (kind_of later q ≡ kind_of before q) ⊎ ((set ≡ Some q) × (kind_of later q ≡ Some Num))
+
+kind_with : (p : Option ℕ) (row : Row) (q : ℕ) → Stays p row (with_set p row) q
+kind_with None row q = inl refl
+kind_with (Some p) row q =
+    ⊎_elim
+    (λ (same : p ≡ q). inr (ap Some same, sym (ap (λ n. kind_of (with_parameter n row) q) (sym same)) ∙ kind_of_set q row))
+    (λ (ne : p ≢ q). inl (kind_of_other p q row ne))
+    (cases_eq p q)
+
+pub kind_after : (block : Block) (row : Row) (q : ℕ) → (kind_of (after block row) q ≡ kind_of row q) ⊎ ((parameter_set block ≡ Some q) × (kind_of (after block row) q ≡ Some Num))
+kind_after block row q = rw (after_params block row) (kind_with (parameter_set block) row q)
+
+-- WHERE A BLOCK MAY BE PASSED
+
+abbrev Holds : Rule → Type 0
+Holds rule = rule.holds ≡ true
+
+is_num : (kind : Option ParamKind) → is_number kind ≡ true → kind ≡ Some Num
+is_num None h = absurd (false≢true h)
+is_num (Some Num) h = refl
+is_num (Some (Ret bs)) h = absurd (false≢true h)
+
+module _ (row : Row) where
+  -- a parameter is sure to hold a number
+  abbrev IsNumber : ℕ → Type 0
+  IsNumber q = kind_of row q ≡ Some Num
+
+  by_rules : (p : ℕ) → All Holds (number_rules row p) → IsNumber p
+  by_rules p h =
+      let set = rule codes.unset_param (is_some (kind_of row p)) in
+      let number = rule codes.param_kind (is_number (kind_of row p)) in
+      is_num (kind_of row p) (All-head Holds number [] (All-tail Holds set (number ∷ []) h))
+
+  by_each : (ps : List ℕ) → All Holds (flat_map (number_rules row) ps) → All IsNumber ps
+  by_each [] h = All-nil IsNumber
+  by_each (p ∷ ps) h =
+      All-cons IsNumber p ps
+      (by_rules p (All-front Holds (number_rules row p) (flat_map (number_rules row) ps) h))
+      (by_each ps (All-back Holds (number_rules row p) (flat_map (number_rules row) ps) h))
+
+  -- what holds of numbers in order holds of each
+  kept : (n : ℕ) (ms : List ℕ) → IsNumber n → All IsNumber (filter (λ m. nat_lt m n) ms) → All IsNumber (filter (λ m. nat_lt n m) ms) → All IsNumber ms
+  kept n [] here below above = All-nil IsNumber
+  kept n (m ∷ ms) here below above =
+      ⊎_elim
+      (λ (same : m ≡ n).
+      All-cons IsNumber m ms (subst IsNumber (sym same) here) (kept n ms here (rw (le-ltb m n (omega (arith, same))) at below) (rw (le-ltb n m (omega (arith, same))) at above)))
+      (⊎_elim
+      (λ (lt : m < n).
+      let p : All IsNumber (m ∷ filter (λ k. nat_lt k n) ms) = rw (lt-ltb m n lt) at below in
+      All-cons IsNumber m ms (All-head IsNumber m (filter (λ k. nat_lt k n) ms) p)
+      (kept n ms here (All-tail IsNumber m (filter (λ k. nat_lt k n) ms) p) (rw (le-ltb n m (omega (arith, lt))) at above)))
+      (λ (gt : n < m).
+      let p : All IsNumber (m ∷ filter (λ k. nat_lt n k) ms) = rw (lt-ltb n m gt) at above in
+      All-cons IsNumber m ms (All-head IsNumber m (filter (λ k. nat_lt n k) ms) p)
+      (kept n ms here (rw (le-ltb m n (omega (arith, gt))) at below) (All-tail IsNumber m (filter (λ k. nat_lt n k) ms) p))))
+      (cases_order m n)
+
+  placed : (n : ℕ) (ms : List ℕ) → All IsNumber (with_number n ms) → IsNumber n × All IsNumber ms
+  placed n ms h =
+      let back = All-back IsNumber (filter (λ m. nat_lt m n) ms) (n ∷ filter (λ m. nat_lt n m) ms) h in
+      let here = All-head IsNumber n (filter (λ m. nat_lt n m) ms) back in
+      (here, kept n ms here (All-front IsNumber (filter (λ m. nat_lt m n) ms) (n ∷ filter (λ m. nat_lt n m) ms) h) (All-tail IsNumber n (filter (λ m. nat_lt n m) ms) back))
+
+  in_any_order : (all ns : List ℕ) → All IsNumber (fold (λ ms n. with_number n ms) all ns) → All IsNumber all × All IsNumber ns
+  in_any_order all [] h = (h, All-nil IsNumber)
+  in_any_order all (n ∷ ns) h =
+      let later = in_any_order (with_number n all) ns h in
+      let now = placed n all later.0 in
+      (now.1, All-cons IsNumber n ns now.0 later.1)
+
+  optional : (r : Option ℕ) (ps : List ℕ) → All IsNumber (cons_option r ps) → ((q : ℕ) → r ≡ Some q → IsNumber q) × All IsNumber ps
+  optional None ps h = (λ q none. absurd (cc), h)
+  optional (Some p) ps h = (λ q is. let same : p ≡ q = cc in subst IsNumber same (All-head IsNumber p ps h), All-tail IsNumber p ps h)
+
+  -- the parameter that an operand reads, if it does, holds a number
+  abbrev Reads : Operand → Type 0
+  Reads operand = (q : ℕ) → operand ≡ forms.Parameter q → IsNumber q
+
+  by_operand : (os : List Operand) → All IsNumber (filter_map parameter_of os) → All Reads os
+  by_operand [] h = All-nil Reads
+  by_operand (o ∷ os) h =
+      let p = optional (parameter_of o) (filter_map parameter_of os) h in
+      All-cons Reads o os (λ q is. p.0 q (ap parameter_of is)) (by_operand os p.1)
+
+module _ (p : Parts) (table : Table) (b : ℕ) where
+  -- the block's own rules hold
+  pub own_rules_hold : (block : Block) (row : Row) → MayPass p table b block row → All (λ (rule : Rule). rule.holds ≡ true) (own_rules p block row)
+  own_rules_hold block row h = All-back Holds (value_rules block row) (own_rules p block row) h.each_rule
+
+  -- each parameter that its values read is sure to hold a number
+  pub values_are_numbers : (block : Block) (row : Row) → MayPass p table b block row → All (λ (operand : Operand). (q : ℕ) → operand ≡ forms.Parameter q → kind_of row q ≡ Some Num) (values block)
+  values_are_numbers block row h =
+      let each = by_each row (parameters_read (values block)) (All-front Holds (value_rules block row) (own_rules p block row) h.each_rule) in
+      by_operand row (values block) (in_any_order row [] (filter_map parameter_of (values block)) each).1
+
+  -- what a LOOP counts down is sure to be a number
+  pub loop_is_number : (l : Loop) (row : Row) → MayPass p table b (blocks.Loop l) row → kind_of row l.parameter ≡ Some Num
+  loop_is_number l row h = by_rules row l.parameter (own_rules_hold (blocks.Loop l) row h)

@@ -1,0 +1,425 @@
+//! Parameters: what the blocks ask and set of them, in objects whose rows know parameters alone.
+
+ghost use Rattle.std.specs.Prelude.{IfOk, IfSome};
+ghost use Rattle.gw_flow.specs.Rows.{HasRoom};
+ghost use Rattle.gw_flow.specs.Seen.{known};
+
+use crate::flow::edges::{is_block, three_blocks};
+use crate::flow::tables::object_of;
+use crate::models::*;
+use gw_flow::{
+    AbsState, Edge, Parameter, ParameterKind, StateParts, Target, check_flow, out_edges,
+};
+use gw_object::{
+    Assign, Block, Fault, Generate, Items, Loop, Memory, Mode, Object, Operand, Spread, TableKind,
+    TableParameter, TableState,
+};
+use std::alloc::Global;
+use std::test::Fail;
+
+const P1: Operand = Operand::Parameter(1);
+
+const P2: Operand = Operand::Parameter(2);
+
+const FIVE: Operand = Operand::Constant(5);
+
+/// ADVANCE P1.
+const ADVANCE_P1: Block = Block::Advance(Spread {
+    mean: P1,
+    half: Operand::Constant(0),
+});
+
+/// ADVANCE P2,P1.
+const ADVANCE_P2_P1: Block = Block::Advance(Spread { mean: P2, half: P1 });
+
+/// GENERATE P1.
+const GENERATE_P1: Block = Block::Generate(Generate {
+    interval: Spread {
+        mean: P1,
+        half: Operand::Constant(0),
+    },
+    first: None,
+    limit: None,
+    priority: 0,
+});
+
+/// An ASSIGN of a value to a parameter, also in a constant.
+macro_rules! assign {
+    ($parameter:expr, $mode:ident, $value:expr) => {
+        Block::Assign(Assign {
+            parameter: $parameter,
+            mode: Mode::$mode,
+            value: $value,
+        })
+    };
+}
+
+/// A LOOP of a parameter to a block, also in a constant.
+macro_rules! count_down {
+    ($parameter:expr, $target:expr) => {
+        Block::Loop(Loop {
+            parameter: $parameter,
+            target: $target,
+        })
+    };
+}
+
+/// The blocks of an object, each with the parameters that its row knows, if it has a row.
+type Table = &'static [(Block, Option<&'static [u8]>)];
+
+/// These parameters, each a number, as an object has them.
+fn table_parameters(alloc: Global, numbers: &[u8]) -> Result<Vec<TableParameter>, Memory> {
+    let mut parameters = Vec::new(alloc);
+    for number in numbers {
+        parameters.push(TableParameter {
+            number: *number,
+            kind: TableKind::Num,
+        })?;
+    }
+    Ok(parameters)
+}
+
+/// A row that knows these parameters.
+fn row_of(alloc: Global, numbers: &[u8]) -> Result<TableState, Memory> {
+    Ok(TableState {
+        parameters: Items::from_vec(table_parameters(alloc, numbers)?),
+        facilities: Items::from_vec(Vec::new(alloc)),
+        units: Items::from_vec(Vec::new(alloc)),
+    })
+}
+
+/// A row that knows these parameters, if there is one.
+fn row_if(alloc: Global, numbers: Option<&[u8]>) -> Result<Option<TableState>, Memory> {
+    match numbers {
+        Some(numbers) => Ok(Some(row_of(alloc, numbers)?)),
+        None => Ok(None),
+    }
+}
+
+/// The object of these blocks and rows.
+fn object(alloc: Global, table: Table) -> Result<Object, Fail> {
+    let mut blocks = Vec::new(alloc);
+    let mut rows = Vec::new(alloc);
+    for (block, numbers) in table {
+        blocks.push(*block)?;
+        rows.push(row_if(alloc, *numbers)?)?;
+    }
+    object_of(alloc, blocks, rows)
+}
+
+/// The fault of the object of these blocks and rows.
+fn fault(alloc: Global, table: Table) -> Result<Option<Fault>, Fail> {
+    let object = object(alloc, table)?;
+    Ok(check_flow(alloc, &object).err())
+}
+
+// What blocks ask
+
+#[test]
+fn a_value_of_a_parameter_never_set_is_refused(rt: HostRuntime) -> Result<(), Fail> {
+    const TABLE: Table = &[
+        (GENERATE, Some(&[])),
+        (ADVANCE_P1, Some(&[])),
+        (TERMINATE, Some(&[])),
+    ];
+    assert!(rt; fault(rt.alloc(), TABLE)? == at_block(20, 2));
+    Ok(())
+}
+
+#[test]
+fn a_parameter_that_assign_sets_may_be_read(rt: HostRuntime) -> Result<(), Fail> {
+    const TABLE: Table = &[
+        (GENERATE, Some(&[])),
+        (assign!(1, Set, FIVE), Some(&[])),
+        (ADVANCE_P1, Some(&[1])),
+        (TERMINATE, Some(&[])),
+    ];
+    assert!(rt; fault(rt.alloc(), TABLE)?.is_none());
+    Ok(())
+}
+
+#[test]
+fn each_parameter_that_is_read_has_to_be_set(rt: HostRuntime) -> Result<(), Fail> {
+    const FIRST_ALONE: Table = &[
+        (GENERATE, Some(&[])),
+        (assign!(1, Set, FIVE), Some(&[])),
+        (ADVANCE_P2_P1, Some(&[1])),
+        (TERMINATE, Some(&[])),
+    ];
+    const SECOND_ALONE: Table = &[
+        (GENERATE, Some(&[])),
+        (assign!(2, Set, FIVE), Some(&[])),
+        (ADVANCE_P2_P1, Some(&[2])),
+        (TERMINATE, Some(&[])),
+    ];
+    const BOTH: Table = &[
+        (GENERATE, Some(&[])),
+        (assign!(2, Set, FIVE), Some(&[])),
+        (assign!(1, Set, P2), Some(&[2])),
+        (ADVANCE_P2_P1, Some(&[1, 2])),
+        (TERMINATE, Some(&[1, 2])),
+    ];
+    assert!(rt; fault(rt.alloc(), FIRST_ALONE)? == at_block(20, 3));
+    assert!(rt; fault(rt.alloc(), SECOND_ALONE)? == at_block(20, 3));
+    assert!(rt; fault(rt.alloc(), BOTH)?.is_none());
+    Ok(())
+}
+
+#[test]
+fn assign_adds_to_a_parameter_that_may_not_be_set(rt: HostRuntime) -> Result<(), Fail> {
+    const OF_A_NUMBER: Table = &[
+        (GENERATE, Some(&[])),
+        (assign!(1, Add, FIVE), Some(&[])),
+        (assign!(1, Subtract, P1), Some(&[1])),
+        (TERMINATE, Some(&[1])),
+    ];
+    const OF_ANOTHER: Table = &[
+        (GENERATE, Some(&[])),
+        (assign!(1, Add, P2), Some(&[])),
+        (TERMINATE, Some(&[])),
+    ];
+    assert!(rt; fault(rt.alloc(), OF_A_NUMBER)?.is_none());
+    assert!(rt; fault(rt.alloc(), OF_ANOTHER)? == at_block(20, 2));
+    Ok(())
+}
+
+#[test]
+fn the_values_of_a_generate_find_no_parameter_set(rt: HostRuntime) -> Result<(), Fail> {
+    const IN_ITS_ROW: Table = &[(GENERATE_P1, Some(&[])), (TERMINATE, Some(&[]))];
+    const WITHOUT_A_ROW: Table = &[(GENERATE_P1, None), (TERMINATE, Some(&[]))];
+    const IN_A_ROW_THAT_SAYS_SO: Table = &[(GENERATE_P1, Some(&[1])), (TERMINATE, Some(&[1]))];
+    assert!(rt; fault(rt.alloc(), IN_ITS_ROW)? == at_block(20, 1));
+    assert!(rt; fault(rt.alloc(), WITHOUT_A_ROW)? == at_block(20, 1));
+    assert!(rt; fault(rt.alloc(), IN_A_ROW_THAT_SAYS_SO)? == at_block(25, 1));
+    Ok(())
+}
+
+// Where ways join
+
+#[test]
+fn a_row_asks_for_a_parameter_that_one_way_leaves_unset(rt: HostRuntime) -> Result<(), Fail> {
+    const ASKED: Table = &[
+        (GENERATE, Some(&[])),
+        (by_fraction!(500, None, 4), Some(&[])),
+        (assign!(1, Set, FIVE), Some(&[])),
+        (ADVANCE_P1, Some(&[1])),
+        (TERMINATE, Some(&[])),
+    ];
+    const NOT_ASKED: Table = &[
+        (GENERATE, Some(&[])),
+        (by_fraction!(500, None, 4), Some(&[])),
+        (assign!(1, Set, FIVE), Some(&[])),
+        (ADVANCE_P1, Some(&[])),
+        (TERMINATE, Some(&[])),
+    ];
+    assert!(rt; fault(rt.alloc(), ASKED)? == at_edge(25, 2, 4));
+    assert!(rt; fault(rt.alloc(), NOT_ASKED)? == at_block(20, 4));
+    Ok(())
+}
+
+// LOOP and MARK
+
+#[test]
+fn a_loop_counts_a_parameter_down_that_is_set(rt: HostRuntime) -> Result<(), Fail> {
+    const SET: Table = &[
+        (GENERATE, Some(&[])),
+        (assign!(1, Set, FIVE), Some(&[])),
+        (ADVANCE, Some(&[1])),
+        (count_down!(1, 3), Some(&[1])),
+        (TERMINATE, Some(&[1])),
+    ];
+    const NOT_SET: Table = &[
+        (GENERATE, Some(&[])),
+        (assign!(2, Set, FIVE), Some(&[])),
+        (count_down!(1, 3), Some(&[2])),
+        (TERMINATE, Some(&[2])),
+    ];
+    assert!(rt; fault(rt.alloc(), SET)?.is_none());
+    assert!(rt; fault(rt.alloc(), NOT_SET)? == at_block(20, 3));
+    Ok(())
+}
+
+#[test]
+fn a_loop_falls_and_goes_back(rt: HostRuntime) -> Result<(), Fail> {
+    const BACK_ALONE: Table = &[
+        (GENERATE, Some(&[])),
+        (assign!(1, Set, FIVE), Some(&[])),
+        (count_down!(1, 5), Some(&[1])),
+        (TERMINATE, Some(&[1])),
+        (TERMINATE, Some(&[1, 2])),
+    ];
+    const BOTH: Table = &[
+        (GENERATE, Some(&[])),
+        (assign!(1, Set, FIVE), Some(&[])),
+        (count_down!(1, 5), Some(&[1])),
+        (TERMINATE, Some(&[2])),
+        (TERMINATE, Some(&[1, 2])),
+    ];
+    assert!(rt; fault(rt.alloc(), BACK_ALONE)? == at_edge(25, 3, 5));
+    assert!(rt; fault(rt.alloc(), BOTH)? == at_edge(25, 3, 4));
+    Ok(())
+}
+
+#[test]
+fn mark_sets_the_parameter_that_it_names(rt: HostRuntime) -> Result<(), Fail> {
+    const NAMED: Table = &[
+        (GENERATE, Some(&[])),
+        (Block::Mark(Some(1)), Some(&[])),
+        (Block::Terminate(P1), Some(&[1])),
+    ];
+    const NONE: Table = &[
+        (GENERATE, Some(&[])),
+        (Block::Mark(None), Some(&[])),
+        (Block::Terminate(P1), Some(&[1])),
+    ];
+    assert!(rt; fault(rt.alloc(), NAMED)?.is_none());
+    assert!(rt; fault(rt.alloc(), NONE)? == at_edge(25, 2, 3));
+    Ok(())
+}
+
+// The edges of one block
+
+/// These parameters, each a number.
+fn parameters(alloc: Global, numbers: &[u8]) -> Result<Vec<Parameter>, Memory> {
+    let mut parameters = Vec::new(alloc);
+    for number in numbers {
+        parameters.push(Parameter {
+            number: *number,
+            kind: ParameterKind::Num,
+        })?;
+    }
+    Ok(parameters)
+}
+
+/// The parts of a state that knows these parameters.
+fn state_parts(alloc: Global, numbers: &[u8]) -> Result<StateParts, Memory>
+    ensures { IfOk result (λ parts. HasRoom (known parts)) }
+{
+    Ok(StateParts {
+        parameters: Items::from_vec(parameters(alloc, numbers)?),
+        facilities: Items::from_vec(Vec::new(alloc)),
+        units: Items::from_vec(Vec::new(alloc)),
+    })
+}
+
+/// What is known of a transaction in a state that knows these parameters, if they ascend.
+fn state_of(alloc: Global, numbers: &[u8]) -> Result<Option<AbsState>, Memory>
+    ensures { IfOk result (λ state. IfSome state (λ s. HasRoom (known s))) }
+{
+    let parts = state_parts(alloc, numbers)?;
+    Ok(AbsState::build(parts).ok())
+}
+
+/// Whether parameters are these numbers, in order.
+fn are_numbers(parameters: &[Parameter], numbers: &[u8]) -> bool {
+    if parameters.len() != numbers.len() {
+        return false;
+    }
+    for i in 0..numbers.len() {
+        let kind = ParameterKind::Num;
+        let number = numbers[i];
+        if parameters[i] != (Parameter { number, kind }) {
+            return false;
+        }
+    }
+    true
+}
+
+/// Whether edges lead to these blocks, in order, each with these parameters.
+fn lead_to(edges: &[Edge], blocks: &[u16], numbers: &[u8]) -> bool {
+    if edges.len() != blocks.len() {
+        return false;
+    }
+    for i in 0..blocks.len() {
+        let parameters = edges[i].state.parts().parameters.as_slice();
+        if edges[i].target != Target::Block(blocks[i]) || !are_numbers(parameters, numbers) {
+            return false;
+        }
+    }
+    true
+}
+
+/// What the second block of an object answers for a state: whether its edges lead to these blocks with these parameters,
+/// or its fault.
+fn second_leads(
+    alloc: Global,
+    object: &Object,
+    state: &AbsState,
+    blocks: &[u16],
+    numbers: &[u8],
+) -> Result<bool, Fault>
+    requires { HasRoom (known state.now) }
+{
+    if !is_block(object, 2) {
+        return Ok(false);
+    }
+    let edges = out_edges(alloc, object, 2, state)?;
+    Ok(lead_to(&edges, blocks, numbers))
+}
+
+/// What a block, the second of three, answers for a state with these parameters.
+fn leads(
+    alloc: Global,
+    block: Block,
+    given: &[u8],
+    blocks: &[u16],
+    numbers: &[u8],
+) -> Result<Result<bool, Fault>, Fail> {
+    let object = three_blocks(alloc, block)?;
+    match state_of(alloc, given)? {
+        Some(state) => Ok(second_leads(alloc, &object, &state, blocks, numbers)),
+        None => Ok(Ok(false)),
+    }
+}
+
+#[test]
+fn the_parameter_that_a_block_sets_stands_in_its_place(rt: HostRuntime) -> Result<(), Fail> {
+    let is_new = leads(rt.alloc(), assign!(2, Set, FIVE), &[1, 3], &[3], &[1, 2, 3])?;
+    let is_known = leads(rt.alloc(), assign!(3, Add, P1), &[1, 3], &[3], &[1, 3])?;
+    let is_marked = leads(
+        rt.alloc(),
+        Block::Mark(Some(64)),
+        &[1, 3],
+        &[3],
+        &[1, 3, 64],
+    )?;
+    assert!(rt; is_new == Ok(true));
+    assert!(rt; is_known == Ok(true));
+    assert!(rt; is_marked == Ok(true));
+    Ok(())
+}
+
+#[test]
+fn a_block_that_sets_none_leaves_the_parameters(rt: HostRuntime) -> Result<(), Fail> {
+    let is_counted = leads(rt.alloc(), count_down!(3, 9), &[1, 3], &[3, 9], &[1, 3])?;
+    let is_marked = leads(rt.alloc(), Block::Mark(None), &[1, 3], &[3], &[1, 3])?;
+    let is_seized = leads(rt.alloc(), Block::Seize(F), &[1, 3], &[3], &[1, 3])?;
+    assert!(rt; is_counted == Ok(true));
+    assert!(rt; is_marked == Ok(true));
+    assert!(rt; is_seized == Ok(true));
+    Ok(())
+}
+
+#[test]
+fn the_values_of_a_block_are_its_first_rule(rt: HostRuntime) -> Result<(), Fail> {
+    let not_counted = leads(rt.alloc(), count_down!(2, 9), &[1, 3], &[], &[])?;
+    let not_read = leads(rt.alloc(), GENERATE_P1, &[2], &[], &[])?;
+    let not_empty = leads(rt.alloc(), GENERATE_P1, &[1], &[], &[])?;
+    assert!(rt; not_counted.err() == at_block(20, 2));
+    assert!(rt; not_read.err() == at_block(20, 2));
+    assert!(rt; not_empty.err() == at_block(25, 2));
+    Ok(())
+}
+
+/// Whether parameters make a state.
+fn make_a_state(alloc: Global, numbers: &[u8]) -> Result<bool, Fail> {
+    Ok(state_of(alloc, numbers)?.is_some())
+}
+
+#[test]
+fn the_parameters_of_a_state_ascend(rt: HostRuntime) -> Result<(), Fail> {
+    assert!(rt; make_a_state(rt.alloc(), &[1, 2, 64])?);
+    assert!(rt; !make_a_state(rt.alloc(), &[2, 1])?);
+    assert!(rt; !make_a_state(rt.alloc(), &[2, 2])?);
+    Ok(())
+}

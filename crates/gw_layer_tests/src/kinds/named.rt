@@ -1,0 +1,409 @@
+//! Kinds: what the values of blocks name, and LOGIC, SAVEVALUE and LOOP, in objects with a logic switch and a savevalue.
+
+use crate::models::*;
+use gw_kinds::{Way, check_kinds, exits, values};
+use gw_object::{
+    Assign, Attribute, Block, Entity, EntityAttribute, Fault, Generate, Kind, Logic, Loop, Memory,
+    Mode, Numbered, Operand, Save, Spread, SwitchAction,
+};
+use std::alloc::Global;
+use std::test::Fail;
+
+/// The logic switch and the savevalue, which come after F, S and Q.
+const SWITCH: u16 = 3;
+
+const SAVEVALUE: u16 = 4;
+
+/// No entity has this number.
+const MISSING: u16 = 5;
+
+/// The entities F, S and Q, a logic switch and a savevalue.
+fn five_entities(alloc: Global) -> Result<Vec<Entity>, Memory> {
+    let mut entities = three_entities(alloc, 2_000_000)?;
+    entities.push(entity(alloc, Kind::Switch(true), b"L")?)?;
+    entities.push(entity(alloc, Kind::Savevalue(-7), b"X")?)?;
+    Ok(entities)
+}
+
+/// An attribute of an entity or a block, also in a constant.
+macro_rules! of {
+    ($attribute:ident, $number:expr) => {
+        Operand::OfEntity(Numbered {
+            attribute: EntityAttribute::$attribute,
+            number: $number,
+        })
+    };
+}
+
+/// A time of this mean and half range, also in a constant.
+macro_rules! time {
+    ($mean:expr, $half:expr) => {
+        Spread {
+            mean: $mean,
+            half: $half,
+        }
+    };
+}
+
+/// A GENERATE with this interval and first time.
+macro_rules! generate {
+    ($interval:expr, $first:expr) => {
+        Block::Generate(Generate {
+            interval: $interval,
+            first: $first,
+            limit: None,
+            priority: 0,
+        })
+    };
+}
+
+/// An ASSIGN of this value to parameter 1.
+macro_rules! assign {
+    ($value:expr) => {
+        Block::Assign(Assign {
+            parameter: 1,
+            mode: Mode::Set,
+            value: $value,
+        })
+    };
+}
+
+/// A SAVEVALUE that adds this value.
+macro_rules! save {
+    ($savevalue:expr, $value:expr) => {
+        Block::Savevalue(Save {
+            savevalue: $savevalue,
+            mode: Mode::Add,
+            value: $value,
+        })
+    };
+}
+
+/// A LOGIC of this action.
+macro_rules! logic {
+    ($action:ident, $switch:expr) => {
+        Block::Logic(Logic {
+            action: SwitchAction::$action,
+            switch: $switch,
+        })
+    };
+}
+
+/// A LOOP over parameter 64 to this block.
+macro_rules! back_to {
+    ($target:expr) => {
+        Block::Loop(Loop {
+            parameter: 64,
+            target: $target,
+        })
+    };
+}
+
+const ONE: Operand = Operand::Constant(1);
+
+/// What is left of a facility: another kind than it needs.
+const WRONG: Operand = of!(StorageRemaining, F);
+
+/// The entries of a block that isn't there.
+const NOWHERE: Operand = of!(BlockEntries, 0);
+
+/// The fault of the object of these blocks, whose first block has this row and the others none, if it has one.
+fn fault_with(
+    alloc: Global,
+    blocks: &[Block],
+    first_row: Option<Row>,
+) -> Result<Option<Fault>, Fail> {
+    let states = super::rows(alloc, blocks.len(), first_row)?;
+    let entities = five_entities(alloc)?;
+    let blocks = Vec::from_slice(alloc, blocks)?;
+    let object = built(parts(alloc, entities, blocks, states)?)?;
+    Ok(check_kinds(&object).err())
+}
+
+/// The place, from 0, of the first of these blocks that has another fault between a GENERATE and a TERMINATE.
+fn wrong_block(
+    alloc: Global,
+    blocks: &[Block],
+    fault: Option<Fault>,
+) -> Result<Option<usize>, Fail> {
+    for i in 0..blocks.len() {
+        let object = [GENERATE, blocks[i], TERMINATE];
+        if fault_with(alloc, &object, None)? != fault {
+            return Ok(Some(i));
+        }
+    }
+    Ok(None)
+}
+
+/// The place, from 0, of the first of these values that has another fault in an ASSIGN between a GENERATE and a TERMINATE.
+fn wrong_value(
+    alloc: Global,
+    values: &[Operand],
+    fault: Option<Fault>,
+) -> Result<Option<usize>, Fail> {
+    for i in 0..values.len() {
+        let object = [GENERATE, assign!(values[i]), TERMINATE];
+        if fault_with(alloc, &object, None)? != fault {
+            return Ok(Some(i));
+        }
+    }
+    Ok(None)
+}
+
+/// The blocks of an object, and the code and the block of its fault.
+type Case<'a> = (&'a [Block], u16, u16);
+
+/// The place, from 0, of the first of these objects that has another fault.
+fn wrong_object(alloc: Global, cases: &[Case]) -> Result<Option<usize>, Fail> {
+    for i in 0..cases.len() {
+        let (blocks, code, block) = cases[i];
+        if fault_with(alloc, blocks, None)? != at_block(code, block) {
+            return Ok(Some(i));
+        }
+    }
+    Ok(None)
+}
+
+#[test]
+fn blocks_that_name_what_they_must_are_accepted(rt: HostRuntime) -> Result<(), Fail> {
+    const BLOCKS: &[Block] = &[
+        assign!(ONE),
+        back_to!(2),
+        back_to!(3),
+        logic!(Set, SWITCH),
+        logic!(Reset, SWITCH),
+        logic!(Invert, SWITCH),
+        save!(SAVEVALUE, ONE),
+        Block::Mark(None),
+        Block::Mark(Some(64)),
+    ];
+    assert!(rt; wrong_block(rt.alloc(), BLOCKS, None)?.is_none());
+    Ok(())
+}
+
+#[test]
+fn values_that_name_what_they_must_are_accepted(rt: HostRuntime) -> Result<(), Fail> {
+    const VALUES: &[Operand] = &[
+        Operand::Parameter(64),
+        Operand::Attribute(Attribute::TransitTime),
+        Operand::Random(16),
+        of!(FacilityOwned, F),
+        of!(StorageContent, S),
+        of!(StorageRemaining, S),
+        of!(QueueContent, Q),
+        of!(SavevalueValue, SAVEVALUE),
+        of!(SwitchSetting, SWITCH),
+        // Of the GENERATE, and of the last block.
+        of!(BlockEntries, 1),
+        of!(BlockEntries, 3),
+        of!(BlockCount, 1),
+        of!(BlockCount, 3),
+    ];
+    assert!(rt; wrong_value(rt.alloc(), VALUES, None)?.is_none());
+    Ok(())
+}
+
+#[test]
+fn a_value_of_another_kind_is_refused(rt: HostRuntime) -> Result<(), Fail> {
+    const VALUES: &[Operand] = &[
+        of!(FacilityOwned, S),
+        of!(StorageContent, Q),
+        of!(StorageRemaining, F),
+        of!(QueueContent, S),
+        of!(SavevalueValue, SWITCH),
+        of!(SwitchSetting, SAVEVALUE),
+    ];
+    assert!(rt; wrong_value(rt.alloc(), VALUES, at_block(10, 2))?.is_none());
+    Ok(())
+}
+
+#[test]
+fn a_block_that_names_another_kind_is_refused(rt: HostRuntime) -> Result<(), Fail> {
+    const BLOCKS: &[Block] = &[
+        logic!(Set, SAVEVALUE),
+        logic!(Invert, F),
+        save!(SWITCH, ONE),
+        save!(Q, ONE),
+        Block::Seize(SWITCH),
+        Block::Enter(units!(SAVEVALUE, 1)),
+        Block::Queue(units!(SWITCH, 1)),
+    ];
+    assert!(rt; wrong_block(rt.alloc(), BLOCKS, at_block(10, 2))?.is_none());
+    Ok(())
+}
+
+#[test]
+fn a_value_is_checked_wherever_it_stands(rt: HostRuntime) -> Result<(), Fail> {
+    const CASES: &[Case<'static>] = &[
+        (&[generate!(time!(WRONG, ONE), None), TERMINATE], 10, 1),
+        (&[generate!(time!(ONE, WRONG), None), TERMINATE], 10, 1),
+        (&[GENERATE, Block::Terminate(WRONG)], 10, 2),
+        (
+            &[GENERATE, Block::Advance(time!(WRONG, ONE)), TERMINATE],
+            10,
+            2,
+        ),
+        (
+            &[GENERATE, Block::Advance(time!(ONE, WRONG)), TERMINATE],
+            10,
+            2,
+        ),
+        (&[GENERATE, save!(SAVEVALUE, WRONG), TERMINATE], 10, 2),
+        (&[generate!(time!(ONE, NOWHERE), None), TERMINATE], 12, 1),
+        (&[GENERATE, Block::Terminate(NOWHERE)], 12, 2),
+        (
+            &[GENERATE, Block::Advance(time!(NOWHERE, ONE)), TERMINATE],
+            12,
+            2,
+        ),
+        (&[GENERATE, save!(SAVEVALUE, NOWHERE), TERMINATE], 12, 2),
+    ];
+    assert!(rt; wrong_object(rt.alloc(), CASES)?.is_none());
+    Ok(())
+}
+
+#[test]
+fn a_value_of_an_entity_that_is_not_there_is_refused(rt: HostRuntime) -> Result<(), Fail> {
+    const VALUES: &[Operand] = &[
+        of!(FacilityOwned, MISSING),
+        of!(StorageContent, MISSING),
+        of!(StorageRemaining, MISSING),
+        of!(QueueContent, 65_535),
+        of!(SavevalueValue, MISSING),
+        of!(SwitchSetting, MISSING),
+    ];
+    assert!(rt; wrong_value(rt.alloc(), VALUES, at_block(11, 2))?.is_none());
+    Ok(())
+}
+
+#[test]
+fn a_block_that_names_no_entity_is_refused(rt: HostRuntime) -> Result<(), Fail> {
+    const BLOCKS: &[Block] = &[logic!(Reset, MISSING), save!(MISSING, ONE)];
+    assert!(rt; wrong_block(rt.alloc(), BLOCKS, at_block(11, 2))?.is_none());
+    Ok(())
+}
+
+#[test]
+fn a_value_of_a_block_that_is_not_there_is_refused(rt: HostRuntime) -> Result<(), Fail> {
+    const VALUES: &[Operand] = &[
+        of!(BlockEntries, 0),
+        of!(BlockEntries, 4),
+        of!(BlockCount, 0),
+        of!(BlockCount, 4),
+        of!(BlockCount, 65_535),
+    ];
+    assert!(rt; wrong_value(rt.alloc(), VALUES, at_block(12, 2))?.is_none());
+    Ok(())
+}
+
+#[test]
+fn a_loop_leads_to_a_block_that_is_no_generate(rt: HostRuntime) -> Result<(), Fail> {
+    const CASES: &[Case<'static>] = &[
+        (&[GENERATE, back_to!(0), TERMINATE], 12, 2),
+        (&[GENERATE, back_to!(4), TERMINATE], 12, 2),
+        (&[GENERATE, back_to!(1), TERMINATE], 13, 2),
+    ];
+    assert!(rt; wrong_object(rt.alloc(), CASES)?.is_none());
+    Ok(())
+}
+
+#[test]
+fn no_block_falls_to_a_generate(rt: HostRuntime) -> Result<(), Fail> {
+    const CASES: &[Case<'static>] = &[
+        (&[assign!(ONE), GENERATE, TERMINATE], 13, 1),
+        (&[back_to!(3), GENERATE, TERMINATE], 13, 1),
+        (&[logic!(Set, SWITCH), GENERATE, TERMINATE], 13, 1),
+        (&[save!(SAVEVALUE, ONE), GENERATE, TERMINATE], 13, 1),
+        (&[Block::Mark(None), GENERATE, TERMINATE], 13, 1),
+    ];
+    assert!(rt; wrong_object(rt.alloc(), CASES)?.is_none());
+    Ok(())
+}
+
+#[test]
+fn no_block_falls_off_the_end(rt: HostRuntime) -> Result<(), Fail> {
+    const CASES: &[Case<'static>] = &[
+        (&[GENERATE, assign!(ONE)], 14, 2),
+        (&[GENERATE, back_to!(2)], 14, 2),
+        (&[GENERATE, logic!(Set, SWITCH)], 14, 2),
+        (&[GENERATE, save!(SAVEVALUE, ONE)], 14, 2),
+        (&[GENERATE, Block::Mark(Some(1))], 14, 2),
+    ];
+    assert!(rt; wrong_object(rt.alloc(), CASES)?.is_none());
+    Ok(())
+}
+
+#[test]
+fn the_lowest_code_of_what_is_named_goes_first(rt: HostRuntime) -> Result<(), Fail> {
+    const CASES: &[Case<'static>] = &[
+        (
+            &[GENERATE, Block::Advance(time!(NOWHERE, WRONG)), TERMINATE],
+            10,
+            2,
+        ),
+        // The block's own entity isn't there, and its value is of another kind.
+        (&[GENERATE, save!(MISSING, WRONG), TERMINATE], 10, 2),
+        (&[GENERATE, save!(MISSING, NOWHERE), TERMINATE], 11, 2),
+        (&[GENERATE, assign!(NOWHERE)], 12, 2),
+        (
+            &[generate!(time!(ONE, NOWHERE), Some(-1)), TERMINATE],
+            12,
+            1,
+        ),
+    ];
+    assert!(rt; wrong_object(rt.alloc(), CASES)?.is_none());
+    Ok(())
+}
+
+#[test]
+fn a_row_names_no_switch_and_no_savevalue(rt: HostRuntime) -> Result<(), Fail> {
+    const BLOCKS: &[Block] = &[GENERATE, TERMINATE];
+    let owned = fault_with(rt.alloc(), BLOCKS, Some((&[SWITCH], &[])))?;
+    let held = fault_with(rt.alloc(), BLOCKS, Some((&[], &[units!(SAVEVALUE, 1)])))?;
+    let are_right = [owned == at_block(10, 1), held == at_block(10, 1)];
+    assert!(rt; first_wrong(&are_right).is_none());
+    Ok(())
+}
+
+/// Whether a block leaves by these ways, on none of which time passes.
+fn leaves_at_once_by(block: Block, ways: &[Way]) -> bool {
+    let exits = exits(&block);
+    let found = exits.as_slice();
+    found.len() == ways.len()
+        && (0..found.len()).all(|i| found[i].way == ways[i] && !found[i].passes_time)
+}
+
+#[test]
+fn a_loop_falls_and_then_goes_to_its_target(rt: HostRuntime) {
+    const FALLS: Way = Way::Falls;
+    let are_right = [
+        leaves_at_once_by(back_to!(7), &[FALLS, Way::Goes(7)]),
+        leaves_at_once_by(assign!(ONE), &[FALLS]),
+        leaves_at_once_by(logic!(Set, SWITCH), &[FALLS]),
+        leaves_at_once_by(save!(SAVEVALUE, ONE), &[FALLS]),
+        leaves_at_once_by(Block::Mark(None), &[FALLS]),
+        leaves_at_once_by(Block::Advance(time!(Operand::Parameter(1), ONE)), &[FALLS]),
+        leaves_at_once_by(Block::Advance(time!(ONE, Operand::Random(1))), &[FALLS]),
+    ];
+    assert!(rt; first_wrong(&are_right).is_none());
+}
+
+/// Whether these are the values of a block, in order.
+fn has_values(block: Block, expected: &[Operand]) -> bool {
+    values(&block).as_slice() == expected
+}
+
+#[test]
+fn the_values_of_a_block_are_those_that_are_evaluated(rt: HostRuntime) {
+    const TWO: Operand = Operand::Constant(2);
+    let are_right = [
+        has_values(generate!(time!(ONE, TWO), Some(3)), &[ONE, TWO]),
+        has_values(Block::Advance(time!(TWO, ONE)), &[TWO, ONE]),
+        has_values(Block::Terminate(TWO), &[TWO]),
+        has_values(assign!(TWO), &[TWO]),
+        has_values(save!(SAVEVALUE, TWO), &[TWO]),
+        has_values(back_to!(2), &[]),
+        has_values(Block::Mark(Some(2)), &[]),
+    ];
+    assert!(rt; first_wrong(&are_right).is_none());
+}
