@@ -133,6 +133,8 @@ passes_like p (blocks.Loop l) state row h = record { rules_hold = λ _ hold. by_
 passes_like p (blocks.Logic l) state row h = record { rules_hold = λ _ hold. hold; after_fits = h }
 passes_like p (blocks.Savevalue s) state row h = record { rules_hold = λ _ hold. hold; after_fits = h }
 passes_like p (blocks.Mark p') state row h = record { rules_hold = λ _ hold. hold; after_fits = fits_set p' state row h }
+passes_like p (blocks.Test t) state row h = record { rules_hold = λ _ hold. hold; after_fits = h }
+passes_like p (blocks.Gate g) state row h = record { rules_hold = λ _ hold. hold; after_fits = h }
 passes_like p (blocks.Transfer target) state row h = record { rules_hold = λ _ hold. hold; after_fits = h }
 passes_like p (blocks.TransferByFraction f) state row h = record { rules_hold = λ _ hold. hold; after_fits = h }
 

@@ -112,6 +112,10 @@ abbrev pub operands : Environment → Block → List ℕ → Evaluation (List �
 operands env (blocks.Terminate by) streams = operand_value env by streams >>= λ value. Value (alone value)
 operands env (blocks.Advance time) streams = drawn_time env time streams >>= λ time. Value (alone time)
 operands env (blocks.Assign a) streams = operand_value env a.value streams >>= λ value. Value (alone value)
+operands env (blocks.Test t) streams =
+    operand_value env t.left streams >>= λ left.
+    operand_value env t.right left.1 >>= λ right.
+    Value (left.0 ∷ right.0 ∷ [], right.1)
 operands env (blocks.TransferByFraction f) streams = Value (alone (drawn_thousandths 1 streams))
 operands env (blocks.Savevalue a) streams = operand_value env a.value streams >>= λ value. Value (alone value)
 operands env block streams = Value ([], streams)

@@ -79,6 +79,7 @@ fn check_number<S: Lookups>(number: u16, parameter: u8, state: &S) -> Result<(),
 
 /// The fault of the first parameter that the values of the block of this number read, and that isn't sure to hold a
 /// number, if there is one.
+#[tactic(auto, using(crate::proofs::Unfit::first_unfit_tells))]
 fn check_values<S: Lookups>(number: u16, block: &Block, state: &S) -> Result<(), Fault>
     ensures { Finds result (map (rule_check number) (model.value_rules block.now (S.known state.now))) }
 {

@@ -15,6 +15,7 @@ use std::process::Abort;
 use std::test::Fail;
 
 mod arrivals;
+mod conditions;
 mod crowds;
 mod draws;
 mod ends;
@@ -208,11 +209,31 @@ fn three_blocks() -> [Block; 3] {
 
 // THE STATE TABLE
 
-/// What is known of a transaction on its way: which parameters are set, by their numbers; whether it owns the facility F;
-/// and how many units of the storage S and of the queue L it holds.
+/// Whether a block sets a parameter.
+fn sets(block: &Block, number: u8) -> bool {
+    match block {
+        Block::Assign(assign) => assign.parameter == number,
+        Block::Mark(Some(parameter)) => *parameter == number,
+        _ => false,
+    }
+}
+
+/// The parameters that are set after these blocks, ascending.
+fn set_by(alloc: Global, passed: &[Block]) -> Result<Items<TableParameter>, Memory> {
+    let mut parameters = Vec::new(alloc);
+    for number in 1..=64u8 {
+        if passed.iter().any(|block| sets(block, number)) {
+            let kind = TableKind::Num;
+            parameters.push(TableParameter { number, kind })?;
+        }
+    }
+    Ok(Items::from_vec(parameters))
+}
+
+/// What is known of a transaction on its way, besides its parameters: whether it owns the facility F, and how many units of
+/// the storage S and of the queue L it holds.
 #[derive(Clone, Copy)]
 struct Held {
-    parameters: [bool; 256],
     facility: bool,
     storage: u32,
     queue: u32,
@@ -220,20 +241,12 @@ struct Held {
 
 /// What an arrival holds.
 const NOTHING: Held = Held {
-    parameters: [false; 256],
     facility: false,
     storage: 0,
     queue: 0,
 };
 
 impl Held {
-    /// With one more parameter set.
-    fn with_parameter(self, number: u8) -> Held {
-        let mut parameters = self.parameters;
-        parameters[number as usize] = true;
-        Held { parameters, ..self }
-    }
-
     /// What it holds after a block.
     fn after(self, block: Block) -> Held {
         match block {
@@ -261,26 +274,12 @@ impl Held {
                 queue: self.queue.saturating_sub(units.number),
                 ..self
             },
-            Block::Assign(assign) => self.with_parameter(assign.parameter),
-            Block::Mark(Some(parameter)) => self.with_parameter(parameter),
             _ => self,
         }
     }
 
-    /// The parameters that are set, ascending.
-    fn parameters(self, alloc: Global) -> Result<Items<TableParameter>, Memory> {
-        let mut parameters = Vec::new(alloc);
-        for number in 1..=64u8 {
-            if self.parameters[number as usize] {
-                let kind = TableKind::Num;
-                parameters.push(TableParameter { number, kind })?;
-            }
-        }
-        Ok(Items::from_vec(parameters))
-    }
-
-    /// The row of the state table that says so.
-    fn row(self, alloc: Global) -> Result<TableState, Memory> {
+    /// The row of the state table that says so, after these blocks.
+    fn row(self, alloc: Global, passed: &[Block]) -> Result<TableState, Memory> {
         let mut facilities = Vec::new(alloc);
         if self.facility {
             facilities.push(F)?;
@@ -292,7 +291,7 @@ impl Held {
             }
         }
         Ok(TableState {
-            parameters: self.parameters(alloc)?,
+            parameters: set_by(alloc, passed)?,
             facilities: Items::from_vec(facilities),
             units: Items::from_vec(units),
         })
@@ -304,12 +303,15 @@ impl Held {
 fn straight_table(alloc: Global, blocks: &[Block]) -> Result<Items<Option<TableState>>, Memory> {
     let mut rows = Vec::new(alloc);
     let mut held = NOTHING;
+    let mut passed = Vec::new(alloc);
     for block in blocks {
         if let Block::Generate(_) = block {
             held = NOTHING;
+            passed.clear();
         }
-        rows.push(Some(held.row(alloc)?))?;
+        rows.push(Some(held.row(alloc, &passed)?))?;
         held = held.after(*block);
+        passed.push(*block)?;
     }
     Ok(Items::from_vec(rows))
 }

@@ -27,10 +27,17 @@ abbrev pub goes_or_falls : Option ℕ → Way
 goes_or_falls None = Falls
 goes_or_falls (Some target) = Goes target
 
+-- the exits of a block that tests something: to the next block, and to the one of this number where one is given; both at once
+abbrev pub falls_or_goes : Option ℕ → List Exit
+falls_or_goes None = at_once Falls ∷ []
+falls_or_goes (Some target) = at_once Falls ∷ at_once (Goes target) ∷ []
+
 -- the exits of a block, in order; most blocks fall to the next one at once
 abbrev pub exits : Block → List Exit
 exits (blocks.Terminate by) = []
 exits (blocks.Advance time) = record { way = Falls; passes_time = takes_time time.mean time.half } ∷ []
+exits (blocks.Test t) = falls_or_goes t.otherwise
+exits (blocks.Gate g) = falls_or_goes g.otherwise
 exits (blocks.Transfer target) = at_once (Goes target) ∷ []
 exits (blocks.TransferByFraction f) = at_once (goes_or_falls f.otherwise) ∷ at_once (Goes f.target) ∷ []
 exits (blocks.Loop l) = at_once Falls ∷ at_once (Goes l.target) ∷ []

@@ -12,6 +12,8 @@ use Rattle.gw_object.specs.declared.parts.EntityAttribute.TheVariants.{FacilityO
 use Rattle.gw_object.specs.declared.parts.Operand.{Operand}
 use Rattle.gw_object.specs.declared.parts.Operand.TheVariants.{OfEntity}
 use Rattle.gw_object.specs.declared.parts.Units.{Units}
+use Rattle.gw_object.specs.declared.parts.Condition.{Condition}
+use Rattle.gw_object.specs.declared.parts.Condition.TheVariants.{SwitchSet, SwitchReset, FacilityInUse, FacilityNotInUse, StorageFull, StorageEmpty, StorageNotFull, StorageNotEmpty}
 use Rattle.gw_object.specs.declared.parts.Block.{Block}
 use Rattle.gw_object.specs.declared.parts.Block.TheVariants as blocks
 use Rattle.gw_object.specs.declared.parts.TableState.{TableState}
@@ -39,6 +41,7 @@ values (blocks.Generate g) = g.interval.mean ∷ g.interval.half ∷ []
 values (blocks.Terminate by) = by ∷ []
 values (blocks.Advance time) = time.mean ∷ time.half ∷ []
 values (blocks.Assign a) = a.value ∷ []
+values (blocks.Test t) = t.left ∷ t.right ∷ []
 values (blocks.Savevalue s) = s.value ∷ []
 values block = []
 
@@ -79,6 +82,17 @@ abbrev pub entity_of : Operand → Option Named
 entity_of (OfEntity a) = option_map (λ needed. needs needed a.number) (needed_for a.attribute)
 entity_of operand = None
 
+-- what a condition needs its entity to be
+abbrev pub needed_by : Condition → EntityKind
+needed_by SwitchSet = Switch
+needed_by SwitchReset = Switch
+needed_by FacilityInUse = Facility
+needed_by FacilityNotInUse = Facility
+needed_by StorageFull = Storage
+needed_by StorageEmpty = Storage
+needed_by StorageNotFull = Storage
+needed_by StorageNotEmpty = Storage
+
 -- the entity that a block itself names, if it does
 abbrev pub own_entity : Block → Option Named
 own_entity (blocks.Seize f) = Some (needs Facility f)
@@ -87,6 +101,7 @@ own_entity (blocks.Enter u) = Some (needs Storage u.entity)
 own_entity (blocks.Leave u) = Some (needs Storage u.entity)
 own_entity (blocks.Queue u) = Some (needs Queue u.entity)
 own_entity (blocks.Depart u) = Some (needs Queue u.entity)
+own_entity (blocks.Gate g) = Some (needs (needed_by g.condition) g.entity)
 own_entity (blocks.Logic l) = Some (needs Switch l.switch)
 own_entity (blocks.Savevalue s) = Some (needs Savevalue s.savevalue)
 own_entity block = None

@@ -5,10 +5,11 @@ ghost use Rattle.gw_kinds.specs.Kinds as model;
 ghost use Rattle.gw_kinds.specs.declared.entities.EntityKind.TheVariants as needed;
 
 use crate::evaluated::values;
-use gw_object::{Block, Entity, EntityAttribute, Kind, Operand};
+use gw_object::{Block, Condition, Entity, EntityAttribute, Kind, Operand};
 
 /// What an entity is needed as: SEIZE and RELEASE need a facility, ENTER and LEAVE a storage, QUEUE and DEPART a queue,
-/// LOGIC a logic switch and SAVEVALUE a savevalue (GPSS World Reference Manual, chapter 7).
+/// GATE what its condition asks of, LOGIC a logic switch and SAVEVALUE a savevalue (GPSS World Reference Manual,
+/// chapter 7).
 #[derive(Clone, Copy, Debug, PartialEq, Eq)]
 pub enum EntityKind {
     /// A facility.
@@ -76,6 +77,20 @@ fn entity_of(operand: &Operand) -> Option<Named>
     }
 }
 
+/// What a condition needs its entity to be.
+fn needed_by(condition: Condition) -> EntityKind
+    ensures { result ≡ model.needed_by condition }
+{
+    match condition {
+        Condition::SwitchSet | Condition::SwitchReset => EntityKind::Switch,
+        Condition::FacilityInUse | Condition::FacilityNotInUse => EntityKind::Facility,
+        Condition::StorageFull
+        | Condition::StorageEmpty
+        | Condition::StorageNotFull
+        | Condition::StorageNotEmpty => EntityKind::Storage,
+    }
+}
+
 /// The entity that a block itself names, if it does.
 fn own_entity(block: &Block) -> Option<Named>
     ensures { result ≡ model.own_entity block.now }
@@ -84,6 +99,7 @@ fn own_entity(block: &Block) -> Option<Named>
         Block::Seize(f) | Block::Release(f) => Some(needs(EntityKind::Facility, *f)),
         Block::Enter(u) | Block::Leave(u) => Some(needs(EntityKind::Storage, u.entity)),
         Block::Queue(u) | Block::Depart(u) => Some(needs(EntityKind::Queue, u.entity)),
+        Block::Gate(g) => Some(needs(needed_by(g.condition), g.entity)),
         Block::Logic(l) => Some(needs(EntityKind::Switch, l.switch)),
         Block::Savevalue(s) => Some(needs(EntityKind::Savevalue, s.savevalue)),
         _ => None,

@@ -41,12 +41,19 @@ impl Operands {
         Operands { operands, count: 1 }
     }
 
+    /// Two operands.
+    fn two(first: Operand, second: Operand) -> Operands
+        ensures { result ≡ first ∷ second ∷ [] }
+    {
+        let operands = [first, second];
+        Operands { operands, count: 2 }
+    }
+
     /// The mean of a time, and half its range.
     fn of_time(time: Spread) -> Operands
         ensures { result ≡ time.mean ∷ time.half ∷ [] }
     {
-        let operands = [time.mean, time.half];
-        Operands { operands, count: 2 }
+        Operands::two(time.mean, time.half)
     }
 
     /// The operands, in order.
@@ -58,7 +65,7 @@ impl Operands {
 }
 
 /// The operands of a block that are evaluated, in order (GPSS World Reference Manual, chapter 7): the mean and half the
-/// range of a GENERATE or an ADVANCE, and what a TERMINATE, an ASSIGN or a SAVEVALUE takes.
+/// range of a GENERATE or an ADVANCE, what a TERMINATE, an ASSIGN or a SAVEVALUE takes, and what a TEST compares.
 pub fn values(block: &Block) -> Operands
     ensures { result ≡ model.values block.now }
 {
@@ -67,6 +74,7 @@ pub fn values(block: &Block) -> Operands
         Block::Advance(time) => Operands::of_time(*time),
         Block::Terminate(by) => Operands::one(*by),
         Block::Assign(assign) => Operands::one(assign.value),
+        Block::Test(test) => Operands::two(test.left, test.right),
         Block::Savevalue(save) => Operands::one(save.value),
         _ => Operands::none(),
     }

@@ -66,6 +66,8 @@ pub fn exits(block: &Block) -> ArrayVec<Exit, 2>
             way: Way::Falls,
             passes_time: takes_time(*time),
         }),
+        Block::Test(test) => exits = falls_or_goes(test.otherwise),
+        Block::Gate(gate) => exits = falls_or_goes(gate.otherwise),
         Block::Transfer(target) => exits.push(at_once(Way::Goes(*target))),
         Block::TransferByFraction(fraction) => {
             exits.push(at_once(goes_or_falls(fraction.otherwise)));
@@ -76,6 +78,18 @@ pub fn exits(block: &Block) -> ArrayVec<Exit, 2>
             exits.push(at_once(Way::Goes(looping.target)));
         }
         _ => exits.push(at_once(Way::Falls)),
+    }
+    exits
+}
+
+/// The exits of a block that tests something: to the next block, and to the one of this number where one is given.
+fn falls_or_goes(target: Option<u16>) -> ArrayVec<Exit, 2>
+    ensures { result.items ≡ model.falls_or_goes target }
+{
+    let mut exits = ArrayVec::new();
+    exits.push(at_once(Way::Falls));
+    if let Some(target) = target {
+        exits.push(at_once(Way::Goes(target)));
     }
     exits
 }

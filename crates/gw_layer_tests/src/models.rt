@@ -75,6 +75,33 @@ macro_rules! by_fraction {
 
 pub(crate) use by_fraction;
 
+/// A TEST of two values, and where those go for whom it is false, also in a constant.
+macro_rules! compare {
+    ($comparison:ident, $left:expr, $right:expr, $otherwise:expr) => {
+        gw_object::Block::Test(gw_object::Test {
+            comparison: gw_object::Comparison::$comparison,
+            left: $left,
+            right: $right,
+            otherwise: $otherwise,
+        })
+    };
+}
+
+pub(crate) use compare;
+
+/// A GATE of an entity, and where those go for whom it isn't so, also in a constant.
+macro_rules! gate {
+    ($condition:ident, $entity:expr, $otherwise:expr) => {
+        gw_object::Block::Gate(gw_object::Gate {
+            condition: gw_object::Condition::$condition,
+            entity: $entity,
+            otherwise: $otherwise,
+        })
+    };
+}
+
+pub(crate) use gate;
+
 pub(crate) fn entity(alloc: Global, kind: Kind, name: &[u8]) -> Result<Entity, Memory> {
     let name = Items::from_vec(Vec::from_slice(alloc, name)?);
     Ok(Entity { name, kind })

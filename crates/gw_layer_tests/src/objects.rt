@@ -10,6 +10,7 @@ use std::alloc::Global;
 use std::test::Fail;
 
 mod blocks;
+mod conditions;
 mod entities;
 mod states;
 mod values;
@@ -86,6 +87,23 @@ fn changed(
     bytes.extend_from_slice(front)?;
     bytes.extend_from_slice(new)?;
     bytes.extend_from_slice(rest.split_at(old.min(rest.len())).1)?;
+    Ok(bytes)
+}
+
+/// The parts of an object of this block alone, without a state and of weight 1.
+fn one_block(alloc: Global, block: Block) -> Result<Parts, Memory> {
+    let blocks = Vec::from_slice(alloc, &[block])?;
+    parts(alloc, Vec::new(alloc), blocks, no_states(alloc, 1)?)
+}
+
+/// The bytes of an object of one block of this tag, with these as its operands from byte 19 on, without a state and of
+/// weight 1.
+fn bytes_of(alloc: Global, tag: u8, operands: &[u8]) -> Result<Vec<u8>, Memory> {
+    let mut bytes = Vec::new(alloc);
+    bytes.extend_from_slice(b"GPSO\x00\x01\x00\x00\x00\x00\x00\x00\x00\x00\x01\x00\x00\x01")?;
+    bytes.push(tag)?;
+    bytes.extend_from_slice(operands)?;
+    bytes.extend_from_slice(&[0x00, 0x00, 0x00, 0x00, 0x00, 0x01])?;
     Ok(bytes)
 }
 
@@ -187,7 +205,7 @@ const FAULTS: [(usize, usize, &'static [u8], u16, u32); 30] = [
     (16, 1, &[0x01], LIMIT, 16),
     (17, 1, &[0xff, 0x00, 0x00, 0x10, 0x01], LIMIT, 17),
     (17, 1, &[0xff, 0x00, 0x00, 0x00, 0xfe], NOT_CANONICAL, 17),
-    (18, 1, &[0x0b], TAG, 18),
+    (18, 1, &[0x0f], TAG, 18),
     (19, 1, &[0x05], TAG, 19),
     (28, 1, &[0x06], TAG, 28),
     (37, 1, &[0x02], TAG, 37),

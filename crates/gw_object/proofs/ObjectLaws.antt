@@ -13,13 +13,15 @@ use Rattle.gw_object.specs.declared.parts.EntityAttribute.TheVariants.{FacilityO
 use Rattle.gw_object.specs.declared.parts.Operand.{Operand}
 use Rattle.gw_object.specs.declared.parts.Operand.TheVariants.{Constant, Parameter, Attribute, OfEntity, Random}
 use Rattle.gw_object.specs.declared.parts.Mode.TheVariants.{Set, Add, Subtract}
+use Rattle.gw_object.specs.declared.parts.Comparison.TheVariants.{Equal, NotEqual, Greater, GreaterOrEqual, Less, LessOrEqual}
+use Rattle.gw_object.specs.declared.parts.Condition.TheVariants.{SwitchSet, SwitchReset, FacilityInUse, FacilityNotInUse, StorageFull, StorageEmpty, StorageNotFull, StorageNotEmpty}
 use Rattle.gw_object.specs.declared.parts.SwitchAction.TheVariants.{Set as SetSwitch, Reset as ResetSwitch, Invert as InvertSwitch}
 use Rattle.gw_object.specs.declared.parts.Block.{Block}
-use Rattle.gw_object.specs.declared.parts.Block.TheVariants.{Generate, Terminate, Advance, Seize, Release, Enter, Leave, Queue, Depart, Assign, Transfer, TransferByFraction, Loop, Logic, Savevalue, Mark}
+use Rattle.gw_object.specs.declared.parts.Block.TheVariants.{Generate, Terminate, Advance, Seize, Release, Enter, Leave, Queue, Depart, Assign, Test, Gate, Transfer, TransferByFraction, Loop, Logic, Savevalue, Mark}
 use Rattle.gw_object.specs.declared.parts.Parts.{Parts}
 use Rattle.gw_fields.specs.declared.error.Bad.{Bad}
 use Rattle.gw_fields.specs.Fields.{IsProperFront, Field, behind, bad, byte, number, signed, optional, count, plain, ElementsFit}
-use Rattle.gw_object.specs.Grammar.{parameter_number, stream_number, attribute_byte, attributes, attribute, entity_attribute_byte, entity_attributes, NumberedFits, numbered, OperandFits, operand_spelling, operand_forms, operand_read, operand, mode_byte, modes, mode, AssignFits, assign, LoopFits, countdown, action_byte, actions, LogicFits, logic, SaveFits, save, SpreadFits, spread, GenerateFits, generate, entity_number, UnitsFit, units, block_number, FractionFits, fraction, BlockFits, block_spelling, block_forms, block_read, block, weight, tables, head, seed, start_count, object, spelling, HasSpelling, Spells}
+use Rattle.gw_object.specs.Grammar.{parameter_number, stream_number, attribute_byte, attributes, attribute, entity_attribute_byte, entity_attributes, NumberedFits, numbered, OperandFits, operand_spelling, operand_forms, operand_read, operand, mode_byte, modes, mode, AssignFits, assign, comparison_byte, comparisons, TestFits, test_operands, condition_byte, conditions, GateFits, gate, LoopFits, countdown, action_byte, actions, LogicFits, logic, SaveFits, save, SpreadFits, spread, GenerateFits, generate, entity_number, UnitsFit, units, block_number, FractionFits, fraction, BlockFits, block_spelling, block_forms, block_read, block, weight, tables, head, seed, start_count, object, spelling, HasSpelling, Spells}
 use Rattle.gw_object.specs.Entities.{entity}
 use Rattle.gw_object.specs.Reading.{whole_read, with_place, first_fault, out_of_memory, fault_at, IsRefused}
 use Rattle.gw_object.proofs.EntityLaws.{entity_exact, entities_fit, entities_are}
@@ -128,6 +130,38 @@ unfolding assign
 assign_exact = fitting_exact AssignFits _ (λ a h. record { parameter = h.0; value = h.1.1 }) (λ a h. (h.parameter, (tt, h.value)))
     (made_exact _ _ _ (λ x h. refl) (λ a h. refl) (both_exact _ _ parameter_number_exact (both_exact _ _ mode_exact operand_exact)))
 
+comparisons_are_found : AreFound comparison_byte comparisons
+comparisons_are_found Equal = refl
+comparisons_are_found NotEqual = refl
+comparisons_are_found Greater = refl
+comparisons_are_found GreaterOrEqual = refl
+comparisons_are_found Less = refl
+comparisons_are_found LessOrEqual = refl
+
+otherwise_exact : IsExact (optional block_number)
+otherwise_exact = optional_exact block_number block_number_exact
+
+pub test_exact : IsExact test_operands
+unfolding test_operands
+test_exact = fitting_exact TestFits _ (λ t h. record { left = h.1.0; right = h.1.1.0; otherwise = h.1.1.1 }) (λ t h. (tt, (h.left, (h.right, h.otherwise))))
+    (made_exact _ _ _ (λ x h. refl) (λ t h. refl)
+    (both_exact _ _ (one_of_exact comparison_byte comparisons comparisons_are_found) (both_exact _ _ operand_exact (both_exact _ _ operand_exact otherwise_exact))))
+
+conditions_are_found : AreFound condition_byte conditions
+conditions_are_found SwitchSet = refl
+conditions_are_found SwitchReset = refl
+conditions_are_found FacilityInUse = refl
+conditions_are_found FacilityNotInUse = refl
+conditions_are_found StorageFull = refl
+conditions_are_found StorageEmpty = refl
+conditions_are_found StorageNotFull = refl
+conditions_are_found StorageNotEmpty = refl
+
+pub gate_exact : IsExact gate
+unfolding gate
+gate_exact = fitting_exact GateFits _ (λ g h. record { entity = h.1.0; otherwise = h.1.1 }) (λ g h. (tt, (h.entity, h.otherwise)))
+    (made_exact _ _ _ (λ x h. refl) (λ g h. refl) (both_exact _ _ (one_of_exact condition_byte conditions conditions_are_found) (both_exact _ _ entity_number_exact otherwise_exact)))
+
 pub countdown_exact : IsExact countdown
 unfolding countdown
 countdown_exact = fitting_exact LoopFits _ (λ l h. record { parameter = h.0; target = h.1 }) (λ l h. (h.parameter, h.target))
@@ -156,7 +190,7 @@ block_form_exact : {A : Type 0} (tag : ℕ) (make : A → Block) (f : Field A) �
 block_form_exact tag make f spelled fit exact = behind_exact block_spelling BlockFits tag make f spelled fit exact
 
 block_forms_exact : AreExactForms block_spelling BlockFits block_forms
-unfolding generate spread units fraction assign countdown logic save
+unfolding generate spread units fraction assign test_operands gate countdown logic save
 block_forms_exact =
     block_form_exact 1 (λ g. Generate g) generate (λ g. refl) (λ g h. h) generate_exact
     also block_form_exact 2 (λ n. Terminate n) operand (λ n. refl) (λ n h. h) operand_exact
@@ -168,6 +202,8 @@ block_forms_exact =
     also block_form_exact 8 (λ u. Queue u) units (λ u. refl) (λ u h. h) units_exact
     also block_form_exact 9 (λ u. Depart u) units (λ u. refl) (λ u h. h) units_exact
     also block_form_exact 10 (λ a. Assign a) assign (λ a. refl) (λ a h. h) assign_exact
+    also block_form_exact 11 (λ t. Test t) test_operands (λ t. refl) (λ t h. h) test_exact
+    also block_form_exact 12 (λ g. Gate g) gate (λ g. refl) (λ g h. h) gate_exact
     also block_form_exact 13 (λ n. Transfer n) block_number (λ n. refl) (λ n h. h) block_number_exact
     also block_form_exact 14 (λ f. TransferByFraction f) fraction (λ f. refl) (λ f h. h) fraction_exact
     also block_form_exact 17 (λ l. Loop l) countdown (λ l. refl) (λ l h. h) countdown_exact
@@ -177,7 +213,7 @@ block_forms_exact =
     also tt
 
 block_reads_back : (b : Block) → BlockFits b → ReadsBack block_read (block_spelling b) b
-unfolding block_read generate spread units fraction assign countdown logic save
+unfolding block_read generate spread units fraction assign test_operands gate countdown logic save
 block_reads_back (Generate g) fits = tag_reads_back block_forms 1 (λ g. Generate g) generate (λ _ _. refl) generate_exact g fits
 block_reads_back (Terminate n) fits = tag_reads_back block_forms 2 (λ n. Terminate n) operand (λ _ _. refl) operand_exact n fits
 block_reads_back (Advance s) fits = tag_reads_back block_forms 3 (λ s. Advance s) spread (λ _ _. refl) spread_exact s fits
@@ -188,6 +224,8 @@ block_reads_back (Leave u) fits = tag_reads_back block_forms 7 (λ u. Leave u) u
 block_reads_back (Queue u) fits = tag_reads_back block_forms 8 (λ u. Queue u) units (λ _ _. refl) units_exact u fits
 block_reads_back (Depart u) fits = tag_reads_back block_forms 9 (λ u. Depart u) units (λ _ _. refl) units_exact u fits
 block_reads_back (Assign a) fits = tag_reads_back block_forms 10 (λ a. Assign a) assign (λ _ _. refl) assign_exact a fits
+block_reads_back (Test t) fits = tag_reads_back block_forms 11 (λ t. Test t) test_operands (λ _ _. refl) test_exact t fits
+block_reads_back (Gate g) fits = tag_reads_back block_forms 12 (λ g. Gate g) gate (λ _ _. refl) gate_exact g fits
 block_reads_back (Transfer n) fits = tag_reads_back block_forms 13 (λ n. Transfer n) block_number (λ _ _. refl) block_number_exact n fits
 block_reads_back (TransferByFraction f) fits = tag_reads_back block_forms 14 (λ f. TransferByFraction f) fraction (λ _ _. refl) fraction_exact f fits
 block_reads_back (Loop l) fits = tag_reads_back block_forms 17 (λ l. Loop l) countdown (λ _ _. refl) countdown_exact l fits

@@ -19,12 +19,18 @@ use Rattle.gw_object.specs.declared.parts.Fraction.{Fraction}
 use Rattle.gw_object.specs.declared.parts.Mode.{Mode}
 use Rattle.gw_object.specs.declared.parts.Mode.TheVariants.{Set, Add, Subtract}
 use Rattle.gw_object.specs.declared.parts.Assign.{Assign as AssignOperands}
+use Rattle.gw_object.specs.declared.parts.Comparison.{Comparison}
+use Rattle.gw_object.specs.declared.parts.Comparison.TheVariants.{Equal, NotEqual, Greater, GreaterOrEqual, Less, LessOrEqual}
+use Rattle.gw_object.specs.declared.parts.Test.{Test as TestOperands}
+use Rattle.gw_object.specs.declared.parts.Condition.{Condition}
+use Rattle.gw_object.specs.declared.parts.Condition.TheVariants.{SwitchSet, SwitchReset, FacilityInUse, FacilityNotInUse, StorageFull, StorageEmpty, StorageNotFull, StorageNotEmpty}
+use Rattle.gw_object.specs.declared.parts.Gate.{Gate as GateOperands}
 use Rattle.gw_object.specs.declared.parts.Loop.{Loop as LoopOperands}
 use Rattle.gw_object.specs.declared.parts.SwitchAction.{SwitchAction}
 use Rattle.gw_object.specs.declared.parts.SwitchAction.TheVariants.{Set as SetSwitch, Reset as ResetSwitch, Invert as InvertSwitch}
 use Rattle.gw_object.specs.declared.parts.Logic.{Logic as LogicOperands}
 use Rattle.gw_object.specs.declared.parts.Save.{Save}
-use Rattle.gw_object.specs.declared.parts.Block.TheVariants.{Generate, Terminate, Advance, Seize, Release, Enter, Leave, Queue, Depart, Assign, Transfer, TransferByFraction, Loop, Logic, Savevalue, Mark}
+use Rattle.gw_object.specs.declared.parts.Block.TheVariants.{Generate, Terminate, Advance, Seize, Release, Enter, Leave, Queue, Depart, Assign, Test, Gate, Transfer, TransferByFraction, Loop, Logic, Savevalue, Mark}
 use Rattle.gw_object.specs.declared.parts.TableKind.{TableKind}
 use Rattle.gw_object.specs.declared.parts.TableKind.TheVariants.{Num}
 use Rattle.gw_object.specs.declared.parts.TableParameter.{TableParameter}
@@ -203,6 +209,59 @@ assign = fitting AssignFits (made
     (λ a. (a.parameter, (a.mode, a.value)))
     (both parameter_number (both mode operand)))
 
+-- the byte that stands for how two values are compared
+abbrev pub comparison_byte : Comparison → ℕ
+comparison_byte Equal = 0
+comparison_byte NotEqual = 1
+comparison_byte Greater = 2
+comparison_byte GreaterOrEqual = 3
+comparison_byte Less = 4
+comparison_byte LessOrEqual = 5
+
+-- how two values may be compared
+abbrev pub comparisons : List Comparison
+comparisons = Equal ∷ NotEqual ∷ Greater ∷ GreaterOrEqual ∷ Less ∷ LessOrEqual ∷ []
+
+-- each operand fits
+pub record TestFits (t : TestOperands) : Type 0 where
+  pub left : OperandFits t.left
+  pub right : OperandFits t.right
+  pub otherwise : IfSome t.otherwise block_number.Fits
+
+-- how they are compared, the two values, and the block for those for whom it is false
+unfoldable pub test_operands : Field TestOperands
+test_operands = fitting TestFits (made
+    (λ (comparison, (left, (right, otherwise))). record { comparison = comparison; left = left; right = right; otherwise = otherwise })
+    (λ t. (t.comparison, (t.left, (t.right, t.otherwise))))
+    (both (one_of comparison_byte comparisons) (both operand (both operand (optional block_number)))))
+
+-- the byte that stands for what is asked of an entity
+abbrev pub condition_byte : Condition → ℕ
+condition_byte SwitchSet = 0
+condition_byte SwitchReset = 1
+condition_byte FacilityInUse = 2
+condition_byte FacilityNotInUse = 3
+condition_byte StorageFull = 4
+condition_byte StorageEmpty = 5
+condition_byte StorageNotFull = 6
+condition_byte StorageNotEmpty = 7
+
+-- what may be asked of an entity
+abbrev pub conditions : List Condition
+conditions = SwitchSet ∷ SwitchReset ∷ FacilityInUse ∷ FacilityNotInUse ∷ StorageFull ∷ StorageEmpty ∷ StorageNotFull ∷ StorageNotEmpty ∷ []
+
+-- each operand fits
+pub record GateFits (g : GateOperands) : Type 0 where
+  pub entity : entity_number.Fits g.entity
+  pub otherwise : IfSome g.otherwise block_number.Fits
+
+-- what is asked, the entity's number, and the block for those for whom it isn't so
+unfoldable pub gate : Field GateOperands
+gate = fitting GateFits (made
+    (λ (condition, (entity, otherwise)). record { condition = condition; entity = entity; otherwise = otherwise })
+    (λ g. (g.condition, (g.entity, g.otherwise)))
+    (both (one_of condition_byte conditions) (both entity_number (optional block_number))))
+
 -- each operand fits
 pub record LoopFits (l : LoopOperands) : Type 0 where
   pub parameter : parameter_number.Fits l.parameter
@@ -254,6 +313,8 @@ BlockFits (Leave u) = UnitsFit u
 BlockFits (Queue u) = UnitsFit u
 BlockFits (Depart u) = UnitsFit u
 BlockFits (Assign a) = AssignFits a
+BlockFits (Test t) = TestFits t
+BlockFits (Gate g) = GateFits g
 BlockFits (Transfer target) = block_number.Fits target
 BlockFits (TransferByFraction f) = FractionFits f
 BlockFits (Loop l) = LoopFits l
@@ -273,6 +334,8 @@ block_spelling (Leave u) = 7 ∷ units.spell u
 block_spelling (Queue u) = 8 ∷ units.spell u
 block_spelling (Depart u) = 9 ∷ units.spell u
 block_spelling (Assign a) = 10 ∷ assign.spell a
+block_spelling (Test t) = 11 ∷ test_operands.spell t
+block_spelling (Gate g) = 12 ∷ gate.spell g
 block_spelling (Transfer target) = 13 ∷ block_number.spell target
 block_spelling (TransferByFraction f) = 14 ∷ fraction.spell f
 block_spelling (Loop l) = 17 ∷ countdown.spell l
@@ -293,6 +356,8 @@ block_forms =
     ∷ behind 8 (λ u. Queue u) units
     ∷ behind 9 (λ u. Depart u) units
     ∷ behind 10 (λ a. Assign a) assign
+    ∷ behind 11 (λ t. Test t) test_operands
+    ∷ behind 12 (λ g. Gate g) gate
     ∷ behind 13 (λ target. Transfer target) block_number
     ∷ behind 14 (λ f. TransferByFraction f) fraction
     ∷ behind 17 (λ l. Loop l) countdown

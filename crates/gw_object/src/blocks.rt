@@ -154,6 +154,14 @@ impl Spelled for Block {
                 out.push(10)?;
                 assign.put(out)?;
             }
+            Block::Test(test) => {
+                out.push(11)?;
+                test.put(out)?;
+            }
+            Block::Gate(gate) => {
+                out.push(12)?;
+                gate.put(out)?;
+            }
             Block::Transfer(target) => {
                 out.push(13)?;
                 target.put(out)?;
@@ -194,6 +202,8 @@ impl Spelled for Block {
             | Block::Queue(units)
             | Block::Depart(units) => { units.room_after(room) }
             Block::Assign(assign) => assign.room_after(room),
+            Block::Test(test) => test.room_after(room),
+            Block::Gate(gate) => gate.room_after(room),
             Block::Transfer(target) => target.room_after(room),
             Block::TransferByFraction(fraction) => fraction.room_after(room),
             Block::Loop(counted) => counted.room_after(room),
@@ -247,6 +257,14 @@ impl Spelled for Block {
                 let (assign, rest) = Assign::read(alloc, rest)?;
                 Ok((Block::Assign(assign), rest))
             }
+            11 => {
+                let (test, rest) = Test::read(alloc, rest)?;
+                Ok((Block::Test(test), rest))
+            }
+            12 => {
+                let (gate, rest) = Gate::read(alloc, rest)?;
+                Ok((Block::Gate(gate), rest))
+            }
             13 => {
                 let (target, rest) = u16::read(alloc, rest)?;
                 Ok((Block::Transfer(target), rest))
@@ -292,6 +310,7 @@ fn block_fits(block: Block) -> bool
         Block::Terminate(decrement) => operand_fits(decrement),
         Block::Advance(time) => spread_fits(time),
         Block::Assign(assign) => is_parameter(assign.parameter) && operand_fits(assign.value),
+        Block::Test(test) => operand_fits(test.left) && operand_fits(test.right),
         Block::Loop(counted) => is_parameter(counted.parameter),
         Block::Savevalue(save) => operand_fits(save.value),
         Block::Mark(parameter) => parameter.is_none_or(is_parameter),

@@ -4,6 +4,7 @@
 mod blocks;
 mod changes;
 pub mod codes;
+mod conditions;
 mod entities;
 mod fault;
 mod items;
@@ -26,9 +27,9 @@ pub use limits::{
 };
 pub use object::Object;
 pub use parts::{
-    Assign, Attribute, Block, Entity, EntityAttribute, Fraction, Generate, Kind, Logic, Loop, Mode,
-    Numbered, Operand, Parts, Save, Spread, SwitchAction, TableKind, TableParameter, TableState,
-    Units,
+    Assign, Attribute, Block, Comparison, Condition, Entity, EntityAttribute, Fraction, Gate,
+    Generate, Kind, Logic, Loop, Mode, Numbered, Operand, Parts, Save, Spread, SwitchAction,
+    TableKind, TableParameter, TableState, Test, Units,
 };
 pub use reading::read;
 pub use std::alloc::AllocError as Memory;

@@ -153,6 +153,68 @@ pub struct Assign {
     pub value: Operand,
 }
 
+/// How two values are compared.
+#[derive(Clone, Copy, Debug, PartialEq, Eq)]
+pub enum Comparison {
+    /// E: they are equal.
+    Equal,
+    /// NE: they differ.
+    NotEqual,
+    /// G: the first is greater.
+    Greater,
+    /// GE: the first is greater, or they are equal.
+    GreaterOrEqual,
+    /// L: the first is less.
+    Less,
+    /// LE: the first is less, or they are equal.
+    LessOrEqual,
+}
+
+/// The operands of a TEST block.
+#[derive(Clone, Copy, Debug, PartialEq, Eq)]
+pub struct Test {
+    /// How the values are compared.
+    pub comparison: Comparison,
+    /// The first value.
+    pub left: Operand,
+    /// The second value.
+    pub right: Operand,
+    /// The number of the block, from 1, to which those go for whom it is false; without it they wait until it is true.
+    pub otherwise: Option<u16>,
+}
+
+/// What a GATE block asks of its entity.
+#[derive(Clone, Copy, Debug, PartialEq, Eq)]
+pub enum Condition {
+    /// LS: the logic switch is set.
+    SwitchSet,
+    /// LR: the logic switch is reset.
+    SwitchReset,
+    /// U: the facility is in use.
+    FacilityInUse,
+    /// NU: the facility isn't in use.
+    FacilityNotInUse,
+    /// SF: the storage is full.
+    StorageFull,
+    /// SE: the storage is empty.
+    StorageEmpty,
+    /// SNF: the storage isn't full.
+    StorageNotFull,
+    /// SNE: the storage isn't empty.
+    StorageNotEmpty,
+}
+
+/// The operands of a GATE block.
+#[derive(Clone, Copy, Debug, PartialEq, Eq)]
+pub struct Gate {
+    /// What it asks.
+    pub condition: Condition,
+    /// The entity's number, from 0.
+    pub entity: u16,
+    /// The number of the block, from 1, to which those go for whom it isn't so; without it they wait until it is.
+    pub otherwise: Option<u16>,
+}
+
 /// The operands of a LOOP block.
 #[derive(Clone, Copy, Debug, PartialEq, Eq)]
 pub struct Loop {
@@ -216,6 +278,10 @@ pub enum Block {
     Depart(Units),
     /// Transactions put a value into a parameter of theirs.
     Assign(Assign),
+    /// Transactions go on where a comparison of two values is true.
+    Test(Test),
+    /// Transactions go on where an entity is as it is asked to be.
+    Gate(Gate),
     /// Transactions go to a block, which is given by its number from 1: TRANSFER in unconditional mode.
     Transfer(u16),
     /// A part of the transactions goes to one block, the others to another: TRANSFER in fractional mode.

@@ -4,7 +4,7 @@ use Rattle.std.specs.Fmt.{decimal, signed_decimal}
 use Rattle.std.specs.Int.{from_bool}
 use Rattle.std.specs.Option.{unwrap_or}
 use Rattle.gw_object.specs.declared.parts.Block.{Block}
-use Rattle.gw_object.specs.declared.parts.Block.TheVariants.{Generate, Terminate, Advance, Seize, Release, Enter, Leave, Queue, Depart, Assign, Transfer, TransferByFraction, Loop, Logic, Savevalue, Mark}
+use Rattle.gw_object.specs.declared.parts.Block.TheVariants.{Generate, Terminate, Advance, Seize, Release, Enter, Leave, Queue, Depart, Assign, Test, Gate, Transfer, TransferByFraction, Loop, Logic, Savevalue, Mark}
 use Rattle.gw_object.specs.declared.parts.Entity.{Entity}
 use Rattle.gw_object.specs.declared.parts.Kind.{Kind}
 use Rattle.gw_object.specs.declared.parts.Kind.TheVariants as kinds
@@ -50,6 +50,8 @@ block_word (Leave units) = codes "LEAVE"
 block_word (Queue units) = codes "QUEUE"
 block_word (Depart units) = codes "DEPART"
 block_word (Assign a) = codes "ASSIGN"
+block_word (Test t) = codes "TEST"
+block_word (Gate g) = codes "GATE"
 block_word (Transfer target) = codes "TRANSFER"
 block_word (TransferByFraction fraction) = codes "TRANSFER"
 block_word (Loop l) = codes "LOOP"

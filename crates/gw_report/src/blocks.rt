@@ -22,6 +22,8 @@ fn block_word(block: &Block) -> &'static str
         Block::Queue(_) => "QUEUE",
         Block::Depart(_) => "DEPART",
         Block::Assign(_) => "ASSIGN",
+        Block::Test(_) => "TEST",
+        Block::Gate(_) => "GATE",
         Block::Transfer(_) | Block::TransferByFraction(_) => "TRANSFER",
         Block::Loop(_) => "LOOP",
         Block::Logic(_) => "LOGIC",

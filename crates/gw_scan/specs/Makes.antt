@@ -1,5 +1,5 @@
 -- What a call of the machine made.
-use Rattle.std.specs.Prelude.{[], ◌≡◌, ℕ, ◌+◌, ◌≤◌, remove, List, Option, Some, None, Result, Ok, Err, Bool, true, false}
+use Rattle.std.specs.Prelude.{[], ◌≡◌, ℕ, ◌+◌, ◌≤◌, remove, List, Option, Some, None, Result, Ok, Err, Bool, true, false, not, ◌&&◌, is_none, if◌then◌else◌}
 use Rattle.gw_object.specs.declared.parts.Block.{Block}
 use Rattle.gw_entities.specs.declared.stop.Stop.{Stop}
 use Rattle.gw_num.specs.Table.{at}
@@ -9,8 +9,11 @@ use Rattle.gw_scan.specs.declared.machine.Made.{Made}
 use Rattle.gw_scan.specs.declared.machine.Made.TheVariants.{Step, Ends, Stops}
 use Rattle.gw_step.specs.Outcome.{Outcome, Gives, EndsBy, StopsBy, stop_in}
 use Rattle.gw_step.specs.declared.placement.Placement.{Placement}
+use Rattle.gw_step.specs.declared.placement.Placement.TheVariants.{JoinsRetryList}
+use Rattle.gw_step.specs.Placing.{placed}
+use Rattle.gw_transactions.specs.declared.Transaction.{Transaction}
 use Rattle.gw_step.specs.State.{State}
-use Rattle.gw_step.specs.Blocks.{then_placed}
+use Rattle.gw_step.specs.Blocks.{led_by, transfer, then_placed}
 use Rattle.gw_step.specs.Step.{step, scan}
 use Rattle.gw_scan.specs.View.{state_of}
 use Rattle.gw_scan.specs.Evaluating.{halted}
@@ -28,6 +31,11 @@ MakesFrom made outcome old new = Makes made (outcome (state_of old)) (state_of o
 -- and for a block of this effect on the active transaction n, which enters it and is placed
 abbrev pub Enters : Made → ℕ → (State → Outcome (State × Placement)) → Machine → Machine → Type 0
 Enters made n effect old new = MakesFrom made (λ s. then_placed n (effect s)) old new
+
+-- the active transaction n, which is t, goes to the next block of a TEST or a GATE where it is so, else to the other one; without another one it waits on the retry list
+abbrev pub passes_or_retries : List Block → ℕ → Transaction → Option ℕ → Bool → State → Outcome State
+passes_or_retries bs n t otherwise so s =
+    if is_none otherwise && not so then Gives (placed n JoinsRetryList s) else then_placed n (transfer bs n t (led_by t.next otherwise so) s)
 
 -- a step of a running state was made; or there is none, for the error stop that is answered, and nothing changed
 abbrev pub MakesStep : Option Stop → List Block → ℕ → State → State → Type 0

@@ -494,6 +494,8 @@ impl Machine {
             Block::Leave(units) => self.leave(blocks, tx, transaction, units),
             Block::Queue(units) => Ok(self.join_queue(blocks, tx, transaction, units)),
             Block::Depart(units) => Ok(self.depart(blocks, tx, transaction, units)),
+            Block::Test(test) => self.test(blocks, tx, transaction, test),
+            Block::Gate(gate) => self.gate(blocks, tx, transaction, gate),
             Block::Transfer(target) => Ok(self.transfer(blocks, tx, transaction, target)),
             Block::Assign(assign) => self.assign_parameter(blocks, tx, transaction, assign),
             Block::Loop(l) => self.loop_back(blocks, tx, transaction, l),

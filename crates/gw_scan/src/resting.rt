@@ -41,6 +41,18 @@ impl Machine {
         self.waits.reserve_wait(entity, 1)
     }
 
+    /// Makes room for one more on the retry list.
+    pub fn reserve_retry(&mut self) -> Result<(), Memory>
+        requires linked { Linked self.old }
+        ensures state { state_of self.new ≡ state_of self.old }
+        ensures linked { Linked self.new }
+        ensures retry { self.new.waits.retry ≡ self.old.waits.retry }
+        ensures room { OnOk result (0 < self.new.waits.retry_room) }
+        ensures frame { self.new ≡ record self.old { waits = self.new.waits } }
+    {
+        self.waits.reserve_retry(1)
+    }
+
     // WAKING
 
     /// The retry list is woken: all of it joins the current events chain, in its order, each behind its peers.

@@ -26,7 +26,7 @@ use Rattle.gw_step.specs.State.{FutureEvent, State, may_enter, with_streams, del
 use Rattle.gw_step.specs.Times.{environment_of, environment_of_next, moment_after, drawn_moment}
 use Rattle.gw_step.specs.Changes.{entered, enters_and_falls, assigned, arrives, woken, facility, storage, queue, switch, savevalue, put_facility, put_storage, put_queue, put_switch, put_savevalue, end_at}
 use Rattle.gw_step.specs.Placing.{woken_if_stirred, placed}
-use Rattle.gw_step.specs.Blocks.{refuses, refusal, is_owed, next_arrival, chosen, put_by, looped, turned, the_value, effect, then_placed, meets, act}
+use Rattle.gw_step.specs.Blocks.{refuses, refusal, is_owed, next_arrival, chosen, passes_test, is_so, led_by, put_by, looped, turned, the_value, effect, then_placed, meets, act}
 use Rattle.gw_step.specs.Step.{next_event, next_active, scan}
 use Rattle.gw_step.proofs.Outcomes.{OnGives, on_bind, on_test, on_if, on_both, choose}
 use Rattle.gw_step.proofs.Follows.{Stays, stays-same, stays-hand_over, stays-admission}
@@ -111,6 +111,12 @@ module _ (s : State) where
   effect_counted bs n t (blocks.Assign a) values =
       on_bind Entered (evaluated (answered (put_by a.mode (unwrap_or (parameter_at n a.parameter s.transactions) (pos 0)) (the_value values)))) _
       (λ new _. on_test Entered (may_enter (block_at bs (t.next + 1))) NoBlock _ (passed (enters_and_falls n t (assigned n a.parameter new s)) refl refl refl))
+  effect_counted bs n t (blocks.Test test) values =
+      let to = led_by t.next test.otherwise (passes_test test values) in
+      on_test Entered (may_enter (block_at bs to)) NoBlock _ (passed (entered n t to s) refl refl refl)
+  effect_counted bs n t (blocks.Gate gate) values =
+      let to = led_by t.next gate.otherwise (is_so gate.condition gate.entity s) in
+      on_test Entered (may_enter (block_at bs to)) NoBlock _ (passed (entered n t to s) refl refl refl)
   effect_counted bs n t (blocks.Transfer target) values = on_test Entered (may_enter (block_at bs target)) NoBlock _ (passed (entered n t target s) refl refl refl)
   effect_counted bs n t (blocks.TransferByFraction f) values =
       on_test Entered (may_enter (block_at bs (chosen t.next f (the_value values)))) NoBlock _ (passed (entered n t (chosen t.next f (the_value values)) s) refl refl refl)

@@ -80,6 +80,12 @@ Read streams read = KeepStreams streams read.1
 safe_value : (env : Environment) (o : Operand) (streams : List ℕ) → AreRead env (o ∷ []) → Safe (Read streams) (evaluated (operand_value env o streams >>= λ value. Value (alone value)))
 safe_value env o streams set = of_operand (Read streams) env o streams (λ value. Value (alone value)) (All-head (IsRead env) o [] set) (λ d keeps. keeps)
 
+-- of two values
+safe_values : (env : Environment) (left right : Operand) (streams : List ℕ) → AreRead env (left ∷ right ∷ []) → Safe (Read streams) (evaluated (operand_value env left streams >>= λ l. operand_value env right l.1 >>= λ r. Value (l.0 ∷ r.0 ∷ [], r.1)))
+safe_values env left right streams set =
+    of_operand (Read streams) env left streams _ (All-head (IsRead env) left (right ∷ []) set)
+    (λ l before. of_operand (Read streams) env right l.1 _ (All-head (IsRead env) right [] (All-tail (IsRead env) left (right ∷ []) set)) (λ r after is. after (before is)))
+
 pub safe_operands : (env : Environment) (block : Block) (streams : List ℕ) → AreRead env (values block) → Safe (Read streams) (evaluated (operand_values env block streams))
 safe_operands env (blocks.Generate g) streams set = λ is. is
 safe_operands env (blocks.Terminate by) streams set = safe_value env by streams set
@@ -91,6 +97,8 @@ safe_operands env (blocks.Leave u) streams set = λ is. is
 safe_operands env (blocks.Queue u) streams set = λ is. is
 safe_operands env (blocks.Depart u) streams set = λ is. is
 safe_operands env (blocks.Assign a) streams set = safe_value env a.value streams set
+safe_operands env (blocks.Test test) streams set = safe_values env test.left test.right streams set
+safe_operands env (blocks.Gate gate) streams set = λ is. is
 safe_operands env (blocks.Transfer target) streams set = λ is. is
 safe_operands env (blocks.TransferByFraction f) streams set = with_stream_keeps 1 streams (generator.next_after (first_stream streams))
 safe_operands env (blocks.Loop l) streams set = λ is. is

@@ -1,6 +1,6 @@
 -- What each block does to a well-typed state is a list of elementary changes, and never an error stop.
 use Rattle.std.proofs.Common.{◌≡◌, ℕ, suc, ◌+◌, ◌-◌, ◌≤◌, ℤ, pos, ◌≤ℤ◌, List, [], ◌∷◌, length, Option, Some, None, Result, Ok, Err, Bool, true, false, not, if◌then◌else◌, ◌==◌, ◌||◌, is_some, option_map, IsSome, ◌⊎◌, inl, inr, refl, sym, ap, ◌∙◌, subst, arith}
-use Rattle.std.specs.Prelude.{int_lt, nat_le, unwrap_or, Contains}
+use Rattle.std.specs.Prelude.{int_lt, nat_le, unwrap_or, is_none, ◌&&◌, All, Contains}
 use Rattle.std.specs.Option.{option_map_or, option_flatten}
 use Rattle.std.specs.List.{list_any}
 use Rattle.std.proofs.lemmas.Bool.{cases_eq, leb-true, le-leb, false≢true}
@@ -11,6 +11,8 @@ use Rattle.gw_object.specs.declared.parts.Fraction.{Fraction}
 use Rattle.gw_object.specs.declared.parts.Assign.{Assign}
 use Rattle.gw_object.specs.declared.parts.Loop.{Loop}
 use Rattle.gw_object.specs.declared.parts.Logic.{Logic}
+use Rattle.gw_object.specs.declared.parts.Test.{Test}
+use Rattle.gw_object.specs.declared.parts.Gate.{Gate}
 use Rattle.gw_object.specs.declared.parts.Save.{Save}
 use Rattle.gw_object.specs.declared.parts.Kind.{Kind}
 use Rattle.gw_object.specs.declared.parts.Kind.TheVariants as kinds
@@ -19,7 +21,8 @@ use Rattle.gw_object.specs.declared.parts.Block.TheVariants as blocks
 use Rattle.gw_object.specs.declared.parts.Parts.{Parts}
 use Rattle.gw_kinds.specs.declared.entities.EntityKind.TheVariants as needed
 use Rattle.gw_kinds.specs.declared.ways.Way.TheVariants.{Goes}
-use Rattle.gw_kinds.specs.Exits.{leads_to, at_once, goes_or_falls}
+use Rattle.gw_kinds.specs.declared.ways.Exit.{Exit}
+use Rattle.gw_kinds.specs.Exits.{leads_to, at_once, goes_or_falls, falls_or_goes, exits}
 use Rattle.gw_kinds.specs.Kinds.{kind_at, block_at, needs}
 use Rattle.gw_kinds.specs.Laws.{MayBeEntered, BlockHolds}
 use Rattle.gw_flow.specs.Codes as codes
@@ -27,7 +30,7 @@ use Rattle.gw_flow.specs.Rows.{Row, kind_of, owns, units_of, with_parameter, wit
 use Rattle.gw_flow.specs.Values.{answered}
 use Rattle.gw_flow.proofs.Parameters.{loop_is_number, kind_of_other}
 use Rattle.gw_num.specs.Arithmetic.{difference_of}
-use Rattle.gw_flow.specs.Blocks.{capacity_at, move, edges}
+use Rattle.gw_flow.specs.Blocks.{capacity_at, move, edges, edges_along, after}
 use Rattle.gw_flow.specs.Flow.{own_table}
 use Rattle.gw_flow.specs.Laws.{FlowHolds}
 use Rattle.gw_num.specs.Table.{at, put}
@@ -43,13 +46,13 @@ use Rattle.gw_entities.specs.Facility.{idle, seized, seizing, released, releasin
 use Rattle.gw_entities.specs.Storage as storages
 use Rattle.gw_entities.specs.Queue.{joined, departed, departing}
 use Rattle.gw_step.specs.declared.placement.Placement.{Placement}
-use Rattle.gw_step.specs.declared.placement.Placement.TheVariants.{StaysActive, RestsUntil, JoinsDelayList}
+use Rattle.gw_step.specs.declared.placement.Placement.TheVariants.{StaysActive, RestsUntil, JoinsDelayList, JoinsRetryList}
 use Rattle.gw_step.specs.Outcome.{Gives, ◌>>=◌, granted, evaluated}
 use Rattle.gw_step.specs.State.{State, delay_list}
 use Rattle.gw_step.specs.Times.{moment_after, parameters_of}
 use Rattle.gw_step.specs.Changes.{entered, assigned, enters_and_falls, facility, storage, queue, switch, savevalue, put_facility, put_storage, put_queue, put_switch, put_savevalue}
 use Rattle.gw_step.specs.Placing.{placed}
-use Rattle.gw_step.specs.Blocks.{has_to_wait, leads, stays, until, advance, hand_over, release, admission, leave, join_queue, depart, transfer, chosen, put_by, assign, loop, mark, turned, logic, save, terminate, effect, then_placed, meets}
+use Rattle.gw_step.specs.Blocks.{has_to_wait, leads, stays, until, advance, hand_over, release, admission, leave, join_queue, depart, transfer, chosen, passes_test, is_so, led_by, put_by, assign, loop, mark, turned, logic, save, terminate, effect, then_placed, meets}
 use Rattle.gw_step.proofs.Outcomes.{choose}
 use Rattle.gw_step.proofs.Residence.{at-le-sum}
 use Rattle.gw_step.proofs.Owning.{idle-released}
@@ -249,6 +252,38 @@ module _ (p : Parts) (each_block : (b : ℕ) (block : Block) → block_at p.bloc
       (λ other.
       subst (λ to. Safe (Enters p k s n) (transfer p.blocks n t to s)) (led_to t.next f.otherwise)
       (goes_to (blocks.TransferByFraction f) row acts others (at_first _ (move f.target row ∷ [])) (first_may_be_entered p t.next _ (at_once (Goes f.target) ∷ []) acts.kinds.exits)))
+
+  -- CONDITIONS
+
+  -- where it is not refused it goes to the next block, or to the other one that its block names
+  led : (block : Block) (row : Row) → Acts p s n t block row → after block row ≡ row → (otherwise : Option ℕ) → exits block ≡ falls_or_goes otherwise → (so : Bool) → (is_none otherwise && not so) ≡ false → Safe (Enters p k s n) (transfer p.blocks n t (led_by t.next otherwise so) s)
+  led block row acts same otherwise is so passes = by_case otherwise so is passes
+    where
+      along : (es : List Exit) (to : ℕ) → exits block ≡ es → Contains (edges_along t.next es row) (move to row) → Contains (edges p (own_table p) t.next block row) (move to row)
+      along es to is there = subst (λ r. Contains (edges_along t.next (exits block) r) (move to row)) (sym same) (subst (λ xs. Contains (edges_along t.next xs row) (move to row)) (sym is) there)
+
+      exits_hold : (es : List Exit) → exits block ≡ es → All (λ (exit : Exit). MayBeEntered p (leads_to t.next exit.way)) es
+      exits_hold es is = subst (All (λ (exit : Exit). MayBeEntered p (leads_to t.next exit.way))) is acts.kinds.exits
+
+      by_case : (o : Option ℕ) (b : Bool) → exits block ≡ falls_or_goes o → (is_none o && not b) ≡ false → Safe (Enters p k s n) (transfer p.blocks n t (led_by t.next o b) s)
+      by_case None true is passes = goes_to block row acts (t.next + 1) (along _ (t.next + 1) is (at_first _ [])) (first_may_be_entered p t.next _ [] (exits_hold _ is))
+      by_case None false is passes = absurd (false≢true (sym passes))
+      by_case (Some c) true is passes = goes_to block row acts (t.next + 1) (along _ (t.next + 1) is (at_first _ (move c row ∷ []))) (first_may_be_entered p t.next _ (at_once (Goes c) ∷ []) (exits_hold _ is))
+      by_case (Some c) false is passes = goes_to block row acts c (along _ c is (at_second (move (t.next + 1) row) _ [])) (second_may_be_entered p t.next _ _ [] (exits_hold _ is))
+
+  pub safe_comparison : (test : Test) (values : List ℤ) (row : Row) → Acts p s n t (blocks.Test test) row → Safe (Reaches p k s) (meets p.blocks n t (blocks.Test test) values s)
+  unfolding effect
+  safe_comparison test values row acts =
+      safe_if (Reaches p k s) (is_none test.otherwise && not (passes_test test values)) _ _
+      (λ false. refused p k s n JoinsRetryList acts.active (omega arith))
+      (λ passes. safe_placed p k s n _ (led (blocks.Test test) row acts refl test.otherwise refl (passes_test test values) passes))
+
+  pub safe_gate : (gate : Gate) (values : List ℤ) (row : Row) → Acts p s n t (blocks.Gate gate) row → Safe (Reaches p k s) (meets p.blocks n t (blocks.Gate gate) values s)
+  unfolding effect
+  safe_gate gate values row acts =
+      safe_if (Reaches p k s) (is_none gate.otherwise && not (is_so gate.condition gate.entity s)) _ _
+      (λ false. refused p k s n JoinsRetryList acts.active (omega arith))
+      (λ passes. safe_placed p k s n _ (led (blocks.Gate gate) row acts refl gate.otherwise refl (is_so gate.condition gate.entity s) passes))
 
   -- PARAMETERS
 

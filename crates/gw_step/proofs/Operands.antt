@@ -18,7 +18,7 @@ use Rattle.gw_object.specs.Grammar.{HasSpelling}
 use Rattle.gw_kinds.specs.declared.entities.EntityKind.{EntityKind}
 use Rattle.gw_kinds.specs.declared.entities.EntityKind.TheVariants.{Facility, Storage, Queue, Switch, Savevalue}
 use Rattle.gw_kinds.specs.declared.entities.Named.{Named}
-use Rattle.gw_kinds.specs.Kinds.{block_at, is_none_or, needs, needed_for, entity_of, are_units}
+use Rattle.gw_kinds.specs.Kinds.{block_at, is_none_or, needs, needed_for, needed_by, entity_of, are_units}
 use Rattle.gw_kinds.specs.Laws.{IsEntity, BlockHolds}
 use Rattle.gw_kinds.proofs.KindsHold.{kinds_pass_at_each_place}
 use Rattle.gw_verify.specs.Checks.{Checked}
@@ -70,6 +70,10 @@ operands_fit p b (blocks.Leave u) h spelled = good_units p Storage u h.entities 
 operands_fit p b (blocks.Queue u) h spelled = good_units p Queue u h.entities h.constants
 operands_fit p b (blocks.Depart u) h spelled = good_units p Queue u h.entities h.constants
 operands_fit p b (blocks.Assign a) h spelled = record { parameter = spelled.parameter; value = (value_fits p.entities a.value [] h.entities spelled.value).0 }
+operands_fit p b (blocks.Test test) h spelled =
+    let left = value_fits p.entities test.left (cons_option (entity_of test.right) []) h.entities spelled.left in
+    record { left = left.0; right = (value_fits p.entities test.right [] left.1 spelled.right).0 }
+operands_fit p b (blocks.Gate gate) h spelled = named_below p.entities (needs (needed_by gate.condition) gate.entity) [] h.entities
 operands_fit p b (blocks.Transfer target) h spelled = tt
 operands_fit p b (blocks.TransferByFraction f) h spelled = tt
 operands_fit p b (blocks.Loop l) h spelled = spelled.parameter

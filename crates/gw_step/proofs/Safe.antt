@@ -30,15 +30,15 @@ use Rattle.gw_step.specs.Residence.{occurrences, active_numbers}
 use Rattle.gw_step.specs.Job.{Job, Step, then_step, after, start_of}
 use Rattle.gw_step.proofs.Outcomes.{choose}
 use Rattle.gw_step.proofs.Rests.{all_come_to_rest}
-use Rattle.gw_step.proofs.Residence.{one_if, same_number}
+use Rattle.gw_step.proofs.Residence.{one_if, at_most_one, same_number}
 use Rattle.gw_step.specs.Typing.{IsPlaced, WellTyped, AreWithinCapacity}
-use Rattle.gw_step.specs.Safety.{StartIsWellTyped, StepsKeepTypes, WellTypedStatesStep, ReachedStatesAreWellTyped, NoJobIsStuck, AllJobsEnd, StoragesKeepTheirCapacity}
+use Rattle.gw_step.specs.Safety.{RetryingResideOnce, StartIsWellTyped, StepsKeepTypes, WellTypedStatesStep, ReachedStatesAreWellTyped, NoJobIsStuck, AllJobsEnd, StoragesKeepTheirCapacity}
 use Rattle.gw_step.proofs.Traces.{its_parameters, Activates, ClockMoves, Woken, Draws, Marks, Change, Trace, Done, Then, trace_on, trace-keeps, trace-fills}
 use Rattle.gw_step.proofs.Unstopped.{Safe, safe_bind, safe_then, safe_found}
 use Rattle.gw_step.proofs.Drawn.{Read, AreRead, safe_operands}
 use Rattle.gw_step.proofs.Moving.{Acts, Reaches, safe_placed}
 use Rattle.gw_step.proofs.Calling.{some_of, is_at}
-use Rattle.gw_step.proofs.Effects.{safe_advance, safe_seize, safe_release, safe_enter, safe_leave, safe_join, safe_depart, safe_assign, safe_transfer, safe_fraction, safe_loop, safe_logic, safe_save, safe_mark, safe_terminate}
+use Rattle.gw_step.proofs.Effects.{safe_comparison, safe_gate, safe_advance, safe_seize, safe_release, safe_enter, safe_leave, safe_join, safe_depart, safe_assign, safe_transfer, safe_fraction, safe_loop, safe_logic, safe_save, safe_mark, safe_terminate}
 use Rattle.gw_step.proofs.Arriving.{safe_generate, start_typed}
 use Rattle.gw_step.proofs.Attributes.{attributes_of}
 
@@ -61,6 +61,8 @@ module _ (p : Parts) (each_block : (b : ℕ) (block : Block) → block_at p.bloc
   safe_meets s n t (blocks.Leave u) values row acts = safe_placed p k s n _ (safe_leave p each_block flow s n t k u row acts)
   safe_meets s n t (blocks.Queue u) values row acts = safe_placed p k s n _ (safe_join p each_block flow s n t k u row acts)
   safe_meets s n t (blocks.Depart u) values row acts = safe_placed p k s n _ (safe_depart p each_block flow s n t k u row acts)
+  safe_meets s n t (blocks.Test test) values row acts = safe_comparison p each_block flow s n t k test values row acts
+  safe_meets s n t (blocks.Gate gate) values row acts = safe_gate p each_block flow s n t k gate values row acts
   safe_meets s n t (blocks.Assign a) values row acts = safe_placed p k s n _ (safe_assign p each_block flow s n t k a (the_value values) row acts)
   safe_meets s n t (blocks.Transfer target) values row acts = safe_placed p k s n _ (safe_transfer p each_block flow s n t k target row acts)
   safe_meets s n t (blocks.TransferByFraction f) values row acts = safe_placed p k s n _ (safe_fraction p each_block flow s n t k f (the_value values) row acts)
@@ -202,6 +204,12 @@ reached_states_are_well_typed j n s checked alone = (reached j checked n s alone
 
 pub storages_keep_their_capacity : StoragesKeepTheirCapacity
 storages_keep_their_capacity j n s checked alone = (reached j checked n s alone).within
+
+pub retrying_reside_once : RetryingResideOnce
+retrying_reside_once j n s checked alone m waits =
+    let once = (reached_states_are_well_typed j n s checked alone).resides m in
+    let most = at_most_one (is_some (at None s.transactions m)) in
+    (omega (arith, once, most, waits), omega (arith, once, most, waits))
 
 pub no_job_is_stuck : NoJobIsStuck
 no_job_is_stuck j n s checked alone stuck =

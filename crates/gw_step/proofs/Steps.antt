@@ -3,11 +3,12 @@ use Rattle.std.proofs.Common.{◌≡◌, ◌≢◌, ℕ, ◌+◌, List, Option, 
 use Rattle.std.proofs.lemmas.Bool.{eqb-true, eqb-false}
 use Rattle.gw_object.specs.declared.parts.Block.{Block}
 use Rattle.gw_step.specs.declared.ends.End.{End}
-use Rattle.gw_step.specs.declared.ends.End.TheVariants.{Budget}
+use Rattle.gw_step.specs.declared.ends.End.TheVariants.{NoMoreEvents, Budget}
 use Rattle.gw_entities.specs.declared.stop.Stop.{Stop}
 use Rattle.gw_step.specs.Outcome.{Gives, EndsBy, StopsBy, stop_in}
 use Rattle.gw_step.specs.State.{State}
-use Rattle.gw_step.specs.Step.{scan, step, stepped, within_budget}
+use Rattle.gw_step.specs.Step.{next_event, next_active, scan, step, stepped, within_budget}
+use Rattle.gw_step.specs.Laws.{WaitersAloneEnd}
 
 module _ (bs : List Block) (budget : ℕ) (s : State) (runs : s.ended ≡ None) where
   pub step-scan : step bs budget s ≡ stepped budget s (scan bs s.lists.active s)
@@ -40,3 +41,9 @@ counts_more budget s u = by_budget (λ (v : State). v.steps ≡ s.steps + 1) bud
 
 pub some_is : {A : Type 0} (a b : A) → Some a ≡ Some b → a ≡ b
 some_is a b h = cc
+
+-- where nobody is active and nothing is to come, nothing is left to do
+pub waiters_alone_end : WaitersAloneEnd
+waiters_alone_end j s runs nobody current future =
+    step-ends j.parts.blocks j.budget s runs NoMoreEvents
+    (ap (λ a. scan j.parts.blocks a s) nobody ∙ ap (λ ns. next_active ns s) current ∙ ap (λ es. next_event es s) future)

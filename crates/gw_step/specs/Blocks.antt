@@ -1,9 +1,15 @@
 -- What each block does to the active transaction: whether it refuses it, and what entering comes to.
-use Rattle.std.specs.Prelude.{ℕ, ◌+◌, ℤ, pos, List, [], ◌∷◌, Option, Some, None, Result, Ok, Err, Bool, true, false, not, nat_lt, nat_le, ◌==◌, if◌then◌else◌, int_lt, unwrap_or}
+use Rattle.std.specs.Prelude.{ℕ, ◌+◌, ℤ, pos, List, [], ◌∷◌, Option, Some, None, Result, Ok, Err, Bool, true, false, not, nat_lt, nat_le, ◌==◌, if◌then◌else◌, int_lt, int_le, unwrap_or, is_none, ◌&&◌}
+use Rattle.std.specs.Ordering.{int_eq}
 use Rattle.std.specs.Option.{option_map_or}
 use Rattle.gw_object.specs.declared.parts.Generate.{Generate}
 use Rattle.gw_object.specs.declared.parts.Units.{Units}
 use Rattle.gw_object.specs.declared.parts.Fraction.{Fraction}
+use Rattle.gw_object.specs.declared.parts.Comparison.{Comparison}
+use Rattle.gw_object.specs.declared.parts.Comparison.TheVariants.{Equal, NotEqual, Greater, GreaterOrEqual, Less, LessOrEqual}
+use Rattle.gw_object.specs.declared.parts.Test.{Test}
+use Rattle.gw_object.specs.declared.parts.Condition.{Condition}
+use Rattle.gw_object.specs.declared.parts.Condition.TheVariants.{SwitchSet, SwitchReset, FacilityInUse, FacilityNotInUse, StorageFull, StorageEmpty, StorageNotFull, StorageNotEmpty}
 use Rattle.gw_object.specs.declared.parts.Mode.{Mode}
 use Rattle.gw_object.specs.declared.parts.Mode.TheVariants.{Set, Add, Subtract}
 use Rattle.gw_object.specs.declared.parts.Assign.{Assign}
@@ -24,7 +30,7 @@ use Rattle.gw_transactions.specs.Transactions.{attributes_at, parameter_at, live
 use Rattle.gw_entities.specs.declared.storages.Storage.{Storage}
 use Rattle.gw_entities.specs.declared.stop.Stop.{Stop}
 use Rattle.gw_entities.specs.declared.stop.Stop.TheVariants.{NoBlock, OwnsAtEnd, UnsetParam}
-use Rattle.gw_entities.specs.Facility.{seized, seizing, releasing, owns_any}
+use Rattle.gw_entities.specs.Facility.{is_idle, seized, seizing, releasing, owns_any}
 use Rattle.gw_entities.specs.Storage.{has_room, entered as with_units_entered, entering, leaving}
 use Rattle.gw_entities.specs.Queue.{joined, departing}
 use Rattle.gw_step.specs.declared.ends.End.TheVariants.{Number, Live}
@@ -44,10 +50,45 @@ has_to_wait (Ok (true, a)) = false
 has_to_wait (Ok (false, a)) = true
 has_to_wait (Err stop) = false
 
--- a block with these operand values refuses the transaction n: a SEIZE of a facility that another owns, an ENTER of units that are within the capacity and not free
+-- whether two values compare so
+abbrev pub compares : Comparison → ℤ → ℤ → Bool
+compares Equal a b = int_eq a b
+compares NotEqual a b = not (int_eq a b)
+compares Greater a b = int_lt b a
+compares GreaterOrEqual a b = int_le b a
+compares Less a b = int_lt a b
+compares LessOrEqual a b = int_le a b
+
+-- whether the values of a TEST compare as it asks
+abbrev pub passes_test : Test → List ℤ → Bool
+passes_test test (left ∷ right ∷ values) = compares test.comparison left right
+passes_test test values = false
+
+-- no unit of a storage is free
+abbrev pub is_full : Storage → Bool
+is_full s = nat_le s.capacity s.contents.content
+
+-- nothing is inside of a storage
+abbrev pub is_empty : Storage → Bool
+is_empty s = s.contents.content == 0
+
+-- whether it is so with the entity of a number
+abbrev pub is_so : Condition → ℕ → State → Bool
+is_so SwitchSet e s = switch e s
+is_so SwitchReset e s = not (switch e s)
+is_so FacilityInUse e s = not (is_idle (facility e s))
+is_so FacilityNotInUse e s = is_idle (facility e s)
+is_so StorageFull e s = is_full (storage e s)
+is_so StorageEmpty e s = is_empty (storage e s)
+is_so StorageNotFull e s = not (is_full (storage e s))
+is_so StorageNotEmpty e s = not (is_empty (storage e s))
+
+-- a block with these operand values refuses the transaction n: a SEIZE of a facility that another owns, an ENTER of units that are within the capacity and not free, and a TEST or a GATE that is false and names no other block
 abbrev pub refuses : ℕ → Block → List ℤ → State → Bool
 refuses n (blocks.Seize f) values s = has_to_wait (seizing n (facility f s))
 refuses n (blocks.Enter u) values s = has_to_wait (entering u.number (storage u.entity s))
+refuses n (blocks.Test test) values s = is_none test.otherwise && not (passes_test test values)
+refuses n (blocks.Gate gate) values s = is_none gate.otherwise && not (is_so gate.condition gate.entity s)
 refuses n block values s = false
 
 -- where a transaction rests that a block refused
@@ -151,10 +192,6 @@ admitted bs e n s t = option_map_or (enters_if_free n t s) (asked e (block_at bs
 abbrev pub looked_at : List Block → ℕ → ℕ → State → State
 looked_at bs e n s = option_map_or (admitted bs e n s) (attributes_at n s.transactions) s
 
--- no unit of a storage is free
-abbrev pub is_full : Storage → Bool
-is_full s = nat_le s.capacity s.contents.content
-
 -- admission: one walk over those who wait for a storage, in their order
 unfoldable pub admission : List Block → ℕ → List ℕ → State → State
 admission bs e [] s = s
@@ -174,6 +211,13 @@ join_queue bs n t u s = leads bs (t.next + 1) (stays (put_queue u.entity (joined
 -- the effect of DEPART: the transaction enters, and units depart from the queue
 abbrev pub depart : List Block → ℕ → Transaction → Units → State → Outcome (State × Placement)
 depart bs n t u s = leads bs (t.next + 1) (granted (departing u.number (queue u.entity s)) >>= λ r. stays (put_queue u.entity r.1 (enters_and_falls n t s)))
+
+-- CONDITIONS
+
+-- where a TEST or a GATE, the block of number b, leads to: to the next block where it is true, else to the other one that it names
+abbrev pub led_by : ℕ → Option ℕ → Bool → ℕ
+led_by b otherwise true = b + 1
+led_by b otherwise false = unwrap_or otherwise (b + 1)
 
 -- TRANSFERS
 
@@ -253,6 +297,8 @@ effect bs n t (blocks.Leave u) values s = leave bs n t u s
 effect bs n t (blocks.Queue u) values s = join_queue bs n t u s
 effect bs n t (blocks.Depart u) values s = depart bs n t u s
 effect bs n t (blocks.Assign a) values s = assign bs n t a (the_value values) s
+effect bs n t (blocks.Test test) values s = transfer bs n t (led_by t.next test.otherwise (passes_test test values)) s
+effect bs n t (blocks.Gate gate) values s = transfer bs n t (led_by t.next gate.otherwise (is_so gate.condition gate.entity s)) s
 effect bs n t (blocks.Transfer target) values s = transfer bs n t target s
 effect bs n t (blocks.TransferByFraction f) values s = transfer bs n t (chosen t.next f (the_value values)) s
 effect bs n t (blocks.Loop l) values s = loop bs n t l s

@@ -2,7 +2,7 @@
 use Rattle.std.specs.Prelude.{◌≡◌, ◌≢◌, ◌⊎◌, ◌<◌, ℕ, zero, suc, ◌+◌, List, [], ◌∷◌, sum, Some, None}
 use Rattle.gw_entities.specs.declared.stop.Stop.{Stop}
 use Rattle.gw_step.specs.declared.ends.End.{End}
-use Rattle.gw_step.specs.declared.ends.End.TheVariants.{Done, Budget}
+use Rattle.gw_step.specs.declared.ends.End.TheVariants.{Done, NoMoreEvents, Budget}
 use Rattle.gw_step.specs.State.{State}
 use Rattle.gw_step.specs.Step.{step}
 use Rattle.gw_step.specs.Job.{Job, Step, IsFinal, IsStuck, stop_of, Alone, start_of}
@@ -55,3 +55,7 @@ SlicesReachTheSame = (j : Job) (ns : List ℕ) (s : State) → slices j ns s ≡
 -- and it is the state of the lone run
 abbrev pub SlicesAreAlone : Type 0
 SlicesAreAlone = (j : Job) (ns : List ℕ) (s : State) → Alone j (sum ns) s → slices j ns (start_of j) ≡ s
+
+-- where nobody is active, and nobody resides on the current or the future events chain, the job ends by NoMoreEvents, whoever waits
+abbrev pub WaitersAloneEnd : Type 0
+WaitersAloneEnd = (j : Job) (s : State) → s.ended ≡ None → s.lists.active ≡ None → s.lists.current_events ≡ [] → s.lists.future_events ≡ [] → Step j s (record s { steps = s.steps + 1; ended = Some NoMoreEvents })

@@ -6,6 +6,7 @@ use Rattle.gw_object.specs.declared.parts.Spread.{Spread}
 use Rattle.gw_object.specs.declared.parts.Generate.{Generate}
 use Rattle.gw_object.specs.declared.parts.Assign.{Assign}
 use Rattle.gw_object.specs.declared.parts.Save.{Save}
+use Rattle.gw_object.specs.declared.parts.Test.{Test}
 use Rattle.gw_object.specs.declared.parts.Units.{Units}
 use Rattle.gw_object.specs.declared.parts.Block.{Block}
 use Rattle.gw_object.specs.declared.parts.Block.TheVariants as blocks
@@ -26,6 +27,11 @@ pub record SpreadFits (entities : ℕ) (time : Spread) : Type 0 where
 pub record GenerateFits (entities : ℕ) (g : Generate) : Type 0 where
   pub interval : SpreadFits entities g.interval
   pub first : IfSome g.first (λ time. pos 0 ≤ℤ time)
+
+-- what both values read fits
+pub record TestFits (entities : ℕ) (test : Test) : Type 0 where
+  pub left : ValueFits entities test.left
+  pub right : ValueFits entities test.right
 
 -- one of 64 parameters
 abbrev pub IsParameter : ℕ → Type 0
@@ -59,6 +65,8 @@ OperandsFit entities (blocks.Leave u) = UnitsFit entities u
 OperandsFit entities (blocks.Queue u) = UnitsFit entities u
 OperandsFit entities (blocks.Depart u) = UnitsFit entities u
 OperandsFit entities (blocks.Assign a) = AssignFits entities a
+OperandsFit entities (blocks.Test test) = TestFits entities test
+OperandsFit entities (blocks.Gate gate) = gate.entity < entities
 OperandsFit entities (blocks.Loop l) = IsParameter l.parameter
 OperandsFit entities (blocks.Logic l) = l.switch < entities
 OperandsFit entities (blocks.Savevalue a) = SaveFits entities a

@@ -52,8 +52,3 @@ abbrev pub stop_in : {A : Type 0} → Outcome A → Option Stop
 stop_in (Gives a) = None
 stop_in (EndsBy end) = None
 stop_in (StopsBy stop) = Some stop
-
--- a result of the code as an outcome
-abbrev pub outcome_of : {A : Type 0} → Result A End → Outcome A
-outcome_of (Ok a) = Gives a
-outcome_of (Err end) = EndsBy end

@@ -1,8 +1,9 @@
 -- Typed states never get stuck: no job of a checked object meets an error stop.
-use Rattle.std.specs.Prelude.{◌≡◌, ℕ, ◌<◌, None}
+use Rattle.std.specs.Prelude.{◌≡◌, ℕ, ◌<◌, ◌≤◌, [], None}
 use Rattle.gw_verify.specs.Checks.{Checked}
 use Rattle.gw_step.specs.State.{State}
 use Rattle.gw_step.specs.Job.{Job, Step, IsFinal, IsStuck, Alone, start_of}
+use Rattle.gw_step.specs.Residence.{occurrences, occurrences_in}
 use Rattle.gw_step.specs.Typing.{WellTyped, AreWithinCapacity}
 
 -- the start state is well-typed
@@ -39,3 +40,7 @@ AllJobsEnd = (j : Job) → Checked j.parts → 0 < j.budget → Ending j
 -- in no state that a job of a checked object reaches a storage holds more than its capacity
 abbrev pub StoragesKeepTheirCapacity : Type 0
 StoragesKeepTheirCapacity = (j : Job) (n : ℕ) (s : State) → Checked j.parts → Alone j n s → AreWithinCapacity s.entities
+
+-- who resides on the retry list in a state that a job of a checked object reaches resides there once, and nowhere else
+abbrev pub RetryingResideOnce : Type 0
+RetryingResideOnce = (j : Job) (n : ℕ) (s : State) → Checked j.parts → Alone j n s → (m : ℕ) → 1 ≤ occurrences m s.lists.retry → (occurrences m s.lists.retry ≡ 1) × (occurrences_in (record s.lists { retry = [] }) m ≡ 0)

@@ -2,7 +2,6 @@
 use Rattle.std.specs.Prelude.{ℕ, ◌+◌, ℤ, pos, List, [], ◌∷◌, Option, Some, None, Bool, not, ◌&&◌, ◌==◌, if◌then◌else◌, is_some}
 use Rattle.gw_object.specs.declared.parts.Block.{Block}
 use Rattle.gw_kinds.specs.Kinds.{is_generate}
-use Rattle.gw_flow.specs.Values.{with_first}
 use Rattle.gw_num.specs.Table.{at, put}
 use Rattle.gw_transactions.specs.Transactions.{LiveTransaction}
 use Rattle.gw_entities.specs.declared.facilities.Facility.{Facility}
@@ -75,10 +74,6 @@ priority_of transactions n = priority_in (at None transactions n)
 -- a table of counts with one more at a number
 abbrev pub raised : ℕ → List ℕ → List ℕ
 raised b counts = put 0 counts b (at 0 counts b + 1)
-
--- the first stream is now here
-abbrev pub with_first_stream : ℕ → State → State
-with_first_stream stream s = record s { streams = with_first stream s.streams }
 
 -- the streams are now here
 abbrev pub with_streams : List ℕ → State → State

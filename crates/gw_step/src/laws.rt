@@ -9,6 +9,7 @@ ghost use Rattle.gw_step.specs.Laws.{
   AllComeToRest,
   SlicesReachTheSame,
   SlicesAreAlone,
+  WaitersAloneEnd,
 };
 ghost use Rattle.gw_step.specs.Safety.{
   StartIsWellTyped,
@@ -18,6 +19,7 @@ ghost use Rattle.gw_step.specs.Safety.{
   NoJobIsStuck,
   AllJobsEnd,
   StoragesKeepTheirCapacity,
+  RetryingResideOnce,
 };
 
 /// Each state has at most one step, and so a job has at most one state after so many steps.
@@ -65,4 +67,12 @@ pub fn no_job_meets_an_error_stop()
     ensures never { NoJobIsStuck }
     ensures ends { AllJobsEnd }
     ensures within { StoragesKeepTheirCapacity }
+{}
+
+/// Who waits for a condition waits there and nowhere else, in each state that a job of a checked object reaches; and where all
+/// that are live wait, for a condition, a facility or a storage, the job ends by NoMoreEvents.
+#[tactic(auto, using(crate::proofs::Safe::retrying_reside_once, crate::proofs::Steps::waiters_alone_end))]
+pub fn waiters_are_not_forgotten()
+    ensures once { RetryingResideOnce }
+    ensures ends { WaitersAloneEnd }
 {}

@@ -123,11 +123,16 @@ fn crowd_comes_through_a_storage(rt: HostRuntime) -> Result<(), Fail> {
     Ok(())
 }
 
+/// The last digit of a number.
+fn last_digit(number: u16) -> u8 {
+    b'0' + (number % 10) as u8
+}
+
 /// So many queues, each with its number as its name.
 fn numbered_queues(alloc: Global, count: u16) -> Result<Items<Entity>, Memory> {
     let mut queues = Vec::new(alloc);
     for i in 0..count {
-        let digits = [i / 100 % 10, i / 10 % 10, i % 10].map(|digit| b'0' + digit as u8);
+        let digits = [last_digit(i / 100), last_digit(i / 10), last_digit(i)];
         queues.push(Entity {
             name: Items::from_vec(Vec::from_slice(alloc, &digits)?),
             kind: Kind::Queue,
@@ -140,32 +145,49 @@ fn numbered_queues(alloc: Global, count: u16) -> Result<Items<Entity>, Memory> {
 fn rows_of_nothing(alloc: Global, count: usize) -> Result<Items<Option<TableState>>, Memory> {
     let mut rows = Vec::new(alloc);
     for _ in 0..count {
-        rows.push(Some(NOTHING.row(alloc)?))?;
+        rows.push(Some(NOTHING.row(alloc, &[])?))?;
     }
     Ok(Items::from_vec(rows))
 }
 
-#[test]
-fn clock_moves_past_hundreds_of_queues(rt: HostRuntime) -> Result<(), Fail> {
-    // GENERATE ,,,1, then for each of 300 queues QUEUE and ADVANCE 1, then TERMINATE 1: one unit comes into queue q at clock q,
-    // and is there until the end, at clock 300. 3 steps lead through GENERATE, 4 through each queue, and 1 ends the job.
-    let alloc = rt.alloc();
-    let mut blocks = Vec::new(alloc);
-    blocks.push(one_at(0, 0))?;
-    for entity in 0..300 {
+/// GENERATE ,,,1, then for each of so many queues QUEUE and ADVANCE 1, then TERMINATE 1.
+fn through_queues(alloc: Global, count: u16) -> Result<Vec<Block>, Memory> {
+    let mut blocks = vec![in alloc; one_at(0, 0)]?;
+    for entity in 0..count {
         blocks.push(Block::Queue(Units { entity, number: 1 }))?;
         blocks.push(advance(1))?;
     }
     blocks.push(terminate(1))?;
-    let mut parts = parts(alloc, &[], 1, &blocks)?;
+    Ok(blocks)
+}
+
+/// The job of those blocks for 300 queues.
+fn job_of_queues(alloc: Global) -> Result<Sim, Fail> {
+    let mut parts = parts(alloc, &[], 1, &through_queues(alloc, 300)?)?;
     parts.entities = numbered_queues(alloc, 300)?;
     parts.states = rows_of_nothing(alloc, 602)?;
     let object = Object::build(parts).ok().ok_or("parts of an object")?;
-    let mut sim = job_of(alloc, accepted(alloc, object)?, AMPLE)?;
+    job_of(alloc, accepted(alloc, object)?, AMPLE)
+}
+
+/// How that job stands at its end, and what is in one of its queues.
+fn queue_at_the_end(alloc: Global, queue: u16) -> Result<(Stand, Contents), Fail> {
+    let mut sim = job_of_queues(alloc)?;
     let status = run(&mut sim, AMPLE)?;
-    assert!(rt; status == Status::Ended(End::Done) && numbers(&sim) == (300, 1204, 602, 0));
-    assert!(rt; queue_of(&sim, 0)? == (contents(1, 1, 1, 300), average(1, 0)));
-    assert!(rt; queue_of(&sim, 100)? == (contents(1, 1, 1, 200), average(0, 666)));
-    assert!(rt; queue_of(&sim, 299)? == (contents(1, 1, 1, 1), average(0, 3)));
+    let (contents, _) = queue_of(&sim, queue)?;
+    Ok(((status, numbers(&sim)), contents))
+}
+
+#[test]
+fn clock_moves_past_hundreds_of_queues(rt: HostRuntime) -> Result<(), Fail> {
+    // One unit comes into queue q at clock q, and is there until the end, at clock 300. 3 steps lead through GENERATE, 4 through
+    // each queue, and 1 ends the job.
+    let (stand, _) = queue_at_the_end(rt.alloc(), 0)?;
+    assert!(rt; stand == (Status::Ended(End::Done), (300, 1204, 602, 0)));
+    for (queue, time_sum) in [(0, 300), (100, 200), (299, 1)] {
+        let (_, seen) = queue_at_the_end(rt.alloc(), queue)?;
+        assert!(rt; (seen.content, seen.entries) == (1, 1));
+        assert!(rt; seen.time_sum == time_sum);
+    }
     Ok(())
 }

@@ -30,7 +30,7 @@ fn assigned(alloc: Global, values: &[(Mode, i64)]) -> Result<Option<i64>, Fail> 
 #[test]
 fn assign_sets_adds_and_subtracts(rt: HostRuntime) -> Result<(), Fail> {
     use Mode::{Add, Set, Subtract};
-    let rows: [(&[(Mode, i64)], Option<i64>); 14] = [
+    const ROWS: &[(&'static [(Mode, i64)], Option<i64>)] = &[
         (&[(Set, 7)], Some(7)),
         (&[(Set, 7), (Set, -2)], Some(-2)),
         (&[(Set, 7), (Add, -9)], Some(-2)),
@@ -47,8 +47,9 @@ fn assign_sets_adds_and_subtracts(rt: HostRuntime) -> Result<(), Fail> {
         (&[(Set, LEAST), (Add, -1)], None),
         (&[(Set, LEAST), (Add, GREATEST)], Some(-1)),
     ];
-    for (values, result) in rows {
-        assert_eq!(rt; assigned(rt.alloc(), values)?, result, "{values:?}");
+    for (values, result) in ROWS {
+        let assigned = assigned(rt.alloc(), values)?;
+        assert!(rt; assigned == *result, "{values:?}: {assigned:?}");
     }
     Ok(())
 }

@@ -22,21 +22,23 @@ fn switched(alloc: Global, actions: &[SwitchAction]) -> Result<(i64, bool), Fail
 #[test]
 fn logic_sets_resets_and_inverts(rt: HostRuntime) -> Result<(), Fail> {
     use SwitchAction::{Invert, Reset, Set};
-    let (is_reset, is_set) = ((0, false), (1, true));
-    let rows: [(&[SwitchAction], (i64, bool)); 9] = [
-        (&[], is_reset),
-        (&[Set], is_set),
-        (&[Set, Set], is_set),
-        (&[Reset], is_reset),
-        (&[Set, Reset], is_reset),
-        (&[Invert], is_set),
-        (&[Invert, Invert], is_reset),
-        (&[Set, Invert], is_reset),
-        (&[Reset, Invert], is_set),
+    const ROWS: &[(&'static [SwitchAction], bool)] = &[
+        (&[], false),
+        (&[Set], true),
+        (&[Set, Set], true),
+        (&[Reset], false),
+        (&[Set, Reset], false),
+        (&[Invert], true),
+        (&[Invert, Invert], false),
+        (&[Set, Invert], false),
+        (&[Reset, Invert], true),
     ];
-    for (actions, result) in rows {
+    for (actions, is_set) in ROWS {
         let switched = switched(rt.alloc(), actions)?;
-        assert!(rt; switched == result, "{actions:?}: {switched:?}");
+        assert!(rt;
+            switched == (*is_set as i64, *is_set),
+            "{actions:?}: {switched:?}"
+        );
     }
     Ok(())
 }
@@ -44,10 +46,10 @@ fn logic_sets_resets_and_inverts(rt: HostRuntime) -> Result<(), Fail> {
 // SAVEVALUES
 
 /// What the savevalues are after these changes of X: GENERATE ,,,1, a SAVEVALUE for each, then TERMINATE 1; and how the job ends.
-fn changed(alloc: Global, changes: &[(Mode, Operand)]) -> Result<([i64; 2], Status), Fail> {
+fn changed(alloc: Global, changes: &[(Mode, i64)]) -> Result<([i64; 2], Status), Fail> {
     let mut blocks = vec![in alloc; one_at(0, 0)]?;
     for (mode, value) in changes {
-        blocks.push(save(X, *mode, *value))?;
+        blocks.push(save(X, *mode, Operand::Constant(*value)))?;
     }
     blocks.push(terminate(1))?;
     let seen = at_end(alloc, 1, &blocks)?;
@@ -59,33 +61,39 @@ fn changed(alloc: Global, changes: &[(Mode, Operand)]) -> Result<([i64; 2], Stat
 #[test]
 fn savevalue_is_set_added_to_and_subtracted_from(rt: HostRuntime) -> Result<(), Fail> {
     use Mode::{Add, Set, Subtract};
-    let (one, five) = (Operand::Constant(1), Operand::Constant(5));
-    let (least, greatest) = (Operand::Constant(LEAST), Operand::Constant(GREATEST));
-    let (done, number) = (Status::Ended(End::Done), Status::Ended(End::Number));
     // At first it is 100.
-    let rows: [(&[(Mode, Operand)], i64, Status); 10] = [
-        (&[], 100, done),
-        (&[(Set, five)], 5, done),
-        (&[(Add, five)], 105, done),
-        (&[(Subtract, five)], 95, done),
-        (
-            &[(Set, five), (Add, value_of(X)), (Add, value_of(X))],
-            20,
-            done,
-        ),
-        (&[(Subtract, value_of(Y))], 58, done),
-        (&[(Set, greatest), (Add, one)], GREATEST, number),
-        (&[(Set, least), (Subtract, one)], LEAST, number),
-        (&[(Subtract, least)], 100, number),
-        (&[(Set, least), (Add, greatest)], -1, done),
+    const ROWS: &[(&'static [(Mode, i64)], i64, End)] = &[
+        (&[], 100, End::Done),
+        (&[(Set, 5)], 5, End::Done),
+        (&[(Add, 5)], 105, End::Done),
+        (&[(Subtract, 5)], 95, End::Done),
+        (&[(Set, 5), (Add, -9), (Subtract, 7)], -11, End::Done),
+        (&[(Set, GREATEST), (Add, 1)], GREATEST, End::Number),
+        (&[(Set, LEAST), (Subtract, 1)], LEAST, End::Number),
+        (&[(Subtract, LEAST)], 100, End::Number),
+        (&[(Set, LEAST), (Add, GREATEST)], -1, End::Done),
     ];
-    for (changes, x, status) in rows {
+    for (changes, x, end) in ROWS {
         let (values, ended) = changed(rt.alloc(), changes)?;
         assert!(rt;
-            values == [x, 42] && ended == status,
+            values == [*x, 42] && ended == Status::Ended(*end),
             "{changes:?}: {values:?}"
         );
     }
+    Ok(())
+}
+
+#[test]
+fn savevalue_is_changed_by_savevalues(rt: HostRuntime) -> Result<(), Fail> {
+    // X is 100 - 42, and then twice as much; Y is 42 as before.
+    let blocks = [
+        one_at(0, 0),
+        save(X, Mode::Subtract, value_of(Y)),
+        save(X, Mode::Add, value_of(X)),
+        terminate(1),
+    ];
+    let values = at_end(rt.alloc(), 1, &blocks)?.savevalues;
+    assert!(rt; values == [116, 42]);
     Ok(())
 }
 

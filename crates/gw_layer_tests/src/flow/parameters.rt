@@ -217,6 +217,52 @@ fn a_row_asks_for_a_parameter_that_one_way_leaves_unset(rt: HostRuntime) -> Resu
     Ok(())
 }
 
+// TEST and GATE
+
+#[test]
+fn the_values_of_a_test_are_parameters_that_are_set(rt: HostRuntime) -> Result<(), Fail> {
+    const FIRST_UNSET: Table = &[
+        (GENERATE, Some(&[])),
+        (compare!(Equal, P1, FIVE, None), Some(&[])),
+        (TERMINATE, Some(&[])),
+    ];
+    const SECOND_UNSET: Table = &[
+        (GENERATE, Some(&[])),
+        (compare!(Equal, FIVE, P1, None), Some(&[])),
+        (TERMINATE, Some(&[])),
+    ];
+    const BOTH_SET: Table = &[
+        (GENERATE, Some(&[])),
+        (assign!(1, Set, FIVE), Some(&[])),
+        (compare!(Equal, P1, P1, Some(5)), Some(&[1])),
+        (TERMINATE, Some(&[])),
+        (TERMINATE, Some(&[1])),
+    ];
+    assert!(rt; fault(rt.alloc(), FIRST_UNSET)? == at_block(20, 2));
+    assert!(rt; fault(rt.alloc(), SECOND_UNSET)? == at_block(20, 2));
+    assert!(rt; fault(rt.alloc(), BOTH_SET)?.is_none());
+    Ok(())
+}
+
+#[test]
+fn both_ways_of_a_test_lead_to_rows_that_fit(rt: HostRuntime) -> Result<(), Fail> {
+    const SECOND_ALONE: Table = &[
+        (GENERATE, Some(&[])),
+        (compare!(Less, FIVE, FIVE, Some(4)), Some(&[])),
+        (TERMINATE, Some(&[])),
+        (TERMINATE, Some(&[1])),
+    ];
+    const NEITHER: Table = &[
+        (GENERATE, Some(&[])),
+        (compare!(Less, FIVE, FIVE, Some(4)), Some(&[])),
+        (TERMINATE, Some(&[2])),
+        (TERMINATE, Some(&[1])),
+    ];
+    assert!(rt; fault(rt.alloc(), SECOND_ALONE)? == at_edge(25, 2, 4));
+    assert!(rt; fault(rt.alloc(), NEITHER)? == at_edge(25, 2, 3));
+    Ok(())
+}
+
 // LOOP and MARK
 
 #[test]
@@ -392,9 +438,15 @@ fn the_parameter_that_a_block_sets_stands_in_its_place(rt: HostRuntime) -> Resul
 #[test]
 fn a_block_that_sets_none_leaves_the_parameters(rt: HostRuntime) -> Result<(), Fail> {
     let is_counted = leads(rt.alloc(), count_down!(3, 9), &[1, 3], &[3, 9], &[1, 3])?;
+    let test = compare!(Less, P1, FIVE, Some(9));
+    let is_tested = leads(rt.alloc(), test, &[1, 3], &[3, 9], &[1, 3])?;
+    let gate = gate!(FacilityInUse, F, None);
+    let is_asked = leads(rt.alloc(), gate, &[1, 3], &[3], &[1, 3])?;
     let is_marked = leads(rt.alloc(), Block::Mark(None), &[1, 3], &[3], &[1, 3])?;
     let is_seized = leads(rt.alloc(), Block::Seize(F), &[1, 3], &[3], &[1, 3])?;
     assert!(rt; is_counted == Ok(true));
+    assert!(rt; is_tested == Ok(true));
+    assert!(rt; is_asked == Ok(true));
     assert!(rt; is_marked == Ok(true));
     assert!(rt; is_seized == Ok(true));
     Ok(())

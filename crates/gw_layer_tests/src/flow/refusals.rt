@@ -115,6 +115,27 @@ fn more_units_than_the_capacity_are_refused(rt: HostRuntime) -> Result<(), Fail>
 }
 
 #[test]
+fn both_ways_of_a_gate_lead_to_rows_that_fit(rt: HostRuntime) -> Result<(), Fail> {
+    const SECOND_OWNS: Table = &[
+        (GENERATE, NOTHING),
+        (Block::Seize(F), NOTHING),
+        (gate!(StorageFull, S, Some(5)), Some((&[F], &[]))),
+        (Block::Release(F), Some((&[F], &[]))),
+        (TERMINATE, NOTHING),
+    ];
+    const FIRST_ALONE: Table = &[
+        (GENERATE, NOTHING),
+        (Block::Seize(F), NOTHING),
+        (gate!(StorageFull, S, None), Some((&[F], &[]))),
+        (Block::Release(F), Some((&[F], &[]))),
+        (TERMINATE, NOTHING),
+    ];
+    assert!(rt; fault(rt.alloc(), SECOND_OWNS)? == at_edge(25, 3, 5));
+    assert!(rt; fault(rt.alloc(), FIRST_ALONE)?.is_none());
+    Ok(())
+}
+
+#[test]
 fn a_generate_without_a_row_is_refused(rt: HostRuntime) -> Result<(), Fail> {
     const TABLE: Table = &[(GENERATE, NOTHING), (TERMINATE, NOTHING), (GENERATE, None)];
     assert!(rt; fault(rt.alloc(), TABLE)? == at_block(25, 3));

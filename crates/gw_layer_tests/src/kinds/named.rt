@@ -10,12 +10,12 @@ use std::alloc::Global;
 use std::test::Fail;
 
 /// The logic switch and the savevalue, which come after F, S and Q.
-const SWITCH: u16 = 3;
+pub(super) const SWITCH: u16 = 3;
 
-const SAVEVALUE: u16 = 4;
+pub(super) const SAVEVALUE: u16 = 4;
 
 /// No entity has this number.
-const MISSING: u16 = 5;
+pub(super) const MISSING: u16 = 5;
 
 /// The entities F, S and Q, a logic switch and a savevalue.
 fn five_entities(alloc: Global) -> Result<Vec<Entity>, Memory> {
@@ -99,13 +99,13 @@ macro_rules! back_to {
     };
 }
 
-const ONE: Operand = Operand::Constant(1);
+pub(super) const ONE: Operand = Operand::Constant(1);
 
 /// What is left of a facility: another kind than it needs.
-const WRONG: Operand = of!(StorageRemaining, F);
+pub(super) const WRONG: Operand = of!(StorageRemaining, F);
 
 /// The entries of a block that isn't there.
-const NOWHERE: Operand = of!(BlockEntries, 0);
+pub(super) const NOWHERE: Operand = of!(BlockEntries, 0);
 
 /// The fault of the object of these blocks, whose first block has this row and the others none, if it has one.
 fn fault_with(
@@ -121,7 +121,7 @@ fn fault_with(
 }
 
 /// The place, from 0, of the first of these blocks that has another fault between a GENERATE and a TERMINATE.
-fn wrong_block(
+pub(super) fn wrong_block(
     alloc: Global,
     blocks: &[Block],
     fault: Option<Fault>,
@@ -151,10 +151,10 @@ fn wrong_value(
 }
 
 /// The blocks of an object, and the code and the block of its fault.
-type Case<'a> = (&'a [Block], u16, u16);
+pub(super) type Case<'a> = (&'a [Block], u16, u16);
 
 /// The place, from 0, of the first of these objects that has another fault.
-fn wrong_object(alloc: Global, cases: &[Case]) -> Result<Option<usize>, Fail> {
+pub(super) fn wrong_object(alloc: Global, cases: &[Case]) -> Result<Option<usize>, Fail> {
     for i in 0..cases.len() {
         let (blocks, code, block) = cases[i];
         if fault_with(alloc, blocks, None)? != at_block(code, block) {
@@ -366,7 +366,7 @@ fn a_row_names_no_switch_and_no_savevalue(rt: HostRuntime) -> Result<(), Fail> {
 }
 
 /// Whether a block leaves by these ways, on none of which time passes.
-fn leaves_at_once_by(block: Block, ways: &[Way]) -> bool {
+pub(super) fn leaves_at_once_by(block: Block, ways: &[Way]) -> bool {
     let exits = exits(&block);
     let found = exits.as_slice();
     found.len() == ways.len()
@@ -389,7 +389,7 @@ fn a_loop_falls_and_then_goes_to_its_target(rt: HostRuntime) {
 }
 
 /// Whether these are the values of a block, in order.
-fn has_values(block: Block, expected: &[Operand]) -> bool {
+pub(super) fn has_values(block: Block, expected: &[Operand]) -> bool {
     values(&block).as_slice() == expected
 }
 

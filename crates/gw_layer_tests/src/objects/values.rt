@@ -145,8 +145,6 @@ fn each_cut_of_changes_is_truncated_at_the_cut_field(rt: HostRuntime) {
 #[test]
 fn tags_that_stand_for_no_block_are_named(rt: HostRuntime) -> Result<(), Fail> {
     const FAULTS: &[(usize, usize, &'static [u8], u16, u32)] = &[
-        (18, 1, &[0x0b], TAG, 18),
-        (18, 1, &[0x0c], TAG, 18),
         (18, 1, &[0x0f], TAG, 18),
         (18, 1, &[0x10], TAG, 18),
         (18, 1, &[0x12], TAG, 18),
@@ -185,27 +183,15 @@ fn each_fault_of_a_change_is_named_by_its_code_and_place(rt: HostRuntime) -> Res
     Ok(())
 }
 
-/// The parts of an object of this block alone, without a state and of weight 1.
-fn one_block(alloc: Global, block: Block) -> Result<Parts, Memory> {
-    let blocks = Vec::from_slice(alloc, &[block])?;
-    parts(alloc, Vec::new(alloc), blocks, no_states(alloc, 1)?)
-}
-
-/// The bytes of an object of a TERMINATE, with these as its operand from byte 19 on.
-fn terminate_of(alloc: Global, operand: &[u8]) -> Result<Vec<u8>, Memory> {
-    let mut bytes = Vec::new(alloc);
-    bytes.extend_from_slice(b"GPSO\x00\x01\x00\x00\x00\x00\x00\x00\x00\x00\x01\x00\x00\x01\x02")?;
-    bytes.extend_from_slice(operand)?;
-    bytes.extend_from_slice(&[0x00, 0x00, 0x00, 0x00, 0x00, 0x01])?;
-    Ok(bytes)
-}
+/// The tag of a TERMINATE.
+const TERMINATE_TAG: u8 = 0x02;
 
 /// The place, from 0, of the first of these operands that isn't read from its bytes, or not built or written as them.
 fn wrong_operand(alloc: Global, cases: &[(Operand, &[u8])]) -> Result<Option<usize>, Memory> {
     for i in 0..cases.len() {
         let (operand, bytes) = cases[i];
         let parts = one_block(alloc, Block::Terminate(operand))?;
-        if !is_spelling(alloc, parts, &terminate_of(alloc, bytes)?)? {
+        if !is_spelling(alloc, parts, &bytes_of(alloc, TERMINATE_TAG, bytes)?)? {
             return Ok(Some(i));
         }
     }
@@ -284,7 +270,7 @@ fn operands_of_entities_and_blocks_are_read_built_and_written(rt: HostRuntime) -
 fn wrong_refusal(alloc: Global, cases: &[(&[u8], u16, u32)]) -> Result<Option<usize>, Memory> {
     for i in 0..cases.len() {
         let (bytes, code, byte) = cases[i];
-        if refusal(alloc, &terminate_of(alloc, bytes)?) != at_byte(code, byte) {
+        if refusal(alloc, &bytes_of(alloc, TERMINATE_TAG, bytes)?) != at_byte(code, byte) {
             return Ok(Some(i));
         }
     }
@@ -312,7 +298,11 @@ fn each_fault_of_an_operand_is_named_by_its_code_and_place(rt: HostRuntime) -> R
 }
 
 /// The place, from 0, of the first of these blocks that is built alone, or refused with another code.
-fn wrong_block(alloc: Global, blocks: &[Block], code: u16) -> Result<Option<usize>, Memory> {
+pub(super) fn wrong_block(
+    alloc: Global,
+    blocks: &[Block],
+    code: u16,
+) -> Result<Option<usize>, Memory> {
     for i in 0..blocks.len() {
         if build_code(one_block(alloc, blocks[i])?) != Some(code) {
             return Ok(Some(i));
