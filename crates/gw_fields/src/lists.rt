@@ -32,6 +32,10 @@ pub trait Elements {
         requires { can_put element.now }
         ensures { OnOk result (out.new.items ≡ out.old.items ++ element_spelling element.now) };
 
+    /// How many bytes of a room are left behind those of an element; `None` where they don't fit into it.
+    fn room_after_element(element: &Self::Item, room: usize) -> Option<usize>
+        ensures { Leaves (element_spelling element.now) room result };
+
     /// The element at the front of the bytes, and the bytes after it.
     fn read_element<'a>(
         alloc: Global,
@@ -83,23 +87,23 @@ pub fn put_listed<L: Elements>(out: &mut Vec<u8>, elements: &[L::Item]) -> Resul
 }
 
 /// How many bytes of a room are left behind those of elements; `None` where they don't fit into it.
-pub fn room_after_elements<T: Spelled>(elements: &[T], room: usize) -> Option<usize>
-    ensures { Leaves (flat_map T.spelling elements.now) room result }
+pub fn room_after_elements<L: Elements>(elements: &[L::Item], room: usize) -> Option<usize>
+    ensures { Leaves (flat_map L.element_spelling elements.now) room result }
 {
     let mut left = room;
     for element in elements {
-        left = element.room_after(left)?;
+        left = L::room_after_element(element, left)?;
     }
     Some(left)
 }
 
 /// How many bytes of a room are left behind a count of elements and theirs; `None` where they don't fit into
 /// it.
-pub fn room_after_listed<T: Spelled>(elements: &[T], room: usize) -> Option<usize>
-    ensures { Leaves (count_spelling (length elements.now) ++ flat_map T.spelling elements.now) room result }
+pub fn room_after_listed<L: Elements>(elements: &[L::Item], room: usize) -> Option<usize>
+    ensures { Leaves (count_spelling (length elements.now) ++ flat_map L.element_spelling elements.now) room result }
 {
     let room = room_after_count(elements.len(), room)?;
-    room_after_elements(elements, room)
+    room_after_elements::<L>(elements, room)
 }
 
 /// A count within two limits, and as many elements.
@@ -129,6 +133,10 @@ impl<T: Spelled> Elements for Plain<T> {
 
     fn put_element(out: &mut Vec<u8>, element: &T) -> Result<(), Memory> {
         element.put(out)
+    }
+
+    fn room_after_element(element: &T, room: usize) -> Option<usize> {
+        element.room_after(room)
     }
 
     fn read_element<'a>(

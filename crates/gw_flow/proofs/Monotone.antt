@@ -1,41 +1,43 @@
 -- A state that fits a row may pass each block that the row may pass.
-use Rattle.std.proofs.Common.{◌≡◌, ℕ, ◌+◌, ◌-◌, ◌≤◌, List, [], ◌∷◌, length, Option, Some, None, Bool, true, false, not, ◌||◌, if◌then◌else◌, ◌==◌, IsTrue, refl, sym, ap, subst, arith}
-use Rattle.std.specs.Prelude.{All, IsSomeAnd, is_some}
-use Rattle.std.specs.List.{flat_map}
-use Rattle.std.proofs.lemmas.Bool.{le-leb, leb-true, false≢true, not-false}
+use Rattle.std.proofs.Common.{◌≡◌, ◌≢◌, ⊎_elim, ℕ, ◌+◌, ◌-◌, ◌≤◌, List, [], ◌∷◌, length, Option, Some, None, Bool, true, false, not, ◌||◌, if◌then◌else◌, ◌==◌, IsTrue, refl, sym, ap, subst, arith}
+use Rattle.std.specs.Prelude.{All, IsSomeAnd, is_some, map}
+use Rattle.std.specs.List.{flat_map, list_all}
+use Rattle.std.proofs.lemmas.Bool.{cases_eq, ne_eqb, le-leb, leb-true, and_parts, false≢true, not-false}
 use Rattle.std.proofs.lemmas.List.Elements.{All-nil, All-cons, All-head, All-tail, All-append}
-use Rattle.gw_object.specs.declared.parts.Block.{Block}
-use Rattle.gw_object.specs.declared.parts.Block.TheVariants as blocks
+use Rattle.gw_blocks.specs.declared.parts.Block.{Block}
+use Rattle.gw_blocks.specs.declared.parts.Block.TheVariants as blocks
 use Rattle.gw_object.specs.declared.parts.Parts.{Parts}
 use Rattle.gw_kinds.specs.declared.ways.Exit.{Exit}
-use Rattle.gw_kinds.specs.Exits.{leads_to, exits}
+use Rattle.gw_kinds.specs.Exits.{leads_to, exits, returns_to}
 use Rattle.gw_kinds.specs.Kinds.{values}
 use Rattle.gw_flow.specs.Codes as codes
 use Rattle.gw_flow.specs.Entries.{lists, with_number, without_number}
-use Rattle.gw_flow.specs.Rows.{Row, ParamKind, Num, Ret, kind_of, is_number, is_return, units_of, with_parameter, with_facility, without_facility, with_units, kind_fits, Fits}
+use Rattle.gw_flow.specs.Rows.{Row, ParamKind, Num, Ret, kind_of, is_number, is_return, return_blocks, units_of, with_parameter, with_facility, without_facility, with_units, kind_fits, Fits}
 use Rattle.gw_flow.specs.declared.edges.FlowEdge.{FlowEdge}
-use Rattle.gw_flow.specs.Blocks.{Table, Rule, rule, holds_units, number_rules, parameters_read, value_rules, replaces, own_rules, after, with_set, move, edges_along}
+use Rattle.gw_flow.specs.declared.edges.Target.TheVariants as targets
+use Rattle.gw_flow.specs.declared.setting.Setting.{Setting}
+use Rattle.gw_flow.specs.Blocks.{Table, Rule, rule, holds_units, number_rules, return_rules, parameters_read, value_rules, replaces, own_rules, parameter_set, kind_set, with_setting, after, move, edges_along, edges_from}
 use Rattle.gw_flow.specs.Laws.{forbids, FittingStatesPass}
 use Rattle.gw_flow.proofs.Entries.{entry-with_entry, amount-with_entry}
 use Rattle.gw_flow.proofs.EachBlock.{All-front, All-back}
-use Rattle.gw_flow.proofs.Fitting.{fits_on}
+use Rattle.gw_flow.proofs.Fitting.{kind_itself, fits_on}
 
 -- CHANGES
 
-kind_if : (b : Bool) (j k : Option ParamKind) → IsTrue (kind_fits j k) → IsTrue (kind_fits (if b then Some Num else j) (if b then Some Num else k))
-kind_if true j k h = refl
-kind_if false j k h = h
+kind_if : (b : Bool) (kind : ParamKind) (j k : Option ParamKind) → IsTrue (kind_fits j k) → IsTrue (kind_fits (if b then Some kind else j) (if b then Some kind else k))
+kind_if true kind j k h = kind_itself (Some kind)
+kind_if false kind j k h = h
 
-fits_parameter : (p : ℕ) (state row : Row) → Fits state row → Fits (with_parameter p state) (with_parameter p row)
-fits_parameter p state row h = record {
-  params = λ q. rw (entry-with_entry p (Some Num) state.params q, entry-with_entry p (Some Num) row.params q) (kind_if (p == q) (kind_of state q) (kind_of row q) (h.params q));
+fits_parameter : (p : ℕ) (kind : ParamKind) (state row : Row) → Fits state row → Fits (with_parameter p kind state) (with_parameter p kind row)
+fits_parameter p kind state row h = record {
+  params = λ q. rw (entry-with_entry p (Some kind) state.params q, entry-with_entry p (Some kind) row.params q) (kind_if (p == q) kind (kind_of state q) (kind_of row q) (h.params q));
   facilities = h.facilities;
   units = h.units;
 }
 
-fits_set : (p : Option ℕ) (state row : Row) → Fits state row → Fits (with_set p state) (with_set p row)
-fits_set None state row h = h
-fits_set (Some p) state row h = fits_parameter p state row h
+fits_set : (b : ℕ) (set : Option Setting) (state row : Row) → Fits state row → Fits (with_setting b set state) (with_setting b set row)
+fits_set b None state row h = h
+fits_set b (Some set) state row h = fits_parameter set.parameter (kind_set b set.to) state row h
 
 fits_facility : (f : ℕ) (state row : Row) → Fits state row → Fits (with_facility f state) (with_facility f row)
 fits_facility f state row h = record { params = h.params; facilities = ap (with_number f) h.facilities; units = h.units }
@@ -82,6 +84,14 @@ number_on (Some (Ret bs)) (Some Num) h g = absurd (false≢true h)
 number_on kind (Some (Ret cs)) h g = absurd (false≢true g)
 number_on kind None h g = absurd (false≢true g)
 
+-- a return to some blocks is one in a state that fits, to no others
+return_on : (kind said : Option ParamKind) → IsTrue (kind_fits kind said) → is_return said ≡ true → (is_return kind ≡ true) × (list_all (λ b. lists (return_blocks said) b) (return_blocks kind) ≡ true)
+return_on (Some (Ret bs)) (Some (Ret cs)) h g = (refl, h)
+return_on None (Some (Ret cs)) h g = absurd (false≢true h)
+return_on (Some Num) (Some (Ret cs)) h g = absurd (false≢true h)
+return_on kind (Some Num) h g = absurd (false≢true g)
+return_on kind None h g = absurd (false≢true g)
+
 -- the rules of a parameter that is used as a number
 by_number : (p : ℕ) (state row : Row) → Fits state row → All Holds (number_rules row p) → All Holds (number_rules state p)
 by_number p state row h hold =
@@ -90,6 +100,17 @@ by_number p state row h hold =
     All-cons Holds set (number ∷ [])
     (set_on (kind_of state p) (kind_of row p) (h.params p) (All-head Holds (rule codes.unset_param (is_some (kind_of row p))) (rule codes.param_kind (is_number (kind_of row p)) ∷ []) hold))
     (All-cons Holds number [] (number_on (kind_of state p) (kind_of row p) (h.params p) (All-head Holds (rule codes.param_kind (is_number (kind_of row p))) [] (All-tail Holds (rule codes.unset_param (is_some (kind_of row p))) (rule codes.param_kind (is_number (kind_of row p)) ∷ []) hold))) (All-nil Holds))
+
+-- the rules of a parameter that is used as a return
+by_return : (p : ℕ) (state row : Row) → Fits state row → All Holds (return_rules row p) → All Holds (return_rules state p)
+by_return p state row h hold =
+    let set = rule codes.unset_param (is_some (kind_of state p)) in
+    let returns = rule codes.param_kind (is_return (kind_of state p)) in
+    let row_set = rule codes.unset_param (is_some (kind_of row p)) in
+    let row_returns = rule codes.param_kind (is_return (kind_of row p)) in
+    All-cons Holds set (returns ∷ [])
+    (set_on (kind_of state p) (kind_of row p) (h.params p) (All-head Holds row_set (row_returns ∷ []) hold))
+    (All-cons Holds returns [] (return_on (kind_of state p) (kind_of row p) (h.params p) (All-head Holds row_returns [] (All-tail Holds row_set (row_returns ∷ []) hold))).0 (All-nil Holds))
 
 -- and of several
 by_numbers : (ps : List ℕ) (state row : Row) → Fits state row → All Holds (flat_map (number_rules row) ps) → All Holds (flat_map (number_rules state) ps)
@@ -104,9 +125,9 @@ always : (code : ℕ) (holds other : Bool) → holds ≡ true → All Holds (rul
 always code holds other h = All-cons Holds (rule code (holds || other)) [] (ap (λ b. b || other) h) (All-nil Holds)
 
 -- of a state that fits a row: its own rules of a block that hold in the row hold, and so it fits once it has passed the block
-record PassesLike (p : Parts) (block : Block) (state row : Row) : Type 0 where
+record PassesLike (p : Parts) (b : ℕ) (block : Block) (state row : Row) : Type 0 where
   rules_hold : forbids block ≡ false → All Holds (own_rules p block row) → All Holds (own_rules p block state)
-  after_fits : Fits (after block state) (after block row)
+  after_fits : Fits (after b block state) (after b block row)
 
 -- more units, and fewer
 more_units : (e n : ℕ) (state row : Row) → Fits state row → Fits (with_units e (units_of state e + n) state) (with_units e (units_of row e + n) row)
@@ -115,28 +136,30 @@ more_units e n state row h = fits_units e (units_of state e + n) (units_of row e
 fewer_units : (e n : ℕ) (state row : Row) → Fits state row → Fits (with_units e (units_of state e - n) state) (with_units e (units_of row e - n) row)
 fewer_units e n state row h = fits_units e (units_of state e - n) (units_of row e - n) state row (omega (arith, h.units e)) h
 
-passes_like : (p : Parts) (block : Block) (state row : Row) → Fits state row → PassesLike p block state row
-passes_like p (blocks.Generate g) state row h = record { rules_hold = λ isnt hold. absurd (cc); after_fits = h }
-passes_like p (blocks.Terminate by) state row h = record { rules_hold = λ _ hold. by_facilities codes.owns_at_end (λ fs. length fs == 0) state row h hold; after_fits = h }
-passes_like p (blocks.Advance time) state row h = record { rules_hold = λ _ hold. hold; after_fits = h }
-passes_like p (blocks.Seize f) state row h = record { rules_hold = λ _ hold. by_facilities codes.already_owned (λ fs. not (lists fs f)) state row h hold; after_fits = fits_facility f state row h }
-passes_like p (blocks.Release f) state row h = record { rules_hold = λ _ hold. by_facilities codes.not_owner (λ fs. lists fs f) state row h hold; after_fits = fits_without f state row h }
-passes_like p (blocks.Enter u) state row h = record { rules_hold = λ _ hold. hold; after_fits = more_units u.entity u.number state row h }
-passes_like p (blocks.Leave u) state row h = record { rules_hold = λ _ hold. by_units u.entity u.number state row h hold; after_fits = fewer_units u.entity u.number state row h }
-passes_like p (blocks.Queue u) state row h = record { rules_hold = λ _ hold. hold; after_fits = more_units u.entity u.number state row h }
-passes_like p (blocks.Depart u) state row h = record { rules_hold = λ _ hold. by_units u.entity u.number state row h hold; after_fits = fewer_units u.entity u.number state row h }
-passes_like p (blocks.Assign a) state row h = record {
+passes_like : (p : Parts) (b : ℕ) (block : Block) (state row : Row) → Fits state row → PassesLike p b block state row
+passes_like p b (blocks.Generate g) state row h = record { rules_hold = λ isnt hold. absurd (cc); after_fits = h }
+passes_like p b (blocks.Terminate by) state row h = record { rules_hold = λ _ hold. by_facilities codes.owns_at_end (λ fs. length fs == 0) state row h hold; after_fits = h }
+passes_like p b (blocks.Advance time) state row h = record { rules_hold = λ _ hold. hold; after_fits = h }
+passes_like p b (blocks.Seize f) state row h = record { rules_hold = λ _ hold. by_facilities codes.already_owned (λ fs. not (lists fs f)) state row h hold; after_fits = fits_facility f state row h }
+passes_like p b (blocks.Release f) state row h = record { rules_hold = λ _ hold. by_facilities codes.not_owner (λ fs. lists fs f) state row h hold; after_fits = fits_without f state row h }
+passes_like p b (blocks.Enter u) state row h = record { rules_hold = λ _ hold. hold; after_fits = more_units u.entity u.number state row h }
+passes_like p b (blocks.Leave u) state row h = record { rules_hold = λ _ hold. by_units u.entity u.number state row h hold; after_fits = fewer_units u.entity u.number state row h }
+passes_like p b (blocks.Queue u) state row h = record { rules_hold = λ _ hold. hold; after_fits = more_units u.entity u.number state row h }
+passes_like p b (blocks.Depart u) state row h = record { rules_hold = λ _ hold. by_units u.entity u.number state row h hold; after_fits = fewer_units u.entity u.number state row h }
+passes_like p b (blocks.Assign a) state row h = record {
   rules_hold = λ sets hold. always codes.param_kind (replaces a.mode) (not (is_return (kind_of state a.parameter))) (not-false (replaces a.mode) sets);
-  after_fits = fits_parameter a.parameter state row h;
+  after_fits = fits_parameter a.parameter Num state row h;
 }
-passes_like p (blocks.Loop l) state row h = record { rules_hold = λ _ hold. by_number l.parameter state row h hold; after_fits = h }
-passes_like p (blocks.Logic l) state row h = record { rules_hold = λ _ hold. hold; after_fits = h }
-passes_like p (blocks.Savevalue s) state row h = record { rules_hold = λ _ hold. hold; after_fits = h }
-passes_like p (blocks.Mark p') state row h = record { rules_hold = λ _ hold. hold; after_fits = fits_set p' state row h }
-passes_like p (blocks.Test t) state row h = record { rules_hold = λ _ hold. hold; after_fits = h }
-passes_like p (blocks.Gate g) state row h = record { rules_hold = λ _ hold. hold; after_fits = h }
-passes_like p (blocks.Transfer target) state row h = record { rules_hold = λ _ hold. hold; after_fits = h }
-passes_like p (blocks.TransferByFraction f) state row h = record { rules_hold = λ _ hold. hold; after_fits = h }
+passes_like p b (blocks.Loop l) state row h = record { rules_hold = λ _ hold. by_number l.parameter state row h hold; after_fits = h }
+passes_like p b (blocks.Logic l) state row h = record { rules_hold = λ _ hold. hold; after_fits = h }
+passes_like p b (blocks.Savevalue s) state row h = record { rules_hold = λ _ hold. hold; after_fits = h }
+passes_like p b (blocks.Mark p') state row h = record { rules_hold = λ _ hold. hold; after_fits = fits_set b (parameter_set (blocks.Mark p')) state row h }
+passes_like p b (blocks.TransferToSubroutine c) state row h = record { rules_hold = λ _ hold. hold; after_fits = fits_parameter c.parameter (Ret (b ∷ [])) state row h }
+passes_like p b (blocks.TransferByParameter q) state row h = record { rules_hold = λ _ hold. by_return q state row h hold; after_fits = h }
+passes_like p b (blocks.Test t) state row h = record { rules_hold = λ _ hold. hold; after_fits = h }
+passes_like p b (blocks.Gate g) state row h = record { rules_hold = λ _ hold. hold; after_fits = h }
+passes_like p b (blocks.Transfer target) state row h = record { rules_hold = λ _ hold. hold; after_fits = h }
+passes_like p b (blocks.TransferByFraction f) state row h = record { rules_hold = λ _ hold. hold; after_fits = h }
 
 -- EDGES
 
@@ -157,12 +180,57 @@ module _ (table : Table) where
       (on (table (move to state).target) state row h (All-head Arrives (move to row) (edges_along b es row) arrive))
       (edges_fit b es state row h (All-tail Arrives (move to row) (edges_along b es row) arrive))
 
+  -- the edges to the blocks after some of those to which what it fits returns
+  one_of_them : (b : ℕ) (cs : List ℕ) (c : ℕ) (row : Row) → lists cs c ≡ true → All Arrives (edges_along b (map returns_to cs) row) → IsSomeAnd (table (targets.Block (c + 1))) (Fits row)
+  one_of_them b [] c row there arrive = absurd (false≢true there)
+  one_of_them b (d ∷ cs) c row there arrive =
+      ⊎_elim
+      (λ (same : d ≡ c). subst (λ k. IsSomeAnd (table (targets.Block (k + 1))) (Fits row)) same (All-head Arrives (move (d + 1) row) (edges_along b (map returns_to cs) row) arrive))
+      (λ (other : d ≢ c). one_of_them b cs c row (rw (ne_eqb d c other) at there) (All-tail Arrives (move (d + 1) row) (edges_along b (map returns_to cs) row) arrive))
+      (cases_eq d c)
+
+  returns_fit : (b : ℕ) (bs cs : List ℕ) (state row : Row) → list_all (λ c. lists cs c) bs ≡ true → Fits state row → All Arrives (edges_along b (map returns_to cs) row) → All Arrives (edges_along b (map returns_to bs) state)
+  returns_fit b [] cs state row among h arrive = All-nil Arrives
+  returns_fit b (c ∷ bs) cs state row among h arrive =
+      let parts = and_parts (lists cs c) (list_all (λ c. lists cs c) bs) among in
+      All-cons Arrives (move (c + 1) state) (edges_along b (map returns_to bs) state)
+      (on (table (targets.Block (c + 1))) state row h (one_of_them b cs c row parts.0 arrive))
+      (returns_fit b bs cs state row parts.1 h arrive)
+
+  -- along each exit of a block, also where it is a TRANSFER in parameter mode whose parameter is a return
+  block_fits : (p : Parts) (b : ℕ) (block : Block) (state row : Row) → Fits state row → Fits (after b block state) (after b block row) → All Holds (own_rules p block row) → All Arrives (edges_from b block row) → All Arrives (edges_from b block state)
+  block_fits p b (blocks.TransferByParameter q) state row h later hold arrive =
+      let row_set = rule codes.unset_param (is_some (kind_of row q)) in
+      let row_returns = rule codes.param_kind (is_return (kind_of row q)) in
+      let returns = return_on (kind_of state q) (kind_of row q) (h.params q) (All-head Holds row_returns [] (All-tail Holds row_set (row_returns ∷ []) hold)) in
+      returns_fit b (return_blocks (kind_of state q)) (return_blocks (kind_of row q)) state row returns.1 later arrive
+  block_fits p b (blocks.Generate g) state row h later hold arrive = edges_fit b (exits (blocks.Generate g)) (after b (blocks.Generate g) state) (after b (blocks.Generate g) row) later arrive
+  block_fits p b (blocks.Terminate by) state row h later hold arrive = edges_fit b (exits (blocks.Terminate by)) (after b (blocks.Terminate by) state) (after b (blocks.Terminate by) row) later arrive
+  block_fits p b (blocks.Advance time) state row h later hold arrive = edges_fit b (exits (blocks.Advance time)) (after b (blocks.Advance time) state) (after b (blocks.Advance time) row) later arrive
+  block_fits p b (blocks.Seize f) state row h later hold arrive = edges_fit b (exits (blocks.Seize f)) (after b (blocks.Seize f) state) (after b (blocks.Seize f) row) later arrive
+  block_fits p b (blocks.Release f) state row h later hold arrive = edges_fit b (exits (blocks.Release f)) (after b (blocks.Release f) state) (after b (blocks.Release f) row) later arrive
+  block_fits p b (blocks.Enter u) state row h later hold arrive = edges_fit b (exits (blocks.Enter u)) (after b (blocks.Enter u) state) (after b (blocks.Enter u) row) later arrive
+  block_fits p b (blocks.Leave u) state row h later hold arrive = edges_fit b (exits (blocks.Leave u)) (after b (blocks.Leave u) state) (after b (blocks.Leave u) row) later arrive
+  block_fits p b (blocks.Queue u) state row h later hold arrive = edges_fit b (exits (blocks.Queue u)) (after b (blocks.Queue u) state) (after b (blocks.Queue u) row) later arrive
+  block_fits p b (blocks.Depart u) state row h later hold arrive = edges_fit b (exits (blocks.Depart u)) (after b (blocks.Depart u) state) (after b (blocks.Depart u) row) later arrive
+  block_fits p b (blocks.Assign a) state row h later hold arrive = edges_fit b (exits (blocks.Assign a)) (after b (blocks.Assign a) state) (after b (blocks.Assign a) row) later arrive
+  block_fits p b (blocks.Test t) state row h later hold arrive = edges_fit b (exits (blocks.Test t)) (after b (blocks.Test t) state) (after b (blocks.Test t) row) later arrive
+  block_fits p b (blocks.Gate g) state row h later hold arrive = edges_fit b (exits (blocks.Gate g)) (after b (blocks.Gate g) state) (after b (blocks.Gate g) row) later arrive
+  block_fits p b (blocks.Transfer target) state row h later hold arrive = edges_fit b (exits (blocks.Transfer target)) (after b (blocks.Transfer target) state) (after b (blocks.Transfer target) row) later arrive
+  block_fits p b (blocks.TransferByFraction f) state row h later hold arrive = edges_fit b (exits (blocks.TransferByFraction f)) (after b (blocks.TransferByFraction f) state) (after b (blocks.TransferByFraction f) row) later arrive
+  block_fits p b (blocks.TransferToSubroutine c) state row h later hold arrive = edges_fit b (exits (blocks.TransferToSubroutine c)) (after b (blocks.TransferToSubroutine c) state) (after b (blocks.TransferToSubroutine c) row) later arrive
+  block_fits p b (blocks.Loop l) state row h later hold arrive = edges_fit b (exits (blocks.Loop l)) (after b (blocks.Loop l) state) (after b (blocks.Loop l) row) later arrive
+  block_fits p b (blocks.Logic l) state row h later hold arrive = edges_fit b (exits (blocks.Logic l)) (after b (blocks.Logic l) state) (after b (blocks.Logic l) row) later arrive
+  block_fits p b (blocks.Savevalue s) state row h later hold arrive = edges_fit b (exits (blocks.Savevalue s)) (after b (blocks.Savevalue s) state) (after b (blocks.Savevalue s) row) later arrive
+  block_fits p b (blocks.Mark o) state row h later hold arrive = edges_fit b (exits (blocks.Mark o)) (after b (blocks.Mark o) state) (after b (blocks.Mark o) row) later arrive
+
 pub fitting_states_pass : FittingStatesPass
 fitting_states_pass p table b block state row isnt h pass =
-    let like = passes_like p block state row h in
+    let like = passes_like p b block state row h in
+    let own = All-back Holds (value_rules block row) (own_rules p block row) pass.each_rule in
     record {
       each_rule = All-append Holds (value_rules block state) (own_rules p block state)
           (by_numbers (parameters_read (values block)) state row h (All-front Holds (value_rules block row) (own_rules p block row) pass.each_rule))
-          (like.rules_hold isnt (All-back Holds (value_rules block row) (own_rules p block row) pass.each_rule));
-      each_edge = edges_fit table b (exits block) (after block state) (after block row) like.after_fits pass.each_edge;
+          (like.rules_hold isnt own);
+      each_edge = block_fits table p b block state row h like.after_fits own pass.each_edge;
     }

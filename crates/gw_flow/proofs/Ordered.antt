@@ -1,45 +1,75 @@
 -- States whose lists ascend, and whose amounts aren't 0.
-use Rattle.std.proofs.Common.{◌≡◌, ◌↔◌, ◌≢◌, ℕ, ◌<◌, Bool, true, false, ◌==◌, if◌then◌else◌, List, [], ◌∷◌, ◌++◌, Option, Some, None, refl, sym, subst, append_assoc, true≢false, ◌∙◌, arith}
+use Rattle.std.proofs.Common.{◌≡◌, ◌≢◌, ℕ, zero, suc, ◌<◌, get_or, Bool, true, false, ◌==◌, if◌then◌else◌, List, [], ◌∷◌, ◌++◌, Option, Some, None, refl, sym, subst, append_assoc, true≢false, ◌∙◌, arith}
 use Rattle.std.specs.Prelude.{All, AllPairs, filter, nat_lt, not, option_map, option_to_list}
-use Rattle.std.proofs.lemmas.List.Elements.{All-nil, All-cons, All-append, All-map, All-filter}
+use Rattle.std.proofs.lemmas.List.Elements.{All-nil, All-cons, All-head, All-tail, All-append, All-map, All-filter}
 use Rattle.std.proofs.lemmas.List.Kept.{AllPairs-filter}
 use Rattle.std.proofs.lemmas.Bool.{eq-eqb}
-use Rattle.gw_object.specs.declared.parts.Units.{Units}
+use Rattle.gw_blocks.specs.declared.parts.Units.{Units}
+use Rattle.gw_object.specs.declared.parts.TableKind.{TableKind}
+use Rattle.gw_object.specs.declared.parts.TableKind.TheVariants.{Num as TableNum, Ret as TableRet}
 use Rattle.gw_object.specs.declared.parts.TableParameter.{TableParameter}
 use Rattle.gw_object.specs.declared.parts.TableState.{TableState}
-use Rattle.gw_object.specs.Grammar.{HeldFits, IsAscending}
+use Rattle.gw_object.specs.declared.parts.ReturnRow.{ReturnRow}
+use Rattle.gw_object.specs.Grammar.{HeldFits, AreAscending, IsAscending}
+use Rattle.gw_flow.specs.declared.abstract_state.ParameterKind.{ParameterKind}
+use Rattle.gw_flow.specs.declared.abstract_state.ParameterKind.TheVariants.{Num as OwnNum, Ret as OwnRet, RetTo as OwnRetTo}
 use Rattle.gw_flow.specs.declared.abstract_state.Parameter.{Parameter}
 use Rattle.gw_flow.specs.declared.abstract_state.Amount.{Amount}
 use Rattle.gw_flow.specs.declared.abstract_state.StateParts.{StateParts}
 use Rattle.gw_flow.specs.declared.state.Param.{Param}
-use Rattle.gw_flow.specs.Entries.{with_number, with_entry}
-use Rattle.gw_flow.specs.Rows.{Row, ParamKind, Num, IsOrdered, with_parameter, with_facility, without_facility, with_units, nonzero}
-use Rattle.gw_flow.specs.Seen.{kind_seen, kind_said, known, seen}
+use Rattle.gw_flow.specs.Entries.{in_place, with_number, with_entry}
+use Rattle.gw_flow.specs.Rows.{Row, ParamKind, KindAscends, IsOrdered, with_parameter, with_facility, without_facility, with_units, nonzero}
+use Rattle.gw_flow.specs.Seen.{row_blocks, kind_seen, kind_said, PartsAscend, known, seen}
 use Rattle.gw_flow.specs.Viewed.{held_kind, viewed}
 use Rattle.gw_flow.proofs.Ascending.{Ascends, All-from_map, AllPairs-map, AllPairs-from_map, ascends_placed}
 
--- PARTS
+-- RETURN ROWS
 
--- parts are ordered where their lists ascend and they have no amount 0, and nowhere else
-pub parts_ordered : (s : StateParts) →
-    ((AllPairs (λ (a b : Parameter). a.number < b.number) s.parameters × AllPairs (λ a b. a < b) s.facilities)
-    × (AllPairs (λ (a b : Amount). a.entity < b.entity) s.units × All (λ (a : Amount). a.number ≢ 0) s.units))
-    ↔ IsOrdered (known s)
-parts_ordered s = (
-  λ h. record {
-    params = AllPairs-map (λ (a b : ℕ × ParamKind). a.0 < b.0) (λ (p : Parameter). (p.number, kind_seen p.kind)) s.parameters h.0.0;
-    facilities = h.0.1;
-    units = AllPairs-map (λ (a b : ℕ × ℕ). a.0 < b.0) (λ (u : Amount). (u.entity, u.number)) s.units h.1.0;
-    amounts = All-map (λ (e : ℕ × ℕ). e.1 ≢ 0) (λ (u : Amount). (u.entity, u.number)) s.units h.1.1;
-  },
-  λ h. (
-    (AllPairs-from_map (λ (a b : ℕ × ParamKind). a.0 < b.0) (λ (p : Parameter). (p.number, kind_seen p.kind)) s.parameters h.params, h.facilities),
-    (
-      AllPairs-from_map (λ (a b : ℕ × ℕ). a.0 < b.0) (λ (u : Amount). (u.entity, u.number)) s.units h.units,
-      All-from_map (λ (e : ℕ × ℕ). e.1 ≢ 0) (λ (u : Amount). (u.entity, u.number)) s.units h.amounts,
-    ),
-  ),
-)
+-- what holds of no blocks, and of the blocks of each return row, holds of those of the row of any number
+pub row_blocks_keep : (P : List ℕ → Type 0) → P [] → (rows : List ReturnRow) → All (λ (row : ReturnRow). P row.blocks) rows → (r : ℕ) → P (row_blocks rows r)
+row_blocks_keep P none [] h r = none
+row_blocks_keep P none (x ∷ xs) h zero = All-head (λ (row : ReturnRow). P row.blocks) x xs h
+row_blocks_keep P none (x ∷ xs) h (suc r) = row_blocks_keep P none xs (All-tail (λ (row : ReturnRow). P row.blocks) x xs h) r
+
+one_ascends : {X : Type 0} (key : X → ℕ) (x : X) → Ascends key (x ∷ [])
+one_ascends key x i j d lt within = absurd (omega arith)
+
+module _ (rows : List ReturnRow) (up : All AreAscending rows) where
+  blocks_ascend : (r : ℕ) → AllPairs (λ a b. a < b) (row_blocks rows r)
+  blocks_ascend r = row_blocks_keep (λ bs. AllPairs (λ a b. a < b) bs) (λ i j d lt within. absurd (omega arith)) rows up r
+
+  pub seen_ascends : (kind : ParameterKind) → KindAscends (kind_seen rows kind)
+  seen_ascends OwnNum = tt
+  seen_ascends (OwnRet r) = blocks_ascend r
+  seen_ascends (OwnRetTo b) = one_ascends (λ n. n) b
+
+  said_ascends : (kind : TableKind) → KindAscends (kind_said rows kind)
+  said_ascends TableNum = tt
+  said_ascends (TableRet r) = blocks_ascend r
+
+  -- PARTS
+
+  -- what parts say whose lists ascend is ordered
+  pub parts_ordered : (s : StateParts) → PartsAscend s → IsOrdered (known rows s)
+  parts_ordered s h = record {
+    params = AllPairs-map (λ (a b : ℕ × ParamKind). a.0 < b.0) (λ (p : Parameter). (p.number, kind_seen rows p.kind)) s.parameters h.parameters;
+    returns = All-map (λ (e : ℕ × ParamKind). KindAscends e.1) (λ (p : Parameter). (p.number, kind_seen rows p.kind)) s.parameters (λ i d within. seen_ascends (get_or s.parameters i d).kind);
+    facilities = h.facilities;
+    units = AllPairs-map (λ (a b : ℕ × ℕ). a.0 < b.0) (λ (u : Amount). (u.entity, u.number)) s.units h.units;
+    amounts = All-map (λ (e : ℕ × ℕ). e.1 ≢ 0) (λ (u : Amount). (u.entity, u.number)) s.units h.amounts;
+  }
+
+  -- ROWS
+
+  -- what a row of the state table says is ordered
+  pub row_ordered : (row : TableState) → IsAscending row → All HeldFits row.units → IsOrdered (seen rows row)
+  row_ordered row h held = record {
+    params = AllPairs-map (λ (a b : ℕ × ParamKind). a.0 < b.0) (λ (p : TableParameter). (p.number, kind_said rows p.kind)) row.parameters h.parameters;
+    returns = All-map (λ (e : ℕ × ParamKind). KindAscends e.1) (λ (p : TableParameter). (p.number, kind_said rows p.kind)) row.parameters (λ i d within. said_ascends (get_or row.parameters i d).kind);
+    facilities = h.facilities;
+    units = AllPairs-map (λ (a b : ℕ × ℕ). a.0 < b.0) (λ (u : Units). (u.entity, u.number)) row.units h.units;
+    amounts = All-map (λ (e : ℕ × ℕ). e.1 ≢ 0) (λ (u : Units). (u.entity, u.number)) row.units (λ i d within zero. omega (arith, (held i d within).least));
+  }
 
 -- WHAT FLOW WORKS WITH
 
@@ -47,27 +77,16 @@ module _ (ps : List Param) (fs : List ℕ) (us : List Amount) (h : IsOrdered (vi
   pub params_from_viewed : AllPairs (λ (a b : Param). a.number < b.number) ps
   params_from_viewed = AllPairs-from_map (λ (a b : ℕ × ParamKind). a.0 < b.0) (λ (p : Param). (p.number, held_kind p.holds)) ps h.params
 
+  pub returns_from_viewed : All (λ (p : Param). KindAscends (held_kind p.holds)) ps
+  returns_from_viewed = All-from_map (λ (e : ℕ × ParamKind). KindAscends e.1) (λ (p : Param). (p.number, held_kind p.holds)) ps h.returns
+
   pub units_from_viewed : AllPairs (λ (a b : Amount). a.entity < b.entity) us
   units_from_viewed = AllPairs-from_map (λ (a b : ℕ × ℕ). a.0 < b.0) (λ (u : Amount). (u.entity, u.number)) us h.units
 
   pub amounts_from_viewed : All (λ (a : Amount). a.number ≢ 0) us
   amounts_from_viewed = All-from_map (λ (e : ℕ × ℕ). e.1 ≢ 0) (λ (u : Amount). (u.entity, u.number)) us h.amounts
 
--- ROWS
-
--- what a row of the state table says is ordered
-pub row_ordered : (row : TableState) → IsAscending row → All HeldFits row.units → IsOrdered (seen row)
-row_ordered row up held = record {
-  params = AllPairs-map (λ (a b : ℕ × ParamKind). a.0 < b.0) (λ (p : TableParameter). (p.number, kind_said p.kind)) row.parameters up.parameters;
-  facilities = up.facilities;
-  units = AllPairs-map (λ (a b : ℕ × ℕ). a.0 < b.0) (λ (u : Units). (u.entity, u.number)) row.units up.units;
-  amounts = All-map (λ (e : ℕ × ℕ). e.1 ≢ 0) (λ (u : Units). (u.entity, u.number)) row.units (λ i d within zero. omega (arith, (held i d within).least));
-}
-
 -- CHANGES
-
-one_ascends : {X : Type 0} (key : X → ℕ) (x : X) → Ascends key (x ∷ [])
-one_ascends key x i j d lt within = absurd (omega arith)
 
 -- a list with a number ascends
 pub with_number_ascends : (n : ℕ) (ns : List ℕ) → AllPairs (λ a b. a < b) ns → AllPairs (λ a b. a < b) (with_number n ns)
@@ -95,22 +114,38 @@ entered_not_0 : (b : Bool) (e n : ℕ) → (n == 0) ≡ b → All (λ (x : ℕ �
 entered_not_0 true e n is = All-nil (λ (x : ℕ × ℕ). x.1 ≢ 0)
 entered_not_0 false e n is = All-cons (λ (x : ℕ × ℕ). x.1 ≢ 0) (e, n) [] (λ zero. true≢false (sym (eq-eqb n 0 zero) ∙ is)) (All-nil (λ (x : ℕ × ℕ). x.1 ≢ 0))
 
+-- what holds of each entry, and of one that is entered if there is one, holds of each then
+with_entry_keeps : {X : Type 0} (P : ℕ × X → Type 0) (n : ℕ) (value : Option X) (es : List (ℕ × X)) → All P (alone n value) → All P es → All P (with_entry n value es)
+with_entry_keeps P n value es here all =
+    All-append P (filter (λ x. nat_lt x.0 n) es ++ alone n value) (filter (λ x. nat_lt n x.0) es)
+    (All-append P (filter (λ x. nat_lt x.0 n) es) (alone n value) (All-filter (λ x. nat_lt x.0 n) P es all) here)
+    (All-filter (λ x. nat_lt n x.0) P es all)
+
 -- no amount is 0 once one is entered that may be
-pub with_entry_not_0 : (e n : ℕ) (es : List (ℕ × ℕ)) → All (λ (x : ℕ × ℕ). x.1 ≢ 0) es → All (λ (x : ℕ × ℕ). x.1 ≢ 0) (with_entry e (nonzero n) es)
-with_entry_not_0 e n es all =
-    All-append (λ (x : ℕ × ℕ). x.1 ≢ 0) (filter (λ x. nat_lt x.0 e) es ++ alone e (nonzero n)) (filter (λ x. nat_lt e x.0) es)
-    (All-append (λ (x : ℕ × ℕ). x.1 ≢ 0) (filter (λ x. nat_lt x.0 e) es) (alone e (nonzero n)) (All-filter (λ x. nat_lt x.0 e) (λ (x : ℕ × ℕ). x.1 ≢ 0) es all) (entered_not_0 (n == 0) e n refl))
-    (All-filter (λ x. nat_lt e x.0) (λ (x : ℕ × ℕ). x.1 ≢ 0) es all)
+with_entry_not_0 : (e n : ℕ) (es : List (ℕ × ℕ)) → All (λ (x : ℕ × ℕ). x.1 ≢ 0) es → All (λ (x : ℕ × ℕ). x.1 ≢ 0) (with_entry e (nonzero n) es)
+with_entry_not_0 e n es all = with_entry_keeps (λ (x : ℕ × ℕ). x.1 ≢ 0) e (nonzero n) es (entered_not_0 (n == 0) e n refl) all
+
+-- parameters ascend once one is put in its place
+pub in_place_ascends : (p : Parameter) (ps : List Parameter) → AllPairs (λ (a b : Parameter). a.number < b.number) ps → AllPairs (λ (a b : Parameter). a.number < b.number) (in_place (λ (q : Parameter). q.number) p ps)
+in_place_ascends p ps up =
+    subst (AllPairs (λ (a b : Parameter). a.number < b.number)) (append_assoc (filter (λ (q : Parameter). nat_lt q.number p.number) ps) (p ∷ []) (filter (λ (q : Parameter). nat_lt p.number q.number) ps))
+    (ascends_placed (λ (q : Parameter). q.number) p.number (p ∷ []) ps (one_ascends (λ (q : Parameter). q.number) p) (All-cons (λ (q : Parameter). q.number ≡ p.number) p [] refl (All-nil (λ (q : Parameter). q.number ≡ p.number))) up)
 
 module _ (row : Row) (h : IsOrdered row) where
-  pub with_parameter_ordered : (p : ℕ) → IsOrdered (with_parameter p row)
-  with_parameter_ordered p = record { params = with_entry_ascends p (Some Num) row.params h.params; facilities = h.facilities; units = h.units; amounts = h.amounts }
+  pub with_parameter_ordered : (p : ℕ) (kind : ParamKind) → KindAscends kind → IsOrdered (with_parameter p kind row)
+  with_parameter_ordered p kind ascends = record {
+    params = with_entry_ascends p (Some kind) row.params h.params;
+    returns = with_entry_keeps (λ (e : ℕ × ParamKind). KindAscends e.1) p (Some kind) row.params (All-cons (λ (e : ℕ × ParamKind). KindAscends e.1) (p, kind) [] ascends (All-nil (λ (e : ℕ × ParamKind). KindAscends e.1))) h.returns;
+    facilities = h.facilities;
+    units = h.units;
+    amounts = h.amounts;
+  }
 
   pub with_facility_ordered : (f : ℕ) → IsOrdered (with_facility f row)
-  with_facility_ordered f = record { params = h.params; facilities = with_number_ascends f row.facilities h.facilities; units = h.units; amounts = h.amounts }
+  with_facility_ordered f = record { params = h.params; returns = h.returns; facilities = with_number_ascends f row.facilities h.facilities; units = h.units; amounts = h.amounts }
 
   pub without_facility_ordered : (f : ℕ) → IsOrdered (without_facility f row)
-  without_facility_ordered f = record { params = h.params; facilities = AllPairs-filter (λ a b. a < b) (λ m. not (m == f)) row.facilities h.facilities; units = h.units; amounts = h.amounts }
+  without_facility_ordered f = record { params = h.params; returns = h.returns; facilities = AllPairs-filter (λ a b. a < b) (λ m. not (m == f)) row.facilities h.facilities; units = h.units; amounts = h.amounts }
 
   pub with_units_ordered : (e n : ℕ) → IsOrdered (with_units e n row)
-  with_units_ordered e n = record { params = h.params; facilities = h.facilities; units = with_entry_ascends e (nonzero n) row.units h.units; amounts = with_entry_not_0 e n row.units h.amounts }
+  with_units_ordered e n = record { params = h.params; returns = h.returns; facilities = h.facilities; units = with_entry_ascends e (nonzero n) row.units h.units; amounts = with_entry_not_0 e n row.units h.amounts }

@@ -1,30 +1,51 @@
 -- The parameters after a block, in the numbers that were given.
-use Rattle.std.proofs.Common.{◌≡◌, ℕ, Option, Some, None, refl, sym, ◌∙◌}
-use Rattle.std.specs.Prelude.{All}
+use Rattle.std.proofs.Common.{◌≡◌, ℕ, ◌<◌, List, Option, Some, None, option_map, refl, sym, ap, ◌∙◌}
+use Rattle.std.specs.Prelude.{All, AllPairs}
 use Rattle.std.proofs.lemmas.List.Elements.{All-map}
-use Rattle.gw_object.specs.declared.parts.Block.{Block}
+use Rattle.gw_blocks.specs.declared.parts.Block.{Block}
+use Rattle.gw_object.specs.declared.parts.ReturnRow.{ReturnRow}
 use Rattle.gw_kinds.specs.declared.ways.Exit.{Exit}
-use Rattle.gw_kinds.specs.Exits.{leads_to, exits}
+use Rattle.gw_kinds.specs.Exits.{leads_to, exits_with}
 use Rattle.gw_flow.specs.declared.abstract_state.Parameter.{Parameter}
-use Rattle.gw_flow.specs.declared.abstract_state.ParameterKind.TheVariants.{Num as OwnNum}
 use Rattle.gw_flow.specs.declared.abstract_state.StateParts.{StateParts}
+use Rattle.gw_flow.specs.declared.setting.SetTo.{SetTo}
+use Rattle.gw_flow.specs.declared.setting.SetTo.TheVariants.{Number, ReturnHere}
+use Rattle.gw_flow.specs.declared.setting.Setting.{Setting}
 use Rattle.gw_flow.specs.declared.edges.FlowEdge.{FlowEdge}
-use Rattle.gw_flow.specs.Seen.{kind_seen, params_of, known, parameters_with}
-use Rattle.gw_flow.specs.Blocks.{parameter_set, with_set, after, move, edges_from}
+use Rattle.gw_flow.specs.Entries.{with_entry}
+use Rattle.gw_flow.specs.Seen.{kind_seen, params_of, known}
+use Rattle.gw_flow.specs.Flow.{own_kind, own_setting, parameters_with}
+use Rattle.gw_flow.specs.Blocks.{parameter_set, kind_set, with_setting, after, returns_read, move, edges_from}
 use Rattle.gw_flow.proofs.Entries.{entries-in_place}
 use Rattle.gw_flow.proofs.Parameters.{after_params}
+use Rattle.gw_flow.proofs.Ordered.{in_place_ascends}
 
-own_with : (p : Option ℕ) (s : StateParts) → (with_set p (known s)).params ≡ params_of (parameters_with p s.parameters)
-own_with None s = refl
-own_with (Some p) s = sym (entries-in_place (λ (q : Parameter). q.number) (λ (q : Parameter). kind_seen q.kind) (record { number = p; kind = OwnNum }) s.parameters)
+-- what calls carry of a parameter that is set is what it holds
+kind_is : (rows : List ReturnRow) (b : ℕ) (to : SetTo) → kind_seen rows (own_kind b to) ≡ kind_set b to
+kind_is rows b Number = refl
+kind_is rows b ReturnHere = refl
+
+abbrev own : ℕ → Option Setting → Option Parameter
+own b set = option_map (λ (s : Setting). record { number = s.parameter; kind = own_kind b s.to }) set
+
+own_with : (rows : List ReturnRow) (b : ℕ) (set : Option Setting) (s : StateParts) → (with_setting b set (known rows s)).params ≡ params_of rows (parameters_with (own b set) s.parameters)
+own_with rows b None s = refl
+own_with rows b (Some set) s =
+    ap (λ kind. with_entry set.parameter (Some kind) (params_of rows s.parameters)) (sym (kind_is rows b set.to))
+    ∙ sym (entries-in_place (λ (q : Parameter). q.number) (λ (q : Parameter). kind_seen rows q.kind) (record { number = set.parameter; kind = own_kind b set.to }) s.parameters)
 
 -- what is known of parameters after a block is what the given ones say, but the one that it sets
-own_after : (block : Block) (s : StateParts) → (after block (known s)).params ≡ params_of (parameters_with (parameter_set block) s.parameters)
-own_after block s = after_params block (known s) ∙ own_with (parameter_set block) s
+own_after : (rows : List ReturnRow) (b : ℕ) (block : Block) (s : StateParts) → (after b block (known rows s)).params ≡ params_of rows (parameters_with (own_setting b block) s.parameters)
+own_after rows b block s = after_params b block (known rows s) ∙ own_with rows b (parameter_set block) s
 
 -- and so at each edge of the block
-pub own_at_edges : (b : ℕ) (block : Block) (s : StateParts) →
-    All (λ (e : FlowEdge). e.state.params ≡ params_of (parameters_with (parameter_set block) s.parameters)) (edges_from b block (known s))
-own_at_edges b block s =
-    All-map (λ (e : FlowEdge). e.state.params ≡ params_of (parameters_with (parameter_set block) s.parameters)) (λ (exit : Exit). move (leads_to b exit.way) (after block (known s))) (exits block)
-    (λ i d within. own_after block s)
+pub own_at_edges : (rows : List ReturnRow) (b : ℕ) (block : Block) (s : StateParts) →
+    All (λ (e : FlowEdge). e.state.params ≡ params_of rows (parameters_with (own_setting b block) s.parameters)) (edges_from b block (known rows s))
+own_at_edges rows b block s =
+    All-map (λ (e : FlowEdge). e.state.params ≡ params_of rows (parameters_with (own_setting b block) s.parameters)) (λ (exit : Exit). move (leads_to b exit.way) (after b block (known rows s))) (exits_with (returns_read block (known rows s)) block)
+    (λ i d within. own_after rows b block s)
+
+-- parameters ascend once one is set, if one is
+pub with_ascends : (set : Option Parameter) (ps : List Parameter) → AllPairs (λ (a b : Parameter). a.number < b.number) ps → AllPairs (λ (a b : Parameter). a.number < b.number) (parameters_with set ps)
+with_ascends None ps up = up
+with_ascends (Some p) ps up = in_place_ascends p ps up

@@ -1,69 +1,56 @@
 -- Parameters that a transaction is sure to have set, where it may pass a block and once it has passed it.
-use Rattle.std.proofs.Common.{◌≡◌, ◌≢◌, ◌⊎◌, inl, inr, ⊎_elim, ℕ, ◌<◌, nat_lt, List, [], ◌∷◌, Option, Some, None, true, refl, sym, ap, subst, ◌∙◌, arith}
+use Rattle.std.proofs.Common.{◌≡◌, ◌≢◌, ⊎_elim, ℕ, ◌<◌, nat_lt, List, [], ◌∷◌, Option, Some, None, true, refl, sym, ap, subst, ◌∙◌, arith}
 use Rattle.std.specs.Prelude.{All, is_some, filter, filter_map}
 use Rattle.std.specs.List.{flat_map, fold, cons_option}
-use Rattle.std.proofs.lemmas.Bool.{cases_eq, cases_order, eq-eqb, ne_eqb, lt-ltb, le-ltb, false≢true}
+use Rattle.std.proofs.lemmas.Bool.{cases_order, eq-eqb, ne_eqb, lt-ltb, le-ltb, false≢true}
 use Rattle.std.proofs.lemmas.List.Elements.{All-nil, All-cons, All-head, All-tail}
-use Rattle.gw_object.specs.declared.parts.Operand.{Operand}
-use Rattle.gw_object.specs.declared.parts.Operand.TheVariants as forms
-use Rattle.gw_object.specs.declared.parts.Loop.{Loop}
-use Rattle.gw_object.specs.declared.parts.Block.{Block}
-use Rattle.gw_object.specs.declared.parts.Block.TheVariants as blocks
+use Rattle.gw_blocks.specs.declared.parts.Operand.{Operand}
+use Rattle.gw_blocks.specs.declared.parts.Operand.TheVariants as forms
+use Rattle.gw_blocks.specs.declared.parts.Loop.{Loop}
+use Rattle.gw_blocks.specs.declared.parts.Block.{Block}
+use Rattle.gw_blocks.specs.declared.parts.Block.TheVariants as blocks
 use Rattle.gw_object.specs.declared.parts.Parts.{Parts}
 use Rattle.gw_kinds.specs.Kinds.{values}
 use Rattle.gw_flow.specs.Codes as codes
 use Rattle.gw_flow.specs.Entries.{with_number}
-use Rattle.gw_flow.specs.Rows.{Row, ParamKind, Num, Ret, kind_of, is_number, with_parameter}
-use Rattle.gw_flow.specs.Blocks.{Table, Rule, rule, number_rules, parameter_of, parameters_read, value_rules, own_rules, parameter_set, with_set, after}
+use Rattle.gw_flow.specs.Rows.{Row, ParamKind, Num, Ret, kind_of, is_number, is_return, with_parameter}
+use Rattle.gw_flow.specs.Blocks.{Table, Rule, rule, number_rules, parameter_of, parameters_read, value_rules, own_rules, parameter_set, with_setting, after}
 use Rattle.gw_flow.specs.Laws.{MayPass}
 use Rattle.gw_flow.proofs.Entries.{entry-with_entry}
 use Rattle.gw_flow.proofs.EachBlock.{All-front, All-back}
 
 -- AFTER A BLOCK
 
--- a parameter that is set to a number is one
-pub kind_of_set : (p : ℕ) (row : Row) → kind_of (with_parameter p row) p ≡ Some Num
-kind_of_set p row = entry-with_entry p (Some Num) row.params p ∙ rw (eq-eqb p p refl) refl
+-- a parameter that is set is of its kind
+pub kind_of_set : (p : ℕ) (kind : ParamKind) (row : Row) → kind_of (with_parameter p kind row) p ≡ Some kind
+kind_of_set p kind row = entry-with_entry p (Some kind) row.params p ∙ rw (eq-eqb p p refl) refl
 
 -- and each other one holds what it held
-pub kind_of_other : (p q : ℕ) (row : Row) → p ≢ q → kind_of (with_parameter p row) q ≡ kind_of row q
-kind_of_other p q row ne = entry-with_entry p (Some Num) row.params q ∙ rw (ne_eqb p q ne) refl
+pub kind_of_other : (p q : ℕ) (kind : ParamKind) (row : Row) → p ≢ q → kind_of (with_parameter p kind row) q ≡ kind_of row q
+kind_of_other p q kind row ne = entry-with_entry p (Some kind) row.params q ∙ rw (ne_eqb p q ne) refl
 
 -- a block sets the parameter that it sets, and no other
-pub after_params : (block : Block) (row : Row) → (after block row).params ≡ (with_set (parameter_set block) row).params
-after_params (blocks.Generate g) row = refl
-after_params (blocks.Terminate by) row = refl
-after_params (blocks.Advance time) row = refl
-after_params (blocks.Seize f) row = refl
-after_params (blocks.Release f) row = refl
-after_params (blocks.Enter u) row = refl
-after_params (blocks.Leave u) row = refl
-after_params (blocks.Queue u) row = refl
-after_params (blocks.Depart u) row = refl
-after_params (blocks.Assign a) row = refl
-after_params (blocks.Test t) row = refl
-after_params (blocks.Gate g) row = refl
-after_params (blocks.Transfer target) row = refl
-after_params (blocks.TransferByFraction f) row = refl
-after_params (blocks.Loop l) row = refl
-after_params (blocks.Logic l) row = refl
-after_params (blocks.Savevalue s) row = refl
-after_params (blocks.Mark p) row = refl
-
--- what a parameter holds once a block has been passed is what it held, or the block has set it to a number
-abbrev Stays : Option ℕ → Row → Row → ℕ → Type 0
-Stays set before later q = (kind_of later q ≡ kind_of before q) ⊎ ((set ≡ Some q) × (kind_of later q ≡ Some Num))
-
-kind_with : (p : Option ℕ) (row : Row) (q : ℕ) → Stays p row (with_set p row) q
-kind_with None row q = inl refl
-kind_with (Some p) row q =
-    ⊎_elim
-    (λ (same : p ≡ q). inr (ap Some same, sym (ap (λ n. kind_of (with_parameter n row) q) (sym same)) ∙ kind_of_set q row))
-    (λ (ne : p ≢ q). inl (kind_of_other p q row ne))
-    (cases_eq p q)
-
-pub kind_after : (block : Block) (row : Row) (q : ℕ) → (kind_of (after block row) q ≡ kind_of row q) ⊎ ((parameter_set block ≡ Some q) × (kind_of (after block row) q ≡ Some Num))
-kind_after block row q = rw (after_params block row) (kind_with (parameter_set block) row q)
+pub after_params : (b : ℕ) (block : Block) (row : Row) → (after b block row).params ≡ (with_setting b (parameter_set block) row).params
+after_params b (blocks.Generate g) row = refl
+after_params b (blocks.Terminate by) row = refl
+after_params b (blocks.Advance time) row = refl
+after_params b (blocks.Seize f) row = refl
+after_params b (blocks.Release f) row = refl
+after_params b (blocks.Enter u) row = refl
+after_params b (blocks.Leave u) row = refl
+after_params b (blocks.Queue u) row = refl
+after_params b (blocks.Depart u) row = refl
+after_params b (blocks.Assign a) row = refl
+after_params b (blocks.Test t) row = refl
+after_params b (blocks.Gate g) row = refl
+after_params b (blocks.Transfer target) row = refl
+after_params b (blocks.TransferByFraction f) row = refl
+after_params b (blocks.TransferToSubroutine c) row = refl
+after_params b (blocks.TransferByParameter q) row = refl
+after_params b (blocks.Loop l) row = refl
+after_params b (blocks.Logic l) row = refl
+after_params b (blocks.Savevalue s) row = refl
+after_params b (blocks.Mark p) row = refl
 
 -- WHERE A BLOCK MAY BE PASSED
 
@@ -74,6 +61,11 @@ is_num : (kind : Option ParamKind) → is_number kind ≡ true → kind ≡ Some
 is_num None h = absurd (false≢true h)
 is_num (Some Num) h = refl
 is_num (Some (Ret bs)) h = absurd (false≢true h)
+
+a_return : (kind : Option ParamKind) → is_return kind ≡ true → (bs : List ℕ) × (kind ≡ Some (Ret bs))
+a_return None h = absurd (false≢true h)
+a_return (Some Num) h = absurd (false≢true h)
+a_return (Some (Ret bs)) h = (bs, refl)
 
 module _ (row : Row) where
   -- a parameter is sure to hold a number
@@ -152,3 +144,10 @@ module _ (p : Parts) (table : Table) (b : ℕ) where
   -- what a LOOP counts down is sure to be a number
   pub loop_is_number : (l : Loop) (row : Row) → MayPass p table b (blocks.Loop l) row → kind_of row l.parameter ≡ Some Num
   loop_is_number l row h = by_rules row l.parameter (own_rules_hold (blocks.Loop l) row h)
+
+  -- where a TRANSFER in parameter mode leads to is sure to be a return
+  pub return_is : (q : ℕ) (row : Row) → MayPass p table b (blocks.TransferByParameter q) row → (bs : List ℕ) × (kind_of row q ≡ Some (Ret bs))
+  return_is q row h =
+      let set = rule codes.unset_param (is_some (kind_of row q)) in
+      let returns = rule codes.param_kind (is_return (kind_of row q)) in
+      a_return (kind_of row q) (All-head Holds returns [] (All-tail Holds set (returns ∷ []) (own_rules_hold (blocks.TransferByParameter q) row h)))

@@ -7,7 +7,7 @@ use Rattle.std.proofs.lemmas.List.{append-nil}
 use Rattle.std.proofs.lemmas.List.Sums.{fold_push}
 use Rattle.std.proofs.lemmas.List.Elements.{All-nil, All-cons, All-head, All-tail, filter_map-append}
 use Rattle.gw_object.specs.declared.fault.Fault.{Fault}
-use Rattle.gw_object.specs.declared.parts.Operand.{Operand}
+use Rattle.gw_blocks.specs.declared.parts.Operand.{Operand}
 use Rattle.gw_kinds.specs.Checks.{first_broken}
 use Rattle.gw_flow.specs.Entries.{with_number, in_order}
 use Rattle.gw_flow.specs.Rows.{Row, ParamKind, Num, Ret, kind_of, is_number}

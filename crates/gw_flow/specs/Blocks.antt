@@ -1,25 +1,28 @@
 -- Blocks: what each asks of a transaction that enters it, and what is known of the transaction where it goes on.
 use Rattle.std.specs.Prelude.{ℕ, ◌+◌, ◌-◌, List, [], ◌∷◌, ◌++◌, map, filter_map, length, Option, Some, None, is_some, Bool, true, false, if◌then◌else◌, not, ◌||◌, ◌==◌, nat_le}
 use Rattle.std.specs.List.{flat_map}
-use Rattle.std.specs.Option.{option_map_or}
+use Rattle.std.specs.Option.{option_map, option_map_or}
 use Rattle.gw_object.specs.Entities.{capacity_of}
 use Rattle.gw_object.specs.declared.parts.Entity.{Entity}
-use Rattle.gw_object.specs.declared.parts.Mode.{Mode}
-use Rattle.gw_object.specs.declared.parts.Mode.TheVariants.{Set, Add, Subtract}
-use Rattle.gw_object.specs.declared.parts.Operand.{Operand}
-use Rattle.gw_object.specs.declared.parts.Operand.TheVariants as forms
-use Rattle.gw_object.specs.declared.parts.Block.{Block}
-use Rattle.gw_object.specs.declared.parts.Block.TheVariants as blocks
+use Rattle.gw_blocks.specs.declared.parts.Mode.{Mode}
+use Rattle.gw_blocks.specs.declared.parts.Mode.TheVariants.{Set, Add, Subtract}
+use Rattle.gw_blocks.specs.declared.parts.Operand.{Operand}
+use Rattle.gw_blocks.specs.declared.parts.Operand.TheVariants as forms
+use Rattle.gw_blocks.specs.declared.parts.Block.{Block}
+use Rattle.gw_blocks.specs.declared.parts.Block.TheVariants as blocks
 use Rattle.gw_object.specs.declared.parts.Parts.{Parts}
 use Rattle.gw_kinds.specs.declared.ways.Exit.{Exit}
-use Rattle.gw_kinds.specs.Exits.{leads_to, exits}
+use Rattle.gw_kinds.specs.Exits.{leads_to, exits_with}
 use Rattle.gw_kinds.specs.Kinds.{kind_at, is_generate, values}
 use Rattle.gw_flow.specs.declared.edges.Target.{Target}
 use Rattle.gw_flow.specs.declared.edges.Target.TheVariants as targets
 use Rattle.gw_flow.specs.declared.edges.FlowEdge.{FlowEdge}
+use Rattle.gw_flow.specs.declared.setting.SetTo.{SetTo}
+use Rattle.gw_flow.specs.declared.setting.SetTo.TheVariants.{Number, ReturnHere}
+use Rattle.gw_flow.specs.declared.setting.Setting.{Setting}
 use Rattle.gw_flow.specs.Codes as codes
 use Rattle.gw_flow.specs.Entries.{in_order}
-use Rattle.gw_flow.specs.Rows.{Row, kind_of, is_number, is_return, owns, units_of, is_empty, nothing_known, with_parameter, with_facility, without_facility, with_units}
+use Rattle.gw_flow.specs.Rows.{ParamKind, Num, Ret, Row, kind_of, is_number, is_return, return_blocks, owns, units_of, is_empty, nothing_known, with_parameter, with_facility, without_facility, with_units}
 
 -- a state table: what is known of a transaction that is about to go to a target, if it says that one may go there
 abbrev pub Table : Type 0
@@ -61,6 +64,10 @@ parameters_read os = in_order (filter_map parameter_of os)
 abbrev pub value_rules : Block → Row → List Rule
 value_rules block state = flat_map (number_rules state) (parameters_read (values block))
 
+-- a parameter that is used as a return is set (20), and to a return (27)
+abbrev pub return_rules : Row → ℕ → List Rule
+return_rules state p = rule codes.unset_param (is_some (kind_of state p)) ∷ rule codes.param_kind (is_return (kind_of state p)) ∷ []
+
 -- whether a value takes the place of another one
 abbrev pub replaces : Mode → Bool
 replaces Set = true
@@ -82,6 +89,8 @@ own_rules p (blocks.Leave u) state = holds_units state u.entity u.number ∷ []
 own_rules p (blocks.Depart u) state = holds_units state u.entity u.number ∷ []
 -- nothing is added to a return or subtracted from it (27)
 own_rules p (blocks.Assign a) state = rule codes.param_kind (replaces a.mode || not (is_return (kind_of state a.parameter))) ∷ []
+-- where a TRANSFER in parameter mode leads to is a return (20, 27)
+own_rules p (blocks.TransferByParameter q) state = return_rules state q
 -- what a LOOP counts down is a number (20, 27)
 own_rules p (blocks.Loop l) state = number_rules state l.parameter
 own_rules p block state = []
@@ -96,28 +105,37 @@ rules_without_row block = if is_generate (Some block) then value_rules block not
 
 -- EDGES
 
--- the parameter that a block sets to a number, if it sets one
-abbrev pub parameter_set : Block → Option ℕ
-parameter_set (blocks.Assign a) = Some a.parameter
-parameter_set (blocks.Mark p) = p
+-- the parameter that a block sets, if it sets one, and what to
+abbrev pub parameter_set : Block → Option Setting
+parameter_set (blocks.Assign a) = Some (record { parameter = a.parameter; to = Number })
+parameter_set (blocks.TransferToSubroutine c) = Some (record { parameter = c.parameter; to = ReturnHere })
+parameter_set (blocks.Mark p) = option_map (λ q. record { parameter = q; to = Number }) p
 parameter_set block = None
 
--- the state once a parameter is set to a number, if one is
-abbrev pub with_set : Option ℕ → Row → Row
-with_set None state = state
-with_set (Some p) state = with_parameter p state
+-- what a parameter holds that the block of number b has set
+abbrev pub kind_set : ℕ → SetTo → ParamKind
+kind_set b Number = Num
+kind_set b ReturnHere = Ret (b ∷ [])
 
--- what is known of a transaction once it has passed a block in a state; most blocks change nothing of it
-abbrev pub after : Block → Row → Row
-after (blocks.Seize f) state = with_facility f state
-after (blocks.Release f) state = without_facility f state
-after (blocks.Enter u) state = with_units u.entity (units_of state u.entity + u.number) state
-after (blocks.Leave u) state = with_units u.entity (units_of state u.entity - u.number) state
-after (blocks.Queue u) state = with_units u.entity (units_of state u.entity + u.number) state
-after (blocks.Depart u) state = with_units u.entity (units_of state u.entity - u.number) state
-after (blocks.Assign a) state = with_parameter a.parameter state
-after (blocks.Mark p) state = with_set p state
-after block state = state
+-- the state once the block of number b has set a parameter, if it sets one
+abbrev pub with_setting : ℕ → Option Setting → Row → Row
+with_setting b None state = state
+with_setting b (Some s) state = with_parameter s.parameter (kind_set b s.to) state
+
+-- what is known of a transaction once it has passed the block of number b in a state; most blocks change nothing of it
+abbrev pub after : ℕ → Block → Row → Row
+after b (blocks.Seize f) state = with_facility f state
+after b (blocks.Release f) state = without_facility f state
+after b (blocks.Enter u) state = with_units u.entity (units_of state u.entity + u.number) state
+after b (blocks.Leave u) state = with_units u.entity (units_of state u.entity - u.number) state
+after b (blocks.Queue u) state = with_units u.entity (units_of state u.entity + u.number) state
+after b (blocks.Depart u) state = with_units u.entity (units_of state u.entity - u.number) state
+after b block state = with_setting b (parameter_set block) state
+
+-- the blocks to which the return may lead that a TRANSFER in parameter mode reads; no other block reads one
+abbrev pub returns_read : Block → Row → List ℕ
+returns_read (blocks.TransferByParameter q) state = return_blocks (kind_of state q)
+returns_read block state = []
 
 -- a transaction goes on to a block
 abbrev pub move : ℕ → Row → FlowEdge
@@ -129,7 +147,7 @@ edges_along b exits passed = map (λ (exit : Exit). move (leads_to b exit.way) p
 
 -- the flow edges of the block of number b in a state, in order: those of most blocks are the same for every table
 abbrev pub edges_from : ℕ → Block → Row → List FlowEdge
-edges_from b block state = edges_along b (exits block) (after block state)
+edges_from b block state = edges_along b (exits_with (returns_read block state) block) (after b block state)
 
 -- the flow edges of the block of number b in a state, in order
 abbrev pub edges : Parts → Table → ℕ → Block → Row → List FlowEdge

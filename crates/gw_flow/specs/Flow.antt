@@ -6,16 +6,23 @@ use Rattle.gw_object.specs.Reading.{out_of_memory}
 use Rattle.gw_object.specs.declared.fault.Fault.{Fault}
 use Rattle.gw_object.specs.declared.fault.Place.{Place}
 use Rattle.gw_object.specs.declared.fault.Place.TheVariants as places
-use Rattle.gw_object.specs.declared.parts.Block.{Block}
+use Rattle.gw_blocks.specs.declared.parts.Block.{Block}
+use Rattle.gw_object.specs.declared.parts.ReturnRow.{ReturnRow}
 use Rattle.gw_object.specs.declared.parts.Parts.{Parts}
 use Rattle.gw_kinds.specs.Checks.{Check, check, first_broken, numbered}
 use Rattle.gw_flow.specs.declared.abstract_state.Parameter.{Parameter}
+use Rattle.gw_flow.specs.declared.abstract_state.ParameterKind.{ParameterKind}
+use Rattle.gw_flow.specs.declared.abstract_state.ParameterKind.TheVariants.{Num as OwnNum, RetTo as OwnRetTo}
+use Rattle.gw_flow.specs.declared.setting.SetTo.{SetTo}
+use Rattle.gw_flow.specs.declared.setting.SetTo.TheVariants.{Number, ReturnHere}
+use Rattle.gw_flow.specs.declared.setting.Setting.{Setting}
 use Rattle.gw_flow.specs.declared.edges.Target.{Target}
 use Rattle.gw_flow.specs.declared.edges.Target.TheVariants as targets
 use Rattle.gw_flow.specs.declared.edges.Edge.{Edge}
 use Rattle.gw_flow.specs.declared.edges.FlowEdge.{FlowEdge}
+use Rattle.gw_flow.specs.Entries.{in_place}
 use Rattle.gw_flow.specs.Rows.{Row, fits}
-use Rattle.gw_flow.specs.Seen.{known, seen, parameters_with}
+use Rattle.gw_flow.specs.Seen.{known, seen}
 use Rattle.gw_flow.specs.Blocks.{Table, Rule, rules, rules_without_row, parameter_set, edges}
 
 -- TABLES
@@ -31,7 +38,7 @@ table_of rows (targets.Block b) = row_at rows b
 
 -- an object's own table
 abbrev pub own_table : Parts → Table
-own_table p = table_of (map (option_map seen) p.states)
+own_table p = table_of (map (option_map (seen p.returns)) p.states)
 
 -- the row of the block of a number in an object's own table
 abbrev pub own_row : Parts → ℕ → Option Row
@@ -88,23 +95,37 @@ abbrev pub FindsOrLacksMemory : {X : Type 0} → Result X Fault → List Check �
 FindsOrLacksMemory (Ok x) cs = first_broken cs ≡ None
 FindsOrLacksMemory (Err fault) cs = (first_broken cs ≡ Some fault) ⊎ (fault ≡ out_of_memory)
 
--- where an edge leads, and what its state says
-abbrev pub said : Edge → Target × Row
-said e = (e.target, known e.state)
+-- the kind, as calls carry it, of a parameter that the block of number b has set
+abbrev pub own_kind : ℕ → SetTo → ParameterKind
+own_kind b Number = OwnNum
+own_kind b ReturnHere = OwnRetTo b
+
+-- the parameter that the block of number b sets, if it sets one, as calls carry it
+abbrev pub own_setting : ℕ → Block → Option Parameter
+own_setting b block = option_map (λ (s : Setting). record { number = s.parameter; kind = own_kind b s.to }) (parameter_set block)
+
+-- the parameters that are sure to be set once one is set, if one is; each other one is as it was given
+abbrev pub parameters_with : Option Parameter → List Parameter → List Parameter
+parameters_with None given = given
+parameters_with (Some p) given = in_place (λ (q : Parameter). q.number) p given
+
+-- where an edge leads, and what its state says by the return rows
+abbrev pub said : List ReturnRow → Edge → Target × Row
+said rows e = (e.target, known rows e.state)
 
 -- where a flow edge leads, and what its state says
 abbrev pub said_by_flow : FlowEdge → Target × Row
 said_by_flow e = (e.target, e.state)
 
 -- these edges lead where flow edges lead, in the same order, and their states say the same
-abbrev pub SayTheSame : List Edge → List FlowEdge → Type 0
-SayTheSame out es = map said out ≡ map said_by_flow es
+abbrev pub SayTheSame : List ReturnRow → List Edge → List FlowEdge → Type 0
+SayTheSame rows out es = map (said rows) out ≡ map said_by_flow es
 
--- the states of edges of a block have the parameters that were given, but the one that the block sets to a number
-abbrev pub HaveOwn : List Edge → Block → List Parameter → Type 0
-HaveOwn out block given = All (λ (e : Edge). e.state.parameters ≡ parameters_with (parameter_set block) given) out
+-- the states of edges of the block of number b have the parameters that were given, but the one that the block sets
+abbrev pub HaveOwn : List Edge → ℕ → Block → List Parameter → Type 0
+HaveOwn out b block given = All (λ (e : Edge). e.state.parameters ≡ parameters_with (own_setting b block) given) out
 
--- what a call answers for the edges of a block, where these are the checks of its rules: the fault of the first rule that is broken; else where each edge leads and its state, in order, unless memory ran out
-abbrev pub AnswersEdges : Result (Vec Edge Global) Fault → List Check → List FlowEdge → Type 0
-AnswersEdges (Ok out) rule_checks es = (first_broken rule_checks ≡ None) × SayTheSame out.items es
-AnswersEdges (Err fault) rule_checks es = (first_broken rule_checks ≡ Some fault) ⊎ ((first_broken rule_checks ≡ None) × (fault ≡ out_of_memory))
+-- what a call answers for the edges of a block, by these return rows, where these are the checks of its rules: the fault of the first rule that is broken; else where each edge leads and its state, in order, unless memory ran out
+abbrev pub AnswersEdges : List ReturnRow → Result (Vec Edge Global) Fault → List Check → List FlowEdge → Type 0
+AnswersEdges rows (Ok out) rule_checks es = (first_broken rule_checks ≡ None) × SayTheSame rows out.items es
+AnswersEdges rows (Err fault) rule_checks es = (first_broken rule_checks ≡ Some fault) ⊎ ((first_broken rule_checks ≡ None) × (fault ≡ out_of_memory))

@@ -15,9 +15,15 @@ pub record Row : Type 0 where
   pub facilities : List ℕ
   pub units : List (ℕ × ℕ)
 
+-- the blocks of a return ascend
+abbrev pub KindAscends : ParamKind → Type 0
+KindAscends Num = Unit {0}
+KindAscends (Ret bs) = AllPairs (λ a b. a < b) bs
+
 -- the lists of a state ascend, each number in them once, and no amount is 0
 pub record IsOrdered (row : Row) : Type 0 where
   pub params : AllPairs (λ a b. a.0 < b.0) row.params
+  pub returns : All (λ e. KindAscends e.1) row.params
   pub facilities : AllPairs (λ a b. a < b) row.facilities
   pub units : AllPairs (λ a b. a.0 < b.0) row.units
   pub amounts : All (λ e. e.1 ≢ 0) row.units
@@ -38,6 +44,12 @@ is_return None = false
 is_return (Some Num) = false
 is_return (Some (Ret bs)) = true
 
+-- the blocks to which a parameter is known to return, if it holds a return
+abbrev pub return_blocks : Option ParamKind → List ℕ
+return_blocks None = []
+return_blocks (Some Num) = []
+return_blocks (Some (Ret bs)) = bs
+
 -- whether a facility is owned
 abbrev pub owns : Row → ℕ → Bool
 owns row f = lists row.facilities f
@@ -54,9 +66,9 @@ is_empty row = (length row.params == 0) && (length row.facilities == 0) && (leng
 abbrev pub nothing_known : Row
 nothing_known = record { params = []; facilities = []; units = [] }
 
--- the state once a parameter is set to a number
-abbrev pub with_parameter : ℕ → Row → Row
-with_parameter p row = record row { params = with_entry p (Some Num) row.params }
+-- the state once a parameter is set to what is of this kind
+abbrev pub with_parameter : ℕ → ParamKind → Row → Row
+with_parameter p kind row = record row { params = with_entry p (Some kind) row.params }
 
 -- the state once a facility is owned
 abbrev pub with_facility : ℕ → Row → Row
@@ -74,9 +86,10 @@ nonzero n = if n == 0 then None else Some n
 abbrev pub with_units : ℕ → ℕ → Row → Row
 with_units e n row = record row { units = with_entry e (nonzero n) row.units }
 
--- each amount has room for what a block adds
-abbrev pub HasRoom : Row → Type 0
-HasRoom row = (e : ℕ) → units_of row e ≤ 2 ^ 62
+-- each amount has room for what a block adds, and each block of a return one for the number of the block after it
+pub record HasRoom (row : Row) : Type 0 where
+  pub amounts : (e : ℕ) → units_of row e ≤ 2 ^ 62
+  pub returns : (p : ℕ) → All (λ b. b < 65535) (return_blocks (kind_of row p))
 
 -- FITS
 

@@ -1,13 +1,13 @@
 -- Operand values: what the operands of a block come to, from left to right, and where the streams are after their draws.
 use Rattle.std.specs.Prelude.{ℕ, ◌-◌, ◌%◌, ℤ, pos, ◌-ℤ◌, List, [], ◌∷◌, Option, Some, None, Result, Ok, Err, set}
-use Rattle.gw_object.specs.declared.parts.Attribute.{Attribute}
-use Rattle.gw_object.specs.declared.parts.Attribute.TheVariants.{Clock, AbsoluteClock, Priority, TransitTime, TransactionNumber, TerminationCount}
-use Rattle.gw_object.specs.declared.parts.Numbered.{Numbered}
-use Rattle.gw_object.specs.declared.parts.Operand.{Operand}
-use Rattle.gw_object.specs.declared.parts.Operand.TheVariants as forms
-use Rattle.gw_object.specs.declared.parts.Spread.{Spread}
-use Rattle.gw_object.specs.declared.parts.Block.{Block}
-use Rattle.gw_object.specs.declared.parts.Block.TheVariants as blocks
+use Rattle.gw_blocks.specs.declared.parts.Attribute.{Attribute}
+use Rattle.gw_blocks.specs.declared.parts.Attribute.TheVariants.{Clock, AbsoluteClock, Priority, TransitTime, TransactionNumber, TerminationCount}
+use Rattle.gw_blocks.specs.declared.parts.Numbered.{Numbered}
+use Rattle.gw_blocks.specs.declared.parts.Operand.{Operand}
+use Rattle.gw_blocks.specs.declared.parts.Operand.TheVariants as forms
+use Rattle.gw_blocks.specs.declared.parts.Spread.{Spread}
+use Rattle.gw_blocks.specs.declared.parts.Block.{Block}
+use Rattle.gw_blocks.specs.declared.parts.Block.TheVariants as blocks
 use Rattle.gw_num.specs.declared.arithmetic.NumFault.{NumFault}
 use Rattle.gw_num.specs.Generator as generator
 use Rattle.gw_num.specs.Table.{at}

@@ -1,8 +1,7 @@
 //! Abstract states, as calls carry them: what is known of a transaction, in numbers of the caller's own.
 
 ghost use Rattle.std.specs.Prelude.{◌≡◌, ◌≢◌, ◌↔◌, ◌<◌, IsTrue, Ok, IfOk, IfErr, All, AllPairs};
-ghost use Rattle.gw_flow.specs.Rows.{IsOrdered};
-ghost use Rattle.gw_flow.specs.Seen.{known};
+ghost use Rattle.gw_flow.specs.Seen.{PartsAscend};
 
 use gw_object::Items;
 use std::marker::Model;
@@ -12,6 +11,10 @@ use std::marker::Model;
 pub enum ParameterKind {
     /// A number.
     Num,
+    /// A return to one of the blocks of the return row of this number, from 0.
+    Ret(u16),
+    /// The return to the block of this number, from 1; on edges alone.
+    RetTo(u16),
 }
 
 /// A parameter that is set.
@@ -52,14 +55,13 @@ pub struct AbsState {
 
 impl Model for AbsState {
     ghost use Rattle.gw_flow.specs.declared.abstract_state.StateParts.{StateParts};
-    ghost use Rattle.gw_flow.specs.Rows.{IsOrdered};
-    ghost use Rattle.gw_flow.specs.Seen.{known};
+    ghost use Rattle.gw_flow.specs.Seen.{PartsAscend};
 
     ghost Value = { StateParts };
 
     ghost view = { λ s. s.parts };
 
-    ghost invariant = { λ s. IsOrdered (known s.parts) };
+    ghost invariant = { λ s. PartsAscend s.parts };
 }
 
 /// Whether parameters ascend by their numbers.
@@ -106,7 +108,7 @@ fn amounts_are_ordered(amounts: &[Amount]) -> bool
 
 /// Whether the lists of a state ascend and no amount is 0.
 fn is_ordered(parts: &StateParts) -> bool
-    ensures { IsTrue result ↔ IsOrdered (known parts.now) }
+    ensures { IsTrue result ↔ PartsAscend parts.now }
 {
     numbers_ascend(parts) && amounts_are_ordered(parts.units.as_slice())
 }
@@ -114,7 +116,7 @@ fn is_ordered(parts: &StateParts) -> bool
 impl AbsState {
     /// The state of parts that are known to ascend.
     pub(crate) fn of(parts: StateParts) -> AbsState
-        requires { IsOrdered (known parts) }
+        requires { PartsAscend parts }
         ensures { result ≡ parts }
     {
         AbsState { parts }
@@ -122,9 +124,9 @@ impl AbsState {
 
     /// The state of these parts. Parts whose lists don't ascend strictly, or that have an amount 0, are handed back.
     pub fn build(parts: StateParts) -> Result<AbsState, StateParts>
-        ensures accepted { IfOk result (λ s. (s ≡ parts) × IsOrdered (known parts)) }
-        ensures exactly { IsOrdered (known parts) → result ≡ Ok parts }
-        ensures refused { IfErr result (λ back. (back ≡ parts) × ¬ IsOrdered (known parts)) }
+        ensures accepted { IfOk result (λ s. (s ≡ parts) × PartsAscend parts) }
+        ensures exactly { PartsAscend parts → result ≡ Ok parts }
+        ensures refused { IfErr result (λ back. (back ≡ parts) × ¬ PartsAscend parts) }
     {
         if is_ordered(&parts) {
             Ok(AbsState::of(parts))
@@ -136,7 +138,7 @@ impl AbsState {
     /// Its parts.
     pub fn parts(&self) -> &StateParts
         ensures value { result.now ≡ self.now }
-        ensures ordered { IsOrdered (known self.now) }
+        ensures ordered { PartsAscend self.now }
     {
         &self.parts
     }

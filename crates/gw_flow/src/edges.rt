@@ -1,7 +1,11 @@
 //! Flow edges: where a transaction goes on to, and what is known of it there.
 
-ghost use Rattle.std.specs.Prelude.{◌≡◌, ◌≤◌, IfOk};
-ghost use Rattle.gw_flow.specs.Rows.{HasRoom};
+ghost use Rattle.std.specs.Prelude.{◌≡◌, ◌≤◌, ◌<◌, List, map, option_map, IfOk, All, AllPairs};
+ghost use Rattle.gw_object.specs.declared.parts.ReturnRow.{ReturnRow};
+ghost use Rattle.gw_kinds.specs.Exits.{returns_to as exit_after};
+ghost use Rattle.gw_flow.specs.declared.abstract_state.Parameter.{Parameter as DeclaredParameter};
+ghost use Rattle.gw_flow.specs.Rows.{HasRoom, return_blocks};
+ghost use Rattle.gw_flow.specs.Viewed.{held_kind};
 ghost use Rattle.gw_flow.specs.Blocks as model;
 ghost use Rattle.gw_flow.specs.Flow.{said};
 ghost use Rattle.gw_flow.specs.Seen.{params_of};
@@ -9,9 +13,11 @@ ghost use Rattle.gw_flow.specs.Seen.{params_of};
 use crate::abstract_state::{AbsState, Parameter};
 use crate::codes::EDGE_STATE;
 use crate::lookups::Lookups;
-use crate::state::State;
-use gw_kinds::{Exit, exits, leads_to};
-use gw_object::{Block, Items, Memory};
+use crate::setting::{Setting, parameter_set};
+use crate::state::{Holds, State};
+use gw_blocks::Block;
+use gw_kinds::{Exit, exits, leads_to, returns_to};
+use gw_object::{Items, Memory};
 use std::alloc::Global;
 
 /// Where an edge leads.
@@ -32,24 +38,24 @@ pub struct Edge {
 
 /// A flow edge of a block.
 #[derive(Debug, Drop)]
-pub struct FlowEdge {
+pub struct FlowEdge<'a> {
     /// The code of the fault where the state doesn't fit the row of the target.
     pub(crate) code: u16,
     /// Where the transaction goes on to.
     pub(crate) target: Target,
     /// What is known of it there.
-    pub(crate) state: State,
+    pub(crate) state: State<'a>,
 }
 
-impl FlowEdge {
+impl<'a> FlowEdge<'a> {
     /// This edge in the numbers of these parameters, which say what its state says of them.
     pub(crate) fn in_numbers_of(
         &self,
         alloc: Global,
         parameters: &Items<Parameter>,
     ) -> Result<Edge, Memory>
-        requires { self.now.state.params ≡ params_of parameters.now }
-        ensures same { IfOk result (λ e. said e ≡ (self.now.target, self.now.state)) }
+        requires { AllPairs (λ (a b : DeclaredParameter). a.number < b.number) parameters.now }
+        ensures same { IfOk result (λ e. (rows : List ReturnRow) → self.now.state.params ≡ params_of rows parameters.now → said rows e ≡ (self.now.target, self.now.state)) }
         ensures own { IfOk result (λ e. e.state.parameters ≡ parameters.now) }
     {
         Ok(Edge {
@@ -59,31 +65,30 @@ impl FlowEdge {
     }
 }
 
-/// The parameter that a block sets to a number, if it sets one.
-pub(crate) fn parameter_set(block: &Block) -> Option<u8>
-    ensures { result ≡ model.parameter_set block.now }
+/// The state once the block of this number has set a parameter, if it sets one.
+fn with_setting<'a>(
+    alloc: Global,
+    number: u16,
+    setting: Option<Setting>,
+    state: &State<'a>,
+) -> Result<State<'a>, Memory>
+    ensures { IfOk result (λ s. s ≡ model.with_setting number setting state.now) }
 {
-    match block {
-        Block::Assign(assign) => Some(assign.parameter),
-        Block::Mark(parameter) => *parameter,
-        _ => None,
-    }
-}
-
-/// The state once a parameter is set to a number, if one is.
-fn with_set(alloc: Global, number: Option<u8>, state: &State) -> Result<State, Memory>
-    ensures { IfOk result (λ s. s ≡ model.with_set number state.now) }
-{
-    match number {
-        Some(number) => state.with_parameter(alloc, number),
+    match setting {
+        Some(set) => state.with_parameter(alloc, set.parameter, set.to.holds(number)),
         None => state.copy(alloc),
     }
 }
 
-/// What is known of a transaction once it has passed a block in a state.
-fn after(alloc: Global, block: &Block, state: &State) -> Result<State, Memory>
+/// What is known of a transaction once it has passed the block of this number in a state.
+fn after<'a>(
+    alloc: Global,
+    number: u16,
+    block: &Block,
+    state: &State<'a>,
+) -> Result<State<'a>, Memory>
     requires { HasRoom state.now }
-    ensures { IfOk result (λ s. s ≡ model.after block.now state.now) }
+    ensures { IfOk result (λ s. s ≡ model.after number block.now state.now) }
 {
     match block {
         Block::Seize(f) => state.with_facility(alloc, *f),
@@ -96,13 +101,13 @@ fn after(alloc: Global, block: &Block, state: &State) -> Result<State, Memory>
             let units = state.units_of(u.entity).saturating_sub(u.number as u64);
             state.with_units(alloc, u.entity, units)
         }
-        _ => with_set(alloc, parameter_set(block), state),
+        _ => with_setting(alloc, number, parameter_set(block), state),
     }
 }
 
 /// The edge of a transaction that goes on to a block.
-fn move_to(target: u16, state: State) -> FlowEdge
-    ensures { result ≡ model.move target state }
+fn move_to<'a>(target: u16, state: State<'a>) -> FlowEdge<'a>
+    ensures { result ≡ model.move target state.entry }
 {
     FlowEdge {
         code: EDGE_STATE,
@@ -112,12 +117,12 @@ fn move_to(target: u16, state: State) -> FlowEdge
 }
 
 /// The edges along these exits of the block of this number, in order, of a transaction that has passed it.
-fn edges_along(
+fn edges_along<'a>(
     alloc: Global,
     number: u16,
     exits: &[Exit],
-    passed: &State,
-) -> Result<Vec<FlowEdge>, Memory>
+    passed: &State<'a>,
+) -> Result<Vec<FlowEdge<'a>>, Memory>
     requires { number ≤ 4096 }
     ensures { IfOk result (λ edges. edges.items ≡ model.edges_along number exits.now passed.now) }
 {
@@ -129,17 +134,47 @@ fn edges_along(
     Ok(edges)
 }
 
+/// The exits to the blocks after these.
+fn exits_after(alloc: Global, blocks: &[u16]) -> Result<Vec<Exit>, Memory>
+    requires { All (λ b. b < 65535) blocks.now }
+    ensures { IfOk result (λ exits. exits.items ≡ map exit_after blocks.now) }
+{
+    let mut exits = Vec::with_capacity(alloc, blocks.len())?;
+    for block in blocks {
+        exits.push(returns_to(*block))?;
+    }
+    Ok(exits)
+}
+
+/// The exits of a TRANSFER in parameter mode whose parameter holds this, if it is set.
+fn exits_of_return(alloc: Global, holds: Option<Holds<'_>>) -> Result<Vec<Exit>, Memory>
+    requires { All (λ b. b < 65535) (return_blocks (option_map held_kind holds)) }
+    ensures { IfOk result (λ exits. exits.items ≡ map exit_after (return_blocks (option_map held_kind holds.entry))) }
+{
+    match holds {
+        Some(Holds::ReturnTo(block)) => exits_after(alloc, &[block]),
+        Some(Holds::ReturnToAny(blocks)) => exits_after(alloc, blocks),
+        Some(Holds::Num) | None => Ok(Vec::new(alloc)),
+    }
+}
+
 /// The edges of the block of this number in a state, in order.
-pub(crate) fn edges_of(
+pub(crate) fn edges_of<'a>(
     alloc: Global,
     number: u16,
     block: &Block,
-    state: &State,
-) -> Result<Vec<FlowEdge>, Memory>
+    state: &State<'a>,
+) -> Result<Vec<FlowEdge<'a>>, Memory>
     requires number { number ≤ 4096 }
     requires room { HasRoom state.now }
     ensures { IfOk result (λ edges. edges.items ≡ model.edges_from number block.now state.now) }
 {
-    let passed = after(alloc, block, state)?;
-    edges_along(alloc, number, &exits(block), &passed)
+    let passed = after(alloc, number, block, state)?;
+    match block {
+        Block::TransferByParameter(parameter) => {
+            let exits = exits_of_return(alloc, state.kind_of(*parameter))?;
+            edges_along(alloc, number, &exits, &passed)
+        }
+        _ => edges_along(alloc, number, &exits(block), &passed),
+    }
 }

@@ -1,8 +1,9 @@
 //! Whether what is known of a transaction suffices for what a row of the state table asks. Both lists ascend, so each is
 //! walked once.
 
-ghost use Rattle.std.specs.Prelude.{◌≡◌, ◌≢◌, ◌<◌, ℕ, Bool, Some, ◌==◌, ◌&&◌, nat_le, All, AllPairs};
+ghost use Rattle.std.specs.Prelude.{◌≡◌, ◌≢◌, ◌<◌, ℕ, Bool, true, Some, [], ◌∷◌, ◌==◌, ◌&&◌, nat_le, All, AllPairs};
 ghost use Rattle.std.specs.List.{list_all, list_any};
+ghost use Rattle.gw_flow.specs.Entries.{lists};
 ghost use Rattle.gw_flow.specs.Rows as rows;
 ghost use Rattle.gw_flow.specs.Seen.{amounts_of};
 ghost use Rattle.gw_flow.specs.Viewed.{held_kind, params_viewed};
@@ -16,18 +17,69 @@ trait Entry: Keyed {
     /// Whether the first, which is held, suffices for the second, which is asked.
     ghost enough: { Self → Self → Bool };
 
+    /// An entry may be compared: a list of its own ascends.
+    ghost can_compare: { Self → Type 0 } = { λ _. Unit {0} };
+
     /// Whether it suffices where another of its number is asked.
     fn suffices(&self, asked: &Self) -> bool
+        requires held { can_compare self.now }
+        requires asked { can_compare asked.now }
         ensures { result ≡ enough self.now asked.now };
 }
 
-impl Entry for Param {
+impl Entry for u16 {
+    ghost enough = { λ held asked. true };
+
+    fn suffices(&self, _: &u16) -> bool {
+        true
+    }
+}
+
+/// Whether each of these blocks is among others.
+fn are_among(blocks: &[u16], others: &[u16]) -> bool
+    requires blocks { AllPairs (λ a b. a < b) blocks.now }
+    requires others { AllPairs (λ a b. a < b) others.now }
+    ensures { result ≡ list_all (λ b. lists others.now b) blocks.now }
+{
+    has_each(others, blocks)
+}
+
+/// Whether each of these blocks is this one.
+fn are_all(blocks: &[u16], block: u16) -> bool
+    ensures { result ≡ list_all (λ b. lists (block ∷ []) b) blocks.now }
+{
+    blocks.iter().all(|b| *b == block)
+}
+
+/// Whether what a parameter holds suffices where this is asked: a number for a number, and a return for one to at least the
+/// same blocks.
+fn kind_suffices(held: Holds<'_>, asked: Holds<'_>) -> bool
+    requires held { rows.KindAscends (held_kind held) }
+    requires asked { rows.KindAscends (held_kind asked) }
+    ensures { result ≡ rows.kind_fits (Some (held_kind held.entry)) (Some (held_kind asked.entry)) }
+{
+    match held {
+        Holds::Num => asked == Holds::Num,
+        Holds::ReturnTo(block) => match asked {
+            Holds::Num => false,
+            Holds::ReturnTo(other) => other == block,
+            Holds::ReturnToAny(others) => others.contains(&block),
+        },
+        Holds::ReturnToAny(blocks) => match asked {
+            Holds::Num => false,
+            Holds::ReturnTo(other) => are_all(blocks, other),
+            Holds::ReturnToAny(others) => are_among(blocks, others),
+        },
+    }
+}
+
+impl<'a> Entry for Param<'a> {
     ghost enough = { λ held asked. rows.kind_fits (Some (held_kind held.holds)) (Some (held_kind asked.holds)) };
 
-    fn suffices(&self, asked: &Param) -> bool {
-        match (self.holds, asked.holds) {
-            (Holds::Num, Holds::Num) => true,
-        }
+    ghost can_compare = { λ p. rows.KindAscends (held_kind p.holds) };
+
+    fn suffices(&self, asked: &Param<'a>) -> bool {
+        kind_suffices(self.holds, asked.holds)
     }
 }
 
@@ -43,6 +95,8 @@ impl Entry for Amount {
 fn has_each<T: Entry>(held: &[T], asked: &[T]) -> bool
     requires held { AllPairs (λ a b. T.key a < T.key b) held.now }
     requires asked { AllPairs (λ a b. T.key a < T.key b) asked.now }
+    requires each_held { All T.can_compare held.now }
+    requires each_asked { All T.can_compare asked.now }
     ensures { result ≡ list_all (λ a. list_any (λ h. (T.key h == T.key a) && T.enough h a) held.now) asked.now }
 {
     let mut left = asked;
@@ -74,9 +128,11 @@ pub(crate) fn has_units(held: &[Amount], asked: &[Amount]) -> bool
 }
 
 /// Whether at least these parameters are set, to what fits.
-pub(crate) fn has_params(held: &[Param], asked: &[Param]) -> bool
+pub(crate) fn has_params(held: &[Param<'_>], asked: &[Param<'_>]) -> bool
     requires held { AllPairs (λ (a b : Param). a.number < b.number) held.now }
     requires asked { AllPairs (λ (a b : Param). a.number < b.number) asked.now }
+    requires each_held { All (λ (p : Param). rows.KindAscends (held_kind p.holds)) held.now }
+    requires each_asked { All (λ (p : Param). rows.KindAscends (held_kind p.holds)) asked.now }
     ensures { result ≡ rows.params_fit (params_viewed held.now) (params_viewed asked.now) }
 {
     has_each(held, asked)

@@ -10,6 +10,7 @@ pub mod laws;
 mod lists;
 mod lookups;
 mod rules;
+mod setting;
 mod state;
 mod table;
 

@@ -7,7 +7,8 @@ ghost use Rattle.gw_flow.specs.Rows as rows;
 ghost use Rattle.gw_flow.specs.Seen.{amounts_of, units_seen};
 
 use crate::abstract_state::{Amount, Parameter};
-use gw_object::{Items, Memory, Units};
+use gw_blocks::Units;
+use gw_object::{Items, Memory};
 use std::alloc::Global;
 
 /// A list once more.

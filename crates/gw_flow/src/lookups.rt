@@ -9,6 +9,7 @@ ghost use Rattle.gw_flow.specs.Seen.{known as known_of, amounts_of};
 use crate::abstract_state::{AbsState, Amount};
 use crate::lists::{amount_in, of_key};
 use crate::state::{Holds, param_seen};
+use gw_object::ReturnRow;
 
 /// What is known of a transaction, by lookups that take no memory.
 pub(crate) trait Lookups {
@@ -20,7 +21,7 @@ pub(crate) trait Lookups {
         ensures { result ≡ (length (known self.now).params == 0) };
 
     /// What a parameter, given by its number, is sure to hold.
-    fn kind_of(&self, parameter: u8) -> Option<Holds>
+    fn kind_of(&self, parameter: u8) -> Option<Holds<'_>>
         ensures { option_map held_kind result ≡ rows.kind_of (known self.now) parameter };
 
     /// The facilities that are owned.
@@ -44,7 +45,7 @@ pub(crate) trait Lookups {
     {
         match self.kind_of(parameter) {
             Some(Holds::Num) => true,
-            None => false,
+            Some(Holds::ReturnTo(_) | Holds::ReturnToAny(_)) | None => false,
         }
     }
 
@@ -53,6 +54,7 @@ pub(crate) trait Lookups {
         ensures { result ≡ rows.is_return (rows.kind_of (known self.now) parameter) }
     {
         match self.kind_of(parameter) {
+            Some(Holds::ReturnTo(_) | Holds::ReturnToAny(_)) => true,
             Some(Holds::Num) | None => false,
         }
     }
@@ -86,24 +88,33 @@ pub(crate) trait Lookups {
     }
 }
 
-impl Lookups for AbsState {
-    ghost known = { known_of };
+/// An abstract state, with the return rows that it names.
+#[derive(Clone, Copy)]
+pub(crate) struct Carried<'a> {
+    /// The state.
+    pub state: &'a AbsState,
+    /// The return rows.
+    pub returns: &'a [ReturnRow],
+}
+
+impl<'a> Lookups for Carried<'a> {
+    ghost known = { λ c. known_of c.returns.now c.state.now };
 
     fn sets_nothing(&self) -> bool {
-        self.parts().parameters.as_slice().is_empty()
+        self.state.parts().parameters.as_slice().is_empty()
     }
 
-    fn kind_of(&self, parameter: u8) -> Option<Holds> {
-        let parameters = self.parts().parameters.as_slice();
-        of_key(parameters, parameter as u16).map(|found| param_seen(&found).holds)
+    fn kind_of(&self, parameter: u8) -> Option<Holds<'_>> {
+        let parameters = self.state.parts().parameters.as_slice();
+        of_key(parameters, parameter as u16).map(|found| param_seen(self.returns, &found).holds)
     }
 
     fn facilities(&self) -> &[u16] {
-        self.parts().facilities.as_slice()
+        self.state.parts().facilities.as_slice()
     }
 
     fn units(&self) -> &[Amount] {
-        self.parts().units.as_slice()
+        self.state.parts().units.as_slice()
     }
 }
 
@@ -117,7 +128,7 @@ impl Lookups for NoRow {
         true
     }
 
-    fn kind_of(&self, _: u8) -> Option<Holds> {
+    fn kind_of(&self, _: u8) -> Option<Holds<'_>> {
         None
     }
 

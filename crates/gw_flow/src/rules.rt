@@ -9,8 +9,9 @@ ghost use Rattle.gw_flow.specs.Unfit as unfit;
 
 use crate::codes::*;
 use crate::lookups::{Lookups, NoRow};
+use gw_blocks::{Block, Mode, Operand};
 use gw_kinds::{check, values};
-use gw_object::{Block, Entity, Fault, Kind, Mode, Operand, Parts, Place};
+use gw_object::{Entity, Fault, Kind, Parts, Place};
 
 /// The capacity of the entity of this number; 0 where it is no storage, or isn't there.
 fn capacity_at(entities: &[Entity], number: u16) -> u32
@@ -89,6 +90,15 @@ fn check_values<S: Lookups>(number: u16, block: &Block, state: &S) -> Result<(),
     }
 }
 
+/// The fault of a parameter that is used as a return: 20 where it isn't sure to be set, 27 where it is to a number.
+fn check_return<S: Lookups>(number: u16, parameter: u8, state: &S) -> Result<(), Fault>
+    ensures { Finds result (map (rule_check number) (model.return_rules (S.known state.now) parameter)) }
+{
+    let place = Place::Block(number);
+    check(UNSET_PARAM, place, state.is_set(parameter))?;
+    check(PARAM_KIND, place, state.is_return(parameter))
+}
+
 /// Whether a value takes the place of another one.
 fn replaces(mode: Mode) -> bool
     ensures { result ≡ model.replaces mode }
@@ -126,6 +136,7 @@ fn check_own_rules<S: Lookups>(
             let may_change = replaces(assign.mode) || !state.is_return(assign.parameter);
             check(PARAM_KIND, place, may_change)
         }
+        Block::TransferByParameter(parameter) => check_return(number, *parameter, state),
         Block::Loop(counting) => check_number(number, counting.parameter, state),
         _ => Ok(()),
     }

@@ -1,39 +1,58 @@
 //! What is known of a transaction, as flow works with it: its parameters, the facilities that it owns, and the units
 //! that it is sure to hold.
 
-ghost use Rattle.std.specs.Prelude.{◌≡◌, ◌≤◌, ◌<◌, ◌^◌, ◌≢◌, IfOk, All, AllPairs, length, ◌==◌};
-ghost use Rattle.gw_object.specs.Grammar.{IsAscending, HeldFits};
-ghost use Rattle.gw_object.specs.declared.parts.Units.{Units};
+ghost use Rattle.std.specs.Prelude.{List, ◌≡◌, ◌≤◌, ◌<◌, ◌^◌, ◌≢◌, IfOk, All, AllPairs, length, ◌==◌};
+ghost use Rattle.gw_object.specs.Grammar.{AreAscending, IsAscending, HeldFits};
+ghost use Rattle.gw_blocks.specs.declared.parts.Units.{Units};
 ghost use Rattle.gw_flow.specs.Entries as entries;
 ghost use Rattle.gw_flow.specs.Rows as rows;
-ghost use Rattle.gw_flow.specs.Seen.{kind_seen, kind_said, params_of, params_said as params_of_row, seen, known};
+ghost use Rattle.gw_object.specs.declared.parts.ReturnRow.{ReturnRow as DeclaredReturnRow};
+ghost use Rattle.gw_flow.specs.declared.abstract_state.Parameter.{Parameter as DeclaredParameter};
+ghost use Rattle.gw_flow.specs.Rows.{Ret};
+ghost use Rattle.gw_flow.specs.Seen.{row_blocks, kind_seen, kind_said, params_of, params_said as params_of_row, seen, known, HaveNext};
 ghost use Rattle.gw_flow.specs.Viewed.{held_kind, params_viewed};
 
 use crate::abstract_state::{AbsState, Amount, Parameter, ParameterKind, StateParts};
 use crate::fits::{has_params, has_units};
 use crate::lists::{Keyed, amounts_seen, copy_of, in_place, of_key, with_amount, without_number};
 use crate::lookups::Lookups;
-use gw_object::{Items, Memory, TableKind, TableParameter, TableState};
+use gw_object::{Items, Memory, ReturnRow, TableKind, TableParameter, TableState};
 use std::alloc::Global;
 use std::marker::Model;
 
 /// What a parameter holds.
 #[derive(Clone, Copy, Debug, PartialEq, Eq)]
-pub(crate) enum Holds {
+pub(crate) enum Holds<'a> {
     /// A number.
     Num,
+    /// The return to the block of this number, from 1.
+    ReturnTo(u16),
+    /// A return to one of these blocks, by their numbers, which ascend.
+    ReturnToAny(&'a [u16]),
+}
+
+impl<'a> Holds<'a> {
+    /// A return to one of the blocks of the return row of this number; to none where there is no such row.
+    pub(crate) fn of_return_row(returns: &'a [ReturnRow], row: u16) -> Holds<'a>
+        ensures { held_kind result ≡ Ret (row_blocks returns.now row) }
+    {
+        match returns.get(row as usize) {
+            Some(row) => Holds::ReturnToAny(row.blocks.as_slice()),
+            None => Holds::ReturnToAny(&[]),
+        }
+    }
 }
 
 /// A parameter that is set.
 #[derive(Clone, Copy, Debug, PartialEq, Eq)]
-pub(crate) struct Param {
+pub(crate) struct Param<'a> {
     /// Its number, from 1 to 64.
     pub number: u8,
     /// What it holds.
-    pub holds: Holds,
+    pub holds: Holds<'a>,
 }
 
-impl Keyed for Param {
+impl<'a> Keyed for Param<'a> {
     ghost key = { λ p. p.number };
 
     fn key(&self) -> u16 {
@@ -41,15 +60,15 @@ impl Keyed for Param {
     }
 }
 
-/// An abstract state; its lists ascend, and no amount is 0.
+/// An abstract state; its lists ascend, and no amount is 0. The blocks of returns are those of the object's return rows.
 #[derive(Debug, Drop)]
-pub(crate) struct State {
-    params: Items<Param>,
+pub(crate) struct State<'a> {
+    params: Items<Param<'a>>,
     facilities: Items<u16>,
     units: Items<Amount>,
 }
 
-impl Model for State {
+impl<'a> Model for State<'a> {
     ghost use Rattle.gw_flow.specs.Rows.{Row, IsOrdered};
     ghost use Rattle.gw_flow.specs.Viewed.{viewed};
 
@@ -61,54 +80,77 @@ impl Model for State {
 }
 
 /// A parameter of a row of the state table, as flow works with it.
-fn param_said(parameter: &TableParameter) -> Param
+fn param_said<'a>(returns: &'a [ReturnRow], parameter: &TableParameter) -> Param<'a>
     ensures number { result.number ≡ parameter.now.number }
-    ensures holds { held_kind result.holds ≡ kind_said parameter.now.kind }
+    ensures holds { held_kind result.holds ≡ kind_said returns.now parameter.now.kind }
 {
     Param {
         number: parameter.number,
         holds: match parameter.kind {
             TableKind::Num => Holds::Num,
+            TableKind::Ret(row) => Holds::of_return_row(returns, row),
         },
     }
 }
 
 /// The parameters of a row of the state table, as flow works with them.
-fn params_said(alloc: Global, parameters: &[TableParameter]) -> Result<Vec<Param>, Memory>
-    ensures { IfOk result (λ params. params_viewed params.items ≡ params_of_row parameters.now) }
+fn params_said<'a>(
+    alloc: Global,
+    returns: &'a [ReturnRow],
+    parameters: &[TableParameter],
+) -> Result<Vec<Param<'a>>, Memory>
+    ensures { IfOk result (λ params. params_viewed params.items ≡ params_of_row returns.now parameters.now) }
 {
-    parameters.iter().map(|p| param_said(p)).collect(alloc)
+    parameters
+        .iter()
+        .map(|p| param_said(returns, p))
+        .collect(alloc)
 }
 
 /// A parameter as flow works with it.
-pub(crate) fn param_seen(parameter: &Parameter) -> Param
+pub(crate) fn param_seen<'a>(returns: &'a [ReturnRow], parameter: &Parameter) -> Param<'a>
     ensures number { result.number ≡ parameter.now.number }
-    ensures holds { held_kind result.holds ≡ kind_seen parameter.now.kind }
+    ensures holds { held_kind result.holds ≡ kind_seen returns.now parameter.now.kind }
 {
     Param {
         number: parameter.number,
         holds: match parameter.kind {
             ParameterKind::Num => Holds::Num,
+            ParameterKind::Ret(row) => Holds::of_return_row(returns, row),
+            ParameterKind::RetTo(block) => Holds::ReturnTo(block),
         },
     }
 }
 
 /// Parameters as flow works with them.
-fn params_seen(alloc: Global, parameters: &[Parameter]) -> Result<Vec<Param>, Memory>
-    ensures { IfOk result (λ params. params_viewed params.items ≡ params_of parameters.now) }
+fn params_seen<'a>(
+    alloc: Global,
+    returns: &'a [ReturnRow],
+    parameters: &[Parameter],
+) -> Result<Vec<Param<'a>>, Memory>
+    ensures { IfOk result (λ params. params_viewed params.items ≡ params_of returns.now parameters.now) }
 {
-    parameters.iter().map(|p| param_seen(p)).collect(alloc)
+    parameters
+        .iter()
+        .map(|p| param_seen(returns, p))
+        .collect(alloc)
 }
 
-impl State {
+impl<'a> State<'a> {
     /// What a row of the state table says.
-    pub(crate) fn of_row(alloc: Global, row: &TableState) -> Result<State, Memory>
+    pub(crate) fn of_row(
+        alloc: Global,
+        returns: &'a [ReturnRow],
+        row: &TableState,
+    ) -> Result<State<'a>, Memory>
         requires ascending { IsAscending row.now }
         requires amounts { All HeldFits row.now.units }
-        ensures same { IfOk result (λ state. state ≡ seen row.now) }
+        requires next { HaveNext returns.now }
+        requires returns { All AreAscending returns.now }
+        ensures same { IfOk result (λ state. state ≡ seen returns.now row.now) }
         ensures room { IfOk result (λ state. rows.HasRoom state) }
     {
-        let params = params_said(alloc, row.parameters.as_slice())?;
+        let params = params_said(alloc, returns, row.parameters.as_slice())?;
         let units = amounts_seen(alloc, row.units.as_slice())?;
         Ok(State {
             params: Items::from_vec(params),
@@ -118,11 +160,16 @@ impl State {
     }
 
     /// What an abstract state says.
-    pub(crate) fn of(alloc: Global, state: &AbsState) -> Result<State, Memory>
-        ensures { IfOk result (λ s. s ≡ known state.now) }
+    pub(crate) fn of(
+        alloc: Global,
+        returns: &'a [ReturnRow],
+        state: &AbsState,
+    ) -> Result<State<'a>, Memory>
+        requires { All AreAscending returns.now }
+        ensures { IfOk result (λ s. s ≡ known returns.now state.now) }
     {
         let parts = state.parts();
-        let params = params_seen(alloc, parts.parameters.as_slice())?;
+        let params = params_seen(alloc, returns, parts.parameters.as_slice())?;
         Ok(State {
             params: Items::from_vec(params),
             facilities: copy_of(alloc, &parts.facilities)?,
@@ -136,8 +183,8 @@ impl State {
         alloc: Global,
         parameters: &Items<Parameter>,
     ) -> Result<AbsState, Memory>
-        requires { self.now.params ≡ params_of parameters.now }
-        ensures same { IfOk result (λ s. known s ≡ self.now) }
+        requires { AllPairs (λ (a b : DeclaredParameter). a.number < b.number) parameters.now }
+        ensures same { IfOk result (λ s. (rows : List DeclaredReturnRow) → self.now.params ≡ params_of rows parameters.now → known rows s ≡ self.now) }
         ensures own { IfOk result (λ s. s.parameters ≡ parameters.now) }
     {
         Ok(AbsState::of(StateParts {
@@ -148,7 +195,7 @@ impl State {
     }
 
     /// This state once more.
-    pub(crate) fn copy(&self, alloc: Global) -> Result<State, Memory>
+    pub(crate) fn copy(&self, alloc: Global) -> Result<State<'a>, Memory>
         ensures { IfOk result (λ state. state ≡ self.now) }
     {
         Ok(State {
@@ -158,14 +205,17 @@ impl State {
         })
     }
 
-    /// The state once a parameter is set to a number.
-    pub(crate) fn with_parameter(&self, alloc: Global, number: u8) -> Result<State, Memory>
-        ensures { IfOk result (λ state. state ≡ rows.with_parameter number self.now) }
+    /// The state once a parameter is set to what it then holds.
+    pub(crate) fn with_parameter(
+        &self,
+        alloc: Global,
+        number: u8,
+        holds: Holds<'a>,
+    ) -> Result<State<'a>, Memory>
+        requires { rows.KindAscends (held_kind holds) }
+        ensures { IfOk result (λ state. state ≡ rows.with_parameter number (held_kind holds.entry) self.now) }
     {
-        let param = Param {
-            number,
-            holds: Holds::Num,
-        };
+        let param = Param { number, holds };
         let params = in_place(alloc, self.params.as_slice(), param)?;
         Ok(State {
             params: Items::from_vec(params),
@@ -175,7 +225,7 @@ impl State {
     }
 
     /// The state once a facility is owned.
-    pub(crate) fn with_facility(&self, alloc: Global, facility: u16) -> Result<State, Memory>
+    pub(crate) fn with_facility(&self, alloc: Global, facility: u16) -> Result<State<'a>, Memory>
         ensures { IfOk result (λ state. state ≡ rows.with_facility facility self.now) }
     {
         let facilities = in_place(alloc, self.facilities.as_slice(), facility)?;
@@ -187,7 +237,7 @@ impl State {
     }
 
     /// The state once a facility is given up.
-    pub(crate) fn without_facility(&self, alloc: Global, facility: u16) -> Result<State, Memory>
+    pub(crate) fn without_facility(&self, alloc: Global, facility: u16) -> Result<State<'a>, Memory>
         ensures { IfOk result (λ state. state ≡ rows.without_facility facility self.now) }
     {
         let facilities = without_number(alloc, self.facilities.as_slice(), facility)?;
@@ -204,7 +254,7 @@ impl State {
         alloc: Global,
         entity: u16,
         number: u64,
-    ) -> Result<State, Memory>
+    ) -> Result<State<'a>, Memory>
         ensures { IfOk result (λ state. state ≡ rows.with_units entity number self.now) }
     {
         let units = with_amount(alloc, self.units.as_slice(), entity, number)?;
@@ -217,7 +267,7 @@ impl State {
 
     /// Whether this state fits a row: it has at least the row's parameters, exactly its facilities, and at least its
     /// units.
-    pub(crate) fn fits(&self, row: &State) -> bool
+    pub(crate) fn fits(&self, row: &State<'_>) -> bool
         ensures { result ≡ rows.fits self.now row.now }
     {
         has_params(self.params.as_slice(), row.params.as_slice())
@@ -226,14 +276,14 @@ impl State {
     }
 }
 
-impl Lookups for State {
+impl<'a> Lookups for State<'a> {
     ghost known = { λ s. s };
 
     fn sets_nothing(&self) -> bool {
         self.params.as_slice().is_empty()
     }
 
-    fn kind_of(&self, parameter: u8) -> Option<Holds> {
+    fn kind_of(&self, parameter: u8) -> Option<Holds<'_>> {
         of_key(self.params.as_slice(), parameter as u16).map(|param| param.holds)
     }
 

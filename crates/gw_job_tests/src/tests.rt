@@ -2,11 +2,13 @@
 
 ghost use Rattle.std.specs.Prelude.{◌<◌, length, IsTrue};
 
+use gw_blocks::{
+    Assign, Attribute, Block, EntityAttribute, Fraction, Generate, Logic, Loop, Mode, Numbered,
+    Operand, Save, Spread, SwitchAction, Units,
+};
 use gw_entities::{Average, Contents, Facility};
 use gw_object::{
-    Assign, Attribute, Block, Entity, EntityAttribute, Fraction, Generate, Items, Kind, Logic,
-    Loop, Memory, Mode, Numbered, Object, Operand, Parts, Save, Spread, SwitchAction, TableKind,
-    TableParameter, TableState, Units,
+    Entity, Items, Kind, Memory, Object, Parts, ReturnRow, TableKind, TableParameter, TableState,
 };
 use gw_scan::{End, Sim, Spec, Status};
 use gw_verify::{Verified, verify};
@@ -25,6 +27,7 @@ mod parameters;
 mod reports;
 mod settings;
 mod specs;
+mod subroutines;
 mod times;
 mod transfers;
 mod values;
@@ -339,16 +342,32 @@ fn six_entities(alloc: Global) -> Result<Items<Entity>, Memory> {
     ]?))
 }
 
-/// The parts of an object of these blocks, with seeds and a termination count of its own.
-fn parts(alloc: Global, seeds: &[u32], count: u64, blocks: &[Block]) -> Result<Parts, Memory> {
+/// The parts of an object of these blocks, with these return rows and this state table, and with seeds and a termination count
+/// of its own.
+fn parts_with(
+    alloc: Global,
+    seeds: &[u32],
+    count: u64,
+    blocks: &[Block],
+    returns: Items<ReturnRow>,
+    states: Items<Option<TableState>>,
+) -> Result<Parts, Memory> {
     Ok(Parts {
         seeds: Items::from_vec(Vec::from_slice(alloc, seeds)?),
         count,
         entities: six_entities(alloc)?,
         blocks: Items::from_vec(Vec::from_slice(alloc, blocks)?),
-        states: straight_table(alloc, blocks)?,
+        returns,
+        states,
         weights: Items::from_vec(vec![in alloc; 1u32; blocks.len()]?),
     })
+}
+
+/// The parts of an object of these blocks, with seeds and a termination count of its own.
+fn parts(alloc: Global, seeds: &[u32], count: u64, blocks: &[Block]) -> Result<Parts, Memory> {
+    let no_returns = Items::from_vec(Vec::new(alloc));
+    let states = straight_table(alloc, blocks)?;
+    parts_with(alloc, seeds, count, blocks, no_returns, states)
 }
 
 /// An object, accepted.
@@ -356,11 +375,15 @@ fn accepted(alloc: Global, object: Object) -> Result<Verified, Fail> {
     Ok(verify(alloc, object).ok().ok_or("an accepted object")?)
 }
 
-/// The object of these blocks, accepted, with seeds and a termination count of its own.
-fn object(alloc: Global, seeds: &[u32], count: u64, blocks: &[Block]) -> Result<Verified, Fail> {
-    let parts = parts(alloc, seeds, count, blocks)?;
+/// The object of these parts, accepted.
+fn object_of(alloc: Global, parts: Parts) -> Result<Verified, Fail> {
     let object = Object::build(parts).ok().ok_or("parts of an object")?;
     accepted(alloc, object)
+}
+
+/// The object of these blocks, accepted, with seeds and a termination count of its own.
+fn object(alloc: Global, seeds: &[u32], count: u64, blocks: &[Block]) -> Result<Verified, Fail> {
+    object_of(alloc, parts(alloc, seeds, count, blocks)?)
 }
 
 /// The job of an object before its first step, with the object's own seeds and termination count.

@@ -4,7 +4,7 @@ use Rattle.std.specs.Prelude.{filter_map, IfSome}
 use Rattle.std.specs.List.{All, list_all, cons_option}
 use Rattle.std.specs.Option.{IsSome}
 use Rattle.std.proofs.lemmas.List.Elements.{All-nil, All-cons, All-head, All-tail}
-use Rattle.gw_object.specs.declared.parts.Block.{Block}
+use Rattle.gw_blocks.specs.declared.parts.Block.{Block}
 use Rattle.gw_object.specs.declared.parts.Parts.{Parts}
 use Rattle.gw_kinds.specs.declared.ways.Exit.{Exit}
 use Rattle.gw_kinds.specs.Exits.{exits}

@@ -1,5 +1,5 @@
 -- What kinds are where their checks hold.
-use Rattle.std.proofs.Common.{◌≡◌, ℕ, zero, suc, ◌<◌, List, [], ◌∷◌, ◌++◌, length, Option, Some, None, Bool, true, false, not, nat_lt, refl, sym, ap, ◌∙◌, arith}
+use Rattle.std.proofs.Common.{◌≡◌, ℕ, zero, suc, ◌<◌, List, [], ◌∷◌, ◌++◌, length, Option, Some, None, Bool, true, false, not, nat_lt, if◌then◌else◌, ◌+◌, refl, sym, ap, ◌∙◌, arith}
 use Rattle.std.specs.Prelude.{◌&&◌, is_some, filter_map, IfSome, IsTrue}
 use Rattle.std.specs.List.{All, list_all, cons_option}
 use Rattle.std.specs.Option.{IsSomeAnd}
@@ -10,8 +10,9 @@ use Rattle.std.proofs.lemmas.List.Sums.{AllPass-from_list_all, list_all-from_All
 use Rattle.gw_object.specs.declared.fault.Place.{Place}
 use Rattle.gw_object.specs.declared.fault.Place.TheVariants as places
 use Rattle.gw_object.specs.declared.parts.Entity.{Entity}
-use Rattle.gw_object.specs.declared.parts.Block.{Block}
+use Rattle.gw_blocks.specs.declared.parts.Block.{Block}
 use Rattle.gw_object.specs.declared.parts.TableState.{TableState}
+use Rattle.gw_object.specs.declared.parts.ReturnRow.{ReturnRow}
 use Rattle.gw_object.specs.declared.parts.Parts.{Parts}
 use Rattle.gw_kinds.specs.declared.entities.EntityKind.{EntityKind}
 use Rattle.gw_kinds.specs.declared.entities.Named.{Named}
@@ -19,9 +20,9 @@ use Rattle.gw_kinds.specs.declared.ways.Way.{Way}
 use Rattle.gw_kinds.specs.declared.ways.Way.TheVariants.{Falls, Goes}
 use Rattle.gw_kinds.specs.declared.ways.Exit.{Exit}
 use Rattle.gw_kinds.specs.Checks.{Check, numbered}
-use Rattle.gw_kinds.specs.Exits.{leads_to, exits}
-use Rattle.gw_kinds.specs.Kinds.{is_none_or, kind_at, serves_as, values, named_entities, entities_of_row, names_no_other_kind, are_there, block_at, is_generate, number_of, block_of, named_blocks, has_named_blocks, stays_inside, entity_checks, exit_checks, constant_checks, row_checks, block_checks, kinds_checks}
-use Rattle.gw_kinds.specs.Laws.{IsEntity, MayBeEntered, BlockHolds, KindsPassAtEachPlace}
+use Rattle.gw_kinds.specs.Exits.{leads_to, exits, is_call, comes_back}
+use Rattle.gw_kinds.specs.Kinds.{is_none_or, kind_at, serves_as, values, named_entities, entities_of_row, names_no_other_kind, are_there, block_at, is_generate, number_of, block_of, named_blocks, has_named_blocks, leads_to_no_generate, stays_inside, is_call_at, return_rows_of, has_return_rows, entity_checks, exit_checks, constant_checks, return_checks, row_checks, block_checks, kinds_checks}
+use Rattle.gw_kinds.specs.Laws.{IsEntity, MayBeEntered, ReturnsHold, RowHolds, BlockHolds, KindsPassAtEachPlace}
 use Rattle.gw_kinds.proofs.Each.{Hold, at_number, first_and_others, first_with_others, parts_hold, hold_together, each_holds, all_hold, each_has, from_each}
 
 -- TESTS
@@ -77,17 +78,35 @@ module _ (es : List Entity) where
 
 -- ROWS
 
--- the entities of a row are facilities, storages and queues
-abbrev RowHolds : Parts → Option TableState → Type 0
-RowHolds p row = IfSome row (λ r. All (IsEntity p.entities) (entities_of_row r))
+-- return rows that are there
+rows_there : (n : ℕ) (rs : List ℕ) → list_all (λ r. nat_lt r n) rs ≡ true → All (λ r. r < n) rs
+rows_there n [] h = All-nil (λ r. r < n)
+rows_there n (r ∷ rs) h =
+    let two = both_true (nat_lt r n) (list_all (λ r. nat_lt r n) rs) h in
+    All-cons (λ r. r < n) r rs (ltb-true r n two.0) (rows_there n rs two.1)
 
-row_from_checks : (p : Parts) (b : ℕ) (row : Option TableState) → Hold (row_checks p (places.Block b) row) → RowHolds p row
+from_rows : (n : ℕ) (rs : List ℕ) → All (λ r. r < n) rs → list_all (λ r. nat_lt r n) rs ≡ true
+from_rows n [] h = refl
+from_rows n (r ∷ rs) h = with_both _ _ (lt-ltb r n (All-head (λ r. r < n) r rs h)) (from_rows n rs (All-tail (λ r. r < n) r rs h))
+
+row_from_checks : (p : Parts) (b : ℕ) (row : Option TableState) → Hold (row_checks p (places.Block b) row) → IfSome row (RowHolds p)
 row_from_checks p b None h = tt
-row_from_checks p b (Some row) h = entities_from_checks p.entities (places.Block b) (entities_of_row row) h
+row_from_checks p b (Some row) h =
+    let right = first_and_others _ _ _ h in
+    let there = both_true (are_there p.entities (entities_of_row row)) (has_return_rows p.returns row) (first_and_others _ _ _ right.1).0 in
+    record { entities = entities p.entities (entities_of_row row) right.0 there.0; returns = rows_there (length p.returns) (return_rows_of row) there.1 }
 
-checks_from_row : (p : Parts) (b : ℕ) (row : Option TableState) → RowHolds p row → Hold (row_checks p (places.Block b) row)
+checks_from_row : (p : Parts) (b : ℕ) (row : Option TableState) → IfSome row (RowHolds p) → Hold (row_checks p (places.Block b) row)
 checks_from_row p b None h = refl
-checks_from_row p b (Some row) h = checks_from_entities p.entities (places.Block b) (entities_of_row row) h
+checks_from_row p b (Some row) h =
+    let two = from_entities p.entities (entities_of_row row) h.entities in
+    first_with_others _ _ _ two.0 (first_with_others _ _ _ (with_both _ _ two.1 (from_rows (length p.returns) (return_rows_of row) h.returns)) refl)
+
+returns_from_checks : (p : Parts) (r : ℕ) (row : ReturnRow) → Hold (return_checks p r row) → ReturnsHold p row
+returns_from_checks p r row h = AllPass-from_list_all (is_call_at p.blocks) row.blocks (first_and_others _ _ _ h).0
+
+checks_from_returns : (p : Parts) (r : ℕ) (row : ReturnRow) → ReturnsHold p row → Hold (return_checks p r row)
+checks_from_returns p r row h = first_with_others _ _ _ (list_all-from_AllPass (is_call_at p.blocks) row.blocks h) refl
 
 -- EXITS
 
@@ -145,6 +164,15 @@ module _ (p : Parts) (b : ℕ) where
       let others = from_leads es (All-tail Leads e es h) in
       (with_both _ _ one.1 others.0, with_both _ _ (from_way e.way one.0) others.1)
 
+  -- the same of the way on once a subroutine comes back, which is to the next block
+  leads_back : (call : Bool) → is_none_or (if call then Some Falls else None) (leads_to_no_generate p.blocks b) ≡ true → is_none_or (if call then Some Falls else None) (stays_inside p.blocks b) ≡ true → IfSome (if call then Some Falls else None) (λ way. MayBeEntered p (leads_to b way))
+  leads_back false g i = tt
+  leads_back true g i = enterable (block_at p.blocks (b + 1)) i g
+
+  from_back : (call : Bool) → IfSome (if call then Some Falls else None) (λ way. MayBeEntered p (leads_to b way)) → (is_none_or (if call then Some Falls else None) (leads_to_no_generate p.blocks b) ≡ true) × (is_none_or (if call then Some Falls else None) (stays_inside p.blocks b) ≡ true)
+  from_back false h = (refl, refl)
+  from_back true h = let two = from_enterable (block_at p.blocks (b + 1)) h in (two.1, two.0)
+
 -- THE BLOCK
 
 -- the blocks that are named: those of exits, and those of values
@@ -163,20 +191,24 @@ block_from_checks p b block h =
     let three = parts_hold (exit_checks p.blocks b block) (constant_checks b block) two.1 in
     let named = first_and_others _ _ _ three.0 in
     let enters = first_and_others _ _ _ named.1 in
+    let no_generate = both_true (no_generate p b (exits block)) (is_none_or (comes_back block) (leads_to_no_generate p.blocks b)) enters.0 in
+    let inside = both_true (inside p b (exits block)) (is_none_or (comes_back block) (stays_inside p.blocks b)) (first_and_others _ _ _ enters.1).0 in
     record {
       entities = entities_from_checks p.entities (places.Block b) (named_entities block) two.0;
       blocks = AllPass-from_list_all (is_block p) (named_blocks block) named.0;
-      exits = lead_on p b (exits block) (targets_there p block named.0) enters.0 (first_and_others _ _ _ enters.1).0;
+      exits = lead_on p b (exits block) (targets_there p block named.0) no_generate.0 inside.0;
+      back = leads_back p b (is_call block) no_generate.1 inside.1;
       constants = (first_and_others _ _ _ three.1).0;
     }
 
 checks_from_block : (p : Parts) (b : ℕ) (block : Block) → BlockHolds p b block → Hold (block_checks p b block)
 checks_from_block p b block h =
     let e = from_leads p b (exits block) h.exits in
+    let back = from_back p b (is_call block) h.back in
     hold_together (entity_checks p.entities (places.Block b) (named_entities block)) (exit_checks p.blocks b block ++ constant_checks b block)
     (checks_from_entities p.entities (places.Block b) (named_entities block) h.entities)
     (hold_together (exit_checks p.blocks b block) (constant_checks b block)
-    (first_with_others _ _ _ (list_all-from_AllPass (is_block p) (named_blocks block) h.blocks) (first_with_others _ _ _ e.0 (first_with_others _ _ _ e.1 refl)))
+    (first_with_others _ _ _ (list_all-from_AllPass (is_block p) (named_blocks block) h.blocks) (first_with_others _ _ _ (with_both _ _ e.0 back.0) (first_with_others _ _ _ (with_both _ _ e.1 back.1) refl)))
     (first_with_others _ _ _ h.constants refl))
 
 -- THE OBJECT
@@ -191,10 +223,13 @@ unfolding kinds_checks
 kinds_pass_at_each_place p =
     let of_rows : ℕ → Option TableState → List Check = λ b. row_checks p (places.Block b) in (
       λ h.
-          let two = parts_hold (numbered of_rows 1 p.states) (numbered (block_checks p) 1 p.blocks) h in
-          (each_has of_rows (RowHolds p) (row_from_checks p) 1 p.states two.0, λ b block is. block_holds p b block two.1 is),
+          let three = parts_hold (numbered (return_checks p) 0 p.returns) (numbered of_rows 1 p.states ++ numbered (block_checks p) 1 p.blocks) h in
+          let two = parts_hold (numbered of_rows 1 p.states) (numbered (block_checks p) 1 p.blocks) three.1 in
+          (each_has (return_checks p) (ReturnsHold p) (returns_from_checks p) 0 p.returns three.0, each_has of_rows (λ row. IfSome row (RowHolds p)) (row_from_checks p) 1 p.states two.0, λ b block is. block_holds p b block two.1 is),
       λ h.
-          hold_together (numbered of_rows 1 p.states) (numbered (block_checks p) 1 p.blocks)
-          (from_each of_rows (RowHolds p) (checks_from_row p) 1 p.states h.0)
-          (all_hold (block_checks p) 1 p.blocks (λ i block is. at_number (block_checks p) block (omega arith) (checks_from_block p (suc i) block (h.1 (suc i) block is)))),
+          hold_together (numbered (return_checks p) 0 p.returns) (numbered of_rows 1 p.states ++ numbered (block_checks p) 1 p.blocks)
+          (from_each (return_checks p) (ReturnsHold p) (checks_from_returns p) 0 p.returns h.0)
+          (hold_together (numbered of_rows 1 p.states) (numbered (block_checks p) 1 p.blocks)
+          (from_each of_rows (λ row. IfSome row (RowHolds p)) (checks_from_row p) 1 p.states h.1)
+          (all_hold (block_checks p) 1 p.blocks (λ i block is. at_number (block_checks p) block (omega arith) (checks_from_block p (suc i) block (h.2 (suc i) block is))))),
     )

@@ -1,9 +1,9 @@
 -- Exits: where a transaction goes on to from each block.
-use Rattle.std.specs.Prelude.{ℕ, ◌+◌, pos, List, [], ◌∷◌, Option, Some, None, Bool, false, ◌&&◌, int_le, int_lt}
-use Rattle.gw_object.specs.declared.parts.Operand.{Operand}
-use Rattle.gw_object.specs.declared.parts.Operand.TheVariants.{Constant}
-use Rattle.gw_object.specs.declared.parts.Block.{Block}
-use Rattle.gw_object.specs.declared.parts.Block.TheVariants as blocks
+use Rattle.std.specs.Prelude.{ℕ, ◌+◌, pos, List, [], ◌∷◌, map, Option, Some, None, Bool, true, false, if◌then◌else◌, ◌&&◌, int_le, int_lt}
+use Rattle.gw_blocks.specs.declared.parts.Operand.{Operand}
+use Rattle.gw_blocks.specs.declared.parts.Operand.TheVariants.{Constant}
+use Rattle.gw_blocks.specs.declared.parts.Block.{Block}
+use Rattle.gw_blocks.specs.declared.parts.Block.TheVariants as blocks
 use Rattle.gw_kinds.specs.declared.ways.Way.{Way}
 use Rattle.gw_kinds.specs.declared.ways.Way.TheVariants.{Falls, Goes}
 use Rattle.gw_kinds.specs.declared.ways.Exit.{Exit}
@@ -32,7 +32,7 @@ abbrev pub falls_or_goes : Option ℕ → List Exit
 falls_or_goes None = at_once Falls ∷ []
 falls_or_goes (Some target) = at_once Falls ∷ at_once (Goes target) ∷ []
 
--- the exits of a block, in order; most blocks fall to the next one at once
+-- the exits of a block, in order; most blocks fall to the next one at once. A TRANSFER in parameter mode has those of the returns that its parameter may hold
 abbrev pub exits : Block → List Exit
 exits (blocks.Terminate by) = []
 exits (blocks.Advance time) = record { way = Falls; passes_time = takes_time time.mean time.half } ∷ []
@@ -40,5 +40,27 @@ exits (blocks.Test t) = falls_or_goes t.otherwise
 exits (blocks.Gate g) = falls_or_goes g.otherwise
 exits (blocks.Transfer target) = at_once (Goes target) ∷ []
 exits (blocks.TransferByFraction f) = at_once (goes_or_falls f.otherwise) ∷ at_once (Goes f.target) ∷ []
+exits (blocks.TransferToSubroutine c) = at_once (Goes c.target) ∷ []
+exits (blocks.TransferByParameter q) = []
 exits (blocks.Loop l) = at_once Falls ∷ at_once (Goes l.target) ∷ []
 exits block = at_once Falls ∷ []
+
+-- SUBROUTINES
+
+-- whether a block calls a subroutine
+abbrev pub is_call : Block → Bool
+is_call (blocks.TransferToSubroutine c) = true
+is_call block = false
+
+-- the way on from a block that calls a subroutine, once that one comes back
+abbrev pub comes_back : Block → Option Way
+comes_back block = if is_call block then Some Falls else None
+
+-- the exit to the block after the one of number b, which called the subroutine that ends here
+abbrev pub returns_to : ℕ → Exit
+returns_to b = at_once (Goes (b + 1))
+
+-- the exits of a block whose parameter, if it is a TRANSFER in parameter mode, may hold the return to one of these blocks
+abbrev pub exits_with : List ℕ → Block → List Exit
+exits_with bs (blocks.TransferByParameter q) = map returns_to bs
+exits_with bs block = exits block

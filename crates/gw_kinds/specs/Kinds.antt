@@ -1,22 +1,26 @@
 -- Kinds: what every number in an object names.
 use Rattle.std.specs.Prelude.{◌≡◌, ℕ, zero, suc, ◌+◌, ◌^◌, pos, List, [], ◌∷◌, ◌++◌, length, map, filter_map, Option, Some, None, is_some, Bool, true, false, if◌then◌else◌, not, ◌&&◌, nat_lt, nat_le, int_le, slice_get}
-use Rattle.std.specs.Option.{option_map}
+use Rattle.std.specs.Option.{option_map, option_map_or}
 use Rattle.std.specs.List.{list_all, cons_option}
 use Rattle.gw_object.specs.declared.fault.Place.{Place}
 use Rattle.gw_object.specs.declared.fault.Place.TheVariants as places
 use Rattle.gw_object.specs.declared.parts.Kind.{Kind}
 use Rattle.gw_object.specs.declared.parts.Kind.TheVariants as kinds
 use Rattle.gw_object.specs.declared.parts.Entity.{Entity}
-use Rattle.gw_object.specs.declared.parts.EntityAttribute.{EntityAttribute}
-use Rattle.gw_object.specs.declared.parts.EntityAttribute.TheVariants.{FacilityOwned, StorageContent, StorageRemaining, QueueContent, SavevalueValue, SwitchSetting, BlockEntries, BlockCount}
-use Rattle.gw_object.specs.declared.parts.Operand.{Operand}
-use Rattle.gw_object.specs.declared.parts.Operand.TheVariants.{OfEntity}
-use Rattle.gw_object.specs.declared.parts.Units.{Units}
-use Rattle.gw_object.specs.declared.parts.Condition.{Condition}
-use Rattle.gw_object.specs.declared.parts.Condition.TheVariants.{SwitchSet, SwitchReset, FacilityInUse, FacilityNotInUse, StorageFull, StorageEmpty, StorageNotFull, StorageNotEmpty}
-use Rattle.gw_object.specs.declared.parts.Block.{Block}
-use Rattle.gw_object.specs.declared.parts.Block.TheVariants as blocks
+use Rattle.gw_blocks.specs.declared.parts.EntityAttribute.{EntityAttribute}
+use Rattle.gw_blocks.specs.declared.parts.EntityAttribute.TheVariants.{FacilityOwned, StorageContent, StorageRemaining, QueueContent, SavevalueValue, SwitchSetting, BlockEntries, BlockCount}
+use Rattle.gw_blocks.specs.declared.parts.Operand.{Operand}
+use Rattle.gw_blocks.specs.declared.parts.Operand.TheVariants.{OfEntity}
+use Rattle.gw_blocks.specs.declared.parts.Units.{Units}
+use Rattle.gw_blocks.specs.declared.parts.Condition.{Condition}
+use Rattle.gw_blocks.specs.declared.parts.Condition.TheVariants.{SwitchSet, SwitchReset, FacilityInUse, FacilityNotInUse, StorageFull, StorageEmpty, StorageNotFull, StorageNotEmpty}
+use Rattle.gw_blocks.specs.declared.parts.Block.{Block}
+use Rattle.gw_blocks.specs.declared.parts.Block.TheVariants as blocks
+use Rattle.gw_object.specs.declared.parts.TableKind.{TableKind}
+use Rattle.gw_object.specs.declared.parts.TableKind.TheVariants.{Num, Ret}
+use Rattle.gw_object.specs.declared.parts.TableParameter.{TableParameter}
 use Rattle.gw_object.specs.declared.parts.TableState.{TableState}
+use Rattle.gw_object.specs.declared.parts.ReturnRow.{ReturnRow}
 use Rattle.gw_object.specs.declared.parts.Parts.{Parts}
 use Rattle.gw_kinds.specs.declared.entities.EntityKind.{EntityKind}
 use Rattle.gw_kinds.specs.declared.entities.EntityKind.TheVariants.{Facility, Storage, Queue, Switch, Savevalue, StorageOrQueue}
@@ -26,7 +30,7 @@ use Rattle.gw_kinds.specs.declared.ways.Way.TheVariants.{Falls, Goes}
 use Rattle.gw_kinds.specs.declared.ways.Exit.{Exit}
 use Rattle.gw_kinds.specs.Checks.{Check, check, first_broken, numbered}
 use Rattle.gw_kinds.specs.Codes as codes
-use Rattle.gw_kinds.specs.Exits.{leads_to, exits}
+use Rattle.gw_kinds.specs.Exits.{leads_to, exits, is_call, comes_back}
 
 -- whether there is none, or one that passes a test
 abbrev pub is_none_or : {A : Type 0} → Option A → (A → Bool) → Bool
@@ -114,6 +118,15 @@ named_entities block = cons_option (own_entity block) (filter_map entity_of (val
 abbrev pub entities_of_row : TableState → List Named
 entities_of_row row = map (needs Facility) row.facilities ++ map (λ (u : Units). needs StorageOrQueue u.entity) row.units
 
+-- the return row that a kind names, if it does
+abbrev pub return_row_of : TableKind → Option ℕ
+return_row_of Num = None
+return_row_of (Ret r) = Some r
+
+-- the return rows that a row of the state table names
+abbrev pub return_rows_of : TableState → List ℕ
+return_rows_of row = filter_map (λ (q : TableParameter). return_row_of q.kind) row.parameters
+
 -- none of these entities is of another kind than what it is needed as; one that isn't there is of none
 abbrev pub names_no_other_kind : List Entity → List Named → Bool
 names_no_other_kind es named = list_all (λ (n : Named). is_none_or (kind_at es n.entity) (serves_as n.needed)) named
@@ -152,18 +165,36 @@ named_blocks block = filter_map (λ (exit : Exit). number_of exit.way) (exits bl
 abbrev pub has_named_blocks : List Block → Block → Bool
 has_named_blocks bs block = list_all (λ target. is_some (block_at bs target)) (named_blocks block)
 
--- no exit of the block of number b leads to a GENERATE
+-- a way from the block of number b leads to no GENERATE
+abbrev pub leads_to_no_generate : List Block → ℕ → Way → Bool
+leads_to_no_generate bs b way = not (is_generate (block_at bs (leads_to b way)))
+
+-- no exit of the block of number b leads to a GENERATE, nor does the way on once a subroutine comes back
 abbrev pub enters_no_generate : List Block → ℕ → Block → Bool
-enters_no_generate bs b block = list_all (λ (exit : Exit). not (is_generate (block_at bs (leads_to b exit.way)))) (exits block)
+enters_no_generate bs b block = list_all (λ (exit : Exit). leads_to_no_generate bs b exit.way) (exits block) && is_none_or (comes_back block) (leads_to_no_generate bs b)
 
 -- a way falls from the block of number b to a block that is there, if it falls
 abbrev pub stays_inside : List Block → ℕ → Way → Bool
 stays_inside bs b Falls = is_some (block_at bs (b + 1))
 stays_inside bs b (Goes target) = true
 
--- no exit of the block of number b falls off the last block
+-- no exit of the block of number b falls off the last block, nor does the way on once a subroutine comes back
 abbrev pub never_falls_off : List Block → ℕ → Block → Bool
-never_falls_off bs b block = list_all (λ (exit : Exit). stays_inside bs b exit.way) (exits block)
+never_falls_off bs b block = list_all (λ (exit : Exit). stays_inside bs b exit.way) (exits block) && is_none_or (comes_back block) (stays_inside bs b)
+
+-- RETURN ROWS
+
+-- whether there is a block of this number, and it calls a subroutine
+abbrev pub is_call_at : List Block → ℕ → Bool
+is_call_at bs b = option_map_or is_call (block_at bs b) false
+
+-- each block of a return row is there, and calls a subroutine
+abbrev pub names_calls : List Block → ReturnRow → Bool
+names_calls bs row = list_all (is_call_at bs) row.blocks
+
+-- the return rows that a row of the state table names are there
+abbrev pub has_return_rows : List ReturnRow → TableState → Bool
+has_return_rows rows row = list_all (λ r. nat_lt r (length rows)) (return_rows_of row)
 
 -- CONSTANTS
 
@@ -190,10 +221,17 @@ entity_checks es place named =
     ∷ check codes.no_entity place (are_there es named)
     ∷ []
 
--- the entities of a row at this place
+-- the blocks of the return row of number r are there and call subroutines (10)
+abbrev pub return_checks : Parts → ℕ → ReturnRow → List Check
+return_checks p r row = check codes.wrong_kind (places.Row r) (names_calls p.blocks row) ∷ []
+
+-- the entities of a row of the state table at this place are of the right kinds (10), and they and its return rows are there (11)
 abbrev pub row_checks : Parts → Place → Option TableState → List Check
 row_checks p place None = []
-row_checks p place (Some row) = entity_checks p.entities place (entities_of_row row)
+row_checks p place (Some row) =
+    check codes.wrong_kind place (names_no_other_kind p.entities (entities_of_row row))
+    ∷ check codes.no_entity place (are_there p.entities (entities_of_row row) && has_return_rows p.returns row)
+    ∷ []
 
 -- the blocks that the block of number b names are there (12), and it goes on to no GENERATE (13) and not after the last block (14)
 abbrev pub exit_checks : List Block → ℕ → Block → List Check
@@ -211,9 +249,9 @@ constant_checks b block = check codes.bad_constant (places.Block b) (has_good_co
 abbrev pub block_checks : Parts → ℕ → Block → List Check
 block_checks p b block = entity_checks p.entities (places.Block b) (named_entities block) ++ exit_checks p.blocks b block ++ constant_checks b block
 
--- every check of kinds, in order: of the state table's rows, each at its block, then of blocks
+-- every check of kinds, in order: of return rows, of the state table's rows, each at its block, and of blocks
 unfoldable pub kinds_checks : Parts → List Check
-kinds_checks p = numbered (λ b. row_checks p (places.Block b)) 1 p.states ++ numbered (block_checks p) 1 p.blocks
+kinds_checks p = numbered (return_checks p) 0 p.returns ++ (numbered (λ b. row_checks p (places.Block b)) 1 p.states ++ numbered (block_checks p) 1 p.blocks)
 
 -- kinds hold: no check of them is broken
 abbrev pub KindsPass : Parts → Type 0

@@ -5,7 +5,8 @@ ghost use Rattle.gw_kinds.specs.Kinds as model;
 ghost use Rattle.gw_kinds.specs.declared.entities.EntityKind.TheVariants as needed;
 
 use crate::evaluated::values;
-use gw_object::{Block, Condition, Entity, EntityAttribute, Kind, Operand};
+use gw_blocks::{Block, Condition, EntityAttribute, Operand};
+use gw_object::{Entity, Kind};
 
 /// What an entity is needed as: SEIZE and RELEASE need a facility, ENTER and LEAVE a storage, QUEUE and DEPART a queue,
 /// GATE what its condition asks of, LOGIC a logic switch and SAVEVALUE a savevalue (GPSS World Reference Manual,

@@ -3,7 +3,7 @@
 ghost use Rattle.std.specs.Prelude.{◌≡◌, [], ◌∷◌};
 ghost use Rattle.gw_kinds.specs.Kinds as model;
 
-use gw_object::{Block, Operand, Spread};
+use gw_blocks::{Block, Operand, Spread};
 use std::marker::Model;
 
 /// Operands, in order: at most two.
@@ -15,7 +15,7 @@ pub struct Operands {
 
 impl Model for Operands {
     ghost use Rattle.std.specs.Prelude.{◌≤◌, List, take};
-    ghost use Rattle.gw_object.specs.declared.parts.Operand.{Operand};
+    ghost use Rattle.gw_blocks.specs.declared.parts.Operand.{Operand};
 
     ghost Value = { List Operand };
 

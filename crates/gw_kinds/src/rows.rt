@@ -1,15 +1,16 @@
-//! The entities that the rows of the state table name.
+//! The entities and the return rows that the rows of the state table name.
 
-ghost use Rattle.std.specs.Prelude.{◌≡◌, map};
+ghost use Rattle.std.specs.Prelude.{◌≡◌, Some, map};
 ghost use Rattle.gw_kinds.specs.Checks.{Finds};
-ghost use Rattle.gw_object.specs.declared.parts.Units.{Units};
+ghost use Rattle.gw_blocks.specs.declared.parts.Units.{Units};
 ghost use Rattle.gw_kinds.specs.Kinds as model;
 ghost use Rattle.gw_kinds.specs.declared.entities.EntityKind.TheVariants as needed;
 
 use crate::checks::{NumberedChecks, check};
 use crate::codes::{NO_ENTITY, WRONG_KIND};
 use crate::entities::{EntityKind, is_no_other_kind, is_there, needs};
-use gw_object::{Entity, Fault, Parts, Place, TableState, Units};
+use gw_blocks::Units;
+use gw_object::{Entity, Fault, Parts, Place, ReturnRow, TableKind, TableState};
 
 /// Whether none of the entities of a row is of another kind.
 fn names_no_other_kind(entities: &[Entity], row: &TableState) -> bool
@@ -47,12 +48,36 @@ fn are_there(entities: &[Entity], row: &TableState) -> bool
     owned.chain(held).all(|named| is_there(entities, named))
 }
 
-/// The first fault of the row at this place, if there is one.
-fn check_row(entities: &[Entity], place: Place, row: &TableState) -> Result<(), Fault>
-    ensures { Finds result (model.entity_checks entities.now place (model.entities_of_row row.now)) }
+/// The return row that a kind names, if it does.
+fn return_row_of(kind: TableKind) -> Option<u16>
+    ensures { result ≡ model.return_row_of kind }
 {
+    match kind {
+        TableKind::Num => None,
+        TableKind::Ret(row) => Some(row),
+    }
+}
+
+/// Whether the return rows that a row names are there.
+fn has_return_rows(returns: &[ReturnRow], row: &TableState) -> bool
+    ensures { result ≡ model.has_return_rows returns.now row.now }
+{
+    let mut named = row
+        .parameters
+        .as_slice()
+        .iter()
+        .filter_map(|q| return_row_of(q.kind));
+    named.all(|number| (number as usize) < returns.len())
+}
+
+/// The first fault of the row at this place, if there is one.
+fn check_row(parts: &Parts, place: Place, row: &TableState) -> Result<(), Fault>
+    ensures { Finds result (model.row_checks parts.now place (Some row.now)) }
+{
+    let entities = parts.entities.as_slice();
     check(WRONG_KIND, place, names_no_other_kind(entities, row))?;
-    check(NO_ENTITY, place, are_there(entities, row))
+    let are_there = are_there(entities, row) && has_return_rows(parts.returns.as_slice(), row);
+    check(NO_ENTITY, place, are_there)
 }
 
 /// The checks of the rows of the state table, each at its block.
@@ -66,7 +91,7 @@ impl NumberedChecks<Option<TableState>> for Rows {
     fn check_one(parts: &Parts, number: u16, element: &Option<TableState>) -> Result<(), Fault> {
         match element {
             None => Ok(()),
-            Some(row) => check_row(parts.entities.as_slice(), Place::Block(number), row),
+            Some(row) => check_row(parts, Place::Block(number), row),
         }
     }
 }

@@ -5,7 +5,7 @@ ghost use Rattle.gw_kinds.specs.Exits as model;
 ghost use Rattle.gw_kinds.specs.declared.ways.Way.TheVariants.{Falls};
 
 use arrayvec::ArrayVec;
-use gw_object::{Block, Operand, Spread};
+use gw_blocks::{Block, Operand, Spread};
 
 /// The way on from a block.
 #[derive(Clone, Copy, Debug, PartialEq, Eq)]
@@ -55,13 +55,13 @@ fn takes_time(time: Spread) -> bool
 }
 
 /// The exits of a block, in order: where it sends transactions, and whether time passes (GPSS World Reference Manual,
-/// chapter 7).
+/// chapter 7). A TRANSFER in parameter mode has none of its own: it leads to where the returns in its parameter do.
 pub fn exits(block: &Block) -> ArrayVec<Exit, 2>
     ensures { result.items ≡ model.exits block.now }
 {
     let mut exits = ArrayVec::new();
     match block {
-        Block::Terminate(_) => {}
+        Block::Terminate(_) | Block::TransferByParameter(_) => {}
         Block::Advance(time) => exits.push(Exit {
             way: Way::Falls,
             passes_time: takes_time(*time),
@@ -73,6 +73,7 @@ pub fn exits(block: &Block) -> ArrayVec<Exit, 2>
             exits.push(at_once(goes_or_falls(fraction.otherwise)));
             exits.push(at_once(Way::Goes(fraction.target)));
         }
+        Block::TransferToSubroutine(call) => exits.push(at_once(Way::Goes(call.target))),
         Block::Loop(looping) => {
             exits.push(at_once(Way::Falls));
             exits.push(at_once(Way::Goes(looping.target)));
@@ -92,6 +93,32 @@ fn falls_or_goes(target: Option<u16>) -> ArrayVec<Exit, 2>
         exits.push(at_once(Way::Goes(target)));
     }
     exits
+}
+
+/// Whether a block calls a subroutine.
+pub(crate) fn is_call(block: &Block) -> bool
+    ensures { result ≡ model.is_call block.now }
+{
+    matches!(block, Block::TransferToSubroutine(_))
+}
+
+/// The way on from a block that calls a subroutine, once that one comes back.
+pub(crate) fn comes_back(block: &Block) -> Option<Way>
+    ensures { result ≡ model.comes_back block.now }
+{
+    if is_call(block) {
+        Some(Way::Falls)
+    } else {
+        None
+    }
+}
+
+/// The exit to the block after the one of this number, which called the subroutine that ends here.
+pub fn returns_to(number: u16) -> Exit
+    requires { number < 65535 }
+    ensures { result ≡ model.returns_to number }
+{
+    at_once(Way::Goes(number + 1))
 }
 
 /// To the block of this number; without one to the next.

@@ -107,5 +107,5 @@ fn a_list_is_read_behind_its_count(rt: HostRuntime) {
 #[test]
 fn what_is_put_is_counted_without_putting_it(rt: HostRuntime) {
     assert_eq!(rt; room_after_count(255, 7), Some(2));
-    assert_eq!(rt; room_after_listed::<u16>(&[1, 258], 4), None);
+    assert_eq!(rt; room_after_listed::<Plain<u16>>(&[1, 258], 4), None);
 }

@@ -5,6 +5,7 @@ mod large;
 mod parameters;
 mod passing;
 mod refusals;
+mod subroutines;
 mod tables;
 
 use gw_flow::codes;

@@ -2,10 +2,12 @@
 
 mod conditions;
 mod named;
+mod subroutines;
 
 use crate::models::*;
+use gw_blocks::{Block, Generate, Operand, Spread};
 use gw_kinds::{Way, check, check_kinds, codes, exits, leads_to};
-use gw_object::{Block, Fault, Generate, Memory, Operand, Place, Spread, TableState};
+use gw_object::{Fault, Memory, Place, TableState};
 use std::alloc::Global;
 use std::test::Fail;
 
@@ -281,7 +283,7 @@ fn a_check_that_does_not_hold_answers_its_fault(rt: HostRuntime) {
 }
 
 /// Whether the exits of a block are these, in order.
-fn leave_by(block: Block, expected: &[(Way, bool)]) -> bool {
+pub(super) fn leave_by(block: Block, expected: &[(Way, bool)]) -> bool {
     let exits = exits(&block);
     let found = exits.as_slice();
     found.len() == expected.len()

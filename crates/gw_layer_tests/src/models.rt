@@ -2,9 +2,10 @@
 
 ghost use Rattle.std.specs.Prelude.{◌≡◌, length, IfOk};
 
+use gw_blocks::{Block, Generate, Operand, Spread, Units};
 use gw_object::{
-    Block, Entity, Fault, Generate, Items, Kind, Memory, Object, Operand, Parts, Place, Spread,
-    TableState, Units,
+    Entity, Fault, Items, Kind, Memory, Object, Parts, Place, ReturnRow, TableKind, TableParameter,
+    TableState,
 };
 use std::alloc::Global;
 use std::test::Fail;
@@ -52,7 +53,7 @@ pub(crate) fn constant_time(mean: i64, half: i64) -> Spread {
 /// Units of an entity, also in a constant.
 macro_rules! units {
     ($entity:expr, $number:expr) => {
-        gw_object::Units {
+        gw_blocks::Units {
             entity: $entity,
             number: $number,
         }
@@ -65,7 +66,7 @@ pub(crate) use units;
 /// a constant.
 macro_rules! by_fraction {
     ($thousandths:expr, $otherwise:expr, $target:expr) => {
-        gw_object::Block::TransferByFraction(gw_object::Fraction {
+        gw_blocks::Block::TransferByFraction(gw_blocks::Fraction {
             thousandths: $thousandths,
             otherwise: $otherwise,
             target: $target,
@@ -78,8 +79,8 @@ pub(crate) use by_fraction;
 /// A TEST of two values, and where those go for whom it is false, also in a constant.
 macro_rules! compare {
     ($comparison:ident, $left:expr, $right:expr, $otherwise:expr) => {
-        gw_object::Block::Test(gw_object::Test {
-            comparison: gw_object::Comparison::$comparison,
+        gw_blocks::Block::Test(gw_blocks::Test {
+            comparison: gw_blocks::Comparison::$comparison,
             left: $left,
             right: $right,
             otherwise: $otherwise,
@@ -92,8 +93,8 @@ pub(crate) use compare;
 /// A GATE of an entity, and where those go for whom it isn't so, also in a constant.
 macro_rules! gate {
     ($condition:ident, $entity:expr, $otherwise:expr) => {
-        gw_object::Block::Gate(gw_object::Gate {
-            condition: gw_object::Condition::$condition,
+        gw_blocks::Block::Gate(gw_blocks::Gate {
+            condition: gw_blocks::Condition::$condition,
             entity: $entity,
             otherwise: $otherwise,
         })
@@ -101,6 +102,18 @@ macro_rules! gate {
 }
 
 pub(crate) use gate;
+
+/// A call of the subroutine at a block, with the return in a parameter, also in a constant.
+macro_rules! call {
+    ($target:expr, $parameter:expr) => {
+        gw_blocks::Block::TransferToSubroutine(gw_blocks::Call {
+            target: $target,
+            parameter: $parameter,
+        })
+    };
+}
+
+pub(crate) use call;
 
 pub(crate) fn entity(alloc: Global, kind: Kind, name: &[u8]) -> Result<Entity, Memory> {
     let name = Items::from_vec(Vec::from_slice(alloc, name)?);
@@ -145,7 +158,57 @@ pub(crate) fn no_states(alloc: Global, count: usize) -> Result<Vec<Option<TableS
     Ok(states)
 }
 
-/// Parts of these blocks and rows, each of weight 1, with no seeds and termination count 1.
+/// The parameters that a row knows, each by its number and what it holds.
+pub(crate) type Known<'a> = &'a [(u8, TableKind)];
+
+/// A row that knows these parameters and nothing else, as an object has it.
+pub(crate) fn state_knowing(alloc: Global, known: Known) -> Result<TableState, Memory> {
+    let mut parameters = Vec::new(alloc);
+    for (number, kind) in known {
+        parameters.push(TableParameter {
+            number: *number,
+            kind: *kind,
+        })?;
+    }
+    let mut state = state(alloc, (&[], &[]))?;
+    state.parameters = Items::from_vec(parameters);
+    Ok(state)
+}
+
+/// A row that knows these parameters, if there is one.
+pub(crate) fn state_if(alloc: Global, known: Option<Known>) -> Result<Option<TableState>, Memory> {
+    match known {
+        Some(known) => Ok(Some(state_knowing(alloc, known)?)),
+        None => Ok(None),
+    }
+}
+
+/// Rows that know these parameters, for each block that has one.
+pub(crate) fn states_knowing(
+    alloc: Global,
+    rows: &[Option<Known>],
+) -> Result<Vec<Option<TableState>>, Memory> {
+    let mut states = Vec::new(alloc);
+    for known in rows {
+        states.push(state_if(alloc, *known)?)?;
+    }
+    Ok(states)
+}
+
+/// The blocks of each return row.
+pub(crate) type Returns<'a> = &'a [&'a [u16]];
+
+/// These return rows, as an object has them.
+pub(crate) fn return_rows(alloc: Global, returns: Returns) -> Result<Items<ReturnRow>, Memory> {
+    let mut rows = Vec::new(alloc);
+    for blocks in returns {
+        let blocks = Items::from_vec(Vec::from_slice(alloc, *blocks)?);
+        rows.push(ReturnRow { blocks })?;
+    }
+    Ok(Items::from_vec(rows))
+}
+
+/// Parts of these blocks and rows, each of weight 1, with no seeds, termination count 1 and no return rows.
 pub(crate) fn parts(
     alloc: Global,
     entities: Vec<Entity>,
@@ -160,6 +223,7 @@ pub(crate) fn parts(
         count: 1,
         entities: Items::from_vec(entities),
         blocks: Items::from_vec(blocks),
+        returns: Items::from_vec(Vec::new(alloc)),
         states: Items::from_vec(states),
         weights: Items::from_vec(weights),
     })
@@ -195,6 +259,11 @@ pub(crate) fn model(
     let entities = three_entities(alloc, capacity)?;
     let blocks = Vec::from_slice(alloc, blocks)?;
     built(parts(alloc, entities, blocks, states)?)
+}
+
+pub(crate) fn at_row(code: u16, row: u16) -> Option<Fault> {
+    let place = Place::Row(row);
+    Some(Fault { code, place })
 }
 
 pub(crate) fn at_block(code: u16, block: u16) -> Option<Fault> {

@@ -1,10 +1,10 @@
 //! Objects: reading, building and writing them.
 
 use crate::models::*;
+use gw_blocks::{Block, Generate, Operand};
 use gw_object::codes::*;
 use gw_object::{
-    Block, Fault, Generate, Items, Memory, Object, Operand, Parts, Place, TableState, codes, read,
-    write,
+    Fault, Items, Memory, Object, Parts, Place, ReturnRow, TableState, codes, read, write,
 };
 use std::alloc::Global;
 use std::test::Fail;
@@ -13,6 +13,7 @@ mod blocks;
 mod conditions;
 mod entities;
 mod states;
+mod subroutines;
 mod values;
 
 /// `GENERATE 10 / ADVANCE 3 / TERMINATE 1` with termination count 2.
@@ -205,13 +206,13 @@ const FAULTS: [(usize, usize, &'static [u8], u16, u32); 30] = [
     (16, 1, &[0x01], LIMIT, 16),
     (17, 1, &[0xff, 0x00, 0x00, 0x10, 0x01], LIMIT, 17),
     (17, 1, &[0xff, 0x00, 0x00, 0x00, 0xfe], NOT_CANONICAL, 17),
-    (18, 1, &[0x0f], TAG, 18),
+    (18, 1, &[0x12], TAG, 18),
     (19, 1, &[0x05], TAG, 19),
     (28, 1, &[0x06], TAG, 28),
     (37, 1, &[0x02], TAG, 37),
     (38, 1, &[0xff], TAG, 38),
     (63, 1, &[0x05], TAG, 63),
-    (72, 1, &[0x01], LIMIT, 72),
+    (72, 1, &[0xff, 0x00, 0x00, 0x10, 0x01], LIMIT, 72),
     (73, 1, &[0x02], TAG, 73),
     (74, 1, &[0x41], LIMIT, 74),
     // A facility and no units: four bytes less for the next two states, and four are left in the end.
@@ -219,7 +220,8 @@ const FAULTS: [(usize, usize, &'static [u8], u16, u32); 30] = [
     (84, 1, &[0xff, 0x00, 0x00, 0x00, 0x00], NOT_CANONICAL, 84),
     (85, 4, &[0x3b, 0x9a, 0xca, 0x01], LIMIT, 85),
     (96, 1, &[0x00], LIMIT, 93),
-    (17, 1, &[0x02], LIMIT, 62),
+    // A block less: the last one's tag is a count of return rows, of which the first has no block.
+    (17, 1, &[0x02], LIMIT, 63),
 ];
 
 #[test]

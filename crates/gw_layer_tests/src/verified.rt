@@ -1,7 +1,8 @@
 //! The verifier: objects of a few blocks, accepted and refused.
 
 use crate::models::*;
-use gw_object::{Block, Fault, Items, Memory, Object, Parts, TableState};
+use gw_blocks::{Block, Generate, Operand, Spread};
+use gw_object::{Fault, Items, Memory, Object, Parts, TableKind, TableState};
 use gw_verify::{Verified, verify};
 use std::alloc::Global;
 use std::test::Fail;
@@ -113,5 +114,96 @@ fn more_than_a_storage_holds_is_refused(rt: HostRuntime) -> Result<(), Fail> {
     const BLOCKS: &[Block] = &[GENERATE, Block::Enter(units!(S, 4)), TERMINATE];
     let found = refusal(rt.alloc(), BLOCKS, &[false; 3])?;
     assert!(rt; found == at_block(28, 2));
+    Ok(())
+}
+
+/// A GENERATE of one transaction.
+const LIMITED_TO_1: Block = Block::Generate(Generate {
+    interval: Spread {
+        mean: Operand::Constant(0),
+        half: Operand::Constant(0),
+    },
+    first: None,
+    limit: Some(1),
+    priority: 0,
+});
+
+/// ADVANCE of a time, also in a constant.
+macro_rules! advance {
+    ($mean:expr) => {
+        Block::Advance(Spread {
+            mean: $mean,
+            half: Operand::Constant(0),
+        })
+    };
+}
+
+/// Parameter 1 returns to the blocks of the first return row.
+const RETURNS: Option<Known<'static>> = Some(&[(1, TableKind::Ret(0))]);
+
+/// Two calls of a subroutine that rests for a time: `GENERATE ,,,1 / TRANSFER SBR,SUB,1 / TRANSFER SBR,SUB,1 / TERMINATE 1 /
+/// SUB ADVANCE / TRANSFER P,1,1`.
+macro_rules! called_twice {
+    ($time:expr) => {
+        &[
+            LIMITED_TO_1,
+            call!(5, 1),
+            call!(5, 1),
+            TERMINATE,
+            advance!($time),
+            Block::TransferByParameter(1),
+        ]
+    };
+}
+
+/// The rows of two calls of a subroutine: from the second on parameter 1 is known to be a return to one of them.
+const CALLED_TWICE: &[Option<Known<'static>>] = &[
+    Some(&[]),
+    Some(&[]),
+    RETURNS,
+    RETURNS,
+    RETURNS,
+    RETURNS,
+];
+
+/// The fault of an object of these blocks, with rows that know these parameters and with these return rows, if it is
+/// refused.
+fn fault_with(
+    alloc: Global,
+    blocks: &[Block],
+    rows: &[Option<Known>],
+    returns: Returns,
+) -> Result<Option<Fault>, Fail> {
+    let states = states_knowing(alloc, rows)?;
+    let blocks = Vec::from_slice(alloc, blocks)?;
+    let mut parts = parts(alloc, Vec::new(alloc), blocks, states)?;
+    parts.returns = return_rows(alloc, returns)?;
+    match verify(alloc, built(parts)?) {
+        Ok(_) => Ok(None),
+        Err((_, fault)) => Ok(Some(fault)),
+    }
+}
+
+#[test]
+fn two_calls_of_a_subroutine_are_accepted(rt: HostRuntime) -> Result<(), Fail> {
+    const BLOCKS: &[Block] = called_twice!(Operand::Constant(5));
+    let fault = fault_with(rt.alloc(), BLOCKS, CALLED_TWICE, &[&[2, 3]])?;
+    assert!(rt; fault.is_none());
+    Ok(())
+}
+
+#[test]
+fn a_time_that_is_a_return_is_refused(rt: HostRuntime) -> Result<(), Fail> {
+    const BLOCKS: &[Block] = called_twice!(Operand::Parameter(1));
+    let fault = fault_with(rt.alloc(), BLOCKS, CALLED_TWICE, &[&[2, 3]])?;
+    assert!(rt; fault == at_block(27, 5));
+    Ok(())
+}
+
+#[test]
+fn who_was_never_called_may_not_return(rt: HostRuntime) -> Result<(), Fail> {
+    const BLOCKS: &[Block] = &[LIMITED_TO_1, Block::TransferByParameter(1)];
+    let fault = fault_with(rt.alloc(), BLOCKS, &[Some(&[]), Some(&[])], &[])?;
+    assert!(rt; fault == at_block(20, 2));
     Ok(())
 }

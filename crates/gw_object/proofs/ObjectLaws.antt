@@ -7,240 +7,18 @@ use Rattle.std.proofs.lemmas.Bool.{cases_lt, eqb-true, ne_eqb, ltb-true, lt-ltb,
 use Rattle.std.proofs.lemmas.List.{append-nil, nil_from_length, length-append}
 use Rattle.gw_object.specs.declared.fault.Fault.{Fault}
 use Rattle.gw_object.specs.Codes as codes
-use Rattle.gw_object.specs.Limits.{most_bytes, most_seeds, greatest_seed, greatest_count, most_entities, most_streams, most_blocks, greatest_weight}
-use Rattle.gw_object.specs.declared.parts.Attribute.TheVariants.{Clock, AbsoluteClock, Priority, TransitTime, TransactionNumber, TerminationCount}
-use Rattle.gw_object.specs.declared.parts.EntityAttribute.TheVariants.{FacilityOwned, StorageContent, StorageRemaining, QueueContent, SavevalueValue, SwitchSetting, BlockEntries, BlockCount}
-use Rattle.gw_object.specs.declared.parts.Operand.{Operand}
-use Rattle.gw_object.specs.declared.parts.Operand.TheVariants.{Constant, Parameter, Attribute, OfEntity, Random}
-use Rattle.gw_object.specs.declared.parts.Mode.TheVariants.{Set, Add, Subtract}
-use Rattle.gw_object.specs.declared.parts.Comparison.TheVariants.{Equal, NotEqual, Greater, GreaterOrEqual, Less, LessOrEqual}
-use Rattle.gw_object.specs.declared.parts.Condition.TheVariants.{SwitchSet, SwitchReset, FacilityInUse, FacilityNotInUse, StorageFull, StorageEmpty, StorageNotFull, StorageNotEmpty}
-use Rattle.gw_object.specs.declared.parts.SwitchAction.TheVariants.{Set as SetSwitch, Reset as ResetSwitch, Invert as InvertSwitch}
-use Rattle.gw_object.specs.declared.parts.Block.{Block}
-use Rattle.gw_object.specs.declared.parts.Block.TheVariants.{Generate, Terminate, Advance, Seize, Release, Enter, Leave, Queue, Depart, Assign, Test, Gate, Transfer, TransferByFraction, Loop, Logic, Savevalue, Mark}
+use Rattle.gw_object.specs.Limits.{most_bytes, most_seeds, greatest_seed, greatest_count, most_entities, most_blocks, greatest_weight}
 use Rattle.gw_object.specs.declared.parts.Parts.{Parts}
 use Rattle.gw_fields.specs.declared.error.Bad.{Bad}
-use Rattle.gw_fields.specs.Fields.{IsProperFront, Field, behind, bad, byte, number, signed, optional, count, plain, ElementsFit}
-use Rattle.gw_object.specs.Grammar.{parameter_number, stream_number, attribute_byte, attributes, attribute, entity_attribute_byte, entity_attributes, NumberedFits, numbered, OperandFits, operand_spelling, operand_forms, operand_read, operand, mode_byte, modes, mode, AssignFits, assign, comparison_byte, comparisons, TestFits, test_operands, condition_byte, conditions, GateFits, gate, LoopFits, countdown, action_byte, actions, LogicFits, logic, SaveFits, save, SpreadFits, spread, GenerateFits, generate, entity_number, UnitsFit, units, block_number, FractionFits, fraction, BlockFits, block_spelling, block_forms, block_read, block, weight, tables, head, seed, start_count, object, spelling, HasSpelling, Spells}
+use Rattle.gw_fields.specs.Fields.{IsProperFront, bad, number, count, plain, ElementsFit}
+use Rattle.gw_object.specs.Grammar.{weight, tables, head, seed, start_count, object, spelling, HasSpelling, Spells}
+use Rattle.gw_blocks.specs.Grammar.{BlockFits, block}
 use Rattle.gw_object.specs.Entities.{entity}
 use Rattle.gw_object.specs.Reading.{whole_read, with_place, first_fault, out_of_memory, fault_at, IsRefused}
 use Rattle.gw_object.proofs.EntityLaws.{entity_exact, entities_fit, entities_are}
-use Rattle.gw_object.proofs.StateLaws.{entity_number_exact, parameter_number_exact, no_elements_exact, none, state_exact, rows_fit, rows_keep}
-use Rattle.gw_fields.proofs.OneOf.{AreFound, one_of_exact}
-use Rattle.gw_fields.proofs.Exact.{ReadsBack, ◌also◌, IsCut, CutsFronts, cuts_still, front_shorter, tag_reads_back, IsExactForm, AreExactForms, behind_exact, by_tag_takes, by_tag_within, IsBytes, Takes-shorter, IsExact, IsExactElement, bind_ok, bind_err, chosen, ok_is, err_is, not_both, byte_exact, wide16, wide32, wide64, number_exact, signed_exact, made_exact, and_then_exact, both_exact, fitting_exact, constant_exact, ranged_exact, optional_exact, plain_exact, last_tested_exact, elements_exact, listed_exact, All-from_fit, fit-from_All}
-
--- ---- operands
-
-stream_number_exact : IsExact stream_number
-stream_number_exact = ranged_exact 1 most_streams byte (λ n h. omega arith) byte_exact
-
-attributes_are_found : AreFound attribute_byte attributes
-attributes_are_found Clock = refl
-attributes_are_found AbsoluteClock = refl
-attributes_are_found Priority = refl
-attributes_are_found TransitTime = refl
-attributes_are_found TransactionNumber = refl
-attributes_are_found TerminationCount = refl
-
-attribute_exact : IsExact attribute
-attribute_exact = one_of_exact attribute_byte attributes attributes_are_found
-
-entity_attributes_are_found : AreFound entity_attribute_byte entity_attributes
-entity_attributes_are_found FacilityOwned = refl
-entity_attributes_are_found StorageContent = refl
-entity_attributes_are_found StorageRemaining = refl
-entity_attributes_are_found QueueContent = refl
-entity_attributes_are_found SavevalueValue = refl
-entity_attributes_are_found SwitchSetting = refl
-entity_attributes_are_found BlockEntries = refl
-entity_attributes_are_found BlockCount = refl
-
-pub numbered_exact : IsExact numbered
-unfolding numbered
-numbered_exact = fitting_exact NumberedFits _ (λ n h. h.1) (λ n h. (tt, h))
-    (made_exact _ _ _ (λ x h. refl) (λ n h. refl) (both_exact _ _ (one_of_exact entity_attribute_byte entity_attributes entity_attributes_are_found) (number_exact w16 wide16)))
-
-operand_forms_exact : AreExactForms operand_spelling OperandFits operand_forms
-unfolding numbered
-operand_forms_exact =
-    behind_exact operand_spelling OperandFits 0 (λ n. Constant n) (signed w64) (λ n. refl) (λ n h. h) (signed_exact w64 wide64)
-    also behind_exact operand_spelling OperandFits 1 (λ p. Parameter p) parameter_number (λ p. refl) (λ p h. h) parameter_number_exact
-    also behind_exact operand_spelling OperandFits 2 (λ a. Attribute a) attribute (λ a. refl) (λ a h. tt) attribute_exact
-    also behind_exact operand_spelling OperandFits 3 (λ n. OfEntity n) numbered (λ n. refl) (λ n h. h) numbered_exact
-    also behind_exact operand_spelling OperandFits 4 (λ s. Random s) stream_number (λ s. refl) (λ s h. h) stream_number_exact
-    also tt
-
-operand_reads_back : (x : Operand) → OperandFits x → ReadsBack operand_read (operand_spelling x) x
-unfolding operand_read numbered
-operand_reads_back (Constant n) fits = tag_reads_back operand_forms 0 (λ n. Constant n) (signed w64) (λ _ _. refl) (signed_exact w64 wide64) n fits
-operand_reads_back (Parameter p) fits = tag_reads_back operand_forms 1 (λ p. Parameter p) parameter_number (λ _ _. refl) parameter_number_exact p fits
-operand_reads_back (Attribute a) fits = tag_reads_back operand_forms 2 (λ a. Attribute a) attribute (λ _ _. refl) attribute_exact a tt
-operand_reads_back (OfEntity n) fits = tag_reads_back operand_forms 3 (λ n. OfEntity n) numbered (λ _ _. refl) numbered_exact n fits
-operand_reads_back (Random s) fits = tag_reads_back operand_forms 4 (λ s. Random s) stream_number (λ _ _. refl) stream_number_exact s fits
-
-pub operand_exact : IsExact operand
-unfolding operand_read
-operand_exact = record {
-  takes = by_tag_takes operand_spelling OperandFits operand_forms operand_forms_exact;
-  again = λ x rest fits. (operand_reads_back x fits).again rest;
-  within = by_tag_within operand_spelling OperandFits operand_forms operand_forms_exact;
-  cut = λ x fits. (operand_reads_back x fits).cut;
-}
-
-pub spread_exact : IsExact spread
-unfolding spread
-spread_exact = fitting_exact SpreadFits _ (λ s h. record { mean = h.0; half = h.1 }) (λ s h. (h.mean, h.half))
-    (made_exact _ _ _ (λ x h. refl) (λ s h. refl) (both_exact _ _ operand_exact operand_exact))
-
--- ---- blocks
-
-pub generate_exact : IsExact generate
-unfolding generate spread
-generate_exact = fitting_exact GenerateFits _
-    (λ g h. record { interval = h.0; first = h.1.0; limit = h.1.1.0; priority = h.1.1.1 })
-    (λ g h. (h.interval, (h.first, (h.limit, h.priority))))
-    (made_exact _ _ _ (λ x h. refl) (λ g h. refl)
-    (both_exact _ _ spread_exact (both_exact _ _ (optional_exact _ (signed_exact w64 wide64)) (both_exact _ _ (optional_exact _ (number_exact w32 wide32)) (signed_exact w32 wide32)))))
-
-pub units_exact : IsExact units
-unfolding units
-units_exact = fitting_exact UnitsFit _ (λ u h. record { entity = h.0; number = h.1 }) (λ u h. (h.entity, h.number))
-    (made_exact _ _ _ (λ x h. refl) (λ u h. refl) (both_exact _ _ entity_number_exact (number_exact w32 wide32)))
-
-block_number_exact : IsExact block_number
-block_number_exact = number_exact w16 wide16
-
-pub fraction_exact : IsExact fraction
-unfolding fraction
-fraction_exact = fitting_exact FractionFits _
-    (λ f h. record { thousandths = h.0; otherwise = h.1.0; target = h.1.1 })
-    (λ f h. (h.thousandths, (h.otherwise, h.target)))
-    (made_exact _ _ _ (λ x h. refl) (λ f h. refl) (both_exact _ _ (number_exact w16 wide16) (both_exact _ _ (optional_exact _ block_number_exact) block_number_exact)))
-
-modes_are_found : AreFound mode_byte modes
-modes_are_found Set = refl
-modes_are_found Add = refl
-modes_are_found Subtract = refl
-
-mode_exact : IsExact mode
-mode_exact = one_of_exact mode_byte modes modes_are_found
-
-pub assign_exact : IsExact assign
-unfolding assign
-assign_exact = fitting_exact AssignFits _ (λ a h. record { parameter = h.0; value = h.1.1 }) (λ a h. (h.parameter, (tt, h.value)))
-    (made_exact _ _ _ (λ x h. refl) (λ a h. refl) (both_exact _ _ parameter_number_exact (both_exact _ _ mode_exact operand_exact)))
-
-comparisons_are_found : AreFound comparison_byte comparisons
-comparisons_are_found Equal = refl
-comparisons_are_found NotEqual = refl
-comparisons_are_found Greater = refl
-comparisons_are_found GreaterOrEqual = refl
-comparisons_are_found Less = refl
-comparisons_are_found LessOrEqual = refl
-
-otherwise_exact : IsExact (optional block_number)
-otherwise_exact = optional_exact block_number block_number_exact
-
-pub test_exact : IsExact test_operands
-unfolding test_operands
-test_exact = fitting_exact TestFits _ (λ t h. record { left = h.1.0; right = h.1.1.0; otherwise = h.1.1.1 }) (λ t h. (tt, (h.left, (h.right, h.otherwise))))
-    (made_exact _ _ _ (λ x h. refl) (λ t h. refl)
-    (both_exact _ _ (one_of_exact comparison_byte comparisons comparisons_are_found) (both_exact _ _ operand_exact (both_exact _ _ operand_exact otherwise_exact))))
-
-conditions_are_found : AreFound condition_byte conditions
-conditions_are_found SwitchSet = refl
-conditions_are_found SwitchReset = refl
-conditions_are_found FacilityInUse = refl
-conditions_are_found FacilityNotInUse = refl
-conditions_are_found StorageFull = refl
-conditions_are_found StorageEmpty = refl
-conditions_are_found StorageNotFull = refl
-conditions_are_found StorageNotEmpty = refl
-
-pub gate_exact : IsExact gate
-unfolding gate
-gate_exact = fitting_exact GateFits _ (λ g h. record { entity = h.1.0; otherwise = h.1.1 }) (λ g h. (tt, (h.entity, h.otherwise)))
-    (made_exact _ _ _ (λ x h. refl) (λ g h. refl) (both_exact _ _ (one_of_exact condition_byte conditions conditions_are_found) (both_exact _ _ entity_number_exact otherwise_exact)))
-
-pub countdown_exact : IsExact countdown
-unfolding countdown
-countdown_exact = fitting_exact LoopFits _ (λ l h. record { parameter = h.0; target = h.1 }) (λ l h. (h.parameter, h.target))
-    (made_exact _ _ _ (λ x h. refl) (λ l h. refl) (both_exact _ _ parameter_number_exact block_number_exact))
-
-actions_are_found : AreFound action_byte actions
-actions_are_found SetSwitch = refl
-actions_are_found ResetSwitch = refl
-actions_are_found InvertSwitch = refl
-
-pub logic_exact : IsExact logic
-unfolding logic
-logic_exact = fitting_exact LogicFits _ (λ l h. h.1) (λ l h. (tt, h))
-    (made_exact _ _ _ (λ x h. refl) (λ l h. refl) (both_exact _ _ (one_of_exact action_byte actions actions_are_found) entity_number_exact))
-
-pub save_exact : IsExact save
-unfolding save
-save_exact = fitting_exact SaveFits _ (λ s h. record { savevalue = h.0; value = h.1.1 }) (λ s h. (h.savevalue, (tt, h.value)))
-    (made_exact _ _ _ (λ x h. refl) (λ s h. refl) (both_exact _ _ entity_number_exact (both_exact _ _ mode_exact operand_exact)))
-
-parameter_if_any_exact : IsExact (optional parameter_number)
-parameter_if_any_exact = optional_exact parameter_number parameter_number_exact
-
--- a kind of block whose operands are those of a field
-block_form_exact : {A : Type 0} (tag : ℕ) (make : A → Block) (f : Field A) → ((x : A) → tag ∷ f.spell x ≡ block_spelling (make x)) → ((x : A) → f.Fits x → BlockFits (make x)) → IsExact f → IsExactForm block_spelling BlockFits (behind tag make f)
-block_form_exact tag make f spelled fit exact = behind_exact block_spelling BlockFits tag make f spelled fit exact
-
-block_forms_exact : AreExactForms block_spelling BlockFits block_forms
-unfolding generate spread units fraction assign test_operands gate countdown logic save
-block_forms_exact =
-    block_form_exact 1 (λ g. Generate g) generate (λ g. refl) (λ g h. h) generate_exact
-    also block_form_exact 2 (λ n. Terminate n) operand (λ n. refl) (λ n h. h) operand_exact
-    also block_form_exact 3 (λ s. Advance s) spread (λ s. refl) (λ s h. h) spread_exact
-    also block_form_exact 4 (λ n. Seize n) entity_number (λ n. refl) (λ n h. h) entity_number_exact
-    also block_form_exact 5 (λ n. Release n) entity_number (λ n. refl) (λ n h. h) entity_number_exact
-    also block_form_exact 6 (λ u. Enter u) units (λ u. refl) (λ u h. h) units_exact
-    also block_form_exact 7 (λ u. Leave u) units (λ u. refl) (λ u h. h) units_exact
-    also block_form_exact 8 (λ u. Queue u) units (λ u. refl) (λ u h. h) units_exact
-    also block_form_exact 9 (λ u. Depart u) units (λ u. refl) (λ u h. h) units_exact
-    also block_form_exact 10 (λ a. Assign a) assign (λ a. refl) (λ a h. h) assign_exact
-    also block_form_exact 11 (λ t. Test t) test_operands (λ t. refl) (λ t h. h) test_exact
-    also block_form_exact 12 (λ g. Gate g) gate (λ g. refl) (λ g h. h) gate_exact
-    also block_form_exact 13 (λ n. Transfer n) block_number (λ n. refl) (λ n h. h) block_number_exact
-    also block_form_exact 14 (λ f. TransferByFraction f) fraction (λ f. refl) (λ f h. h) fraction_exact
-    also block_form_exact 17 (λ l. Loop l) countdown (λ l. refl) (λ l h. h) countdown_exact
-    also block_form_exact 22 (λ l. Logic l) logic (λ l. refl) (λ l h. h) logic_exact
-    also block_form_exact 23 (λ s. Savevalue s) save (λ s. refl) (λ s h. h) save_exact
-    also block_form_exact 24 (λ p. Mark p) (optional parameter_number) (λ p. refl) (λ p h. h) parameter_if_any_exact
-    also tt
-
-block_reads_back : (b : Block) → BlockFits b → ReadsBack block_read (block_spelling b) b
-unfolding block_read generate spread units fraction assign test_operands gate countdown logic save
-block_reads_back (Generate g) fits = tag_reads_back block_forms 1 (λ g. Generate g) generate (λ _ _. refl) generate_exact g fits
-block_reads_back (Terminate n) fits = tag_reads_back block_forms 2 (λ n. Terminate n) operand (λ _ _. refl) operand_exact n fits
-block_reads_back (Advance s) fits = tag_reads_back block_forms 3 (λ s. Advance s) spread (λ _ _. refl) spread_exact s fits
-block_reads_back (Seize n) fits = tag_reads_back block_forms 4 (λ n. Seize n) entity_number (λ _ _. refl) entity_number_exact n fits
-block_reads_back (Release n) fits = tag_reads_back block_forms 5 (λ n. Release n) entity_number (λ _ _. refl) entity_number_exact n fits
-block_reads_back (Enter u) fits = tag_reads_back block_forms 6 (λ u. Enter u) units (λ _ _. refl) units_exact u fits
-block_reads_back (Leave u) fits = tag_reads_back block_forms 7 (λ u. Leave u) units (λ _ _. refl) units_exact u fits
-block_reads_back (Queue u) fits = tag_reads_back block_forms 8 (λ u. Queue u) units (λ _ _. refl) units_exact u fits
-block_reads_back (Depart u) fits = tag_reads_back block_forms 9 (λ u. Depart u) units (λ _ _. refl) units_exact u fits
-block_reads_back (Assign a) fits = tag_reads_back block_forms 10 (λ a. Assign a) assign (λ _ _. refl) assign_exact a fits
-block_reads_back (Test t) fits = tag_reads_back block_forms 11 (λ t. Test t) test_operands (λ _ _. refl) test_exact t fits
-block_reads_back (Gate g) fits = tag_reads_back block_forms 12 (λ g. Gate g) gate (λ _ _. refl) gate_exact g fits
-block_reads_back (Transfer n) fits = tag_reads_back block_forms 13 (λ n. Transfer n) block_number (λ _ _. refl) block_number_exact n fits
-block_reads_back (TransferByFraction f) fits = tag_reads_back block_forms 14 (λ f. TransferByFraction f) fraction (λ _ _. refl) fraction_exact f fits
-block_reads_back (Loop l) fits = tag_reads_back block_forms 17 (λ l. Loop l) countdown (λ _ _. refl) countdown_exact l fits
-block_reads_back (Logic l) fits = tag_reads_back block_forms 22 (λ l. Logic l) logic (λ _ _. refl) logic_exact l fits
-block_reads_back (Savevalue s) fits = tag_reads_back block_forms 23 (λ s. Savevalue s) save (λ _ _. refl) save_exact s fits
-block_reads_back (Mark p) fits = tag_reads_back block_forms 24 (λ p. Mark p) (optional parameter_number) (λ _ _. refl) parameter_if_any_exact p fits
-
-pub block_exact : IsExact block
-unfolding block_read
-block_exact = record {
-  takes = by_tag_takes block_spelling BlockFits block_forms block_forms_exact;
-  again = λ b rest fits. (block_reads_back b fits).again rest;
-  within = by_tag_within block_spelling BlockFits block_forms block_forms_exact;
-  cut = λ b fits. (block_reads_back b fits).cut;
-}
+use Rattle.gw_object.proofs.StateLaws.{no_elements_exact, none, return_rows_exact, return_rows_fit, return_rows_keep, state_exact, rows_fit, rows_keep}
+use Rattle.gw_blocks.proofs.BlockLaws.{block_exact}
+use Rattle.gw_fields.proofs.Exact.{IsCut, CutsFronts, cuts_still, front_shorter, IsBytes, Takes-shorter, IsExact, IsExactElement, bind_ok, bind_err, chosen, ok_is, err_is, not_both, wide16, wide32, wide64, number_exact, made_exact, and_then_exact, both_exact, constant_exact, ranged_exact, optional_exact, plain_exact, last_tested_exact, elements_exact, listed_exact, All-from_fit, fit-from_All}
 
 -- ---- what stands for each block
 
@@ -249,7 +27,7 @@ weight_exact = ranged_exact 1 greatest_weight (number w32) (λ n h. omega arith)
 
 pub tables_exact : (n : ℕ) → IsExact (tables n)
 unfolding tables
-tables_exact n = both_exact _ _ no_elements_exact (both_exact _ _ (elements_exact _ n (plain_exact _ (optional_exact _ state_exact))) (elements_exact _ n (plain_exact _ weight_exact)))
+tables_exact n = both_exact _ _ return_rows_exact (both_exact _ _ (elements_exact _ n (plain_exact _ (optional_exact _ state_exact))) (elements_exact _ n (plain_exact _ weight_exact)))
 
 -- ---- the object
 
@@ -315,7 +93,7 @@ spelled_fits p h =
               none,
               (
                 (omega arith, limits.blocks, fit-from_All BlockFits p.blocks [] limits.each_block),
-                (none, ((limits.states, rows_fit p.states limits.each_state h.canonical.each_state), (limits.weights, fit-from_All weight.Fits p.weights [] limits.each_weight))),
+                ((omega arith, limits.returns, return_rows_fit p.returns limits.each_return h.canonical.each_return), ((limits.states, rows_fit p.states limits.each_state h.canonical.each_state), (limits.weights, fit-from_All weight.Fits p.weights [] limits.each_weight))),
               ),
             ),
           ),
@@ -325,8 +103,9 @@ spelled_fits p h =
 
 pub fits_spelled : (p : Parts) → object.Fits p → length (spelling p) ≤ most_bytes → HasSpelling p
 unfolding object head tables
-fits_spelled p (h, (seeds, (count, (entities, (q, (blocks, (r, (states, weights)))))))) size =
+fits_spelled p (h, (seeds, (count, (entities, (q, (blocks, (returns, (states, weights)))))))) size =
     let each_entity = entities_are p.entities entities.2 in
+    let each_return = return_rows_keep p.returns returns.2 in
     let each_row = rows_keep p.states states.1 in record {
       letters = record { names = each_entity.letters };
       limits = record {
@@ -338,13 +117,15 @@ fits_spelled p (h, (seeds, (count, (entities, (q, (blocks, (r, (states, weights)
         each_entity = each_entity.limits;
         blocks = blocks.1;
         each_block = All-from_fit (λ front left. BlockFits) BlockFits (λ front left b h. h) p.blocks [] blocks.2;
+        returns = returns.1;
+        each_return = λ k d lt. (each_return k d lt).0;
         states = states.0;
         each_state = λ k d lt. (each_row k d lt).0;
         weights = weights.0;
         each_weight = All-from_fit (λ front left. weight.Fits) weight.Fits (λ front left w h. h) p.weights [] weights.1;
         size = size;
       };
-      canonical = record { last_seed = last_seed_is p.seeds [] seeds.2; own_names = each_entity.own; each_state = λ k d lt. (each_row k d lt).1 };
+      canonical = record { last_seed = last_seed_is p.seeds [] seeds.2; own_names = each_entity.own; each_return = λ k d lt. (each_return k d lt).1; each_state = λ k d lt. (each_row k d lt).1 };
     }
 
 -- ---- reading as a whole

@@ -1,378 +1,20 @@
 -- The object grammar: which parts have a spelling, and which bytes spell them.
-use Rattle.std.specs.Prelude.{◌≡◌, ◌≢◌, ◌⊎◌, ℕ, ◌-◌, ◌≤◌, ◌<◌, ◌^◌, FitsSigned, List, [], ◌∷◌, length, slice_get, Option, Some, IfSome, nat_lt}
+use Rattle.std.specs.Prelude.{◌≡◌, ◌≢◌, ◌⊎◌, ℕ, ◌-◌, ◌≤◌, ◌<◌, List, [], ◌∷◌, length, slice_get, Option, Some, IfSome, nat_lt}
 use Rattle.std.specs.List.{All, AllPairs}
 use Rattle.std.specs.Int.{w16, w32, w64}
 use Rattle.gw_object.specs.Codes as codes
-use Rattle.gw_object.specs.Limits.{most_bytes, most_seeds, greatest_seed, greatest_count, most_entities, most_parameters, most_streams, greatest_units, most_blocks, greatest_weight}
-use Rattle.gw_object.specs.declared.parts.Attribute.{Attribute as OwnAttribute}
-use Rattle.gw_object.specs.declared.parts.Attribute.TheVariants.{Clock, AbsoluteClock, Priority, TransitTime, TransactionNumber, TerminationCount}
-use Rattle.gw_object.specs.declared.parts.EntityAttribute.{EntityAttribute}
-use Rattle.gw_object.specs.declared.parts.EntityAttribute.TheVariants.{FacilityOwned, StorageContent, StorageRemaining, QueueContent, SavevalueValue, SwitchSetting, BlockEntries, BlockCount}
-use Rattle.gw_object.specs.declared.parts.Numbered.{Numbered}
-use Rattle.gw_object.specs.declared.parts.Operand.{Operand}
-use Rattle.gw_object.specs.declared.parts.Operand.TheVariants.{Constant, Parameter, Attribute, OfEntity, Random}
-use Rattle.gw_object.specs.declared.parts.Spread.{Spread}
-use Rattle.gw_object.specs.declared.parts.Generate.{Generate as GenerateOperands}
-use Rattle.gw_object.specs.declared.parts.Block.{Block}
-use Rattle.gw_object.specs.declared.parts.Units.{Units}
-use Rattle.gw_object.specs.declared.parts.Fraction.{Fraction}
-use Rattle.gw_object.specs.declared.parts.Mode.{Mode}
-use Rattle.gw_object.specs.declared.parts.Mode.TheVariants.{Set, Add, Subtract}
-use Rattle.gw_object.specs.declared.parts.Assign.{Assign as AssignOperands}
-use Rattle.gw_object.specs.declared.parts.Comparison.{Comparison}
-use Rattle.gw_object.specs.declared.parts.Comparison.TheVariants.{Equal, NotEqual, Greater, GreaterOrEqual, Less, LessOrEqual}
-use Rattle.gw_object.specs.declared.parts.Test.{Test as TestOperands}
-use Rattle.gw_object.specs.declared.parts.Condition.{Condition}
-use Rattle.gw_object.specs.declared.parts.Condition.TheVariants.{SwitchSet, SwitchReset, FacilityInUse, FacilityNotInUse, StorageFull, StorageEmpty, StorageNotFull, StorageNotEmpty}
-use Rattle.gw_object.specs.declared.parts.Gate.{Gate as GateOperands}
-use Rattle.gw_object.specs.declared.parts.Loop.{Loop as LoopOperands}
-use Rattle.gw_object.specs.declared.parts.SwitchAction.{SwitchAction}
-use Rattle.gw_object.specs.declared.parts.SwitchAction.TheVariants.{Set as SetSwitch, Reset as ResetSwitch, Invert as InvertSwitch}
-use Rattle.gw_object.specs.declared.parts.Logic.{Logic as LogicOperands}
-use Rattle.gw_object.specs.declared.parts.Save.{Save}
-use Rattle.gw_object.specs.declared.parts.Block.TheVariants.{Generate, Terminate, Advance, Seize, Release, Enter, Leave, Queue, Depart, Assign, Test, Gate, Transfer, TransferByFraction, Loop, Logic, Savevalue, Mark}
+use Rattle.gw_object.specs.Limits.{most_bytes, most_seeds, greatest_seed, greatest_count, most_entities, greatest_units, most_blocks, most_return_rows, greatest_weight}
+use Rattle.gw_blocks.specs.Limits.{most_parameters}
+use Rattle.gw_blocks.specs.declared.parts.Units.{Units}
 use Rattle.gw_object.specs.declared.parts.TableKind.{TableKind}
-use Rattle.gw_object.specs.declared.parts.TableKind.TheVariants.{Num}
+use Rattle.gw_object.specs.declared.parts.TableKind.TheVariants.{Num, Ret}
 use Rattle.gw_object.specs.declared.parts.TableParameter.{TableParameter}
 use Rattle.gw_object.specs.declared.parts.TableState.{TableState}
+use Rattle.gw_object.specs.declared.parts.ReturnRow.{ReturnRow}
 use Rattle.gw_object.specs.declared.parts.Parts.{Parts}
-use Rattle.gw_fields.specs.Fields.{Read, Field, byte, number, signed, made, both, and_then, constant, fitting, ranged, optional, Form, behind, by_tag, one_of, nothing, count, Element, plain, last_tested, ascending, elements, listed}
+use Rattle.gw_fields.specs.Fields.{Read, Field, number, made, both, and_then, constant, fitting, ranged, optional, Form, behind, by_tag, nothing, count, Element, plain, last_tested, ascending, elements, listed}
 use Rattle.gw_object.specs.Entities.{entity, EntityFits, IsLettered, AreNamesakes}
-
--- ---- numbers
-
--- an entity's number
-abbrev pub entity_number : Field ℕ
-entity_number = number w16
-
--- a block's number
-abbrev pub block_number : Field ℕ
-block_number = number w16
-
--- a parameter's number
-abbrev pub parameter_number : Field ℕ
-parameter_number = ranged 1 most_parameters byte
-
--- a stream's number
-abbrev pub stream_number : Field ℕ
-stream_number = ranged 1 most_streams byte
-
--- ---- operands
-
--- the byte that stands for an attribute of the clock, the termination count or the transaction
-abbrev pub attribute_byte : OwnAttribute → ℕ
-attribute_byte Clock = 0
-attribute_byte AbsoluteClock = 1
-attribute_byte Priority = 2
-attribute_byte TransitTime = 3
-attribute_byte TransactionNumber = 4
-attribute_byte TerminationCount = 5
-
--- these attributes
-abbrev pub attributes : List OwnAttribute
-attributes = Clock ∷ AbsoluteClock ∷ Priority ∷ TransitTime ∷ TransactionNumber ∷ TerminationCount ∷ []
-
--- one of them
-abbrev pub attribute : Field OwnAttribute
-attribute = one_of attribute_byte attributes
-
--- the byte that stands for an attribute of an entity or a block
-abbrev pub entity_attribute_byte : EntityAttribute → ℕ
-entity_attribute_byte FacilityOwned = 0
-entity_attribute_byte StorageContent = 1
-entity_attribute_byte StorageRemaining = 2
-entity_attribute_byte QueueContent = 3
-entity_attribute_byte SavevalueValue = 4
-entity_attribute_byte SwitchSetting = 5
-entity_attribute_byte BlockEntries = 10
-entity_attribute_byte BlockCount = 11
-
--- these attributes
-abbrev pub entity_attributes : List EntityAttribute
-entity_attributes = FacilityOwned ∷ StorageContent ∷ StorageRemaining ∷ QueueContent ∷ SavevalueValue ∷ SwitchSetting ∷ BlockEntries ∷ BlockCount ∷ []
-
--- the number of the entity or the block fits
-abbrev pub NumberedFits : Numbered → Type 0
-NumberedFits n = n.number < 2 ^ 16
-
--- an attribute, and the number of the entity or the block
-unfoldable pub numbered : Field Numbered
-numbered = fitting NumberedFits (made
-    (λ (of, n). record { attribute = of; number = n })
-    (λ n. (n.attribute, n.number))
-    (both (one_of entity_attribute_byte entity_attributes) (number w16)))
-
--- the value of an operand fits
-abbrev pub OperandFits : Operand → Type 0
-OperandFits (Constant n) = FitsSigned w64 n
-OperandFits (Parameter p) = parameter_number.Fits p
-OperandFits (Attribute a) = Unit {0}
-OperandFits (OfEntity n) = NumberedFits n
-OperandFits (Random s) = stream_number.Fits s
-
--- the tag, and the value behind it
-abbrev pub operand_spelling : Operand → List ℕ
-operand_spelling (Constant n) = 0 ∷ (signed w64).spell n
-operand_spelling (Parameter p) = 1 ∷ parameter_number.spell p
-operand_spelling (Attribute a) = 2 ∷ attribute.spell a
-operand_spelling (OfEntity n) = 3 ∷ numbered.spell n
-operand_spelling (Random s) = 4 ∷ stream_number.spell s
-
--- the operands
-abbrev pub operand_forms : List (Form Operand)
-operand_forms =
-    behind 0 (λ n. Constant n) (signed w64)
-    ∷ behind 1 (λ p. Parameter p) parameter_number
-    ∷ behind 2 (λ a. Attribute a) attribute
-    ∷ behind 3 (λ n. OfEntity n) numbered
-    ∷ behind 4 (λ s. Random s) stream_number
-    ∷ []
-
--- by its tag; another tag is a fault
-unfoldable pub operand_read : List ℕ → Read Operand
-operand_read = by_tag operand_forms
-
--- an operand
-abbrev pub operand : Field Operand
-operand = record { spell = operand_spelling; read = operand_read; Fits = OperandFits }
-
--- the mean and half the range fit
-pub record SpreadFits (s : Spread) : Type 0 where
-  pub mean : OperandFits s.mean
-  pub half : OperandFits s.half
-
--- the mean and half the range
-unfoldable pub spread : Field Spread
-spread = fitting SpreadFits (made (λ (mean, half). record { mean = mean; half = half }) (λ s. (s.mean, s.half)) (both operand operand))
-
--- ---- blocks
-
--- each operand fits
-pub record GenerateFits (g : GenerateOperands) : Type 0 where
-  pub interval : SpreadFits g.interval
-  pub first : IfSome g.first (FitsSigned w64)
-  pub limit : IfSome g.limit (λ n. n < 2 ^ 32)
-  pub priority : FitsSigned w32 g.priority
-
--- the interval, the first arrival, the limit and the priority
-unfoldable pub generate : Field GenerateOperands
-generate = fitting GenerateFits (made
-    (λ (interval, (first, (limit, priority))). record { interval = interval; first = first; limit = limit; priority = priority })
-    (λ g. (g.interval, (g.first, (g.limit, g.priority))))
-    (both spread (both (optional (signed w64)) (both (optional (number w32)) (signed w32)))))
-
--- the entity's number and the number of units fit
-pub record UnitsFit (u : Units) : Type 0 where
-  pub entity : entity_number.Fits u.entity
-  pub number : u.number < 2 ^ 32
-
--- the entity's number and the number of units
-unfoldable pub units : Field Units
-units = fitting UnitsFit (made (λ (entity, n). record { entity = entity; number = n }) (λ u. (u.entity, u.number)) (both entity_number (number w32)))
-
--- each operand fits
-pub record FractionFits (f : Fraction) : Type 0 where
-  pub thousandths : f.thousandths < 2 ^ 16
-  pub otherwise : IfSome f.otherwise block_number.Fits
-  pub target : block_number.Fits f.target
-
--- the thousandths, the block for the others, and the target
-unfoldable pub fraction : Field Fraction
-fraction = fitting FractionFits (made
-    (λ (thousandths, (otherwise, target)). record { thousandths = thousandths; otherwise = otherwise; target = target })
-    (λ f. (f.thousandths, (f.otherwise, f.target)))
-    (both (number w16) (both (optional block_number) block_number)))
-
--- the byte that stands for a mode
-abbrev pub mode_byte : Mode → ℕ
-mode_byte Set = 0
-mode_byte Add = 1
-mode_byte Subtract = 2
-
--- the modes
-abbrev pub modes : List Mode
-modes = Set ∷ Add ∷ Subtract ∷ []
-
--- a mode
-abbrev pub mode : Field Mode
-mode = one_of mode_byte modes
-
--- each operand fits
-pub record AssignFits (a : AssignOperands) : Type 0 where
-  pub parameter : parameter_number.Fits a.parameter
-  pub value : OperandFits a.value
-
--- the parameter's number, the mode and the value
-unfoldable pub assign : Field AssignOperands
-assign = fitting AssignFits (made
-    (λ (parameter, (how, value)). record { parameter = parameter; mode = how; value = value })
-    (λ a. (a.parameter, (a.mode, a.value)))
-    (both parameter_number (both mode operand)))
-
--- the byte that stands for how two values are compared
-abbrev pub comparison_byte : Comparison → ℕ
-comparison_byte Equal = 0
-comparison_byte NotEqual = 1
-comparison_byte Greater = 2
-comparison_byte GreaterOrEqual = 3
-comparison_byte Less = 4
-comparison_byte LessOrEqual = 5
-
--- how two values may be compared
-abbrev pub comparisons : List Comparison
-comparisons = Equal ∷ NotEqual ∷ Greater ∷ GreaterOrEqual ∷ Less ∷ LessOrEqual ∷ []
-
--- each operand fits
-pub record TestFits (t : TestOperands) : Type 0 where
-  pub left : OperandFits t.left
-  pub right : OperandFits t.right
-  pub otherwise : IfSome t.otherwise block_number.Fits
-
--- how they are compared, the two values, and the block for those for whom it is false
-unfoldable pub test_operands : Field TestOperands
-test_operands = fitting TestFits (made
-    (λ (comparison, (left, (right, otherwise))). record { comparison = comparison; left = left; right = right; otherwise = otherwise })
-    (λ t. (t.comparison, (t.left, (t.right, t.otherwise))))
-    (both (one_of comparison_byte comparisons) (both operand (both operand (optional block_number)))))
-
--- the byte that stands for what is asked of an entity
-abbrev pub condition_byte : Condition → ℕ
-condition_byte SwitchSet = 0
-condition_byte SwitchReset = 1
-condition_byte FacilityInUse = 2
-condition_byte FacilityNotInUse = 3
-condition_byte StorageFull = 4
-condition_byte StorageEmpty = 5
-condition_byte StorageNotFull = 6
-condition_byte StorageNotEmpty = 7
-
--- what may be asked of an entity
-abbrev pub conditions : List Condition
-conditions = SwitchSet ∷ SwitchReset ∷ FacilityInUse ∷ FacilityNotInUse ∷ StorageFull ∷ StorageEmpty ∷ StorageNotFull ∷ StorageNotEmpty ∷ []
-
--- each operand fits
-pub record GateFits (g : GateOperands) : Type 0 where
-  pub entity : entity_number.Fits g.entity
-  pub otherwise : IfSome g.otherwise block_number.Fits
-
--- what is asked, the entity's number, and the block for those for whom it isn't so
-unfoldable pub gate : Field GateOperands
-gate = fitting GateFits (made
-    (λ (condition, (entity, otherwise)). record { condition = condition; entity = entity; otherwise = otherwise })
-    (λ g. (g.condition, (g.entity, g.otherwise)))
-    (both (one_of condition_byte conditions) (both entity_number (optional block_number))))
-
--- each operand fits
-pub record LoopFits (l : LoopOperands) : Type 0 where
-  pub parameter : parameter_number.Fits l.parameter
-  pub target : block_number.Fits l.target
-
--- the parameter's number and the target
-unfoldable pub countdown : Field LoopOperands
-countdown = fitting LoopFits (made (λ (parameter, target). record { parameter = parameter; target = target }) (λ l. (l.parameter, l.target)) (both parameter_number block_number))
-
--- the byte that stands for what is done with a switch
-abbrev pub action_byte : SwitchAction → ℕ
-action_byte SetSwitch = 0
-action_byte ResetSwitch = 1
-action_byte InvertSwitch = 2
-
--- what may be done with a switch
-abbrev pub actions : List SwitchAction
-actions = SetSwitch ∷ ResetSwitch ∷ InvertSwitch ∷ []
-
--- the switch's number fits
-abbrev pub LogicFits : LogicOperands → Type 0
-LogicFits l = entity_number.Fits l.switch
-
--- what is done, and the switch's number
-unfoldable pub logic : Field LogicOperands
-logic = fitting LogicFits (made (λ (action, switch). record { action = action; switch = switch }) (λ l. (l.action, l.switch)) (both (one_of action_byte actions) entity_number))
-
--- each operand fits
-pub record SaveFits (s : Save) : Type 0 where
-  pub savevalue : entity_number.Fits s.savevalue
-  pub value : OperandFits s.value
-
--- the savevalue's number, the mode and the value
-unfoldable pub save : Field Save
-save = fitting SaveFits (made
-    (λ (savevalue, (how, value)). record { savevalue = savevalue; mode = how; value = value })
-    (λ s. (s.savevalue, (s.mode, s.value)))
-    (both entity_number (both mode operand)))
-
--- the operands of a block fit
-abbrev pub BlockFits : Block → Type 0
-BlockFits (Generate g) = GenerateFits g
-BlockFits (Terminate decrement) = OperandFits decrement
-BlockFits (Advance time) = SpreadFits time
-BlockFits (Seize facility) = entity_number.Fits facility
-BlockFits (Release facility) = entity_number.Fits facility
-BlockFits (Enter u) = UnitsFit u
-BlockFits (Leave u) = UnitsFit u
-BlockFits (Queue u) = UnitsFit u
-BlockFits (Depart u) = UnitsFit u
-BlockFits (Assign a) = AssignFits a
-BlockFits (Test t) = TestFits t
-BlockFits (Gate g) = GateFits g
-BlockFits (Transfer target) = block_number.Fits target
-BlockFits (TransferByFraction f) = FractionFits f
-BlockFits (Loop l) = LoopFits l
-BlockFits (Logic l) = LogicFits l
-BlockFits (Savevalue s) = SaveFits s
-BlockFits (Mark parameter) = IfSome parameter parameter_number.Fits
-
--- the tag, and the operands behind it
-abbrev pub block_spelling : Block → List ℕ
-block_spelling (Generate g) = 1 ∷ generate.spell g
-block_spelling (Terminate decrement) = 2 ∷ operand.spell decrement
-block_spelling (Advance time) = 3 ∷ spread.spell time
-block_spelling (Seize facility) = 4 ∷ entity_number.spell facility
-block_spelling (Release facility) = 5 ∷ entity_number.spell facility
-block_spelling (Enter u) = 6 ∷ units.spell u
-block_spelling (Leave u) = 7 ∷ units.spell u
-block_spelling (Queue u) = 8 ∷ units.spell u
-block_spelling (Depart u) = 9 ∷ units.spell u
-block_spelling (Assign a) = 10 ∷ assign.spell a
-block_spelling (Test t) = 11 ∷ test_operands.spell t
-block_spelling (Gate g) = 12 ∷ gate.spell g
-block_spelling (Transfer target) = 13 ∷ block_number.spell target
-block_spelling (TransferByFraction f) = 14 ∷ fraction.spell f
-block_spelling (Loop l) = 17 ∷ countdown.spell l
-block_spelling (Logic l) = 22 ∷ logic.spell l
-block_spelling (Savevalue s) = 23 ∷ save.spell s
-block_spelling (Mark parameter) = 24 ∷ (optional parameter_number).spell parameter
-
--- the blocks
-abbrev pub block_forms : List (Form Block)
-block_forms =
-    behind 1 (λ g. Generate g) generate
-    ∷ behind 2 (λ decrement. Terminate decrement) operand
-    ∷ behind 3 (λ time. Advance time) spread
-    ∷ behind 4 (λ facility. Seize facility) entity_number
-    ∷ behind 5 (λ facility. Release facility) entity_number
-    ∷ behind 6 (λ u. Enter u) units
-    ∷ behind 7 (λ u. Leave u) units
-    ∷ behind 8 (λ u. Queue u) units
-    ∷ behind 9 (λ u. Depart u) units
-    ∷ behind 10 (λ a. Assign a) assign
-    ∷ behind 11 (λ t. Test t) test_operands
-    ∷ behind 12 (λ g. Gate g) gate
-    ∷ behind 13 (λ target. Transfer target) block_number
-    ∷ behind 14 (λ f. TransferByFraction f) fraction
-    ∷ behind 17 (λ l. Loop l) countdown
-    ∷ behind 22 (λ l. Logic l) logic
-    ∷ behind 23 (λ s. Savevalue s) save
-    ∷ behind 24 (λ parameter. Mark parameter) (optional parameter_number)
-    ∷ []
-
--- by its tag; another tag is a fault
-unfoldable pub block_read : List ℕ → Read Block
-block_read = by_tag block_forms
-
--- a block
-abbrev pub block : Field Block
-block = record { spell = block_spelling; read = block_read; Fits = BlockFits }
+use Rattle.gw_blocks.specs.Grammar.{entity_number, block_number, parameter_number, BlockFits, block}
 
 -- ---- what stands for each block
 
@@ -380,21 +22,58 @@ block = record { spell = block_spelling; read = block_read; Fits = BlockFits }
 abbrev pub no_elements : Field (Unit {0})
 no_elements = made (λ _. tt) (λ _. 0) (count 0 0)
 
--- the byte that stands for what a parameter holds
-abbrev pub table_kind_byte : TableKind → ℕ
-table_kind_byte Num = 0
+-- a number that is above the one before it
+abbrev pub above_last : Field ℕ → Element ℕ
+above_last f = ascending nat_lt (λ x. x.0) (λ n. (n, tt)) f nothing
+
+-- the blocks of a return row, each above the one before it
+abbrev pub returned : Element ℕ
+returned = above_last block_number
+
+-- the number of blocks, and each block's number, are within limits
+pub record ReturnRowFits (row : ReturnRow) : Type 0 where
+  pub least : 1 ≤ length row.blocks
+  pub most : length row.blocks ≤ most_blocks
+  pub each : All block_number.Fits row.blocks
+
+-- the blocks ascend
+abbrev pub AreAscending : ReturnRow → Type 0
+AreAscending row = AllPairs (λ a b. a < b) row.blocks
+
+-- a return row: at least one block
+unfoldable pub return_row : Field ReturnRow
+return_row = fitting (λ row. ReturnRowFits row × AreAscending row) (made (λ blocks. record { blocks = blocks }) (λ row. row.blocks) (listed 1 most_blocks returned))
+
+-- a return row's number
+abbrev pub row_number : Field ℕ
+row_number = number w16
+
+-- what a parameter holds fits
+abbrev pub TableKindFits : TableKind → Type 0
+TableKindFits Num = Unit {0}
+TableKindFits (Ret row) = row_number.Fits row
+
+-- the tag, and the value behind it
+abbrev pub table_kind_spelling : TableKind → List ℕ
+table_kind_spelling Num = 0 ∷ []
+table_kind_spelling (Ret row) = 1 ∷ row_number.spell row
 
 -- what a parameter may hold
-abbrev pub table_kinds : List TableKind
-table_kinds = Num ∷ []
+abbrev pub table_kind_forms : List (Form TableKind)
+table_kind_forms = behind 0 (λ _. Num) nothing ∷ behind 1 (λ row. Ret row) row_number ∷ []
+
+-- by its tag; another tag is a fault
+unfoldable pub table_kind_read : List ℕ → Read TableKind
+table_kind_read = by_tag table_kind_forms
 
 -- what a parameter holds
 abbrev pub table_kind : Field TableKind
-table_kind = one_of table_kind_byte table_kinds
+table_kind = record { spell = table_kind_spelling; read = table_kind_read; Fits = TableKindFits }
 
--- the parameter's number fits
-abbrev pub ParameterFits : TableParameter → Type 0
-ParameterFits p = parameter_number.Fits p.number
+-- the parameter's number and what it holds fit
+pub record ParameterFits (p : TableParameter) : Type 0 where
+  pub number : parameter_number.Fits p.number
+  pub kind : TableKindFits p.kind
 
 -- a parameter that is set, above the one before it
 abbrev pub parameter : Element TableParameter
@@ -402,7 +81,7 @@ parameter = ascending nat_lt (λ (n, kind). record { number = n; kind = kind }) 
 
 -- a facility that a transaction owns, above the one before it
 abbrev pub owned : Element ℕ
-owned = ascending nat_lt (λ x. x.0) (λ facility. (facility, tt)) entity_number nothing
+owned = above_last entity_number
 
 -- units that a transaction holds, of an entity above the one before it
 abbrev pub held : Element Units
@@ -440,9 +119,9 @@ state = fitting (λ s. StateFits s × IsAscending s) (made
 abbrev pub weight : Field ℕ
 weight = ranged 1 greatest_weight (number w32)
 
--- return rows (none yet), and for each of so many blocks its row of the state table and its weight
-unfoldable pub tables : ℕ → Field (Unit {0} × (List (Option TableState) × List ℕ))
-tables n = both no_elements (both (elements (plain (optional state)) n) (elements (plain weight) n))
+-- the return rows, and for each of so many blocks its row of the state table and its weight
+unfoldable pub tables : ℕ → Field (List ReturnRow × (List (Option TableState) × List ℕ))
+tables n = both (listed 0 most_return_rows (plain return_row)) (both (elements (plain (optional state)) n) (elements (plain weight) n))
 
 -- ---- the object
 
@@ -461,8 +140,8 @@ start_count = ranged 1 greatest_count (number w64)
 -- the head, seeds, termination count, entities, procedures (none yet), blocks, and what stands for each block
 unfoldable pub object : Field Parts
 object = made
-    (λ (_, (seeds, (count, (entities, (_, (blocks, (_, (states, weights)))))))). record { seeds = seeds; count = count; entities = entities; blocks = blocks; states = states; weights = weights })
-    (λ p. ((tt, tt), (p.seeds, (p.count, (p.entities, (tt, (p.blocks, (tt, (p.states, p.weights)))))))))
+    (λ (_, (seeds, (count, (entities, (_, (blocks, (returns, (states, weights)))))))). record { seeds = seeds; count = count; entities = entities; blocks = blocks; returns = returns; states = states; weights = weights })
+    (λ p. ((tt, tt), (p.seeds, (p.count, (p.entities, (tt, (p.blocks, (p.returns, (p.states, p.weights)))))))))
     (both head (both (listed 0 most_seeds seed) (both start_count (both (listed 0 most_entities entity) (both no_elements
     (and_then (listed 0 most_blocks (plain block)) (λ blocks. tables (length blocks))))))))
 
@@ -486,6 +165,8 @@ pub record IsWithinLimits (p : Parts) : Type 0 where
   pub each_entity : All EntityFits p.entities
   pub blocks : length p.blocks ≤ most_blocks
   pub each_block : All BlockFits p.blocks
+  pub returns : length p.returns ≤ most_return_rows
+  pub each_return : All ReturnRowFits p.returns
   pub states : length p.states ≡ length p.blocks
   pub each_state : All (λ row. IfSome row StateFits) p.states
   pub weights : length p.weights ≡ length p.blocks
@@ -496,6 +177,7 @@ pub record IsWithinLimits (p : Parts) : Type 0 where
 pub record IsCanonical (p : Parts) : Type 0 where
   pub last_seed : slice_get p.seeds (length p.seeds - 1) ≢ Some 0
   pub own_names : AllPairs (λ a b. ¬ AreNamesakes a b) p.entities
+  pub each_return : All AreAscending p.returns
   pub each_state : All (λ row. IfSome row IsAscending) p.states
 
 -- parts have a spelling

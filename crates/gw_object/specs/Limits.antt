@@ -1,13 +1,10 @@
--- The limits of the object format.
+-- The limits of the object format, but for those of the operands of blocks.
 use Rattle.std.specs.Prelude.{ℕ, ◌^◌}
+use Rattle.gw_blocks.specs.Limits.{most_streams}
 
 -- bytes of a spelling: 1 MiB
 abbrev pub most_bytes : ℕ
 most_bytes = 2 ^ 20
-
--- streams of random numbers
-abbrev pub most_streams : ℕ
-most_streams = 16
 
 -- seeds: one for each stream
 abbrev pub most_seeds : ℕ
@@ -33,10 +30,6 @@ most_letters = 32
 abbrev pub greatest_capacity : ℕ
 greatest_capacity = 2147483647
 
--- parameters of a transaction
-abbrev pub most_parameters : ℕ
-most_parameters = 64
-
 -- units of one entity that the state table says of a transaction
 abbrev pub greatest_units : ℕ
 greatest_units = 2147483647
@@ -44,6 +37,10 @@ greatest_units = 2147483647
 -- blocks
 abbrev pub most_blocks : ℕ
 most_blocks = 4096
+
+-- return rows
+abbrev pub most_return_rows : ℕ
+most_return_rows = 4096
 
 -- a weight
 abbrev pub greatest_weight : ℕ

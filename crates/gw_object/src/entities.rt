@@ -1,9 +1,9 @@
 //! Entities, in bytes and against the rules of the object format.
 
-ghost use Rattle.std.specs.Prelude.{◌≡◌, ◌↔◌, ◌++◌, length, IsTrue, OnOk};
-ghost use Rattle.std.specs.List.{All, AllPairs, flat_map, list_any};
-ghost use Rattle.gw_fields.specs.Fields.{Leaves, count_spelling, plain};
-ghost use Rattle.gw_object.specs.Entities.{is_letter, letter, kind_tag, kind_fields, KindFits, IsLettered, EntityFits, AreNamesakes, is_named, new_name, entity_spelling, entity};
+ghost use Rattle.std.specs.Prelude.{◌≡◌, ◌↔◌, ◌++◌, IsTrue, OnOk};
+ghost use Rattle.std.specs.List.{All, AllPairs, list_any};
+ghost use Rattle.gw_fields.specs.Fields.{plain};
+ghost use Rattle.gw_object.specs.Entities.{is_letter, letter, kind_tag, kind_fields, KindFits, IsLettered, EntityFits, AreNamesakes, is_named, new_name, entity};
 ghost use Rattle.gw_fields.specs.Answers.{Gives};
 
 use crate::Memory;
@@ -12,9 +12,8 @@ use crate::items::Items;
 use crate::limits::*;
 use crate::parts::*;
 use gw_fields::{
-    Elements, OneByte, Plain, ReadError, Spelled, fault, put_count, put_listed, read_count,
-    read_listed, read_one_of, read_ranged_u32, room_after_count, room_after_elements,
-    room_after_listed,
+    Elements, OneByte, ReadError, Spelled, fault, put_listed, read_listed, read_one_of,
+    read_ranged_u32, room_after_listed,
 };
 use std::alloc::Global;
 
@@ -59,6 +58,10 @@ impl Elements for Letters {
         letter.put(out)
     }
 
+    fn room_after_element(letter: &u8, room: usize) -> Option<usize> {
+        letter.room_after(room)
+    }
+
     fn read_element<'a>(
         alloc: Global,
         _front: &[u8],
@@ -83,32 +86,6 @@ fn put_fields(out: &mut Vec<u8>, kind: Kind) -> Result<(), Memory>
         Kind::Switch(set) => Ok(out.push(set.byte())?),
         Kind::Savevalue(value) => value.put(out),
     }
-}
-
-/// How many bytes of a room are left behind those of an entity; `None` where they don't fit into it.
-fn room_after_entity(entity: &Entity, room: usize) -> Option<usize>
-    ensures { Leaves (entity_spelling entity.now) room result }
-{
-    let room = room.checked_sub(1)?;
-    let room = room_after_listed(entity.name.as_slice(), room)?;
-    match entity.kind {
-        Kind::Facility | Kind::Queue => Some(room),
-        Kind::Storage(capacity) => capacity.room_after(room),
-        Kind::Switch(_) => room.checked_sub(1),
-        Kind::Savevalue(value) => value.room_after(room),
-    }
-}
-
-/// How many bytes of a room are left behind a count of entities and theirs; `None` where they don't fit into
-/// it.
-pub fn room_after_entities(entities: &[Entity], room: usize) -> Option<usize>
-    ensures { Leaves (count_spelling (length entities.now) ++ flat_map entity_spelling entities.now) room result }
-{
-    let mut left = room_after_count(entities.len(), room)?;
-    for entity in entities {
-        left = room_after_entity(entity, left)?;
-    }
-    Some(left)
 }
 
 /// A name that no entity of the kind of this byte has at the front.
@@ -143,6 +120,17 @@ impl Elements for Entities {
         out.push(tag_of(entity.kind))?;
         put_listed::<Letters>(out, entity.name.as_slice())?;
         put_fields(out, entity.kind)
+    }
+
+    fn room_after_element(entity: &Entity, room: usize) -> Option<usize> {
+        let room = room.checked_sub(1)?;
+        let room = room_after_listed::<Letters>(entity.name.as_slice(), room)?;
+        match entity.kind {
+            Kind::Facility | Kind::Queue => Some(room),
+            Kind::Storage(capacity) => capacity.room_after(room),
+            Kind::Switch(_) => room.checked_sub(1),
+            Kind::Savevalue(value) => value.room_after(room),
+        }
     }
 
     #[tactic(auto, unfolding(crate::specs::Entities::entity_read))]

@@ -1,10 +1,9 @@
-//! The limits of the object format.
+//! The limits of the object format, but for those of the operands of blocks, which `gw_blocks` has.
+
+use gw_blocks::MOST_STREAMS;
 
 /// The most bytes that spell an object: 1 MiB.
 pub const MOST_BYTES: usize = 1_048_576;
-
-/// The most streams of random numbers.
-pub const MOST_STREAMS: usize = 16;
 
 /// The most seeds: one for each stream.
 pub const MOST_SEEDS: usize = MOST_STREAMS;
@@ -24,14 +23,14 @@ pub const MOST_LETTERS: usize = 32;
 /// The greatest capacity of a storage, in units.
 pub const GREATEST_CAPACITY: u32 = 2_147_483_647;
 
-/// The most parameters of a transaction.
-pub const MOST_PARAMETERS: usize = 64;
-
 /// The greatest number of units of one entity that the state table says of a transaction.
 pub const GREATEST_UNITS: u32 = 2_147_483_647;
 
 /// The most blocks.
 pub const MOST_BLOCKS: usize = 4_096;
+
+/// The most return rows.
+pub const MOST_RETURN_ROWS: usize = 4_096;
 
 /// The greatest weight of a block.
 pub const GREATEST_WEIGHT: u32 = 1_000_000_000;

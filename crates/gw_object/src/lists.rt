@@ -23,6 +23,10 @@ impl Elements for Seeds {
         seed.put(out)
     }
 
+    fn room_after_element(seed: &u32, room: usize) -> Option<usize> {
+        seed.room_after(room)
+    }
+
     fn read_element<'a>(
         alloc: Global,
         _front: &[u32],
@@ -49,6 +53,10 @@ impl Elements for Weights {
 
     fn put_element(out: &mut Vec<u8>, weight: &u32) -> Result<(), Memory> {
         weight.put(out)
+    }
+
+    fn room_after_element(weight: &u32, room: usize) -> Option<usize> {
+        weight.room_after(room)
     }
 
     fn read_element<'a>(

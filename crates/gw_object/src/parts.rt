@@ -2,6 +2,7 @@
 //! what the blocks mean is in the GPSS World Reference Manual, chapter 7.
 
 use crate::items::Items;
+use gw_blocks::{Block, Units};
 
 /// What an entity is.
 #[derive(Clone, Copy, Debug, PartialEq, Eq)]
@@ -27,276 +28,6 @@ pub struct Entity {
     pub kind: Kind,
 }
 
-/// A system numerical attribute of the clock, the termination count or the active transaction.
-#[derive(Clone, Copy, Debug, PartialEq, Eq)]
-pub enum Attribute {
-    /// C1: the clock, in clock units.
-    Clock,
-    /// AC1: the clock since the job's start, which here is the clock.
-    AbsoluteClock,
-    /// PR: the transaction's priority.
-    Priority,
-    /// M1: the transit time, which is the clock less the transaction's mark time.
-    TransitTime,
-    /// XN1: the transaction's number.
-    TransactionNumber,
-    /// TG1: what is left of the termination count.
-    TerminationCount,
-}
-
-/// A system numerical attribute of an entity or a block.
-#[derive(Clone, Copy, Debug, PartialEq, Eq)]
-pub enum EntityAttribute {
-    /// F: 1 where the facility is owned, else 0.
-    FacilityOwned,
-    /// S: the content of a storage, in units.
-    StorageContent,
-    /// R: what is left of a storage's capacity, in units.
-    StorageRemaining,
-    /// Q: the content of a queue, in units.
-    QueueContent,
-    /// X: the value of a savevalue.
-    SavevalueValue,
-    /// LS: 1 where the logic switch is set, else 0.
-    SwitchSetting,
-    /// N: the entries of a block so far.
-    BlockEntries,
-    /// W: how many transactions have the block as their current one.
-    BlockCount,
-}
-
-/// A system numerical attribute of one entity, by its number from 0, or of one block, by its number from 1.
-#[derive(Clone, Copy, Debug, PartialEq, Eq)]
-pub struct Numbered {
-    /// Which attribute.
-    pub attribute: EntityAttribute,
-    /// The number of the entity or the block.
-    pub number: u16,
-}
-
-/// An operand of a block.
-#[derive(Clone, Copy, Debug, PartialEq, Eq)]
-pub enum Operand {
-    /// A number that stands in the object.
-    Constant(i64),
-    /// The value of a parameter, by its number from 1 to 64.
-    Parameter(u8),
-    /// An attribute of the clock, the termination count or the transaction.
-    Attribute(Attribute),
-    /// An attribute of an entity or a block.
-    OfEntity(Numbered),
-    /// A number from 0 to 999, drawn from a stream, which is given by its number from 1 to 16.
-    Random(u8),
-}
-
-/// A random time in clock units: the mean, and how far it may lie to either side (half the range).
-#[derive(Clone, Copy, Debug, PartialEq, Eq)]
-pub struct Spread {
-    /// The mean, in clock units.
-    pub mean: Operand,
-    /// Half the range, in clock units.
-    pub half: Operand,
-}
-
-/// The operands of a GENERATE block.
-#[derive(Clone, Copy, Debug, PartialEq, Eq)]
-pub struct Generate {
-    /// The time between two arrivals.
-    pub interval: Spread,
-    /// When the first arrival comes, in clock units; without it after a drawn interval.
-    pub first: Option<i64>,
-    /// How many arrivals there are at most; without it there is no such limit.
-    pub limit: Option<u32>,
-    /// The priority of the arrivals.
-    pub priority: i32,
-}
-
-/// Units of an entity: of a storage or a queue.
-#[derive(Clone, Copy, Debug, PartialEq, Eq)]
-pub struct Units {
-    /// The entity's number, from 0.
-    pub entity: u16,
-    /// How many units.
-    pub number: u32,
-}
-
-/// The operands of a TRANSFER block in fractional mode.
-#[derive(Clone, Copy, Debug, PartialEq, Eq)]
-pub struct Fraction {
-    /// How many of a thousand transactions go to the target.
-    pub thousandths: u16,
-    /// The number of the block to which the others go, from 1; without it they go to the next block.
-    pub otherwise: Option<u16>,
-    /// The number of the block to which that part of them goes, from 1.
-    pub target: u16,
-}
-
-/// How a value is put where another one is.
-#[derive(Clone, Copy, Debug, PartialEq, Eq)]
-pub enum Mode {
-    /// It takes its place.
-    Set,
-    /// It is added to it.
-    Add,
-    /// It is subtracted from it.
-    Subtract,
-}
-
-/// The operands of an ASSIGN block.
-#[derive(Clone, Copy, Debug, PartialEq, Eq)]
-pub struct Assign {
-    /// The parameter's number, from 1 to 64.
-    pub parameter: u8,
-    /// How the value is put there; a parameter that isn't set counts as 0.
-    pub mode: Mode,
-    /// The value.
-    pub value: Operand,
-}
-
-/// How two values are compared.
-#[derive(Clone, Copy, Debug, PartialEq, Eq)]
-pub enum Comparison {
-    /// E: they are equal.
-    Equal,
-    /// NE: they differ.
-    NotEqual,
-    /// G: the first is greater.
-    Greater,
-    /// GE: the first is greater, or they are equal.
-    GreaterOrEqual,
-    /// L: the first is less.
-    Less,
-    /// LE: the first is less, or they are equal.
-    LessOrEqual,
-}
-
-/// The operands of a TEST block.
-#[derive(Clone, Copy, Debug, PartialEq, Eq)]
-pub struct Test {
-    /// How the values are compared.
-    pub comparison: Comparison,
-    /// The first value.
-    pub left: Operand,
-    /// The second value.
-    pub right: Operand,
-    /// The number of the block, from 1, to which those go for whom it is false; without it they wait until it is true.
-    pub otherwise: Option<u16>,
-}
-
-/// What a GATE block asks of its entity.
-#[derive(Clone, Copy, Debug, PartialEq, Eq)]
-pub enum Condition {
-    /// LS: the logic switch is set.
-    SwitchSet,
-    /// LR: the logic switch is reset.
-    SwitchReset,
-    /// U: the facility is in use.
-    FacilityInUse,
-    /// NU: the facility isn't in use.
-    FacilityNotInUse,
-    /// SF: the storage is full.
-    StorageFull,
-    /// SE: the storage is empty.
-    StorageEmpty,
-    /// SNF: the storage isn't full.
-    StorageNotFull,
-    /// SNE: the storage isn't empty.
-    StorageNotEmpty,
-}
-
-/// The operands of a GATE block.
-#[derive(Clone, Copy, Debug, PartialEq, Eq)]
-pub struct Gate {
-    /// What it asks.
-    pub condition: Condition,
-    /// The entity's number, from 0.
-    pub entity: u16,
-    /// The number of the block, from 1, to which those go for whom it isn't so; without it they wait until it is.
-    pub otherwise: Option<u16>,
-}
-
-/// The operands of a LOOP block.
-#[derive(Clone, Copy, Debug, PartialEq, Eq)]
-pub struct Loop {
-    /// The number of the parameter that counts down, from 1 to 64.
-    pub parameter: u8,
-    /// The number of the block to which transactions go while it is above 0, from 1.
-    pub target: u16,
-}
-
-/// What a LOGIC block does with a logic switch.
-#[derive(Clone, Copy, Debug, PartialEq, Eq)]
-pub enum SwitchAction {
-    /// It is set.
-    Set,
-    /// It is reset.
-    Reset,
-    /// It is set where it was reset, and reset where it was set.
-    Invert,
-}
-
-/// The operands of a LOGIC block.
-#[derive(Clone, Copy, Debug, PartialEq, Eq)]
-pub struct Logic {
-    /// What happens to the switch.
-    pub action: SwitchAction,
-    /// The switch's entity's number, from 0.
-    pub switch: u16,
-}
-
-/// The operands of a SAVEVALUE block.
-#[derive(Clone, Copy, Debug, PartialEq, Eq)]
-pub struct Save {
-    /// The savevalue's entity's number, from 0.
-    pub savevalue: u16,
-    /// How the value is put there.
-    pub mode: Mode,
-    /// The value.
-    pub value: Operand,
-}
-
-/// A block.
-#[derive(Clone, Copy, Debug, PartialEq, Eq)]
-pub enum Block {
-    /// Transactions enter the model here.
-    Generate(Generate),
-    /// Transactions leave the model here, and the termination count falls by the operand.
-    Terminate(Operand),
-    /// Transactions rest for a time.
-    Advance(Spread),
-    /// Transactions become the owner of a facility, which is given by its entity's number from 0.
-    Seize(u16),
-    /// Transactions give up a facility, which is given by its entity's number from 0.
-    Release(u16),
-    /// Transactions take units of a storage.
-    Enter(Units),
-    /// Transactions give units of a storage back.
-    Leave(Units),
-    /// Transactions add units to the content of a queue.
-    Queue(Units),
-    /// Transactions take units off the content of a queue.
-    Depart(Units),
-    /// Transactions put a value into a parameter of theirs.
-    Assign(Assign),
-    /// Transactions go on where a comparison of two values is true.
-    Test(Test),
-    /// Transactions go on where an entity is as it is asked to be.
-    Gate(Gate),
-    /// Transactions go to a block, which is given by its number from 1: TRANSFER in unconditional mode.
-    Transfer(u16),
-    /// A part of the transactions goes to one block, the others to another: TRANSFER in fractional mode.
-    TransferByFraction(Fraction),
-    /// Transactions count a parameter of theirs down, and go to a block as long as it is above 0.
-    Loop(Loop),
-    /// Transactions set, reset or invert a logic switch.
-    Logic(Logic),
-    /// Transactions put a value into a savevalue.
-    Savevalue(Save),
-    /// Transactions put the clock into a parameter, which is given by its number from 1 to 64; without one it becomes
-    /// their mark time.
-    Mark(Option<u8>),
-}
-
 /// A parameter that a row of the state table says is set. (Ours: docs/object-format.md.)
 #[derive(Clone, Copy, Debug, PartialEq, Eq)]
 pub struct TableParameter {
@@ -311,6 +42,17 @@ pub struct TableParameter {
 pub enum TableKind {
     /// A number.
     Num,
+    /// The number of a block of a return row, which is given by its number from 0: a transaction comes back from a
+    /// subroutine to the block after that one.
+    Ret(u16),
+}
+
+/// A return row: the blocks that may have called a subroutine from which a transaction comes back. (Ours:
+/// docs/object-format.md.)
+#[derive(Debug, Drop, PartialEq, Eq)]
+pub struct ReturnRow {
+    /// The numbers of the blocks, from 1, ascending; from 1 to 4,096 of them.
+    pub blocks: Items<u16>,
 }
 
 /// What the state table says of a transaction that is about to enter a block. (Ours:
@@ -337,6 +79,8 @@ pub struct Parts {
     pub entities: Items<Entity>,
     /// The blocks, at most 4,096; the first has the number 1.
     pub blocks: Items<Block>,
+    /// The return rows, at most 4,096; the first has the number 0.
+    pub returns: Items<ReturnRow>,
     /// For each block its row of the state table, if it has one.
     pub states: Items<Option<TableState>>,
     /// For each block its certified weight, from 1 to 1,000,000,000.

@@ -15,6 +15,7 @@ use crate::limits::*;
 use crate::lists::{Seeds, Weights};
 use crate::object::Object;
 use crate::parts::*;
+use gw_blocks::Block;
 use gw_fields::{
     Bad, Plain, ReadError, Spelled, fault, read_count, read_elements, read_listed, read_ranged_u64,
 };
@@ -39,19 +40,19 @@ fn read_head(alloc: Global, bytes: &[u8]) -> Result<&[u8], ReadError>
     Ok(after)
 }
 
-/// What stands for each of so many blocks: its row of the state table, and its weight.
+/// The return rows, and what stands for each of so many blocks: its row of the state table, and its weight.
 #[tactic(auto, unfolding(crate::specs::Grammar::tables))]
 fn read_tables(
     alloc: Global,
     count: usize,
     bytes: &[u8],
-) -> Result<((Vec<Option<TableState>>, Vec<u32>), &[u8]), ReadError>
-    ensures { Gives (λ x. ((tt, (x.0.0.items, x.0.1.items)), x.1.now)) result ((tables count).read bytes.now) }
+) -> Result<((Vec<ReturnRow>, (Vec<Option<TableState>>, Vec<u32>)), &[u8]), ReadError>
+    ensures { Gives (λ x. ((x.0.0.items, (x.0.1.0.items, x.0.1.1.items)), x.1.now)) result ((tables count).read bytes.now) }
 {
-    let (_rows, rest) = read_count(alloc, bytes, 0, 0)?;
+    let (returns, rest) = read_listed::<Plain<ReturnRow>>(alloc, bytes, 0, MOST_RETURN_ROWS)?;
     let (states, rest) = read_elements::<Plain<Option<TableState>>>(alloc, count, rest)?;
     let (weights, rest) = read_elements::<Weights>(alloc, count, rest)?;
-    Ok(((states, weights), rest))
+    Ok(((returns, (states, weights)), rest))
 }
 
 /// The parts of an object, and the bytes after it.
@@ -65,12 +66,13 @@ fn read_parts(alloc: Global, bytes: &[u8]) -> Result<(Parts, &[u8]), ReadError>
     let (entities, rest) = read_listed::<Entities>(alloc, rest, 0, MOST_ENTITIES)?;
     let (_procedures, rest) = read_count(alloc, rest, 0, 0)?;
     let (blocks, rest) = read_listed::<Plain<Block>>(alloc, rest, 0, MOST_BLOCKS)?;
-    let ((states, weights), rest) = read_tables(alloc, blocks.len(), rest)?;
+    let ((returns, (states, weights)), rest) = read_tables(alloc, blocks.len(), rest)?;
     let parts = Parts {
         seeds: Items::from_vec(seeds),
         count,
         entities: Items::from_vec(entities),
         blocks: Items::from_vec(blocks),
+        returns: Items::from_vec(returns),
         states: Items::from_vec(states),
         weights: Items::from_vec(weights),
     };

@@ -5,13 +5,14 @@ ghost use Rattle.std.specs.List.{All};
 ghost use Rattle.gw_object.specs.Limits.{most_bytes, greatest_seed, greatest_weight};
 ghost use Rattle.gw_object.specs.Grammar.{HasLetters, IsWithinLimits, IsCanonical, HasSpelling, Refuses, spelling};
 
-use crate::blocks::blocks_fit;
 use crate::codes::*;
 use crate::entities::{are_lettered, entities_fit, names_are_own};
 use crate::limits::*;
 use crate::parts::*;
+use crate::returns::{return_rows_ascend, return_rows_fit};
 use crate::states::{states_ascend, states_fit};
 use crate::writing::room_after_parts;
+use gw_blocks::blocks_fit;
 
 /// Whether each seed is in range.
 fn seeds_fit(seeds: &[u32]) -> bool
@@ -50,9 +51,13 @@ fn is_within_limits(parts: &Parts) -> bool
     let seeds = parts.seeds.as_slice();
     let entities = parts.entities.as_slice();
     let blocks = parts.blocks.as_slice();
+    let returns = parts.returns.as_slice();
     let states = parts.states.as_slice();
     let weights = parts.weights.as_slice();
     if seeds.len() > MOST_SEEDS || entities.len() > MOST_ENTITIES || blocks.len() > MOST_BLOCKS {
+        return false;
+    }
+    if returns.len() > MOST_RETURN_ROWS {
         return false;
     }
     if states.len() != blocks.len() || weights.len() != blocks.len() {
@@ -64,17 +69,19 @@ fn is_within_limits(parts: &Parts) -> bool
     seeds_fit(seeds)
         && entities_fit(entities)
         && blocks_fit(blocks)
+        && return_rows_fit(returns)
         && states_fit(states)
         && weights_fit(weights)
         && size_fits(parts)
 }
 
-/// Whether parts are the one form of what they say: the last seed isn't 0, and each entity has a name of its
-/// own.
+/// Whether parts are the one form of what they say: the last seed isn't 0, each entity has a name of its own, and
+/// what has to ascend does.
 fn is_canonical(parts: &Parts) -> bool
     ensures { IsTrue result ↔ IsCanonical parts.now }
 {
-    if !states_ascend(parts.states.as_slice()) {
+    let returns = parts.returns.as_slice();
+    if !return_rows_ascend(returns) || !states_ascend(parts.states.as_slice()) {
         return false;
     }
     parts.seeds.as_slice().last() != Some(&0) && names_are_own(parts.entities.as_slice())

@@ -1,24 +1,25 @@
 //! States of the state table, in bytes and against the rules of the object format.
 
-ghost use Rattle.std.specs.Prelude.{◌≡◌, ◌↔◌, ◌<◌, ◌++◌, length, IsTrue, IfSome, nat_lt};
-ghost use Rattle.std.specs.List.{All, AllPairs, flat_map};
+ghost use Rattle.std.specs.Prelude.{◌≡◌, ◌↔◌, ◌<◌, IsTrue, IfSome, nat_lt};
+ghost use Rattle.std.specs.List.{All, AllPairs};
 ghost use Rattle.gw_object.specs.Codes.{not_canonical};
-ghost use Rattle.gw_fields.specs.Fields.{Leaves, count_spelling, is_above, tested};
-ghost use Rattle.gw_object.specs.Grammar.{parameter_number, table_kind_byte, table_kinds, ParameterFits, parameter};
-ghost use Rattle.gw_object.specs.Grammar.{entity_number, owned, held, HeldFits, StateFits, IsAscending, state};
+ghost use Rattle.gw_fields.specs.Fields.{is_above, tested};
+ghost use Rattle.gw_blocks.specs.Grammar.{entity_number, parameter_number};
+ghost use Rattle.gw_object.specs.Grammar.{table_kind, TableKindFits, ParameterFits, parameter};
+ghost use Rattle.gw_object.specs.Grammar.{owned, held, HeldFits, StateFits, IsAscending, state};
 ghost use Rattle.gw_fields.specs.Answers.{Gives};
-ghost use Rattle.gw_object.specs.declared.parts.Units.{Units};
+ghost use Rattle.gw_blocks.specs.declared.parts.Units.{Units};
 ghost use Rattle.gw_object.specs.declared.parts.TableParameter.{TableParameter};
 
 use crate::Memory;
 use crate::codes::*;
 use crate::items::Items;
 use crate::limits::*;
-use crate::operands::{is_parameter, read_parameter_number};
 use crate::parts::*;
+use gw_blocks::{MOST_PARAMETERS, Units, is_parameter, read_parameter_number};
 use gw_fields::{
-    Elements, OneByte, ReadError, Spelled, fault, put_listed, read_listed, read_one_of,
-    read_ranged_u32, room_after_count, room_after_listed,
+    Elements, ReadError, Spelled, fault, put_listed, read_listed, read_ranged_u32,
+    room_after_listed,
 };
 use std::alloc::Global;
 
@@ -33,21 +34,40 @@ fn read_above(alloc: Global, before: Option<u16>, bytes: &[u8]) -> Result<(u16, 
     Ok((entity, rest))
 }
 
-impl OneByte for TableKind {
-    ghost byte_of = { table_kind_byte };
+impl Spelled for TableKind {
+    ghost spelling = { table_kind.spell };
 
-    ghost values = { table_kinds };
+    ghost reading = { table_kind.read };
 
-    fn byte(self) -> u8 {
+    fn put(&self, out: &mut Vec<u8>) -> Result<(), Memory> {
         match self {
-            TableKind::Num => 0,
+            TableKind::Num => out.push(0)?,
+            TableKind::Ret(row) => {
+                out.push(1)?;
+                row.put(out)?;
+            }
+        }
+        Ok(())
+    }
+
+    fn room_after(&self, room: usize) -> Option<usize> {
+        let room = room.checked_sub(1)?;
+        match self {
+            TableKind::Num => Some(room),
+            TableKind::Ret(row) => row.room_after(room),
         }
     }
 
-    fn of_byte(byte: u8) -> Option<TableKind> {
-        match byte {
-            0 => Some(TableKind::Num),
-            _ => None,
+    #[tactic(auto, unfolding(crate::specs::Grammar::table_kind_read))]
+    fn read(alloc: Global, bytes: &[u8]) -> Result<(TableKind, &[u8]), ReadError> {
+        let (tag, rest) = u8::read(alloc, bytes)?;
+        match tag {
+            0 => Ok((TableKind::Num, rest)),
+            1 => {
+                let (row, rest) = u16::read(alloc, rest)?;
+                Ok((TableKind::Ret(row), rest))
+            }
+            _ => Err(fault(TAG, bytes)),
         }
     }
 }
@@ -79,8 +99,12 @@ impl Elements for SetParameters {
 
     fn put_element(out: &mut Vec<u8>, parameter: &TableParameter) -> Result<(), Memory> {
         parameter.number.put(out)?;
-        out.push(parameter.kind.byte())?;
-        Ok(())
+        parameter.kind.put(out)
+    }
+
+    fn room_after_element(parameter: &TableParameter, room: usize) -> Option<usize> {
+        let room = parameter.number.room_after(room)?;
+        parameter.kind.room_after(room)
     }
 
     fn read_element<'a>(
@@ -91,23 +115,27 @@ impl Elements for SetParameters {
     ) -> Result<(TableParameter, &'a [u8]), ReadError> {
         let before = front.last().map(|parameter| parameter.number);
         let (number, rest) = read_parameter_above(alloc, before, bytes)?;
-        let (kind, rest) = read_one_of::<TableKind>(alloc, rest)?;
+        let (kind, rest) = TableKind::read(alloc, rest)?;
         Ok((TableParameter { number, kind }, rest))
     }
 }
 
-/// The facilities that a transaction owns, ascending.
-struct Owned;
+/// Numbers that ascend: the facilities that a transaction owns, and the blocks of a return row.
+pub struct AscendingNumbers;
 
-impl Elements for Owned {
+impl Elements for AscendingNumbers {
     type Item = u16;
 
     ghost element_spelling = { owned.spell };
 
     ghost element_reading = { owned.read };
 
-    fn put_element(out: &mut Vec<u8>, facility: &u16) -> Result<(), Memory> {
-        facility.put(out)
+    fn put_element(out: &mut Vec<u8>, number: &u16) -> Result<(), Memory> {
+        number.put(out)
+    }
+
+    fn room_after_element(number: &u16, room: usize) -> Option<usize> {
+        number.room_after(room)
     }
 
     fn read_element<'a>(
@@ -130,9 +158,14 @@ impl Elements for Held {
 
     ghost element_reading = { held.read };
 
-    #[tactic(auto, unfolding(crate::specs::Grammar::units))]
+    #[tactic(auto, unfolding(gw_blocks::specs::Grammar::units))]
     fn put_element(out: &mut Vec<u8>, units: &Units) -> Result<(), Memory> {
         units.put(out)
+    }
+
+    #[tactic(auto, unfolding(gw_blocks::specs::Grammar::units))]
+    fn room_after_element(units: &Units, room: usize) -> Option<usize> {
+        units.room_after(room)
     }
 
     fn read_element<'a>(
@@ -158,22 +191,22 @@ impl Spelled for TableState {
     #[tactic(auto, unfolding(crate::specs::Grammar::state))]
     fn put(&self, out: &mut Vec<u8>) -> Result<(), Memory> {
         put_listed::<SetParameters>(out, self.parameters.as_slice())?;
-        put_listed::<Owned>(out, self.facilities.as_slice())?;
+        put_listed::<AscendingNumbers>(out, self.facilities.as_slice())?;
         put_listed::<Held>(out, self.units.as_slice())
     }
 
-    #[tactic(auto, unfolding(crate::specs::Grammar::state, crate::specs::Grammar::units))]
+    #[tactic(auto, unfolding(crate::specs::Grammar::state, gw_blocks::specs::Grammar::units))]
     fn room_after(&self, room: usize) -> Option<usize> {
-        let room = room_after_parameters(self.parameters.as_slice(), room)?;
-        let room = room_after_listed(self.facilities.as_slice(), room)?;
-        room_after_listed(self.units.as_slice(), room)
+        let room = room_after_listed::<SetParameters>(self.parameters.as_slice(), room)?;
+        let room = room_after_listed::<AscendingNumbers>(self.facilities.as_slice(), room)?;
+        room_after_listed::<Held>(self.units.as_slice(), room)
     }
 
     /// Parameters, facilities and units.
     #[tactic(auto, unfolding(crate::specs::Grammar::state))]
     fn read(alloc: Global, bytes: &[u8]) -> Result<(TableState, &[u8]), ReadError> {
         let (parameters, rest) = read_listed::<SetParameters>(alloc, bytes, 0, MOST_PARAMETERS)?;
-        let (facilities, rest) = read_listed::<Owned>(alloc, rest, 0, MOST_ENTITIES)?;
+        let (facilities, rest) = read_listed::<AscendingNumbers>(alloc, rest, 0, MOST_ENTITIES)?;
         let (units, rest) = read_listed::<Held>(alloc, rest, 0, MOST_ENTITIES)?;
         let state = TableState {
             parameters: Items::from_vec(parameters),
@@ -184,18 +217,6 @@ impl Spelled for TableState {
     }
 }
 
-/// How many bytes of a room are left behind a count of parameters and theirs; `None` where they don't fit into it.
-#[tactic(auto, using(crate::proofs::StateLaws::listed_parameters_length))]
-fn room_after_parameters(parameters: &[TableParameter], room: usize) -> Option<usize>
-    ensures { Leaves (count_spelling (length parameters.now) ++ flat_map parameter.spell parameters.now) room result }
-{
-    let mut left = room_after_count(parameters.len(), room)?;
-    for _ in parameters {
-        left = left.checked_sub(2)?;
-    }
-    Some(left)
-}
-
 /// Whether units keep their limits.
 fn held_fits(units: Units) -> bool
     ensures { IsTrue result ↔ HeldFits units }
@@ -203,11 +224,20 @@ fn held_fits(units: Units) -> bool
     1 <= units.number && units.number <= GREATEST_UNITS
 }
 
+/// Whether what a parameter holds keeps its limits: it does by its type.
+fn kind_fits(kind: TableKind) -> bool
+    ensures { IsTrue result ↔ TableKindFits kind }
+{
+    match kind {
+        TableKind::Num | TableKind::Ret(_) => true,
+    }
+}
+
 /// Whether a parameter keeps its limits.
 fn parameter_fits(parameter: &TableParameter) -> bool
     ensures { IsTrue result ↔ ParameterFits parameter.now }
 {
-    is_parameter(parameter.number)
+    is_parameter(parameter.number) && kind_fits(parameter.kind)
 }
 
 /// Whether a state keeps its limits.
@@ -245,12 +275,12 @@ fn parameters_ascend(parameters: &[TableParameter]) -> bool
     true
 }
 
-/// Whether facilities ascend.
-fn facilities_ascend(facilities: &[u16]) -> bool
-    ensures { IsTrue result ↔ AllPairs (λ a b. a < b) facilities.now }
+/// Whether numbers ascend.
+pub fn numbers_ascend(numbers: &[u16]) -> bool
+    ensures { IsTrue result ↔ AllPairs (λ a b. a < b) numbers.now }
 {
-    for i in 1..facilities.len() {
-        if facilities[i] <= facilities[i - 1] {
+    for i in 1..numbers.len() {
+        if numbers[i] <= numbers[i - 1] {
             return false;
         }
     }
@@ -274,7 +304,7 @@ fn is_ascending(state: &TableState) -> bool
     ensures { IsTrue result ↔ IsAscending state.now }
 {
     parameters_ascend(state.parameters.as_slice())
-        && facilities_ascend(state.facilities.as_slice())
+        && numbers_ascend(state.facilities.as_slice())
         && units_ascend(state.units.as_slice())
 }
 

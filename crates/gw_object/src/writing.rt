@@ -1,15 +1,16 @@
 //! Writing an object: each function puts bytes at the end.
 
-ghost use Rattle.std.specs.Prelude.{◌≡◌, ◌++◌, OnOk, IfOk, IfSome, length};
+ghost use Rattle.std.specs.Prelude.{◌≡◌, ◌<◌, ◌^◌, ◌++◌, OnOk, IfOk, IfSome, length};
 ghost use Rattle.std.specs.List.{All};
 ghost use Rattle.gw_fields.specs.Fields.{Leaves};
-ghost use Rattle.gw_object.specs.Grammar.{HasSpelling, StateFits, head, tables, spelling};
+ghost use Rattle.gw_object.specs.Grammar.{HasSpelling, ReturnRowFits, StateFits, head, tables, spelling};
 
 use crate::Memory;
-use crate::entities::{Entities, room_after_entities};
+use crate::entities::Entities;
 use crate::lists::{Seeds, Weights};
 use crate::object::Object;
 use crate::parts::*;
+use gw_blocks::Block;
 use gw_fields::{
     Plain, Spelled, put_count, put_elements, put_listed, room_after_elements, room_after_listed,
 };
@@ -25,17 +26,20 @@ fn put_head(out: &mut Vec<u8>) -> Result<(), Memory>
     Ok(())
 }
 
-/// What stands for each block: its row of the state table, and its weight.
+/// The return rows, and what stands for each block: its row of the state table, and its weight.
 #[tactic(auto, unfolding(crate::specs::Grammar::tables))]
 fn put_tables(
     out: &mut Vec<u8>,
+    returns: &[ReturnRow],
     states: &[Option<TableState>],
     weights: &[u32],
 ) -> Result<(), Memory>
-    requires { All (λ row. IfSome row StateFits) states.now }
-    ensures { OnOk result (out.new.items ≡ out.old.items ++ (tables (length states.now)).spell (tt, (states.now, weights.now))) }
+    requires few { length returns.now < 2 ^ 32 }
+    requires returns { All ReturnRowFits returns.now }
+    requires states { All (λ row. IfSome row StateFits) states.now }
+    ensures { OnOk result (out.new.items ≡ out.old.items ++ (tables (length states.now)).spell (returns.now, (states.now, weights.now))) }
 {
-    put_count(out, 0)?;
+    put_listed::<Plain<ReturnRow>>(out, returns)?;
     put_elements::<Plain<Option<TableState>>>(out, states)?;
     put_elements::<Weights>(out, weights)?;
     Ok(())
@@ -53,7 +57,9 @@ fn put_parts(out: &mut Vec<u8>, parts: &Parts) -> Result<(), Memory>
     put_listed::<Entities>(out, parts.entities.as_slice())?;
     put_count(out, 0)?;
     put_listed::<Plain<Block>>(out, parts.blocks.as_slice())?;
-    put_tables(out, parts.states.as_slice(), parts.weights.as_slice())?;
+    let returns = parts.returns.as_slice();
+    let states = parts.states.as_slice();
+    put_tables(out, returns, states, parts.weights.as_slice())?;
     Ok(())
 }
 
@@ -62,14 +68,16 @@ fn put_parts(out: &mut Vec<u8>, parts: &Parts) -> Result<(), Memory>
 pub fn room_after_parts(parts: &Parts, room: usize) -> Option<usize>
     ensures { Leaves (spelling parts.now) room result }
 {
-    // The letters, the version, and the counts of procedures and return rows.
-    let room = room.checked_sub(8)?;
-    let room = room_after_listed(parts.seeds.as_slice(), room)?;
+    // The letters, the version, and the count of procedures.
+    let room = room.checked_sub(7)?;
+    let room = room_after_listed::<Seeds>(parts.seeds.as_slice(), room)?;
     let room = parts.count.room_after(room)?;
-    let room = room_after_entities(parts.entities.as_slice(), room)?;
-    let room = room_after_listed(parts.blocks.as_slice(), room)?;
-    let room = room_after_elements(parts.states.as_slice(), room)?;
-    room_after_elements(parts.weights.as_slice(), room)
+    let room = room_after_listed::<Entities>(parts.entities.as_slice(), room)?;
+    let room = room_after_listed::<Plain<Block>>(parts.blocks.as_slice(), room)?;
+    let room = room_after_listed::<Plain<ReturnRow>>(parts.returns.as_slice(), room)?;
+    let states = parts.states.as_slice();
+    let room = room_after_elements::<Plain<Option<TableState>>>(states, room)?;
+    room_after_elements::<Weights>(parts.weights.as_slice(), room)
 }
 
 /// The one spelling of an object.

@@ -3,8 +3,8 @@ use Rattle.std.specs.Prelude.{ℕ, ◌+◌, ◌/◌, ◌%◌, pos, false, List, 
 use Rattle.std.specs.Fmt.{decimal, signed_decimal}
 use Rattle.std.specs.Int.{from_bool}
 use Rattle.std.specs.Option.{unwrap_or}
-use Rattle.gw_object.specs.declared.parts.Block.{Block}
-use Rattle.gw_object.specs.declared.parts.Block.TheVariants.{Generate, Terminate, Advance, Seize, Release, Enter, Leave, Queue, Depart, Assign, Test, Gate, Transfer, TransferByFraction, Loop, Logic, Savevalue, Mark}
+use Rattle.gw_blocks.specs.declared.parts.Block.{Block}
+use Rattle.gw_blocks.specs.declared.parts.Block.TheVariants.{Generate, Terminate, Advance, Seize, Release, Enter, Leave, Queue, Depart, Assign, Test, Gate, Transfer, TransferByFraction, TransferToSubroutine, TransferByParameter, Loop, Logic, Savevalue, Mark}
 use Rattle.gw_object.specs.declared.parts.Entity.{Entity}
 use Rattle.gw_object.specs.declared.parts.Kind.{Kind}
 use Rattle.gw_object.specs.declared.parts.Kind.TheVariants as kinds
@@ -54,6 +54,8 @@ block_word (Test t) = codes "TEST"
 block_word (Gate g) = codes "GATE"
 block_word (Transfer target) = codes "TRANSFER"
 block_word (TransferByFraction fraction) = codes "TRANSFER"
+block_word (TransferToSubroutine c) = codes "TRANSFER"
+block_word (TransferByParameter parameter) = codes "TRANSFER"
 block_word (Loop l) = codes "LOOP"
 block_word (Logic l) = codes "LOGIC"
 block_word (Savevalue save) = codes "SAVEVALUE"

@@ -4,7 +4,8 @@ ghost use Rattle.std.specs.Prelude.{◌≡◌, ◌++◌, OnOk};
 ghost use Rattle.gw_report.specs.Report.{block_word as word_of_block, block_line, block_lines};
 
 use crate::text::{put, put_number};
-use gw_object::{Block, Memory};
+use gw_blocks::Block;
+use gw_object::Memory;
 use gw_scan::Sim;
 
 /// The word of a block in a model text.
@@ -24,7 +25,10 @@ fn block_word(block: &Block) -> &'static str
         Block::Assign(_) => "ASSIGN",
         Block::Test(_) => "TEST",
         Block::Gate(_) => "GATE",
-        Block::Transfer(_) | Block::TransferByFraction(_) => "TRANSFER",
+        Block::Transfer(_)
+        | Block::TransferByFraction(_)
+        | Block::TransferToSubroutine(_)
+        | Block::TransferByParameter(_) => "TRANSFER",
         Block::Loop(_) => "LOOP",
         Block::Logic(_) => "LOGIC",
         Block::Savevalue(_) => "SAVEVALUE",

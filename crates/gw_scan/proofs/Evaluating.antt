@@ -2,11 +2,11 @@
 use Rattle.std.proofs.Common.{◌≡◌, ℕ, ◌+◌, ◌-◌, ◌%◌, ◌<◌, ℤ, pos, List, length, get_or, Option, Some, None, Err, option_map, refl, sym, ap, ◌∙◌}
 use Rattle.std.specs.Prelude.{slice_set}
 use Rattle.std.specs.Option.{option_map_or, option_flatten}
-use Rattle.gw_object.specs.declared.parts.Spread.{Spread}
-use Rattle.gw_object.specs.declared.parts.Assign.{Assign}
-use Rattle.gw_object.specs.declared.parts.Save.{Save}
-use Rattle.gw_object.specs.declared.parts.Block.{Block}
-use Rattle.gw_object.specs.declared.parts.Block.TheVariants as blocks
+use Rattle.gw_blocks.specs.declared.parts.Spread.{Spread}
+use Rattle.gw_blocks.specs.declared.parts.Assign.{Assign}
+use Rattle.gw_blocks.specs.declared.parts.Save.{Save}
+use Rattle.gw_blocks.specs.declared.parts.Block.{Block}
+use Rattle.gw_blocks.specs.declared.parts.Block.TheVariants as blocks
 use Rattle.gw_num.specs.Table.{at}
 use Rattle.gw_num.proofs.Tables.{at-replicate, at-get_or_any}
 use Rattle.gw_num.specs.Generator.{next_after}

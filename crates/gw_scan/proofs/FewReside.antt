@@ -2,7 +2,7 @@
 use Rattle.std.proofs.Common.{◌≡◌, ◌⊎◌, ℕ, zero, suc, ◌+◌, ◌<◌, ◌≤◌, ◌^◌, List, [], ◌∷◌, map, length, None, is_some, refl, sym, ap, ◌∙◌, arith, inl, inr}
 use Rattle.std.proofs.lemmas.Bool.{cases_eq}
 use Rattle.std.proofs.lemmas.List.{length-map}
-use Rattle.gw_object.specs.declared.parts.Block.{Block}
+use Rattle.gw_blocks.specs.declared.parts.Block.{Block}
 use Rattle.gw_num.specs.Table.{at}
 use Rattle.gw_num.proofs.Tables.{at_past}
 use Rattle.gw_scan.specs.declared.machine.Machine.{Machine}

@@ -12,3 +12,4 @@ pub mod Running
 pub mod Starting
 pub mod Retrying
 pub mod FewReside
+pub mod Nowhere

@@ -1,6 +1,6 @@
 -- What a call of the machine made.
 use Rattle.std.specs.Prelude.{[], ◌≡◌, ℕ, ◌+◌, ◌≤◌, remove, List, Option, Some, None, Result, Ok, Err, Bool, true, false, not, ◌&&◌, is_none, if◌then◌else◌}
-use Rattle.gw_object.specs.declared.parts.Block.{Block}
+use Rattle.gw_blocks.specs.declared.parts.Block.{Block}
 use Rattle.gw_entities.specs.declared.stop.Stop.{Stop}
 use Rattle.gw_num.specs.Table.{at}
 use Rattle.gw_scan.specs.declared.halt.Halt.{Halt}

@@ -14,10 +14,10 @@ use crate::blocks::may_enter;
 use crate::halt::end_by;
 use crate::machine::{Machine, Made};
 use crate::values::active_subject;
+use gw_blocks::{Assign, Block, Logic, Loop, Mode, Save};
 use gw_chains::{Memory, Tx};
 use gw_entities::Stop;
 use gw_num::{NumFault, add, sub};
-use gw_object::{Assign, Block, Logic, Loop, Mode, Save};
 use gw_transactions::Transaction;
 
 /// A value put where an old one is: it takes its place, or is added to it, or subtracted from it.
@@ -43,7 +43,7 @@ impl Machine {
     // PARAMETERS
 
     /// A parameter of the active transaction is set, and it enters its next block; the one after is now `next`.
-    fn assign_and_enter(
+    pub fn assign_and_enter(
         &mut self,
         blocks: &[Block],
         tx: Tx,

@@ -17,10 +17,10 @@ ghost use Rattle.gw_scan.specs.Makes.{MakesFrom, Enters};
 use crate::machine::{Machine, Made};
 use crate::transfers::block_of;
 use crate::values::{active_subject, drawn_thousandths};
+use gw_blocks::{Block, Fraction, Generate, Operand, Spread, Units};
 use gw_chains::{Memory, Tx};
 use gw_entities::Stop;
 use gw_num::Stream;
-use gw_object::{Block, Fraction, Generate, Operand, Spread, Units};
 use gw_step::{End, Placement};
 use gw_transactions::Transaction;
 
@@ -371,7 +371,13 @@ impl Machine {
     // TRANSFERS
 
     /// TRANSFER in unconditional mode: the transaction goes to the block of a number.
-    fn transfer(&mut self, blocks: &[Block], tx: Tx, transaction: Transaction, target: u16) -> Made
+    pub fn transfer(
+        &mut self,
+        blocks: &[Block],
+        tx: Tx,
+        transaction: Transaction,
+        target: u16,
+    ) -> Made
         requires { IsActive blocks.now self.old tx transaction }
         ensures made { Enters result tx.number (model.transfer blocks.now tx.number transaction target) self.old self.new }
         ensures linked { Linked self.new }
@@ -497,6 +503,8 @@ impl Machine {
             Block::Test(test) => self.test(blocks, tx, transaction, test),
             Block::Gate(gate) => self.gate(blocks, tx, transaction, gate),
             Block::Transfer(target) => Ok(self.transfer(blocks, tx, transaction, target)),
+            Block::TransferToSubroutine(c) => self.call_subroutine(blocks, tx, transaction, c),
+            Block::TransferByParameter(p) => Ok(self.come_back(blocks, tx, transaction, p)),
             Block::Assign(assign) => self.assign_parameter(blocks, tx, transaction, assign),
             Block::Loop(l) => self.loop_back(blocks, tx, transaction, l),
             Block::Logic(logic) => Ok(self.logic(blocks, tx, transaction, logic)),

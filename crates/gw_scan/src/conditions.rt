@@ -13,10 +13,10 @@ ghost use Rattle.gw_scan.specs.Evaluating.{IsReadable};
 use crate::blocks::may_enter;
 use crate::machine::{Machine, Made};
 use crate::values::active_subject;
+use gw_blocks::{Block, Comparison, Condition, Gate, Test};
 use gw_chains::{Memory, Tx};
 use gw_entities::{Stop, Storage};
 use gw_num::Stream;
-use gw_object::{Block, Comparison, Condition, Gate, Test};
 use gw_step::Placement;
 use gw_transactions::Transaction;
 

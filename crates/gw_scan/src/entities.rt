@@ -13,8 +13,8 @@ ghost use Rattle.gw_scan.specs.Coherence.{Linked};
 ghost use Rattle.gw_scan.specs.Makes.{Leaves};
 
 use crate::machine::Machine;
+use gw_blocks::{Logic, SwitchAction, Units};
 use gw_entities::{Facility, Stop, Storage};
-use gw_object::{Logic, SwitchAction, Units};
 
 /// Whether the transaction of this number has to wait for a facility, since another owns it.
 fn is_anothers(facility: Facility, number: u64) -> bool

@@ -13,6 +13,7 @@ mod scan;
 mod sim;
 mod spec;
 mod start;
+mod subroutines;
 mod times;
 mod transfers;
 mod values;

@@ -11,9 +11,9 @@ ghost use Rattle.gw_scan.specs.Makes.{MakesFrom, MakesStep};
 
 use crate::machine::{Machine, Made};
 use crate::transfers::block_of;
+use gw_blocks::Block;
 use gw_chains::{Cec, Fec, Memory};
 use gw_entities::Stop;
-use gw_object::Block;
 use gw_step::End;
 use gw_transactions::Transactions;
 

@@ -11,10 +11,11 @@ ghost use Rattle.gw_scan.specs.Makes.{Schedules};
 
 use crate::halt::Halt;
 use crate::machine::Machine;
+use gw_blocks::{Block, Generate};
 use gw_chains::{Cec, Fec, Memory, Waits};
 use gw_entities::{Facilities, Queues, Savevalues, Storages, Switches};
 use gw_num::Stream;
-use gw_object::{Block, Generate, Object};
+use gw_object::Object;
 use gw_transactions::Transactions;
 use std::alloc::Global;
 

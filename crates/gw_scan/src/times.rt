@@ -12,9 +12,9 @@ ghost use Rattle.gw_scan.specs.Evaluating.{environment_for, CanEvaluate, outcome
 use crate::halt::{Halt, end_by};
 use crate::machine::Machine;
 use crate::values::Subject;
+use gw_blocks::Spread;
 use gw_entities::Stop;
 use gw_num::{NumFault, Stream, add};
-use gw_object::Spread;
 use gw_step::End;
 
 /// The clock so much later, in clock units. A time below 0, and a moment that an i64 can't hold, are named ends.

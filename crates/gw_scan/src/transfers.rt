@@ -17,8 +17,8 @@ ghost use Rattle.gw_scan.specs.View.{state_of};
 ghost use Rattle.gw_scan.specs.Coherence.{Linked, IsSteady};
 
 use crate::machine::Machine;
+use gw_blocks::{Block, Units};
 use gw_chains::Tx;
-use gw_object::{Block, Units};
 use gw_transactions::Transaction;
 
 /// The block of a number, from 1, if there is one.

@@ -13,10 +13,10 @@ ghost use Rattle.gw_scan.specs.View.{state_of};
 ghost use Rattle.gw_scan.specs.Evaluating.{subject_of, parameters_for, environment_for, IsReadable, CanEvaluate, value_and_streams};
 
 use crate::machine::Machine;
+use gw_blocks::{Attribute, EntityAttribute, Operand};
 use gw_chains::Tx;
 use gw_entities::{Facility, Storage};
 use gw_num::Stream;
-use gw_object::{Attribute, EntityAttribute, Operand};
 use gw_transactions::Transaction;
 
 /// For whom operands are evaluated: the active transaction, or the next that is to arrive.

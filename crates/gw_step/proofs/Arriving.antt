@@ -1,16 +1,16 @@
 -- Arrivals: what a GENERATE does, and the state before the first step.
-use Rattle.std.proofs.Common.{◌≡◌, ℕ, zero, suc, ◌+◌, ◌≤◌, List, [], ◌∷◌, length, map, Some, true, false, is_some, pos, ◌≤ℤ◌, refl, sym, ap, ◌∙◌, subst, arith}
+use Rattle.std.proofs.Common.{◌≡◌, ℕ, zero, suc, ◌+◌, ◌≤◌, List, [], ◌∷◌, length, map, Some, None, true, false, pos, ◌≤ℤ◌, refl, sym, ap, ◌∙◌, subst, arith}
 use Rattle.std.proofs.lemmas.Bool.{false≢true}
 use Rattle.std.specs.Prelude.{slice_get, nat_lt, IfSome}
-use Rattle.gw_object.specs.declared.parts.Generate.{Generate}
+use Rattle.gw_blocks.specs.declared.parts.Generate.{Generate}
 use Rattle.gw_object.specs.declared.parts.Entity.{Entity}
-use Rattle.gw_object.specs.declared.parts.Block.{Block}
-use Rattle.gw_object.specs.declared.parts.Block.TheVariants as blocks
+use Rattle.gw_blocks.specs.declared.parts.Block.{Block}
+use Rattle.gw_blocks.specs.declared.parts.Block.TheVariants as blocks
 use Rattle.gw_object.specs.declared.parts.Parts.{Parts}
 use Rattle.gw_object.specs.Entities.{capacity_of}
 use Rattle.gw_kinds.specs.Kinds.{block_at, is_generate, values}
 use Rattle.gw_flow.specs.Codes as codes
-use Rattle.gw_flow.specs.Rows.{Row, is_empty}
+use Rattle.gw_flow.specs.Rows.{Num, Row, is_empty}
 use Rattle.gw_flow.specs.Blocks.{capacity_at}
 use Rattle.gw_flow.specs.Flow.{own_table, own_row}
 use Rattle.gw_flow.specs.Laws.{MayPass, FlowHolds}
@@ -26,7 +26,7 @@ use Rattle.gw_entities.specs.Facility.{idle, is_owned_by}
 use Rattle.gw_entities.specs.Storage as storages
 use Rattle.gw_step.specs.Outcome.{Outcome, Gives, EndsBy, StopsBy}
 use Rattle.gw_step.specs.State.{State, with_streams}
-use Rattle.gw_step.specs.Times.{environment_of_next, drawn_moment}
+use Rattle.gw_step.specs.Times.{environment_of_next, drawn_moment, parameters_of}
 use Rattle.gw_step.specs.Changes.{arrives}
 use Rattle.gw_step.specs.Blocks.{is_owed, next_arrival, generate}
 use Rattle.gw_step.specs.Start.{nothing, first_moment, first_arrival, first_arrivals, started, start}
@@ -36,7 +36,7 @@ use Rattle.gw_step.proofs.Nothing.{no_transaction, resides-nothing}
 use Rattle.gw_step.specs.Places.{row_of}
 use Rattle.gw_step.specs.Typing.{IsPlaced, lists_facility, WellTyped, AreWithinCapacity}
 use Rattle.gw_step.proofs.Balances.{balanced-nothing}
-use Rattle.gw_step.proofs.Traces.{none_known, Goes, Arrives, Draws, Trace, Done, Then, trace_on, present, arrived}
+use Rattle.gw_step.proofs.Traces.{none_known, all_as_known, Goes, Arrives, Draws, Trace, Done, Then, trace_on, present, arrived}
 use Rattle.gw_step.proofs.Unstopped.{Safe, safe_bind, safe_if}
 use Rattle.gw_step.proofs.Drawn.{IsDrawn, safe_drawn, AreRead}
 use Rattle.gw_step.proofs.AtBlock.{first_may_be_entered}
@@ -59,7 +59,8 @@ record Scheduled (p : Parts) (k : ℕ) (s : State) (n : ℕ) (t : Transaction) (
 -- the interval of a GENERATE reads no parameter, since nothing is known where one arrives
 pub interval_read : (p : Parts) (b : ℕ) (g : Generate) (row : Row) → MayPass p (own_table p) b (blocks.Generate g) row → is_empty row ≡ true → (env : Environment) → AreRead env (values (blocks.Generate g))
 interval_read p b g row pass empty env k d within q is =
-    absurd (none_known row empty q (ap is_some (values_are_numbers p (own_table p) b (blocks.Generate g) row pass k d within q is)))
+    let never : None ≡ Some Num = sym (none_known row empty q) ∙ values_are_numbers p (own_table p) b (blocks.Generate g) row pass k d within q is in
+    absurd cc
 
 module _ (p : Parts) (s : State) (n : ℕ) (t : Transaction) (k : ℕ) (g : Generate) (row : Row) (acts : Acts p s n t (blocks.Generate g) row) where
   empty_row : is_empty row ≡ true
@@ -97,7 +98,7 @@ module _ (p : Parts) (s : State) (n : ℕ) (t : Transaction) (k : ℕ) (g : Gene
         trace = trace_on p h.trace
             (Then (Goes n (t.next + 1) t (record t { mark = s.clock }) (blocks.Generate g) row row after.entities
             (record { found = h.found; block_is = acts.is.block_is; row_is = acts.is.row_is }) (record { next = refl; mark = λ clock mark. subst (λ z. pos 0 ≤ℤ z) h.clock clock })
-            (present after.lists n (h.active ∙ acts.active)) (λ q some. absurd (none_known row empty_row q some)) (at_first _ []) may (balanced-nothing p n row after.entities)) Done);
+            (present after.lists n (h.active ∙ acts.active)) (all_as_known row empty_row (parameters_of n after)) (at_first _ []) may (balanced-nothing p n row after.entities)) Done);
         may = tt;
         few_entries = omega arith;
         few_arrivals = h.few;

@@ -2,9 +2,9 @@
 use Rattle.std.proofs.Common.{◌≡◌, ◌⊎◌, ℕ, ◌+◌, ℤ, pos, ◌<ℤ◌, List, [], ◌∷◌, Option, Some, None, Result, Ok, Err, Bool, true, false, not, if◌then◌else◌, nat_lt, refl, sym, ap, ◌∙◌, subst, arith, inl, inr}
 use Rattle.std.specs.Prelude.{int_lt, unwrap_or}
 use Rattle.std.proofs.lemmas.Int.{ints}
-use Rattle.gw_object.specs.declared.parts.Generate.{Generate}
-use Rattle.gw_object.specs.declared.parts.Block.{Block}
-use Rattle.gw_object.specs.declared.parts.Block.TheVariants as blocks
+use Rattle.gw_blocks.specs.declared.parts.Generate.{Generate}
+use Rattle.gw_blocks.specs.declared.parts.Block.{Block}
+use Rattle.gw_blocks.specs.declared.parts.Block.TheVariants as blocks
 use Rattle.gw_kinds.specs.Kinds.{block_at}
 use Rattle.gw_flow.specs.Values.{answered, operands}
 use Rattle.gw_num.specs.Arithmetic.{difference_of}
@@ -26,7 +26,7 @@ use Rattle.gw_step.specs.State.{FutureEvent, State, may_enter, with_streams, del
 use Rattle.gw_step.specs.Times.{environment_of, environment_of_next, moment_after, drawn_moment}
 use Rattle.gw_step.specs.Changes.{entered, enters_and_falls, assigned, arrives, woken, facility, storage, queue, switch, savevalue, put_facility, put_storage, put_queue, put_switch, put_savevalue, end_at}
 use Rattle.gw_step.specs.Placing.{woken_if_stirred, placed}
-use Rattle.gw_step.specs.Blocks.{refuses, refusal, is_owed, next_arrival, chosen, passes_test, is_so, led_by, put_by, looped, turned, the_value, effect, then_placed, meets, act}
+use Rattle.gw_step.specs.Blocks.{refuses, refusal, is_owed, next_arrival, chosen, passes_test, is_so, led_by, block_after, put_by, looped, turned, the_value, effect, then_placed, meets, act}
 use Rattle.gw_step.specs.Step.{next_event, next_active, scan}
 use Rattle.gw_step.proofs.Outcomes.{OnGives, on_bind, on_test, on_if, on_both, choose}
 use Rattle.gw_step.proofs.Follows.{Stays, stays-same, stays-hand_over, stays-admission}
@@ -120,6 +120,11 @@ module _ (s : State) where
   effect_counted bs n t (blocks.Transfer target) values = on_test Entered (may_enter (block_at bs target)) NoBlock _ (passed (entered n t target s) refl refl refl)
   effect_counted bs n t (blocks.TransferByFraction f) values =
       on_test Entered (may_enter (block_at bs (chosen t.next f (the_value values)))) NoBlock _ (passed (entered n t (chosen t.next f (the_value values)) s) refl refl refl)
+  effect_counted bs n t (blocks.TransferToSubroutine c) values =
+      on_test Entered (may_enter (block_at bs c.target)) NoBlock _ (passed (entered n t c.target (assigned n c.parameter (pos t.next) s)) refl refl refl)
+  effect_counted bs n t (blocks.TransferByParameter q) values =
+      on_bind Entered (or_stop (parameter_at n q s.transactions) UnsetParam) _
+      (λ value _. on_test Entered (may_enter (block_at bs (block_after value))) NoBlock _ (passed (entered n t (block_after value) s) refl refl refl))
   effect_counted bs n t (blocks.Loop l) values =
       on_bind Entered (or_stop (parameter_at n l.parameter s.transactions) UnsetParam) _
       (λ old _. on_bind Entered (evaluated (answered (difference_of old (pos 1)))) _

@@ -3,11 +3,11 @@ use Rattle.std.proofs.Common.{◌≡◌, ℕ, ◌-◌, ℤ, ◌≤ℤ◌, List, 
 use Rattle.std.specs.Prelude.{All}
 use Rattle.std.proofs.lemmas.Bool.{false≢true}
 use Rattle.std.proofs.lemmas.List.Elements.{All-head, All-tail}
-use Rattle.gw_object.specs.declared.parts.Operand.{Operand}
-use Rattle.gw_object.specs.declared.parts.Operand.TheVariants as operands
-use Rattle.gw_object.specs.declared.parts.Spread.{Spread}
-use Rattle.gw_object.specs.declared.parts.Block.{Block}
-use Rattle.gw_object.specs.declared.parts.Block.TheVariants as blocks
+use Rattle.gw_blocks.specs.declared.parts.Operand.{Operand}
+use Rattle.gw_blocks.specs.declared.parts.Operand.TheVariants as operands
+use Rattle.gw_blocks.specs.declared.parts.Spread.{Spread}
+use Rattle.gw_blocks.specs.declared.parts.Block.{Block}
+use Rattle.gw_blocks.specs.declared.parts.Block.TheVariants as blocks
 use Rattle.gw_num.specs.declared.arithmetic.NumFault.{NumFault}
 use Rattle.gw_num.specs.Generator as generator
 use Rattle.gw_num.specs.Table.{at}
@@ -101,6 +101,8 @@ safe_operands env (blocks.Test test) streams set = safe_values env test.left tes
 safe_operands env (blocks.Gate gate) streams set = λ is. is
 safe_operands env (blocks.Transfer target) streams set = λ is. is
 safe_operands env (blocks.TransferByFraction f) streams set = with_stream_keeps 1 streams (generator.next_after (first_stream streams))
+safe_operands env (blocks.TransferToSubroutine c) streams set = λ is. is
+safe_operands env (blocks.TransferByParameter q) streams set = λ is. is
 safe_operands env (blocks.Loop l) streams set = λ is. is
 safe_operands env (blocks.Logic l) streams set = λ is. is
 safe_operands env (blocks.Savevalue a) streams set = safe_value env a.value streams set

@@ -1,40 +1,42 @@
 -- What each block does to a well-typed state is a list of elementary changes, and never an error stop.
-use Rattle.std.proofs.Common.{◌≡◌, ℕ, suc, ◌+◌, ◌-◌, ◌≤◌, ℤ, pos, ◌≤ℤ◌, List, [], ◌∷◌, length, Option, Some, None, Result, Ok, Err, Bool, true, false, not, if◌then◌else◌, ◌==◌, ◌||◌, is_some, option_map, IsSome, ◌⊎◌, inl, inr, refl, sym, ap, ◌∙◌, subst, arith}
+use Rattle.std.proofs.Common.{◌≡◌, ◌≢◌, ℕ, suc, ◌+◌, ◌-◌, ◌≤◌, ℤ, pos, ◌≤ℤ◌, List, [], ◌∷◌, length, map, Option, Some, None, Result, Ok, Err, Bool, true, false, not, if◌then◌else◌, ◌==◌, ◌||◌, option_map, IsSome, inl, inr, refl, sym, ap, ◌∙◌, subst, arith}
 use Rattle.std.specs.Prelude.{int_lt, nat_le, unwrap_or, is_none, ◌&&◌, All, Contains}
 use Rattle.std.specs.Option.{option_map_or, option_flatten}
 use Rattle.std.specs.List.{list_any}
-use Rattle.std.proofs.lemmas.Bool.{cases_eq, leb-true, le-leb, false≢true}
-use Rattle.gw_object.specs.declared.parts.Operand.{Operand}
-use Rattle.gw_object.specs.declared.parts.Spread.{Spread}
-use Rattle.gw_object.specs.declared.parts.Units.{Units}
-use Rattle.gw_object.specs.declared.parts.Fraction.{Fraction}
-use Rattle.gw_object.specs.declared.parts.Assign.{Assign}
-use Rattle.gw_object.specs.declared.parts.Loop.{Loop}
-use Rattle.gw_object.specs.declared.parts.Logic.{Logic}
-use Rattle.gw_object.specs.declared.parts.Test.{Test}
-use Rattle.gw_object.specs.declared.parts.Gate.{Gate}
-use Rattle.gw_object.specs.declared.parts.Save.{Save}
+use Rattle.std.proofs.lemmas.Bool.{cases_eq, eq-eqb, ne_eqb, or_left, leb-true, le-leb, false≢true}
+use Rattle.std.proofs.lemmas.Int.{ints}
+use Rattle.gw_blocks.specs.declared.parts.Operand.{Operand}
+use Rattle.gw_blocks.specs.declared.parts.Spread.{Spread}
+use Rattle.gw_blocks.specs.declared.parts.Units.{Units}
+use Rattle.gw_blocks.specs.declared.parts.Fraction.{Fraction}
+use Rattle.gw_blocks.specs.declared.parts.Assign.{Assign}
+use Rattle.gw_blocks.specs.declared.parts.Call.{Call}
+use Rattle.gw_blocks.specs.declared.parts.Loop.{Loop}
+use Rattle.gw_blocks.specs.declared.parts.Logic.{Logic}
+use Rattle.gw_blocks.specs.declared.parts.Test.{Test}
+use Rattle.gw_blocks.specs.declared.parts.Gate.{Gate}
+use Rattle.gw_blocks.specs.declared.parts.Save.{Save}
 use Rattle.gw_object.specs.declared.parts.Kind.{Kind}
 use Rattle.gw_object.specs.declared.parts.Kind.TheVariants as kinds
-use Rattle.gw_object.specs.declared.parts.Block.{Block}
-use Rattle.gw_object.specs.declared.parts.Block.TheVariants as blocks
+use Rattle.gw_blocks.specs.declared.parts.Block.{Block}
+use Rattle.gw_blocks.specs.declared.parts.Block.TheVariants as blocks
 use Rattle.gw_object.specs.declared.parts.Parts.{Parts}
 use Rattle.gw_kinds.specs.declared.entities.EntityKind.TheVariants as needed
 use Rattle.gw_kinds.specs.declared.ways.Way.TheVariants.{Goes}
 use Rattle.gw_kinds.specs.declared.ways.Exit.{Exit}
-use Rattle.gw_kinds.specs.Exits.{leads_to, at_once, goes_or_falls, falls_or_goes, exits}
+use Rattle.gw_kinds.specs.Exits.{leads_to, at_once, goes_or_falls, falls_or_goes, exits, returns_to, exits_with}
 use Rattle.gw_kinds.specs.Kinds.{kind_at, block_at, needs}
-use Rattle.gw_kinds.specs.Laws.{MayBeEntered, BlockHolds}
+use Rattle.gw_kinds.specs.Laws.{MayBeEntered, ReturnsHold, BlockHolds}
 use Rattle.gw_flow.specs.Codes as codes
-use Rattle.gw_flow.specs.Rows.{Row, kind_of, owns, units_of, with_parameter, with_facility, without_facility, with_units}
+use Rattle.gw_flow.specs.Entries.{lists}
+use Rattle.gw_flow.specs.Rows.{ParamKind, Num, Ret, Row, kind_of, return_blocks, owns, units_of, with_parameter, with_facility, without_facility, with_units}
 use Rattle.gw_flow.specs.Values.{answered}
-use Rattle.gw_flow.proofs.Parameters.{loop_is_number, kind_of_other}
+use Rattle.gw_flow.proofs.Parameters.{loop_is_number, return_is, kind_of_set, kind_of_other}
 use Rattle.gw_num.specs.Arithmetic.{difference_of}
-use Rattle.gw_flow.specs.Blocks.{capacity_at, move, edges, edges_along, after}
+use Rattle.gw_flow.specs.Blocks.{capacity_at, move, edges, edges_along, returns_read, after}
 use Rattle.gw_flow.specs.Flow.{own_table}
 use Rattle.gw_flow.specs.Laws.{FlowHolds}
-use Rattle.gw_num.specs.Table.{at, put}
-use Rattle.gw_num.proofs.Tables.{at-put}
+use Rattle.gw_num.specs.Table.{at}
 use Rattle.gw_transactions.specs.declared.Transaction.{Transaction}
 use Rattle.gw_entities.specs.declared.facilities.Facility.{Facility}
 use Rattle.gw_entities.specs.declared.storages.Storage.{Storage}
@@ -52,20 +54,21 @@ use Rattle.gw_step.specs.State.{State, delay_list}
 use Rattle.gw_step.specs.Times.{moment_after, parameters_of}
 use Rattle.gw_step.specs.Changes.{entered, assigned, enters_and_falls, facility, storage, queue, switch, savevalue, put_facility, put_storage, put_queue, put_switch, put_savevalue}
 use Rattle.gw_step.specs.Placing.{placed}
-use Rattle.gw_step.specs.Blocks.{has_to_wait, leads, stays, until, advance, hand_over, release, admission, leave, join_queue, depart, transfer, chosen, passes_test, is_so, led_by, put_by, assign, loop, mark, turned, logic, save, terminate, effect, then_placed, meets}
+use Rattle.gw_step.specs.Blocks.{has_to_wait, leads, stays, until, advance, hand_over, release, admission, leave, join_queue, depart, transfer, chosen, passes_test, is_so, led_by, put_by, assign, loop, call, block_after, come_back, mark, turned, logic, save, terminate, effect, then_placed, meets}
 use Rattle.gw_step.proofs.Outcomes.{choose}
 use Rattle.gw_step.proofs.Residence.{at-le-sum}
 use Rattle.gw_step.proofs.Owning.{idle-released}
 use Rattle.gw_step.proofs.Drawn.{safe_later}
 use Rattle.gw_step.specs.Places.{row_of}
-use Rattle.gw_step.specs.Typing.{promised_units, content_of, awaited, WaitsFor}
+use Rattle.gw_step.specs.Typing.{IsAsKnown, promised_units, content_of, awaited, WaitsFor}
 use Rattle.gw_step.proofs.Owning.{lists-none}
 use Rattle.gw_step.proofs.Operands.{good_units}
 use Rattle.gw_step.proofs.Balances.{balanced-nothing, balanced-parameters, balanced-switch, balanced-savevalue, balanced-seize, balanced-release, balanced-storage, balanced-queue}
-use Rattle.gw_step.proofs.Traces.{Assigns, its_parameters, EntersLast, Counts, Done, Then, change-keeps, present, Rested, credited, its_row}
+use Rattle.gw_step.proofs.Traces.{its_parameters, EntersLast, Counts, Done, Then, change-keeps, present, Rested, credited, its_row}
 use Rattle.gw_step.proofs.Unstopped.{Safe, Any, safe_bind, safe_test, safe_if, safe_found, safe_answered}
 use Rattle.gw_step.proofs.AtBlock.{first_may_be_entered, second_may_be_entered, led_to, named_below, is_storage, is_queue}
-use Rattle.gw_step.proofs.Moving.{Acts, unchanged, assigned_acts, parameters-assigned, Reaches, Enters, entered_once, safe_placed, refused, safe_leads, at_first, at_second, the_rule, goes, just_goes, owner_as}
+use Rattle.gw_step.proofs.Moving.{Acts, unchanged, Reaches, Enters, entered_once, safe_placed, refused, safe_leads, at_first, at_second, the_rule, goes, goes_with, just_goes, owner_as}
+use Rattle.gw_step.proofs.Returns.{may_come_back}
 use Rattle.gw_step.proofs.Calling.{some_of, handed_over, admits}
 use Rattle.gw_step.proofs.Attributes.{bearer_at, written_at}
 use Rattle.gw_transactions.specs.Parameters.{no_parameters}
@@ -109,9 +112,34 @@ left_is n e h = ap (λ b. if◌then◌else◌ {A = Result (Unit {0} × Storage) 
 departed_is : (n : ℕ) (q : Contents) → holds n q ≡ true → departing n q ≡ Ok (tt, departed n q)
 departed_is n q h = ap (λ b. if◌then◌else◌ {A = Result (Unit {0} × Contents) Stop} b (Ok (tt, departed n q)) (Err TooFew)) h
 
--- what is known where a parameter is set: a number there, and the rest as before
-set_or_same : (q r : ℕ) (row : Row) → (kind_of (with_parameter q row) r ≡ kind_of row r) ⊎ (q ≡ r)
-set_or_same q r row = elim (cases_eq q r) [ inl same ↦ inr same | inr other ↦ inl (kind_of_other q r row other) ]
+-- a value of a kind, of each other that is known to be the same
+value_as : (value : Option ℤ) (kind known : Option ParamKind) → known ≡ kind → IsAsKnown kind value → IsAsKnown known value
+value_as value kind known same h = subst (λ k. IsAsKnown k value) (sym same) h
+
+-- a value that is known to be a return is the number of one of its blocks
+value_returns : (bs : List ℕ) (value : Option ℤ) → IsAsKnown (Some (Ret bs)) value → (b : ℕ) × (lists bs b ≡ true) × (value ≡ Some (pos b))
+value_returns bs None h = absurd h
+value_returns bs (Some value) h = (h.0, h.1, ap Some h.2)
+
+-- a value that is known to be of a kind is set
+pub value_is_set : (kind : ParamKind) (value : Option ℤ) → IsAsKnown (Some kind) value → IsSome value
+value_is_set kind None h = absurd h
+value_is_set kind (Some value) h = refl
+
+-- where a TRANSFER in parameter mode leads to from a return
+after_it : (b : ℕ) → block_after (pos b) ≡ b + 1
+after_it b = choose (λ to. to ≡ b + 1) (int_lt (pos b) (pos 0)) 0 (b + 1) (λ below. absurd (omega (arith, ints, below))) (λ above. refl)
+
+-- one of its edges leads to the block after each to which it may return
+returns_along : (b from : ℕ) (row : Row) (bs : List ℕ) → lists bs b ≡ true → Contains (edges_along from (map returns_to bs) row) (move (b + 1) row)
+returns_along b from row [] there = absurd (false≢true there)
+returns_along b from row (c ∷ bs) there =
+    elim (cases_eq c b) [
+      | inl same ↦ subst (λ k. Contains (edges_along from (map returns_to (c ∷ bs)) row) (move (k + 1) row)) same (at_first (move (c + 1) row) _)
+      | inr other ↦
+          let later = returns_along b from row bs (subst (λ so. (so || lists bs b) ≡ true) (ne_eqb c b other) there) in
+          (suc later.0, omega (arith, later.1), later.2)
+    ]
 
 -- the value of a parameter is read of who is there
 parameter_read : (s : State) (n q : ℕ) (b : LiveTransaction) → at None s.transactions n ≡ Some b → at None (parameters_of n s) q ≡ parameter_at n q s.transactions
@@ -148,7 +176,7 @@ module _ (p : Parts) (each_block : (b : ℕ) (block : Block) → block_at p.bloc
       (record {
         entries = suc k;
         arrivals = k;
-        trace = Then (goes p s n t (blocks.Advance time) row acts k k t (t.next + 1) row s.entities (unchanged s t) (λ q. inl refl) (at_first _ []) may (balanced-nothing p n row s.entities)) Done;
+        trace = Then (goes p s n t (blocks.Advance time) row acts k k t (t.next + 1) row s.entities (unchanged s t) (λ q. refl) (at_first _ []) may (balanced-nothing p n row s.entities)) Done;
         may = until_rests s.clock moment (enters_and_falls n t s) acts.active refl later;
         few_entries = omega (arith, until_credits s.clock moment (suc k));
         few_arrivals = omega arith;
@@ -166,7 +194,7 @@ module _ (p : Parts) (each_block : (b : ℕ) (block : Block) → block_at p.bloc
       n (facility f s) mine
       (λ free.
       safe_placed p k s n _ (safe_leads p (Enters p k s n) (t.next + 1) _ may
-      (just_goes p s n t (blocks.Seize f) row acts k (t.next + 1) (with_facility f row) (put_facility f (seized n (facility f s)) s).entities (λ q. inl refl) (at_first _ []) may (balanced-seize p n f row s.entities below free))))
+      (just_goes p s n t (blocks.Seize f) row acts k (t.next + 1) (with_facility f row) (put_facility f (seized n (facility f s)) s).entities (λ q. refl) (at_first _ []) may (balanced-seize p n f row s.entities below free))))
       (refused p k s n (JoinsDelayList f) (acts.active, asks (blocks.Seize f) row acts f refl, below) (omega arith))
 
   pub safe_release : (f : ℕ) (row : Row) → Acts p s n t (blocks.Release f) row → Safe (Enters p k s n) (release p.blocks n t f s)
@@ -175,7 +203,7 @@ module _ (p : Parts) (each_block : (b : ℕ) (block : Block) → block_at p.bloc
       let below = named_below p.entities (needs needed.Facility f) [] acts.kinds.entities in
       let owned = owner_as p s n t (blocks.Release f) row acts f ∙ the_rule p t.next codes.not_owner (owns row f) (blocks.Release f) row refl acts.flow in
       let u : State = put_facility f (released (facility f s)) (enters_and_falls n t s) in
-      let gone = goes p s n t (blocks.Release f) row acts k k t (t.next + 1) (without_facility f row) u.entities (unchanged s t) (λ q. inl refl) (at_first _ []) may (balanced-release p n f row s.entities below owned) in
+      let gone = goes p s n t (blocks.Release f) row acts k k t (t.next + 1) (without_facility f row) u.entities (unchanged s t) (λ q. refl) (at_first _ []) may (balanced-release p n f row s.entities below owned) in
       safe_leads p (Enters p k s n) (t.next + 1) _ may
       (subst (λ r. Safe (Enters p k s n) (granted r >>= λ x. stays (hand_over p.blocks f (delay_list f s) (put_facility f x.1 (enters_and_falls n t s))))) (sym (released_is n (facility f s) owned))
       (entered_once p k s n _ (Then gone (handed_over p each_block flow k k u (change-keeps p flow gone acts.typed) f (delay_list f s) below (idle-released f (enters_and_falls n t s)) (λ m. omega arith)))))
@@ -194,7 +222,7 @@ module _ (p : Parts) (each_block : (b : ℕ) (block : Block) → block_at p.bloc
       u.number (storage u.entity s) (ap (nat_le u.number) (acts.typed.sized u.entity) ∙ rule)
       (λ free.
       safe_placed p k s n _ (safe_leads p (Enters p k s n) (t.next + 1) _ may
-      (just_goes p s n t (blocks.Enter u) row acts k (t.next + 1) (with_units u.entity (units_of row u.entity + u.number) row) (put_storage u.entity (storages.entered u.number (storage u.entity s)) s).entities (λ q. inl refl) (at_first _ []) may
+      (just_goes p s n t (blocks.Enter u) row acts k (t.next + 1) (with_units u.entity (units_of row u.entity + u.number) row) (put_storage u.entity (storages.entered u.number (storage u.entity s)) s).entities (λ q. refl) (at_first _ []) may
       (balanced-storage p n u.entity (units_of row u.entity + u.number) (storages.entered u.number (storage u.entity s)) row s.entities kind.0 kind.1 refl (omega arith) (λ _. leb-true _ _ free) (omega (arith, fit.number))))))
       (refused p k s n (JoinsDelayList u.entity) (acts.active, asks (blocks.Enter u) row acts u.entity refl, fit.entity) (omega arith))
 
@@ -209,7 +237,7 @@ module _ (p : Parts) (each_block : (b : ℕ) (block : Block) → block_at p.bloc
       let enough = leb-true u.number (units_of row u.entity) (the_rule p t.next codes.too_few_units (nat_le u.number (units_of row u.entity)) (blocks.Leave u) row refl acts.flow) in
       let within = held u row (kind_at p.entities u.entity) kind.0 kind.1 (inside (blocks.Leave u) row acts u.entity) in
       let v : State = put_storage u.entity (storages.left u.number (storage u.entity s)) (enters_and_falls n t s) in
-      let gone = goes p s n t (blocks.Leave u) row acts k k t (t.next + 1) (with_units u.entity (units_of row u.entity - u.number) row) v.entities (unchanged s t) (λ q. inl refl) (at_first _ []) may
+      let gone = goes p s n t (blocks.Leave u) row acts k k t (t.next + 1) (with_units u.entity (units_of row u.entity - u.number) row) v.entities (unchanged s t) (λ q. refl) (at_first _ []) may
       (balanced-storage p n u.entity (units_of row u.entity - u.number) (storages.left u.number (storage u.entity s)) row s.entities kind.0 kind.1 refl (omega (arith, enough, within)) (λ before. omega (arith, before)) (omega arith)) in
       safe_leads p (Enters p k s n) (t.next + 1) _ may
       (subst (λ r. Safe (Enters p k s n) (granted r >>= λ x. stays (admission p.blocks u.entity (delay_list u.entity s) (put_storage u.entity x.1 (enters_and_falls n t s))))) (sym (left_is u.number (storage u.entity s) (le-leb u.number (storage u.entity s).contents.content (omega (arith, enough, within)))))
@@ -221,7 +249,7 @@ module _ (p : Parts) (each_block : (b : ℕ) (block : Block) → block_at p.bloc
       let kind = is_queue p.entities u.entity acts.kinds.entities in
       let fit = good_units p needed.Queue u acts.kinds.entities acts.kinds.constants in
       safe_leads p (Enters p k s n) (t.next + 1) _ may
-      (just_goes p s n t (blocks.Queue u) row acts k (t.next + 1) (with_units u.entity (units_of row u.entity + u.number) row) (put_queue u.entity (joined u.number (queue u.entity s)) s).entities (λ q. inl refl) (at_first _ []) may
+      (just_goes p s n t (blocks.Queue u) row acts k (t.next + 1) (with_units u.entity (units_of row u.entity + u.number) row) (put_queue u.entity (joined u.number (queue u.entity s)) s).entities (λ q. refl) (at_first _ []) may
       (balanced-queue p n u.entity (units_of row u.entity + u.number) (joined u.number (queue u.entity s)) row s.entities kind (omega arith) (omega (arith, fit.number)) (λ h. omega (arith, h))))
 
   pub safe_depart : (u : Units) (row : Row) → Acts p s n t (blocks.Depart u) row → Safe (Enters p k s n) (depart p.blocks n t u s)
@@ -232,14 +260,14 @@ module _ (p : Parts) (each_block : (b : ℕ) (block : Block) → block_at p.bloc
       let within : units_of row u.entity ≤ (queue u.entity s).content = subst (λ k. units_of row u.entity ≤ content_of u.entity s.entities k) kind (inside (blocks.Depart u) row acts u.entity) in
       safe_leads p (Enters p k s n) (t.next + 1) _ may
       (subst (λ r. Safe (Enters p k s n) (granted r >>= λ x. stays (put_queue u.entity x.1 (enters_and_falls n t s)))) (sym (departed_is u.number (queue u.entity s) (le-leb u.number (queue u.entity s).content (omega (arith, enough, within)))))
-      (just_goes p s n t (blocks.Depart u) row acts k (t.next + 1) (with_units u.entity (units_of row u.entity - u.number) row) (put_queue u.entity (departed u.number (queue u.entity s)) s).entities (λ q. inl refl) (at_first _ []) may
+      (just_goes p s n t (blocks.Depart u) row acts k (t.next + 1) (with_units u.entity (units_of row u.entity - u.number) row) (put_queue u.entity (departed u.number (queue u.entity s)) s).entities (λ q. refl) (at_first _ []) may
       (balanced-queue p n u.entity (units_of row u.entity - u.number) (departed u.number (queue u.entity s)) row s.entities kind (omega (arith, enough, within)) (omega arith) (λ h. omega (arith, h)))))
 
   -- TRANSFERS
 
   -- it goes along one of its edges
   goes_to : (block : Block) (row : Row) → Acts p s n t block row → (to : ℕ) → Contains (edges p (own_table p) t.next block row) (move to row) → MayBeEntered p to → Safe (Enters p k s n) (transfer p.blocks n t to s)
-  goes_to block row acts to along may = safe_leads p (Enters p k s n) to _ may (just_goes p s n t block row acts k to row s.entities (λ q. inl refl) along may (balanced-nothing p n row s.entities))
+  goes_to block row acts to along may = safe_leads p (Enters p k s n) to _ may (just_goes p s n t block row acts k to row s.entities (λ q. refl) along may (balanced-nothing p n row s.entities))
 
   pub safe_transfer : (to : ℕ) (row : Row) → Acts p s n t (blocks.Transfer to) row → Safe (Enters p k s n) (transfer p.blocks n t to s)
   safe_transfer to row acts = goes_to (blocks.Transfer to) row acts to (at_first _ []) (first_may_be_entered p t.next _ [] acts.kinds.exits)
@@ -256,84 +284,104 @@ module _ (p : Parts) (each_block : (b : ℕ) (block : Block) → block_at p.bloc
   -- CONDITIONS
 
   -- where it is not refused it goes to the next block, or to the other one that its block names
-  led : (block : Block) (row : Row) → Acts p s n t block row → after block row ≡ row → (otherwise : Option ℕ) → exits block ≡ falls_or_goes otherwise → (so : Bool) → (is_none otherwise && not so) ≡ false → Safe (Enters p k s n) (transfer p.blocks n t (led_by t.next otherwise so) s)
-  led block row acts same otherwise is so passes = by_case otherwise so is passes
+  led : (block : Block) (row : Row) → Acts p s n t block row → after t.next block row ≡ row → (otherwise : Option ℕ) → exits_with (returns_read block row) block ≡ falls_or_goes otherwise → exits block ≡ falls_or_goes otherwise → (so : Bool) → (is_none otherwise && not so) ≡ false → Safe (Enters p k s n) (transfer p.blocks n t (led_by t.next otherwise so) s)
+  led block row acts same otherwise ways is so passes = by_case otherwise so ways is passes
     where
-      along : (es : List Exit) (to : ℕ) → exits block ≡ es → Contains (edges_along t.next es row) (move to row) → Contains (edges p (own_table p) t.next block row) (move to row)
-      along es to is there = subst (λ r. Contains (edges_along t.next (exits block) r) (move to row)) (sym same) (subst (λ xs. Contains (edges_along t.next xs row) (move to row)) (sym is) there)
+      along : (es : List Exit) (to : ℕ) → exits_with (returns_read block row) block ≡ es → Contains (edges_along t.next es row) (move to row) → Contains (edges p (own_table p) t.next block row) (move to row)
+      along es to ways there = subst (λ r. Contains (edges_along t.next (exits_with (returns_read block row) block) r) (move to row)) (sym same) (subst (λ xs. Contains (edges_along t.next xs row) (move to row)) (sym ways) there)
 
       exits_hold : (es : List Exit) → exits block ≡ es → All (λ (exit : Exit). MayBeEntered p (leads_to t.next exit.way)) es
       exits_hold es is = subst (All (λ (exit : Exit). MayBeEntered p (leads_to t.next exit.way))) is acts.kinds.exits
 
-      by_case : (o : Option ℕ) (b : Bool) → exits block ≡ falls_or_goes o → (is_none o && not b) ≡ false → Safe (Enters p k s n) (transfer p.blocks n t (led_by t.next o b) s)
-      by_case None true is passes = goes_to block row acts (t.next + 1) (along _ (t.next + 1) is (at_first _ [])) (first_may_be_entered p t.next _ [] (exits_hold _ is))
-      by_case None false is passes = absurd (false≢true (sym passes))
-      by_case (Some c) true is passes = goes_to block row acts (t.next + 1) (along _ (t.next + 1) is (at_first _ (move c row ∷ []))) (first_may_be_entered p t.next _ (at_once (Goes c) ∷ []) (exits_hold _ is))
-      by_case (Some c) false is passes = goes_to block row acts c (along _ c is (at_second (move (t.next + 1) row) _ [])) (second_may_be_entered p t.next _ _ [] (exits_hold _ is))
+      by_case : (o : Option ℕ) (b : Bool) → exits_with (returns_read block row) block ≡ falls_or_goes o → exits block ≡ falls_or_goes o → (is_none o && not b) ≡ false → Safe (Enters p k s n) (transfer p.blocks n t (led_by t.next o b) s)
+      by_case None true ways is passes = goes_to block row acts (t.next + 1) (along _ (t.next + 1) ways (at_first _ [])) (first_may_be_entered p t.next _ [] (exits_hold _ is))
+      by_case None false ways is passes = absurd (false≢true (sym passes))
+      by_case (Some c) true ways is passes = goes_to block row acts (t.next + 1) (along _ (t.next + 1) ways (at_first _ (move c row ∷ []))) (first_may_be_entered p t.next _ (at_once (Goes c) ∷ []) (exits_hold _ is))
+      by_case (Some c) false ways is passes = goes_to block row acts c (along _ c ways (at_second (move (t.next + 1) row) _ [])) (second_may_be_entered p t.next _ _ [] (exits_hold _ is))
 
   pub safe_comparison : (test : Test) (values : List ℤ) (row : Row) → Acts p s n t (blocks.Test test) row → Safe (Reaches p k s) (meets p.blocks n t (blocks.Test test) values s)
   unfolding effect
   safe_comparison test values row acts =
       safe_if (Reaches p k s) (is_none test.otherwise && not (passes_test test values)) _ _
       (λ false. refused p k s n JoinsRetryList acts.active (omega arith))
-      (λ passes. safe_placed p k s n _ (led (blocks.Test test) row acts refl test.otherwise refl (passes_test test values) passes))
+      (λ passes. safe_placed p k s n _ (led (blocks.Test test) row acts refl test.otherwise refl refl (passes_test test values) passes))
 
   pub safe_gate : (gate : Gate) (values : List ℤ) (row : Row) → Acts p s n t (blocks.Gate gate) row → Safe (Reaches p k s) (meets p.blocks n t (blocks.Gate gate) values s)
   unfolding effect
   safe_gate gate values row acts =
       safe_if (Reaches p k s) (is_none gate.otherwise && not (is_so gate.condition gate.entity s)) _ _
       (λ false. refused p k s n JoinsRetryList acts.active (omega arith))
-      (λ passes. safe_placed p k s n _ (led (blocks.Gate gate) row acts refl gate.otherwise refl (is_so gate.condition gate.entity s) passes))
+      (λ passes. safe_placed p k s n _ (led (blocks.Gate gate) row acts refl gate.otherwise refl refl (is_so gate.condition gate.entity s) passes))
 
   -- PARAMETERS
 
-  -- a parameter of it is set, and it goes along an edge of its block
+  -- a parameter of it is set, and it goes along an edge of its block, where all other parameters are what they were
   with_assigned : (block : Block) (row state : Row) → Acts p s n t block row → (q : ℕ) (value : ℤ) (to : ℕ) → Contains (edges p (own_table p) t.next block row) (move to state) → MayBeEntered p to
-      → ((r : ℕ) → (kind_of state r ≡ kind_of row r) ⊎ (q ≡ r)) → state.facilities ≡ row.facilities → state.units ≡ row.units → Enters p k s n (entered n t to (assigned n q value s), StaysActive)
-  with_assigned block row state acts q value to along may known facilities units =
+      → IsAsKnown (kind_of state q) (Some value) → ((r : ℕ) → r ≢ q → kind_of state r ≡ kind_of row r) → state.facilities ≡ row.facilities → state.units ≡ row.units → Enters p k s n (entered n t to (assigned n q value s), StaysActive)
+  with_assigned block row state acts q value to along may here others facilities units =
+      entered_once p k s n _ (Then (goes_with p s n t block row acts k k to state q value here others along may (balanced-parameters p n row state s.entities facilities units)) Done)
+
+  -- and is known to be what it is set to
+  sets : (block : Block) (row : Row) → Acts p s n t block row → (q : ℕ) (kind : ParamKind) (value : ℤ) (to : ℕ) → Contains (edges p (own_table p) t.next block row) (move to (with_parameter q kind row)) → MayBeEntered p to
+      → IsAsKnown (Some kind) (Some value) → Enters p k s n (entered n t to (assigned n q value s), StaysActive)
+  sets block row acts q kind value to along may is =
+      with_assigned block row (with_parameter q kind row) acts q value to along may (value_as (Some value) (Some kind) _ (kind_of_set q kind row) is) (λ r other. kind_of_other q r kind row (λ same. other (sym same))) refl refl
+
+  -- the value of a parameter that its row knows something of
+  known_value : (block : Block) (row : Row) → Acts p s n t block row → (q : ℕ) (kind : ParamKind) → kind_of row q ≡ Some kind → IsAsKnown (Some kind) (parameter_at n q s.transactions)
+  known_value block row acts q kind is =
       let bears = bearer_at s.transactions n t acts.is.found in
-      let after = assigned n q value s in
-      let set : (r : ℕ) → q ≡ r → IsSome (at None (parameters_of n after) r) = λ r same.
-      subst (λ ps. IsSome (at None ps r)) (sym (parameters-assigned s n q value bears.0 bears.1)) (subst (λ i. IsSome (at None (put None bears.0.parameters q (Some value)) i)) same (ap is_some (at-put None bears.0.parameters q (Some value)))) in
-      entered_once p k s n _
-      (Then (Assigns n q value bears.0 bears.1 (present s.lists n acts.active))
-      (Then (goes p after n t block row (assigned_acts p flow s n t block row q value acts bears.0 bears.1) k k t to state after.entities (unchanged after t)
-      (λ r. elim (known r) [ inl same ↦ inl same | inr here ↦ inr (set r here) ]) along may (balanced-parameters p n row state after.entities facilities units)) Done))
+      subst (IsAsKnown (Some kind)) (parameter_read s n q bears.0 bears.1) (value_as (at None (parameters_of n s) q) (kind_of row q) (Some kind) (sym is) (its_parameters p s acts.typed n t block row acts.is q))
 
   pub safe_assign : (a : Assign) (value : ℤ) (row : Row) → Acts p s n t (blocks.Assign a) row → Safe (Enters p k s n) (assign p.blocks n t a value s)
   safe_assign a value row acts =
       let may = first_may_be_entered p t.next _ [] acts.kinds.exits in
       safe_bind Any (Enters p k s n) (evaluated (answered (put_by a.mode (unwrap_or (parameter_at n a.parameter s.transactions) (pos 0)) value))) _ (safe_answered _)
-      (λ new _.
-      safe_leads p (Enters p k s n) (t.next + 1) _ may
-      (with_assigned (blocks.Assign a) row (with_parameter a.parameter row) acts a.parameter new (t.next + 1) (at_first _ []) may (λ r. set_or_same a.parameter r row) refl refl))
+      (λ new _. safe_leads p (Enters p k s n) (t.next + 1) _ may (sets (blocks.Assign a) row acts a.parameter Num new (t.next + 1) (at_first _ []) may tt))
 
   pub safe_loop : (l : Loop) (row : Row) → Acts p s n t (blocks.Loop l) row → Safe (Enters p k s n) (loop p.blocks n t l s)
   safe_loop l row acts =
-      let bears = bearer_at s.transactions n t acts.is.found in
-      let known : IsSome (kind_of row l.parameter) = ap is_some (loop_is_number p (own_table p) t.next l row acts.flow) in
-      let read : IsSome (parameter_at n l.parameter s.transactions) = subst IsSome (parameter_read s n l.parameter bears.0 bears.1) (its_parameters p s acts.typed n t (blocks.Loop l) row acts.is l.parameter known) in
-      let old = some_of (parameter_at n l.parameter s.transactions) read in
+      let number = loop_is_number p (own_table p) t.next l row acts.flow in
+      let old = some_of (parameter_at n l.parameter s.transactions) (value_is_set Num (parameter_at n l.parameter s.transactions) (known_value (blocks.Loop l) row acts l.parameter Num number)) in
       safe_found (Enters p k s n) (parameter_at n l.parameter s.transactions) UnsetParam old.0 _ old.1
       (safe_bind Any (Enters p k s n) (evaluated (answered (difference_of old.0 (pos 1)))) _ (safe_answered _)
       (λ left _.
+      let here : IsAsKnown (kind_of row l.parameter) (Some left) = value_as (Some left) (Some Num) _ number tt in
       choose (λ to. Safe (Enters p k s n) (leads p.blocks to (stays (entered n t to (assigned n l.parameter left s))))) (int_lt (pos 0) left) l.target (t.next + 1)
       (λ above.
       let may = second_may_be_entered p t.next _ _ [] acts.kinds.exits in
-      safe_leads p (Enters p k s n) l.target _ may (with_assigned (blocks.Loop l) row row acts l.parameter left l.target (at_second (move (t.next + 1) row) _ []) may (λ r. inl refl) refl refl))
+      safe_leads p (Enters p k s n) l.target _ may (with_assigned (blocks.Loop l) row row acts l.parameter left l.target (at_second (move (t.next + 1) row) _ []) may here (λ r other. refl) refl refl))
       (λ falls.
       let may = first_may_be_entered p t.next _ (at_once (Goes l.target) ∷ []) acts.kinds.exits in
-      safe_leads p (Enters p k s n) (t.next + 1) _ may (with_assigned (blocks.Loop l) row row acts l.parameter left (t.next + 1) (at_first _ (move l.target row ∷ [])) may (λ r. inl refl) refl refl))))
+      safe_leads p (Enters p k s n) (t.next + 1) _ may (with_assigned (blocks.Loop l) row row acts l.parameter left (t.next + 1) (at_first _ (move l.target row ∷ [])) may here (λ r other. refl) refl refl))))
 
   pub safe_mark : (o : Option ℕ) (row : Row) → Acts p s n t (blocks.Mark o) row → Safe (Enters p k s n) (mark p.blocks n t o s)
   safe_mark None row acts =
       let may = first_may_be_entered p t.next _ [] acts.kinds.exits in
       safe_leads p (Enters p k s n) (t.next + 1) _ may
-      (entered_once p k s n _ (Then (goes p s n t (blocks.Mark None) row acts k k (record t { mark = s.clock }) (t.next + 1) row s.entities (record { next = refl; mark = λ clock mark. clock }) (λ q. inl refl) (at_first _ []) may (balanced-nothing p n row s.entities)) Done))
+      (entered_once p k s n _ (Then (goes p s n t (blocks.Mark None) row acts k k (record t { mark = s.clock }) (t.next + 1) row s.entities (record { next = refl; mark = λ clock mark. clock }) (λ q. refl) (at_first _ []) may (balanced-nothing p n row s.entities)) Done))
   safe_mark (Some q) row acts =
       let may = first_may_be_entered p t.next _ [] acts.kinds.exits in
-      safe_leads p (Enters p k s n) (t.next + 1) _ may
-      (with_assigned (blocks.Mark (Some q)) row (with_parameter q row) acts q s.clock (t.next + 1) (at_first _ []) may (λ r. set_or_same q r row) refl refl)
+      safe_leads p (Enters p k s n) (t.next + 1) _ may (sets (blocks.Mark (Some q)) row acts q Num s.clock (t.next + 1) (at_first _ []) may tt)
+
+  -- SUBROUTINES
+
+  pub safe_call : (c : Call) (row : Row) → Acts p s n t (blocks.TransferToSubroutine c) row → Safe (Enters p k s n) (call p.blocks n t c s)
+  safe_call c row acts =
+      let may = first_may_be_entered p t.next _ [] acts.kinds.exits in
+      safe_leads p (Enters p k s n) c.target _ may
+      (sets (blocks.TransferToSubroutine c) row acts c.parameter (Ret (t.next ∷ [])) (pos t.next) c.target (at_first _ []) may (t.next, or_left (t.next == t.next) false (eq-eqb t.next t.next refl), refl))
+
+  -- its parameter holds a return, and it goes along the edge of that one
+  pub safe_come_back : All (ReturnsHold p) p.returns → (q : ℕ) (row : Row) → Acts p s n t (blocks.TransferByParameter q) row → Safe (Enters p k s n) (come_back p.blocks n t q s)
+  safe_come_back each_return q row acts =
+      let block : Block = blocks.TransferByParameter q in
+      let kind = return_is p (own_table p) t.next q row acts.flow in
+      let held = value_returns kind.0 (parameter_at n q s.transactions) (known_value block row acts q (Ret kind.0) kind.1) in
+      let along : Contains (edges p (own_table p) t.next block row) (move (held.0 + 1) row) = subst (λ (o : Option ParamKind). Contains (edges_along t.next (map returns_to (return_blocks o)) row) (move (held.0 + 1) row)) (sym kind.1) (returns_along held.0 t.next row kind.0 held.1) in
+      safe_found (Enters p k s n) (parameter_at n q s.transactions) UnsetParam (pos held.0) _ held.2
+      (subst (λ to. Safe (Enters p k s n) (transfer p.blocks n t to s)) (sym (after_it held.0))
+      (goes_to block row acts (held.0 + 1) along (may_come_back p each_block each_return t.next q held.0 row kind.0 acts.is.row_is kind.1 held.1)))
 
   -- LOGIC SWITCHES AND SAVEVALUES
 
@@ -342,7 +390,7 @@ module _ (p : Parts) (each_block : (b : ℕ) (block : Block) → block_at p.bloc
       let may = first_may_be_entered p t.next _ [] acts.kinds.exits in
       let below = named_below p.entities (needs needed.Switch l.switch) [] acts.kinds.entities in
       safe_leads p (Enters p k s n) (t.next + 1) _ may
-      (just_goes p s n t (blocks.Logic l) row acts k (t.next + 1) row (put_switch l.switch (turned l.action (switch l.switch s)) s).entities (λ q. inl refl) (at_first _ []) may
+      (just_goes p s n t (blocks.Logic l) row acts k (t.next + 1) row (put_switch l.switch (turned l.action (switch l.switch s)) s).entities (λ q. refl) (at_first _ []) may
       (balanced-switch p n l.switch (turned l.action (switch l.switch s)) row s.entities below))
 
   pub safe_save : (a : Save) (value : ℤ) (row : Row) → Acts p s n t (blocks.Savevalue a) row → Safe (Enters p k s n) (save p.blocks n t a value s)
@@ -352,7 +400,7 @@ module _ (p : Parts) (each_block : (b : ℕ) (block : Block) → block_at p.bloc
       safe_bind Any (Enters p k s n) (evaluated (answered (put_by a.mode (savevalue a.savevalue s) value))) _ (safe_answered _)
       (λ new _.
       safe_leads p (Enters p k s n) (t.next + 1) _ may
-      (just_goes p s n t (blocks.Savevalue a) row acts k (t.next + 1) row (put_savevalue a.savevalue new s).entities (λ q. inl refl) (at_first _ []) may (balanced-savevalue p n a.savevalue new row s.entities below)))
+      (just_goes p s n t (blocks.Savevalue a) row acts k (t.next + 1) row (put_savevalue a.savevalue new s).entities (λ q. refl) (at_first _ []) may (balanced-savevalue p n a.savevalue new row s.entities below)))
 
   -- TERMINATE
 

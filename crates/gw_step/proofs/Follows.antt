@@ -4,9 +4,9 @@ use Rattle.std.proofs.lemmas.Int.{ints}
 use Rattle.std.proofs.lemmas.List.{length-map}
 use Rattle.std.specs.Prelude.{sum, int_lt, unsigned_abs}
 use Rattle.std.proofs.lemmas.Bool.{eqb-true}
-use Rattle.gw_object.specs.declared.parts.Units.{Units}
-use Rattle.gw_object.specs.declared.parts.Block.{Block}
-use Rattle.gw_object.specs.declared.parts.Block.TheVariants as blocks
+use Rattle.gw_blocks.specs.declared.parts.Units.{Units}
+use Rattle.gw_blocks.specs.declared.parts.Block.{Block}
+use Rattle.gw_blocks.specs.declared.parts.Block.TheVariants as blocks
 use Rattle.gw_kinds.specs.Kinds.{block_at}
 use Rattle.gw_num.specs.declared.arithmetic.NumFault.TheVariants as faults
 use Rattle.gw_num.specs.Arithmetic.{fits_i64, sum_of}

@@ -1,6 +1,6 @@
 -- What a step counts, and what named ends leave.
 use Rattle.std.proofs.Common.{◌≡◌, ◌≢◌, ℕ, ◌+◌, List, Option, Some, None, refl, sym, ap, ◌∙◌, subst}
-use Rattle.gw_object.specs.declared.parts.Block.{Block}
+use Rattle.gw_blocks.specs.declared.parts.Block.{Block}
 use Rattle.gw_step.specs.declared.ends.End.{End}
 use Rattle.gw_step.specs.declared.ends.End.TheVariants.{Done, Budget}
 use Rattle.gw_step.specs.Outcome.{Outcome, Gives, EndsBy, StopsBy}

@@ -18,6 +18,7 @@ pub mod Unstopped
 pub mod Drawn
 pub mod Moving
 pub mod Calling
+pub mod Returns
 pub mod Effects
 pub mod Arriving
 pub mod Safe

@@ -1,9 +1,8 @@
 -- The active transaction at its block, and where it goes.
-use Rattle.std.proofs.Common.{◌≡◌, ◌⊎◌, ℕ, suc, ◌≤◌, ℤ, List, [], ◌∷◌, Option, Some, None, Bool, true, false, not, option_map, refl, ap, ◌∙◌, subst, arith, inl, inr, IsSome}
-use Rattle.std.specs.Option.{option_map_or}
+use Rattle.std.proofs.Common.{◌≡◌, ◌≢◌, ℕ, suc, ◌≤◌, ℤ, List, [], ◌∷◌, Option, Some, None, Bool, true, false, not, refl, sym, ap, ◌∙◌, subst, arith}
 use Rattle.std.specs.Prelude.{IsSomeAnd, Contains, All}
 use Rattle.std.proofs.lemmas.List.Elements.{All-head}
-use Rattle.gw_object.specs.declared.parts.Block.{Block}
+use Rattle.gw_blocks.specs.declared.parts.Block.{Block}
 use Rattle.gw_object.specs.declared.parts.Parts.{Parts}
 use Rattle.gw_kinds.specs.Kinds.{block_at, is_generate}
 use Rattle.gw_kinds.specs.Laws.{MayBeEntered, BlockHolds}
@@ -11,12 +10,10 @@ use Rattle.gw_flow.specs.Rows.{Row, kind_of, owns}
 use Rattle.gw_flow.specs.Blocks.{Rule, own_rules, move, edges}
 use Rattle.gw_flow.proofs.Parameters.{own_rules_hold}
 use Rattle.gw_flow.specs.Flow.{own_table}
-use Rattle.gw_flow.specs.Laws.{MayPass, FlowHolds}
-use Rattle.gw_num.specs.Table.{at, put}
-use Rattle.gw_num.proofs.Tables.{at-put}
+use Rattle.gw_flow.specs.Laws.{MayPass}
+use Rattle.gw_num.specs.Table.{at}
+use Rattle.gw_num.proofs.Tables.{by_entry}
 use Rattle.gw_transactions.specs.declared.Transaction.{Transaction}
-use Rattle.gw_transactions.specs.Parameters.{no_parameters}
-use Rattle.gw_transactions.specs.Transactions.{LiveTransaction, with_parameter}
 use Rattle.gw_entities.specs.declared.stop.Stop.TheVariants.{NoBlock}
 use Rattle.gw_entities.specs.Facility.{idle, is_owned_by}
 use Rattle.gw_step.specs.declared.placement.Placement.{Placement}
@@ -27,10 +24,9 @@ use Rattle.gw_step.specs.State.{EntityStates, State, may_enter}
 use Rattle.gw_step.specs.Changes.{entered, assigned}
 use Rattle.gw_step.specs.Times.{parameters_of}
 use Rattle.gw_step.specs.Blocks.{leads, then_placed}
-use Rattle.gw_step.specs.Typing.{AreSet, lists_facility, WellTyped}
+use Rattle.gw_step.specs.Typing.{IsAsKnown, lists_facility, WellTyped}
 use Rattle.gw_step.proofs.Agreeing.{Balanced}
-use Rattle.gw_step.proofs.Traces.{IsAt, Becomes, its_parameters, present, Rested, credited, Change, Assigns, Goes, change-keeps, Trace, Done, Then, trace_on, placed_traced, its_row}
-use Rattle.gw_step.proofs.Attributes.{attributes-parameter}
+use Rattle.gw_step.proofs.Traces.{IsAt, Becomes, its_parameters, present, Rested, credited, Change, Goes, GoesWith, Trace, Done, Then, trace_on, placed_traced, its_row}
 use Rattle.gw_step.proofs.Unstopped.{Safe, safe_bind, safe_test}
 
 -- the active transaction of a well-typed state is at a block, in a row, and what kinds and flow say of the two
@@ -40,23 +36,6 @@ pub record Acts (p : Parts) (s : State) (n : ℕ) (t : Transaction) (block : Blo
   pub is : IsAt p s.transactions n t block row
   pub kinds : BlockHolds p t.next block
   pub flow : MayPass p (own_table p) t.next block row
-
--- a parameter of it is set: all else stays as it was
-pub assigned_acts : (p : Parts) (flow : FlowHolds p (own_table p)) (s : State) (n : ℕ) (t : Transaction) (block : Block) (row : Row) (q : ℕ) (value : ℤ) → Acts p s n t block row → (b : LiveTransaction) → at None s.transactions n ≡ Some b → Acts p (assigned n q value s) n t block row
-assigned_acts p flow s n t block row q value acts b found =
-    let change : Change p 0 0 s 0 0 (assigned n q value s) = Assigns n q value b found (present s.lists n acts.active) in
-    record {
-      typed = change-keeps p flow change acts.typed;
-      active = acts.active;
-      is = record { found = attributes-parameter s.transactions n q value ∙ acts.is.found; block_is = acts.is.block_is; row_is = acts.is.row_is };
-      kinds = acts.kinds;
-      flow = acts.flow;
-    }
-
--- the parameter is what it was set to
-pub parameters-assigned : (s : State) (n q : ℕ) (value : ℤ) (b : LiveTransaction) → at None s.transactions n ≡ Some b → parameters_of n (assigned n q value s) ≡ put None b.parameters q (Some value)
-parameters-assigned s n q value b found =
-    ap (λ o. option_map_or (λ (t : LiveTransaction). t.parameters) o no_parameters) (at-put None s.transactions n _ ∙ ap (option_map (with_parameter q value)) found)
 
 -- a block to which a transaction may go on may be entered
 enterable : (o : Option Block) → IsSomeAnd o (λ block. is_generate (Some block) ≡ false) → may_enter o ≡ true
@@ -120,24 +99,28 @@ refused p k s n placement may few = record { entries = credited placement k; arr
 pub unchanged : (s : State) (t : Transaction) → Becomes s t t
 unchanged s t = record { next = refl; mark = λ clock mark. mark }
 
--- what a state knows of each parameter the row knows too, or the parameter is set
-abbrev pub Knows : ℕ → State → Row → Row → Type 0
-Knows n s row state = (q : ℕ) → (kind_of state q ≡ kind_of row q) ⊎ IsSome (at None (parameters_of n s) q)
+-- a state knows of each parameter what a row knows of it
+abbrev pub Knows : Row → Row → Type 0
+Knows row state = (q : ℕ) → kind_of state q ≡ kind_of row q
 
 module _ (p : Parts) (s : State) (n : ℕ) (t : Transaction) (block : Block) (row : Row) (acts : Acts p s n t block row) where
-  all_set : (state : Row) → Knows n s row state → AreSet (Some state) (parameters_of n s)
-  all_set state known q some = elim (known q) [
-    | inl same ↦ its_parameters p s acts.typed n t block row acts.is q (subst IsSome same some)
-    | inr set ↦ set
-  ]
+  -- a parameter is what a state knows it to be, where its row knows the same
+  as_before : (state : Row) (q : ℕ) → kind_of state q ≡ kind_of row q → IsAsKnown (kind_of state q) (at None (parameters_of n s) q)
+  as_before state q same = subst (λ kind. IsAsKnown kind (at None (parameters_of n s) q)) (sym same) (its_parameters p s acts.typed n t block row acts.is q)
 
   -- it goes along an edge
-  pub goes : (en ar : ℕ) (u : Transaction) (to : ℕ) (state : Row) (h : EntityStates) → Becomes s t u → Knows n s row state → Contains (edges p (own_table p) t.next block row) (move to state) → MayBeEntered p to → Balanced p n (Some row) (Some state) s.entities h
+  pub goes : (en ar : ℕ) (u : Transaction) (to : ℕ) (state : Row) (h : EntityStates) → Becomes s t u → Knows row state → Contains (edges p (own_table p) t.next block row) (move to state) → MayBeEntered p to → Balanced p n (Some row) (Some state) s.entities h
       → Change p en ar s (suc en) ar (record (entered n u to s) { entities = h })
-  goes en ar u to state h same known along may balance = Goes n to t u block row state h acts.is same (present s.lists n acts.active) (all_set state known) along may balance
+  goes en ar u to state h same known along may balance = Goes n to t u block row state h acts.is same (present s.lists n acts.active) (λ q. as_before state q (known q)) along may balance
+
+  -- it goes along an edge with a parameter that is set: of this one the edge's state knows what it is set to, and of each other one what the row knows of it
+  pub goes_with : (en ar : ℕ) (to : ℕ) (state : Row) (q : ℕ) (value : ℤ) → IsAsKnown (kind_of state q) (Some value) → ((r : ℕ) → r ≢ q → kind_of state r ≡ kind_of row r) → Contains (edges p (own_table p) t.next block row) (move to state) → MayBeEntered p to
+      → Balanced p n (Some row) (Some state) s.entities s.entities → Change p en ar s (suc en) ar (entered n t to (assigned n q value s))
+  goes_with en ar to state q value here others along may balance =
+      GoesWith n to q value t block row state acts.is (present s.lists n acts.active) (by_entry None (parameters_of n s) q (Some value) (λ r v. IsAsKnown (kind_of state r) v) here (λ r other. as_before state r (others r other))) along may balance
 
   -- and stays active, and nothing else happens
-  pub just_goes : (k : ℕ) (to : ℕ) (state : Row) (h : EntityStates) → Knows n s row state → Contains (edges p (own_table p) t.next block row) (move to state) → MayBeEntered p to → Balanced p n (Some row) (Some state) s.entities h
+  pub just_goes : (k : ℕ) (to : ℕ) (state : Row) (h : EntityStates) → Knows row state → Contains (edges p (own_table p) t.next block row) (move to state) → MayBeEntered p to → Balanced p n (Some row) (Some state) s.entities h
       → Enters p k s n (record (entered n t to s) { entities = h }, StaysActive)
   just_goes k to state h known along may balance = entered_once p k s n _ (Then (goes k k t to state h (unchanged s t) known along may balance) Done)
 

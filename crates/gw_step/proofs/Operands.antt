@@ -5,15 +5,15 @@ use Rattle.std.specs.Prelude.{slice_get, All, IfSome, IsTrue, int_le, nat_le, na
 use Rattle.std.specs.List.{cons_option, AllByRecursion}
 use Rattle.std.proofs.lemmas.Bool.{leb-true, and_parts}
 use Rattle.std.proofs.lemmas.Int.{ints}
-use Rattle.gw_object.specs.declared.parts.Units.{Units}
-use Rattle.gw_object.specs.declared.parts.Block.{Block}
-use Rattle.gw_object.specs.declared.parts.Block.TheVariants as blocks
+use Rattle.gw_blocks.specs.declared.parts.Units.{Units}
+use Rattle.gw_blocks.specs.declared.parts.Block.{Block}
+use Rattle.gw_blocks.specs.declared.parts.Block.TheVariants as blocks
 use Rattle.gw_object.specs.declared.parts.Parts.{Parts}
 use Rattle.gw_object.specs.declared.parts.Entity.{Entity}
-use Rattle.gw_object.specs.declared.parts.Operand.{Operand}
-use Rattle.gw_object.specs.declared.parts.Operand.TheVariants as forms
-use Rattle.gw_object.specs.declared.parts.Spread.{Spread}
-use Rattle.gw_object.specs.Grammar as Spelled
+use Rattle.gw_blocks.specs.declared.parts.Operand.{Operand}
+use Rattle.gw_blocks.specs.declared.parts.Operand.TheVariants as forms
+use Rattle.gw_blocks.specs.declared.parts.Spread.{Spread}
+use Rattle.gw_blocks.specs.Grammar as Spelled
 use Rattle.gw_object.specs.Grammar.{HasSpelling}
 use Rattle.gw_kinds.specs.declared.entities.EntityKind.{EntityKind}
 use Rattle.gw_kinds.specs.declared.entities.EntityKind.TheVariants.{Facility, Storage, Queue, Switch, Savevalue}
@@ -76,6 +76,8 @@ operands_fit p b (blocks.Test test) h spelled =
 operands_fit p b (blocks.Gate gate) h spelled = named_below p.entities (needs (needed_by gate.condition) gate.entity) [] h.entities
 operands_fit p b (blocks.Transfer target) h spelled = tt
 operands_fit p b (blocks.TransferByFraction f) h spelled = tt
+operands_fit p b (blocks.TransferToSubroutine c) h spelled = spelled.parameter
+operands_fit p b (blocks.TransferByParameter q) h spelled = spelled
 operands_fit p b (blocks.Loop l) h spelled = spelled.parameter
 operands_fit p b (blocks.Logic l) h spelled = named_below p.entities (needs Switch l.switch) [] h.entities
 operands_fit p b (blocks.Savevalue a) h spelled =
@@ -98,7 +100,7 @@ block_spelled bs (suc i) block is h = at_place bs i is h
 pub blocks_fit : (p : Parts) → Checked p → HasSpelling p → BlocksFit (length p.entities) p.blocks
 blocks_fit p checked spelled = record {
   few = spelled.limits.blocks;
-  operands = λ b block is. operands_fit p b block (((kinds_pass_at_each_place p).0 (kinds_pass p checked)).1 b block is) (block_spelled p.blocks b block is spelled.limits.each_block);
+  operands = λ b block is. operands_fit p b block (((kinds_pass_at_each_place p).0 (kinds_pass p checked)).2 b block is) (block_spelled p.blocks b block is spelled.limits.each_block);
 }
 
 -- what holds of the block at each place holds of each block

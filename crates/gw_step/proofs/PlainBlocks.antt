@@ -1,9 +1,9 @@
 -- The blocks at which a transaction may arrive or wait: GENERATE, SEIZE and ENTER; and all others.
 use Rattle.std.proofs.Common.{◌≡◌, ℕ, Some, None, false, refl}
-use Rattle.gw_object.specs.declared.parts.Generate.{Generate}
-use Rattle.gw_object.specs.declared.parts.Units.{Units}
-use Rattle.gw_object.specs.declared.parts.Block.{Block}
-use Rattle.gw_object.specs.declared.parts.Block.TheVariants as blocks
+use Rattle.gw_blocks.specs.declared.parts.Generate.{Generate}
+use Rattle.gw_blocks.specs.declared.parts.Units.{Units}
+use Rattle.gw_blocks.specs.declared.parts.Block.{Block}
+use Rattle.gw_blocks.specs.declared.parts.Block.TheVariants as blocks
 use Rattle.gw_kinds.specs.Kinds.{is_generate}
 use Rattle.gw_step.specs.Outcome.{Gives}
 use Rattle.gw_step.specs.State.{State}
@@ -33,6 +33,8 @@ by_block P generate seize enter plain (blocks.Test test) = plain (blocks.Test te
 by_block P generate seize enter plain (blocks.Gate gate) = plain (blocks.Gate gate) (record { seizes = λ _. refl; asks = λ _. refl; arrives = λ _ _. refl; generates = refl })
 by_block P generate seize enter plain (blocks.Transfer target) = plain (blocks.Transfer target) (record { seizes = λ _. refl; asks = λ _. refl; arrives = λ _ _. refl; generates = refl })
 by_block P generate seize enter plain (blocks.TransferByFraction f) = plain (blocks.TransferByFraction f) (record { seizes = λ _. refl; asks = λ _. refl; arrives = λ _ _. refl; generates = refl })
+by_block P generate seize enter plain (blocks.TransferToSubroutine c) = plain (blocks.TransferToSubroutine c) (record { seizes = λ _. refl; asks = λ _. refl; arrives = λ _ _. refl; generates = refl })
+by_block P generate seize enter plain (blocks.TransferByParameter q) = plain (blocks.TransferByParameter q) (record { seizes = λ _. refl; asks = λ _. refl; arrives = λ _ _. refl; generates = refl })
 by_block P generate seize enter plain (blocks.Loop l) = plain (blocks.Loop l) (record { seizes = λ _. refl; asks = λ _. refl; arrives = λ _ _. refl; generates = refl })
 by_block P generate seize enter plain (blocks.Logic l) = plain (blocks.Logic l) (record { seizes = λ _. refl; asks = λ _. refl; arrives = λ _ _. refl; generates = refl })
 by_block P generate seize enter plain (blocks.Savevalue a) = plain (blocks.Savevalue a) (record { seizes = λ _. refl; asks = λ _. refl; arrives = λ _ _. refl; generates = refl })

@@ -8,9 +8,9 @@ use Rattle.std.specs.List.{AllByRecursion}
 use Rattle.std.proofs.lemmas.Bool.{and_parts, ltb-true}
 use Rattle.std.proofs.lemmas.List.{length-map, length-replicate}
 use Rattle.std.proofs.lemmas.Int.{ints}
-use Rattle.gw_object.specs.declared.parts.Generate.{Generate}
-use Rattle.gw_object.specs.declared.parts.Block.{Block}
-use Rattle.gw_object.specs.declared.parts.Block.TheVariants as blocks
+use Rattle.gw_blocks.specs.declared.parts.Generate.{Generate}
+use Rattle.gw_blocks.specs.declared.parts.Block.{Block}
+use Rattle.gw_blocks.specs.declared.parts.Block.TheVariants as blocks
 use Rattle.gw_object.specs.declared.parts.Entity.{Entity}
 use Rattle.gw_num.specs.Table.{at}
 use Rattle.gw_num.proofs.Tables.{sum_by-replicate, length-put_next, by_entry, at-replicate}

@@ -1,6 +1,6 @@
 -- Each job comes to a named end or to an error stop within its budget.
 use Rattle.std.proofs.Common.{◌≡◌, ◌≢◌, ◌+◌, ℕ, ℤ, zero, suc, List, [], ◌∷◌, Option, Some, None, is_some, inl, inr, arith, refl, sym, ap, subst, ◌∙◌}
-use Rattle.gw_object.specs.declared.parts.Block.{Block}
+use Rattle.gw_blocks.specs.declared.parts.Block.{Block}
 use Rattle.gw_entities.specs.declared.stop.Stop.{Stop}
 use Rattle.gw_step.specs.Outcome.{Outcome, Gives, EndsBy, StopsBy, ◌>>=◌, stop_in}
 use Rattle.gw_step.specs.State.{State, with_streams}

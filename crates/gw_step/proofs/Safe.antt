@@ -1,13 +1,13 @@
 -- Typed states never get stuck.
 use Rattle.std.proofs.Common.{◌≡◌, ℕ, zero, suc, ◌+◌, ◌≤◌, ℤ, List, [], ◌∷◌, Option, Some, None, Bool, true, false, is_some, is_none, if◌then◌else◌, ◌==◌, ◌&&◌, refl, sym, ap, ◌∙◌, subst, arith, ⊎_elim}
-use Rattle.std.specs.Prelude.{IfSome}
-use Rattle.gw_object.specs.declared.parts.Block.{Block}
-use Rattle.gw_object.specs.declared.parts.Block.TheVariants as blocks
+use Rattle.std.specs.Prelude.{All, IfSome, IsSome}
+use Rattle.gw_blocks.specs.declared.parts.Block.{Block}
+use Rattle.gw_blocks.specs.declared.parts.Block.TheVariants as blocks
 use Rattle.gw_object.specs.declared.parts.Parts.{Parts}
 use Rattle.gw_kinds.specs.Kinds.{block_at, values}
-use Rattle.gw_kinds.specs.Laws.{BlockHolds}
+use Rattle.gw_kinds.specs.Laws.{ReturnsHold, BlockHolds}
 use Rattle.gw_kinds.proofs.KindsHold.{kinds_pass_at_each_place}
-use Rattle.gw_flow.specs.Rows.{Row}
+use Rattle.gw_flow.specs.Rows.{ParamKind, Num, Row, kind_of}
 use Rattle.gw_flow.specs.Flow.{own_table}
 use Rattle.gw_flow.specs.Laws.{FlowHolds}
 use Rattle.gw_flow.proofs.Passing.{flow_passes_at_each_block}
@@ -21,7 +21,7 @@ use Rattle.gw_step.specs.declared.ends.End.TheVariants.{Budget}
 use Rattle.gw_step.specs.Outcome.{Outcome, Gives, EndsBy, StopsBy, evaluated}
 use Rattle.gw_step.specs.State.{FutureEvent, State, with_streams}
 use Rattle.gw_flow.specs.Values.{operands}
-use Rattle.gw_step.specs.Times.{environment_of}
+use Rattle.gw_step.specs.Times.{environment_of, parameters_of}
 use Rattle.gw_flow.proofs.Parameters.{values_are_numbers}
 use Rattle.gw_step.specs.Changes.{woken, clock_moves}
 use Rattle.gw_step.specs.Blocks.{the_value, effect, meets, act}
@@ -31,14 +31,14 @@ use Rattle.gw_step.specs.Job.{Job, Step, then_step, after, start_of}
 use Rattle.gw_step.proofs.Outcomes.{choose}
 use Rattle.gw_step.proofs.Rests.{all_come_to_rest}
 use Rattle.gw_step.proofs.Residence.{one_if, at_most_one, same_number}
-use Rattle.gw_step.specs.Typing.{IsPlaced, WellTyped, AreWithinCapacity}
+use Rattle.gw_step.specs.Typing.{IsAsKnown, IsPlaced, WellTyped, AreWithinCapacity}
 use Rattle.gw_step.specs.Safety.{RetryingResideOnce, StartIsWellTyped, StepsKeepTypes, WellTypedStatesStep, ReachedStatesAreWellTyped, NoJobIsStuck, AllJobsEnd, StoragesKeepTheirCapacity}
 use Rattle.gw_step.proofs.Traces.{its_parameters, Activates, ClockMoves, Woken, Draws, Marks, Change, Trace, Done, Then, trace_on, trace-keeps, trace-fills}
 use Rattle.gw_step.proofs.Unstopped.{Safe, safe_bind, safe_then, safe_found}
 use Rattle.gw_step.proofs.Drawn.{Read, AreRead, safe_operands}
 use Rattle.gw_step.proofs.Moving.{Acts, Reaches, safe_placed}
 use Rattle.gw_step.proofs.Calling.{some_of, is_at}
-use Rattle.gw_step.proofs.Effects.{safe_comparison, safe_gate, safe_advance, safe_seize, safe_release, safe_enter, safe_leave, safe_join, safe_depart, safe_assign, safe_transfer, safe_fraction, safe_loop, safe_logic, safe_save, safe_mark, safe_terminate}
+use Rattle.gw_step.proofs.Effects.{value_is_set, safe_call, safe_come_back, safe_comparison, safe_gate, safe_advance, safe_seize, safe_release, safe_enter, safe_leave, safe_join, safe_depart, safe_assign, safe_transfer, safe_fraction, safe_loop, safe_logic, safe_save, safe_mark, safe_terminate}
 use Rattle.gw_step.proofs.Arriving.{safe_generate, start_typed}
 use Rattle.gw_step.proofs.Attributes.{attributes_of}
 
@@ -48,7 +48,7 @@ live : (o : Option LiveTransaction) → 1 ≤ one_if (is_some o) → is_some o �
 live None h = absurd (omega (arith, h))
 live (Some t) h = refl
 
-module _ (p : Parts) (each_block : (b : ℕ) (block : Block) → block_at p.blocks b ≡ Some block → BlockHolds p b block) (flow : FlowHolds p (own_table p)) (k : ℕ) where
+module _ (p : Parts) (each_return : All (ReturnsHold p) p.returns) (each_block : (b : ℕ) (block : Block) → block_at p.blocks b ≡ Some block → BlockHolds p b block) (flow : FlowHolds p (own_table p)) (k : ℕ) where
   -- the one walk over the blocks
   safe_meets : (s : State) (n : ℕ) (t : Transaction) (block : Block) (values : List ℤ) (row : Row) → Acts p s n t block row → Safe (Reaches p k s) (meets p.blocks n t block values s)
   unfolding effect
@@ -66,15 +66,21 @@ module _ (p : Parts) (each_block : (b : ℕ) (block : Block) → block_at p.bloc
   safe_meets s n t (blocks.Assign a) values row acts = safe_placed p k s n _ (safe_assign p each_block flow s n t k a (the_value values) row acts)
   safe_meets s n t (blocks.Transfer target) values row acts = safe_placed p k s n _ (safe_transfer p each_block flow s n t k target row acts)
   safe_meets s n t (blocks.TransferByFraction f) values row acts = safe_placed p k s n _ (safe_fraction p each_block flow s n t k f (the_value values) row acts)
+  safe_meets s n t (blocks.TransferToSubroutine c) values row acts = safe_placed p k s n _ (safe_call p each_block flow s n t k c row acts)
+  safe_meets s n t (blocks.TransferByParameter q) values row acts = safe_placed p k s n _ (safe_come_back p each_block flow s n t k each_return q row acts)
   safe_meets s n t (blocks.Loop l) values row acts = safe_placed p k s n _ (safe_loop p each_block flow s n t k l row acts)
   safe_meets s n t (blocks.Logic l) values row acts = safe_placed p k s n _ (safe_logic p each_block flow s n t k l row acts)
   safe_meets s n t (blocks.Savevalue a) values row acts = safe_placed p k s n _ (safe_save p each_block flow s n t k a (the_value values) row acts)
   safe_meets s n t (blocks.Mark q) values row acts = safe_placed p k s n _ (safe_mark p each_block flow s n t k q row acts)
 
+  -- a parameter that is known to be a number is set
+  is_set : (kind : Option ParamKind) (value : Option ℤ) → kind ≡ Some Num → IsAsKnown kind value → IsSome value
+  is_set kind value number is = value_is_set Num value (subst (λ k. IsAsKnown k value) number is)
+
   -- the parameters that the values of its block read are set
   are_read : (s : State) (n : ℕ) (t : Transaction) (block : Block) (row : Row) → Acts p s n t block row → AreRead (environment_of n t s) (values block)
   are_read s n t block row acts i d within q is =
-      its_parameters p s acts.typed n t block row acts.is q (ap is_some (values_are_numbers p (own_table p) t.next block row acts.flow i d within q is))
+      is_set (kind_of row q) (at None (parameters_of n s) q) (values_are_numbers p (own_table p) t.next block row acts.flow i d within q is) (its_parameters p s acts.typed n t block row acts.is q)
 
   safe_act : (s : State) (n : ℕ) (t : Transaction) (block : Block) (row : Row) → Acts p s n t block row → Safe (Reaches p k s) (act p.blocks n t block s)
   unfolding act
@@ -158,7 +164,10 @@ module _ (p : Parts) (each_block : (b : ℕ) (block : Block) → block_at p.bloc
 -- THE LAWS
 
 pub kinds_of : (p : Parts) → Checked p → (b : ℕ) (block : Block) → block_at p.blocks b ≡ Some block → BlockHolds p b block
-kinds_of p checked = ((kinds_pass_at_each_place p).0 (kinds_pass p checked)).1
+kinds_of p checked = ((kinds_pass_at_each_place p).0 (kinds_pass p checked)).2
+
+pub returns_of : (p : Parts) → Checked p → All (ReturnsHold p) p.returns
+returns_of p checked = ((kinds_pass_at_each_place p).0 (kinds_pass p checked)).0
 
 pub flow_of : (p : Parts) → Checked p → FlowHolds p (own_table p)
 flow_of p checked = (flow_passes_at_each_block p (own_table p)).0 (flow_passes p checked)
@@ -168,13 +177,13 @@ start_is_well_typed j checked = (start_typed j.parts (flow_of j.parts checked) j
 
 -- a step, from so many entries and arrivals
 pub reached_in_step : (j : Job) (k : ℕ) (s t : State) → Checked j.parts → WellTyped j.parts s → Step j s t → Reaches j.parts k s t
-reached_in_step j k s t checked ty is = step_traced j.parts (kinds_of j.parts checked) (flow_of j.parts checked) k j.budget s t ty is
+reached_in_step j k s t checked ty is = step_traced j.parts (returns_of j.parts checked) (kinds_of j.parts checked) (flow_of j.parts checked) k j.budget s t ty is
 
 pub steps_keep_types : StepsKeepTypes
 steps_keep_types j s t checked ty is = trace-keeps j.parts (flow_of j.parts checked) (reached_in_step j 0 s t checked ty is).trace ty
 
 pub well_typed_states_step : WellTypedStatesStep
-well_typed_states_step j s checked ty runs = step_leads j.parts (kinds_of j.parts checked) (flow_of j.parts checked) 0 j.budget s ty runs
+well_typed_states_step j s checked ty runs = step_leads j.parts (returns_of j.parts checked) (kinds_of j.parts checked) (flow_of j.parts checked) 0 j.budget s ty runs
 
 -- what a reached state is
 record IsKept (p : Parts) (s : State) : Type 0 where

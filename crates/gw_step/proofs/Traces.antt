@@ -6,11 +6,11 @@ use Rattle.std.specs.Prelude.{IsSomeAnd, Contains, unsigned_abs, sum_by, IfSome,
 use Rattle.std.specs.Option.{option_map_or}
 use Rattle.std.proofs.lemmas.Bool.{cases_eq, ltb-true, eqb-true, false≢true, and_parts}
 use Rattle.std.proofs.lemmas.List.Elements.{All-contains}
-use Rattle.gw_object.specs.declared.parts.Generate.{Generate}
+use Rattle.gw_blocks.specs.declared.parts.Generate.{Generate}
 use Rattle.gw_object.specs.declared.parts.Kind.{Kind}
 use Rattle.gw_object.specs.declared.parts.Kind.TheVariants as kinds
-use Rattle.gw_object.specs.declared.parts.Block.{Block}
-use Rattle.gw_object.specs.declared.parts.Block.TheVariants as blocks
+use Rattle.gw_blocks.specs.declared.parts.Block.{Block}
+use Rattle.gw_blocks.specs.declared.parts.Block.TheVariants as blocks
 use Rattle.gw_object.specs.declared.parts.Parts.{Parts}
 use Rattle.gw_kinds.specs.Kinds.{kind_at, block_at, is_generate}
 use Rattle.gw_kinds.specs.Laws.{MayBeEntered}
@@ -19,8 +19,9 @@ use Rattle.gw_flow.specs.Rows.{ParamKind, Num, Ret, Row, is_empty, kind_of, kind
 use Rattle.gw_flow.specs.Blocks.{move, edges}
 use Rattle.gw_flow.specs.Flow.{own_table, own_row}
 use Rattle.gw_flow.specs.Laws.{MayPass, FlowHolds}
+use Rattle.gw_flow.proofs.Fitting.{included}
 use Rattle.gw_num.specs.Table.{at, put}
-use Rattle.gw_num.proofs.Tables.{at-map, at_some, by_entry, at_past, count_by-put}
+use Rattle.gw_num.proofs.Tables.{at-map, at_some, at-put, put-put, by_entry, at_past, count_by-put}
 use Rattle.gw_chains.specs.Chain.{behind}
 use Rattle.gw_transactions.specs.declared.Transaction.{Transaction}
 use Rattle.gw_entities.specs.declared.facilities.Facility.{Facility}
@@ -36,18 +37,18 @@ use Rattle.gw_step.specs.Placing.{placed_at, placed}
 use Rattle.gw_step.specs.Numbers.{IsWithin, AreWithinLimits, AreFewLive}
 use Rattle.gw_step.specs.State.{FutureEvent, Lists, EntityStates, State, with_streams, priority_of, delay_list, without, raised}
 use Rattle.gw_step.specs.Changes.{newcomer, entered, assigned, destroyed, arrives, rests_until, waits_for, retries, called_from, woken, counted, time_passes, clock_moves}
-use Rattle.gw_step.specs.Residence.{occurrences, active_numbers, occurrences_in}
+use Rattle.gw_step.specs.Residence.{EachResidesOnce, occurrences, active_numbers, occurrences_in}
 use Rattle.gw_step.proofs.Residence.{one_if, at_most_one, same_number, other_number, occurrences-one, occurrences-joined, occurrences-without, resides-entered, resides-assigned, resides-destroyed, resides-rests, resides-arrives, resides-active, resides-clock, resides-waits, resides-called, resides-retries, resides-woken}
 use Rattle.gw_step.proofs.Within.{raises-same, mark_from, within-entered, within-assigned, within-destroyed, within-retries, within-woken, within-counted, within-arrives, within-rests, within-streams, within-waits, within-called, within-active, within-ended}
 use Rattle.gw_step.proofs.Follows.{block_below, within-clock, at-map_same, nothing-after}
 use Rattle.gw_step.specs.Places.{place, row_of}
 use Rattle.gw_step.specs.Times.{parameters_of}
 use Rattle.gw_transactions.specs.Parameters.{no_parameters}
-use Rattle.gw_step.specs.Typing.{AreSet, IsPlaced, promised_units, content_of, WaitsFor, Agree, WellTyped, AreWithinCapacity}
+use Rattle.gw_step.specs.Typing.{IsAsKnown, AreAsKnown, IsPlaced, promised_units, content_of, WaitsFor, Agree, WellTyped, AreWithinCapacity}
 use Rattle.gw_step.proofs.Owning.{lists-none}
 use Rattle.gw_step.proofs.Agreeing.{AreWhole, Balanced, agree-written, agree-moved, agree-apart}
-use Rattle.gw_step.proofs.Attributes.{bearer_at, number_below, is_some-attributes, is_some-parameter}
-use Rattle.gw_step.proofs.Balances.{balanced-nothing, balanced-same, balanced-fits, balanced-end, balanced-arrival}
+use Rattle.gw_step.proofs.Attributes.{bearer_at, number_below, attributes-parameter, is_some-attributes, is_some-parameter}
+use Rattle.gw_step.proofs.Balances.{balanced-nothing, balanced-fits, balanced-end, balanced-arrival}
 
 -- the transaction n, which is t, is at a block, in a row
 pub record IsAt (p : Parts) (transactions : List (Option LiveTransaction)) (n : ℕ) (t : Transaction) (block : Block) (row : Row) : Type 0 where
@@ -59,13 +60,13 @@ pub record IsAt (p : Parts) (transactions : List (Option LiveTransaction)) (n : 
 pub its_row : (p : Parts) (ts : List (Option LiveTransaction)) (n : ℕ) (t : Transaction) (block : Block) (row : Row) → IsAt p ts n t block row → row_of p (at None ts n) ≡ Some row
 its_row p ts n t block row is = let bears = bearer_at ts n t is.found in ap (row_of p) bears.1 ∙ ap (λ (a : Transaction). own_row p a.next) bears.2 ∙ is.row_is
 
--- what its row knows of its parameters is so
-pub its_parameters : (p : Parts) (s : State) → WellTyped p s → (n : ℕ) (t : Transaction) (block : Block) (row : Row) → IsAt p s.transactions n t block row → AreSet (Some row) (parameters_of n s)
+-- its parameters are what its row knows them to be
+pub its_parameters : (p : Parts) (s : State) → WellTyped p s → (n : ℕ) (t : Transaction) (block : Block) (row : Row) → IsAt p s.transactions n t block row → AreAsKnown (Some row) (parameters_of n s)
 its_parameters p s ty n t block row is =
     let bears = bearer_at s.transactions n t is.found in
     let placed : IsPlaced p bears.0 = subst (λ o. IfSome o (IsPlaced p)) bears.1 (ty.placed n) in
     let row_is : own_table p (place bears.0) ≡ Some row = ap (λ (a : Transaction). own_row p a.next) bears.2 ∙ is.row_is in
-    subst (AreSet (Some row)) (sym (ap (λ o. option_map_or (λ (x : LiveTransaction). x.parameters) o no_parameters) bears.1)) (subst (λ r. AreSet r bears.0.parameters) row_is placed.parameters)
+    subst (AreAsKnown (Some row)) (sym (ap (λ o. option_map_or (λ (x : LiveTransaction). x.parameters) o no_parameters) bears.1)) (subst (λ r. AreAsKnown r bears.0.parameters) row_is placed.parameters)
 
 -- n is active, or on the current events chain
 abbrev pub IsPresent : Lists → ℕ → Type 0
@@ -109,12 +110,13 @@ pub record Becomes (s : State) (t u : Transaction) : Type 0 where
 -- the elementary changes. From so many entries, made or to come, and arrivals at most, to so many: an entry is one more, and a waiter has one to come
 pub data Change (p : Parts) : ℕ → ℕ → State → ℕ → ℕ → State → Type 0 where
   -- a transaction enters its block and goes along one of its edges, and what the entities hold is in balance with that
-  Goes : {en ar : ℕ} {s : State} (n to : ℕ) (t u : Transaction) (block : Block) (row state : Row) (h : EntityStates) → IsAt p s.transactions n t block row → Becomes s t u → IsPresent s.lists n → AreSet (Some state) (parameters_of n s)
+  Goes : {en ar : ℕ} {s : State} (n to : ℕ) (t u : Transaction) (block : Block) (row state : Row) (h : EntityStates) → IsAt p s.transactions n t block row → Becomes s t u → IsPresent s.lists n → AreAsKnown (Some state) (parameters_of n s)
       → Contains (edges p (own_table p) t.next block row) (move to state) → MayBeEntered p to → Balanced p n (Some row) (Some state) s.entities h → Change p en ar s (suc en) ar (record (entered n u to s) { entities = h })
   -- a transaction enters its block, and goes nowhere from there
   EntersLast : {en ar : ℕ} {s : State} (n : ℕ) (t : Transaction) (block : Block) (row : Row) → IsAt p s.transactions n t block row → IsPresent s.lists n → Change p en ar s (suc en) ar (entered n t t.next s)
-  -- a parameter of a transaction is set
-  Assigns : {en ar : ℕ} {s : State} (n q : ℕ) (value : ℤ) (t : LiveTransaction) → at None s.transactions n ≡ Some t → IsPresent s.lists n → Change p en ar s en ar (assigned n q value s)
+  -- a parameter of a transaction is set, and it enters its block and goes along one of its edges, where the parameter is known to be what it is set to
+  GoesWith : {en ar : ℕ} {s : State} (n to q : ℕ) (value : ℤ) (t : Transaction) (block : Block) (row state : Row) → IsAt p s.transactions n t block row → IsPresent s.lists n → AreAsKnown (Some state) (put None (parameters_of n s) q (Some value))
+      → Contains (edges p (own_table p) t.next block row) (move to state) → MayBeEntered p to → Balanced p n (Some row) (Some state) s.entities s.entities → Change p en ar s (suc en) ar (entered n t to (assigned n q value s))
   -- a transaction is scheduled to arrive at a GENERATE
   Arrives : {en ar : ℕ} {s : State} (b : ℕ) (g : Generate) (row : Row) (priority time : ℤ) → block_at p.blocks b ≡ Some (blocks.Generate g) → own_row p b ≡ Some row → is_empty row ≡ true → s.clock ≤ℤ time → is_owed g.limit (at 0 s.scheduled b) ≡ true → nat_lt (live_count s.transactions) 65536 ≡ true → Change p en ar s en (suc ar) (arrives b priority time s)
   -- the active transaction is placed
@@ -176,29 +178,31 @@ fresh p ts l g ty e = omega (arith, ty.resides (length ts), ap (λ o. one_if (is
 
 -- WHAT IS KNOWN OF PARAMETERS
 
--- what fits a row that knows something of a parameter knows something of it
-fits_known : (held asked : Option ParamKind) → IsTrue (kind_fits held asked) → IsSome asked → IsSome held
-fits_known None None h some = some
-fits_known (Some held) None h some = refl
-fits_known None (Some Num) h some = absurd (false≢true h)
-fits_known None (Some (Ret bs)) h some = absurd (false≢true h)
-fits_known (Some held) (Some asked) h some = refl
+-- a value that is of one kind is of each kind that this one fits
+as_asked : (held asked : Option ParamKind) (value : Option ℤ) → IsTrue (kind_fits held asked) → IsAsKnown held value → IsAsKnown asked value
+as_asked held None value h is = tt
+as_asked (Some Num) (Some Num) value h is = is
+as_asked (Some (Ret bs)) (Some (Ret cs)) None h is = absurd is
+as_asked (Some (Ret bs)) (Some (Ret cs)) (Some value) h is = (is.0, included bs cs h is.0 is.1, is.2)
+as_asked None (Some kind) value h is = absurd (false≢true h)
+as_asked (Some Num) (Some (Ret cs)) value h is = absurd (false≢true h)
+as_asked (Some (Ret bs)) (Some Num) value h is = absurd (false≢true h)
 
--- so where all that it knows is set, all that the row knows is
-pub set_on : (state row : Row) (parameters : List (Option ℤ)) → Fits state row → AreSet (Some state) parameters → AreSet (Some row) parameters
-set_on state row parameters fits known q some = known q (fits_known (kind_of state q) (kind_of row q) (fits.params q) some)
+-- so parameters are what a row knows them to be that a state fits which knows them
+pub known_on : (state row : Row) (parameters : List (Option ℤ)) → Fits state row → AreAsKnown (Some state) parameters → AreAsKnown (Some row) parameters
+known_on state row parameters fits known q = as_asked (kind_of state q) (kind_of row q) (at None parameters q) (fits.params q) (known q)
 
 -- an empty row knows nothing
-pub none_known : (row : Row) → is_empty row ≡ true → (q : ℕ) → IsSome (kind_of row q) → ⊥
-none_known row empty q some = by_params row.params (and_parts (length row.params == 0 && length row.facilities == 0) (length row.units == 0) empty).0 some
+pub none_known : (row : Row) → is_empty row ≡ true → (q : ℕ) → kind_of row q ≡ None
+none_known row empty q = by_params row.params (and_parts (length row.params == 0 && length row.facilities == 0) (length row.units == 0) empty).0
   where
-    by_params : (ps : List (ℕ × ParamKind)) → (length ps == 0 && length row.facilities == 0) ≡ true → IsSome (entry ps q) → ⊥
-    by_params [] h some = absurd (false≢true some)
-    by_params (p ∷ ps) h some = absurd (omega (arith, eqb-true (length (p ∷ ps)) 0 (and_parts (length (p ∷ ps) == 0) (length row.facilities == 0) h).0))
+    by_params : (ps : List (ℕ × ParamKind)) → (length ps == 0 && length row.facilities == 0) ≡ true → entry ps q ≡ None
+    by_params [] h = refl
+    by_params (p ∷ ps) h = absurd (omega (arith, eqb-true (length (p ∷ ps)) 0 (and_parts (length (p ∷ ps) == 0) (length row.facilities == 0) h).0))
 
--- what is set stays so when a parameter is set
-pub set_stays : (parameters : List (Option ℤ)) (q r : ℕ) (value : ℤ) → IsSome (at None parameters r) → IsSome (at None (put None parameters q (Some value)) r)
-set_stays parameters q r value = by_entry None parameters q (Some value) (λ k o. IsSome (at None parameters k) → IsSome o) (λ _. refl) (λ k other h. h) r
+-- so any parameters are what it knows them to be
+pub all_as_known : (row : Row) → is_empty row ≡ true → (parameters : List (Option ℤ)) → AreAsKnown (Some row) parameters
+all_as_known row empty parameters q = subst (λ kind. IsAsKnown kind (at None parameters q)) (sym (none_known row empty q)) tt
 
 -- EACH CHANGE
 
@@ -226,7 +230,7 @@ storages-later time xs e = at-map_same (storages.storage_after time) (storages.v
 
 module _ (p : Parts) (flow : FlowHolds p (own_table p)) where
   -- a transaction enters its block, and is at another place from then on
-  enters : (s : State) → WellTyped p s → (n to : ℕ) (t u : Transaction) (block : Block) (row next : Row) (h : EntityStates) → IsAt p s.transactions n t block row → IsPresent s.lists n → AreSet (Some next) (parameters_of n s)
+  enters : (s : State) → WellTyped p s → (n to : ℕ) (t u : Transaction) (block : Block) (row next : Row) (h : EntityStates) → IsAt p s.transactions n t block row → IsPresent s.lists n → AreAsKnown (Some next) (parameters_of n s)
       → IsSome (block_at p.blocks to) → own_row p to ≡ Some next → Balanced p n (Some row) (Some next) s.entities h → WellTyped p (record (entered n u to s) { entities = h })
   enters s ty n to t u block row next h is here known there lands balance =
       let v : Transaction = record u { current = u.next; next = to } in
@@ -235,27 +239,35 @@ module _ (p : Parts) (flow : FlowHolds p (own_table p)) where
       agree-written p s.transactions s.lists s.entities ty s.lists h n (option_map (with_attributes v) (at None s.transactions n))
       (nowhere p s.transactions s.lists s.entities ty n here)
       (resides-entered n u to s ty.resides) refl
-      (subst (λ o. IfSome o (IsPlaced p)) (sym now) (record { block = there; row = ap is_some lands; parameters = subst (λ r. AreSet r bears.0.parameters) (sym lands) (subst (AreSet (Some next)) (ap (λ o. option_map_or (λ (x : LiveTransaction). x.parameters) o no_parameters) bears.1) known) }))
+      (subst (λ o. IfSome o (IsPlaced p)) (sym now) (record { block = there; row = ap is_some lands; parameters = subst (λ r. AreAsKnown r bears.0.parameters) (sym lands) (subst (AreAsKnown (Some next)) (ap (λ o. option_map_or (λ (x : LiveTransaction). x.parameters) o no_parameters) bears.1) known) }))
       (subst (λ r. Balanced p n r (row_of p (option_map (with_attributes v) (at None s.transactions n))) s.entities h) (sym (its_row p s.transactions n t block row is))
       (subst (λ r. Balanced p n (Some row) r s.entities h) (sym (ap (row_of p) now ∙ lands)) balance))
 
-  goes : (s : State) → WellTyped p s → (n to : ℕ) (t u : Transaction) (block : Block) (row state : Row) (h : EntityStates) → IsAt p s.transactions n t block row → IsPresent s.lists n → AreSet (Some state) (parameters_of n s)
+  goes : (s : State) → WellTyped p s → (n to : ℕ) (t u : Transaction) (block : Block) (row state : Row) (h : EntityStates) → IsAt p s.transactions n t block row → IsPresent s.lists n → AreAsKnown (Some state) (parameters_of n s)
       → Contains (edges p (own_table p) t.next block row) (move to state) → MayBeEntered p to → Balanced p n (Some row) (Some state) s.entities h → WellTyped p (record (entered n u to s) { entities = h })
   goes s ty n to t u block row state h is here known along may balance =
       let lead = leads p t.next to block row state (flow.each_row t.next block row is.block_is is.row_is) along in
-      enters s ty n to t u block row lead.row h is here (set_on state lead.row (parameters_of n s) lead.fits known) (there (block_at p.blocks to) may) lead.is (balanced-fits p n (Some row) state lead.row s.entities h balance lead.fits)
+      enters s ty n to t u block row lead.row h is here (known_on state lead.row (parameters_of n s) lead.fits known) (there (block_at p.blocks to) may) lead.is (balanced-fits p n (Some row) state lead.row s.entities h balance lead.fits)
 
-  assigns : (s : State) → WellTyped p s → (n q : ℕ) (value : ℤ) (t : LiveTransaction) → at None s.transactions n ≡ Some t → IsPresent s.lists n → WellTyped p (assigned n q value s)
-  assigns s ty n q value t found here =
-      let was : IsPlaced p t = subst (λ o. IfSome o (IsPlaced p)) found (ty.placed n) in
-      let v = option_map (with_parameter q value) (at None s.transactions n) in
-      let now : v ≡ Some (with_parameter q value t) = ap (option_map (with_parameter q value)) found in
-      agree-written p s.transactions s.lists s.entities ty s.lists s.entities n v
-      (nowhere p s.transactions s.lists s.entities ty n here)
-      (resides-assigned n q value s ty.resides) refl
-      (subst (λ o. IfSome o (IsPlaced p)) (sym now) (record { block = was.block; row = was.row; parameters = λ r some. set_stays t.parameters q r value (was.parameters r some) }))
-      (subst (λ r. Balanced p n r (row_of p v) s.entities s.entities) (sym (ap (row_of p) found))
-      (subst (λ r. Balanced p n (own_table p (place t)) r s.entities s.entities) (sym (ap (row_of p) now)) (balanced-same p n (own_table p (place t)) s.entities)))
+  -- a parameter of it is set besides
+  goes_with : (s : State) → WellTyped p s → (n to q : ℕ) (value : ℤ) (t : Transaction) (block : Block) (row state : Row) → IsAt p s.transactions n t block row → IsPresent s.lists n → AreAsKnown (Some state) (put None (parameters_of n s) q (Some value))
+      → Contains (edges p (own_table p) t.next block row) (move to state) → MayBeEntered p to → Balanced p n (Some row) (Some state) s.entities s.entities → WellTyped p (entered n t to (assigned n q value s))
+  goes_with s ty n to q value t block row state is here known along may balance =
+      let ts = s.transactions in
+      let lead = leads p t.next to block row state (flow.each_row t.next block row is.block_is is.row_is) along in
+      let a : Transaction = record t { current = t.next; next = to } in
+      let bears = bearer_at ts n t is.found in
+      let later : LiveTransaction = with_attributes a (with_parameter q value bears.0) in
+      let now : option_map (with_attributes a) (at None (put_parameter n q value ts) n) ≡ Some later = ap (option_map (with_attributes a)) (at-put None ts n (option_map (with_parameter q value) (at None ts n)) ∙ ap (option_map (with_parameter q value)) bears.1) in
+      let same : put_attributes n a (put_parameter n q value ts) ≡ put None ts n (Some later) = ap (put None (put_parameter n q value ts) n) now ∙ put-put None ts n (option_map (with_parameter q value) (at None ts n)) (Some later) in
+      let set : AreAsKnown (Some state) later.parameters = subst (λ o. AreAsKnown (Some state) (put None (option_map_or (λ (x : LiveTransaction). x.parameters) o no_parameters) q (Some value))) bears.1 known in
+      subst (λ xs. Agree p xs s.lists s.entities) (sym same)
+      (agree-written p ts s.lists s.entities ty s.lists s.entities n (Some later)
+      (nowhere p ts s.lists s.entities ty n here)
+      (subst (λ xs. EachResidesOnce xs s.lists) same (resides-entered n t to (assigned n q value s) (resides-assigned n q value s ty.resides))) refl
+      (record { block = there (block_at p.blocks to) may; row = ap is_some lead.is; parameters = subst (λ r. AreAsKnown r later.parameters) (sym lead.is) (known_on state lead.row later.parameters lead.fits set) })
+      (subst (λ r. Balanced p n r (own_row p to) s.entities s.entities) (sym (its_row p ts n t block row is))
+      (subst (λ r. Balanced p n (Some row) r s.entities s.entities) (sym lead.is) (balanced-fits p n (Some row) state lead.row s.entities s.entities balance lead.fits))))
 
   leaves : (s : State) → WellTyped p s → (n : ℕ) → s.lists.active ≡ Some n → OwnsNothing p n s.transactions → WellTyped p (destroyed n s)
   leaves s ty n active is =
@@ -271,7 +283,7 @@ module _ (p : Parts) (flow : FlowHolds p (own_table p)) where
       agree-written p s.transactions s.lists s.entities ty (arrives b priority time s).lists s.entities n (Some v)
       (fresh p s.transactions s.lists s.entities ty)
       (resides-arrives b priority time s ty.resides) refl
-      (record { block = ap is_some block; row = ap is_some is; parameters = subst (λ r. AreSet r no_parameters) (sym is) (λ q some. absurd (none_known row none q some)) })
+      (record { block = ap is_some block; row = ap is_some is; parameters = subst (λ r. AreAsKnown r no_parameters) (sym is) (all_as_known row none no_parameters) })
       (subst (λ t. Balanced p n (row_of p t) (own_row p b) s.entities s.entities) (sym (at_past None s.transactions n (omega arith)))
       (subst (λ r. Balanced p n None r s.entities s.entities) (sym is) (balanced-arrival p n row s.entities none)))
 
@@ -337,7 +349,7 @@ module _ (p : Parts) (flow : FlowHolds p (own_table p)) where
   pub change-keeps : {en ar en' ar' : ℕ} {s t : State} → Change p en ar s en' ar' t → WellTyped p s → WellTyped p t
   change-keeps (Goes {s = s} n to t u block row state h is same here known along may balance) ty = goes s ty n to t u block row state h is here known along may balance
   change-keeps (EntersLast {s = s} n t block row is here) ty = enters s ty n t.next t t block row row s.entities is here (its_parameters p s ty n t block row is) (ap is_some is.block_is) is.row_is (balanced-nothing p n row s.entities)
-  change-keeps (Assigns {s = s} n q value t found here) ty = assigns s ty n q value t found here
+  change-keeps (GoesWith {s = s} n to q value t block row state is here known along may balance) ty = goes_with s ty n to q value t block row state is here known along may balance
   change-keeps (Arrives {s = s} b g row priority time block is none later owed few) ty = arrived s ty b g row priority time block is none
   change-keeps (Rests {s = s} n placement may) ty = rests s ty n placement may
   change-keeps (Called {s = s} e n here below) ty = called s ty e n here
@@ -379,7 +391,7 @@ placed-leaves n LeavesModel s = record { entities = refl; scheduled = refl; live
 change-fills : (p : Parts) {en ar en' ar' : ℕ} {s t : State} → Change p en ar s en' ar' t → AreWithinCapacity s.entities → AreWithinCapacity t.entities
 change-fills p (Goes n to t u block row state h is same here known along may balance) w = balance.filled w
 change-fills p (EntersLast n t block row is here) w = w
-change-fills p (Assigns n q value t found here) w = w
+change-fills p (GoesWith n to q value t block row state is here known along may balance) w = w
 change-fills p (Arrives b g row priority time block is none later owed few) w = w
 change-fills p (Rests {s = s} n placement may) w = subst AreWithinCapacity (sym (placed-leaves n placement s).entities) w
 change-fills p (Called e n here below) w = w
@@ -412,7 +424,9 @@ module _ (p : Parts) where
       within-entered (length p.blocks) (length p.entities) en ar s w n u to h (omega (arith, same.next, block_below p.blocks t.next block is.block_is)) (number_below s.transactions n t is.found) (same.mark w.clock (mark_from s.transactions n t w.marked is.found)) (balance.raises (whole-of en ar s w))
   change-within (EntersLast {en = en} {ar = ar} {s = s} n t block row is here) w =
       within-entered (length p.blocks) (length p.entities) en ar s w n t t.next s.entities (block_below p.blocks t.next block is.block_is) (number_below s.transactions n t is.found) (mark_from s.transactions n t w.marked is.found) (raises-same s.entities)
-  change-within (Assigns {en = en} {ar = ar} {s = s} n q value t found here) w = within-assigned (length p.blocks) (length p.entities) en ar s w n q value (at_some s.transactions n t found)
+  change-within (GoesWith {en = en} {ar = ar} {s = s} n to q value t block row state is here known along may balance) w =
+      let before = within-assigned (length p.blocks) (length p.entities) en ar s w n q value (number_below s.transactions n t is.found) in
+      within-entered (length p.blocks) (length p.entities) en ar (assigned n q value s) before n t to s.entities (block_below p.blocks t.next block is.block_is) (number_below (put_parameter n q value s.transactions) n t (attributes-parameter s.transactions n q value ∙ is.found)) (mark_from s.transactions n t w.marked is.found) (raises-same s.entities)
   change-within (Arrives {en = en} {ar = ar} {s = s} b g row priority time block is none later owed few) w =
       within-arrives (length p.blocks) (length p.entities) en ar s w b priority time (block_below p.blocks b (blocks.Generate g) block) later
   change-within (Rests {en = en} {ar = ar} {s = s} n placement may) w = rests-within en ar n placement s may w
@@ -455,7 +469,7 @@ limits-raised bs scheduled b g is owed l = record {
 change-limits : (p : Parts) {en ar en' ar' : ℕ} {s t : State} → Change p en ar s en' ar' t → AreWithinLimits p.blocks s.scheduled → AreWithinLimits p.blocks t.scheduled
 change-limits p (Goes n to t u block row state h is same here known along may balance) l = l
 change-limits p (EntersLast n t block row is here) l = l
-change-limits p (Assigns n q value t found here) l = l
+change-limits p (GoesWith n to q value t block row state is here known along may balance) l = l
 change-limits p (Arrives {s = s} b g row priority time block is none later owed few) l = limits-raised p.blocks s.scheduled b g block owed l
 change-limits p (Rests {s = s} n placement may) l = subst (AreWithinLimits p.blocks) (sym (placed-leaves n placement s).scheduled) l
 change-limits p (Called e n here below) l = l
@@ -473,7 +487,8 @@ trace-limits p (Then x xs) l = trace-limits p xs (change-limits p x l)
 change-live : (p : Parts) {en ar en' ar' : ℕ} {s t : State} → Change p en ar s en' ar' t → AreFewLive s.transactions → AreFewLive t.transactions
 change-live p (Goes {s = s} n to t u block row state h is same here known along may balance) l = record { live = omega (arith, l.live, entered-live s.transactions n (record u { current = u.next; next = to })) }
 change-live p (EntersLast {s = s} n t block row is here) l = record { live = omega (arith, l.live, entered-live s.transactions n (record t { current = t.next })) }
-change-live p (Assigns {s = s} n q value t found here) l = record { live = omega (arith, l.live, assigned-live s.transactions n q value) }
+change-live p (GoesWith {s = s} n to q value t block row state is here known along may balance) l =
+    record { live = omega (arith, l.live, assigned-live s.transactions n q value, entered-live (put_parameter n q value s.transactions) n (record t { current = t.next; next = to })) }
 change-live p (Arrives {s = s} b g row priority time block is none later owed few) l =
     record { live = omega (arith, ltb-true (live_count s.transactions) 65536 few, written-live s.transactions (length s.transactions) (Some (newcomer b priority s))) }
 change-live p (Rests {s = s} n placement may) l = record { live = omega (arith, l.live, (placed-leaves n placement s).live) }

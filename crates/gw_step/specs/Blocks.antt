@@ -1,25 +1,26 @@
 -- What each block does to the active transaction: whether it refuses it, and what entering comes to.
-use Rattle.std.specs.Prelude.{ℕ, ◌+◌, ℤ, pos, List, [], ◌∷◌, Option, Some, None, Result, Ok, Err, Bool, true, false, not, nat_lt, nat_le, ◌==◌, if◌then◌else◌, int_lt, int_le, unwrap_or, is_none, ◌&&◌}
+use Rattle.std.specs.Prelude.{ℕ, ◌+◌, ℤ, pos, List, [], ◌∷◌, Option, Some, None, Result, Ok, Err, Bool, true, false, not, nat_lt, nat_le, ◌==◌, if◌then◌else◌, int_lt, int_le, unsigned_abs, unwrap_or, is_none, ◌&&◌}
 use Rattle.std.specs.Ordering.{int_eq}
 use Rattle.std.specs.Option.{option_map_or}
-use Rattle.gw_object.specs.declared.parts.Generate.{Generate}
-use Rattle.gw_object.specs.declared.parts.Units.{Units}
-use Rattle.gw_object.specs.declared.parts.Fraction.{Fraction}
-use Rattle.gw_object.specs.declared.parts.Comparison.{Comparison}
-use Rattle.gw_object.specs.declared.parts.Comparison.TheVariants.{Equal, NotEqual, Greater, GreaterOrEqual, Less, LessOrEqual}
-use Rattle.gw_object.specs.declared.parts.Test.{Test}
-use Rattle.gw_object.specs.declared.parts.Condition.{Condition}
-use Rattle.gw_object.specs.declared.parts.Condition.TheVariants.{SwitchSet, SwitchReset, FacilityInUse, FacilityNotInUse, StorageFull, StorageEmpty, StorageNotFull, StorageNotEmpty}
-use Rattle.gw_object.specs.declared.parts.Mode.{Mode}
-use Rattle.gw_object.specs.declared.parts.Mode.TheVariants.{Set, Add, Subtract}
-use Rattle.gw_object.specs.declared.parts.Assign.{Assign}
-use Rattle.gw_object.specs.declared.parts.Loop.{Loop}
-use Rattle.gw_object.specs.declared.parts.SwitchAction.{SwitchAction}
-use Rattle.gw_object.specs.declared.parts.SwitchAction.TheVariants as switches
-use Rattle.gw_object.specs.declared.parts.Logic.{Logic}
-use Rattle.gw_object.specs.declared.parts.Save.{Save}
-use Rattle.gw_object.specs.declared.parts.Block.{Block}
-use Rattle.gw_object.specs.declared.parts.Block.TheVariants as blocks
+use Rattle.gw_blocks.specs.declared.parts.Generate.{Generate}
+use Rattle.gw_blocks.specs.declared.parts.Units.{Units}
+use Rattle.gw_blocks.specs.declared.parts.Fraction.{Fraction}
+use Rattle.gw_blocks.specs.declared.parts.Comparison.{Comparison}
+use Rattle.gw_blocks.specs.declared.parts.Comparison.TheVariants.{Equal, NotEqual, Greater, GreaterOrEqual, Less, LessOrEqual}
+use Rattle.gw_blocks.specs.declared.parts.Test.{Test}
+use Rattle.gw_blocks.specs.declared.parts.Condition.{Condition}
+use Rattle.gw_blocks.specs.declared.parts.Condition.TheVariants.{SwitchSet, SwitchReset, FacilityInUse, FacilityNotInUse, StorageFull, StorageEmpty, StorageNotFull, StorageNotEmpty}
+use Rattle.gw_blocks.specs.declared.parts.Mode.{Mode}
+use Rattle.gw_blocks.specs.declared.parts.Mode.TheVariants.{Set, Add, Subtract}
+use Rattle.gw_blocks.specs.declared.parts.Assign.{Assign}
+use Rattle.gw_blocks.specs.declared.parts.Call.{Call}
+use Rattle.gw_blocks.specs.declared.parts.Loop.{Loop}
+use Rattle.gw_blocks.specs.declared.parts.SwitchAction.{SwitchAction}
+use Rattle.gw_blocks.specs.declared.parts.SwitchAction.TheVariants as switches
+use Rattle.gw_blocks.specs.declared.parts.Logic.{Logic}
+use Rattle.gw_blocks.specs.declared.parts.Save.{Save}
+use Rattle.gw_blocks.specs.declared.parts.Block.{Block}
+use Rattle.gw_blocks.specs.declared.parts.Block.TheVariants as blocks
 use Rattle.gw_kinds.specs.Kinds.{block_at}
 use Rattle.gw_flow.specs.Values.{answered, operands}
 use Rattle.gw_num.specs.declared.arithmetic.NumFault.{NumFault}
@@ -229,6 +230,20 @@ transfer bs n t target s = leads bs target (stays (entered n t target s))
 abbrev pub chosen : ℕ → Fraction → ℤ → ℕ
 chosen b f drawn = if int_lt drawn (pos f.thousandths) then f.target else unwrap_or f.otherwise (b + 1)
 
+-- SUBROUTINES
+
+-- the effect of TRANSFER in subroutine mode: a parameter of the transaction is set to the number of the block, and the transaction enters and goes to the subroutine
+abbrev pub call : List Block → ℕ → Transaction → Call → State → Outcome (State × Placement)
+call bs n t c s = leads bs c.target (stays (entered n t c.target (assigned n c.parameter (pos t.next) s)))
+
+-- the number of the block after the one whose number a value is; 0, which is no block's, where the value is below 0
+abbrev pub block_after : ℤ → ℕ
+block_after value = if int_lt value (pos 0) then 0 else unsigned_abs value + 1
+
+-- the effect of TRANSFER in parameter mode: the transaction enters and goes to the block after the one whose number is in a parameter of it, which has to be set
+abbrev pub come_back : List Block → ℕ → Transaction → ℕ → State → Outcome (State × Placement)
+come_back bs n t q s = or_stop (parameter_at n q s.transactions) UnsetParam >>= λ value. transfer bs n t (block_after value) s
+
 -- PARAMETERS
 
 -- a value put where an old one is: it takes its place, or is added to it, or subtracted from it
@@ -301,6 +316,8 @@ effect bs n t (blocks.Test test) values s = transfer bs n t (led_by t.next test.
 effect bs n t (blocks.Gate gate) values s = transfer bs n t (led_by t.next gate.otherwise (is_so gate.condition gate.entity s)) s
 effect bs n t (blocks.Transfer target) values s = transfer bs n t target s
 effect bs n t (blocks.TransferByFraction f) values s = transfer bs n t (chosen t.next f (the_value values)) s
+effect bs n t (blocks.TransferToSubroutine c) values s = call bs n t c s
+effect bs n t (blocks.TransferByParameter q) values s = come_back bs n t q s
 effect bs n t (blocks.Loop l) values s = loop bs n t l s
 effect bs n t (blocks.Logic l) values s = logic bs n t l s
 effect bs n t (blocks.Savevalue a) values s = save bs n t a (the_value values) s

@@ -1,8 +1,8 @@
 -- How far the numbers of a state may have come.
 use Rattle.std.specs.Prelude.{◌≡◌, ℕ, ◌+◌, ◌*◌, ◌^◌, ◌≤◌, ℤ, pos, ◌≤ℤ◌, sum, sum_by, List, [], ◌∷◌, length, Option, Some, None, IfSome}
-use Rattle.gw_object.specs.declared.parts.Generate.{Generate}
-use Rattle.gw_object.specs.declared.parts.Block.{Block}
-use Rattle.gw_object.specs.declared.parts.Block.TheVariants as blocks
+use Rattle.gw_blocks.specs.declared.parts.Generate.{Generate}
+use Rattle.gw_blocks.specs.declared.parts.Block.{Block}
+use Rattle.gw_blocks.specs.declared.parts.Block.TheVariants as blocks
 use Rattle.gw_kinds.specs.Kinds.{block_at}
 use Rattle.gw_transactions.specs.Transactions.{LiveTransaction, live_count}
 use Rattle.gw_num.specs.Table.{at}

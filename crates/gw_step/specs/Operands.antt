@@ -1,15 +1,15 @@
 -- What is known of the operands of a checked object's blocks.
 use Rattle.std.specs.Prelude.{◌≡◌, ℕ, ◌<◌, ◌≤◌, ◌^◌, pos, ◌≤ℤ◌, List, length, IfSome, Some}
-use Rattle.gw_object.specs.declared.parts.Operand.{Operand}
-use Rattle.gw_object.specs.declared.parts.Operand.TheVariants as operands
-use Rattle.gw_object.specs.declared.parts.Spread.{Spread}
-use Rattle.gw_object.specs.declared.parts.Generate.{Generate}
-use Rattle.gw_object.specs.declared.parts.Assign.{Assign}
-use Rattle.gw_object.specs.declared.parts.Save.{Save}
-use Rattle.gw_object.specs.declared.parts.Test.{Test}
-use Rattle.gw_object.specs.declared.parts.Units.{Units}
-use Rattle.gw_object.specs.declared.parts.Block.{Block}
-use Rattle.gw_object.specs.declared.parts.Block.TheVariants as blocks
+use Rattle.gw_blocks.specs.declared.parts.Operand.{Operand}
+use Rattle.gw_blocks.specs.declared.parts.Operand.TheVariants as operands
+use Rattle.gw_blocks.specs.declared.parts.Spread.{Spread}
+use Rattle.gw_blocks.specs.declared.parts.Generate.{Generate}
+use Rattle.gw_blocks.specs.declared.parts.Assign.{Assign}
+use Rattle.gw_blocks.specs.declared.parts.Save.{Save}
+use Rattle.gw_blocks.specs.declared.parts.Test.{Test}
+use Rattle.gw_blocks.specs.declared.parts.Units.{Units}
+use Rattle.gw_blocks.specs.declared.parts.Block.{Block}
+use Rattle.gw_blocks.specs.declared.parts.Block.TheVariants as blocks
 use Rattle.gw_kinds.specs.Kinds.{block_at, needed_for}
 
 -- an entity that an operand reads is one of so many, and a stream one of 16
@@ -67,6 +67,8 @@ OperandsFit entities (blocks.Depart u) = UnitsFit entities u
 OperandsFit entities (blocks.Assign a) = AssignFits entities a
 OperandsFit entities (blocks.Test test) = TestFits entities test
 OperandsFit entities (blocks.Gate gate) = gate.entity < entities
+OperandsFit entities (blocks.TransferToSubroutine c) = IsParameter c.parameter
+OperandsFit entities (blocks.TransferByParameter q) = IsParameter q
 OperandsFit entities (blocks.Loop l) = IsParameter l.parameter
 OperandsFit entities (blocks.Logic l) = l.switch < entities
 OperandsFit entities (blocks.Savevalue a) = SaveFits entities a

@@ -1,6 +1,6 @@
 -- The place of a transaction, and what an object's state table says of it.
 use Rattle.std.specs.Prelude.{Option, Some, None}
-use Rattle.gw_object.specs.declared.parts.Block.{Block}
+use Rattle.gw_blocks.specs.declared.parts.Block.{Block}
 use Rattle.gw_object.specs.declared.parts.Parts.{Parts}
 use Rattle.gw_kinds.specs.Kinds.{block_at}
 use Rattle.gw_flow.specs.declared.edges.Target.{Target}

@@ -1,6 +1,6 @@
 -- The simulation state.
 use Rattle.std.specs.Prelude.{ℕ, ◌+◌, ℤ, pos, List, [], ◌∷◌, Option, Some, None, Bool, not, ◌&&◌, ◌==◌, if◌then◌else◌, is_some}
-use Rattle.gw_object.specs.declared.parts.Block.{Block}
+use Rattle.gw_blocks.specs.declared.parts.Block.{Block}
 use Rattle.gw_kinds.specs.Kinds.{is_generate}
 use Rattle.gw_num.specs.Table.{at, put}
 use Rattle.gw_transactions.specs.Transactions.{LiveTransaction}

@@ -1,10 +1,10 @@
 -- What operands read, and moments.
 use Rattle.std.specs.Prelude.{ℕ, ℤ, pos, ◌-ℤ◌, List, length, Option, None, Bool, false, not, if◌then◌else◌, int_lt}
 use Rattle.std.specs.Option.{option_map_or}
-use Rattle.gw_object.specs.declared.parts.EntityAttribute.{EntityAttribute}
-use Rattle.gw_object.specs.declared.parts.EntityAttribute.TheVariants.{FacilityOwned, StorageContent, StorageRemaining, QueueContent, SavevalueValue, SwitchSetting, BlockEntries, BlockCount}
-use Rattle.gw_object.specs.declared.parts.Numbered.{Numbered}
-use Rattle.gw_object.specs.declared.parts.Spread.{Spread}
+use Rattle.gw_blocks.specs.declared.parts.EntityAttribute.{EntityAttribute}
+use Rattle.gw_blocks.specs.declared.parts.EntityAttribute.TheVariants.{FacilityOwned, StorageContent, StorageRemaining, QueueContent, SavevalueValue, SwitchSetting, BlockEntries, BlockCount}
+use Rattle.gw_blocks.specs.declared.parts.Numbered.{Numbered}
+use Rattle.gw_blocks.specs.declared.parts.Spread.{Spread}
 use Rattle.gw_num.specs.Arithmetic.{sum_of}
 use Rattle.gw_num.specs.Table.{at}
 use Rattle.gw_transactions.specs.declared.Transaction.{Transaction}

@@ -1,13 +1,14 @@
 -- Well-typed states: who resides where, who owns what, and what is inside the entities is what the state table says of each transaction's place.
-use Rattle.std.specs.Prelude.{◌≡◌, ℕ, ◌≤◌, ℤ, sum_by, List, [], Option, Some, None, IsSome, IfSome, Bool, false}
+use Rattle.std.specs.Prelude.{◌≡◌, ℕ, ◌≤◌, ℤ, pos, sum_by, List, [], Option, Some, None, IsSome, IfSome, Bool, true, false}
 use Rattle.std.specs.Option.{option_map_or}
 use Rattle.gw_object.specs.declared.parts.Kind.{Kind}
 use Rattle.gw_object.specs.declared.parts.Kind.TheVariants as kinds
-use Rattle.gw_object.specs.declared.parts.Block.{Block}
-use Rattle.gw_object.specs.declared.parts.Block.TheVariants as blocks
+use Rattle.gw_blocks.specs.declared.parts.Block.{Block}
+use Rattle.gw_blocks.specs.declared.parts.Block.TheVariants as blocks
 use Rattle.gw_object.specs.declared.parts.Parts.{Parts}
 use Rattle.gw_kinds.specs.Kinds.{kind_at}
-use Rattle.gw_flow.specs.Rows.{ParamKind, Row, kind_of, owns, units_of}
+use Rattle.gw_flow.specs.Entries.{lists}
+use Rattle.gw_flow.specs.Rows.{ParamKind, Num, Ret, Row, kind_of, owns, units_of}
 use Rattle.gw_flow.specs.Blocks.{capacity_at}
 use Rattle.gw_flow.specs.Flow.{own_table}
 use Rattle.gw_num.specs.Table.{at}
@@ -25,15 +26,22 @@ use Rattle.gw_step.specs.Places.{place, block_of, row_of}
 abbrev pub known_kind : ℕ → Option Row → Option ParamKind
 known_kind q row = option_map_or (λ row. kind_of row q) row None
 
--- each parameter that a row knows to be set is set
-abbrev pub AreSet : Option Row → List (Option ℤ) → Type 0
-AreSet row parameters = (q : ℕ) → IsSome (known_kind q row) → IsSome (at None parameters q)
+-- a parameter's value, if it has one, is what it is known to be: where nothing is known anything, a number any value, and a return the number of one of its blocks
+abbrev pub IsAsKnown : Option ParamKind → Option ℤ → Type 0
+IsAsKnown None value = Unit {0}
+IsAsKnown (Some kind) None = ⊥
+IsAsKnown (Some Num) (Some value) = Unit {0}
+IsAsKnown (Some (Ret bs)) (Some value) = (b : ℕ) × (lists bs b ≡ true) × (value ≡ pos b)
 
--- the place of a transaction is a block of the object, and has a row in its state table, whose parameters are set
+-- each parameter is what a row knows it to be
+abbrev pub AreAsKnown : Option Row → List (Option ℤ) → Type 0
+AreAsKnown row parameters = (q : ℕ) → IsAsKnown (known_kind q row) (at None parameters q)
+
+-- the place of a transaction is a block of the object, and has a row in its state table, and its parameters are what the row knows them to be
 pub record IsPlaced (p : Parts) (t : LiveTransaction) : Type 0 where
   pub block : IsSome (block_of p (place t))
   pub row : IsSome (own_table p (place t))
-  pub parameters : AreSet (own_table p (place t)) t.parameters
+  pub parameters : AreAsKnown (own_table p (place t)) t.parameters
 
 -- whether the row of a place lists a facility as owned
 abbrev pub lists_facility : ℕ → Option Row → Bool

@@ -1,7 +1,7 @@
 //! TEST and GATE, and the retry list of those who wait for a condition.
 
 use super::*;
-use gw_object::{Comparison, Condition, Gate, Test};
+use gw_blocks::{Comparison, Condition, Gate, Test};
 
 /// TEST of two values: TEST E A,B,b for example.
 fn test_of(comparison: Comparison, left: Operand, right: Operand, otherwise: Option<u16>) -> Block {

@@ -1,14 +1,16 @@
 //! The edges of each kind of block, and the rules that go before them.
 
-ghost use Rattle.std.specs.Prelude.{◌≡◌, ◌≤◌, ◌^◌, is_some, IfOk, IfSome, All};
-ghost use Rattle.gw_flow.specs.Rows.{HasRoom};
-ghost use Rattle.gw_flow.specs.Seen.{known};
+ghost use Rattle.std.specs.Prelude.{◌≡◌, ◌≤◌, ◌<◌, ◌^◌, Some, is_some, IsTrue, All};
+ghost use Rattle.gw_flow.specs.declared.abstract_state.Parameter.{Parameter as DeclaredParameter};
+ghost use Rattle.gw_flow.specs.Rows.{HasRoom, return_blocks};
+ghost use Rattle.gw_flow.specs.Seen.{known, kind_seen};
 ghost use Rattle.gw_kinds.specs.Kinds.{block_at};
 
 use crate::flow::tables::*;
 use crate::models::*;
-use gw_flow::{AbsState, Amount, Edge, StateParts, Target, out_edges};
-use gw_object::{Block, Fault, Items, Memory, Object, Units};
+use gw_blocks::{Block, Units};
+use gw_flow::{AbsState, Amount, Edge, Parameter, ParameterKind, StateParts, Target, out_edges};
+use gw_object::{Fault, Items, Memory, Object, ReturnRow};
 use std::alloc::Global;
 use std::test::Fail;
 
@@ -30,10 +32,63 @@ pub(super) fn is_block(object: &Object, number: u16) -> bool
     number != 0 && number as usize <= object.parts().blocks.as_slice().len()
 }
 
-/// The amounts of a row.
-fn amounts_of(alloc: Global, units: &[Units]) -> Result<Vec<Amount>, Memory>
-    ensures { IfOk result (λ amounts. All (λ (a : Amount). a.number ≤ 2 ^ 62) amounts.items) }
+/// Whether there is room for what a block adds to amounts.
+fn have_room(amounts: &[Amount]) -> bool
+    ensures { IsTrue result → All (λ (a : Amount). a.number ≤ 2 ^ 62) amounts.now }
 {
+    amounts.iter().all(|amount| amount.number <= 1 << 62)
+}
+
+/// Whether after each of these blocks there is a number for another one.
+fn have_next(blocks: &[u16]) -> bool
+    ensures { IsTrue result → All (λ b. b < 65535) blocks.now }
+{
+    blocks.iter().all(|block| *block < u16::MAX)
+}
+
+/// Whether after each block to which a parameter returns there is a number for another one.
+fn has_next(returns: &[ReturnRow], parameter: &Parameter) -> bool
+    ensures { IsTrue result → All (λ b. b < 65535) (return_blocks (Some (kind_seen returns.now parameter.now.kind))) }
+{
+    match parameter.kind {
+        ParameterKind::Num => true,
+        ParameterKind::Ret(row) => match returns.get(row as usize) {
+            Some(row) => have_next(row.blocks.as_slice()),
+            None => true,
+        },
+        ParameterKind::RetTo(block) => have_next(&[block]),
+    }
+}
+
+/// Whether after each block to which parameters return there is a number for another one.
+fn all_have_next(returns: &[ReturnRow], parameters: &[Parameter]) -> bool
+    ensures { IsTrue result → All (λ (p : DeclaredParameter). All (λ b. b < 65535) (return_blocks (Some (kind_seen returns.now p.kind)))) parameters.now }
+{
+    parameters.iter().all(|p| has_next(returns, p))
+}
+
+/// Whether a state has room for what a block adds to it.
+fn has_room(returns: &[ReturnRow], state: &AbsState) -> bool
+    ensures { IsTrue result → HasRoom (known returns.now state.now) }
+{
+    let parts = state.parts();
+    have_room(parts.units.as_slice()) && all_have_next(returns, parts.parameters.as_slice())
+}
+
+/// What the second block of an object answers for a state: its edges, or the fault of its rules.
+pub(super) fn second_edges(
+    alloc: Global,
+    object: &Object,
+    state: &AbsState,
+) -> Result<Result<Vec<Edge>, Fault>, Fail> {
+    if !is_block(object, 2) || !has_room(object.parts().returns.as_slice(), state) {
+        return Err(Fail::from("there is a second block, and room in the state"));
+    }
+    Ok(out_edges(alloc, object, 2, state))
+}
+
+/// The amounts of a row.
+fn amounts_of(alloc: Global, units: &[Units]) -> Result<Vec<Amount>, Memory> {
     let mut amounts = Vec::new(alloc);
     for held in units {
         amounts.push(Amount {
@@ -45,9 +100,7 @@ fn amounts_of(alloc: Global, units: &[Units]) -> Result<Vec<Amount>, Memory>
 }
 
 /// The parts of a state as a row says it.
-fn state_parts(alloc: Global, row: Row) -> Result<StateParts, Memory>
-    ensures { IfOk result (λ parts. HasRoom (known parts)) }
-{
+fn state_parts(alloc: Global, row: Row) -> Result<StateParts, Memory> {
     let (facilities, units) = row;
     Ok(StateParts {
         parameters: Items::from_vec(Vec::new(alloc)),
@@ -57,9 +110,7 @@ fn state_parts(alloc: Global, row: Row) -> Result<StateParts, Memory>
 }
 
 /// What is known of a transaction in a state as a row says it, if its lists ascend and it has no amount of 0.
-fn state_of(alloc: Global, row: Row) -> Result<Option<AbsState>, Memory>
-    ensures { IfOk result (λ state. IfSome state (λ s. HasRoom (known s))) }
-{
+fn state_of(alloc: Global, row: Row) -> Result<Option<AbsState>, Memory> {
     let parts = state_parts(alloc, row)?;
     Ok(AbsState::build(parts).ok())
 }
@@ -93,45 +144,24 @@ fn are_edges(edges: &[Edge], expected: &[Expected]) -> bool {
     true
 }
 
-/// Whether these are the edges of the second block of an object in a state, in order.
-fn second_leads(alloc: Global, object: &Object, state: &AbsState, expected: &[Expected]) -> bool
-    requires { HasRoom (known state.now) }
-{
-    if !is_block(object, 2) {
-        return false;
-    }
-    match out_edges(alloc, object, 2, state) {
-        Ok(edges) => are_edges(&edges, expected),
-        Err(_) => false,
-    }
+/// What a block, the second of three, answers for a state as a row says it.
+fn edges(alloc: Global, block: Block, row: Row) -> Result<Result<Vec<Edge>, Fault>, Fail> {
+    let object = three_blocks(alloc, block)?;
+    let state = state_of(alloc, row)?.ok_or("a row whose lists ascend")?;
+    second_edges(alloc, &object, &state)
 }
 
 /// Whether these are the edges of a block, the second of three, in a state as a row says it, in order.
 fn leads(alloc: Global, block: Block, row: Row, expected: &[Expected]) -> Result<bool, Fail> {
-    let object = three_blocks(alloc, block)?;
-    match state_of(alloc, row)? {
-        Some(state) => Ok(second_leads(alloc, &object, &state, expected)),
-        None => Ok(false),
+    match edges(alloc, block, row)? {
+        Ok(edges) => Ok(are_edges(&edges, expected)),
+        Err(_) => Ok(false),
     }
-}
-
-/// The fault of the rules of the second block of an object in a state, if it has one.
-fn second_fault(alloc: Global, object: &Object, state: &AbsState) -> Option<Fault>
-    requires { HasRoom (known state.now) }
-{
-    if !is_block(object, 2) {
-        return None;
-    }
-    out_edges(alloc, object, 2, state).err()
 }
 
 /// The fault of the rules of a block, the second of three, in a state as a row says it, if it has one.
 fn broken(alloc: Global, block: Block, row: Row) -> Result<Option<Fault>, Fail> {
-    let object = three_blocks(alloc, block)?;
-    match state_of(alloc, row)? {
-        Some(state) => Ok(second_fault(alloc, &object, &state)),
-        None => Ok(None),
-    }
+    Ok(edges(alloc, block, row)?.err())
 }
 
 #[test]

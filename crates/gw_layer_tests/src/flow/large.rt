@@ -1,9 +1,9 @@
 //! The longest object.
 
-use crate::flow::tables::object_of;
+use crate::flow::tables::{first_fault, object_of};
 use crate::models::*;
-use gw_flow::check_flow;
-use gw_object::{Block, Fault, Memory, TableState};
+use gw_blocks::Block;
+use gw_object::{Fault, Memory, TableState};
 use std::alloc::Global;
 use std::test::Fail;
 
@@ -28,7 +28,7 @@ fn blocks_4096(alloc: Global) -> Result<Vec<Block>, Memory> {
 fn fault_of_4096_blocks(alloc: Global) -> Result<Option<Fault>, Fail> {
     let blocks = blocks_4096(alloc)?;
     let object = object_of(alloc, blocks, empty_states(alloc, 4096)?)?;
-    Ok(check_flow(alloc, &object).err())
+    Ok(first_fault(alloc, &object))
 }
 
 #[test]

@@ -1,19 +1,11 @@
 //! Parameters: what the blocks ask and set of them, in objects whose rows know parameters alone.
 
-ghost use Rattle.std.specs.Prelude.{IfOk, IfSome};
-ghost use Rattle.gw_flow.specs.Rows.{HasRoom};
-ghost use Rattle.gw_flow.specs.Seen.{known};
-
-use crate::flow::edges::{is_block, three_blocks};
-use crate::flow::tables::object_of;
+use crate::flow::edges::{second_edges, three_blocks};
+use crate::flow::tables::{first_fault, object_of};
 use crate::models::*;
-use gw_flow::{
-    AbsState, Edge, Parameter, ParameterKind, StateParts, Target, check_flow, out_edges,
-};
-use gw_object::{
-    Assign, Block, Fault, Generate, Items, Loop, Memory, Mode, Object, Operand, Spread, TableKind,
-    TableParameter, TableState,
-};
+use gw_blocks::{Assign, Block, Generate, Loop, Mode, Operand, Spread};
+use gw_flow::{AbsState, Edge, Parameter, ParameterKind, StateParts, Target};
+use gw_object::{Fault, Items, Memory, Object, TableKind, TableParameter, TableState};
 use std::alloc::Global;
 use std::test::Fail;
 
@@ -110,7 +102,7 @@ fn object(alloc: Global, table: Table) -> Result<Object, Fail> {
 /// The fault of the object of these blocks and rows.
 fn fault(alloc: Global, table: Table) -> Result<Option<Fault>, Fail> {
     let object = object(alloc, table)?;
-    Ok(check_flow(alloc, &object).err())
+    Ok(first_fault(alloc, &object))
 }
 
 // What blocks ask
@@ -338,9 +330,7 @@ fn parameters(alloc: Global, numbers: &[u8]) -> Result<Vec<Parameter>, Memory> {
 }
 
 /// The parts of a state that knows these parameters.
-fn state_parts(alloc: Global, numbers: &[u8]) -> Result<StateParts, Memory>
-    ensures { IfOk result (λ parts. HasRoom (known parts)) }
-{
+fn state_parts(alloc: Global, numbers: &[u8]) -> Result<StateParts, Memory> {
     Ok(StateParts {
         parameters: Items::from_vec(parameters(alloc, numbers)?),
         facilities: Items::from_vec(Vec::new(alloc)),
@@ -349,9 +339,7 @@ fn state_parts(alloc: Global, numbers: &[u8]) -> Result<StateParts, Memory>
 }
 
 /// What is known of a transaction in a state that knows these parameters, if they ascend.
-fn state_of(alloc: Global, numbers: &[u8]) -> Result<Option<AbsState>, Memory>
-    ensures { IfOk result (λ state. IfSome state (λ s. HasRoom (known s))) }
-{
+fn state_of(alloc: Global, numbers: &[u8]) -> Result<Option<AbsState>, Memory> {
     let parts = state_parts(alloc, numbers)?;
     Ok(AbsState::build(parts).ok())
 }
@@ -385,25 +373,8 @@ fn lead_to(edges: &[Edge], blocks: &[u16], numbers: &[u8]) -> bool {
     true
 }
 
-/// What the second block of an object answers for a state: whether its edges lead to these blocks with these parameters,
-/// or its fault.
-fn second_leads(
-    alloc: Global,
-    object: &Object,
-    state: &AbsState,
-    blocks: &[u16],
-    numbers: &[u8],
-) -> Result<bool, Fault>
-    requires { HasRoom (known state.now) }
-{
-    if !is_block(object, 2) {
-        return Ok(false);
-    }
-    let edges = out_edges(alloc, object, 2, state)?;
-    Ok(lead_to(&edges, blocks, numbers))
-}
-
-/// What a block, the second of three, answers for a state with these parameters.
+/// What a block, the second of three, answers for a state with these parameters: whether its edges lead to these blocks
+/// with these parameters, or its fault.
 fn leads(
     alloc: Global,
     block: Block,
@@ -412,10 +383,9 @@ fn leads(
     numbers: &[u8],
 ) -> Result<Result<bool, Fault>, Fail> {
     let object = three_blocks(alloc, block)?;
-    match state_of(alloc, given)? {
-        Some(state) => Ok(second_leads(alloc, &object, &state, blocks, numbers)),
-        None => Ok(Ok(false)),
-    }
+    let state = state_of(alloc, given)?.ok_or("parameters that ascend")?;
+    let edges = second_edges(alloc, &object, &state)?;
+    Ok(edges.map(|edges| lead_to(&edges, blocks, numbers)))
 }
 
 #[test]

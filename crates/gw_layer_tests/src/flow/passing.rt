@@ -2,7 +2,7 @@
 
 use crate::flow::tables::*;
 use crate::models::*;
-use gw_object::Block;
+use gw_blocks::Block;
 use std::test::Fail;
 
 #[test]

@@ -2,7 +2,7 @@
 
 use crate::flow::tables::*;
 use crate::models::*;
-use gw_object::Block;
+use gw_blocks::Block;
 use std::test::Fail;
 
 #[test]
@@ -137,7 +137,12 @@ fn both_ways_of_a_gate_lead_to_rows_that_fit(rt: HostRuntime) -> Result<(), Fail
 
 #[test]
 fn a_generate_without_a_row_is_refused(rt: HostRuntime) -> Result<(), Fail> {
-    const TABLE: Table = &[(GENERATE, NOTHING), (TERMINATE, NOTHING), (GENERATE, None)];
+    const TABLE: Table = &[
+        (GENERATE, NOTHING),
+        (TERMINATE, NOTHING),
+        (GENERATE, None),
+        (TERMINATE, None),
+    ];
     assert!(rt; fault(rt.alloc(), TABLE)? == at_block(25, 3));
     Ok(())
 }

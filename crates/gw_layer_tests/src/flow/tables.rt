@@ -1,8 +1,10 @@
 //! Objects, built by hand from blocks and the rows of their state tables.
 
 use crate::models::*;
+use gw_blocks::Block;
 use gw_flow::check_flow;
-use gw_object::{Block, Fault, Kind, Memory, Object, TableState};
+use gw_kinds::check_kinds;
+use gw_object::{Fault, Kind, Memory, Object, TableState};
 use std::alloc::Global;
 use std::test::Fail;
 
@@ -15,15 +17,35 @@ pub(crate) const NOTHING: Option<Row<'static>> = Some((&[], &[]));
 /// The blocks of an object, each with its row, if it has one.
 pub(crate) type Table = &'static [(Block, Option<Row<'static>>)];
 
+/// The object of these blocks, of these rows, one for each block, and of these return rows.
+pub(crate) fn object_with(
+    alloc: Global,
+    blocks: Vec<Block>,
+    states: Vec<Option<TableState>>,
+    returns: Returns,
+) -> Result<Object, Fail> {
+    let mut entities = three_entities(alloc, 3)?;
+    entities.push(entity(alloc, Kind::Facility, b"G")?)?;
+    let mut parts = parts(alloc, entities, blocks, states)?;
+    parts.returns = return_rows(alloc, returns)?;
+    built(parts)
+}
+
 /// The object of these blocks and of these rows, one for each block.
 pub(crate) fn object_of(
     alloc: Global,
     blocks: Vec<Block>,
     states: Vec<Option<TableState>>,
 ) -> Result<Object, Fail> {
-    let mut entities = three_entities(alloc, 3)?;
-    entities.push(entity(alloc, Kind::Facility, b"G")?)?;
-    built(parts(alloc, entities, blocks, states)?)
+    object_with(alloc, blocks, states, &[])
+}
+
+/// The first fault of an object, if it has one: kinds before flow.
+pub(crate) fn first_fault(alloc: Global, object: &Object) -> Option<Fault> {
+    match check_kinds(object) {
+        Ok(()) => check_flow(alloc, object).err(),
+        Err(fault) => Some(fault),
+    }
 }
 
 /// The blocks of these.
@@ -36,7 +58,7 @@ fn blocks_of(alloc: Global, table: Table) -> Result<Vec<Block>, Memory> {
 }
 
 /// A row, if there is one, as an object has it.
-fn state_if(alloc: Global, row: Option<Row>) -> Result<Option<TableState>, Memory> {
+fn row_if(alloc: Global, row: Option<Row>) -> Result<Option<TableState>, Memory> {
     match row {
         Some(row) => Ok(Some(state(alloc, row)?)),
         None => Ok(None),
@@ -47,7 +69,7 @@ fn state_if(alloc: Global, row: Option<Row>) -> Result<Option<TableState>, Memor
 fn states_of(alloc: Global, table: Table) -> Result<Vec<Option<TableState>>, Memory> {
     let mut states = Vec::new(alloc);
     for (_, row) in table {
-        states.push(state_if(alloc, *row)?)?;
+        states.push(row_if(alloc, *row)?)?;
     }
     Ok(states)
 }
@@ -56,5 +78,5 @@ fn states_of(alloc: Global, table: Table) -> Result<Vec<Option<TableState>>, Mem
 pub(crate) fn fault(alloc: Global, table: Table) -> Result<Option<Fault>, Fail> {
     let blocks = blocks_of(alloc, table)?;
     let object = object_of(alloc, blocks, states_of(alloc, table)?)?;
-    Ok(check_flow(alloc, &object).err())
+    Ok(first_fault(alloc, &object))
 }

@@ -2,8 +2,8 @@
 
 use super::named::*;
 use crate::models::*;
+use gw_blocks::{Block, EntityAttribute, Numbered, Operand};
 use gw_kinds::Way;
-use gw_object::{Block, EntityAttribute, Numbered, Operand};
 use std::test::Fail;
 
 /// Whether a facility that isn't there is owned.

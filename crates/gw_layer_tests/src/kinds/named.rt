@@ -1,11 +1,12 @@
 //! Kinds: what the values of blocks name, and LOGIC, SAVEVALUE and LOOP, in objects with a logic switch and a savevalue.
 
 use crate::models::*;
-use gw_kinds::{Way, check_kinds, exits, values};
-use gw_object::{
-    Assign, Attribute, Block, Entity, EntityAttribute, Fault, Generate, Kind, Logic, Loop, Memory,
-    Mode, Numbered, Operand, Save, Spread, SwitchAction,
+use gw_blocks::{
+    Assign, Attribute, Block, EntityAttribute, Generate, Logic, Loop, Mode, Numbered, Operand,
+    Save, Spread, SwitchAction,
 };
+use gw_kinds::{Way, check_kinds, exits, values};
+use gw_object::{Entity, Fault, Kind, Memory};
 use std::alloc::Global;
 use std::test::Fail;
 

@@ -1,7 +1,7 @@
 //! Blocks of every kind.
 
 use super::*;
-use gw_object::Fraction;
+use gw_blocks::Fraction;
 
 /// `ADVANCE 10,5 / ADVANCE 0,-1`, then SEIZE of entity 0, RELEASE of 65535, ENTER of 2 units of 1, LEAVE of
 /// none of 1, QUEUE of 4294967295 of 1024 and DEPART of 1450744508 of 4660; no entities, no states, weights 1.
@@ -68,14 +68,15 @@ fn each_cut_of_blocks_is_truncated_at_the_cut_field(rt: HostRuntime) {
 fn each_fault_of_a_block_is_named_by_its_code_and_place(rt: HostRuntime) -> Result<(), Fail> {
     const FAULTS: &[(usize, usize, &'static [u8], u16, u32)] = &[
         (18, 1, &[0x00], TAG, 18),
-        (18, 1, &[0x0f], TAG, 18),
+        (18, 1, &[0x12], TAG, 18),
         (28, 1, &[0x05], TAG, 28),
-        (56, 1, &[0x0f], TAG, 56),
+        (56, 1, &[0x13], TAG, 56),
         // A SEIZE that is called ENTER takes four bytes more: 05 and ff ff of the RELEASE, and the 06.
         (56, 1, &[0x06], TAG, 63),
         // An ENTER that is called SEIZE takes four bytes less: 00 stands where a tag is due.
         (62, 1, &[0x04], TAG, 65),
-        (90, 1, &[0x01], LIMIT, 90),
+        // A return row, which has no block.
+        (90, 1, &[0x01], LIMIT, 91),
         (91, 1, &[0x02], TAG, 91),
     ];
     assert!(rt; wrong_fault(rt.alloc(), &EIGHT_BLOCKS, FAULTS)?.is_none());
@@ -144,8 +145,10 @@ fn each_cut_of_transfers_is_truncated_at_the_cut_field(rt: HostRuntime) {
 #[test]
 fn each_fault_of_a_transfer_is_named_by_its_code_and_place(rt: HostRuntime) -> Result<(), Fail> {
     const FAULTS: &[(usize, usize, &'static [u8], u16, u32)] = &[
-        (18, 1, &[0x10], TAG, 18),
-        (18, 1, &[0x0f], TAG, 18),
+        // In parameter mode 00 stands where a parameter is due.
+        (18, 1, &[0x10], LIMIT, 19),
+        // In subroutine mode 0e is the parameter, the next tag a GENERATE's, and f4 stands where an operand's is due.
+        (18, 1, &[0x0f], TAG, 23),
         // Behind two bytes more 0e stands where a flag is due.
         (18, 1, &[0x0e], TAG, 21),
         // Behind three bytes less 00 stands where a tag is due.

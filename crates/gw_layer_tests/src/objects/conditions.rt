@@ -2,7 +2,7 @@
 
 use super::values::wrong_block;
 use super::*;
-use gw_object::Attribute;
+use gw_blocks::Attribute;
 
 const C1: Operand = Operand::Attribute(Attribute::Clock);
 

@@ -1,7 +1,7 @@
 //! Rows of the state table.
 
 use super::*;
-use gw_object::Units;
+use gw_blocks::Units;
 
 /// Three blocks `TRANSFER ,1` with weights 1. The first has a state with facilities 0 and 2 and 5 units of entity
 /// 1, the second one with 1 unit of entity 1 and 2147483647 of entity 7, the third none.

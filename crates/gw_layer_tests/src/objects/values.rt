@@ -1,10 +1,10 @@
 //! Values: parameters, attributes, logic switches and savevalues, and the blocks that change them.
 
 use super::*;
-use gw_object::{
-    Assign, Attribute, EntityAttribute, Kind, Logic, Loop, Mode, Numbered, Save, Spread,
-    SwitchAction, TableKind, TableParameter,
+use gw_blocks::{
+    Assign, Attribute, EntityAttribute, Logic, Loop, Mode, Numbered, Save, Spread, SwitchAction,
 };
+use gw_object::{Kind, TableKind, TableParameter};
 
 /// No blocks; a logic switch `L` that is set, one `M` that is reset, and a savevalue `X` of -2; termination count 1.
 const SETTINGS: [u8; 38] = [
@@ -145,8 +145,6 @@ fn each_cut_of_changes_is_truncated_at_the_cut_field(rt: HostRuntime) {
 #[test]
 fn tags_that_stand_for_no_block_are_named(rt: HostRuntime) -> Result<(), Fail> {
     const FAULTS: &[(usize, usize, &'static [u8], u16, u32)] = &[
-        (18, 1, &[0x0f], TAG, 18),
-        (18, 1, &[0x10], TAG, 18),
         (18, 1, &[0x12], TAG, 18),
         (40, 1, &[0x15], TAG, 40),
         (72, 1, &[0x19], TAG, 72),
@@ -410,7 +408,7 @@ fn each_fault_of_a_parameter_is_named_by_its_code_and_place(rt: HostRuntime) -> 
         (23, 1, &[0xff, 0x00, 0x00, 0x00, 0x02], NOT_CANONICAL, 23),
         (24, 1, &[0x00], LIMIT, 24),
         (26, 1, &[0x41], LIMIT, 26),
-        (25, 1, &[0x01], TAG, 25),
+        (25, 1, &[0x02], TAG, 25),
         (27, 1, &[0x02], TAG, 27),
         // Two parameters of one number, and of falling numbers.
         (26, 1, &[0x01], NOT_CANONICAL, 26),

@@ -4,4 +4,4 @@ use Rattle.gw_fields.proofs.lists.room_after_elements.Given as goal
 
 abbrev pub invariant-loop-element : goal.invariant-loop-element
 invariant-loop-element g l =
-    l.left + length (flat_map g.T.Spelled.spelling (take l.element-index l.elements)) ≡ l.room
+    l.left + length (flat_map g.L.Elements.element_spelling (take l.element-index l.elements)) ≡ l.room

@@ -10,6 +10,8 @@ use Rattle.gw_flow.proofs.fits.has_params.Goals as goal
 -- where nothing is set, it doesn't suffice
 none_set : (kind : Holds) → kind_fits None (Some (held_kind kind)) ≡ false
 none_set held.Num = refl
+none_set (held.ReturnTo b) = refl
+none_set (held.ReturnToAny bs) = refl
 
 pub returns : goal.returns
 returns c =

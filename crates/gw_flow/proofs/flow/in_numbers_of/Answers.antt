@@ -11,9 +11,9 @@ loop-edge-preserved c =
     let more = take_more c.args.edges.now c.loop-edge.edge-index c.edge-item.result c.loop-edge-test.true in
     let both = map-append said_by_flow (take c.loop-edge.edge-index c.args.edges.now) (c.edge-item.result ∷ []) in
     record {
-      same = rw c.in_ok-push.ensures.items (map-append said c.loop-edge.out.items (made ∷ [])
-          ∙ ap (λ xs. xs ++ said made ∷ []) c.loop-edge.invariant.same
-          ∙ ap (λ x. map said_by_flow (take c.loop-edge.edge-index c.args.edges.now) ++ x ∷ []) c.in_ok-in_numbers_of.ensures.same
+      same = λ rows each. rw c.in_ok-push.ensures.items (map-append (said rows) c.loop-edge.out.items (made ∷ [])
+          ∙ ap (λ xs. xs ++ said rows made ∷ []) (c.loop-edge.invariant.same rows each)
+          ∙ ap (λ x. map said_by_flow (take c.loop-edge.edge-index c.args.edges.now) ++ x ∷ []) (c.in_ok-in_numbers_of.ensures.same rows (rw c.edge-item.is (each c.loop-edge.edge-index c.edge-item.result c.loop-edge-test.true)))
           ∙ sym both ∙ ap (map said_by_flow) (ap (λ x. take c.loop-edge.edge-index c.args.edges.now ++ x ∷ []) c.edge-item.is ∙ sym more));
       own = rw c.in_ok-push.ensures.items (All-push (λ (e : Edge). e.state.parameters ≡ c.args.parameters.now) c.loop-edge.out.items made c.loop-edge.invariant.own c.in_ok-in_numbers_of.ensures.own);
     }

@@ -1,7 +1,7 @@
 use Rattle.std.proofs.Common.{◌∙◌, sym, ap, take, get_or, pos}
 use Rattle.std.specs.List.{find}
 use Rattle.std.proofs.lemmas.List.{take_more}
-use Rattle.gw_object.specs.declared.parts.Operand.TheVariants.{Constant}
+use Rattle.gw_blocks.specs.declared.parts.Operand.TheVariants.{Constant}
 use Rattle.gw_flow.specs.Blocks.{parameter_of, parameters_read}
 use Rattle.gw_flow.specs.Unfit.{is_unfit, lowered}
 use Rattle.gw_flow.proofs.Unfit.{lowered_by}

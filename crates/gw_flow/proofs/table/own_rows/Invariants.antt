@@ -7,6 +7,6 @@ use Rattle.gw_flow.proofs.table.own_rows.Given as goal
 -- the rows so far are those of the states so far, and each has room
 abbrev pub invariant-loop-state : goal.invariant-loop-state
 invariant-loop-state l = record {
-  same : l.rows.items ≡ map (option_map seen) (take l.state-index l.states);
+  same : l.rows.items ≡ map (option_map (seen l.returns)) (take l.state-index l.states);
   room : All (λ row. IfSome row HasRoom) l.rows.items;
 }

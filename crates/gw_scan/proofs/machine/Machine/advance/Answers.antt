@@ -1,5 +1,5 @@
 use Rattle.std.proofs.Common.{rules, ◌≡◌, Err, sym, ◌∙◌, subst}
-use Rattle.gw_object.specs.declared.parts.Block.TheVariants as blocks
+use Rattle.gw_blocks.specs.declared.parts.Block.TheVariants as blocks
 use Rattle.gw_step.specs.Outcome.{Outcome, Gives}
 use Rattle.gw_step.specs.State.{State}
 use Rattle.gw_step.specs.Times.{environment_of, drawn_moment}

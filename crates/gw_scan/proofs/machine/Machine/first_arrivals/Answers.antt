@@ -1,8 +1,8 @@
 use Rattle.std.proofs.Common.{None, pos, length, sym, ap, ◌∙◌, arith}
 use Rattle.gw_entities.specs.Table.{FacilityTable}
-use Rattle.gw_object.specs.declared.parts.Operand.TheVariants.{Constant}
-use Rattle.gw_object.specs.declared.parts.Block.{Block}
-use Rattle.gw_object.specs.declared.parts.Block.TheVariants as blocks
+use Rattle.gw_blocks.specs.declared.parts.Operand.TheVariants.{Constant}
+use Rattle.gw_blocks.specs.declared.parts.Block.{Block}
+use Rattle.gw_blocks.specs.declared.parts.Block.TheVariants as blocks
 use Rattle.gw_scan.specs.View.{state_of}
 use Rattle.gw_scan.proofs.Starting.{stops, continues, is_done, operands_here}
 use Rattle.gw_scan.proofs.machine.Machine.first_arrivals.Goals as goal

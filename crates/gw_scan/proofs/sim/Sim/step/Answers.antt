@@ -1,5 +1,5 @@
 use Rattle.std.proofs.Common.{rules, ◌≡◌, List, None, sym, subst}
-use Rattle.gw_object.specs.declared.parts.Block.{Block}
+use Rattle.gw_blocks.specs.declared.parts.Block.{Block}
 use Rattle.gw_scan.specs.Coherence.{IsRunning}
 use Rattle.gw_scan.proofs.Running.{running}
 use Rattle.gw_step.specs.Job.{Step}

@@ -1,0 +1,172 @@
+//! The operands of the blocks that change parameters, logic switches and savevalues, in bytes.
+
+ghost use Rattle.std.specs.Prelude.{◌≡◌};
+ghost use Rattle.gw_blocks.specs.Grammar.{mode_byte, modes, assign, countdown, action_byte, actions, logic, save};
+ghost use Rattle.gw_fields.specs.Answers.{Gives};
+
+use crate::Memory;
+use crate::operands::read_parameter_number;
+use crate::parts::*;
+use gw_fields::{OneByte, ReadError, Spelled, read_one_of};
+use std::alloc::Global;
+
+impl OneByte for Mode {
+    ghost byte_of = { mode_byte };
+
+    ghost values = { modes };
+
+    fn byte(self) -> u8 {
+        match self {
+            Mode::Set => 0,
+            Mode::Add => 1,
+            Mode::Subtract => 2,
+        }
+    }
+
+    fn of_byte(byte: u8) -> Option<Mode> {
+        match byte {
+            0 => Some(Mode::Set),
+            1 => Some(Mode::Add),
+            2 => Some(Mode::Subtract),
+            _ => None,
+        }
+    }
+}
+
+impl Spelled for Assign {
+    ghost spelling = { assign.spell };
+
+    ghost reading = { assign.read };
+
+    #[tactic(auto, unfolding(crate::specs::Grammar::assign))]
+    fn put(&self, out: &mut Vec<u8>) -> Result<(), Memory> {
+        self.parameter.put(out)?;
+        out.push(self.mode.byte())?;
+        self.value.put(out)
+    }
+
+    #[tactic(auto, unfolding(crate::specs::Grammar::assign))]
+    fn room_after(&self, room: usize) -> Option<usize> {
+        let room = room.checked_sub(2)?;
+        self.value.room_after(room)
+    }
+
+    #[tactic(auto, unfolding(crate::specs::Grammar::assign))]
+    fn read(alloc: Global, bytes: &[u8]) -> Result<(Assign, &[u8]), ReadError> {
+        let (parameter, rest) = read_parameter_number(alloc, bytes)?;
+        let (mode, rest) = read_one_of::<Mode>(alloc, rest)?;
+        let (value, rest) = Operand::read(alloc, rest)?;
+        let assign = Assign {
+            parameter,
+            mode,
+            value,
+        };
+        Ok((assign, rest))
+    }
+}
+
+impl Spelled for Loop {
+    ghost spelling = { countdown.spell };
+
+    ghost reading = { countdown.read };
+
+    #[tactic(auto, unfolding(crate::specs::Grammar::countdown))]
+    fn put(&self, out: &mut Vec<u8>) -> Result<(), Memory> {
+        self.parameter.put(out)?;
+        self.target.put(out)
+    }
+
+    #[tactic(auto, unfolding(crate::specs::Grammar::countdown))]
+    fn room_after(&self, room: usize) -> Option<usize> {
+        let room = self.parameter.room_after(room)?;
+        self.target.room_after(room)
+    }
+
+    #[tactic(auto, unfolding(crate::specs::Grammar::countdown))]
+    fn read(alloc: Global, bytes: &[u8]) -> Result<(Loop, &[u8]), ReadError> {
+        let (parameter, rest) = read_parameter_number(alloc, bytes)?;
+        let (target, rest) = u16::read(alloc, rest)?;
+        Ok((Loop { parameter, target }, rest))
+    }
+}
+
+impl OneByte for SwitchAction {
+    ghost byte_of = { action_byte };
+
+    ghost values = { actions };
+
+    fn byte(self) -> u8 {
+        match self {
+            SwitchAction::Set => 0,
+            SwitchAction::Reset => 1,
+            SwitchAction::Invert => 2,
+        }
+    }
+
+    fn of_byte(byte: u8) -> Option<SwitchAction> {
+        match byte {
+            0 => Some(SwitchAction::Set),
+            1 => Some(SwitchAction::Reset),
+            2 => Some(SwitchAction::Invert),
+            _ => None,
+        }
+    }
+}
+
+impl Spelled for Logic {
+    ghost spelling = { logic.spell };
+
+    ghost reading = { logic.read };
+
+    #[tactic(auto, unfolding(crate::specs::Grammar::logic))]
+    fn put(&self, out: &mut Vec<u8>) -> Result<(), Memory> {
+        out.push(self.action.byte())?;
+        self.switch.put(out)
+    }
+
+    #[tactic(auto, unfolding(crate::specs::Grammar::logic))]
+    fn room_after(&self, room: usize) -> Option<usize> {
+        let room = room.checked_sub(1)?;
+        self.switch.room_after(room)
+    }
+
+    #[tactic(auto, unfolding(crate::specs::Grammar::logic))]
+    fn read(alloc: Global, bytes: &[u8]) -> Result<(Logic, &[u8]), ReadError> {
+        let (action, rest) = read_one_of::<SwitchAction>(alloc, bytes)?;
+        let (switch, rest) = u16::read(alloc, rest)?;
+        Ok((Logic { action, switch }, rest))
+    }
+}
+
+impl Spelled for Save {
+    ghost spelling = { save.spell };
+
+    ghost reading = { save.read };
+
+    #[tactic(auto, unfolding(crate::specs::Grammar::save))]
+    fn put(&self, out: &mut Vec<u8>) -> Result<(), Memory> {
+        self.savevalue.put(out)?;
+        out.push(self.mode.byte())?;
+        self.value.put(out)
+    }
+
+    #[tactic(auto, unfolding(crate::specs::Grammar::save))]
+    fn room_after(&self, room: usize) -> Option<usize> {
+        let room = self.savevalue.room_after(room)?;
+        let room = room.checked_sub(1)?;
+        self.value.room_after(room)
+    }
+
+    #[tactic(auto, unfolding(crate::specs::Grammar::save))]
+    fn read(alloc: Global, bytes: &[u8]) -> Result<(Save, &[u8]), ReadError> {
+        let (savevalue, rest) = u16::read(alloc, bytes)?;
+        let (mode, rest) = read_one_of::<Mode>(alloc, rest)?;
+        let (value, rest) = Operand::read(alloc, rest)?;
+        let save = Save {
+            savevalue,
+            mode,
+            value,
+        };
+        Ok((save, rest))
+    }
+}

@@ -1,0 +1,21 @@
+//! The blocks of a model with their operands, and the one spelling of them in bytes (docs/object-format.md).
+//!
+//! It knows of no object: what else one consists of is `gw_object`'s.
+#![tactic(auto)]
+
+mod blocks;
+mod changes;
+mod conditions;
+mod limits;
+mod operands;
+mod parts;
+
+pub use blocks::blocks_fit;
+pub use limits::{MOST_PARAMETERS, MOST_STREAMS};
+pub use operands::{is_parameter, read_parameter_number};
+pub use parts::{
+    Assign, Attribute, Block, Call, Comparison, Condition, EntityAttribute, Fraction, Gate,
+    Generate, Logic, Loop, Mode, Numbered, Operand, Save, Spread, SwitchAction, Test, Units,
+};
+/// The answer where there was no memory.
+pub use std::alloc::AllocError as Memory;
