@@ -15,7 +15,7 @@ use Rattle.gw_blocks.specs.declared.parts.Block.TheVariants.{Generate, Terminate
 use Rattle.gw_fields.specs.Fields.{Field, behind, byte, signed, optional}
 use Rattle.gw_blocks.specs.Grammar.{parameter_number, stream_number, attribute_byte, attributes, attribute, entity_attribute_byte, entity_attributes, NumberedFits, numbered, OperandFits, operand_spelling, operand_forms, operand_read, operand, mode_byte, modes, mode, AssignFits, assign, comparison_byte, comparisons, TestFits, test_operands, condition_byte, conditions, GateFits, gate, CallFits, call, LoopFits, countdown, action_byte, actions, LogicFits, logic, SaveFits, save, SpreadFits, spread, GenerateFits, generate, entity_number, UnitsFit, units, block_number, FractionFits, fraction, BlockFits, block_spelling, block_forms, block_read, block}
 use Rattle.gw_fields.proofs.OneOf.{AreFound, one_of_exact}
-use Rattle.gw_fields.proofs.Exact.{ReadsBack, ◌also◌, tag_reads_back, IsExactForm, AreExactForms, behind_exact, by_tag_takes, by_tag_within, IsExact, byte_exact, wide16, wide32, wide64, number_exact, signed_exact, made_exact, both_exact, fitting_exact, ranged_exact, optional_exact}
+use Rattle.gw_fields.proofs.Exact.{ReadsBack, ◌also◌, tag_reads_back, IsExactForm, AreExactForms, behind_exact, by_tag_exact, IsExact, byte_exact, wide16, wide32, wide64, number_exact, signed_exact, made_exact, both_exact, fitting_exact, ranged_exact, optional_exact}
 
 -- ---- numbers
 
@@ -76,12 +76,7 @@ operand_reads_back (Random s) fits = tag_reads_back operand_forms 4 (λ s. Rando
 
 pub operand_exact : IsExact operand
 unfolding operand_read
-operand_exact = record {
-  takes = by_tag_takes operand_spelling OperandFits operand_forms operand_forms_exact;
-  again = λ x rest fits. (operand_reads_back x fits).again rest;
-  within = by_tag_within operand_spelling OperandFits operand_forms operand_forms_exact;
-  cut = λ x fits. (operand_reads_back x fits).cut;
-}
+operand_exact = by_tag_exact operand_spelling OperandFits operand_forms operand_forms_exact operand_reads_back
 
 pub spread_exact : IsExact spread
 unfolding spread
@@ -240,9 +235,4 @@ block_reads_back (Mark p) fits = tag_reads_back block_forms 24 (λ p. Mark p) (o
 
 pub block_exact : IsExact block
 unfolding block_read
-block_exact = record {
-  takes = by_tag_takes block_spelling BlockFits block_forms block_forms_exact;
-  again = λ b rest fits. (block_reads_back b fits).again rest;
-  within = by_tag_within block_spelling BlockFits block_forms block_forms_exact;
-  cut = λ b fits. (block_reads_back b fits).cut;
-}
+block_exact = by_tag_exact block_spelling BlockFits block_forms block_forms_exact block_reads_back

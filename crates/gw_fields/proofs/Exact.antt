@@ -469,6 +469,15 @@ tag_reads_back forms tag make f found exact x fits = record {
   cut = tag_cut forms tag make f found exact x fits;
 }
 
+-- forms that are exact make an exact field, where each value is read back
+pub by_tag_exact : {A : Type 0} (spell : A → List ℕ) (Fits : A → Type 0) (forms : List (Form A)) → AreExactForms spell Fits forms → ((x : A) → Fits x → ReadsBack (by_tag forms) (spell x) x) → IsExact (record { spell = spell; read = by_tag forms; Fits = Fits })
+by_tag_exact spell Fits forms exact back = record {
+  takes = by_tag_takes spell Fits forms exact;
+  again = λ x rest fits. (back x fits).again rest;
+  within = by_tag_within spell Fits forms exact;
+  cut = λ x fits. (back x fits).cut;
+}
+
 -- ---- 00, or 01 and a value
 
 -- what stands behind a flag that is not 00

@@ -1,11 +1,11 @@
 -- What kinds are where their checks hold.
-use Rattle.std.proofs.Common.{◌≡◌, ℕ, zero, suc, ◌<◌, List, [], ◌∷◌, ◌++◌, length, Option, Some, None, Bool, true, false, not, nat_lt, if◌then◌else◌, ◌+◌, refl, sym, ap, ◌∙◌, arith}
+use Rattle.std.proofs.Common.{◌≡◌, ℕ, zero, suc, ◌<◌, List, [], ◌∷◌, ◌++◌, map, length, Option, Some, None, Bool, true, false, not, nat_lt, if◌then◌else◌, ◌+◌, refl, sym, ap, ◌∙◌, arith}
 use Rattle.std.specs.Prelude.{◌&&◌, is_some, filter_map, IfSome, IsTrue}
 use Rattle.std.specs.List.{All, list_all, cons_option}
 use Rattle.std.specs.Option.{IsSomeAnd}
 use Rattle.std.proofs.lemmas.Bool.{ltb-true, lt-ltb}
 use Rattle.std.proofs.lemmas.List.Elements.{All-nil, All-cons, All-head, All-tail}
-use Rattle.std.proofs.lemmas.List.Folds.{list_all-append}
+use Rattle.std.proofs.lemmas.List.Folds.{list_all-append, list_all-map}
 use Rattle.std.proofs.lemmas.List.Sums.{AllPass-from_list_all, list_all-from_AllPass}
 use Rattle.gw_object.specs.declared.fault.Place.{Place}
 use Rattle.gw_object.specs.declared.fault.Place.TheVariants as places
@@ -20,7 +20,7 @@ use Rattle.gw_kinds.specs.declared.ways.Way.{Way}
 use Rattle.gw_kinds.specs.declared.ways.Way.TheVariants.{Falls, Goes}
 use Rattle.gw_kinds.specs.declared.ways.Exit.{Exit}
 use Rattle.gw_kinds.specs.Checks.{Check, numbered}
-use Rattle.gw_kinds.specs.Exits.{leads_to, exits, is_call, comes_back}
+use Rattle.gw_kinds.specs.Exits.{leads_to, exits, is_call, comes_back, ways}
 use Rattle.gw_kinds.specs.Kinds.{is_none_or, kind_at, serves_as, values, named_entities, entities_of_row, names_no_other_kind, are_there, block_at, is_generate, number_of, block_of, named_blocks, has_named_blocks, leads_to_no_generate, stays_inside, is_call_at, return_rows_of, has_return_rows, entity_checks, exit_checks, constant_checks, return_checks, row_checks, block_checks, kinds_checks}
 use Rattle.gw_kinds.specs.Laws.{IsEntity, MayBeEntered, ReturnsHold, RowHolds, BlockHolds, KindsPassAtEachPlace}
 use Rattle.gw_kinds.proofs.Each.{Hold, at_number, first_and_others, first_with_others, parts_hold, hold_together, each_holds, all_hold, each_has, from_each}
@@ -165,13 +165,27 @@ module _ (p : Parts) (b : ℕ) where
       (with_both _ _ one.1 others.0, with_both _ _ (from_way e.way one.0) others.1)
 
   -- the same of the way on once a subroutine comes back, which is to the next block
-  leads_back : (call : Bool) → is_none_or (if call then Some Falls else None) (leads_to_no_generate p.blocks b) ≡ true → is_none_or (if call then Some Falls else None) (stays_inside p.blocks b) ≡ true → IfSome (if call then Some Falls else None) (λ way. MayBeEntered p (leads_to b way))
-  leads_back false g i = tt
-  leads_back true g i = enterable (block_at p.blocks (b + 1)) i g
+  abbrev Goes_on : Way → Type 0
+  Goes_on way = MayBeEntered p (leads_to b way)
 
-  from_back : (call : Bool) → IfSome (if call then Some Falls else None) (λ way. MayBeEntered p (leads_to b way)) → (is_none_or (if call then Some Falls else None) (leads_to_no_generate p.blocks b) ≡ true) × (is_none_or (if call then Some Falls else None) (stays_inside p.blocks b) ≡ true)
+  abbrev back_of : Bool → List Way
+  back_of call = if call then Falls ∷ [] else []
+
+  leads_back : (call : Bool) → list_all (leads_to_no_generate p.blocks b) (back_of call) ≡ true → list_all (stays_inside p.blocks b) (back_of call) ≡ true → All Goes_on (back_of call)
+  leads_back false g i = All-nil Goes_on
+  leads_back true g i = All-cons Goes_on Falls [] (enterable (block_at p.blocks (b + 1)) (both_true _ true i).0 (both_true _ true g).0) (All-nil Goes_on)
+
+  from_back : (call : Bool) → All Goes_on (back_of call) → (list_all (leads_to_no_generate p.blocks b) (back_of call) ≡ true) × (list_all (stays_inside p.blocks b) (back_of call) ≡ true)
   from_back false h = (refl, refl)
-  from_back true h = let two = from_enterable (block_at p.blocks (b + 1)) h in (two.1, two.0)
+  from_back true h =
+      let two = from_enterable (block_at p.blocks (b + 1)) (All-head Goes_on Falls [] h) in
+      (with_both _ true two.1 refl, with_both _ true two.0 refl)
+
+-- a test of all ways on from a block: of those of its exits, and of the one once a subroutine comes back
+of_ways : (test : Way → Bool) (block : Block) → list_all test (ways block) ≡ (list_all (λ (exit : Exit). test exit.way) (exits block) && list_all test (comes_back block))
+of_ways test block =
+    let on = λ (exit : Exit). exit.way in
+    list_all-append test (map on (exits block)) (comes_back block) ∙ ap (λ so. so && list_all test (comes_back block)) (list_all-map test on (exits block))
 
 -- THE BLOCK
 
@@ -191,8 +205,8 @@ block_from_checks p b block h =
     let three = parts_hold (exit_checks p.blocks b block) (constant_checks b block) two.1 in
     let named = first_and_others _ _ _ three.0 in
     let enters = first_and_others _ _ _ named.1 in
-    let no_generate = both_true (no_generate p b (exits block)) (is_none_or (comes_back block) (leads_to_no_generate p.blocks b)) enters.0 in
-    let inside = both_true (inside p b (exits block)) (is_none_or (comes_back block) (stays_inside p.blocks b)) (first_and_others _ _ _ enters.1).0 in
+    let no_generate = both_true (no_generate p b (exits block)) (list_all (leads_to_no_generate p.blocks b) (comes_back block)) (sym (of_ways (leads_to_no_generate p.blocks b) block) ∙ enters.0) in
+    let inside = both_true (inside p b (exits block)) (list_all (stays_inside p.blocks b) (comes_back block)) (sym (of_ways (stays_inside p.blocks b) block) ∙ (first_and_others _ _ _ enters.1).0) in
     record {
       entities = entities_from_checks p.entities (places.Block b) (named_entities block) two.0;
       blocks = AllPass-from_list_all (is_block p) (named_blocks block) named.0;
@@ -208,7 +222,7 @@ checks_from_block p b block h =
     hold_together (entity_checks p.entities (places.Block b) (named_entities block)) (exit_checks p.blocks b block ++ constant_checks b block)
     (checks_from_entities p.entities (places.Block b) (named_entities block) h.entities)
     (hold_together (exit_checks p.blocks b block) (constant_checks b block)
-    (first_with_others _ _ _ (list_all-from_AllPass (is_block p) (named_blocks block) h.blocks) (first_with_others _ _ _ (with_both _ _ e.0 back.0) (first_with_others _ _ _ (with_both _ _ e.1 back.1) refl)))
+    (first_with_others _ _ _ (list_all-from_AllPass (is_block p) (named_blocks block) h.blocks) (first_with_others _ _ _ (of_ways (leads_to_no_generate p.blocks b) block ∙ with_both _ _ e.0 back.0) (first_with_others _ _ _ (of_ways (stays_inside p.blocks b) block ∙ with_both _ _ e.1 back.1) refl)))
     (first_with_others _ _ _ h.constants refl))
 
 -- THE OBJECT

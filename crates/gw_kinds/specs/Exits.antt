@@ -1,5 +1,5 @@
 -- Exits: where a transaction goes on to from each block.
-use Rattle.std.specs.Prelude.{ℕ, ◌+◌, pos, List, [], ◌∷◌, map, Option, Some, None, Bool, true, false, if◌then◌else◌, ◌&&◌, int_le, int_lt}
+use Rattle.std.specs.Prelude.{ℕ, ◌+◌, pos, List, [], ◌∷◌, ◌++◌, map, Option, Some, None, Bool, true, false, if◌then◌else◌, ◌&&◌, int_le, int_lt}
 use Rattle.gw_blocks.specs.declared.parts.Operand.{Operand}
 use Rattle.gw_blocks.specs.declared.parts.Operand.TheVariants.{Constant}
 use Rattle.gw_blocks.specs.declared.parts.Block.{Block}
@@ -53,8 +53,12 @@ is_call (blocks.TransferToSubroutine c) = true
 is_call block = false
 
 -- the way on from a block that calls a subroutine, once that one comes back
-abbrev pub comes_back : Block → Option Way
-comes_back block = if is_call block then Some Falls else None
+abbrev pub comes_back : Block → List Way
+comes_back block = if is_call block then Falls ∷ [] else []
+
+-- the ways on from a block: those of its exits, and the one once a subroutine comes back
+abbrev pub ways : Block → List Way
+ways block = map (λ (exit : Exit). exit.way) (exits block) ++ comes_back block
 
 -- the exit to the block after the one of number b, which called the subroutine that ends here
 abbrev pub returns_to : ℕ → Exit

@@ -30,7 +30,7 @@ use Rattle.gw_kinds.specs.declared.ways.Way.TheVariants.{Falls, Goes}
 use Rattle.gw_kinds.specs.declared.ways.Exit.{Exit}
 use Rattle.gw_kinds.specs.Checks.{Check, check, first_broken, numbered}
 use Rattle.gw_kinds.specs.Codes as codes
-use Rattle.gw_kinds.specs.Exits.{leads_to, exits, is_call, comes_back}
+use Rattle.gw_kinds.specs.Exits.{leads_to, exits, is_call, ways}
 
 -- whether there is none, or one that passes a test
 abbrev pub is_none_or : {A : Type 0} → Option A → (A → Bool) → Bool
@@ -169,18 +169,18 @@ has_named_blocks bs block = list_all (λ target. is_some (block_at bs target)) (
 abbrev pub leads_to_no_generate : List Block → ℕ → Way → Bool
 leads_to_no_generate bs b way = not (is_generate (block_at bs (leads_to b way)))
 
--- no exit of the block of number b leads to a GENERATE, nor does the way on once a subroutine comes back
+-- no way on from the block of number b leads to a GENERATE
 abbrev pub enters_no_generate : List Block → ℕ → Block → Bool
-enters_no_generate bs b block = list_all (λ (exit : Exit). leads_to_no_generate bs b exit.way) (exits block) && is_none_or (comes_back block) (leads_to_no_generate bs b)
+enters_no_generate bs b block = list_all (leads_to_no_generate bs b) (ways block)
 
 -- a way falls from the block of number b to a block that is there, if it falls
 abbrev pub stays_inside : List Block → ℕ → Way → Bool
 stays_inside bs b Falls = is_some (block_at bs (b + 1))
 stays_inside bs b (Goes target) = true
 
--- no exit of the block of number b falls off the last block, nor does the way on once a subroutine comes back
+-- no way on from the block of number b falls off the last block
 abbrev pub never_falls_off : List Block → ℕ → Block → Bool
-never_falls_off bs b block = list_all (λ (exit : Exit). stays_inside bs b exit.way) (exits block) && is_none_or (comes_back block) (stays_inside bs b)
+never_falls_off bs b block = list_all (stays_inside bs b) (ways block)
 
 -- RETURN ROWS
 

@@ -34,7 +34,7 @@ pub record BlockHolds (p : Parts) (b : ℕ) (block : Block) : Type 0 where
   pub entities : All (IsEntity p.entities) (named_entities block)
   pub blocks : All (λ named. IsSome (block_at p.blocks named)) (named_blocks block)
   pub exits : All (λ (exit : Exit). MayBeEntered p (leads_to b exit.way)) (exits block)
-  pub back : IfSome (comes_back block) (λ way. MayBeEntered p (leads_to b way))
+  pub back : All (λ way. MayBeEntered p (leads_to b way)) (comes_back block)
   pub constants : IsTrue (has_good_constants block)
 
 -- kinds pass exactly where they hold at each return row, in each row of the state table and at each block

@@ -1,9 +1,6 @@
 //! Where transactions go on to: the blocks there.
 
 ghost use Rattle.std.specs.Prelude.{◌≡◌, ◌≤◌, ◌+◌, Some, is_some, not};
-ghost use Rattle.std.specs.List.{list_all};
-ghost use Rattle.gw_kinds.specs.Exits.{exits as exits_of};
-ghost use Rattle.gw_kinds.specs.declared.ways.Exit.{Exit as DeclaredExit};
 ghost use Rattle.gw_kinds.specs.Kinds as model;
 
 use crate::entities::needed_for;
@@ -71,31 +68,16 @@ fn leads_to_no_generate(blocks: &[Block], number: u16, way: Way) -> bool
     !is_generate_at(blocks, leads_to(number, way))
 }
 
-/// Whether no exit of the block of this number leads to a GENERATE.
-fn exits_lead_to_no_generate(blocks: &[Block], number: u16, block: &Block) -> bool
-    requires { number ≤ 4096 }
-    ensures { result ≡ list_all (λ (exit : DeclaredExit). model.leads_to_no_generate blocks.now number exit.way) (exits_of block.now) }
-{
-    exits(block)
-        .iter()
-        .all(|exit| leads_to_no_generate(blocks, number, exit.way))
-}
-
-/// Whether a way from the block of this number, if there is one, leads to no GENERATE.
-fn if_any_leads_to_no_generate(blocks: &[Block], number: u16, way: Option<Way>) -> bool
-    requires { number ≤ 4096 }
-    ensures { result ≡ model.is_none_or way (model.leads_to_no_generate blocks.now number) }
-{
-    way.is_none_or(|way| leads_to_no_generate(blocks, number, way))
-}
-
-/// Whether no exit of the block of this number leads to a GENERATE, nor the way on once a subroutine comes back.
+/// Whether no way on from the block of this number leads to a GENERATE.
 pub(crate) fn enters_no_generate(blocks: &[Block], number: u16, block: &Block) -> bool
     requires { number ≤ 4096 }
     ensures { result ≡ model.enters_no_generate blocks.now number block.now }
 {
-    exits_lead_to_no_generate(blocks, number, block)
-        && if_any_leads_to_no_generate(blocks, number, comes_back(block))
+    let exits = exits(block);
+    let on = exits.iter().map(|exit| exit.way);
+    let back = comes_back(block).iter().map(|way| *way);
+    on.chain(back)
+        .all(|way| leads_to_no_generate(blocks, number, way))
 }
 
 /// Whether a way falls from the block of this number to a block that is there, if it falls.
@@ -109,29 +91,13 @@ fn stays_inside(blocks: &[Block], number: u16, way: Way) -> bool
     }
 }
 
-/// Whether no exit of the block of this number falls off the last block.
-fn exits_stay_inside(blocks: &[Block], number: u16, block: &Block) -> bool
-    requires { number ≤ 4096 }
-    ensures { result ≡ list_all (λ (exit : DeclaredExit). model.stays_inside blocks.now number exit.way) (exits_of block.now) }
-{
-    exits(block)
-        .iter()
-        .all(|exit| stays_inside(blocks, number, exit.way))
-}
-
-/// Whether a way, if there is one, falls from the block of this number to a block that is there, if it falls.
-fn if_any_stays_inside(blocks: &[Block], number: u16, way: Option<Way>) -> bool
-    requires { number ≤ 4096 }
-    ensures { result ≡ model.is_none_or way (model.stays_inside blocks.now number) }
-{
-    way.is_none_or(|way| stays_inside(blocks, number, way))
-}
-
-/// Whether no exit of the block of this number falls off the last block, nor the way on once a subroutine comes back.
+/// Whether no way on from the block of this number falls off the last block.
 pub(crate) fn never_falls_off(blocks: &[Block], number: u16, block: &Block) -> bool
     requires { number ≤ 4096 }
     ensures { result ≡ model.never_falls_off blocks.now number block.now }
 {
-    exits_stay_inside(blocks, number, block)
-        && if_any_stays_inside(blocks, number, comes_back(block))
+    let exits = exits(block);
+    let on = exits.iter().map(|exit| exit.way);
+    let back = comes_back(block).iter().map(|way| *way);
+    on.chain(back).all(|way| stays_inside(blocks, number, way))
 }

@@ -103,14 +103,10 @@ pub(crate) fn is_call(block: &Block) -> bool
 }
 
 /// The way on from a block that calls a subroutine, once that one comes back.
-pub(crate) fn comes_back(block: &Block) -> Option<Way>
-    ensures { result ≡ model.comes_back block.now }
+pub(crate) fn comes_back(block: &Block) -> &'static [Way]
+    ensures { result.now ≡ model.comes_back block.now }
 {
-    if is_call(block) {
-        Some(Way::Falls)
-    } else {
-        None
-    }
+    if is_call(block) { &[Way::Falls] } else { &[] }
 }
 
 /// The exit to the block after the one of this number, which called the subroutine that ends here.

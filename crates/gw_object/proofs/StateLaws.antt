@@ -16,7 +16,7 @@ use Rattle.gw_object.specs.Grammar.{no_elements, row_number, above_last, returne
 use Rattle.gw_blocks.specs.Grammar.{entity_number, block_number, parameter_number}
 use Rattle.gw_blocks.proofs.BlockLaws.{entity_number_exact, block_number_exact, parameter_number_exact}
 use Rattle.gw_fields.proofs.Ascending.{ascending_exact, nat_order, ascends, ascending_fit}
-use Rattle.gw_fields.proofs.Exact.{ReadsBack, ◌also◌, tag_reads_back, AreExactForms, behind_exact, by_tag_takes, by_tag_within, IsExact, IsExactElement, plain_exact, wide16, wide32, number_exact, made_exact, both_exact, fitting_exact, ranged_exact, nothing_exact, count_exact, listed_exact, All-from_fit, fit-from_All}
+use Rattle.gw_fields.proofs.Exact.{ReadsBack, ◌also◌, tag_reads_back, AreExactForms, behind_exact, by_tag_exact, IsExact, IsExactElement, plain_exact, wide16, wide32, number_exact, made_exact, both_exact, fitting_exact, ranged_exact, nothing_exact, count_exact, listed_exact, All-from_fit, fit-from_All}
 
 -- ---- states
 
@@ -42,12 +42,7 @@ table_kind_reads_back (Ret row) fits = tag_reads_back table_kind_forms 1 (λ row
 
 table_kind_exact : IsExact table_kind
 unfolding table_kind_read
-table_kind_exact = record {
-  takes = by_tag_takes table_kind_spelling TableKindFits table_kind_forms table_kind_forms_exact;
-  again = λ x rest fits. (table_kind_reads_back x fits).again rest;
-  within = by_tag_within table_kind_spelling TableKindFits table_kind_forms table_kind_forms_exact;
-  cut = λ x fits. (table_kind_reads_back x fits).cut;
-}
+table_kind_exact = by_tag_exact table_kind_spelling TableKindFits table_kind_forms table_kind_forms_exact table_kind_reads_back
 
 abbrev parameter_of : ℕ × TableKind → TableParameter
 parameter_of x = record { number = x.0; kind = x.1 }

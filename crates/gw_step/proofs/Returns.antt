@@ -1,6 +1,6 @@
 -- What kinds say of the returns that a row of the state table knows: each is the number of a block that calls a subroutine, and after which a transaction may go on.
 use Rattle.std.proofs.Common.{◌≡◌, ℕ, zero, suc, ◌+◌, List, [], ◌∷◌, map, Option, Some, None, Bool, true, false, if◌then◌else◌, ◌==◌, ◌||◌, refl, sym, subst, inl, inr}
-use Rattle.std.specs.Prelude.{All, IfSome, IsTrue, option_map}
+use Rattle.std.specs.Prelude.{All, IsTrue, option_map}
 use Rattle.std.specs.Option.{option_map_or}
 use Rattle.std.proofs.lemmas.Bool.{cases_eq, ne_eqb, false≢true}
 use Rattle.std.proofs.lemmas.List.Elements.{All-head, All-tail}
@@ -11,6 +11,7 @@ use Rattle.gw_object.specs.declared.parts.TableParameter.{TableParameter}
 use Rattle.gw_object.specs.declared.parts.TableState.{TableState}
 use Rattle.gw_object.specs.declared.parts.ReturnRow.{ReturnRow}
 use Rattle.gw_object.specs.declared.parts.Parts.{Parts}
+use Rattle.gw_kinds.specs.declared.ways.Way.{Way}
 use Rattle.gw_kinds.specs.declared.ways.Way.TheVariants.{Falls}
 use Rattle.gw_kinds.specs.Exits.{leads_to, is_call}
 use Rattle.gw_kinds.specs.Kinds.{block_at, is_call_at}
@@ -67,7 +68,8 @@ module _ (p : Parts) (each_block : (b : ℕ) (block : Block) → block_at p.bloc
   back_from : (b : ℕ) → is_call_at p.blocks b ≡ true → MayBeEntered p (b + 1)
   back_from b calls =
       let found = the_call (block_at p.blocks b) calls in
-      subst (λ so. IfSome (if so then Some Falls else None) (λ way. MayBeEntered p (leads_to b way))) found.2 (each_block b found.0 found.1).back
+      let goes_on = λ (way : Way). MayBeEntered p (leads_to b way) in
+      All-head goes_on Falls [] (subst (λ so. All goes_on (if so then Falls ∷ [] else [])) found.2 (each_block b found.0 found.1).back)
 
   -- so it may after each block to which a parameter is known to return
   pub may_come_back : (place q b : ℕ) (row : Row) (bs : List ℕ) → own_row p place ≡ Some row → kind_of row q ≡ Some (Ret bs) → lists bs b ≡ true → MayBeEntered p (b + 1)

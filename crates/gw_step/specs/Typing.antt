@@ -49,7 +49,7 @@ lists_facility f row = option_map_or (λ row. owns row f) row false
 
 -- the units of an entity that the row of a place promises
 abbrev pub promised_units : ℕ → Option Row → ℕ
-promised_units e row = option_map_or (λ row. units_of row e) row 0
+promised_units e known = option_map_or (λ row. units_of row e) known 0
 
 -- ENTITIES
 

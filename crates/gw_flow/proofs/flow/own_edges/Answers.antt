@@ -1,5 +1,6 @@
-use Rattle.std.proofs.Common.{rules, ◌≡◌, ◌<◌, Result, Ok, Err, sym, subst}
-use Rattle.std.specs.Prelude.{All, AllPairs, IfOk}
+use Rattle.std.proofs.Common.{rules, ◌≡◌, ◌<◌, sym, subst}
+use Rattle.std.specs.Prelude.{All, AllPairs}
+use Rattle.std.proofs.lemmas.Result.{IfOk-weaker}
 use Rattle.gw_flow.specs.declared.abstract_state.Parameter.{Parameter}
 use Rattle.gw_flow.specs.declared.edges.FlowEdge.{FlowEdge}
 use Rattle.gw_flow.specs.Seen.{params_of, known}
@@ -13,15 +14,10 @@ in_numbers_of-requires c =
     let own : c.in_ok-parameters.parameters ≡ parameters_with (own_setting c.args.number c.args.block.now) c.args.state.now.parameters = search rules in
     subst (AllPairs (λ (a b : Parameter). a.number < b.number)) (sym own) (with_ascends (own_setting c.args.number c.args.block.now) c.args.state.now.parameters c.parts.ensures.ordered.parameters)
 
--- what is answered keeps what follows
-on_ok : {A E : Type 0} (P Q : A → Type 0) (r : Result A E) → ((x : A) → P x → Q x) → IfOk r P → IfOk r Q
-on_ok P Q (Ok x) more h = more x h
-on_ok P Q (Err e) more h = tt
-
 pub returns-clause-same : goal.returns-clause-same
 returns-clause-same c =
     let rows = c.args.returns.now in
     let own : c.in_ok-parameters.parameters ≡ parameters_with (own_setting c.args.number c.args.block.now) c.args.state.now.parameters = search rules in
     let edges : c.deref.result.now ≡ edges_from c.args.number c.args.block.now (known rows c.args.state.now) = search rules in
     let each : All (λ (e : FlowEdge). e.state.params ≡ params_of rows c.in_ok-parameters.parameters) c.deref.result.now = rw (own, edges) (own_at_edges rows c.args.number c.args.block.now c.args.state.now) in
-    on_ok _ _ c.in_numbers_of.result (λ out same. subst (SayTheSame rows out.items) edges (same rows each)) c.in_numbers_of.ensures.same
+    IfOk-weaker c.in_numbers_of.result _ _ (λ out same. subst (SayTheSame rows out.items) edges (same rows each)) c.in_numbers_of.ensures.same
