@@ -3,6 +3,7 @@
 ghost use Rattle.std.specs.Prelude.{◌≡◌, Some};
 ghost use Rattle.gpssw.specs.Refusal.{code_name, making_name as name_of_making, place_front, place_numbers, refusal_text, start_refusal};
 
+use gw_code_flow::codes as plus_codes;
 use gw_flow::codes as flow_codes;
 use gw_kinds::codes as kinds_codes;
 use gw_object::{Fault, Place, codes as object_codes};
@@ -38,6 +39,9 @@ fn name(code: u16) -> &'static str
         return name;
     }
     if let Some(name) = kinds_codes::name(code) {
+        return name;
+    }
+    if let Some(name) = plus_codes::name(code) {
         return name;
     }
     if let Some(name) = flow_codes::name(code) {

@@ -38,7 +38,7 @@ attributes_are_found TransitTime = refl
 attributes_are_found TransactionNumber = refl
 attributes_are_found TerminationCount = refl
 
-attribute_exact : IsExact attribute
+pub attribute_exact : IsExact attribute
 attribute_exact = one_of_exact attribute_byte attributes attributes_are_found
 
 entity_attributes_are_found : AreFound entity_attribute_byte entity_attributes

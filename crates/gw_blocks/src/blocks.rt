@@ -9,7 +9,7 @@ use crate::Memory;
 use crate::operands::*;
 use crate::parts::*;
 use gw_fields::codes::TAG;
-use gw_fields::{ReadError, Spelled, fault};
+use gw_fields::{Keyed, ReadError, Spelled, fault};
 use std::alloc::Global;
 
 impl Spelled for Generate {
@@ -46,6 +46,14 @@ impl Spelled for Generate {
             priority,
         };
         Ok((generate, rest))
+    }
+}
+
+impl Keyed for Units {
+    ghost key_of = { λ u. u.entity };
+
+    fn key(&self) -> u16 {
+        self.entity
     }
 }
 

@@ -12,7 +12,7 @@ mod parts;
 
 pub use blocks::blocks_fit;
 pub use limits::{MOST_PARAMETERS, MOST_STREAMS};
-pub use operands::{is_parameter, read_parameter_number};
+pub use operands::{is_parameter, read_parameter_above, read_parameter_number};
 pub use parts::{
     Assign, Attribute, Block, Call, Comparison, Condition, EntityAttribute, Fraction, Gate,
     Generate, Logic, Loop, Mode, Numbered, Operand, Save, Spread, SwitchAction, Test, Units,

@@ -1,15 +1,16 @@
 //! Operands, in bytes and against the rules of the object format.
 
-ghost use Rattle.std.specs.Prelude.{◌≡◌, ◌↔◌, IsTrue};
+ghost use Rattle.std.specs.Prelude.{◌≡◌, ◌↔◌, IsTrue, nat_lt};
 ghost use Rattle.gw_blocks.specs.Grammar.{parameter_number, stream_number, numbered, operand, OperandFits, spread, SpreadFits};
 ghost use Rattle.gw_blocks.specs.Grammar.{attribute_byte, attributes, entity_attribute_byte, entity_attributes};
-ghost use Rattle.gw_fields.specs.Fields.{optional};
+ghost use Rattle.gw_fields.specs.Codes.{not_canonical};
+ghost use Rattle.gw_fields.specs.Fields.{optional, is_above, tested};
 ghost use Rattle.gw_fields.specs.Answers.{Gives};
 
 use crate::Memory;
 use crate::limits::*;
 use crate::parts::*;
-use gw_fields::codes::TAG;
+use gw_fields::codes::{NOT_CANONICAL, TAG};
 use gw_fields::{OneByte, ReadError, Spelled, fault, read_one_of, read_ranged_u8};
 use std::alloc::Global;
 
@@ -32,6 +33,21 @@ pub fn read_parameter_number(alloc: Global, bytes: &[u8]) -> Result<(u8, &[u8]),
     ensures { Gives (λ x. (x.0, x.1.now)) result (parameter_number.read bytes.now) }
 {
     read_ranged_u8(alloc, bytes, 1, MOST_PARAMETERS as u8)
+}
+
+/// A parameter's number that is above the one before it, if there is one.
+pub fn read_parameter_above(
+    alloc: Global,
+    before: Option<u8>,
+    bytes: &[u8],
+) -> Result<(u8, &[u8]), ReadError>
+    ensures { Gives (λ x. (x.0, x.1.now)) result ((tested (is_above nat_lt before) not_canonical parameter_number).read bytes.now) }
+{
+    let (number, rest) = read_parameter_number(alloc, bytes)?;
+    if before.is_some_and(|before| number <= before) {
+        return Err(fault(NOT_CANONICAL, bytes));
+    }
+    Ok((number, rest))
 }
 
 /// A parameter's number, or none.

@@ -1,3 +1,4 @@
+pub mod Attributes
 pub mod Average
 pub mod Contents
 pub mod Facility

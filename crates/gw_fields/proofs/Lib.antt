@@ -1,3 +1,4 @@
+pub mod AboveLast
 pub mod Ascending
 pub mod Exact
 mod Loop

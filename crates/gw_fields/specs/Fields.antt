@@ -236,6 +236,10 @@ ascending {K} {A} is_below make back key f =
     let at = λ (front : List A). made make back (both (tested (is_above is_below (last front)) codes.not_canonical key) f) in
     record { spell = (made make back (both key f)).spell; read = λ front left. (at front).read; Fits = λ front left. (at front).Fits }
 
+-- a number that is above the one before it
+abbrev pub above_last : Field ℕ → Element ℕ
+above_last f = ascending nat_lt (λ x. x.0) (λ n. (n, tt)) f nothing
+
 -- so many elements behind those at the front
 unfoldable pub elements_read : {A : Type 0} → (List A → ℕ → List ℕ → Read A) → ℕ → List A → List ℕ → Read (List A)
 elements_read read zero front bytes = Ok (front, bytes)

@@ -6,12 +6,16 @@
 mod choices;
 pub mod codes;
 mod error;
+mod items;
+mod keys;
 mod lists;
 mod numbers;
 mod spelled;
 
 pub use choices::{OneByte, read_one_of};
 pub use error::{Bad, ReadError, fault};
+pub use items::Items;
+pub use keys::{Keyed, keys_ascend};
 pub use lists::{
     Elements, Plain, put_elements, put_listed, read_elements, read_listed, room_after_elements,
     room_after_listed,

@@ -1,8 +1,5 @@
 -- Operand values: what the operands of a block come to, from left to right, and where the streams are after their draws.
-use Rattle.std.specs.Prelude.{ℕ, ◌-◌, ◌%◌, ℤ, pos, ◌-ℤ◌, List, [], ◌∷◌, Option, Some, None, Result, Ok, Err, set}
-use Rattle.gw_blocks.specs.declared.parts.Attribute.{Attribute}
-use Rattle.gw_blocks.specs.declared.parts.Attribute.TheVariants.{Clock, AbsoluteClock, Priority, TransitTime, TransactionNumber, TerminationCount}
-use Rattle.gw_blocks.specs.declared.parts.Numbered.{Numbered}
+use Rattle.std.specs.Prelude.{ℕ, ◌-◌, ◌%◌, ℤ, pos, List, [], ◌∷◌, Option, Some, None, Result, Ok, Err, set}
 use Rattle.gw_blocks.specs.declared.parts.Operand.{Operand}
 use Rattle.gw_blocks.specs.declared.parts.Operand.TheVariants as forms
 use Rattle.gw_blocks.specs.declared.parts.Spread.{Spread}
@@ -11,21 +8,7 @@ use Rattle.gw_blocks.specs.declared.parts.Block.TheVariants as blocks
 use Rattle.gw_num.specs.declared.arithmetic.NumFault.{NumFault}
 use Rattle.gw_num.specs.Generator as generator
 use Rattle.gw_num.specs.Table.{at}
-
--- what operands may read of the job, and of the transaction that they are evaluated for
-pub record Environment : Type 0 where
-  -- in clock units
-  pub clock : ℤ
-  -- the termination count
-  pub count : ℤ
-  -- the transaction's number, its priority, and the clock time at which it entered the model
-  pub number : ℕ
-  pub priority : ℤ
-  pub mark : ℤ
-  -- its parameters by number, as far as they are set
-  pub parameters : List (Option ℤ)
-  -- the attributes of entities and blocks
-  pub of_entity : Numbered → ℤ
+use Rattle.gw_code_flow.specs.Environment.{Environment, attribute_value}
 
 -- what an evaluation comes to: a value; or a fault, which ends the job; or nothing, where a parameter isn't set
 pub data Evaluation (A : Type 0) : Type 0 where
@@ -77,15 +60,6 @@ if_set (Some value) = Value value
 -- the value of a parameter
 abbrev pub parameter_value : Environment → ℕ → Evaluation ℤ
 parameter_value env p = if_set (at None env.parameters p)
-
--- an attribute of the clock, the termination count or the transaction
-abbrev pub attribute_value : Environment → Attribute → ℤ
-attribute_value env Clock = env.clock
-attribute_value env AbsoluteClock = env.clock
-attribute_value env Priority = env.priority
-attribute_value env TransitTime = env.clock -ℤ env.mark
-attribute_value env TransactionNumber = pos env.number
-attribute_value env TerminationCount = env.count
 
 -- an operand's value, and the streams then
 abbrev pub operand_value : Environment → Operand → List ℕ → Evaluation (ℤ × List ℕ)

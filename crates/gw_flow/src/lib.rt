@@ -17,3 +17,4 @@ mod table;
 pub use abstract_state::{AbsState, Amount, Parameter, ParameterKind, StateParts};
 pub use edges::{Edge, Target};
 pub use flow::{check_flow, out_edges};
+pub use gw_code_flow::check_plus;

@@ -356,6 +356,7 @@ fn parts_with(
         seeds: Items::from_vec(Vec::from_slice(alloc, seeds)?),
         count,
         entities: six_entities(alloc)?,
+        procedures: Items::from_vec(Vec::new(alloc)),
         blocks: Items::from_vec(Vec::from_slice(alloc, blocks)?),
         returns,
         states,

@@ -2,13 +2,15 @@
 use Rattle.std.proofs.Common.{◌≡◌, ℕ, zero, suc, ◌<◌, List, [], ◌∷◌, ◌++◌, map, length, Option, Some, None, Bool, true, false, not, nat_lt, if◌then◌else◌, ◌+◌, refl, sym, ap, ◌∙◌, arith}
 use Rattle.std.specs.Prelude.{◌&&◌, is_some, filter_map, IfSome, IsTrue}
 use Rattle.std.specs.List.{All, list_all, cons_option}
-use Rattle.std.specs.Option.{IsSomeAnd}
+use Rattle.std.specs.Option.{IsSome, IsSomeAnd}
 use Rattle.std.proofs.lemmas.Bool.{ltb-true, lt-ltb}
 use Rattle.std.proofs.lemmas.List.Elements.{All-nil, All-cons, All-head, All-tail}
 use Rattle.std.proofs.lemmas.List.Folds.{list_all-append, list_all-map}
 use Rattle.std.proofs.lemmas.List.Sums.{AllPass-from_list_all, list_all-from_AllPass}
 use Rattle.gw_object.specs.declared.fault.Place.{Place}
 use Rattle.gw_object.specs.declared.fault.Place.TheVariants as places
+use Rattle.gw_code.specs.declared.parts.Instruction.{Instruction}
+use Rattle.gw_code.specs.declared.parts.Procedure.{Procedure}
 use Rattle.gw_object.specs.declared.parts.Entity.{Entity}
 use Rattle.gw_blocks.specs.declared.parts.Block.{Block}
 use Rattle.gw_object.specs.declared.parts.TableState.{TableState}
@@ -21,8 +23,10 @@ use Rattle.gw_kinds.specs.declared.ways.Way.TheVariants.{Falls, Goes}
 use Rattle.gw_kinds.specs.declared.ways.Exit.{Exit}
 use Rattle.gw_kinds.specs.Checks.{Check, numbered}
 use Rattle.gw_kinds.specs.Exits.{leads_to, exits, is_call, comes_back, ways}
-use Rattle.gw_kinds.specs.Kinds.{is_none_or, kind_at, serves_as, values, named_entities, entities_of_row, names_no_other_kind, are_there, block_at, is_generate, number_of, block_of, named_blocks, has_named_blocks, leads_to_no_generate, stays_inside, is_call_at, return_rows_of, has_return_rows, entity_checks, exit_checks, constant_checks, return_checks, row_checks, block_checks, kinds_checks}
-use Rattle.gw_kinds.specs.Laws.{IsEntity, MayBeEntered, ReturnsHold, RowHolds, BlockHolds, KindsPassAtEachPlace}
+use Rattle.gw_kinds.specs.Kinds.{is_none_or, kind_at, serves_as, values, named_entities, entities_of_row, names_no_other_kind, are_there, block_at, is_generate, number_of, block_of, named_blocks, has_named_blocks, leads_to_no_generate, stays_inside, is_call_at, return_rows_of, has_return_rows, entity_checks, exit_checks, constant_checks, return_checks, row_checks, block_checks, is_no_other_kind, is_there}
+use Rattle.gw_kinds.specs.Procedures.{entity_in, procedure_in, block_in, instruction_checks, procedure_checks}
+use Rattle.gw_kinds.specs.Pass.{row_and_block_checks, return_and_later_checks, kinds_checks}
+use Rattle.gw_kinds.specs.Laws.{IsEntity, MayBeEntered, InstructionHolds, ProcedureHolds, ReturnsHold, RowHolds, BlockHolds, KindsPassAtEachPlace}
 use Rattle.gw_kinds.proofs.Each.{Hold, at_number, first_and_others, first_with_others, parts_hold, hold_together, each_holds, all_hold, each_has, from_each}
 
 -- TESTS
@@ -187,12 +191,60 @@ of_ways test block =
     let on = λ (exit : Exit). exit.way in
     list_all-append test (map on (exits block)) (comes_back block) ∙ ap (λ so. so && list_all test (comes_back block)) (list_all-map test on (exits block))
 
--- THE BLOCK
+-- PROCEDURES
 
--- the blocks that are named: those of exits, and those of values
+-- a block that is named is there
 abbrev is_block : Parts → ℕ → Bool
 is_block p named = is_some (block_at p.blocks named)
 
+-- what passes a test, if it is there
+if_any : {A : Type 0} (test : A → Bool) (Is : A → Type 0) → ((x : A) → test x ≡ true → Is x) → (o : Option A) → is_none_or o test ≡ true → IfSome o Is
+if_any test Is tells None h = tt
+if_any test Is tells (Some x) h = tells x h
+
+tests_any : {A : Type 0} (test : A → Bool) (Is : A → Type 0) → ((x : A) → Is x → test x ≡ true) → (o : Option A) → IfSome o Is → is_none_or o test ≡ true
+tests_any test Is passes None h = refl
+tests_any test Is passes (Some x) h = passes x h
+
+-- an entity that may be named: of the right kind, and there
+named_entity : (es : List Entity) (o : Option Named) → is_none_or o (is_no_other_kind es) ≡ true → is_none_or o (is_there es) ≡ true → IfSome o (IsEntity es)
+named_entity es None right there = tt
+named_entity es (Some n) right there = is_entity es n.entity n.needed right (ltb-true n.entity (length es) there)
+
+from_named_entity : (es : List Entity) (o : Option Named) → IfSome o (IsEntity es) → (is_none_or o (is_no_other_kind es) ≡ true) × (is_none_or o (is_there es) ≡ true)
+from_named_entity es None h = (refl, refl)
+from_named_entity es (Some n) h =
+    let two = from_entity es n.entity n.needed h in
+    (two.0, lt-ltb n.entity (length es) two.1)
+
+instruction_from_checks : (p : Parts) (n locals k : ℕ) (i : Instruction) → Hold (instruction_checks p n locals k i) → InstructionHolds p locals i
+instruction_from_checks p n locals k i h =
+    let right = first_and_others _ _ _ h in
+    let there = first_and_others _ _ _ right.1 in
+    let both = both_true (is_none_or (entity_in i) (is_there p.entities)) (is_none_or (procedure_in i) (λ q. nat_lt q (length p.procedures))) there.0 in
+    let block = first_and_others _ _ _ there.1 in record {
+      entity = named_entity p.entities (entity_in i) right.0 both.0;
+      called = if_any (λ q. nat_lt q (length p.procedures)) (λ q. q < length p.procedures) (λ q. ltb-true q (length p.procedures)) (procedure_in i) both.1;
+      block = if_any (is_block p) (λ b. IsSome (block_at p.blocks b)) (λ b h. h) (block_in i) block.0;
+      numbers = (first_and_others _ _ _ block.1).0;
+    }
+
+checks_from_instruction : (p : Parts) (n locals k : ℕ) (i : Instruction) → InstructionHolds p locals i → Hold (instruction_checks p n locals k i)
+checks_from_instruction p n locals k i h =
+    let entity = from_named_entity p.entities (entity_in i) h.entity in
+    let called = tests_any (λ q. nat_lt q (length p.procedures)) (λ q. q < length p.procedures) (λ q. lt-ltb q (length p.procedures)) (procedure_in i) h.called in
+    let block = tests_any (is_block p) (λ b. IsSome (block_at p.blocks b)) (λ b h. h) (block_in i) h.block in
+    first_with_others _ _ _ entity.0 (first_with_others _ _ _ (with_both _ _ entity.1 called) (first_with_others _ _ _ block (first_with_others _ _ _ h.numbers refl)))
+
+procedure_from_checks : (p : Parts) (n : ℕ) (pr : Procedure) → Hold (procedure_checks p n pr) → ProcedureHolds p pr
+procedure_from_checks p n pr h = each_has (instruction_checks p n pr.locals) (InstructionHolds p pr.locals) (instruction_from_checks p n pr.locals) 0 pr.code h
+
+checks_from_procedure : (p : Parts) (n : ℕ) (pr : Procedure) → ProcedureHolds p pr → Hold (procedure_checks p n pr)
+checks_from_procedure p n pr h = from_each (instruction_checks p n pr.locals) (InstructionHolds p pr.locals) (checks_from_instruction p n pr.locals) 0 pr.code h
+
+-- THE BLOCK
+
+-- the blocks to which a block sends transactions
 abbrev targets : Block → List ℕ
 targets block = filter_map (λ (exit : Exit). number_of exit.way) (exits block)
 
@@ -237,13 +289,16 @@ unfolding kinds_checks
 kinds_pass_at_each_place p =
     let of_rows : ℕ → Option TableState → List Check = λ b. row_checks p (places.Block b) in (
       λ h.
-          let three = parts_hold (numbered (return_checks p) 0 p.returns) (numbered of_rows 1 p.states ++ numbered (block_checks p) 1 p.blocks) h in
+          let four = parts_hold (numbered (procedure_checks p) 0 p.procedures) (return_and_later_checks p) h in
+          let three = parts_hold (numbered (return_checks p) 0 p.returns) (row_and_block_checks p) four.1 in
           let two = parts_hold (numbered of_rows 1 p.states) (numbered (block_checks p) 1 p.blocks) three.1 in
-          (each_has (return_checks p) (ReturnsHold p) (returns_from_checks p) 0 p.returns three.0, each_has of_rows (λ row. IfSome row (RowHolds p)) (row_from_checks p) 1 p.states two.0, λ b block is. block_holds p b block two.1 is),
+          (each_has (procedure_checks p) (ProcedureHolds p) (procedure_from_checks p) 0 p.procedures four.0, each_has (return_checks p) (ReturnsHold p) (returns_from_checks p) 0 p.returns three.0, each_has of_rows (λ row. IfSome row (RowHolds p)) (row_from_checks p) 1 p.states two.0, λ b block is. block_holds p b block two.1 is),
       λ h.
-          hold_together (numbered (return_checks p) 0 p.returns) (numbered of_rows 1 p.states ++ numbered (block_checks p) 1 p.blocks)
-          (from_each (return_checks p) (ReturnsHold p) (checks_from_returns p) 0 p.returns h.0)
+          hold_together (numbered (procedure_checks p) 0 p.procedures) (return_and_later_checks p)
+          (from_each (procedure_checks p) (ProcedureHolds p) (checks_from_procedure p) 0 p.procedures h.0)
+          (hold_together (numbered (return_checks p) 0 p.returns) (row_and_block_checks p)
+          (from_each (return_checks p) (ReturnsHold p) (checks_from_returns p) 0 p.returns h.1)
           (hold_together (numbered of_rows 1 p.states) (numbered (block_checks p) 1 p.blocks)
-          (from_each of_rows (λ row. IfSome row (RowHolds p)) (checks_from_row p) 1 p.states h.1)
-          (all_hold (block_checks p) 1 p.blocks (λ i block is. at_number (block_checks p) block (omega arith) (checks_from_block p (suc i) block (h.2 (suc i) block is))))),
+          (from_each of_rows (λ row. IfSome row (RowHolds p)) (checks_from_row p) 1 p.states h.2)
+          (all_hold (block_checks p) 1 p.blocks (λ i block is. at_number (block_checks p) block (omega arith) (checks_from_block p (suc i) block (h.3 (suc i) block is)))))),
     )

@@ -1,5 +1,5 @@
 -- Kinds: what every number in an object names.
-use Rattle.std.specs.Prelude.{◌≡◌, ℕ, zero, suc, ◌+◌, ◌^◌, pos, List, [], ◌∷◌, ◌++◌, length, map, filter_map, Option, Some, None, is_some, Bool, true, false, if◌then◌else◌, not, ◌&&◌, nat_lt, nat_le, int_le, slice_get}
+use Rattle.std.specs.Prelude.{ℕ, zero, suc, ◌+◌, ◌^◌, pos, List, [], ◌∷◌, ◌++◌, length, map, filter_map, Option, Some, None, is_some, Bool, true, false, if◌then◌else◌, not, ◌&&◌, nat_lt, nat_le, int_le, slice_get}
 use Rattle.std.specs.Option.{option_map, option_map_or}
 use Rattle.std.specs.List.{list_all, cons_option}
 use Rattle.gw_object.specs.declared.fault.Place.{Place}
@@ -9,6 +9,7 @@ use Rattle.gw_object.specs.declared.parts.Kind.TheVariants as kinds
 use Rattle.gw_object.specs.declared.parts.Entity.{Entity}
 use Rattle.gw_blocks.specs.declared.parts.EntityAttribute.{EntityAttribute}
 use Rattle.gw_blocks.specs.declared.parts.EntityAttribute.TheVariants.{FacilityOwned, StorageContent, StorageRemaining, QueueContent, SavevalueValue, SwitchSetting, BlockEntries, BlockCount}
+use Rattle.gw_blocks.specs.declared.parts.Numbered.{Numbered}
 use Rattle.gw_blocks.specs.declared.parts.Operand.{Operand}
 use Rattle.gw_blocks.specs.declared.parts.Operand.TheVariants.{OfEntity}
 use Rattle.gw_blocks.specs.declared.parts.Units.{Units}
@@ -28,7 +29,7 @@ use Rattle.gw_kinds.specs.declared.entities.Named.{Named}
 use Rattle.gw_kinds.specs.declared.ways.Way.{Way}
 use Rattle.gw_kinds.specs.declared.ways.Way.TheVariants.{Falls, Goes}
 use Rattle.gw_kinds.specs.declared.ways.Exit.{Exit}
-use Rattle.gw_kinds.specs.Checks.{Check, check, first_broken, numbered}
+use Rattle.gw_kinds.specs.Checks.{Check, check}
 use Rattle.gw_kinds.specs.Codes as codes
 use Rattle.gw_kinds.specs.Exits.{leads_to, exits, is_call, ways}
 
@@ -81,9 +82,13 @@ needed_for SwitchSetting = Some Switch
 needed_for BlockEntries = None
 needed_for BlockCount = None
 
+-- the entity that an attribute with a number names, if it does
+abbrev pub entity_named : Numbered → Option Named
+entity_named a = option_map (λ needed. needs needed a.number) (needed_for a.attribute)
+
 -- the entity that an operand names, if it does
 abbrev pub entity_of : Operand → Option Named
-entity_of (OfEntity a) = option_map (λ needed. needs needed a.number) (needed_for a.attribute)
+entity_of (OfEntity a) = entity_named a
 entity_of operand = None
 
 -- what a condition needs its entity to be
@@ -127,13 +132,21 @@ return_row_of (Ret r) = Some r
 abbrev pub return_rows_of : TableState → List ℕ
 return_rows_of row = filter_map (λ (q : TableParameter). return_row_of q.kind) row.parameters
 
--- none of these entities is of another kind than what it is needed as; one that isn't there is of none
+-- an entity is of no other kind than what it is needed as; one that isn't there is of none
+abbrev pub is_no_other_kind : List Entity → Named → Bool
+is_no_other_kind es named = is_none_or (kind_at es named.entity) (serves_as named.needed)
+
+-- an entity is there
+abbrev pub is_there : List Entity → Named → Bool
+is_there es named = nat_lt named.entity (length es)
+
+-- none of these entities is of another kind than what it is needed as
 abbrev pub names_no_other_kind : List Entity → List Named → Bool
-names_no_other_kind es named = list_all (λ (n : Named). is_none_or (kind_at es n.entity) (serves_as n.needed)) named
+names_no_other_kind es named = list_all (is_no_other_kind es) named
 
 -- these entities are there
 abbrev pub are_there : List Entity → List Named → Bool
-are_there es named = list_all (λ (n : Named). nat_lt n.entity (length es)) named
+are_there es named = list_all (is_there es) named
 
 -- BLOCKS
 
@@ -152,9 +165,13 @@ abbrev pub number_of : Way → Option ℕ
 number_of Falls = None
 number_of (Goes target) = Some target
 
--- the block that an operand names, if it does: that of an attribute that needs no entity
+-- the block that an attribute with a number names, if it does: that of an attribute that needs no entity
+abbrev pub block_named : Numbered → Option ℕ
+block_named a = if is_some (needed_for a.attribute) then None else Some a.number
+
+-- the block that an operand names, if it does
 abbrev pub block_of : Operand → Option ℕ
-block_of (OfEntity a) = if is_some (needed_for a.attribute) then None else Some a.number
+block_of (OfEntity a) = block_named a
 block_of operand = None
 
 -- the blocks that a block names by their numbers, in order: those to which it sends transactions, and then those of its values
@@ -248,11 +265,3 @@ constant_checks b block = check codes.bad_constant (places.Block b) (has_good_co
 -- of the block of number b: its entities, its exits and its constants
 abbrev pub block_checks : Parts → ℕ → Block → List Check
 block_checks p b block = entity_checks p.entities (places.Block b) (named_entities block) ++ exit_checks p.blocks b block ++ constant_checks b block
-
--- every check of kinds, in order: of return rows, of the state table's rows, each at its block, and of blocks
-unfoldable pub kinds_checks : Parts → List Check
-kinds_checks p = numbered (return_checks p) 0 p.returns ++ (numbered (λ b. row_checks p (places.Block b)) 1 p.states ++ numbered (block_checks p) 1 p.blocks)
-
--- kinds hold: no check of them is broken
-abbrev pub KindsPass : Parts → Type 0
-KindsPass p = first_broken (kinds_checks p) ≡ None

@@ -4,3 +4,5 @@ pub mod Exits
 pub mod Kinds
 pub mod Laws
 pub mod Names
+pub mod Pass
+pub mod Procedures

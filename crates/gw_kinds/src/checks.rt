@@ -1,6 +1,7 @@
 //! Checks of one element after the other.
 
 ghost use Rattle.std.specs.Prelude.{◌≡◌, ◌<◌, ◌≤◌, ◌+◌, ℕ, List, [], ◌∷◌, length};
+ghost use Rattle.std.specs.List.{All};
 ghost use Rattle.gw_object.specs.declared.parts.Parts.{Parts};
 ghost use Rattle.gw_kinds.specs.Checks.{Check, Finds, numbered, check as check_of};
 
@@ -9,12 +10,16 @@ use gw_object::{Fault, Parts, Place};
 /// What is checked of each of some elements of an object.
 pub(crate) trait NumberedChecks<T> {
     /// The checks of the element of this number, in order.
-    ghost checks: { Parts → ℕ → T → List Check };
+    ghost checks: { Self → Parts → ℕ → T → List Check };
+
+    /// An element may be checked: a list of its own is short enough to be numbered.
+    ghost can_check: { T → Type 0 } = { λ _. Unit {0} };
 
     /// The first fault of the element of this number, if there is one.
-    fn check_one(parts: &Parts, number: u16, element: &T) -> Result<(), Fault>
-        requires { number ≤ 4096 }
-        ensures { Finds result (checks parts.now number element.now) };
+    fn check_one(&self, parts: &Parts, number: u16, element: &T) -> Result<(), Fault>
+        requires number { number ≤ 4096 }
+        requires element { can_check element.now }
+        ensures { Finds result (checks self.now parts.now number element.now) };
 }
 
 /// One check: nothing where it holds, else the fault of this code at this place (ours: docs/refusals.md).
@@ -30,15 +35,17 @@ pub fn check(code: u16, place: Place, holds: bool) -> Result<(), Fault>
 
 /// The first fault of these elements, if there is one; the first of them has this number.
 pub(crate) fn check_each<T, C: NumberedChecks<T>>(
+    checks: &C,
     parts: &Parts,
     first: u16,
     elements: &[T],
 ) -> Result<(), Fault>
-    requires { first + length elements.now ≤ 4097 }
-    ensures { Finds result (numbered (C.checks parts.now) first elements.now) }
+    requires numbers { first + length elements.now ≤ 4097 }
+    requires elements { All C.can_check elements.now }
+    ensures { Finds result (numbered (C.checks checks.now parts.now) first elements.now) }
 {
     for i in 0..elements.len() {
-        C::check_one(parts, first + i as u16, &elements[i])?;
+        checks.check_one(parts, first + i as u16, &elements[i])?;
     }
     Ok(())
 }

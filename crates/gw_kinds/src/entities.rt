@@ -1,11 +1,11 @@
 //! The entities that blocks and rows of the state table name.
 
-ghost use Rattle.std.specs.Prelude.{◌≡◌, nat_lt, length, filter_map};
+ghost use Rattle.std.specs.Prelude.{◌≡◌, filter_map};
 ghost use Rattle.gw_kinds.specs.Kinds as model;
 ghost use Rattle.gw_kinds.specs.declared.entities.EntityKind.TheVariants as needed;
 
 use crate::evaluated::values;
-use gw_blocks::{Block, Condition, EntityAttribute, Operand};
+use gw_blocks::{Block, Condition, EntityAttribute, Numbered, Operand};
 use gw_object::{Entity, Kind};
 
 /// What an entity is needed as: SEIZE and RELEASE need a facility, ENTER and LEAVE a storage, QUEUE and DEPART a queue,
@@ -68,12 +68,19 @@ pub(crate) fn needed_for(attribute: EntityAttribute) -> Option<EntityKind>
     }
 }
 
+/// The entity that an attribute with a number names, if it does.
+pub(crate) fn entity_named(of: Numbered) -> Option<Named>
+    ensures { result ≡ model.entity_named of }
+{
+    needed_for(of.attribute).map(|needed| needs(needed, of.number))
+}
+
 /// The entity that an operand names, if it does.
 fn entity_of(operand: &Operand) -> Option<Named>
     ensures { result ≡ model.entity_of operand.now }
 {
     match operand {
-        Operand::OfEntity(of) => needed_for(of.attribute).map(|needed| needs(needed, of.number)),
+        Operand::OfEntity(of) => entity_named(*of),
         _ => None,
     }
 }
@@ -123,7 +130,7 @@ fn serves_as(needed: EntityKind, kind: &Kind) -> bool
 
 /// Whether an entity that is named is of no other kind; one that isn't there is of none.
 pub(crate) fn is_no_other_kind(entities: &[Entity], named: Named) -> bool
-    ensures { result ≡ model.is_none_or (model.kind_at entities.now named.entity) (model.serves_as named.needed) }
+    ensures { result ≡ model.is_no_other_kind entities.now named }
 {
     entities
         .get(named.entity as usize)
@@ -152,7 +159,7 @@ pub(crate) fn names_no_other_kind(entities: &[Entity], block: &Block) -> bool
 
 /// Whether an entity that is named is there.
 pub(crate) fn is_there(entities: &[Entity], named: Named) -> bool
-    ensures { result ≡ nat_lt named.entity (length entities.now) }
+    ensures { result ≡ model.is_there entities.now named }
 {
     (named.entity as usize) < entities.len()
 }

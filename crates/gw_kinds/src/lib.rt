@@ -8,6 +8,7 @@ mod constants;
 mod entities;
 mod evaluated;
 pub mod laws;
+mod procedures;
 mod returns;
 mod rows;
 mod targets;

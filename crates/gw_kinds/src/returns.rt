@@ -30,9 +30,9 @@ fn names_calls(blocks: &[Block], row: &ReturnRow) -> bool
 pub(crate) struct Returns;
 
 impl NumberedChecks<ReturnRow> for Returns {
-    ghost checks = { model.return_checks };
+    ghost checks = { λ _. model.return_checks };
 
-    fn check_one(parts: &Parts, number: u16, element: &ReturnRow) -> Result<(), Fault> {
+    fn check_one(&self, parts: &Parts, number: u16, element: &ReturnRow) -> Result<(), Fault> {
         let called = names_calls(parts.blocks.as_slice(), element);
         check(WRONG_KIND, Place::Row(number), called)
     }

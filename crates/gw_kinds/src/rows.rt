@@ -86,9 +86,14 @@ pub(crate) struct Rows;
 impl NumberedChecks<Option<TableState>> for Rows {
     ghost use Rattle.gw_object.specs.declared.fault.Place.TheVariants as places;
 
-    ghost checks = { λ p b. model.row_checks p (places.Block b) };
+    ghost checks = { λ _ p b. model.row_checks p (places.Block b) };
 
-    fn check_one(parts: &Parts, number: u16, element: &Option<TableState>) -> Result<(), Fault> {
+    fn check_one(
+        &self,
+        parts: &Parts,
+        number: u16,
+        element: &Option<TableState>,
+    ) -> Result<(), Fault> {
         match element {
             None => Ok(()),
             Some(row) => check_row(parts, Place::Block(number), row),

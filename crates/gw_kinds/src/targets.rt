@@ -6,10 +6,10 @@ ghost use Rattle.gw_kinds.specs.Kinds as model;
 use crate::entities::needed_for;
 use crate::evaluated::values;
 use crate::ways::{Way, comes_back, exits, leads_to};
-use gw_blocks::{Block, Operand};
+use gw_blocks::{Block, Numbered, Operand};
 
 /// Whether there is a block of this number, from 1.
-fn is_block(blocks: &[Block], number: u16) -> bool
+pub(crate) fn is_block(blocks: &[Block], number: u16) -> bool
     ensures { result ≡ is_some (model.block_at blocks.now number) }
 {
     number != 0 && number as usize <= blocks.len()
@@ -39,12 +39,22 @@ fn number_of(way: Way) -> Option<u16>
     }
 }
 
-/// The block that an operand names, if it does: that of an attribute that needs no entity.
+/// The block that an attribute with a number names, if it does: that of an attribute that needs no entity.
+pub(crate) fn block_named(of: Numbered) -> Option<u16>
+    ensures { result ≡ model.block_named of }
+{
+    match needed_for(of.attribute) {
+        Some(_) => None,
+        None => Some(of.number),
+    }
+}
+
+/// The block that an operand names, if it does.
 fn block_of(operand: &Operand) -> Option<u16>
     ensures { result ≡ model.block_of operand.now }
 {
     match operand {
-        Operand::OfEntity(of) if needed_for(of.attribute).is_none() => Some(of.number),
+        Operand::OfEntity(of) => block_named(*of),
         _ => None,
     }
 }

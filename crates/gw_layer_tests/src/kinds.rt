@@ -2,6 +2,7 @@
 
 mod conditions;
 mod named;
+mod procedures;
 mod subroutines;
 
 use crate::models::*;

@@ -3,6 +3,7 @@
 ghost use Rattle.std.specs.Prelude.{◌≡◌, length, IfOk};
 
 use gw_blocks::{Block, Generate, Operand, Spread, Units};
+use gw_code::{Instruction, Procedure};
 use gw_object::{
     Entity, Fault, Items, Kind, Memory, Object, Parts, Place, ReturnRow, TableKind, TableParameter,
     TableState,
@@ -208,7 +209,23 @@ pub(crate) fn return_rows(alloc: Global, returns: Returns) -> Result<Items<Retur
     Ok(Items::from_vec(rows))
 }
 
-/// Parts of these blocks and rows, each of weight 1, with no seeds, termination count 1 and no return rows.
+/// A procedure with these numbers of arguments and of locals, needs and code.
+pub(crate) fn procedure(
+    alloc: Global,
+    counts: (u8, u8),
+    needs: &[u8],
+    code: &[Instruction],
+) -> Result<Procedure, Memory> {
+    let (arguments, locals) = counts;
+    Ok(Procedure {
+        arguments,
+        locals,
+        needs: Items::from_vec(Vec::from_slice(alloc, needs)?),
+        code: Items::from_vec(Vec::from_slice(alloc, code)?),
+    })
+}
+
+/// Parts of these blocks and rows, each of weight 1, with no seeds, termination count 1, no procedures and no return rows.
 pub(crate) fn parts(
     alloc: Global,
     entities: Vec<Entity>,
@@ -222,6 +239,7 @@ pub(crate) fn parts(
         seeds: Items::from_vec(Vec::new(alloc)),
         count: 1,
         entities: Items::from_vec(entities),
+        procedures: Items::from_vec(Vec::new(alloc)),
         blocks: Items::from_vec(blocks),
         returns: Items::from_vec(Vec::new(alloc)),
         states: Items::from_vec(states),

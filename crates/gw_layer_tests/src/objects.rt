@@ -12,6 +12,7 @@ use std::test::Fail;
 mod blocks;
 mod conditions;
 mod entities;
+mod procedures;
 mod states;
 mod subroutines;
 mod values;
@@ -203,7 +204,8 @@ const FAULTS: [(usize, usize, &'static [u8], u16, u32); 30] = [
         7,
     ),
     (15, 1, &[0xff, 0x00, 0x00, 0x04, 0x01], LIMIT, 15),
-    (16, 1, &[0x01], LIMIT, 16),
+    // With a procedure, the count of blocks is that of its arguments, and a tag that of its locals.
+    (16, 1, &[0x01], LIMIT, 18),
     (17, 1, &[0xff, 0x00, 0x00, 0x10, 0x01], LIMIT, 17),
     (17, 1, &[0xff, 0x00, 0x00, 0x00, 0xfe], NOT_CANONICAL, 17),
     (18, 1, &[0x12], TAG, 18),

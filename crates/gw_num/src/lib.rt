@@ -4,7 +4,9 @@
 
 mod arithmetic;
 pub mod laws;
+mod operators;
 mod stream;
 
 pub use arithmetic::{NumFault, add, div, mul, neg, pow, rem, sub};
+pub use operators::{Binary, Unary, truth_value};
 pub use stream::Stream;

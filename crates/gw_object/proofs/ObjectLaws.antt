@@ -7,16 +7,19 @@ use Rattle.std.proofs.lemmas.Bool.{cases_lt, eqb-true, ne_eqb, ltb-true, lt-ltb,
 use Rattle.std.proofs.lemmas.List.{append-nil, nil_from_length, length-append}
 use Rattle.gw_object.specs.declared.fault.Fault.{Fault}
 use Rattle.gw_object.specs.Codes as codes
-use Rattle.gw_object.specs.Limits.{most_bytes, most_seeds, greatest_seed, greatest_count, most_entities, most_blocks, greatest_weight}
+use Rattle.gw_object.specs.Limits.{most_bytes, most_seeds, greatest_seed, greatest_count, most_entities, most_procedures, most_blocks, greatest_weight}
 use Rattle.gw_object.specs.declared.parts.Parts.{Parts}
 use Rattle.gw_fields.specs.declared.error.Bad.{Bad}
 use Rattle.gw_fields.specs.Fields.{IsProperFront, bad, number, count, plain, ElementsFit}
 use Rattle.gw_object.specs.Grammar.{weight, tables, head, seed, start_count, object, spelling, HasSpelling, Spells}
 use Rattle.gw_blocks.specs.Grammar.{BlockFits, block}
+use Rattle.gw_code.specs.declared.parts.Procedure.{Procedure}
+use Rattle.gw_code.specs.Grammar.{ProcedureFits, NeedsAscend, procedure}
+use Rattle.gw_code.proofs.CodeLaws.{procedure_exact}
 use Rattle.gw_object.specs.Entities.{entity}
 use Rattle.gw_object.specs.Reading.{whole_read, with_place, first_fault, out_of_memory, fault_at, IsRefused}
 use Rattle.gw_object.proofs.EntityLaws.{entity_exact, entities_fit, entities_are}
-use Rattle.gw_object.proofs.StateLaws.{no_elements_exact, none, return_rows_exact, return_rows_fit, return_rows_keep, state_exact, rows_fit, rows_keep}
+use Rattle.gw_object.proofs.StateLaws.{return_rows_exact, return_rows_fit, return_rows_keep, state_exact, rows_fit, rows_keep}
 use Rattle.gw_blocks.proofs.BlockLaws.{block_exact}
 use Rattle.gw_fields.proofs.Exact.{IsCut, CutsFronts, cuts_still, front_shorter, IsBytes, Takes-shorter, IsExact, IsExactElement, bind_ok, bind_err, chosen, ok_is, err_is, not_both, wide16, wide32, wide64, number_exact, made_exact, and_then_exact, both_exact, constant_exact, ranged_exact, optional_exact, plain_exact, last_tested_exact, elements_exact, listed_exact, All-from_fit, fit-from_All}
 
@@ -45,8 +48,18 @@ pub object_exact : IsExact object
 unfolding object
 object_exact =
     made_exact _ _ _ (λ x h. refl) (λ p h. refl)
-    (both_exact _ _ head_exact (both_exact _ _ (listed_exact 0 most_seeds seed (omega arith) seed_exact) (both_exact _ _ start_count_exact (both_exact _ _ (listed_exact 0 most_entities entity (omega arith) entity_exact) (both_exact _ _ no_elements_exact
+    (both_exact _ _ head_exact (both_exact _ _ (listed_exact 0 most_seeds seed (omega arith) seed_exact) (both_exact _ _ start_count_exact (both_exact _ _ (listed_exact 0 most_entities entity (omega arith) entity_exact) (both_exact _ _ (listed_exact 0 most_procedures (plain procedure) (omega arith) (plain_exact procedure procedure_exact))
     (and_then_exact _ _ (listed_exact 0 most_blocks (plain block) (omega arith) (plain_exact block block_exact)) (λ blocks. tables_exact (length blocks))))))))
+
+-- ---- procedures
+
+procedures_fit : (procedures : List Procedure) → All ProcedureFits procedures → All NeedsAscend procedures → ElementsFit (plain procedure).Fits [] procedures
+unfolding procedure
+procedures_fit procedures limits up = fit-from_All (λ pr. ProcedureFits pr × NeedsAscend pr) procedures [] (λ k d lt. (limits k d lt, up k d lt))
+
+procedures_keep : (procedures : List Procedure) → ElementsFit (plain procedure).Fits [] procedures → All (λ pr. ProcedureFits pr × NeedsAscend pr) procedures
+unfolding procedure
+procedures_keep procedures h = All-from_fit (λ front left pr. ProcedureFits pr × NeedsAscend pr) (λ pr. ProcedureFits pr × NeedsAscend pr) (λ front left pr fit. fit) procedures [] h
 
 -- ---- what fits the object is what has a spelling
 
@@ -90,7 +103,7 @@ spelled_fits p h =
           (
             (omega arith, limits.entities, entities_fit p.entities h.letters.names limits.each_entity h.canonical.own_names),
             (
-              none,
+              (omega arith, limits.procedures, procedures_fit p.procedures limits.each_procedure h.canonical.each_procedure),
               (
                 (omega arith, limits.blocks, fit-from_All BlockFits p.blocks [] limits.each_block),
                 ((omega arith, limits.returns, return_rows_fit p.returns limits.each_return h.canonical.each_return), ((limits.states, rows_fit p.states limits.each_state h.canonical.each_state), (limits.weights, fit-from_All weight.Fits p.weights [] limits.each_weight))),
@@ -103,8 +116,9 @@ spelled_fits p h =
 
 pub fits_spelled : (p : Parts) → object.Fits p → length (spelling p) ≤ most_bytes → HasSpelling p
 unfolding object head tables
-fits_spelled p (h, (seeds, (count, (entities, (q, (blocks, (returns, (states, weights)))))))) size =
+fits_spelled p (h, (seeds, (count, (entities, (procedures, (blocks, (returns, (states, weights)))))))) size =
     let each_entity = entities_are p.entities entities.2 in
+    let each_procedure = procedures_keep p.procedures procedures.2 in
     let each_return = return_rows_keep p.returns returns.2 in
     let each_row = rows_keep p.states states.1 in record {
       letters = record { names = each_entity.letters };
@@ -115,6 +129,8 @@ fits_spelled p (h, (seeds, (count, (entities, (q, (blocks, (returns, (states, we
         count_most = count.1;
         entities = entities.1;
         each_entity = each_entity.limits;
+        procedures = procedures.1;
+        each_procedure = λ k d lt. (each_procedure k d lt).0;
         blocks = blocks.1;
         each_block = All-from_fit (λ front left. BlockFits) BlockFits (λ front left b h. h) p.blocks [] blocks.2;
         returns = returns.1;
@@ -125,7 +141,7 @@ fits_spelled p (h, (seeds, (count, (entities, (q, (blocks, (returns, (states, we
         each_weight = All-from_fit (λ front left. weight.Fits) weight.Fits (λ front left w h. h) p.weights [] weights.1;
         size = size;
       };
-      canonical = record { last_seed = last_seed_is p.seeds [] seeds.2; own_names = each_entity.own; each_return = λ k d lt. (each_return k d lt).1; each_state = λ k d lt. (each_row k d lt).1 };
+      canonical = record { last_seed = last_seed_is p.seeds [] seeds.2; own_names = each_entity.own; each_procedure = λ k d lt. (each_procedure k d lt).1; each_return = λ k d lt. (each_return k d lt).1; each_state = λ k d lt. (each_row k d lt).1 };
     }
 
 -- ---- reading as a whole

@@ -11,20 +11,15 @@ use Rattle.gw_object.specs.declared.parts.TableKind.TheVariants.{Num, Ret}
 use Rattle.gw_object.specs.declared.parts.TableParameter.{TableParameter}
 use Rattle.gw_object.specs.declared.parts.TableState.{TableState}
 use Rattle.gw_object.specs.declared.parts.ReturnRow.{ReturnRow}
-use Rattle.gw_fields.specs.Fields.{Field, number, ranged, nothing, optional, count, plain, listed, ElementsFit}
-use Rattle.gw_object.specs.Grammar.{no_elements, row_number, above_last, returned, ReturnRowFits, AreAscending, return_row, TableKindFits, table_kind_spelling, table_kind_forms, table_kind_read, table_kind, ParameterFits, parameter, owned, held, HeldFits, StateFits, IsAscending, state}
+use Rattle.gw_fields.specs.Fields.{Field, number, ranged, nothing, optional, above_last, plain, listed, ElementsFit}
+use Rattle.gw_object.specs.Grammar.{row_number, returned, ReturnRowFits, AreAscending, return_row, TableKindFits, table_kind_spelling, table_kind_forms, table_kind_read, table_kind, ParameterFits, parameter, owned, held, HeldFits, StateFits, IsAscending, state}
 use Rattle.gw_blocks.specs.Grammar.{entity_number, block_number, parameter_number}
 use Rattle.gw_blocks.proofs.BlockLaws.{entity_number_exact, block_number_exact, parameter_number_exact}
+use Rattle.gw_fields.proofs.AboveLast.{above_last_exact, above_last_fit, above_last_ascends}
 use Rattle.gw_fields.proofs.Ascending.{ascending_exact, nat_order, ascends, ascending_fit}
-use Rattle.gw_fields.proofs.Exact.{ReadsBack, ◌also◌, tag_reads_back, AreExactForms, behind_exact, by_tag_exact, IsExact, IsExactElement, plain_exact, wide16, wide32, number_exact, made_exact, both_exact, fitting_exact, ranged_exact, nothing_exact, count_exact, listed_exact, All-from_fit, fit-from_All}
+use Rattle.gw_fields.proofs.Exact.{ReadsBack, ◌also◌, tag_reads_back, AreExactForms, behind_exact, by_tag_exact, IsExact, IsExactElement, plain_exact, wide16, wide32, number_exact, made_exact, both_exact, fitting_exact, ranged_exact, nothing_exact, listed_exact, All-from_fit, fit-from_All}
 
 -- ---- states
-
-pub no_elements_exact : IsExact no_elements
-no_elements_exact = made_exact (λ _. tt) (λ _. 0) (count 0 0) (λ n h. omega arith) (λ y h. refl) (count_exact 0 0 (omega arith))
-
-pub none : (0 ≤ 0) × (0 ≤ 0)
-none = (omega arith, omega arith)
 
 row_number_exact : IsExact row_number
 row_number_exact = number_exact w16 wide16
@@ -59,17 +54,8 @@ entity_and_number u = (u.entity, u.number)
 abbrev held_number : Field ℕ
 held_number = ranged 1 greatest_units (number w32)
 
-abbrev first : ℕ × Unit {0} → ℕ
-first x = x.0
-
-abbrev alone : ℕ → ℕ × Unit {0}
-alone n = (n, tt)
-
 parameter_exact : IsExactElement parameter
 parameter_exact = ascending_exact nat_lt parameter_of number_and_kind parameter_number table_kind (λ x. refl) (λ p. refl) parameter_number_exact table_kind_exact
-
-above_last_exact : (f : Field ℕ) → IsExact f → IsExactElement (above_last f)
-above_last_exact f exact = ascending_exact nat_lt first alone f nothing (λ x. refl) (λ n. refl) exact nothing_exact
 
 held_exact : IsExactElement held
 held_exact = ascending_exact nat_lt units_of entity_and_number entity_number held_number (λ x. refl) (λ u. refl) entity_number_exact (ranged_exact 1 greatest_units (number w32) (λ n h. omega arith) (number_exact w32 wide32))
@@ -84,7 +70,7 @@ state_lists : (s : TableState) → StateFits s × IsAscending s → StateLists s
 state_lists s h = (
   (omega arith, h.0.parameters, ascending_fit nat_order parameter_of number_and_kind parameter_number table_kind s.parameters [] (λ k d lt. (h.0.each_parameter k d lt).number) (λ k d lt. (h.0.each_parameter k d lt).kind) h.1.parameters),
   (
-    (omega arith, h.0.facilities, ascending_fit nat_order first alone entity_number nothing s.facilities [] h.0.each_facility (λ k d lt. tt) h.1.facilities),
+    (omega arith, h.0.facilities, above_last_fit entity_number s.facilities h.0.each_facility h.1.facilities),
     (omega arith, h.0.units, ascending_fit nat_order units_of entity_and_number entity_number held_number s.units [] (λ k d lt. (h.0.each_unit k d lt).entity) (λ k d lt. ((h.0.each_unit k d lt).least, (h.0.each_unit k d lt).most)) h.1.units),
   ),
 )
@@ -101,7 +87,7 @@ state_keeps s (parameters, (facilities, units)) = (
   },
   record {
     parameters = ascends nat_order parameter_of number_and_kind parameter_number table_kind s.parameters [] (λ i j d lt in_none. absurd (omega arith)) parameters.2;
-    facilities = ascends nat_order first alone entity_number nothing s.facilities [] (λ i j d lt in_none. absurd (omega arith)) facilities.2;
+    facilities = above_last_ascends entity_number s.facilities facilities.2;
     units = ascends nat_order units_of entity_and_number entity_number held_number s.units [] (λ i j d lt in_none. absurd (omega arith)) units.2;
   },
 )
@@ -118,12 +104,12 @@ abbrev RowBlocks : ReturnRow → Type 0
 RowBlocks row = (1 ≤ length row.blocks) × (length row.blocks ≤ most_blocks) × ElementsFit returned.Fits [] row.blocks
 
 row_blocks : (row : ReturnRow) → ReturnRowFits row × AreAscending row → RowBlocks row
-row_blocks row h = (h.0.least, h.0.most, ascending_fit nat_order first alone block_number nothing row.blocks [] h.0.each (λ k d lt. tt) h.1)
+row_blocks row h = (h.0.least, h.0.most, above_last_fit block_number row.blocks h.0.each h.1)
 
 row_keeps : (row : ReturnRow) → RowBlocks row → ReturnRowFits row × AreAscending row
 row_keeps row blocks = (
   record { least = blocks.0; most = blocks.1; each = All-from_fit returned.Fits block_number.Fits (λ front left x fit. fit.0.0) row.blocks [] blocks.2 },
-  ascends nat_order first alone block_number nothing row.blocks [] (λ i j d lt in_none. absurd (omega arith)) blocks.2,
+  above_last_ascends block_number row.blocks blocks.2,
 )
 
 return_row_exact : IsExact return_row

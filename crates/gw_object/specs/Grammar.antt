@@ -3,7 +3,7 @@ use Rattle.std.specs.Prelude.{◌≡◌, ◌≢◌, ◌⊎◌, ℕ, ◌-◌, ◌
 use Rattle.std.specs.List.{All, AllPairs}
 use Rattle.std.specs.Int.{w16, w32, w64}
 use Rattle.gw_object.specs.Codes as codes
-use Rattle.gw_object.specs.Limits.{most_bytes, most_seeds, greatest_seed, greatest_count, most_entities, greatest_units, most_blocks, most_return_rows, greatest_weight}
+use Rattle.gw_object.specs.Limits.{most_bytes, most_seeds, greatest_seed, greatest_count, most_entities, greatest_units, most_procedures, most_blocks, most_return_rows, greatest_weight}
 use Rattle.gw_blocks.specs.Limits.{most_parameters}
 use Rattle.gw_blocks.specs.declared.parts.Units.{Units}
 use Rattle.gw_object.specs.declared.parts.TableKind.{TableKind}
@@ -12,19 +12,12 @@ use Rattle.gw_object.specs.declared.parts.TableParameter.{TableParameter}
 use Rattle.gw_object.specs.declared.parts.TableState.{TableState}
 use Rattle.gw_object.specs.declared.parts.ReturnRow.{ReturnRow}
 use Rattle.gw_object.specs.declared.parts.Parts.{Parts}
-use Rattle.gw_fields.specs.Fields.{Read, Field, number, made, both, and_then, constant, fitting, ranged, optional, Form, behind, by_tag, nothing, count, Element, plain, last_tested, ascending, elements, listed}
+use Rattle.gw_fields.specs.Fields.{Read, Field, number, made, both, and_then, constant, fitting, ranged, optional, Form, behind, by_tag, nothing, Element, plain, last_tested, ascending, above_last, elements, listed}
+use Rattle.gw_code.specs.Grammar.{ProcedureFits, NeedsAscend, procedure}
 use Rattle.gw_object.specs.Entities.{entity, EntityFits, IsLettered, AreNamesakes}
 use Rattle.gw_blocks.specs.Grammar.{entity_number, block_number, parameter_number, BlockFits, block}
 
 -- ---- what stands for each block
-
--- a list that has no elements yet
-abbrev pub no_elements : Field (Unit {0})
-no_elements = made (λ _. tt) (λ _. 0) (count 0 0)
-
--- a number that is above the one before it
-abbrev pub above_last : Field ℕ → Element ℕ
-above_last f = ascending nat_lt (λ x. x.0) (λ n. (n, tt)) f nothing
 
 -- the blocks of a return row, each above the one before it
 abbrev pub returned : Element ℕ
@@ -137,12 +130,12 @@ seed = last_tested (nat_lt 0) codes.not_canonical (ranged 0 greatest_seed (numbe
 abbrev pub start_count : Field ℕ
 start_count = ranged 1 greatest_count (number w64)
 
--- the head, seeds, termination count, entities, procedures (none yet), blocks, and what stands for each block
+-- the head, seeds, termination count, entities, procedures, blocks, and what stands for each block
 unfoldable pub object : Field Parts
 object = made
-    (λ (_, (seeds, (count, (entities, (_, (blocks, (returns, (states, weights)))))))). record { seeds = seeds; count = count; entities = entities; blocks = blocks; returns = returns; states = states; weights = weights })
-    (λ p. ((tt, tt), (p.seeds, (p.count, (p.entities, (tt, (p.blocks, (p.returns, (p.states, p.weights)))))))))
-    (both head (both (listed 0 most_seeds seed) (both start_count (both (listed 0 most_entities entity) (both no_elements
+    (λ (_, (seeds, (count, (entities, (procedures, (blocks, (returns, (states, weights)))))))). record { seeds = seeds; count = count; entities = entities; procedures = procedures; blocks = blocks; returns = returns; states = states; weights = weights })
+    (λ p. ((tt, tt), (p.seeds, (p.count, (p.entities, (p.procedures, (p.blocks, (p.returns, (p.states, p.weights)))))))))
+    (both head (both (listed 0 most_seeds seed) (both start_count (both (listed 0 most_entities entity) (both (listed 0 most_procedures (plain procedure))
     (and_then (listed 0 most_blocks (plain block)) (λ blocks. tables (length blocks))))))))
 
 -- the bytes that spell parts
@@ -163,6 +156,8 @@ pub record IsWithinLimits (p : Parts) : Type 0 where
   pub count_most : p.count ≤ greatest_count
   pub entities : length p.entities ≤ most_entities
   pub each_entity : All EntityFits p.entities
+  pub procedures : length p.procedures ≤ most_procedures
+  pub each_procedure : All ProcedureFits p.procedures
   pub blocks : length p.blocks ≤ most_blocks
   pub each_block : All BlockFits p.blocks
   pub returns : length p.returns ≤ most_return_rows
@@ -177,6 +172,7 @@ pub record IsWithinLimits (p : Parts) : Type 0 where
 pub record IsCanonical (p : Parts) : Type 0 where
   pub last_seed : slice_get p.seeds (length p.seeds - 1) ≢ Some 0
   pub own_names : AllPairs (λ a b. ¬ AreNamesakes a b) p.entities
+  pub each_procedure : All NeedsAscend p.procedures
   pub each_return : All AreAscending p.returns
   pub each_state : All (λ row. IfSome row IsAscending) p.states
 

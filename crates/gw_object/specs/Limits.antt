@@ -34,6 +34,10 @@ greatest_capacity = 2147483647
 abbrev pub greatest_units : ℕ
 greatest_units = 2147483647
 
+-- procedures
+abbrev pub most_procedures : ℕ
+most_procedures = 256
+
 -- blocks
 abbrev pub most_blocks : ℕ
 most_blocks = 4096

@@ -8,11 +8,10 @@ ghost use Rattle.gw_fields.specs.Answers.{Gives};
 
 use crate::Memory;
 use crate::codes::*;
-use crate::items::Items;
 use crate::limits::*;
 use crate::parts::*;
 use gw_fields::{
-    Elements, OneByte, ReadError, Spelled, fault, put_listed, read_listed, read_one_of,
+    Elements, Items, OneByte, ReadError, Spelled, fault, put_listed, read_listed, read_one_of,
     read_ranged_u32, room_after_listed,
 };
 use std::alloc::Global;

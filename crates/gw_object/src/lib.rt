@@ -4,7 +4,6 @@
 pub mod codes;
 mod entities;
 mod fault;
-mod items;
 pub mod laws;
 mod limits;
 mod lists;
@@ -17,10 +16,10 @@ mod states;
 mod writing;
 
 pub use fault::{Fault, Place};
-pub use items::Items;
+pub use gw_fields::Items;
 pub use limits::{
     GREATEST_CAPACITY, GREATEST_COUNT, GREATEST_SEED, GREATEST_UNITS, GREATEST_WEIGHT, MOST_BLOCKS,
-    MOST_BYTES, MOST_ENTITIES, MOST_LETTERS, MOST_RETURN_ROWS, MOST_SEEDS,
+    MOST_BYTES, MOST_ENTITIES, MOST_LETTERS, MOST_PROCEDURES, MOST_RETURN_ROWS, MOST_SEEDS,
 };
 pub use object::Object;
 pub use parts::{Entity, Kind, Parts, ReturnRow, TableKind, TableParameter, TableState};

@@ -26,6 +26,9 @@ pub const GREATEST_CAPACITY: u32 = 2_147_483_647;
 /// The greatest number of units of one entity that the state table says of a transaction.
 pub const GREATEST_UNITS: u32 = 2_147_483_647;
 
+/// The most procedures.
+pub const MOST_PROCEDURES: usize = 256;
+
 /// The most blocks.
 pub const MOST_BLOCKS: usize = 4_096;
 

@@ -1,8 +1,9 @@
 //! The parts of an object, as a plain record. Their limits are the object format's (docs/object-format.md);
 //! what the blocks mean is in the GPSS World Reference Manual, chapter 7.
 
-use crate::items::Items;
 use gw_blocks::{Block, Units};
+use gw_code::Procedure;
+use gw_fields::Items;
 
 /// What an entity is.
 #[derive(Clone, Copy, Debug, PartialEq, Eq)]
@@ -77,6 +78,8 @@ pub struct Parts {
     pub count: u64,
     /// The entities, at most 1,024; the first has the number 0.
     pub entities: Items<Entity>,
+    /// The procedures, at most 256; the first has the number 0.
+    pub procedures: Items<Procedure>,
     /// The blocks, at most 4,096; the first has the number 1.
     pub blocks: Items<Block>,
     /// The return rows, at most 4,096; the first has the number 0.

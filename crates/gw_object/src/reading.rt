@@ -10,14 +10,14 @@ ghost use Rattle.gw_object.specs.Reading.{whole_read, placed, too_long, first_fa
 use crate::codes::*;
 use crate::entities::Entities;
 use crate::fault::{Fault, Place};
-use crate::items::Items;
 use crate::limits::*;
 use crate::lists::{Seeds, Weights};
 use crate::object::Object;
 use crate::parts::*;
 use gw_blocks::Block;
+use gw_code::Procedure;
 use gw_fields::{
-    Bad, Plain, ReadError, Spelled, fault, read_count, read_elements, read_listed, read_ranged_u64,
+    Bad, Items, Plain, ReadError, Spelled, fault, read_elements, read_listed, read_ranged_u64,
 };
 use std::alloc::Global;
 
@@ -64,13 +64,14 @@ fn read_parts(alloc: Global, bytes: &[u8]) -> Result<(Parts, &[u8]), ReadError>
     let (seeds, rest) = read_listed::<Seeds>(alloc, rest, 0, MOST_SEEDS)?;
     let (count, rest) = read_ranged_u64(alloc, rest, 1, GREATEST_COUNT)?;
     let (entities, rest) = read_listed::<Entities>(alloc, rest, 0, MOST_ENTITIES)?;
-    let (_procedures, rest) = read_count(alloc, rest, 0, 0)?;
+    let (procedures, rest) = read_listed::<Plain<Procedure>>(alloc, rest, 0, MOST_PROCEDURES)?;
     let (blocks, rest) = read_listed::<Plain<Block>>(alloc, rest, 0, MOST_BLOCKS)?;
     let ((returns, (states, weights)), rest) = read_tables(alloc, blocks.len(), rest)?;
     let parts = Parts {
         seeds: Items::from_vec(seeds),
         count,
         entities: Items::from_vec(entities),
+        procedures: Items::from_vec(procedures),
         blocks: Items::from_vec(blocks),
         returns: Items::from_vec(returns),
         states: Items::from_vec(states),

@@ -5,11 +5,12 @@ ghost use Rattle.std.specs.List.{All};
 ghost use Rattle.gw_object.specs.Grammar.{return_row, ReturnRowFits, AreAscending};
 
 use crate::Memory;
-use crate::items::Items;
 use crate::limits::*;
 use crate::parts::ReturnRow;
-use crate::states::{AscendingNumbers, numbers_ascend};
-use gw_fields::{ReadError, Spelled, put_listed, read_listed, room_after_listed};
+use crate::states::AscendingNumbers;
+use gw_fields::{
+    Items, ReadError, Spelled, keys_ascend, put_listed, read_listed, room_after_listed,
+};
 use std::alloc::Global;
 
 impl Spelled for ReturnRow {
@@ -56,7 +57,7 @@ pub fn return_rows_fit(rows: &[ReturnRow]) -> bool
 fn is_ascending(row: &ReturnRow) -> bool
     ensures { IsTrue result ↔ AreAscending row.now }
 {
-    numbers_ascend(row.blocks.as_slice())
+    keys_ascend(row.blocks.as_slice())
 }
 
 /// Whether the blocks of each return row ascend.

@@ -13,6 +13,7 @@ use crate::returns::{return_rows_ascend, return_rows_fit};
 use crate::states::{states_ascend, states_fit};
 use crate::writing::room_after_parts;
 use gw_blocks::blocks_fit;
+use gw_code::{procedures_ascend, procedures_fit};
 
 /// Whether each seed is in range.
 fn seeds_fit(seeds: &[u32]) -> bool
@@ -50,6 +51,7 @@ fn is_within_limits(parts: &Parts) -> bool
 {
     let seeds = parts.seeds.as_slice();
     let entities = parts.entities.as_slice();
+    let procedures = parts.procedures.as_slice();
     let blocks = parts.blocks.as_slice();
     let returns = parts.returns.as_slice();
     let states = parts.states.as_slice();
@@ -57,7 +59,7 @@ fn is_within_limits(parts: &Parts) -> bool
     if seeds.len() > MOST_SEEDS || entities.len() > MOST_ENTITIES || blocks.len() > MOST_BLOCKS {
         return false;
     }
-    if returns.len() > MOST_RETURN_ROWS {
+    if procedures.len() > MOST_PROCEDURES || returns.len() > MOST_RETURN_ROWS {
         return false;
     }
     if states.len() != blocks.len() || weights.len() != blocks.len() {
@@ -68,6 +70,7 @@ fn is_within_limits(parts: &Parts) -> bool
     }
     seeds_fit(seeds)
         && entities_fit(entities)
+        && procedures_fit(procedures)
         && blocks_fit(blocks)
         && return_rows_fit(returns)
         && states_fit(states)
@@ -81,6 +84,9 @@ fn is_canonical(parts: &Parts) -> bool
     ensures { IsTrue result ↔ IsCanonical parts.now }
 {
     let returns = parts.returns.as_slice();
+    if !procedures_ascend(parts.procedures.as_slice()) {
+        return false;
+    }
     if !return_rows_ascend(returns) || !states_ascend(parts.states.as_slice()) {
         return false;
     }

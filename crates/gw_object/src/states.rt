@@ -13,13 +13,12 @@ ghost use Rattle.gw_object.specs.declared.parts.TableParameter.{TableParameter};
 
 use crate::Memory;
 use crate::codes::*;
-use crate::items::Items;
 use crate::limits::*;
 use crate::parts::*;
-use gw_blocks::{MOST_PARAMETERS, Units, is_parameter, read_parameter_number};
+use gw_blocks::{MOST_PARAMETERS, Units, is_parameter, read_parameter_above};
 use gw_fields::{
-    Elements, ReadError, Spelled, fault, put_listed, read_listed, read_ranged_u32,
-    room_after_listed,
+    Elements, Items, Keyed, ReadError, Spelled, fault, keys_ascend, put_listed, read_listed,
+    read_ranged_u32, room_after_listed,
 };
 use std::alloc::Global;
 
@@ -72,19 +71,12 @@ impl Spelled for TableKind {
     }
 }
 
-/// A parameter's number that is above the one before it, if there is one.
-fn read_parameter_above(
-    alloc: Global,
-    before: Option<u8>,
-    bytes: &[u8],
-) -> Result<(u8, &[u8]), ReadError>
-    ensures { Gives (λ x. (x.0, x.1.now)) result ((tested (is_above nat_lt before) not_canonical parameter_number).read bytes.now) }
-{
-    let (number, rest) = read_parameter_number(alloc, bytes)?;
-    if before.is_some_and(|before| number <= before) {
-        return Err(fault(NOT_CANONICAL, bytes));
+impl Keyed for TableParameter {
+    ghost key_of = { λ p. p.number };
+
+    fn key(&self) -> u16 {
+        u16::from(self.number)
     }
-    Ok((number, rest))
 }
 
 /// The parameters that are set, ascending by number.
@@ -263,49 +255,13 @@ pub fn states_fit(states: &[Option<TableState>]) -> bool
     states.iter().all(|row| row.as_ref().is_none_or(state_fits))
 }
 
-/// Whether the numbers of parameters ascend.
-fn parameters_ascend(parameters: &[TableParameter]) -> bool
-    ensures { IsTrue result ↔ AllPairs (λ (a b : TableParameter). a.number < b.number) parameters.now }
-{
-    for i in 1..parameters.len() {
-        if parameters[i].number <= parameters[i - 1].number {
-            return false;
-        }
-    }
-    true
-}
-
-/// Whether numbers ascend.
-pub fn numbers_ascend(numbers: &[u16]) -> bool
-    ensures { IsTrue result ↔ AllPairs (λ a b. a < b) numbers.now }
-{
-    for i in 1..numbers.len() {
-        if numbers[i] <= numbers[i - 1] {
-            return false;
-        }
-    }
-    true
-}
-
-/// Whether the entities of units ascend.
-fn units_ascend(units: &[Units]) -> bool
-    ensures { IsTrue result ↔ AllPairs (λ (a b : Units). a.entity < b.entity) units.now }
-{
-    for i in 1..units.len() {
-        if units[i].entity <= units[i - 1].entity {
-            return false;
-        }
-    }
-    true
-}
-
 /// Whether the lists of a state ascend.
 fn is_ascending(state: &TableState) -> bool
     ensures { IsTrue result ↔ IsAscending state.now }
 {
-    parameters_ascend(state.parameters.as_slice())
-        && numbers_ascend(state.facilities.as_slice())
-        && units_ascend(state.units.as_slice())
+    keys_ascend(state.parameters.as_slice())
+        && keys_ascend(state.facilities.as_slice())
+        && keys_ascend(state.units.as_slice())
 }
 
 /// Whether the lists of each state ascend.

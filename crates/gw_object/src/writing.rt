@@ -11,9 +11,8 @@ use crate::lists::{Seeds, Weights};
 use crate::object::Object;
 use crate::parts::*;
 use gw_blocks::Block;
-use gw_fields::{
-    Plain, Spelled, put_count, put_elements, put_listed, room_after_elements, room_after_listed,
-};
+use gw_code::Procedure;
+use gw_fields::{Plain, Spelled, put_elements, put_listed, room_after_elements, room_after_listed};
 use std::alloc::Global;
 
 /// The letters `GPSO` and the version.
@@ -55,7 +54,7 @@ fn put_parts(out: &mut Vec<u8>, parts: &Parts) -> Result<(), Memory>
     put_listed::<Seeds>(out, parts.seeds.as_slice())?;
     parts.count.put(out)?;
     put_listed::<Entities>(out, parts.entities.as_slice())?;
-    put_count(out, 0)?;
+    put_listed::<Plain<Procedure>>(out, parts.procedures.as_slice())?;
     put_listed::<Plain<Block>>(out, parts.blocks.as_slice())?;
     let returns = parts.returns.as_slice();
     let states = parts.states.as_slice();
@@ -68,11 +67,12 @@ fn put_parts(out: &mut Vec<u8>, parts: &Parts) -> Result<(), Memory>
 pub fn room_after_parts(parts: &Parts, room: usize) -> Option<usize>
     ensures { Leaves (spelling parts.now) room result }
 {
-    // The letters, the version, and the count of procedures.
-    let room = room.checked_sub(7)?;
+    // The letters and the version.
+    let room = room.checked_sub(6)?;
     let room = room_after_listed::<Seeds>(parts.seeds.as_slice(), room)?;
     let room = parts.count.room_after(room)?;
     let room = room_after_listed::<Entities>(parts.entities.as_slice(), room)?;
+    let room = room_after_listed::<Plain<Procedure>>(parts.procedures.as_slice(), room)?;
     let room = room_after_listed::<Plain<Block>>(parts.blocks.as_slice(), room)?;
     let room = room_after_listed::<Plain<ReturnRow>>(parts.returns.as_slice(), room)?;
     let states = parts.states.as_slice();

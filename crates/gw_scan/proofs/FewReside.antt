@@ -5,12 +5,12 @@ use Rattle.std.proofs.lemmas.List.{length-map}
 use Rattle.gw_blocks.specs.declared.parts.Block.{Block}
 use Rattle.gw_num.specs.Table.{at}
 use Rattle.gw_num.proofs.Tables.{at_past}
-use Rattle.gw_scan.specs.declared.machine.Machine.{Machine}
+use Rattle.gw_machine.specs.declared.machine.Machine.{Machine}
 use Rattle.gw_step.specs.State.{State, without}
 use Rattle.gw_step.specs.Residence.{occurrences, ResidesOnce}
 use Rattle.gw_step.specs.Changes.{numbers}
-use Rattle.gw_scan.specs.View.{state_of, event_of, member_number}
-use Rattle.gw_scan.specs.Coherence.{IsSteady}
+use Rattle.gw_machine.specs.View.{state_of, event_of, member_number}
+use Rattle.gw_machine.specs.Coherence.{IsSteady}
 use Rattle.gw_step.proofs.Residence.{one_if, at_most_one, same_number, occurrences-without}
 use Rattle.gw_step.proofs.Within.{length-without}
 

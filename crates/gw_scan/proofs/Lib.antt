@@ -1,15 +1,5 @@
 pub mod Fits
-pub mod Evaluating
-pub mod Handles
-pub mod Changes
-pub mod Due
-pub mod Waiters
-pub mod Walks
-pub mod Steady
-pub mod Joining
-pub mod Beginning
+pub mod BlocksWithValue
 pub mod Running
-pub mod Starting
-pub mod Retrying
 pub mod FewReside
 pub mod Nowhere

@@ -1,16 +1,16 @@
 -- A running sim has a running machine.
 use Rattle.std.proofs.Common.{[], ◌≡◌, ℕ, ◌^◌, ◌<◌, length, None, sym, ap, ◌∙◌, subst, arith}
-use Rattle.gw_scan.specs.declared.machine.Machine.{Machine}
+use Rattle.gw_machine.specs.declared.machine.Machine.{Machine}
 use Rattle.gw_step.specs.State.{delay_list}
 use Rattle.gw_step.specs.Numbers.{IsWithin}
 use Rattle.gw_step.specs.Operands.{BlocksFit}
 use Rattle.gw_step.specs.Job.{Job, IsReached}
-use Rattle.gw_scan.specs.View.{state_of, member_number}
-use Rattle.gw_scan.specs.Coherence.{Linked, IsRunning}
+use Rattle.gw_machine.specs.View.{state_of, member_number}
+use Rattle.gw_machine.specs.Coherence.{Linked, IsRunning}
 use Rattle.gw_num.specs.Table.{at}
 use Rattle.std.proofs.lemmas.List.{length-map}
 use Rattle.gw_step.proofs.Operands.{blocks_fit}
-use Rattle.gw_scan.proofs.Changes.{delay_list-at}
+use Rattle.gw_machine.proofs.Changes.{delay_list-at}
 
 pub running : (j : Job) (m : Machine) → IsReached (record { job = j; state = state_of m }) → Linked m → m.ended ≡ None → IsRunning j.parts.blocks m
 running j m r linked runs =

@@ -1,10 +1,8 @@
 -- WHAT THE CALLS ANSWER
 pub mod Making
 pub mod Answers
--- HOW THE MACHINE KEEPS A STATE
-pub mod View
-pub mod Coherence
+-- WHAT A BLOCK AND A STEP MAKE
 pub mod Makes
-pub mod Evaluating
+-- WHAT A JOB AND A SIM STAND FOR
 pub mod JobView
 pub mod SimView

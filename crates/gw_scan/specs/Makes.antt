@@ -1,12 +1,10 @@
 -- What a call of the machine made.
-use Rattle.std.specs.Prelude.{[], ◌≡◌, ℕ, ◌+◌, ◌≤◌, remove, List, Option, Some, None, Result, Ok, Err, Bool, true, false, not, ◌&&◌, is_none, if◌then◌else◌}
+use Rattle.std.specs.Prelude.{◌≡◌, ℕ, List, Option, Some, None, Bool, not, ◌&&◌, is_none, if◌then◌else◌}
 use Rattle.gw_blocks.specs.declared.parts.Block.{Block}
 use Rattle.gw_entities.specs.declared.stop.Stop.{Stop}
-use Rattle.gw_num.specs.Table.{at}
-use Rattle.gw_scan.specs.declared.halt.Halt.{Halt}
-use Rattle.gw_scan.specs.declared.machine.Machine.{Machine}
-use Rattle.gw_scan.specs.declared.machine.Made.{Made}
-use Rattle.gw_scan.specs.declared.machine.Made.TheVariants.{Step, Ends, Stops}
+use Rattle.gw_machine.specs.declared.machine.Machine.{Machine}
+use Rattle.gw_machine.specs.declared.machine.Made.{Made}
+use Rattle.gw_machine.specs.declared.machine.Made.TheVariants.{Step, Ends, Stops}
 use Rattle.gw_step.specs.Outcome.{Outcome, Gives, EndsBy, StopsBy, stop_in}
 use Rattle.gw_step.specs.declared.placement.Placement.{Placement}
 use Rattle.gw_step.specs.declared.placement.Placement.TheVariants.{JoinsRetryList}
@@ -15,8 +13,7 @@ use Rattle.gw_transactions.specs.declared.Transaction.{Transaction}
 use Rattle.gw_step.specs.State.{State}
 use Rattle.gw_step.specs.Blocks.{led_by, transfer, then_placed}
 use Rattle.gw_step.specs.Step.{step, scan}
-use Rattle.gw_scan.specs.View.{state_of}
-use Rattle.gw_scan.specs.Evaluating.{halted}
+use Rattle.gw_machine.specs.View.{state_of}
 
 -- the outcome is the new state; or it is an end or an error stop, and nothing changed
 abbrev pub Makes : Made → Outcome State → State → State → Type 0
@@ -41,22 +38,3 @@ passes_or_retries bs n t otherwise so s =
 abbrev pub MakesStep : Option Stop → List Block → ℕ → State → State → Type 0
 MakesStep None bs budget old new = step bs budget old ≡ Some new
 MakesStep (Some stop) bs budget old new = (step bs budget old ≡ None) × (stop_in (scan bs old.lists.active old) ≡ Some stop) × (new ≡ old)
-
--- the first arrivals are scheduled; or the halt that they come to is answered, and nothing is said of the new state
-abbrev pub Schedules : Option Halt → Outcome State → State → Type 0
-Schedules None outcome new = outcome ≡ Gives new
-Schedules (Some halt) outcome new = outcome ≡ halted halt
-
--- ENTITIES
-
--- an entity answered as its rule says, and stands in the new state as the rule leaves it; or its rule has no case, and nothing changed
-abbrev pub Leaves : {A T : Type 0} → Result A Stop → Result (A × T) Stop → (T → State) → State → State → Type 0
-Leaves {T = T} (Ok answer) rule puts old new = (left : T) × (rule ≡ Ok (answer, left)) × (new ≡ puts left)
-Leaves (Err stop) rule puts old new = (rule ≡ Err stop) × (new ≡ old)
-
--- DELAY LISTS
-
--- the waiter at this place of the delay list of an entity, to which the walk over it has come, left it for the current events chain; or nothing changed
-abbrev pub Moves : Bool → ℕ → ℕ → Machine → Machine → Type 0
-Moves true e place old new = (at [] new.waits.lists e ≡ remove (at [] old.waits.lists e) place) × (old.current_events.room ≤ new.current_events.room + 1) × (at 0 new.waits.places e ≡ place)
-Moves false e place old new = (new.waits ≡ old.waits) × (new.current_events ≡ old.current_events) × (state_of new ≡ state_of old)

@@ -1,8 +1,8 @@
 -- The job and the state that a sim stands for.
 use Rattle.gw_scan.specs.declared.sim.Sim.TheInside.{Inside}
 use Rattle.gw_step.specs.Job.{Progress, IsReached}
-use Rattle.gw_scan.specs.View.{state_of}
-use Rattle.gw_scan.specs.Coherence.{Linked}
+use Rattle.gw_machine.specs.View.{state_of}
+use Rattle.gw_machine.specs.Coherence.{Linked}
 
 -- its job, and the state that its machine is in
 abbrev pub progress_of : Inside → Progress

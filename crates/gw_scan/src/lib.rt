@@ -4,19 +4,10 @@
 mod assigning;
 mod blocks;
 mod conditions;
-mod delays;
-mod entities;
-mod halt;
-mod machine;
-mod resting;
 mod scan;
 mod sim;
 mod spec;
-mod start;
 mod subroutines;
-mod times;
-mod transfers;
-mod values;
 
 pub use gw_entities::Stop;
 pub use gw_step::{

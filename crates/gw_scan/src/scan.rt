@@ -1,175 +1,94 @@
 //! The scan: who is active next, and one step.
 
-ghost use Rattle.std.specs.Prelude.{◌≡◌, ◌≤◌, ◌<◌, ◌+◌, ◌^◌, ℕ, List, [], ◌∷◌, pos, ◌≤ℤ◌, length, OnOk, OnErr, IfOk, IsTrue, false};
-ghost use Rattle.std.specs.List.{AllByRecursion};
-ghost use Rattle.gw_chains.specs.Chain.{all_behind, due, later};
-ghost use Rattle.gw_step.specs.Changes as change;
+ghost use Rattle.std.specs.Prelude.{◌≡◌, ◌<◌, ◌+◌, ◌^◌, OnErr, IfOk};
 ghost use Rattle.gw_step.specs.Step as model;
-ghost use Rattle.gw_scan.specs.View.{state_of, lists_of};
-ghost use Rattle.gw_scan.specs.Coherence.{Linked, IsHeld, IsRunning, ranked};
+ghost use Rattle.gw_machine.specs.View.{state_of};
+ghost use Rattle.gw_machine.specs.Coherence.{Linked, IsRunning};
 ghost use Rattle.gw_scan.specs.Makes.{MakesFrom, MakesStep};
 
-use crate::machine::{Machine, Made};
-use crate::transfers::block_of;
+use crate::blocks::act;
 use gw_blocks::Block;
-use gw_chains::{Cec, Fec, Memory};
+use gw_chains::Memory;
 use gw_entities::Stop;
+use gw_machine::{Machine, Made, block_of};
 use gw_step::End;
-use gw_transactions::Transactions;
 
-/// All that are due join the current events chain, each behind its peers. There is room.
-fn move_due(
-    transactions: &Transactions,
-    future_events: &mut Fec,
-    current_events: &mut Cec,
-    time: i64,
-)
-    requires held { AllByRecursion (IsHeld transactions.now) future_events.old.items }
-    requires room { length future_events.old.items ≤ current_events.old.room }
-    ensures current { current_events.new.items ≡
-        all_behind (λ m. m.priority) (ranked transactions.now (due (λ e. e.time) time future_events.old.items)) current_events.old.items }
-    ensures future { future_events.new.items ≡ later (λ e. e.time) time future_events.old.items }
-    ensures left { current_events.old.room ≤ current_events.new.room + length future_events.old.items }
+/// Nobody is active: the first of the current events chain becomes so; else the clock moves; else nothing is left.
+fn next_active(machine: &mut Machine, blocks: &[Block]) -> Result<Made, Memory>
+    requires running { IsRunning blocks.now machine.old }
+    requires nobody { machine.old.active ≡ None }
+    ensures made { IfOk result (λ made. MakesFrom made (model.next_active (state_of machine.old).lists.current_events) machine.old machine.new) }
+    ensures err { OnErr result (state_of machine.new ≡ state_of machine.old) }
+    ensures linked { Linked machine.new }
 {
-    while let Some(tx) = future_events.pop_due(time) {
-        let priority = transactions.get(tx).priority;
-        current_events.insert_behind(tx, priority);
+    if machine.activate_first() {
+        return Ok(Made::Step);
+    }
+    match machine.future_events.first_time() {
+        Some(time) => {
+            machine.move_clock_and_wake(time)?;
+            Ok(Made::Step)
+        }
+        None => Ok(Made::Ends(End::NoMoreEvents)),
     }
 }
 
-impl Machine {
-    /// The clock goes to a time, and all that are due join the current events chain. There is room.
-    fn move_clock(&mut self, time: i64)
-        requires linked { Linked self.old }
-        requires later { (pos 0 ≤ℤ self.old.clock) × (self.old.clock ≤ℤ time) }
-        requires room { length self.old.future_events.items ≤ self.old.current_events.room }
-        ensures state { state_of self.new ≡ change.clock_moves time (state_of self.old) }
-        ensures linked { Linked self.new }
-        ensures room { self.old.current_events.room ≤ self.new.current_events.room + length self.old.future_events.items }
-        ensures waits { self.new.waits ≡ self.old.waits }
-    {
-        move_due(
-            &self.transactions,
-            &mut self.future_events,
-            &mut self.current_events,
-            time,
-        );
-        let passed = time.abs_diff(self.clock);
-        self.facilities.pass_time(passed);
-        self.storages.pass_time(passed);
-        self.queues.pass_time(passed);
-        self.clock = time;
+/// What a step does, but for the count of steps.
+fn scan(machine: &mut Machine, blocks: &[Block]) -> Result<Made, Memory>
+    requires { IsRunning blocks.now machine.old }
+    ensures made { IfOk result (λ made. MakesFrom made (model.scan blocks.now (state_of machine.old).lists.active) machine.old machine.new) }
+    ensures err { OnErr result (state_of machine.new ≡ state_of machine.old) }
+    ensures linked { Linked machine.new }
+{
+    let tx = match machine.active {
+        Some(tx) => tx,
+        None => return next_active(machine, blocks),
+    };
+    let transaction = *machine.transactions.get(tx);
+    match block_of(blocks, transaction.next) {
+        Some(block) => act(machine, blocks, tx, transaction, block),
+        None => Ok(Made::Stops(Stop::NoBlock)),
     }
+}
 
-    /// The clock goes to a time, all that are due join the current events chain, and the retry list is woken.
-    fn move_clock_and_wake(&mut self, time: i64) -> Result<(), Memory>
-        requires linked { Linked self.old }
-        requires later { (pos 0 ≤ℤ self.old.clock) × (self.old.clock ≤ℤ time) }
-        requires few { length self.old.future_events.items + length self.old.waits.retry < 2 ^ 60 }
-        ensures ok { OnOk result (state_of self.new ≡ change.woken (change.clock_moves time (state_of self.old))) }
-        ensures err { OnErr result (state_of self.new ≡ state_of self.old) }
-        ensures linked { Linked self.new }
-    {
-        let due = self.future_events.len();
-        self.current_events.reserve(due + self.waits.retrying())?;
-        self.move_clock(time);
-        self.wake();
-        Ok(())
+/// One more step is counted; where it is the last of the budget, the running job ends.
+fn count_step(machine: &mut Machine, budget: u64)
+    requires { machine.old.steps < 2 ^ 60 }
+    ensures state { state_of machine.new ≡ model.within_budget budget (record (state_of machine.old) { steps = machine.old.steps + 1 }) }
+    ensures linked { Linked machine.old → Linked machine.new }
+{
+    machine.steps += 1;
+    if machine.ended.is_none() && machine.steps == budget {
+        machine.ended = Some(End::Budget);
     }
+}
 
-    /// Nobody is active: the first of the current events chain becomes so; else the clock moves; else nothing is left.
-    fn next_active(&mut self, blocks: &[Block]) -> Result<Made, Memory>
-        requires running { IsRunning blocks.now self.old }
-        requires nobody { self.old.active ≡ None }
-        ensures made { IfOk result (λ made. MakesFrom made (model.next_active (state_of self.old).lists.current_events) self.old self.new) }
-        ensures err { OnErr result (state_of self.new ≡ state_of self.old) }
-        ensures linked { Linked self.new }
-    {
-        if self.activate_first() {
-            return Ok(Made::Step);
-        }
-        match self.future_events.first_time() {
-            Some(time) => {
-                self.move_clock_and_wake(time)?;
-                Ok(Made::Step)
-            }
-            None => Ok(Made::Ends(End::NoMoreEvents)),
-        }
-    }
+/// The job ends by a name, and nothing else changes but the count of steps.
+fn end_by(machine: &mut Machine, end: End)
+    requires { machine.old.steps < 2 ^ 60 }
+    ensures state { state_of machine.new ≡ record (state_of machine.old) { steps = machine.old.steps + 1; ended = Some end } }
+    ensures linked { Linked machine.old → Linked machine.new }
+{
+    machine.steps += 1;
+    machine.ended = Some(end);
+}
 
-    /// The first of the current events chain becomes active, if there is one.
-    fn activate_first(&mut self) -> bool
-        requires linked { Linked self.old }
-        requires nobody { self.old.active ≡ None }
-        ensures first { IsTrue result → (n : ℕ) × (ns : List ℕ) × ((state_of self.old).lists.current_events ≡ n ∷ ns) ×
-            (state_of self.new ≡ record (state_of self.old)
-            { lists = record (lists_of self.old) { active = Some n; current_events = ns } }) }
-        ensures none { result ≡ false → ((state_of self.old).lists.current_events ≡ []) × (state_of self.new ≡ state_of self.old) ×
-            (self.new.future_events ≡ self.old.future_events) × (self.new.waits ≡ self.old.waits) }
-        ensures linked { Linked self.new }
-    {
-        match self.current_events.pop_first() {
-            Some(tx) => {
-                self.active = Some(tx);
-                true
-            }
-            None => false,
-        }
+/// One step of a running job, or the error stop for which it has none; nothing changes then.
+pub(crate) fn step(
+    machine: &mut Machine,
+    blocks: &[Block],
+    budget: u64,
+) -> Result<Option<Stop>, Memory>
+    requires running { IsRunning blocks.now machine.old }
+    requires runs { (machine.old.ended ≡ None) × (machine.old.steps < 2 ^ 60) }
+    ensures made { IfOk result (λ stop. MakesStep stop blocks.now budget (state_of machine.old) (state_of machine.new)) }
+    ensures err { OnErr result (state_of machine.new ≡ state_of machine.old) }
+    ensures linked { Linked machine.new }
+{
+    match scan(machine, blocks)? {
+        Made::Step => count_step(machine, budget),
+        Made::Ends(end) => end_by(machine, end),
+        Made::Stops(stop) => return Ok(Some(stop)),
     }
-
-    /// What a step does, but for the count of steps.
-    fn scan(&mut self, blocks: &[Block]) -> Result<Made, Memory>
-        requires { IsRunning blocks.now self.old }
-        ensures made { IfOk result (λ made. MakesFrom made (model.scan blocks.now (state_of self.old).lists.active) self.old self.new) }
-        ensures err { OnErr result (state_of self.new ≡ state_of self.old) }
-        ensures linked { Linked self.new }
-    {
-        let tx = match self.active {
-            Some(tx) => tx,
-            None => return self.next_active(blocks),
-        };
-        let transaction = *self.transactions.get(tx);
-        match block_of(blocks, transaction.next) {
-            Some(block) => self.act(blocks, tx, transaction, block),
-            None => Ok(Made::Stops(Stop::NoBlock)),
-        }
-    }
-
-    /// One more step is counted; where it is the last of the budget, the running job ends.
-    fn count_step(&mut self, budget: u64)
-        requires { self.old.steps < 2 ^ 60 }
-        ensures state { state_of self.new ≡ model.within_budget budget (record (state_of self.old) { steps = self.old.steps + 1 }) }
-        ensures linked { Linked self.old → Linked self.new }
-    {
-        self.steps += 1;
-        if self.ended.is_none() && self.steps == budget {
-            self.ended = Some(End::Budget);
-        }
-    }
-
-    /// The job ends by a name, and nothing else changes but the count of steps.
-    fn end_by(&mut self, end: End)
-        requires { self.old.steps < 2 ^ 60 }
-        ensures state { state_of self.new ≡ record (state_of self.old) { steps = self.old.steps + 1; ended = Some end } }
-        ensures linked { Linked self.old → Linked self.new }
-    {
-        self.steps += 1;
-        self.ended = Some(end);
-    }
-
-    /// One step of a running job, or the error stop for which it has none; nothing changes then.
-    pub fn step(&mut self, blocks: &[Block], budget: u64) -> Result<Option<Stop>, Memory>
-        requires running { IsRunning blocks.now self.old }
-        requires runs { (self.old.ended ≡ None) × (self.old.steps < 2 ^ 60) }
-        ensures made { IfOk result (λ stop. MakesStep stop blocks.now budget (state_of self.old) (state_of self.new)) }
-        ensures err { OnErr result (state_of self.new ≡ state_of self.old) }
-        ensures linked { Linked self.new }
-    {
-        match self.scan(blocks)? {
-            Made::Step => self.count_step(budget),
-            Made::Ends(end) => self.end_by(end),
-            Made::Stops(stop) => return Ok(Some(stop)),
-        }
-        Ok(None)
-    }
+    Ok(None)
 }

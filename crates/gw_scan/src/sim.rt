@@ -6,10 +6,11 @@ ghost use Rattle.gw_transactions.specs.Transactions.{here_count};
 ghost use Rattle.gw_step.specs.State.{delay_list};
 ghost use Rattle.gw_step.specs.Job.{Alone, IsFinal, start_of};
 
-use crate::machine::Machine;
+use crate::scan::step;
 use crate::spec::{Spec, StartFault};
 use gw_chains::Memory;
 use gw_entities::{Facilities, Queues, Savevalues, Stop, Storages, Switches};
+use gw_machine::Machine;
 use gw_step::End;
 use std::alloc::Global;
 use std::marker::Model;
@@ -81,7 +82,7 @@ impl Sim {
         }
         let blocks = self.spec.verified().object().parts().blocks.as_slice();
         let budget = self.spec.budget();
-        match self.machine.step(blocks, budget)? {
+        match step(&mut self.machine, blocks, budget)? {
             Some(stop) => Ok(Status::Stopped(stop)),
             None => Ok(self.status()),
         }

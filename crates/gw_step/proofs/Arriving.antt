@@ -14,7 +14,7 @@ use Rattle.gw_flow.specs.Rows.{Num, Row, is_empty}
 use Rattle.gw_flow.specs.Blocks.{capacity_at}
 use Rattle.gw_flow.specs.Flow.{own_table, own_row}
 use Rattle.gw_flow.specs.Laws.{MayPass, FlowHolds}
-use Rattle.gw_flow.specs.Values.{Environment}
+use Rattle.gw_code_flow.specs.Environment.{Environment}
 use Rattle.gw_flow.proofs.Parameters.{values_are_numbers}
 use Rattle.gw_num.specs.Table.{at}
 use Rattle.gw_num.proofs.Tables.{at-replicate}

@@ -12,7 +12,8 @@ use Rattle.gw_num.specs.declared.arithmetic.NumFault.{NumFault}
 use Rattle.gw_num.specs.Generator as generator
 use Rattle.gw_num.specs.Table.{at}
 use Rattle.gw_kinds.specs.Kinds.{values}
-use Rattle.gw_flow.specs.Values.{Environment, Evaluation, Value, Fails, Unset, ◌>>=◌, answered, stream_at, with_stream, first_stream, with_first, drawn_thousandths, if_set, attribute_value, operand_value, drawn_time, alone, operands as operand_values}
+use Rattle.gw_code_flow.specs.Environment.{Environment, attribute_value}
+use Rattle.gw_flow.specs.Values.{Evaluation, Value, Fails, Unset, ◌>>=◌, answered, stream_at, with_stream, first_stream, with_first, drawn_thousandths, if_set, operand_value, drawn_time, alone, operands as operand_values}
 use Rattle.gw_step.specs.Outcome.{Gives, evaluated}
 use Rattle.gw_step.specs.Times.{moment_after, drawn_moment}
 use Rattle.gw_step.proofs.Follows.{moment-later}

@@ -22,7 +22,7 @@ use Rattle.gw_kinds.specs.Kinds.{block_at, is_none_or, needs, needed_for, needed
 use Rattle.gw_kinds.specs.Laws.{IsEntity, BlockHolds}
 use Rattle.gw_kinds.proofs.KindsHold.{kinds_pass_at_each_place}
 use Rattle.gw_verify.specs.Checks.{Checked}
-use Rattle.gw_verify.proofs.BothPass.{kinds_pass}
+use Rattle.gw_verify.proofs.AllPass.{kinds_pass}
 use Rattle.gw_step.specs.Operands.{ValueFits, SpreadFits, UnitsFit, OperandsFit, BlocksFit}
 use Rattle.gw_step.proofs.AtBlock.{named_below}
 
@@ -100,7 +100,7 @@ block_spelled bs (suc i) block is h = at_place bs i is h
 pub blocks_fit : (p : Parts) → Checked p → HasSpelling p → BlocksFit (length p.entities) p.blocks
 blocks_fit p checked spelled = record {
   few = spelled.limits.blocks;
-  operands = λ b block is. operands_fit p b block (((kinds_pass_at_each_place p).0 (kinds_pass p checked)).2 b block is) (block_spelled p.blocks b block is spelled.limits.each_block);
+  operands = λ b block is. operands_fit p b block (((kinds_pass_at_each_place p).0 (kinds_pass p checked)).3 b block is) (block_spelled p.blocks b block is spelled.limits.each_block);
 }
 
 -- what holds of the block at each place holds of each block

@@ -12,7 +12,7 @@ use Rattle.gw_flow.specs.Flow.{own_table}
 use Rattle.gw_flow.specs.Laws.{FlowHolds}
 use Rattle.gw_flow.proofs.Passing.{flow_passes_at_each_block}
 use Rattle.gw_verify.specs.Checks.{Checked}
-use Rattle.gw_verify.proofs.BothPass.{kinds_pass, flow_passes}
+use Rattle.gw_verify.proofs.AllPass.{kinds_pass, flow_passes}
 use Rattle.gw_num.specs.Table.{at}
 use Rattle.gw_transactions.specs.declared.Transaction.{Transaction}
 use Rattle.gw_transactions.specs.Transactions.{LiveTransaction, attributes_at}
@@ -164,10 +164,10 @@ module _ (p : Parts) (each_return : All (ReturnsHold p) p.returns) (each_block :
 -- THE LAWS
 
 pub kinds_of : (p : Parts) → Checked p → (b : ℕ) (block : Block) → block_at p.blocks b ≡ Some block → BlockHolds p b block
-kinds_of p checked = ((kinds_pass_at_each_place p).0 (kinds_pass p checked)).2
+kinds_of p checked = ((kinds_pass_at_each_place p).0 (kinds_pass p checked)).3
 
 pub returns_of : (p : Parts) → Checked p → All (ReturnsHold p) p.returns
-returns_of p checked = ((kinds_pass_at_each_place p).0 (kinds_pass p checked)).0
+returns_of p checked = ((kinds_pass_at_each_place p).0 (kinds_pass p checked)).1
 
 pub flow_of : (p : Parts) → Checked p → FlowHolds p (own_table p)
 flow_of p checked = (flow_passes_at_each_block p (own_table p)).0 (flow_passes p checked)

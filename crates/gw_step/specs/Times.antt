@@ -1,8 +1,6 @@
 -- What operands read, and moments.
-use Rattle.std.specs.Prelude.{ℕ, ℤ, pos, ◌-ℤ◌, List, length, Option, None, Bool, false, not, if◌then◌else◌, int_lt}
+use Rattle.std.specs.Prelude.{ℕ, ℤ, pos, List, length, Option, None, if◌then◌else◌, int_lt}
 use Rattle.std.specs.Option.{option_map_or}
-use Rattle.gw_blocks.specs.declared.parts.EntityAttribute.{EntityAttribute}
-use Rattle.gw_blocks.specs.declared.parts.EntityAttribute.TheVariants.{FacilityOwned, StorageContent, StorageRemaining, QueueContent, SavevalueValue, SwitchSetting, BlockEntries, BlockCount}
 use Rattle.gw_blocks.specs.declared.parts.Numbered.{Numbered}
 use Rattle.gw_blocks.specs.declared.parts.Spread.{Spread}
 use Rattle.gw_num.specs.Arithmetic.{sum_of}
@@ -10,30 +8,26 @@ use Rattle.gw_num.specs.Table.{at}
 use Rattle.gw_transactions.specs.declared.Transaction.{Transaction}
 use Rattle.gw_transactions.specs.Parameters.{no_parameters}
 use Rattle.gw_transactions.specs.Transactions.{LiveTransaction, here_count}
-use Rattle.gw_entities.specs.Contents.{empty}
-use Rattle.gw_entities.specs.Facility.{idle, is_idle}
-use Rattle.gw_entities.specs.Storage.{vacant}
-use Rattle.gw_flow.specs.Values.{Environment, answered, drawn_time}
+use Rattle.gw_entities.specs.Attributes.{Readings, attribute_of}
+use Rattle.gw_code_flow.specs.Environment.{Environment}
+use Rattle.gw_flow.specs.Values.{answered, drawn_time}
 use Rattle.gw_step.specs.declared.ends.End.TheVariants.{NegativeTime}
 use Rattle.gw_step.specs.Outcome.{Outcome, Gives, EndsBy, ◌>>=◌, evaluated}
 use Rattle.gw_step.specs.State.{State}
 
 -- WHAT OPERANDS READ
 
--- 1 for what is so, else 0
-abbrev pub one_where : Bool → ℤ
-one_where so = if so then pos 1 else pos 0
-
--- an attribute of an entity or a block, by its number
-abbrev pub attribute_of : State → EntityAttribute → ℕ → ℤ
-attribute_of s FacilityOwned f = one_where (not (is_idle (at idle s.entities.facilities f)))
-attribute_of s StorageContent e = pos (at (vacant 0) s.entities.storages e).contents.content
-attribute_of s StorageRemaining e = pos (at (vacant 0) s.entities.storages e).capacity -ℤ pos (at (vacant 0) s.entities.storages e).contents.content
-attribute_of s QueueContent q = pos (at empty s.entities.queues q).content
-attribute_of s SavevalueValue x = at (pos 0) s.entities.savevalues x
-attribute_of s SwitchSetting l = one_where (at false s.entities.switches l)
-attribute_of s BlockEntries b = pos (at 0 s.entries b)
-attribute_of s BlockCount b = pos (here_count b s.transactions)
+-- what may be read of the entities and the blocks
+abbrev pub readings : State → Readings
+readings s = record {
+  facilities = s.entities.facilities;
+  storages = s.entities.storages;
+  queues = s.entities.queues;
+  savevalues = s.entities.savevalues;
+  switches = s.entities.switches;
+  entries = at 0 s.entries;
+  here = λ b. here_count b s.transactions;
+}
 
 -- the parameters of the transaction of a number
 abbrev pub parameters_of : ℕ → State → List (Option ℤ)
@@ -42,7 +36,7 @@ parameters_of n s = option_map_or (λ (t : LiveTransaction). t.parameters) (at N
 -- what operands read in a state, for the transaction of a number, with this priority, mark time and parameters
 abbrev pub environment : ℕ → ℤ → ℤ → List (Option ℤ) → State → Environment
 environment n priority mark parameters s =
-    record { clock = s.clock; count = s.count; number = n; priority = priority; mark = mark; parameters = parameters; of_entity = λ (a : Numbered). attribute_of s a.attribute a.number }
+    record { clock = s.clock; count = s.count; number = n; priority = priority; mark = mark; parameters = parameters; of_entity = λ (a : Numbered). attribute_of (readings s) a.attribute a.number }
 
 -- for the transaction n, which is t
 abbrev pub environment_of : ℕ → Transaction → State → Environment

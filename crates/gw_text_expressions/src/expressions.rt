@@ -7,9 +7,9 @@ ghost use Rattle.gw_text_expressions.specs.Reading.{KeepsNames};
 
 use crate::model::{Expression, Sna};
 use crate::snas::{Class, class_of, sna_by_name, sna_of};
+use gw_num::{Binary, Unary};
 use gw_text_tokens::faults::{Lowest, Refusal, Stop};
 use gw_text_tokens::names::name_of;
-use gw_text_tokens::operators::{Binary, Unary};
 use gw_text_tokens::tokens::Token;
 use gw_text_tokens::words::is_library;
 use std::alloc::{AllocError, Global};

@@ -1,6 +1,6 @@
 //! What an expression says, as a tree.
 
-use gw_text_tokens::operators::{Binary, Unary};
+use gw_num::{Binary, Unary};
 
 /// A parameter, by its number from 1 to 64 or by its name.
 #[derive(Drop)]

@@ -6,7 +6,6 @@ pub mod codes;
 pub mod faults;
 pub mod lines;
 pub mod names;
-pub mod operators;
 pub mod tokens;
 pub mod words;
 

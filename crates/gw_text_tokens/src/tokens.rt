@@ -5,7 +5,7 @@ ghost use Rattle.gw_text_tokens.specs.Lines.{after_blanks};
 ghost use Rattle.gw_text_tokens.specs.Numbers.{spelled};
 
 use crate::characters::{after_blanks, is_in_name, is_spelled};
-use crate::operators::Binary;
+use gw_num::Binary;
 use std::alloc::{AllocError, Global};
 
 /// A token.

@@ -1,14 +1,19 @@
--- What the verifier checks of an object, in order: kinds, then flow.
+-- What the verifier checks of an object, in order: kinds, then PLUS code, then flow.
 use Rattle.std.specs.Prelude.{◌≡◌, ℕ, List, [], ◌∷◌, ◌++◌, Option, None, max}
 use Rattle.gw_object.specs.declared.fault.Fault.{Fault}
 use Rattle.gw_object.specs.declared.parts.Parts.{Parts}
 use Rattle.gw_kinds.specs.Checks.{Check, first_broken}
-use Rattle.gw_kinds.specs.Kinds.{kinds_checks}
+use Rattle.gw_kinds.specs.Pass.{kinds_checks}
+use Rattle.gw_code_flow.specs.PlusChecks.{plus_checks}
 use Rattle.gw_flow.specs.Flow.{own_table, flow_checks}
 
--- every check in order: of kinds, then of flow with the object's own table
+-- the checks for which no memory is needed: of kinds, then of PLUS code
+abbrev pub first_checks : Parts → List Check
+first_checks p = kinds_checks p ++ plus_checks p
+
+-- every check in order: those, then of flow with the object's own table
 abbrev pub checks : Parts → List Check
-checks p = kinds_checks p ++ flow_checks p (own_table p)
+checks p = first_checks p ++ flow_checks p (own_table p)
 
 -- the first fault, if there is one
 unfoldable pub fault_of : Parts → Option Fault

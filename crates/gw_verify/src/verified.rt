@@ -2,13 +2,13 @@
 
 ghost use Rattle.std.specs.Prelude.{◌≡◌, ◌⊎◌, IfOk, IfErr, Some, length, List, ℕ};
 ghost use Rattle.gw_flow.specs.Flow.{FindsOrLacksMemory};
-ghost use Rattle.gw_kinds.specs.Checks.{first_broken};
-ghost use Rattle.gw_kinds.specs.Kinds.{kinds_checks};
+ghost use Rattle.gw_kinds.specs.Checks.{first_broken, Finds};
+ghost use Rattle.gw_kinds.specs.Pass.{KindsPass};
 ghost use Rattle.gw_object.specs.Reading.{out_of_memory};
 ghost use Rattle.gw_object.specs.declared.fault.Fault.{Fault};
-ghost use Rattle.gw_verify.specs.Checks.{Checked, checks, fault_of, heaviest as heaviest_of};
+ghost use Rattle.gw_verify.specs.Checks.{Checked, first_checks, checks, fault_of, heaviest as heaviest_of};
 
-use gw_flow::check_flow;
+use gw_flow::{check_flow, check_plus};
 use gw_kinds::check_kinds;
 use gw_object::{Fault, Object};
 use std::alloc::Global;
@@ -31,23 +31,33 @@ impl Model for Verified {
     ghost invariant = { λ v. Checked v.object };
 }
 
-/// The first fault of an object, if there is one: kinds before flow.
-fn check_all(alloc: Global, object: &Object) -> Result<(), Fault>
-    ensures found { FindsOrLacksMemory result (checks object.now) }
-    ensures kinds { (fault : Fault) → first_broken (kinds_checks object.now) ≡ Some fault → IfErr result (λ e. e ≡ fault) }
+/// The first fault of kinds and of PLUS code, if there is one.
+fn check_first(object: &Object) -> Result<(), Fault>
+    ensures found { Finds result (first_checks object.now) }
+    ensures kinds { IfOk result (λ _. KindsPass object.now) }
 {
     check_kinds(object)?;
+    check_plus(object)
+}
+
+/// The first fault of an object, if there is one: kinds before PLUS code, and that before flow.
+fn check_all(alloc: Global, object: &Object) -> Result<(), Fault>
+    ensures found { FindsOrLacksMemory result (checks object.now) }
+    ensures first { (fault : Fault) → first_broken (first_checks object.now) ≡ Some fault → IfErr result (λ e. e ≡ fault) }
+{
+    check_first(object)?;
     check_flow(alloc, object)
 }
 
 /// Accepts an object exactly where every check holds of it; else hands it back with the first fault: kinds (10 to 15)
-/// before flow (20 to 28), and block by block; or with 8 Memory, at Nowhere (ours: docs/refusals.md).
+/// before PLUS code (30 to 35) before flow (20 to 28), and block by block; or with 8 Memory, at Nowhere (ours:
+/// docs/refusals.md).
 #[tactic(auto, unfolding(crate::specs::Checks::fault_of))]
 pub fn verify(alloc: Global, object: Object) -> Result<Verified, (Object, Fault)>
     ensures accepted { IfOk result (λ v. (v ≡ object) × Checked object) }
     ensures refused { IfErr result (λ e. (e.0 ≡ object) × ((fault_of object ≡ Some e.1) ⊎ (e.1 ≡ out_of_memory))) }
-    // Kinds take no memory: a fault of theirs is told, whatever the memory.
-    ensures kinds { (fault : Fault) → first_broken (kinds_checks object) ≡ Some fault → IfErr result (λ e. e.1 ≡ fault) }
+    // Kinds and PLUS code are checked without memory: a fault of theirs is told, whatever the memory.
+    ensures first { (fault : Fault) → first_broken (first_checks object) ≡ Some fault → IfErr result (λ e. e.1 ≡ fault) }
 {
     match check_all(alloc, &object) {
         Ok(()) => Ok(Verified { object }),
@@ -80,11 +90,11 @@ impl Verified {
         self.object.parts().blocks.as_slice().len() as u16
     }
 
-    /// How many procedures there are: none yet.
+    /// How many procedures there are.
     pub fn procedures(&self) -> u16
-        ensures { result ≡ 0 }
+        ensures { result ≡ length self.now.procedures }
     {
-        0
+        self.object.parts().procedures.as_slice().len() as u16
     }
 
     /// The greatest weight of a block, or 0 where there is no block.

@@ -113,8 +113,8 @@ fn each_fault_of_an_entity_is_named_by_its_code_and_place(rt: HostRuntime) -> Re
         (31, 8, b"\x03\x06DESK_i", TAG, 38),
         (31, 8, b"\x03\xff\x00\x00\x00\x06DESK_2", NOT_CANONICAL, 32),
         (31, 11, b"\x03\x06DESK_", TRUNCATED, 38),
-        // With one entity less, what stands in the facility's place is the count of procedures.
-        (15, 1, &[0x02], LIMIT, 31),
+        // With one entity less, what stands in the facility's place is a procedure of 6 arguments and 68 locals.
+        (15, 1, &[0x02], LIMIT, 33),
     ];
     assert!(rt; wrong_fault(rt.alloc(), &THREE_ENTITIES, FAULTS)?.is_none());
     Ok(())

@@ -1,20 +1,18 @@
-use Rattle.std.specs.Prelude.{◌++◌}
 use Rattle.std.proofs.lemmas.Result.{err_from_is_err_and}
-use Rattle.gw_object.specs.declared.fault.Place.TheVariants as places
 use Rattle.gw_kinds.specs.Checks.{numbered}
-use Rattle.gw_kinds.specs.Kinds.{kinds_checks, return_checks, row_checks, block_checks}
+use Rattle.gw_kinds.specs.Procedures.{procedure_checks}
+use Rattle.gw_kinds.specs.Pass.{kinds_checks, return_and_later_checks}
 use Rattle.gw_kinds.proofs.Broken.{stops_first, joined}
 use Rattle.gw_kinds.proofs.blocks.check_parts.Goals as goal
 
-pub returns-in_err-check_returns : goal.returns-in_err-check_returns
+pub returns-in_err-check_procedures : goal.returns-in_err-check_procedures
 unfolding kinds_checks
-returns-in_err-check_returns c =
+returns-in_err-check_procedures c =
     let p = err_from_is_err_and c.from_residual.result c.from_residual.ensures.1 in
-    rw (p.1, p.2) (stops_first (numbered (return_checks c.args.parts.now) 0 c.args.parts.now.returns) _ _ c.in_err-check_returns.ensures)
+    rw (p.1, p.2) (stops_first (numbered (procedure_checks c.args.parts.now) 0 c.args.parts.now.procedures) _ _ c.in_err-check_procedures.ensures)
 
 pub returns : goal.returns
 unfolding kinds_checks
 returns c =
-    let parts = c.args.parts.now in
-    joined c.check_rows_and_blocks.result (numbered (return_checks parts) 0 parts.returns) (numbered (λ b. row_checks parts (places.Block b)) 1 parts.states ++ numbered (block_checks parts) 1 parts.blocks)
-    c.in_ok-check_returns.ensures c.check_rows_and_blocks.ensures
+    joined c.check_returns_and_later.result (numbered (procedure_checks c.args.parts.now) 0 c.args.parts.now.procedures) (return_and_later_checks c.args.parts.now)
+    c.in_ok-check_procedures.ensures c.check_returns_and_later.ensures

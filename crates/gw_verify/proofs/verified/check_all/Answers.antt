@@ -1,15 +1,15 @@
 use Rattle.std.proofs.Common.{inl}
 use Rattle.std.proofs.lemmas.Result.{err_from_is_err_and}
-use Rattle.gw_kinds.specs.Kinds.{kinds_checks}
 use Rattle.gw_kinds.proofs.Broken.{stops_first}
 use Rattle.gw_flow.specs.Flow.{own_table, flow_checks}
-use Rattle.gw_verify.proofs.BothPass.{joined}
+use Rattle.gw_verify.specs.Checks.{first_checks}
+use Rattle.gw_verify.proofs.AllPass.{joined}
 use Rattle.gw_verify.proofs.verified.check_all.Goals as goal
 
-pub returns-in_err-check_kinds-clause-found : goal.returns-in_err-check_kinds-clause-found
-returns-in_err-check_kinds-clause-found c =
+pub returns-in_err-check_first-clause-found : goal.returns-in_err-check_first-clause-found
+returns-in_err-check_first-clause-found c =
     let p = err_from_is_err_and c.from_residual.result c.from_residual.ensures.1 in
-    rw (p.1, p.2) (inl (stops_first (kinds_checks c.args.object.now) (flow_checks c.args.object.now (own_table c.args.object.now)) _ c.in_err-check_kinds.ensures))
+    rw (p.1, p.2) (inl (stops_first (first_checks c.args.object.now) (flow_checks c.args.object.now (own_table c.args.object.now)) _ c.in_err-check_first.ensures.found))
 
 pub returns-clause-found : goal.returns-clause-found
-returns-clause-found c = joined c.check_flow.result (kinds_checks c.args.object.now) (flow_checks c.args.object.now (own_table c.args.object.now)) c.in_ok-check_kinds.ensures c.check_flow.ensures
+returns-clause-found c = joined c.check_flow.result (first_checks c.args.object.now) (flow_checks c.args.object.now (own_table c.args.object.now)) c.in_ok-check_first.ensures.found c.check_flow.ensures

@@ -2,7 +2,7 @@ use Rattle.std.proofs.Common.{rules, ◌≡◌, length, sym, subst}
 use Rattle.gw_object.specs.declared.parts.Parts.{Parts}
 use Rattle.gw_step.specs.Operands.{BlocksFit}
 use Rattle.gw_step.specs.Job.{start_of}
-use Rattle.gw_scan.specs.View.{state_of}
+use Rattle.gw_machine.specs.View.{state_of}
 use Rattle.gw_step.proofs.Operands.{blocks_fit}
 use Rattle.gw_step.proofs.Reached.{reached_first}
 use Rattle.gw_scan.proofs.sim.Sim.start.Goals as goal

@@ -1,21 +1,21 @@
 use Rattle.std.proofs.Common.{rules, ◌≡◌, List, None, sym, subst}
 use Rattle.gw_blocks.specs.declared.parts.Block.{Block}
-use Rattle.gw_scan.specs.Coherence.{IsRunning}
+use Rattle.gw_machine.specs.Coherence.{IsRunning}
 use Rattle.gw_scan.proofs.Running.{running}
 use Rattle.gw_step.specs.Job.{Step}
-use Rattle.gw_scan.specs.View.{state_of}
+use Rattle.gw_machine.specs.View.{state_of}
 use Rattle.gw_step.proofs.Reached.{reached_more}
 use Rattle.gw_scan.proofs.sim.Sim.step.Goals as goal
 
 runs : (c : goal.In-None) → c.self.inside.machine.ended ≡ None
 runs c = search rules
 
-makes : (c : goal.In-None) → Step c.self.inside.spec (state_of c.self.inside.machine) (state_of c.step.new.self)
+makes : (c : goal.In-None) → Step c.self.inside.spec (state_of c.self.inside.machine) (state_of c.step.new.machine)
 makes c = search rules
 
 pub invariant_of-self-in-None : goal.invariant_of-self-in-None
 invariant_of-self-in-None c = record {
-  reached = reached_more c.self.inside.spec (state_of c.self.inside.machine) (state_of c.step.new.self) c.self.invariant.reached (runs c) (makes c);
+  reached = reached_more c.self.inside.spec (state_of c.self.inside.machine) (state_of c.step.new.machine) c.self.invariant.reached (runs c) (makes c);
   linked = c.in_ok-stop.ensures.linked;
 }
 

@@ -1,0 +1,44 @@
+-- What is proved of PLUS code, and of the code that passes its checks.
+use Rattle.std.specs.Prelude.{◌≡◌, ℕ, ◌≤◌, List, length, Some, None, true, Result, ℤ}
+use Rattle.gw_num.specs.Table.{at}
+use Rattle.gw_code.specs.Grammar.{ProcedureFits}
+use Rattle.gw_code.specs.declared.parts.Procedure.{Procedure}
+use Rattle.gw_object.specs.declared.parts.Parts.{Parts}
+use Rattle.gw_object.specs.Grammar.{HasSpelling}
+use Rattle.gw_kinds.specs.Laws.{ProcedureHolds}
+use Rattle.gw_kinds.specs.Pass.{KindsPass}
+use Rattle.gw_code_flow.specs.declared.ends.PlusEnd.{PlusEnd}
+use Rattle.gw_code_flow.specs.Environment.{Environment}
+use Rattle.gw_code_flow.specs.Code.{procedure_at, is_among}
+use Rattle.gw_code_flow.specs.PlusChecks.{PlusPasses, costs_of}
+use Rattle.gw_code_flow.specs.Meaning.{Frame, Derives, opening}
+
+-- these parameters are set
+abbrev pub HasSet : Environment → List ℕ → Type 0
+HasSet env needs = (x : ℕ) → is_among needs x ≡ true → (v : ℤ) × (at None env.parameters x ≡ Some v)
+
+-- what the format and kinds say of each procedure: it keeps its limits, and each number in it names something of its kind
+abbrev pub CodeHolds : Parts → Type 0
+CodeHolds p = (n : ℕ) (pr : Procedure) → procedure_at p n ≡ Some pr → ProcedureFits pr × ProcedureHolds p pr
+
+-- an activation of the procedure n that may begin: it has its arguments, and the parameters that it needs are set
+pub record MayBegin (p : Parts) (env : Environment) (n : ℕ) (pr : Procedure) (given : List ℤ) : Type 0 where
+  pub there : procedure_at p n ≡ Some pr
+  pub arguments : length given ≡ pr.arguments
+  pub needs : HasSet env pr.needs
+
+-- from one place at most one outcome is derived, after as many instructions
+abbrev pub OneOutcome : Type 0
+OneOutcome = (p : Parts) (env : Environment) (n : ℕ) (f : Frame) (k m : ℕ) (r s : Result ℤ PlusEnd) → Derives p env n f k r → Derives p env n f m s → (k ≡ m) × (r ≡ s)
+
+-- in an object whose kinds and PLUS code pass an activation never gets stuck: one that may begin has an outcome
+abbrev pub HasOutcome : Type 0
+HasOutcome =
+    (p : Parts) (env : Environment) (n : ℕ) (pr : Procedure) (arguments : List ℤ) → HasSpelling p → KindsPass p → PlusPasses p → MayBegin p env n pr arguments
+    → (k : ℕ) × (r : Result ℤ PlusEnd) × Derives p env n (opening (Some pr) arguments) k r
+
+-- and it comes to its outcome after at most as many instructions as its procedure costs
+abbrev pub CostBounds : Type 0
+CostBounds =
+    (p : Parts) (env : Environment) (n : ℕ) (pr : Procedure) (arguments : List ℤ) (k : ℕ) (r : Result ℤ PlusEnd) → HasSpelling p → KindsPass p → PlusPasses p → MayBegin p env n pr arguments
+    → Derives p env n (opening (Some pr) arguments) k r → k ≤ at 0 (costs_of p) n

@@ -1,0 +1,98 @@
+-- The checks of PLUS code, in order: of each procedure, and of each of its instructions.
+use Rattle.std.specs.Prelude.{◌≡◌, ℕ, ◌+◌, ◌-◌, List, [], ◌∷◌, ◌++◌, length, Option, Some, None, Bool, true, false, ◌==◌, ◌&&◌, nat_le}
+use Rattle.std.specs.List.{list_all}
+use Rattle.gw_num.specs.Table.{at, put}
+use Rattle.gw_code.specs.declared.parts.Instruction.{Instruction}
+use Rattle.gw_code.specs.declared.parts.Procedure.{Procedure}
+use Rattle.gw_object.specs.declared.fault.Place.TheVariants as places
+use Rattle.gw_object.specs.declared.parts.Parts.{Parts}
+use Rattle.gw_kinds.specs.Checks.{Check, check, first_broken}
+use Rattle.gw_kinds.specs.Procedures.{procedure_in}
+use Rattle.gw_code_flow.specs.Codes as codes
+use Rattle.gw_code_flow.specs.Code.{most_values, takes, leaves, targets, leads_well, calls_lower, asks_for, is_among, cost_of_code}
+
+-- HEIGHTS
+
+-- the heights of the stack that are known so far, by the number of the instruction before which the stack has them
+abbrev pub Heights : Type 0
+Heights = List (Option ℕ)
+
+-- a height that comes to an instruction is the one that it already has, if it has one
+abbrev pub agrees : ℕ → Option ℕ → Bool
+agrees height None = true
+agrees height (Some known) = known == height
+
+-- the height that is known, or 0
+abbrev pub known_height : Option ℕ → ℕ
+known_height None = 0
+known_height (Some height) = height
+
+-- the height after an instruction that has this one before it
+abbrev pub height_after : Parts → Instruction → ℕ → ℕ
+height_after p i height = height - takes p i + leaves i
+
+-- the heights, with this one at each of these instructions
+abbrev pub spread : Heights → ℕ → List ℕ → Heights
+spread heights height [] = heights
+spread heights height (target ∷ targets) = spread (put None heights target (Some height)) height targets
+
+-- ONE INSTRUCTION
+
+-- of the instruction k of the procedure n: a height is known before it (30); it leads where it may (32), calls a lower procedure (33), and asks for parameters that the procedure needs (35); it finds as many values as it takes (31), and leaves no more than the stack holds, and the height that is known where it leads (30)
+abbrev pub instruction_checks : Parts → ℕ → Procedure → Heights → ℕ → Instruction → Option ℕ → List Check
+instruction_checks p n pr heights k i None = check codes.stack_height (places.Code n k) false ∷ []
+instruction_checks p n pr heights k i (Some height) =
+    check codes.bad_jump (places.Code n k) (leads_well (length pr.code) k i)
+    ∷ check codes.call_order (places.Code n k) (calls_lower n (procedure_in i))
+    ∷ check codes.needs_param (places.Code n k) (list_all (is_among pr.needs) (asks_for p i))
+    ∷ check codes.stack_empty (places.Code n k) (nat_le (takes p i) height)
+    ∷ check codes.stack_height (places.Code n k) (nat_le (height_after p i height) most_values && list_all (λ target. agrees (height_after p i height) (at None heights target)) (targets k i))
+    ∷ []
+
+-- CODE
+
+-- of the instructions from k on, in order; each tells its height to those to which it leads
+abbrev pub code_checks : Parts → ℕ → Procedure → Heights → ℕ → List Instruction → List Check
+code_checks p n pr heights k [] = []
+code_checks p n pr heights k (i ∷ code) =
+    instruction_checks p n pr heights k i (at None heights k)
+    ++ code_checks p n pr (spread heights (height_after p i (known_height (at None heights k))) (targets k i)) (k + 1) code
+
+-- there are instructions
+abbrev pub has_code : List Instruction → Bool
+has_code [] = false
+has_code (i ∷ code) = true
+
+-- the most that a procedure may cost
+abbrev pub greatest_cost : ℕ
+greatest_cost = 1000000000
+
+-- of the procedure n, by the costs of those below: its instructions, with an empty stack before the first; then that it has one (32), and that it isn't too costly (34)
+abbrev pub procedure_checks : Parts → List ℕ → ℕ → Procedure → List Check
+procedure_checks p costs n pr =
+    code_checks p n pr (Some 0 ∷ []) 0 pr.code
+    ++ (check codes.bad_jump (places.Code n 0) (has_code pr.code)
+    ∷ check codes.too_costly (places.Code n 0) (nat_le (cost_of_code costs pr.code) greatest_cost)
+    ∷ [])
+
+-- of the procedures from n on, in order
+abbrev pub checks_from : Parts → List ℕ → ℕ → List Procedure → List Check
+checks_from p costs n [] = []
+checks_from p costs n (pr ∷ prs) = procedure_checks p costs n pr ++ checks_from p (costs ++ cost_of_code costs pr.code ∷ []) (n + 1) prs
+
+-- every check of PLUS code, in order
+unfoldable pub plus_checks : Parts → List Check
+plus_checks p = checks_from p [] 0 p.procedures
+
+-- PLUS code passes: no check of it is broken
+abbrev pub PlusPasses : Parts → Type 0
+PlusPasses p = first_broken (plus_checks p) ≡ None
+
+-- the costs of these procedures, behind those of the ones before
+abbrev pub costs_from : List ℕ → List Procedure → List ℕ
+costs_from costs [] = costs
+costs_from costs (pr ∷ prs) = costs_from (costs ++ cost_of_code costs pr.code ∷ []) prs
+
+-- the cost of each procedure
+abbrev pub costs_of : Parts → List ℕ
+costs_of p = costs_from [] p.procedures

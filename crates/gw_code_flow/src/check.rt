@@ -1,0 +1,170 @@
+//! The checks of PLUS code, in order (docs/plus-code.md). They take no memory.
+
+ghost use Rattle.std.specs.Prelude.{◌≡◌, ◌<◌, ◌≤◌, length, All, Some, None, [], ◌∷◌, IfOk, OnOk, nat_le};
+ghost use Rattle.gw_num.specs.Table.{at};
+ghost use Rattle.gw_code.specs.Grammar.{ProcedureFits};
+ghost use Rattle.gw_object.specs.declared.fault.Place.TheVariants as places;
+ghost use Rattle.gw_kinds.specs.Checks.{Finds, check as check_of};
+ghost use Rattle.gw_code_flow.specs.Codes.{bad_jump, too_costly};
+ghost use Rattle.gw_code_flow.specs.Code.{most_values, targets, cost_of_code};
+ghost use Rattle.gw_code_flow.specs.PlusChecks as model;
+
+use crate::codes::*;
+use crate::costs::cost_of_code;
+use crate::heights::{Heights, fits_ahead, height_at, mark_ahead};
+use crate::instructions::{asks_for_needs, calls_lower, finds_values, height_after, leads_well};
+use arrayvec::ArrayVec;
+use gw_code::{Instruction, MOST_INSTRUCTIONS, Procedure};
+use gw_kinds::check;
+use gw_object::{Fault, MOST_PROCEDURES, Object, Parts, Place};
+
+/// The first fault of the instruction at a position of the procedure of a number, with this height before it, if there is
+/// one; else the height after it.
+fn check_at_height(
+    parts: &Parts,
+    number: u16,
+    procedure: &Procedure,
+    heights: &Heights,
+    position: u16,
+    instruction: Instruction,
+    height: u8,
+) -> Result<u16, Fault>
+    ensures checks { Finds result (model.instruction_checks parts.now number procedure.now heights.now position instruction (Some height)) }
+    ensures after { IfOk result (λ after. after ≡ model.height_after parts.now instruction height) }
+    ensures room { IfOk result (λ after. after ≤ most_values) }
+{
+    let place = Place::Code(number, position);
+    let length = procedure.code.as_slice().len();
+    check(BAD_JUMP, place, leads_well(length, position, instruction))?;
+    check(CALL_ORDER, place, calls_lower(number, instruction))?;
+    let needs = procedure.needs.as_slice();
+    check(
+        NEEDS_PARAM,
+        place,
+        asks_for_needs(parts, needs, instruction),
+    )?;
+    check(STACK_EMPTY, place, finds_values(parts, instruction, height))?;
+    let after = height_after(parts, instruction, height);
+    let fits = fits_ahead(heights, after, position, instruction);
+    check(STACK_HEIGHT, place, fits)?;
+    Ok(after)
+}
+
+/// The first fault of the instruction at a position of the procedure of a number, if there is one; else each instruction
+/// to which it leads has the height after it.
+fn check_instruction(
+    parts: &Parts,
+    number: u16,
+    procedure: &Procedure,
+    heights: &mut Heights,
+    position: u16,
+    instruction: Instruction,
+) -> Result<(), Fault>
+    requires place { position < length procedure.now.code }
+    requires limit { length procedure.now.code ≤ 4096 }
+    ensures checks { Finds result (model.instruction_checks parts.now number procedure.now heights.old position instruction (at None heights.old position)) }
+    ensures heights { OnOk result (heights.new ≡ model.spread heights.old (model.height_after parts.now instruction (model.known_height (at None heights.old position))) (targets position instruction)) }
+{
+    match height_at(heights, position as usize) {
+        Some(height) => {
+            let after = check_at_height(
+                parts,
+                number,
+                procedure,
+                heights,
+                position,
+                instruction,
+                height,
+            )?;
+            let length = procedure.code.as_slice().len();
+            mark_ahead(heights, after as u8, length, position, instruction);
+            Ok(())
+        }
+        None => Err(Fault {
+            code: STACK_HEIGHT,
+            place: Place::Code(number, position),
+        }),
+    }
+}
+
+/// The first fault of the instructions of the procedure of a number, if there is one. The stack is empty before the
+/// first; each instruction tells its height to those to which it leads.
+fn check_code(parts: &Parts, number: u16, procedure: &Procedure) -> Result<(), Fault>
+    requires { length procedure.now.code ≤ 4096 }
+    ensures { Finds result (model.code_checks parts.now number procedure.now (Some 0 ∷ []) 0 procedure.now.code) }
+{
+    let mut heights: Heights = [None; MOST_INSTRUCTIONS];
+    heights[0] = Some(0);
+    let code = procedure.code.as_slice();
+    for i in 0..code.len() {
+        check_instruction(parts, number, procedure, &mut heights, i as u16, code[i])?;
+    }
+    Ok(())
+}
+
+/// Whether there are instructions.
+fn has_code(code: &[Instruction]) -> bool
+    ensures { result ≡ model.has_code code.now }
+{
+    !code.is_empty()
+}
+
+/// The fault of the code of the procedure of a number as a whole, by the costs of those below, if there is one; else its
+/// cost.
+fn check_cost(costs: &[u32], number: u16, code: &[Instruction]) -> Result<u32, Fault>
+    requires { length code.now ≤ 4096 }
+    ensures checks { Finds result (check_of bad_jump (places.Code number 0) (model.has_code code.now) ∷ check_of too_costly (places.Code number 0) (nat_le (cost_of_code costs.now code.now) model.greatest_cost) ∷ []) }
+    ensures cost { IfOk result (λ cost. cost ≡ cost_of_code costs.now code.now) }
+{
+    let place = Place::Code(number, 0);
+    check(BAD_JUMP, place, has_code(code))?;
+    match cost_of_code(costs, code) {
+        Some(cost) => Ok(cost),
+        None => Err(Fault {
+            code: TOO_COSTLY,
+            place,
+        }),
+    }
+}
+
+/// The first fault of the procedure of a number, by the costs of those below, if there is one; else its cost.
+fn check_procedure(
+    parts: &Parts,
+    costs: &[u32],
+    number: u16,
+    procedure: &Procedure,
+) -> Result<u32, Fault>
+    requires { length procedure.now.code ≤ 4096 }
+    ensures checks { Finds result (model.procedure_checks parts.now costs.now number procedure.now) }
+    ensures cost { IfOk result (λ cost. cost ≡ cost_of_code costs.now procedure.now.code) }
+{
+    check_code(parts, number, procedure)?;
+    check_cost(costs, number, procedure.code.as_slice())
+}
+
+/// The first fault of the procedures, if there is one: one after the other, each with the costs of those below.
+fn check_procedures(parts: &Parts) -> Result<(), Fault>
+    requires few { length parts.now.procedures ≤ 256 }
+    requires each { All ProcedureFits parts.now.procedures }
+    ensures { Finds result (model.plus_checks parts.now) }
+{
+    let procedures = parts.procedures.as_slice();
+    let mut costs: ArrayVec<u32, MOST_PROCEDURES> = ArrayVec::new();
+    for i in 0..procedures.len() {
+        let cost = check_procedure(parts, costs.as_slice(), i as u16, &procedures[i])?;
+        costs.push(cost);
+    }
+    Ok(())
+}
+
+/// Accepts an object exactly where its PLUS code passes; else the first fault, at a procedure and its instruction: of the
+/// procedures in ascending order, and in each of its instructions in ascending order. Of an instruction, in this order:
+/// 30 StackHeight where no height of the stack is known before it, 32 BadJump, 33 CallOrder, 35 NeedsParam, 31 StackEmpty,
+/// and 30 where the stack is too high after it or two heights meet. Then 32 of a procedure without instructions, and 34
+/// TooCostly of one that may take more than 1,000,000,000 instructions (ours: docs/refusals.md). Code that passes never
+/// gets stuck. It takes no memory.
+pub fn check_plus(object: &Object) -> Result<(), Fault>
+    ensures { Finds result (model.plus_checks object.now) }
+{
+    check_procedures(object.parts())
+}

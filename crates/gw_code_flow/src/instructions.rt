@@ -1,0 +1,135 @@
+//! What an instruction takes, leaves and needs, and where it leads (docs/plus-code.md).
+
+ghost use Rattle.std.specs.Prelude.{◌≡◌, ◌≤◌, nat_le};
+ghost use Rattle.std.specs.Option.{option_copied};
+ghost use Rattle.std.specs.List.{list_all};
+ghost use Rattle.gw_kinds.specs.Procedures.{procedure_in};
+ghost use Rattle.gw_code_flow.specs.Code as model;
+ghost use Rattle.gw_code_flow.specs.PlusChecks.{height_after};
+
+use gw_code::{Instruction, Procedure, Sna};
+use gw_object::Parts;
+
+/// The procedure of this number, if it is there.
+fn procedure_at(parts: &Parts, number: u16) -> Option<&Procedure>
+    ensures { option_copied result ≡ model.procedure_at parts.now number }
+{
+    parts.procedures.as_slice().get(number as usize)
+}
+
+/// How many arguments a procedure takes; none where it isn't there.
+fn arguments_of(procedure: Option<&Procedure>) -> u8
+    ensures { result ≡ model.arguments_of (option_copied procedure.entry) }
+{
+    match procedure {
+        Some(procedure) => procedure.arguments,
+        None => 0,
+    }
+}
+
+/// How many values an instruction takes from the stack.
+fn takes(parts: &Parts, instruction: Instruction) -> u8
+    ensures { result ≡ model.takes parts.now instruction }
+{
+    match instruction {
+        Instruction::Binary(_) => 2,
+        Instruction::Set(_)
+        | Instruction::Unary(_)
+        | Instruction::Pop
+        | Instruction::JumpIfZero(_)
+        | Instruction::Return => 1,
+        Instruction::Call(procedure) => arguments_of(procedure_at(parts, procedure)),
+        _ => 0,
+    }
+}
+
+/// Whether there are as many values on the stack as an instruction takes.
+pub(crate) fn finds_values(parts: &Parts, instruction: Instruction, height: u8) -> bool
+    ensures { result ≡ nat_le (model.takes parts.now instruction) height }
+{
+    takes(parts, instruction) <= height
+}
+
+/// How many values an instruction leaves on the stack.
+fn leaves(instruction: Instruction) -> u8
+    ensures { result ≡ model.leaves instruction }
+{
+    match instruction {
+        Instruction::Push(_)
+        | Instruction::Get(_)
+        | Instruction::Value(_)
+        | Instruction::Binary(_)
+        | Instruction::Unary(_)
+        | Instruction::Call(_) => 1,
+        _ => 0,
+    }
+}
+
+/// The height of the stack after an instruction that has this one before it.
+pub(crate) fn height_after(parts: &Parts, instruction: Instruction, height: u8) -> u16
+    requires { model.takes parts.now instruction ≤ height }
+    ensures { result ≡ height_after parts.now instruction height }
+{
+    u16::from(height - takes(parts, instruction)) + u16::from(leaves(instruction))
+}
+
+/// Whether an instruction at a position of a code of this length leads where it may: a jump leads to a later instruction,
+/// a jump back to itself or an earlier one, and no other than a RET is the last one.
+pub(crate) fn leads_well(length: usize, position: u16, instruction: Instruction) -> bool
+    ensures { result ≡ model.leads_well length position instruction }
+{
+    match instruction {
+        Instruction::Jump(target) | Instruction::JumpIfZero(target) => {
+            position < target && (target as usize) < length
+        }
+        Instruction::Back(back) => back.target <= position,
+        Instruction::Return => true,
+        _ => (position as usize) + 1 < length,
+    }
+}
+
+/// Whether the procedure that an instruction calls, if it does, is lower than this one.
+pub(crate) fn calls_lower(procedure: u16, instruction: Instruction) -> bool
+    ensures { result ≡ model.calls_lower procedure (procedure_in instruction) }
+{
+    match instruction {
+        Instruction::Call(called) => called < procedure,
+        _ => true,
+    }
+}
+
+/// Whether a number is among these.
+fn is_among(numbers: &[u8], number: u8) -> bool
+    ensures { result ≡ model.is_among numbers.now number }
+{
+    numbers.contains(&number)
+}
+
+/// Whether each of some numbers is among these.
+fn are_among(numbers: &[u8], some: &[u8]) -> bool
+    ensures { result ≡ list_all (model.is_among numbers.now) some.now }
+{
+    some.iter().all(|number| is_among(numbers, *number))
+}
+
+/// Whether the parameters that a procedure needs, if it is there, are among these.
+fn needs_no_more(procedure: Option<&Procedure>, needs: &[u8]) -> bool
+    ensures { result ≡ list_all (model.is_among needs.now) (model.needs_of (option_copied procedure.entry)) }
+{
+    match procedure {
+        Some(procedure) => are_among(needs, procedure.needs.as_slice()),
+        None => true,
+    }
+}
+
+/// Whether the parameters that have to be set for an instruction are among these: the one that it reads, and those that
+/// the procedure that it calls needs.
+pub(crate) fn asks_for_needs(parts: &Parts, needs: &[u8], instruction: Instruction) -> bool
+    ensures { result ≡ list_all (model.is_among needs.now) (model.asks_for parts.now instruction) }
+{
+    match instruction {
+        Instruction::Value(Sna::Parameter(parameter)) => is_among(needs, parameter),
+        Instruction::Call(procedure) => needs_no_more(procedure_at(parts, procedure), needs),
+        _ => true,
+    }
+}

@@ -1,0 +1,103 @@
+//! The entities, the procedures, the blocks and the numbers that instructions name.
+
+ghost use Rattle.std.specs.Prelude.{◌≡◌, ◌≤◌, length};
+ghost use Rattle.gw_kinds.specs.Procedures as model;
+
+use crate::checks::{NumberedChecks, check, check_each};
+use crate::codes::{BAD_CONSTANT, NO_BLOCK, NO_ENTITY, WRONG_KIND};
+use crate::entities::{Named, entity_named, is_no_other_kind, is_there};
+use crate::targets::{block_named, is_block};
+use gw_code::{Instruction, Procedure, Sna};
+use gw_object::{Fault, Parts, Place};
+
+/// The most times that a jump back may be taken.
+const MOST_TURNS: u32 = 1_000_000;
+
+/// The entity that an instruction names, if it does.
+fn entity_in(instruction: Instruction) -> Option<Named>
+    ensures { result ≡ model.entity_in instruction }
+{
+    match instruction {
+        Instruction::Value(Sna::OfEntity(of)) => entity_named(of),
+        _ => None,
+    }
+}
+
+/// The procedure that an instruction names, if it does.
+fn procedure_in(instruction: Instruction) -> Option<u16>
+    ensures { result ≡ model.procedure_in instruction }
+{
+    match instruction {
+        Instruction::Call(procedure) => Some(procedure),
+        _ => None,
+    }
+}
+
+/// The block that an instruction names, if it does.
+fn block_in(instruction: Instruction) -> Option<u16>
+    ensures { result ≡ model.block_in instruction }
+{
+    match instruction {
+        Instruction::Value(Sna::OfEntity(of)) => block_named(of),
+        _ => None,
+    }
+}
+
+/// Whether a local is one of so many, and a jump back is taken from 1 to 1,000,000 times.
+fn has_good_numbers(locals: u8, instruction: Instruction) -> bool
+    ensures { result ≡ model.has_good_numbers locals instruction }
+{
+    match instruction {
+        Instruction::Get(local) | Instruction::Set(local) => local < locals,
+        Instruction::Back(back) => 1 <= back.count && back.count <= MOST_TURNS,
+        _ => true,
+    }
+}
+
+/// The checks of the instructions of a procedure.
+#[derive(Drop)]
+struct Instructions {
+    /// The procedure's number, from 0.
+    procedure: u16,
+    /// How many locals it has.
+    locals: u8,
+}
+
+impl NumberedChecks<Instruction> for Instructions {
+    ghost checks = { λ c p. model.instruction_checks p c.procedure c.locals };
+
+    fn check_one(&self, parts: &Parts, number: u16, element: &Instruction) -> Result<(), Fault> {
+        let place = Place::Code(self.procedure, number);
+        let entities = parts.entities.as_slice();
+        let named = entity_in(*element);
+        let is_right = named.is_none_or(|named| is_no_other_kind(entities, named));
+        check(WRONG_KIND, place, is_right)?;
+        let entity_is_there = named.is_none_or(|named| is_there(entities, named));
+        let procedures = parts.procedures.as_slice().len();
+        let called_is_there = procedure_in(*element).is_none_or(|q| (q as usize) < procedures);
+        check(NO_ENTITY, place, entity_is_there && called_is_there)?;
+        let blocks = parts.blocks.as_slice();
+        let block_is_there = block_in(*element).is_none_or(|named| is_block(blocks, named));
+        check(NO_BLOCK, place, block_is_there)?;
+        check(BAD_CONSTANT, place, has_good_numbers(self.locals, *element))
+    }
+}
+
+/// The checks of procedures.
+pub(crate) struct Procedures;
+
+impl NumberedChecks<Procedure> for Procedures {
+    ghost use Rattle.gw_code.specs.Grammar.{ProcedureFits};
+
+    ghost checks = { λ _. model.procedure_checks };
+
+    ghost can_check = { ProcedureFits };
+
+    fn check_one(&self, parts: &Parts, number: u16, element: &Procedure) -> Result<(), Fault> {
+        let instructions = Instructions {
+            procedure: number,
+            locals: element.locals,
+        };
+        check_each::<Instruction, Instructions>(&instructions, parts, 0, element.code.as_slice())
+    }
+}

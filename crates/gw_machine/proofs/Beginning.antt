@@ -1,0 +1,108 @@
+-- A machine in which nothing is scheduled.
+use Rattle.std.proofs.Common.{◌≡◌, ℕ, zero, suc, ◌+◌, ◌^◌, ◌<◌, pos, List, [], ◌∷◌, map, length, replicate, None, refl, sym, ap, ◌∙◌, subst, false, arith}
+use Rattle.std.specs.Prelude.{sum, Bool, ℤ}
+use Rattle.std.proofs.lemmas.Int.{ints}
+use Rattle.std.proofs.lemmas.List.{length-map, length-replicate}
+use Rattle.gw_blocks.specs.declared.parts.Block.{Block}
+use Rattle.gw_chains.specs.declared.tx.Member.{Member}
+use Rattle.gw_object.specs.declared.parts.Entity.{Entity}
+use Rattle.gw_object.specs.declared.parts.Parts.{Parts}
+use Rattle.gw_num.proofs.Tables.{at-replicate, sum_by-replicate}
+use Rattle.gw_transactions.specs.Transactions.{IsSound}
+use Rattle.gw_entities.specs.Contents.{empty}
+use Rattle.gw_entities.specs.Facility.{idle}
+use Rattle.gw_object.specs.Entities.{capacity_of}
+use Rattle.gw_entities.specs.Storage.{vacant}
+use Rattle.gw_entities.specs.Table.{FacilityTable, StorageTable, QueueTable, switches_of, savevalues_of, initial_setting, initial_value}
+use Rattle.gw_step.proofs.Nothing.{resides-nothing}
+use Rattle.gw_machine.specs.declared.machine.Machine.{Machine}
+use Rattle.gw_step.specs.Operands.{BlocksFit}
+use Rattle.gw_step.specs.Start.{nothing}
+use Rattle.gw_step.specs.State.{State}
+use Rattle.gw_step.specs.Residence.{ResidesOnce}
+use Rattle.gw_machine.specs.View.{state_of, member_number}
+use Rattle.gw_machine.specs.Coherence.{Linked}
+use Rattle.gw_machine.specs.Evaluating.{IsReadable}
+
+-- what the parts of such a machine are
+pub record Begins (p : Parts) (n : ℕ) (ss : List ℕ) (m : Machine) : Type 0 where
+  pub clock : m.clock ≡ pos 0
+  pub count : m.count ≡ pos n
+  pub steps : m.steps ≡ 0
+  pub streams : m.streams ≡ ss
+  pub scheduled : m.scheduled.items ≡ replicate (length p.blocks + 1) 0
+  pub transactions : m.transactions.txs ≡ None ∷ []
+  pub sound : IsSound m.transactions
+  pub active : m.active ≡ None
+  pub current_events : m.current_events.items ≡ []
+  pub future_events : m.future_events.items ≡ []
+  pub lists : m.waits.lists ≡ replicate (length p.entities) []
+  pub retry : m.waits.retry ≡ []
+  pub stir : m.stir ≡ false
+  pub facilities : m.facilities ≡ record { facilities = map (λ _. idle) p.entities; passed = 0 }
+  pub storages : m.storages ≡ record { storages = map (λ (e : Entity). vacant (capacity_of e.kind)) p.entities; passed = 0 }
+  pub queues : m.queues ≡ record { queues = map (λ _. empty) p.entities; passed = 0 }
+  pub switches : m.switches ≡ switches_of p.entities
+  pub savevalues : m.savevalues ≡ savevalues_of p.entities
+  pub entries : m.entries.items ≡ replicate (length p.blocks + 1) 0
+  pub ended : m.ended ≡ None
+
+-- lists with no member
+empties : (n : ℕ) → map (map member_number) (replicate n []) ≡ replicate n []
+empties zero = refl
+empties (suc n) = ap (λ xs. [] ∷ xs) (empties n)
+
+module _ (p : Parts) (count : ℕ) (streams : List ℕ) (m : Machine) (b : Begins p count streams m) where
+  entities : length m.facilities.facilities ≡ length p.entities
+  entities = ap (λ (f : FacilityTable). length f.facilities) b.facilities ∙ length-map p.entities (λ _. idle)
+
+  delay_lists : (state_of m).lists.delay_lists ≡ replicate (length p.entities) []
+  delay_lists = rw b.lists (empties (length p.entities))
+
+  pub state-nothing : state_of m ≡ nothing p count streams
+  state-nothing =
+      let f = ap (λ (x : FacilityTable). x.facilities) b.facilities in
+      let s = ap (λ (x : StorageTable). x.storages) b.storages in
+      let q = ap (λ (x : QueueTable). x.queues) b.queues in
+      rw (delay_lists, f, s, q, b.switches, b.savevalues, b.clock, b.count, b.steps, b.streams, b.scheduled, b.transactions, b.active, b.current_events, b.future_events, b.retry, b.stir, b.entries, b.ended) refl
+
+  pub linked-nothing : Linked m
+  linked-nothing = record {
+    active = rw b.active tt;
+    current_events = rw b.current_events tt;
+    future_events = rw b.future_events tt;
+    delay_lists = λ e below. rw (b.lists, at-replicate {X = List Member} [] (length p.entities) e) tt;
+    listed = rw b.lists (length-replicate (length p.entities) [] ∙ sym entities);
+    retry = rw b.retry tt;
+    sound = b.sound;
+    resides = subst ResidesOnce (sym state-nothing) (resides-nothing p count streams);
+    timed = record { facilities = rw (b.facilities, b.clock) refl; storages = rw (b.storages, b.clock) refl; queues = rw (b.queues, b.clock) refl };
+  }
+
+  pub readable-nothing : IsReadable m
+  readable-nothing = record {
+    storages = ap (λ (x : StorageTable). length x.storages) b.storages ∙ length-map p.entities (λ (e : Entity). vacant (capacity_of e.kind)) ∙ sym entities;
+    queues = ap (λ (x : QueueTable). length x.queues) b.queues ∙ length-map p.entities (λ _. empty) ∙ sym entities;
+    switches = ap (λ (xs : List Bool). length xs) b.switches ∙ length-map p.entities (λ (e : Entity). initial_setting e.kind) ∙ sym entities;
+    savevalues = ap (λ (xs : List ℤ). length xs) b.savevalues ∙ length-map p.entities (λ (e : Entity). initial_value e.kind) ∙ sym entities;
+    entries = omega (arith, ap sum b.entries, sum_by-replicate 0 (λ (x : ℕ). x) (length p.blocks + 1) refl);
+    clock = rw b.clock (grind (arith, ints));
+    sound = b.sound;
+  }
+
+-- a machine in that state has what the first arrivals ask for, of the blocks of its object
+module _ (p : Parts) (count : ℕ) (streams : List ℕ) (m : Machine) (is : state_of m ≡ nothing p count streams) where
+  pub nothing-few : (length m.transactions.txs < 2 ^ 50) × (sum m.scheduled.items < 2 ^ 50)
+  nothing-few =
+      let none = ap (λ (s : State). length s.transactions) is in
+      let scheduled = ap (λ (s : State). sum s.scheduled) is ∙ sum_by-replicate 0 (λ (x : ℕ). x) (length p.blocks + 1) refl in
+      (omega (arith, none), omega (arith, scheduled))
+
+  module _ (q : Parts) (bs : List Block) (own : q ≡ p) (blocks : bs ≡ q.blocks) where
+    pub nothing-fit : BlocksFit (length p.entities) p.blocks → BlocksFit (length m.facilities.facilities) bs
+    nothing-fit fit = rw (ap (λ (s : State). length s.entities.facilities) is ∙ length-map p.entities (λ _. idle), blocks, own) fit
+
+    pub nothing-blocks : length m.scheduled.items ≡ length bs + 1
+    nothing-blocks =
+        ap (λ (s : State). length s.scheduled) is ∙ length-replicate (length p.blocks + 1) 0
+        ∙ sym (ap (λ (xs : List Block). length xs + 1) (blocks ∙ ap (λ (x : Parts). x.blocks) own))

@@ -1,0 +1,155 @@
+-- What the elementary changes make of a machine.
+use Rattle.std.proofs.Common.{◌≡◌, ℕ, ◌+◌, ◌<◌, ℤ, List, [], map, length, Some, None, option_map, sym, ap, ◌∙◌, subst, get_or}
+use Rattle.std.specs.Prelude.{int_le, slice_set}
+use Rattle.gw_chains.specs.Chain.{in_time}
+use Rattle.gw_num.specs.Table.{at, put}
+use Rattle.gw_chains.specs.declared.tx.Tx.{Tx}
+use Rattle.gw_chains.specs.declared.tx.Member.{Member}
+use Rattle.gw_chains.specs.declared.tx.Event.{Event}
+use Rattle.gw_transactions.specs.declared.Transaction.{Transaction}
+use Rattle.gw_transactions.specs.Transactions.{LiveTransaction, put_attributes, put_parameter, Holds, IsSound}
+use Rattle.gw_num.proofs.Tables.{at-put, set-put, at-get_or_any, at-map}
+use Rattle.gw_transactions.proofs.Populations.{transaction_of}
+use Rattle.gw_machine.specs.declared.machine.Machine.{Machine}
+use Rattle.gw_step.specs.State.{FutureEvent, priority_of, raised, delay_list}
+use Rattle.gw_step.specs.Residence.{ResidesOnce, occurrences}
+use Rattle.gw_step.specs.Changes.{entered, assigned, destroyed, rests_until, arrives}
+use Rattle.gw_machine.specs.View.{state_of, event_of, member_number}
+use Rattle.gw_machine.specs.Coherence.{Linked, IsTimed, IsHeld, CanRest, Carries, Every, Others}
+use Rattle.gw_step.proofs.Lists.{all_placed, map-placed, all_same, map-map}
+use Rattle.gw_step.proofs.Residence.{resides-entered, resides-assigned, resides-destroyed, resides-rests, resides-arrives, alone}
+use Rattle.gw_machine.proofs.Handles.{active_carried, members_carried, events_carried, every, others, carries-set, carries-assign, carries-same, carries-insert, carries-remove}
+
+-- one more at a place, as the code writes it
+pub raised_is : (counts : List ℕ) (place was : ℕ) → place < length counts → was ≡ get_or counts place was → slice_set counts place (was + 1) ≡ raised place counts
+raised_is counts place was within is =
+    set-put 0 counts place (was + 1) within
+    ∙ ap (λ n. put 0 counts place (n + 1)) (is ∙ sym (at-get_or_any 0 was counts place within))
+
+-- the delay list of an entity, as the machine keeps it
+pub delay_list-at : (m : Machine) (e : ℕ) → delay_list e (state_of m) ≡ map member_number (at [] m.waits.lists e)
+delay_list-at m e = at-map (map member_number) [] m.waits.lists e
+
+-- the future events chain with one more member
+pub events-in_time : (tx : Tx) (time : ℤ) (xs : List Event) → map event_of (in_time (λ (e : Event). e.time) (record { tx = tx; time = time }) xs) ≡ in_time (λ (e : FutureEvent). e.time) (record { time = time; number = tx.number }) (map event_of xs)
+events-in_time tx time xs = map-placed event_of (λ (y : Event). int_le y.time time) (λ (y : FutureEvent). int_le y.time time) (record { tx = tx; time = time }) xs (all_same (λ (y : Event). int_le y.time time) xs)
+
+-- what these changes leave as it was: who waits, the entities and the clock
+pub record Keeps (m new : Machine) : Type 0 where
+  pub waits : new.waits ≡ m.waits
+  pub facilities : new.facilities ≡ m.facilities
+  pub storages : new.storages ≡ m.storages
+  pub queues : new.queues ≡ m.queues
+  pub clock : new.clock ≡ m.clock
+
+pub timed-kept : (m new : Machine) → new.facilities ≡ m.facilities → new.storages ≡ m.storages → new.queues ≡ m.queues → new.clock ≡ m.clock → IsTimed m → IsTimed new
+timed-kept m new f s q c h = record { facilities = rw (f, c) h.facilities; storages = rw (s, c) h.storages; queues = rw (q, c) h.queues }
+
+-- the members of a list by priority
+abbrev number_of : Member → ℕ
+number_of x = x.tx.number
+
+-- the members of a machine's lists after a change of its transactions that carries every handle
+pub linked-carried : (m new : Machine) → Carries Every m.transactions new.transactions → IsSound new.transactions → new.active ≡ m.active → new.current_events.items ≡ m.current_events.items → new.future_events.items ≡ m.future_events.items → Keeps m new → ResidesOnce (state_of new) → Linked m → Linked new
+linked-carried m new c sound a cs fs k resides l =
+    let carried = λ (xs : List Member). members_carried Every m.transactions new.transactions c xs (every number_of xs) in
+    record {
+      active = rw a (active_carried m.transactions new.transactions c m.active l.active);
+      current_events = rw cs (carried m.current_events.items l.current_events);
+      future_events = rw fs (events_carried Every m.transactions new.transactions c m.future_events.items (every (λ (x : Event). x.tx.number) m.future_events.items) l.future_events);
+      delay_lists = λ e below. rw k.waits (carried (at [] m.waits.lists e) (l.delay_lists e (rw k.facilities at below)));
+      retry = rw k.waits (carried m.waits.retry l.retry);
+      listed = rw (k.waits, k.facilities) l.listed;
+      sound = sound;
+      resides = resides;
+      timed = timed-kept m new k.facilities k.storages k.queues k.clock l.timed;
+    }
+
+pub linked-entered : (m new : Machine) (tx : Tx) (t : Transaction) (next : ℕ)
+    → new.transactions.txs ≡ put_attributes tx.number (record t { current = t.next; next = next }) m.transactions.txs → new.transactions.places ≡ m.transactions.places → IsSound new.transactions
+    → new.active ≡ m.active → new.current_events.items ≡ m.current_events.items → new.future_events.items ≡ m.future_events.items → Keeps m new
+    → state_of new ≡ entered tx.number t next (state_of m) → priority_of m.transactions.txs tx.number ≡ t.priority → Linked m → Linked new
+linked-entered m new tx t next ts ps sound a cs fs k is pr l =
+    linked-carried m new (carries-set m.transactions new.transactions tx.number (record t { current = t.next; next = next }) ts ps pr) sound a cs fs k
+    (subst ResidesOnce (sym is) (resides-entered tx.number t next (state_of m) l.resides)) l
+
+pub linked-assigned : (m new : Machine) (tx : Tx) (k : ℕ) (value : ℤ)
+    → new.transactions.txs ≡ put_parameter tx.number k value m.transactions.txs → new.transactions.places ≡ m.transactions.places → IsSound new.transactions
+    → new.active ≡ m.active → new.current_events.items ≡ m.current_events.items → new.future_events.items ≡ m.future_events.items → Keeps m new
+    → state_of new ≡ assigned tx.number k value (state_of m) → Linked m → Linked new
+linked-assigned m new tx k value ts ps sound a cs fs keeps is l =
+    linked-carried m new (carries-assign m.transactions new.transactions tx.number k value ts ps) sound a cs fs keeps
+    (subst ResidesOnce (sym is) (resides-assigned tx.number k value (state_of m) l.resides)) l
+
+pub linked-same : (m new : Machine)
+    → new.transactions.txs ≡ m.transactions.txs → new.transactions.places ≡ m.transactions.places → IsSound new.transactions
+    → new.active ≡ m.active → new.current_events.items ≡ m.current_events.items → new.future_events.items ≡ m.future_events.items → Keeps m new
+    → state_of new ≡ state_of m → Linked m → Linked new
+linked-same m new ts ps sound a cs fs keeps is l = linked-carried m new (carries-same m.transactions new.transactions ts ps) sound a cs fs keeps (subst ResidesOnce (sym is) l.resides) l
+
+pub linked-destroyed : (m new : Machine) (tx : Tx)
+    → new.transactions.txs ≡ put None m.transactions.txs tx.number None → new.transactions.places ≡ put None m.transactions.places tx.number None → IsSound new.transactions
+    → CanRest m tx → new.active ≡ None → new.current_events.items ≡ m.current_events.items → new.future_events.items ≡ m.future_events.items → Keeps m new
+    → state_of new ≡ destroyed tx.number (state_of m) → Linked new
+linked-destroyed m new tx ts ps sound r a cs fs k is =
+    let l = r.linked in
+    let n = tx.number in
+    let u = transaction_of m.transactions l.sound tx r.held in
+    let active : (state_of m).lists.active ≡ Some n = ap (option_map (λ (x : Tx). x.number)) r.active in
+    let c = carries-remove m.transactions new.transactions n ts ps in
+    let none = alone n (state_of m) active l.resides in
+    let carried = λ (xs : List Member) (gone : occurrences n (map number_of xs) ≡ 0). members_carried (Others n) m.transactions new.transactions c xs (others number_of n xs gone) in
+    record {
+      active = rw a tt;
+      current_events = rw cs (carried m.current_events.items none.current_events l.current_events);
+      future_events = rw fs (events_carried (Others n) m.transactions new.transactions c m.future_events.items (others (λ (x : Event). x.tx.number) n m.future_events.items (sym (ap (occurrences n) (map-map (λ (e : FutureEvent). e.number) event_of m.future_events.items)) ∙ none.future_events)) l.future_events);
+      delay_lists = λ e below.
+          let within : e < length m.facilities.facilities = rw k.facilities at below in
+          rw k.waits (carried (at [] m.waits.lists e) (sym (ap (occurrences n) (delay_list-at m e)) ∙ none.delay_lists e) (l.delay_lists e within));
+      retry = rw k.waits (carried m.waits.retry none.retry l.retry);
+      listed = rw (k.waits, k.facilities) l.listed;
+      sound = sound;
+      resides = subst ResidesOnce (sym is) (resides-destroyed n u.0 (state_of m) active u.1 l.resides);
+      timed = timed-kept m new k.facilities k.storages k.queues k.clock l.timed;
+    }
+
+pub linked-rested : (m new : Machine) (tx : Tx) (time : ℤ)
+    → new.transactions ≡ m.transactions → CanRest m tx → new.active ≡ None → new.current_events.items ≡ m.current_events.items → new.future_events.items ≡ in_time (λ (e : Event). e.time) (record { tx = tx; time = time }) m.future_events.items → Keeps m new
+    → state_of new ≡ rests_until tx.number time (state_of m) → Linked new
+linked-rested m new tx time ps r a cs fs k is =
+    let l = r.linked in
+    let active : (state_of m).lists.active ≡ Some tx.number = ap (option_map (λ (x : Tx). x.number)) r.active in
+    record {
+      active = rw a tt;
+      current_events = rw (ps, cs) l.current_events;
+      future_events = rw (ps, fs) (all_placed (IsHeld m.transactions) (λ (y : Event). int_le y.time time) (record { tx = tx; time = time }) m.future_events.items r.held l.future_events);
+      delay_lists = λ e below. rw (ps, k.waits) (l.delay_lists e (rw k.facilities at below));
+      retry = rw (ps, k.waits) l.retry;
+      listed = rw (k.waits, k.facilities) l.listed;
+      sound = rw ps l.sound;
+      resides = subst ResidesOnce (sym is) (resides-rests tx.number time (state_of m) active l.resides);
+      timed = timed-kept m new k.facilities k.storages k.queues k.clock l.timed;
+    }
+
+pub linked-arrived : (m new : Machine) (tx : Tx) (t : LiveTransaction) (b : ℕ) (priority time : ℤ)
+    → new.transactions.txs ≡ put None m.transactions.txs (length m.transactions.txs) (Some t) → new.transactions.places ≡ put None m.transactions.places (length m.transactions.txs) (Some tx.place) → tx.number ≡ length m.transactions.txs → IsSound new.transactions
+    → new.active ≡ m.active → new.current_events.items ≡ m.current_events.items → new.future_events.items ≡ in_time (λ (e : Event). e.time) (record { tx = tx; time = time }) m.future_events.items → Keeps m new
+    → state_of new ≡ arrives b priority time (state_of m) → Linked m → Linked new
+linked-arrived m new tx t b priority time ts ps ns sound a cs fs k is l =
+    let p = m.transactions in
+    let q = new.transactions in
+    let c = carries-insert p q t tx.place l.sound ts ps in
+    let held : Holds q tx = ap (λ xs. at None xs tx.number) ps ∙ ap (λ k. at None (put None p.places k (Some tx.place)) tx.number) (sym ns) ∙ at-put None p.places tx.number (Some tx.place) in
+    let carried = λ (xs : List Member). members_carried Every p q c xs (every number_of xs) in
+    record {
+      active = rw a (active_carried p q c m.active l.active);
+      current_events = rw cs (carried m.current_events.items l.current_events);
+      future_events = rw fs (all_placed (IsHeld q) (λ (y : Event). int_le y.time time) (record { tx = tx; time = time }) m.future_events.items held
+          (events_carried Every p q c m.future_events.items (every (λ (x : Event). x.tx.number) m.future_events.items) l.future_events));
+      delay_lists = λ e below. rw k.waits (carried (at [] m.waits.lists e) (l.delay_lists e (rw k.facilities at below)));
+      retry = rw k.waits (carried m.waits.retry l.retry);
+      listed = rw (k.waits, k.facilities) l.listed;
+      sound = sound;
+      resides = subst ResidesOnce (sym is) (resides-arrives b priority time (state_of m) l.resides);
+      timed = timed-kept m new k.facilities k.storages k.queues k.clock l.timed;
+    }

@@ -1,0 +1,11 @@
+pub mod Evaluating
+pub mod Handles
+pub mod Changes
+pub mod Due
+pub mod Waiters
+pub mod Walks
+pub mod Steady
+pub mod Joining
+pub mod Beginning
+pub mod Starting
+pub mod Retrying

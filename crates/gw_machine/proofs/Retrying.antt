@@ -1,0 +1,78 @@
+-- What resting on the retry list, and waking it, make of a machine.
+use Rattle.std.proofs.Common.{◌≡◌, ℕ, ℤ, List, [], ◌∷◌, ◌++◌, map, None, false, option_map, refl, sym, ap, ◌∙◌, subst}
+use Rattle.std.specs.List.{AllByRecursion}
+use Rattle.gw_chains.specs.Chain.{all_behind}
+use Rattle.gw_chains.specs.Lists.{Waiting}
+use Rattle.gw_chains.specs.declared.tx.Tx.{Tx}
+use Rattle.gw_chains.specs.declared.tx.Member.{Member}
+use Rattle.gw_machine.specs.declared.machine.Machine.{Machine}
+use Rattle.gw_step.specs.State.{priority_of}
+use Rattle.gw_step.specs.Residence.{ResidesOnce}
+use Rattle.gw_step.specs.Changes.{retries, woken}
+use Rattle.gw_machine.specs.View.{state_of, lists_of, member_number}
+use Rattle.gw_machine.specs.Coherence.{Linked, IsRanked, CanRest}
+use Rattle.gw_step.proofs.Lists.{all_all_behind, map-all_behind}
+use Rattle.gw_step.proofs.Residence.{resides-retries, resides-woken}
+use Rattle.gw_machine.proofs.Changes.{timed-kept}
+use Rattle.gw_machine.proofs.Due.{agree}
+
+map-joined : (xs : List Member) (x : Member) → map member_number (xs ++ x ∷ []) ≡ map member_number xs ++ member_number x ∷ []
+map-joined [] x = refl
+map-joined (y ∷ ys) x = ap (λ ns. member_number y ∷ ns) (map-joined ys x)
+
+all-joined : (P : Member → Type 0) (xs : List Member) (x : Member) → AllByRecursion P xs → P x → AllByRecursion P (xs ++ x ∷ [])
+all-joined P [] x h p = (p, tt)
+all-joined P (y ∷ ys) x h p = (h.0, all-joined P ys x h.1 p)
+
+module _ (m : Machine) (tx : Tx) (priority : ℤ) where
+  abbrev newcomer : Member
+  newcomer = record { tx = tx; priority = priority }
+
+  pub state-retries : (ws : Waiting) → ws.retry ≡ m.waits.retry ++ newcomer ∷ [] → ws.lists ≡ m.waits.lists
+      → state_of (record m { active = None; waits = ws }) ≡ retries tx.number (state_of m)
+  state-retries ws joined same =
+      ap (λ (ns : List ℕ). record (state_of m) { lists = record (lists_of (record m { active = None; waits = ws })) { retry = ns } }) (ap (map member_number) joined ∙ map-joined m.waits.retry newcomer)
+      ∙ ap (λ (xs : List (List Member)). record (state_of m) { lists = record (lists_of m) { active = None; delay_lists = map (map member_number) xs; retry = map member_number m.waits.retry ++ tx.number ∷ [] } }) same
+
+  pub linked-retries : CanRest m tx → priority_of m.transactions.txs tx.number ≡ priority → (ws : Waiting) → ws.retry ≡ m.waits.retry ++ newcomer ∷ [] → ws.lists ≡ m.waits.lists
+      → (new : Machine) → new.transactions ≡ m.transactions → new.active ≡ None → new.current_events ≡ m.current_events → new.future_events ≡ m.future_events → new.waits ≡ ws
+      → new.facilities ≡ m.facilities → new.storages ≡ m.storages → new.queues ≡ m.queues → new.clock ≡ m.clock → state_of new ≡ retries tx.number (state_of m) → Linked new
+  linked-retries r rank ws joined same new ts a cs fs w fac sto que clock is =
+      let l = r.linked in
+      record {
+        active = rw a tt;
+        current_events = rw (ts, cs) l.current_events;
+        future_events = rw (ts, fs) l.future_events;
+        delay_lists = λ e below. rw (ts, w, same) (l.delay_lists e (rw fac at below));
+        retry = rw (ts, w, joined) (all-joined (IsRanked m.transactions) m.waits.retry newcomer l.retry (record { held = r.held; rank = rank }));
+        listed = rw (w, same, fac) l.listed;
+        sound = rw ts l.sound;
+        resides = subst ResidesOnce (sym is) (resides-retries tx.number (state_of m) (ap (option_map (λ (x : Tx). x.number)) r.active) l.resides);
+        timed = timed-kept m new fac sto que clock l.timed;
+      }
+
+module _ (m : Machine) (l : Linked m) (cs : List Member) (ws : Waiting) (joined : cs ≡ all_behind (λ (x : Member). x.priority) m.waits.retry m.current_events.items) (none : ws.retry ≡ []) (same : ws.lists ≡ m.waits.lists) where
+  numbers-woken : map member_number cs ≡ all_behind (priority_of m.transactions.txs) (map member_number m.waits.retry) (map member_number m.current_events.items)
+  numbers-woken =
+      ap (map member_number) joined
+      ∙ map-all_behind member_number (λ (x : Member). x.priority) (priority_of m.transactions.txs) m.waits.retry m.current_events.items (agree m.transactions m.waits.retry l.retry) (agree m.transactions m.current_events.items l.current_events)
+
+  pub state-woken : record (state_of m) { stir = false; lists = record (lists_of m) { current_events = map member_number cs; delay_lists = map (map member_number) ws.lists; retry = map member_number ws.retry } } ≡ woken (state_of m)
+  state-woken =
+      ap (λ (ns : List ℕ). record (state_of m) { stir = false; lists = record (lists_of m) { current_events = ns; delay_lists = map (map member_number) ws.lists; retry = map member_number ws.retry } }) numbers-woken
+      ∙ ap (λ (xs : List (List Member)). record (woken (state_of m)) { lists = record (woken (state_of m)).lists { delay_lists = map (map member_number) xs; retry = map member_number ws.retry } }) same
+      ∙ ap (λ (xs : List Member). record (woken (state_of m)) { lists = record (woken (state_of m)).lists { retry = map member_number xs } }) none
+
+  pub linked-woken : (new : Machine) → new.transactions ≡ m.transactions → new.active ≡ m.active → new.current_events.items ≡ cs → new.future_events ≡ m.future_events → new.waits ≡ ws
+      → new.facilities ≡ m.facilities → new.storages ≡ m.storages → new.queues ≡ m.queues → new.clock ≡ m.clock → state_of new ≡ woken (state_of m) → Linked new
+  linked-woken new ts a c fs w fac sto que clock is = record {
+    active = rw (ts, a) l.active;
+    current_events = rw (ts, c, joined) (all_all_behind (IsRanked m.transactions) (λ (x : Member). x.priority) m.waits.retry m.current_events.items l.retry l.current_events);
+    future_events = rw (ts, fs) l.future_events;
+    delay_lists = λ e below. rw (ts, w, same) (l.delay_lists e (rw fac at below));
+    retry = rw (w, none) tt;
+    listed = rw (w, same, fac) l.listed;
+    sound = rw ts l.sound;
+    resides = subst ResidesOnce (sym is) (resides-woken (state_of m) l.resides);
+    timed = timed-kept m new fac sto que clock l.timed;
+  }

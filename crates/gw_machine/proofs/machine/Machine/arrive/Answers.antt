@@ -1,0 +1,37 @@
+use Rattle.std.proofs.Common.{refl, ap, ◌∙◌, List, map, None, Some, length, Option, ℕ, ◌≡◌, rules}
+use Rattle.std.proofs.lemmas.Int.{to_z-of_z}
+use Rattle.gw_chains.specs.Chain.{in_time}
+use Rattle.gw_chains.specs.declared.tx.Event.{Event}
+use Rattle.gw_transactions.specs.Transactions.{LiveTransaction}
+use Rattle.gw_num.specs.Table.{put}
+use Rattle.gw_step.specs.State.{FutureEvent, raised}
+use Rattle.gw_step.specs.Changes.{newcomer}
+use Rattle.gw_machine.specs.View.{state_of, lists_of, event_of}
+use Rattle.gw_machine.proofs.Changes.{events-in_time, linked-arrived}
+use Rattle.gw_machine.proofs.Handles.{carries-insert}
+use Rattle.gw_machine.proofs.machine.Machine.arrive.Goals as goal
+
+scheduled : (c : goal.After-raise) → c.schedule.new.self.items ≡ in_time (λ (e : Event). e.time) (record { tx = c.insert-tx.result; time = c.args.time }) c.args.self.now.future_events.items
+scheduled c = let fits = c.ranges.time in simp to_z-of_z at c.schedule.ensures.items
+
+made : (c : goal.After-raise) → c.insert-tx.new.self.txs ≡ put None c.args.self.now.transactions.txs (length c.args.self.now.transactions.txs) (Some (newcomer c.args.block c.args.priority (state_of c.args.self.now)))
+made c = search rules
+
+pub returns-clause-state : goal.returns-clause-state
+returns-clause-state c =
+    let m = c.args.self.now in
+    let s = state_of m in
+    let after = λ (counts : List ℕ) (ts : List (Option LiveTransaction)) (es : List FutureEvent). record s { scheduled = counts; transactions = ts; lists = record (lists_of m) { future_events = es } } in
+    let events = in_time (λ (e : FutureEvent). e.time) (record { time = c.args.time; number = length m.transactions.txs }) (map event_of m.future_events.items) in
+    ap (λ (counts : List ℕ). after counts c.insert-tx.new.self.txs (map event_of c.schedule.new.self.items)) c.raise.ensures
+    ∙ ap (λ (es : List FutureEvent). after (raised c.args.block m.scheduled.items) c.insert-tx.new.self.txs es)
+    (ap (map event_of) (scheduled c) ∙ events-in_time c.insert-tx.result c.args.time m.future_events.items
+    ∙ ap (λ (k : ℕ). in_time (λ (e : FutureEvent). e.time) (record { time = c.args.time; number = k }) (map event_of m.future_events.items)) c.insert-tx.ensures.number)
+    ∙ ap (λ (ts : List (Option LiveTransaction)). after (raised c.args.block m.scheduled.items) ts events) (made c)
+
+pub returns-clause-carries : goal.returns-clause-carries
+returns-clause-carries c = carries-insert c.args.self.now.transactions c.insert-tx.new.self _ c.insert-tx.result.place c.requires.linked.sound c.insert-tx.ensures.txs c.insert-tx.ensures.places
+
+pub returns-clause-linked : goal.returns-clause-linked
+returns-clause-linked c =
+    linked-arrived c.args.self.now _ c.insert-tx.result _ c.args.block c.args.priority c.args.time c.insert-tx.ensures.txs c.insert-tx.ensures.places c.insert-tx.ensures.number c.insert-tx.ensures.sound refl refl (scheduled c) (record { waits = refl; facilities = refl; storages = refl; queues = refl; clock = refl }) (returns-clause-state c) c.requires.linked

@@ -1,0 +1,25 @@
+use Rattle.std.proofs.Common.{◌≡◌, ◌∙◌, None, length, ap, arith}
+use Rattle.std.specs.Prelude.{sum}
+use Rattle.gw_num.proofs.Tables.{length-put_next}
+use Rattle.gw_step.specs.State.{State, raised}
+use Rattle.gw_machine.specs.View.{state_of}
+use Rattle.gw_step.proofs.Within.{sum-raised, length-raised}
+use Rattle.gw_machine.proofs.machine.Machine.first_arrival.Goals as goal
+
+scheduled : (c : goal.After-arrive) → c.arrive.new.self.scheduled.items ≡ raised c.args.number c.args.self.now.scheduled.items
+scheduled c =
+    ap (λ (s : State). s.scheduled) c.arrive.ensures.state
+    ∙ ap (raised c.args.number) (ap (λ (s : State). s.scheduled) c.set_streams.ensures.state ∙ ap (λ (s : State). s.scheduled) c.in_ok-reserve_arrival-in-Ok.ensures.state)
+
+pub returns-in_ok-reserve_arrival-in-Ok-clause-scheduled : goal.returns-in_ok-reserve_arrival-in-Ok-clause-scheduled
+returns-in_ok-reserve_arrival-in-Ok-clause-scheduled c =
+    let is = scheduled c in (
+      ap length is ∙ length-raised c.args.number c.args.self.now.scheduled.items c.requires.block,
+      omega (arith, ap sum is, sum-raised c.args.number c.args.self.now.scheduled.items),
+    )
+
+pub returns-in_ok-reserve_arrival-in-Ok-clause-made_by : goal.returns-in_ok-reserve_arrival-in-Ok-clause-made_by
+returns-in_ok-reserve_arrival-in-Ok-clause-made_by c =
+    let before = ap (λ (s : State). length s.transactions) c.set_streams.ensures.state ∙ ap (λ (s : State). length s.transactions) c.in_ok-reserve_arrival-in-Ok.ensures.state in
+    let after = ap (λ (s : State). length s.transactions) c.arrive.ensures.state ∙ length-put_next None (state_of c.set_streams.new.self).transactions _ in
+    omega (arith, before, after)

@@ -1,0 +1,59 @@
+use Rattle.std.proofs.Common.{pos, to_z, w64, None, refl, rules, false}
+use Rattle.gw_machine.specs.declared.machine.Machine.{Machine}
+use Rattle.gw_machine.proofs.Beginning.{Begins, state-nothing, linked-nothing, readable-nothing}
+use Rattle.gw_machine.proofs.machine.Machine.nothing.Goals as goal
+
+abbrev made : goal.After-new-4 → Machine
+made c = record {
+  clock = pos 0;
+  count = to_z w64 c.args.count;
+  steps = 0;
+  streams = c.args.streams;
+  stir = false;
+  scheduled = c.in_ok-scheduled.scheduled;
+  transactions = c.in_ok-transactions.transactions;
+  active = None;
+  current_events = c.new-3.result;
+  future_events = c.new-4.result;
+  waits = c.in_ok-waits.waits;
+  facilities = c.in_ok-tables.tables.facilities;
+  storages = c.in_ok-tables.tables.storages;
+  queues = c.in_ok-tables.tables.queues;
+  switches = c.in_ok-tables.tables.switches;
+  savevalues = c.in_ok-tables.tables.savevalues;
+  entries = c.in_ok-entries.entries;
+  ended = None;
+}
+
+begins : (c : goal.After-new-4) → Begins c.args.object.now c.args.count c.args.streams (made c)
+begins c = record {
+  clock = refl;
+  count = search rules;
+  steps = refl;
+  streams = refl;
+  scheduled = search rules;
+  transactions = c.in_ok-transactions.ensures.txs;
+  sound = c.in_ok-transactions.ensures.sound;
+  active = refl;
+  current_events = c.new-3.ensures;
+  future_events = c.new-4.ensures;
+  lists = search rules;
+  retry = c.in_ok-waits.ensures.retry;
+  stir = refl;
+  facilities = c.in_ok-tables.ensures.facilities;
+  storages = c.in_ok-tables.ensures.storages;
+  queues = c.in_ok-tables.ensures.queues;
+  switches = c.in_ok-tables.ensures.switches;
+  savevalues = c.in_ok-tables.ensures.savevalues;
+  entries = search rules;
+  ended = refl;
+}
+
+pub returns-clause-state : goal.returns-clause-state
+returns-clause-state c = state-nothing c.args.object.now c.args.count c.args.streams (made c) (begins c)
+
+pub returns-clause-linked : goal.returns-clause-linked
+returns-clause-linked c = linked-nothing c.args.object.now c.args.count c.args.streams (made c) (begins c)
+
+pub returns-clause-readable : goal.returns-clause-readable
+returns-clause-readable c = readable-nothing c.args.object.now c.args.count c.args.streams (made c) (begins c)

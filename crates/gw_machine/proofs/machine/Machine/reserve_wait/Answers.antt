@@ -1,0 +1,8 @@
+use Rattle.gw_machine.proofs.Waiters.{state-walked, linked-walked}
+use Rattle.gw_machine.proofs.machine.Machine.reserve_wait.Goals as goal
+
+pub returns-clause-state : goal.returns-clause-state
+returns-clause-state c = state-walked c.args.self.now c.reserve_wait.new.self c.reserve_wait.ensures.lists c.reserve_wait.ensures.retry
+
+pub returns-clause-linked : goal.returns-clause-linked
+returns-clause-linked c = linked-walked c.args.self.now c.requires.linked c.reserve_wait.new.self c.reserve_wait.ensures.lists c.reserve_wait.ensures.retry

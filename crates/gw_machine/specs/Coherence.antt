@@ -1,0 +1,118 @@
+-- What a machine keeps beside the state that it is in: its handles lead to the transactions of their numbers.
+use Rattle.std.specs.Prelude.{◌≡◌, ◌≢◌, ℕ, ◌<◌, ◌≤◌, ◌^◌, pos, ◌<ℤ◌, length, List, [], ◌∷◌, IfSome, Some}
+use Rattle.std.specs.List.{AllByRecursion}
+use Rattle.gw_blocks.specs.declared.parts.Block.{Block}
+use Rattle.gw_chains.specs.declared.tx.Tx.{Tx}
+use Rattle.gw_chains.specs.declared.tx.Member.{Member}
+use Rattle.gw_chains.specs.declared.tx.Event.{Event}
+use Rattle.gw_num.specs.Table.{at}
+use Rattle.gw_transactions.specs.declared.Transaction.{Transaction}
+use Rattle.gw_transactions.specs.Transactions.{Population, attributes_at, Holds, IsSound}
+use Rattle.gw_machine.specs.declared.machine.Machine.{Machine}
+use Rattle.gw_step.specs.declared.placement.Placement.{Placement}
+use Rattle.gw_step.specs.declared.placement.Placement.TheVariants.{JoinsDelayList, JoinsRetryList}
+use Rattle.gw_step.specs.State.{priority_of}
+use Rattle.gw_step.specs.Residence.{ResidesOnce}
+use Rattle.gw_step.specs.Numbers.{IsWithin}
+use Rattle.gw_step.specs.Operands.{BlocksFit}
+use Rattle.gw_machine.specs.View.{state_of}
+
+-- HANDLES
+
+-- a member of a priority list: its handle is held, and the priority that the list keeps is the transaction's
+pub record IsRanked (p : Population) (m : Member) : Type 0 where
+  pub held : Holds p m.tx
+  pub rank : priority_of p.txs m.tx.number ≡ m.priority
+
+-- a member of the future events chain: its handle is held
+abbrev pub IsHeld : Population → Event → Type 0
+IsHeld p e = Holds p e.tx
+
+-- the clock units that passed over the entities are the clock
+pub record IsTimed (m : Machine) : Type 0 where
+  pub facilities : pos m.facilities.passed ≡ m.clock
+  pub storages : pos m.storages.passed ≡ m.clock
+  pub queues : pos m.queues.passed ≡ m.clock
+
+-- each handle of a machine leads to its transaction, each live transaction resides exactly once, and the time is one
+pub record Linked (m : Machine) : Type 0 where
+  pub active : IfSome m.active (Holds m.transactions)
+  pub current_events : AllByRecursion (IsRanked m.transactions) m.current_events.items
+  pub future_events : AllByRecursion (IsHeld m.transactions) m.future_events.items
+  pub delay_lists : (e : ℕ) → e < length m.facilities.facilities → AllByRecursion (IsRanked m.transactions) (at [] m.waits.lists e)
+  pub retry : AllByRecursion (IsRanked m.transactions) m.waits.retry
+  -- there is a delay list for each entity
+  pub listed : length m.waits.lists ≡ length m.facilities.facilities
+  pub sound : IsSound m.transactions
+  pub resides : ResidesOnce (state_of m)
+  pub timed : IsTimed m
+
+-- from p to q these handles stay held, and their transactions keep their priorities
+pub record Carries (these : ℕ → Type 0) (p q : Population) : Type 0 where
+  pub held : (h : Tx) → these h.number → Holds p h → Holds q h
+  pub rank : (h : Tx) → these h.number → Holds p h → priority_of q.txs h.number ≡ priority_of p.txs h.number
+
+-- every handle
+abbrev pub Every : ℕ → Type 0
+Every n = Unit {0}
+
+-- the handles of other numbers than n
+abbrev pub Others : ℕ → ℕ → Type 0
+Others n m = m ≢ n
+
+-- events as members of a priority list
+abbrev pub ranked : Population → List Event → List Member
+ranked p [] = []
+ranked p (e ∷ es) = record { tx = e.tx; priority = priority_of p.txs e.tx.number } ∷ ranked p es
+
+-- RESTING
+
+-- a machine has room to wake the retry list, and to let its active transaction rest for a time
+pub record HasRoom (m : Machine) : Type 0 where
+  pub current_events : length m.waits.retry ≤ m.current_events.room
+  pub future_events : 0 < m.future_events.room
+
+-- the handle is the active transaction's
+pub record CanRest (m : Machine) (tx : Tx) : Type 0 where
+  pub linked : Linked m
+  pub active : m.active ≡ Some tx
+  pub held : Holds m.transactions tx
+
+-- a delay list or the retry list that a transaction joins is there, and has room
+abbrev pub CanBePlaced : Placement → Machine → Type 0
+CanBePlaced (JoinsDelayList e) m = (e < length m.facilities.facilities) × (0 < at 0 m.waits.rooms e)
+CanBePlaced JoinsRetryList m = 0 < m.waits.retry_room
+CanBePlaced placement m = Unit {0}
+
+-- A RUNNING MACHINE
+
+-- a machine of these blocks in which at most so many entries and arrivals were made
+pub record IsSteady (bs : List Block) (made : ℕ) (m : Machine) : Type 0 where
+  pub linked : Linked m
+  pub fit : BlocksFit (length m.facilities.facilities) bs
+  pub within : IsWithin (length bs) (length m.facilities.facilities) made made (state_of m)
+  pub few : made ≤ 2 ^ 41
+
+-- a running machine of these blocks
+pub record IsRunning (bs : List Block) (m : Machine) : Type 0 where
+  pub steady : IsSteady bs m.steps m
+  pub few : m.steps < 2 ^ 41
+  pub runs : pos 0 <ℤ m.count
+
+-- the active transaction of a running machine is t, whose next block is one of these
+pub record IsActive (bs : List Block) (m : Machine) (tx : Tx) (t : Transaction) : Type 0 where
+  pub steady : IsSteady bs m.steps m
+  pub few : m.steps < 2 ^ 41
+  pub runs : pos 0 <ℤ m.count
+  pub active : m.active ≡ Some tx
+  pub held : Holds m.transactions tx
+  pub found : attributes_at tx.number m.transactions.txs ≡ Some t
+  pub next : t.next ≤ length bs
+
+-- the same, where the block of the active transaction has done its effect on an entity, and the entry is still to come
+pub record IsPassing (bs : List Block) (m : Machine) (tx : Tx) (t : Transaction) : Type 0 where
+  pub steady : IsSteady bs m.steps m
+  pub few : m.steps < 2 ^ 41
+  pub held : Holds m.transactions tx
+  pub found : attributes_at tx.number m.transactions.txs ≡ Some t
+  pub next : t.next ≤ length bs

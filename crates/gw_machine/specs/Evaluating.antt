@@ -1,0 +1,77 @@
+-- Evaluating operands: for whom, what may be read of a machine, and what is answered.
+use Rattle.std.specs.Prelude.{◌≡◌, ℕ, ◌≤◌, ◌^◌, ℤ, pos, ◌≤ℤ◌, sum, List, length, Option, Some, None, IfSome, Result, Ok, Err}
+use Rattle.gw_chains.specs.declared.tx.Tx.{Tx}
+use Rattle.gw_code_flow.specs.Environment.{Environment}
+use Rattle.gw_flow.specs.Values.{Evaluation, Value, Unset}
+use Rattle.gw_transactions.specs.declared.Transaction.{Transaction}
+use Rattle.gw_transactions.specs.Parameters.{no_parameters}
+use Rattle.gw_transactions.specs.Transactions.{Holds, IsSound}
+use Rattle.gw_step.specs.Outcome.{Outcome, Gives, EndsBy, StopsBy, ◌>>=◌}
+use Rattle.gw_step.specs.State.{State}
+use Rattle.gw_step.specs.Times.{environment, parameters_of}
+use Rattle.gw_machine.specs.declared.halt.Halt.{Halt}
+use Rattle.gw_machine.specs.declared.halt.Halt.TheVariants.{Ends, Stops}
+use Rattle.gw_machine.specs.declared.machine.Machine.{Machine}
+use Rattle.gw_machine.specs.declared.machine.Made.{Made}
+use Rattle.gw_machine.specs.declared.machine.Made.TheVariants as made
+use Rattle.gw_machine.specs.declared.values.Subject.{Subject}
+
+-- FOR WHOM
+
+-- the active transaction, which is t
+abbrev pub subject_of : Tx → Transaction → Subject
+subject_of tx t = record { number = tx.number; priority = t.priority; mark = t.mark; tx = Some tx }
+
+-- the parameters of a subject; of one that has yet to arrive none is set
+abbrev pub parameters_for : Option Tx → State → List (Option ℤ)
+parameters_for None s = no_parameters
+parameters_for (Some tx) s = parameters_of tx.number s
+
+-- what operands read in a state, for a subject
+abbrev pub environment_for : Subject → State → Environment
+environment_for subject s = environment subject.number subject.priority subject.mark (parameters_for subject.tx s) s
+
+-- WHAT MAY BE READ
+
+-- each table of a machine has an entry for each entity, and an i64 holds the clock and the counts
+pub record IsReadable (m : Machine) : Type 0 where
+  pub storages : length m.storages.storages ≡ length m.facilities.facilities
+  pub queues : length m.queues.queues ≡ length m.facilities.facilities
+  pub switches : length m.switches ≡ length m.facilities.facilities
+  pub savevalues : length m.savevalues ≡ length m.facilities.facilities
+  pub entries : sum m.entries.items ≤ 2 ^ 60
+  pub clock : pos 0 ≤ℤ m.clock
+  pub sound : IsSound m.transactions
+
+-- operands may be evaluated for the subject
+pub record CanEvaluate (m : Machine) (subject : Subject) : Type 0 where
+  pub readable : IsReadable m
+  pub held : IfSome subject.tx (Holds m.transactions)
+  pub number : subject.number ≤ 2 ^ 62
+  pub mark : pos 0 ≤ℤ subject.mark
+
+-- WHAT IS ANSWERED
+
+-- an operand's value, and where the streams are then; nothing where a parameter isn't set
+abbrev pub value_and_streams : Option ℤ → List ℕ → Evaluation (ℤ × List ℕ)
+value_and_streams None streams = Unset
+value_and_streams (Some value) streams = Value (value, streams)
+
+-- a halt is an outcome that gives nothing
+abbrev pub halted : {A : Type 0} → Halt → Outcome A
+halted (Ends end) = EndsBy end
+halted (Stops stop) = StopsBy stop
+
+-- what is answered, as an outcome
+abbrev pub outcome_of : {A : Type 0} → Result A Halt → Outcome A
+outcome_of (Ok a) = Gives a
+outcome_of (Err halt) = halted halt
+
+-- a time or a moment, and where the streams are then
+abbrev pub drawn : Result ℤ Halt → List ℕ → Outcome (ℤ × List ℕ)
+drawn result streams = outcome_of result >>= λ value. Gives (value, streams)
+
+-- what a block made that came to a halt
+abbrev pub made_by : Halt → Made
+made_by (Ends end) = made.Ends end
+made_by (Stops stop) = made.Stops stop

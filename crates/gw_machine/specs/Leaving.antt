@@ -1,0 +1,31 @@
+-- What a call on a machine leaves.
+use Rattle.std.specs.Prelude.{[], ◌≡◌, ℕ, ◌+◌, ◌≤◌, remove, Option, Some, None, Result, Ok, Err, Bool, true, false}
+use Rattle.gw_entities.specs.declared.stop.Stop.{Stop}
+use Rattle.gw_num.specs.Table.{at}
+use Rattle.gw_machine.specs.declared.halt.Halt.{Halt}
+use Rattle.gw_machine.specs.declared.machine.Machine.{Machine}
+use Rattle.gw_machine.specs.View.{state_of}
+use Rattle.gw_machine.specs.Evaluating.{halted}
+use Rattle.gw_step.specs.Outcome.{Outcome, Gives}
+use Rattle.gw_step.specs.State.{State}
+
+-- THE START
+
+-- the first arrivals are scheduled; or the halt that they come to is answered, and nothing is said of the new state
+abbrev pub Schedules : Option Halt → Outcome State → State → Type 0
+Schedules None outcome new = outcome ≡ Gives new
+Schedules (Some halt) outcome new = outcome ≡ halted halt
+
+-- ENTITIES
+
+-- an entity answered as its rule says, and stands in the new state as the rule leaves it; or its rule has no case, and nothing changed
+abbrev pub Leaves : {A T : Type 0} → Result A Stop → Result (A × T) Stop → (T → State) → State → State → Type 0
+Leaves {T = T} (Ok answer) rule puts old new = (left : T) × (rule ≡ Ok (answer, left)) × (new ≡ puts left)
+Leaves (Err stop) rule puts old new = (rule ≡ Err stop) × (new ≡ old)
+
+-- DELAY LISTS
+
+-- the waiter at this place of the delay list of an entity, to which the walk over it has come, left it for the current events chain; or nothing changed
+abbrev pub Moves : Bool → ℕ → ℕ → Machine → Machine → Type 0
+Moves true e place old new = (at [] new.waits.lists e ≡ remove (at [] old.waits.lists e) place) × (old.current_events.room ≤ new.current_events.room + 1) × (at 0 new.waits.places e ≡ place)
+Moves false e place old new = (new.waits ≡ old.waits) × (new.current_events ≡ old.current_events) × (state_of new ≡ state_of old)

@@ -1,0 +1,45 @@
+-- The simulation state that a machine is in: it holds handles, and the state has their numbers.
+use Rattle.std.specs.Prelude.{ℕ, map, option_map}
+use Rattle.gw_chains.specs.declared.tx.Tx.{Tx}
+use Rattle.gw_chains.specs.declared.tx.Member.{Member}
+use Rattle.gw_chains.specs.declared.tx.Event.{Event}
+use Rattle.gw_machine.specs.declared.machine.Machine.{Machine}
+use Rattle.gw_step.specs.State.{FutureEvent, Lists, EntityStates, State}
+
+-- the number of a member of a list by priority
+abbrev pub member_number : Member → ℕ
+member_number m = m.tx.number
+
+-- a member of the future events chain, by its number
+abbrev pub event_of : Event → FutureEvent
+event_of e = record { time = e.time; number = e.tx.number }
+
+-- which transactions reside where
+abbrev pub lists_of : Machine → Lists
+lists_of m = record {
+  active = option_map (λ (tx : Tx). tx.number) m.active;
+  current_events = map member_number m.current_events.items;
+  future_events = map event_of m.future_events.items;
+  delay_lists = map (map member_number) m.waits.lists;
+  retry = map member_number m.waits.retry;
+}
+
+-- the entities as they are now
+abbrev pub entities_of : Machine → EntityStates
+entities_of m = record { facilities = m.facilities.facilities; storages = m.storages.storages; queues = m.queues.queues; switches = m.switches; savevalues = m.savevalues }
+
+-- the whole state
+abbrev pub state_of : Machine → State
+state_of m = record {
+  clock = m.clock;
+  count = m.count;
+  steps = m.steps;
+  streams = m.streams;
+  stir = m.stir;
+  scheduled = m.scheduled.items;
+  transactions = m.transactions.txs;
+  lists = lists_of m;
+  entities = entities_of m;
+  entries = m.entries.items;
+  ended = m.ended;
+}

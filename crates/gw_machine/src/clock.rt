@@ -1,0 +1,93 @@
+//! The clock: who is due, and who becomes active.
+
+ghost use Rattle.std.specs.Prelude.{◌≡◌, ◌≤◌, ◌<◌, ◌+◌, ◌^◌, ℕ, List, [], ◌∷◌, None, Some, pos, ◌≤ℤ◌, length, OnOk, OnErr, IsTrue, false};
+ghost use Rattle.std.specs.List.{AllByRecursion};
+ghost use Rattle.gw_chains.specs.Chain.{all_behind, due, later};
+ghost use Rattle.gw_step.specs.Changes as change;
+ghost use Rattle.gw_machine.specs.View.{state_of, lists_of};
+ghost use Rattle.gw_machine.specs.Coherence.{Linked, IsHeld, ranked};
+
+use crate::machine::Machine;
+use gw_chains::{Cec, Fec, Memory};
+use gw_transactions::Transactions;
+
+/// All that are due join the current events chain, each behind its peers. There is room.
+fn move_due(
+    transactions: &Transactions,
+    future_events: &mut Fec,
+    current_events: &mut Cec,
+    time: i64,
+)
+    requires held { AllByRecursion (IsHeld transactions.now) future_events.old.items }
+    requires room { length future_events.old.items ≤ current_events.old.room }
+    ensures current { current_events.new.items ≡
+        all_behind (λ m. m.priority) (ranked transactions.now (due (λ e. e.time) time future_events.old.items)) current_events.old.items }
+    ensures future { future_events.new.items ≡ later (λ e. e.time) time future_events.old.items }
+    ensures left { current_events.old.room ≤ current_events.new.room + length future_events.old.items }
+{
+    while let Some(tx) = future_events.pop_due(time) {
+        let priority = transactions.get(tx).priority;
+        current_events.insert_behind(tx, priority);
+    }
+}
+
+impl Machine {
+    /// The clock goes to a time, and all that are due join the current events chain. There is room.
+    pub fn move_clock(&mut self, time: i64)
+        requires linked { Linked self.old }
+        requires later { (pos 0 ≤ℤ self.old.clock) × (self.old.clock ≤ℤ time) }
+        requires room { length self.old.future_events.items ≤ self.old.current_events.room }
+        ensures state { state_of self.new ≡ change.clock_moves time (state_of self.old) }
+        ensures linked { Linked self.new }
+        ensures room { self.old.current_events.room ≤ self.new.current_events.room + length self.old.future_events.items }
+        ensures waits { self.new.waits ≡ self.old.waits }
+    {
+        move_due(
+            &self.transactions,
+            &mut self.future_events,
+            &mut self.current_events,
+            time,
+        );
+        let passed = time.abs_diff(self.clock);
+        self.facilities.pass_time(passed);
+        self.storages.pass_time(passed);
+        self.queues.pass_time(passed);
+        self.clock = time;
+    }
+
+    /// The clock goes to a time, all that are due join the current events chain, and the retry list is woken.
+    pub fn move_clock_and_wake(&mut self, time: i64) -> Result<(), Memory>
+        requires linked { Linked self.old }
+        requires later { (pos 0 ≤ℤ self.old.clock) × (self.old.clock ≤ℤ time) }
+        requires few { length self.old.future_events.items + length self.old.waits.retry < 2 ^ 60 }
+        ensures ok { OnOk result (state_of self.new ≡ change.woken (change.clock_moves time (state_of self.old))) }
+        ensures err { OnErr result (state_of self.new ≡ state_of self.old) }
+        ensures linked { Linked self.new }
+    {
+        let due = self.future_events.len();
+        self.current_events.reserve(due + self.waits.retrying())?;
+        self.move_clock(time);
+        self.wake();
+        Ok(())
+    }
+
+    /// The first of the current events chain becomes active, if there is one.
+    pub fn activate_first(&mut self) -> bool
+        requires linked { Linked self.old }
+        requires nobody { self.old.active ≡ None }
+        ensures first { IsTrue result → (n : ℕ) × (ns : List ℕ) × ((state_of self.old).lists.current_events ≡ n ∷ ns) ×
+            (state_of self.new ≡ record (state_of self.old)
+            { lists = record (lists_of self.old) { active = Some n; current_events = ns } }) }
+        ensures none { result ≡ false → ((state_of self.old).lists.current_events ≡ []) × (state_of self.new ≡ state_of self.old) ×
+            (self.new.future_events ≡ self.old.future_events) × (self.new.waits ≡ self.old.waits) }
+        ensures linked { Linked self.new }
+    {
+        match self.current_events.pop_first() {
+            Some(tx) => {
+                self.active = Some(tx);
+                true
+            }
+            None => false,
+        }
+    }
+}

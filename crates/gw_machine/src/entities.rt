@@ -1,0 +1,192 @@
+//! What a block does to the entity that it names.
+
+ghost use Rattle.std.specs.Prelude.{◌≡◌, ◌≤◌, ◌<◌, ◌+◌, ◌^◌, Ok, false, length};
+ghost use Rattle.gw_num.specs.Table.{at};
+ghost use Rattle.gw_entities.specs.Contents.{empty};
+ghost use Rattle.gw_entities.specs.Facility.{idle, seizing, releasing};
+ghost use Rattle.gw_entities.specs.Queue.{joined, departing};
+ghost use Rattle.gw_entities.specs.Storage.{vacant, entering, leaving};
+ghost use Rattle.gw_step.specs.Blocks as model;
+ghost use Rattle.gw_step.specs.Blocks.{has_to_wait, turned};
+ghost use Rattle.gw_step.specs.Changes.{facility, storage, queue, switch, put_facility, put_storage, put_queue, put_switch, put_savevalue};
+ghost use Rattle.gw_machine.specs.View.{state_of};
+ghost use Rattle.gw_machine.specs.Coherence.{Linked};
+ghost use Rattle.gw_machine.specs.Evaluating.{IsReadable};
+ghost use Rattle.gw_machine.specs.Leaving.{Leaves};
+
+use crate::machine::Machine;
+use gw_blocks::{Condition, Logic, SwitchAction, Units};
+use gw_entities::{Facility, Stop, Storage};
+
+/// Whether the transaction of this number has to wait for a facility, since another owns it.
+fn is_anothers(facility: Facility, number: u64) -> bool
+    ensures { result ≡ has_to_wait (seizing number facility) }
+{
+    match facility.owner {
+        None => false,
+        Some(owner) => owner != number,
+    }
+}
+
+/// Whether so many units of a storage have to be waited for, since they are within its capacity and not free.
+fn is_short_of(storage: Storage, number: u32) -> bool
+    requires { storage.contents.content ≤ 2 ^ 62 }
+    ensures { result ≡ has_to_wait (entering number storage) }
+{
+    number <= storage.capacity
+        && storage.contents.content + u64::from(number) > u64::from(storage.capacity)
+}
+
+/// Whether no unit of a storage is free.
+fn is_full(storage: Storage) -> bool
+    ensures { result ≡ model.is_full storage }
+{
+    u64::from(storage.capacity) <= storage.contents.content
+}
+
+/// Whether nothing is inside of a storage.
+fn is_empty(storage: Storage) -> bool
+    ensures { result ≡ model.is_empty storage }
+{
+    storage.contents.content == 0
+}
+
+impl Machine {
+    // FACILITIES
+
+    /// Whether the transaction of this number has to wait for a facility.
+    pub fn waits_for_facility(&self, f: u16, number: u64) -> bool
+        requires { f < length self.now.facilities.facilities }
+        ensures { result ≡ has_to_wait (seizing number (facility f (state_of self.now))) }
+    {
+        is_anothers(self.facilities.get(f), number)
+    }
+
+    /// The transaction of this number seizes a facility, if it is idle.
+    pub fn seize_facility(&mut self, f: u16, number: u64) -> Result<bool, Stop>
+        requires there { f < length self.old.facilities.facilities }
+        requires few { (at idle self.old.facilities.facilities f).entries < 2 ^ 62 }
+        ensures made { Leaves result (seizing number (facility f (state_of self.old))) (λ v. put_facility f v (state_of self.old))
+            (state_of self.old) (state_of self.new) }
+        ensures linked { Linked self.old → Linked self.new }
+        ensures frame { self.new ≡ record self.old { facilities = self.new.facilities } }
+        ensures table { length self.new.facilities.facilities ≡ length self.old.facilities.facilities }
+    {
+        self.facilities.seize(f, number)
+    }
+
+    /// The transaction of this number gives a facility up.
+    pub fn release_facility(&mut self, f: u16, number: u64) -> Result<(), Stop>
+        requires there { f < length self.old.facilities.facilities }
+        ensures made { Leaves result (releasing number (facility f (state_of self.old))) (λ v. put_facility f v (state_of self.old))
+            (state_of self.old) (state_of self.new) }
+        ensures linked { Linked self.old → Linked self.new }
+        ensures frame { self.new ≡ record self.old { facilities = self.new.facilities } }
+        ensures table { length self.new.facilities.facilities ≡ length self.old.facilities.facilities }
+    {
+        self.facilities.release(f, number)
+    }
+
+    // STORAGES
+
+    /// Whether units of a storage have to be waited for.
+    pub fn waits_for_units(&self, u: Units) -> bool
+        requires { u.entity < length self.now.storages.storages }
+        ensures { result ≡ has_to_wait (entering u.number (storage u.entity (state_of self.now))) }
+    {
+        is_short_of(self.storages.get(u.entity), u.number)
+    }
+
+    /// Units of a storage are taken, if they are free.
+    pub fn take(&mut self, u: Units) -> Result<bool, Stop>
+        requires there { u.entity < length self.old.storages.storages }
+        requires few { (at (vacant 0) self.old.storages.storages u.entity).contents.entries + u.number ≤ 2 ^ 62 }
+        ensures made { Leaves result (entering u.number (storage u.entity (state_of self.old)))
+            (λ v. put_storage u.entity v (state_of self.old)) (state_of self.old) (state_of self.new) }
+        ensures full { result ≡ Ok false → state_of self.new ≡ state_of self.old }
+        ensures linked { Linked self.old → Linked self.new }
+        ensures frame { self.new ≡ record self.old { storages = self.new.storages } }
+    {
+        self.storages.enter(u.entity, u.number)
+    }
+
+    /// Units of a storage are given back.
+    pub fn give_back(&mut self, u: Units) -> Result<(), Stop>
+        requires there { u.entity < length self.old.storages.storages }
+        ensures made { Leaves result (leaving u.number (storage u.entity (state_of self.old)))
+            (λ v. put_storage u.entity v (state_of self.old)) (state_of self.old) (state_of self.new) }
+        ensures linked { Linked self.old → Linked self.new }
+        ensures frame { self.new ≡ record self.old { storages = self.new.storages } }
+    {
+        self.storages.leave(u.entity, u.number)
+    }
+
+    // QUEUES
+
+    /// Units join a queue.
+    pub fn join(&mut self, u: Units)
+        requires there { u.entity < length self.old.queues.queues }
+        requires inside { (at empty self.old.queues.queues u.entity).content ≤ (at empty self.old.queues.queues u.entity).entries }
+        requires few { (at empty self.old.queues.queues u.entity).entries + u.number ≤ 2 ^ 62 }
+        ensures state { state_of self.new ≡ put_queue u.entity (joined u.number (queue u.entity (state_of self.old))) (state_of self.old) }
+        ensures linked { Linked self.old → Linked self.new }
+        ensures frame { self.new ≡ record self.old { queues = self.new.queues } }
+    {
+        let _ = self.queues.join_queue(u.entity, u.number);
+    }
+
+    /// Units depart from a queue.
+    pub fn depart_units(&mut self, u: Units) -> Result<(), Stop>
+        requires there { u.entity < length self.old.queues.queues }
+        ensures made { Leaves result (departing u.number (queue u.entity (state_of self.old)))
+            (λ v. put_queue u.entity v (state_of self.old)) (state_of self.old) (state_of self.new) }
+        ensures linked { Linked self.old → Linked self.new }
+        ensures frame { self.new ≡ record self.old { queues = self.new.queues } }
+    {
+        self.queues.depart(u.entity, u.number)
+    }
+
+    // LOGIC SWITCHES AND SAVEVALUES
+
+    /// A logic switch is set, reset or inverted.
+    pub fn turn_switch(&mut self, logic: Logic)
+        requires { logic.switch < length self.old.switches }
+        ensures state { state_of self.new ≡ put_switch logic.switch (turned logic.action (switch logic.switch (state_of self.old)))
+            (state_of self.old) }
+        ensures linked { Linked self.old → Linked self.new }
+        ensures frame { self.new ≡ record self.old { switches = self.new.switches } }
+    {
+        match logic.action {
+            SwitchAction::Set => self.switches.set_switch(logic.switch, true),
+            SwitchAction::Reset => self.switches.set_switch(logic.switch, false),
+            SwitchAction::Invert => self.switches.invert(logic.switch),
+        }
+    }
+
+    /// A savevalue has this value from now on.
+    pub fn set_savevalue(&mut self, savevalue: u16, value: i64)
+        requires { savevalue < length self.old.savevalues }
+        ensures state { state_of self.new ≡ put_savevalue savevalue value (state_of self.old) }
+        ensures linked { Linked self.old → Linked self.new }
+        ensures frame { self.new ≡ record self.old { savevalues = self.new.savevalues } }
+    {
+        self.savevalues.set(savevalue, value);
+    }
+    /// Whether it is so with an entity.
+    pub fn is_so(&self, condition: Condition, entity: u16) -> bool
+        requires readable { IsReadable self.now }
+        requires there { entity < length self.now.facilities.facilities }
+        ensures { result ≡ model.is_so condition entity (state_of self.now) }
+    {
+        match condition {
+            Condition::SwitchSet => self.switches.get(entity),
+            Condition::SwitchReset => !self.switches.get(entity),
+            Condition::FacilityInUse => self.facilities.get(entity).owner.is_some(),
+            Condition::FacilityNotInUse => self.facilities.get(entity).owner.is_none(),
+            Condition::StorageFull => is_full(self.storages.get(entity)),
+            Condition::StorageEmpty => is_empty(self.storages.get(entity)),
+            Condition::StorageNotFull => !is_full(self.storages.get(entity)),
+            Condition::StorageNotEmpty => !is_empty(self.storages.get(entity)),
+        }
+    }
+}

@@ -1,0 +1,18 @@
+//! The state of a job in memory: its elementary changes, and what blocks read of it.
+#![tactic(auto)]
+
+mod clock;
+mod delays;
+mod entities;
+mod halt;
+mod machine;
+mod resting;
+mod start;
+mod times;
+mod transfers;
+mod values;
+
+pub use halt::{Halt, end_by};
+pub use machine::{Machine, Made};
+pub use transfers::block_of;
+pub use values::{Subject, active_subject, drawn_thousandths};

@@ -1,0 +1,231 @@
+//! The state of a job in memory, and the elementary changes of it.
+
+ghost use Rattle.std.specs.Prelude.{◌≡◌, ◌≤◌, ◌<◌, ◌+◌, ◌^◌, Some, None, length, vec_len, sum, OnOk, OnErr, pos, ◌<ℤ◌, ◌≤ℤ◌, not, nat_lt};
+ghost use Rattle.gw_num.specs.Table.{at};
+ghost use Rattle.gw_transactions.specs.Transactions.{Holds, live_count};
+ghost use Rattle.gw_step.specs.State.{priority_of, raised, with_streams};
+ghost use Rattle.gw_step.specs.Blocks.{is_owed};
+ghost use Rattle.gw_step.specs.Changes as model;
+ghost use Rattle.gw_machine.specs.View.{state_of};
+ghost use Rattle.gw_machine.specs.Coherence.{Linked, Carries, Every};
+
+use gw_chains::{Cec, Fec, Memory, Tx, Waits};
+use gw_entities::{Facilities, Queues, Savevalues, Stop, Storages, Switches};
+use gw_num::Stream;
+use gw_step::End;
+use gw_transactions::{Transaction, Transactions};
+
+/// The most live transactions, scheduled arrivals included (ours: docs/machine.md).
+const MOST_LIVE: usize = 65_536;
+
+/// What a call of the machine made.
+#[derive(Clone, Copy, Debug, PartialEq, Eq)]
+pub enum Made {
+    /// The change that it is for.
+    Step,
+    /// No change: it comes to a named end.
+    Ends(End),
+    /// No change: it comes to an error stop.
+    Stops(Stop),
+}
+
+/// The state of a job in memory: transactions lie in a slab, and the chains hold handles to them. A table of blocks has
+/// an entry at each block's number, and one at 0.
+#[derive(Drop)]
+pub struct Machine {
+    /// In clock units.
+    pub clock: i64,
+    /// The termination count.
+    pub count: i64,
+    /// The steps made.
+    pub steps: u64,
+    /// The streams, from the first on.
+    pub streams: [Stream; 16],
+    /// Whether a block was entered since the retry list was last woken.
+    pub stir: bool,
+    /// The arrivals scheduled so far, for each GENERATE block.
+    pub scheduled: Vec<u64>,
+    /// The live transactions, scheduled arrivals included.
+    pub transactions: Transactions,
+    /// The one that moves, if there is one.
+    pub active: Option<Tx>,
+    /// Who may move at this clock time.
+    pub current_events: Cec,
+    /// Who waits for a later time.
+    pub future_events: Fec,
+    /// Who waits on the delay list of a facility or storage, or on the retry list.
+    pub waits: Waits,
+    /// The facilities, each by its number as an entity.
+    pub facilities: Facilities,
+    /// The storages, each by its number as an entity.
+    pub storages: Storages,
+    /// The queues, each by its number as an entity.
+    pub queues: Queues,
+    /// The logic switches, each by its number as an entity.
+    pub switches: Switches,
+    /// The savevalues, each by its number as an entity.
+    pub savevalues: Savevalues,
+    /// The entries so far, for each block.
+    pub entries: Vec<u64>,
+    /// The named end, if one stands.
+    pub ended: Option<End>,
+}
+
+/// One more at a place.
+fn raise(counts: &mut Vec<u64>, place: usize)
+    requires there { place < vec_len counts.old }
+    requires few { sum counts.old.items < 2 ^ 60 }
+    ensures { counts.new.items ≡ raised place counts.old.items }
+{
+    counts[place] += 1;
+}
+
+/// The end that a termination count brings: `Done` where it is 0 or less.
+fn end_of(count: i64) -> Option<End>
+    ensures { result ≡ model.end_at count }
+{
+    if 0 < count { None } else { Some(End::Done) }
+}
+
+/// The count at a place, or 0 where there is none.
+fn entry_or_none(counts: &[u64], place: usize) -> u64
+    ensures { result ≡ at 0 counts.now place }
+{
+    counts.get(place).copied().unwrap_or(0)
+}
+
+impl Machine {
+    /// The transaction enters its next block; the one after is now `next`. So something has stirred.
+    pub fn enter(&mut self, tx: Tx, transaction: Transaction, next: u16)
+        requires held { Holds self.old.transactions tx }
+        requires rank { priority_of self.old.transactions.txs tx.number ≡ transaction.priority }
+        requires block { (transaction.next < vec_len self.old.entries) × (transaction.next ≤ 4096) }
+        requires few { sum self.old.entries.items < 2 ^ 60 }
+        ensures state { state_of self.new ≡ model.entered tx.number transaction next (state_of self.old) }
+        ensures linked { Linked self.old → Linked self.new }
+        ensures held { Holds self.new.transactions tx }
+        ensures rank { priority_of self.new.transactions.txs tx.number ≡ transaction.priority }
+        ensures frame { self.new ≡ record self.old
+            { stir = self.new.stir; entries = self.new.entries; transactions = self.new.transactions } }
+    {
+        self.stir = true;
+        raise(&mut self.entries, transaction.next as usize);
+        let mut entered = transaction;
+        entered.current = transaction.next;
+        entered.next = next;
+        self.transactions.set(tx, entered);
+    }
+
+    /// The transaction enters its next block, and its mark time is the clock from now on.
+    pub fn enter_marked(&mut self, tx: Tx, transaction: Transaction)
+        requires held { Holds self.old.transactions tx }
+        requires rank { priority_of self.old.transactions.txs tx.number ≡ transaction.priority }
+        requires block { (transaction.next < vec_len self.old.entries) × (transaction.next ≤ 4096) }
+        requires few { sum self.old.entries.items < 2 ^ 60 }
+        ensures state { state_of self.new ≡ model.enters_and_falls tx.number (record transaction { mark = self.old.clock })
+            (state_of self.old) }
+        ensures linked { Linked self.old → Linked self.new }
+    {
+        let mut marked = transaction;
+        marked.mark = self.clock;
+        self.enter(tx, marked, transaction.next + 1);
+    }
+
+    /// A new transaction is scheduled to arrive at its GENERATE block.
+    pub fn arrive(&mut self, block: u16, priority: i32, time: i64)
+        requires linked { Linked self.old }
+        requires room { (0 < self.old.transactions.room) × (0 < self.old.future_events.room) }
+        requires block { block < vec_len self.old.scheduled }
+        requires few { (length self.old.transactions.txs < 2 ^ 60) × (sum self.old.scheduled.items < 2 ^ 60) }
+        ensures state { state_of self.new ≡ model.arrives block priority time (state_of self.old) }
+        ensures linked { Linked self.new }
+        ensures carries { Carries Every self.old.transactions self.new.transactions }
+        ensures frame { self.new ≡ record self.old
+            { transactions = self.new.transactions; future_events = self.new.future_events; scheduled = self.new.scheduled } }
+    {
+        let number = self.transactions.next_number();
+        let mark = self.clock;
+        let tx = self.transactions.insert(Transaction {
+            current: 0,
+            next: block,
+            priority,
+            mark,
+            set: number,
+        });
+        self.future_events.schedule(tx, time);
+        raise(&mut self.scheduled, block as usize);
+    }
+
+    /// A parameter of a transaction, by its number from 1 to 64, has this value from now on.
+    ///
+    /// It fails for want of memory, and changes nothing then.
+    pub fn assign(&mut self, tx: Tx, parameter: u8, value: i64) -> Result<(), Memory>
+        requires held { Holds self.old.transactions tx }
+        requires parameter { parameter ≤ 64 }
+        ensures ok { OnOk result (state_of self.new ≡ model.assigned tx.number parameter value (state_of self.old)) }
+        ensures err { OnErr result (state_of self.new ≡ state_of self.old) }
+        ensures linked { Linked self.old → Linked self.new }
+        ensures held { Holds self.new.transactions tx }
+        ensures rank { priority_of self.new.transactions.txs tx.number ≡ priority_of self.old.transactions.txs tx.number }
+        ensures frame { self.new ≡ record self.old { transactions = self.new.transactions } }
+    {
+        self.transactions.assign(tx, parameter, value)
+    }
+
+    /// The streams are now here.
+    pub fn set_streams(&mut self, streams: &[Stream; 16])
+        ensures state { state_of self.new ≡ with_streams streams.now (state_of self.old) }
+        ensures linked { Linked self.old → Linked self.new }
+        ensures frame { self.new ≡ record self.old { streams = self.new.streams } }
+    {
+        self.streams = *streams;
+    }
+
+    /// The termination count falls; where it is then 0 or less, the job is done.
+    pub fn count_down(&mut self, by: i64)
+        requires least { pos 0 <ℤ self.old.count }
+        requires by { pos 0 ≤ℤ by }
+        ensures state { state_of self.new ≡ model.counted by (state_of self.old) }
+        ensures linked { Linked self.old → Linked self.new }
+        ensures frame { self.new ≡ record self.old { count = self.new.count; ended = self.new.ended } }
+    {
+        let count = self.count - by;
+        self.count = count;
+        self.ended = end_of(count);
+    }
+
+    /// Makes room for one more transaction and its arrival.
+    pub fn reserve_arrival(&mut self) -> Result<(), Memory>
+        ensures state { state_of self.new ≡ state_of self.old }
+        ensures linked { Linked self.old → Linked self.new }
+        ensures room { OnOk result ((0 < self.new.transactions.room) × (0 < self.new.future_events.room)) }
+        ensures carries { Carries Every self.old.transactions self.new.transactions }
+        ensures frame { self.new ≡ record self.old { transactions = self.new.transactions; future_events = self.new.future_events } }
+    {
+        self.transactions.reserve(1)?;
+        self.future_events.reserve(1)
+    }
+
+    /// The entries of a block, by its number from 1; 0 where there is no such block.
+    pub fn entries_at(&self, block: u16) -> u64
+        ensures { result ≡ at 0 self.now.entries.items block }
+    {
+        entry_or_none(&self.entries, block as usize)
+    }
+    /// Whether one more arrival is owed at a GENERATE block.
+    pub fn owes(&self, block: u16, limit: Option<u32>) -> bool
+        requires { block < length self.now.scheduled.items }
+        ensures { result ≡ is_owed limit (at 0 self.now.scheduled.items block) }
+    {
+        match limit {
+            None => true,
+            Some(limit) => self.scheduled[block as usize] < limit as u64,
+        }
+    }
+    /// Whether as many transactions live as may.
+    pub fn is_full(&self) -> bool
+        ensures { result ≡ not (nat_lt (live_count self.now.transactions.txs) 65536) }
+    {
+        self.transactions.live() >= MOST_LIVE
+    }
+}

@@ -1,0 +1,181 @@
+//! Where the active transaction comes to rest, and waking the retry list before.
+
+ghost use Rattle.std.specs.Prelude.{◌≡◌, ◌≤◌, ◌<◌, None, length, OnOk, OnErr};
+ghost use Rattle.gw_num.specs.Table.{at};
+ghost use Rattle.gw_chains.specs.Lists.{LosesRoom};
+ghost use Rattle.gw_step.specs.State.{priority_of};
+ghost use Rattle.gw_step.specs.Changes as model;
+ghost use Rattle.gw_step.specs.Placing.{woken_if_stirred, placed};
+ghost use Rattle.gw_machine.specs.View.{state_of};
+ghost use Rattle.gw_machine.specs.Coherence.{Linked, HasRoom, CanRest, CanBePlaced};
+
+use crate::machine::Machine;
+use gw_chains::{Memory, Tx};
+use gw_step::Placement;
+
+impl Machine {
+    // ROOM
+
+    /// Makes room to wake the retry list, and to let the active transaction rest for a time.
+    pub fn reserve_rest(&mut self) -> Result<(), Memory>
+        ensures state { state_of self.new ≡ state_of self.old }
+        ensures linked { Linked self.old → Linked self.new }
+        ensures room { OnOk result (HasRoom self.new) }
+        ensures frame { self.new ≡ record self.old { current_events = self.new.current_events; future_events = self.new.future_events } }
+    {
+        self.current_events.reserve(self.waits.retrying())?;
+        self.future_events.reserve(1)
+    }
+
+    /// Makes room for one more on the delay list of an entity.
+    fn reserve_wait(&mut self, entity: u16) -> Result<(), Memory>
+        requires linked { Linked self.old }
+        requires entity { entity < length self.old.facilities.facilities }
+        ensures state { state_of self.new ≡ state_of self.old }
+        ensures linked { Linked self.new }
+        ensures retry { self.new.waits.retry ≡ self.old.waits.retry }
+        ensures room { OnOk result (0 < at 0 self.new.waits.rooms entity) }
+        ensures frame { self.new ≡ record self.old { waits = self.new.waits } }
+    {
+        self.waits.reserve_wait(entity, 1)
+    }
+
+    /// Makes room for one more on the retry list.
+    pub fn reserve_retry(&mut self) -> Result<(), Memory>
+        requires linked { Linked self.old }
+        ensures state { state_of self.new ≡ state_of self.old }
+        ensures linked { Linked self.new }
+        ensures retry { self.new.waits.retry ≡ self.old.waits.retry }
+        ensures room { OnOk result (0 < self.new.waits.retry_room) }
+        ensures frame { self.new ≡ record self.old { waits = self.new.waits } }
+    {
+        self.waits.reserve_retry(1)
+    }
+
+    // WAKING
+
+    /// The retry list is woken: all of it joins the current events chain, in its order, each behind its peers.
+    pub fn wake(&mut self)
+        requires linked { Linked self.old }
+        requires room { length self.old.waits.retry ≤ self.old.current_events.room }
+        ensures state { state_of self.new ≡ model.woken (state_of self.old) }
+        ensures linked { Linked self.new }
+        ensures room { LosesRoom 0 self.old.waits.rooms self.new.waits.rooms × (self.old.waits.retry_room ≤ self.new.waits.retry_room) }
+        ensures frame { self.new ≡ record self.old
+            { stir = self.new.stir; current_events = self.new.current_events; waits = self.new.waits } }
+    {
+        self.waits.wake_all(&mut self.current_events);
+        self.stir = false;
+    }
+
+    /// Where a block was entered since the retry list was last woken, it is woken.
+    fn wake_if_stirred(&mut self)
+        requires linked { Linked self.old }
+        requires room { HasRoom self.old }
+        ensures state { state_of self.new ≡ woken_if_stirred (state_of self.old) }
+        ensures linked { Linked self.new }
+        ensures room { LosesRoom 0 self.old.waits.rooms self.new.waits.rooms × (self.old.waits.retry_room ≤ self.new.waits.retry_room) }
+        ensures frame { self.new ≡ record self.old
+            { stir = self.new.stir; current_events = self.new.current_events; waits = self.new.waits } }
+    {
+        if self.stir {
+            self.wake();
+        }
+    }
+
+    // RESTS
+
+    /// The active transaction rests on the future events chain until a time.
+    fn rest_until(&mut self, tx: Tx, time: i64)
+        requires rests { CanRest self.old tx }
+        requires room { 0 < self.old.future_events.room }
+        ensures state { state_of self.new ≡ model.rests_until tx.number time (state_of self.old) }
+        ensures linked { Linked self.new }
+    {
+        self.active = None;
+        self.future_events.schedule(tx, time);
+    }
+
+    /// The active transaction rests on the delay list of an entity, behind its peers.
+    fn join_delay_list(&mut self, entity: u16, tx: Tx, priority: i32)
+        requires rests { CanRest self.old tx }
+        requires rank { priority_of self.old.transactions.txs tx.number ≡ priority }
+        requires entity { entity < length self.old.facilities.facilities }
+        requires room { 0 < at 0 self.old.waits.rooms entity }
+        ensures state { state_of self.new ≡ model.waits_for entity tx.number (state_of self.old) }
+        ensures linked { Linked self.new }
+    {
+        self.active = None;
+        self.waits.push_wait(entity, tx, priority);
+    }
+
+    /// The active transaction rests at the end of the retry list.
+    fn join_retry_list(&mut self, tx: Tx, priority: i32)
+        requires rests { CanRest self.old tx }
+        requires rank { priority_of self.old.transactions.txs tx.number ≡ priority }
+        requires room { 0 < self.old.waits.retry_room }
+        ensures state { state_of self.new ≡ model.retries tx.number (state_of self.old) }
+        ensures linked { Linked self.new }
+    {
+        self.active = None;
+        self.waits.push_retry(tx, priority);
+    }
+
+    /// The active transaction is destroyed.
+    fn leave_model(&mut self, tx: Tx)
+        requires rests { CanRest self.old tx }
+        ensures state { state_of self.new ≡ model.destroyed tx.number (state_of self.old) }
+        ensures linked { Linked self.new }
+    {
+        let _ = self.transactions.remove(tx);
+        self.active = None;
+    }
+
+    // PLACING
+
+    /// The active transaction, of this priority, is placed: where it doesn't stay active, the retry list is woken before,
+    /// if a block was entered since it was last woken.
+    pub fn place(&mut self, tx: Tx, priority: i32, placement: Placement)
+        requires rests { CanRest self.old tx }
+        requires rank { priority_of self.old.transactions.txs tx.number ≡ priority }
+        requires room { HasRoom self.old }
+        requires entity { CanBePlaced placement self.old }
+        ensures state { state_of self.new ≡ placed tx.number placement (state_of self.old) }
+        ensures linked { Linked self.new }
+    {
+        match placement {
+            Placement::StaysActive => {}
+            Placement::RestsUntil(time) => {
+                self.wake_if_stirred();
+                self.rest_until(tx, time);
+            }
+            Placement::JoinsDelayList(entity) => {
+                self.wake_if_stirred();
+                self.join_delay_list(entity, tx, priority);
+            }
+            Placement::JoinsRetryList => {
+                self.wake_if_stirred();
+                self.join_retry_list(tx, priority);
+            }
+            Placement::LeavesModel => {
+                self.wake_if_stirred();
+                self.leave_model(tx);
+            }
+        }
+    }
+
+    /// The active transaction, of this priority, is refused, and waits on the delay list of an entity, behind its peers.
+    pub fn wait_for(&mut self, entity: u16, tx: Tx, priority: i32) -> Result<(), Memory>
+        requires rests { CanRest self.old tx }
+        requires rank { priority_of self.old.transactions.txs tx.number ≡ priority }
+        requires entity { entity < length self.old.facilities.facilities }
+        ensures ok { OnOk result (state_of self.new ≡ placed tx.number (Placement.JoinsDelayList entity) (state_of self.old)) }
+        ensures err { OnErr result (state_of self.new ≡ state_of self.old) }
+        ensures linked { Linked self.new }
+    {
+        self.reserve_rest()?;
+        self.reserve_wait(entity)?;
+        self.place(tx, priority, Placement::JoinsDelayList(entity));
+        Ok(())
+    }
+}

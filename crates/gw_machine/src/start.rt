@@ -1,0 +1,199 @@
+//! The state before the first step.
+
+ghost use Rattle.std.specs.Prelude.{◌≡◌, Some, ◌≤◌, ◌<◌, ◌+◌, ◌^◌, length, sum, replicate, IfOk, OnOk};
+ghost use Rattle.gw_entities.specs.Table.{facilities_of, storages_of, queues_of, switches_of, savevalues_of};
+ghost use Rattle.gw_step.specs.Operands.{GenerateFits, OperandsFit, BlocksFit};
+ghost use Rattle.gw_step.specs.Start as model;
+ghost use Rattle.gw_machine.specs.View.{state_of};
+ghost use Rattle.gw_machine.specs.Evaluating.{IsReadable, drawn};
+ghost use Rattle.gw_machine.specs.Coherence.{Linked};
+ghost use Rattle.gw_machine.specs.Leaving.{Schedules};
+
+use crate::halt::Halt;
+use crate::machine::Machine;
+use gw_blocks::{Block, Generate};
+use gw_chains::{Cec, Fec, Memory, Waits};
+use gw_entities::{Facilities, Queues, Savevalues, Storages, Switches};
+use gw_num::Stream;
+use gw_object::Object;
+use gw_step::End;
+use gw_transactions::Transactions;
+use std::alloc::Global;
+
+/// A table of so many counts, each 0.
+fn zeros(alloc: Global, n: usize) -> Result<Vec<u64>, Memory>
+    ensures { IfOk result (λ v. v.items ≡ replicate n 0) }
+{
+    vec![in alloc; 0u64; n]
+}
+
+/// The entities of a machine, a table for each kind of what is kept of them.
+#[derive(Drop)]
+struct EntityTables {
+    facilities: Facilities,
+    storages: Storages,
+    queues: Queues,
+    switches: Switches,
+    savevalues: Savevalues,
+}
+
+/// The entities of an object as they are at first. It fails for want of memory.
+fn entity_tables(alloc: Global, object: &Object) -> Result<EntityTables, Memory>
+    ensures facilities { IfOk result (λ t. t.facilities ≡ facilities_of object.now.entities) }
+    ensures storages { IfOk result (λ t. t.storages ≡ storages_of object.now.entities) }
+    ensures queues { IfOk result (λ t. t.queues ≡ queues_of object.now.entities) }
+    ensures switches { IfOk result (λ t. t.switches ≡ switches_of object.now.entities) }
+    ensures savevalues { IfOk result (λ t. t.savevalues ≡ savevalues_of object.now.entities) }
+{
+    Ok(EntityTables {
+        facilities: Facilities::new(alloc, object)?,
+        storages: Storages::new(alloc, object)?,
+        queues: Queues::new(alloc, object)?,
+        switches: Switches::new(alloc, object)?,
+        savevalues: Savevalues::new(alloc, object)?,
+    })
+}
+
+impl Machine {
+    /// A machine in which nothing is scheduled, for the blocks and entities of an object.
+    fn nothing(
+        alloc: Global,
+        object: &Object,
+        count: u64,
+        streams: [Stream; 16],
+    ) -> Result<Machine, Memory>
+        requires few { count ≤ 2 ^ 40 }
+        ensures state { IfOk result (λ m. state_of m ≡ model.nothing object.now count streams) }
+        ensures linked { IfOk result Linked }
+        ensures readable { IfOk result IsReadable }
+    {
+        let blocks = object.parts().blocks.as_slice().len();
+        let scheduled = zeros(alloc, blocks + 1)?;
+        let entries = zeros(alloc, blocks + 1)?;
+        let tables = entity_tables(alloc, object)?;
+        let transactions = Transactions::new(alloc)?;
+        let waits = Waits::new(alloc, object.parts().entities.as_slice().len())?;
+        Ok(Machine {
+            clock: 0,
+            count: count as i64,
+            steps: 0,
+            streams,
+            stir: false,
+            scheduled,
+            transactions,
+            active: None,
+            current_events: Cec::new(alloc),
+            future_events: Fec::new(alloc),
+            waits,
+            facilities: tables.facilities,
+            storages: tables.storages,
+            queues: tables.queues,
+            switches: tables.switches,
+            savevalues: tables.savevalues,
+            entries,
+            ended: None,
+        })
+    }
+
+    /// When the first arrival of a GENERATE block comes, in clock units: at the time that the block gives, which draws
+    /// nothing, else after a drawn time. The streams are the machine's own, and are moved by the draw.
+    fn first_moment(&self, g: &Generate, streams: &mut [Stream; 16]) -> Result<i64, Halt>
+        requires readable { IsReadable self.now }
+        requires operands { GenerateFits (length self.now.facilities.facilities) g.now }
+        requires own { streams.old ≡ self.now.streams }
+        ensures { model.first_moment g.now (state_of self.now) g.now.first ≡ drawn result streams.new }
+    {
+        match g.first {
+            Some(time) => Ok(time),
+            None => self.drawn_moment(self.next_subject(g.priority), g.interval, streams),
+        }
+    }
+
+    /// Schedules the first arrival of a block, if it is a GENERATE, or answers what its time comes to.
+    fn first_arrival(&mut self, number: u16, block: &Block) -> Result<Option<Halt>, Memory>
+        requires linked { Linked self.old }
+        requires readable { IsReadable self.old }
+        requires operands { OperandsFit (length self.old.facilities.facilities) block.now }
+        requires block { number < length self.old.scheduled.items }
+        requires few { (length self.old.transactions.txs < 2 ^ 60) × (sum self.old.scheduled.items < 2 ^ 60) }
+        ensures made { IfOk result (λ halt. Schedules halt (model.first_arrival number block.now (state_of self.old)) (state_of self.new)) }
+        ensures linked { OnOk result (Linked self.new) }
+        ensures readable { OnOk result (IsReadable self.new) }
+        ensures entities { OnOk result (self.new.facilities ≡ self.old.facilities) }
+        ensures scheduled { OnOk result ((length self.new.scheduled.items ≡ length self.old.scheduled.items) ×
+            (sum self.new.scheduled.items ≤ sum self.old.scheduled.items + 1)) }
+        ensures made_by { OnOk result (length self.new.transactions.txs ≤ length self.old.transactions.txs + 1) }
+    {
+        let g = match block {
+            Block::Generate(g) => g,
+            _ => return Ok(None),
+        };
+        let mut streams = self.streams;
+        match self.first_moment(g, &mut streams) {
+            Ok(moment) => {
+                self.reserve_arrival()?;
+                self.set_streams(&streams);
+                self.arrive(number, g.priority, moment);
+                Ok(None)
+            }
+            Err(halt) => Ok(Some(halt)),
+        }
+    }
+
+    /// Schedules the first arrival of each GENERATE block, up to the first block whose time comes to something else.
+    fn first_arrivals(&mut self, blocks: &[Block]) -> Result<Option<Halt>, Memory>
+        requires linked { Linked self.old }
+        requires readable { IsReadable self.old }
+        requires fit { BlocksFit (length self.old.facilities.facilities) blocks.now }
+        requires blocks { length self.old.scheduled.items ≡ length blocks.now + 1 }
+        requires few { (length self.old.transactions.txs < 2 ^ 50) × (sum self.old.scheduled.items < 2 ^ 50) }
+        ensures made { IfOk result (λ halt. Schedules halt (model.first_arrivals 1 blocks.now (state_of self.old)) (state_of self.new)) }
+        ensures linked { OnOk result (Linked self.new) }
+    {
+        for i in 0..blocks.len() {
+            let halt = self.first_arrival((i + 1) as u16, &blocks[i])?;
+            if halt.is_some() {
+                return Ok(halt);
+            }
+        }
+        Ok(None)
+    }
+
+    /// A machine in which nothing is scheduled, and a named end stands.
+    fn ended_by(
+        alloc: Global,
+        object: &Object,
+        count: u64,
+        streams: [Stream; 16],
+        end: End,
+    ) -> Result<Machine, Memory>
+        requires few { count ≤ 2 ^ 40 }
+        ensures state { IfOk result (λ m. state_of m ≡ record (model.nothing object.now count streams) { ended = Some end }) }
+        ensures linked { IfOk result Linked }
+    {
+        let mut machine = Machine::nothing(alloc, object, count, streams)?;
+        machine.ended = Some(end);
+        Ok(machine)
+    }
+
+    /// The start state: the first arrivals are scheduled; or nothing is, where one of them comes to a named end, which
+    /// stands then, or to an error stop.
+    pub fn start(
+        alloc: Global,
+        object: &Object,
+        count: u64,
+        streams: [Stream; 16],
+    ) -> Result<Machine, Memory>
+        requires few { count ≤ 2 ^ 40 }
+        requires fit { BlocksFit (length object.now.entities) object.now.blocks }
+        ensures state { IfOk result (λ m. state_of m ≡ model.start object.now count streams) }
+        ensures linked { IfOk result Linked }
+    {
+        let mut machine = Machine::nothing(alloc, object, count, streams)?;
+        match machine.first_arrivals(object.parts().blocks.as_slice())? {
+            None => Ok(machine),
+            Some(Halt::Ends(end)) => Machine::ended_by(alloc, object, count, streams, end),
+            Some(Halt::Stops(_)) => Machine::nothing(alloc, object, count, streams),
+        }
+    }
+}

@@ -1,0 +1,205 @@
+//! Hand-over of facilities, and admission to storages.
+
+ghost use Rattle.std.specs.Prelude.{MatchOption, ◌⊎◌, [], ◌≡◌, ◌≤◌, ◌<◌, ◌+◌, ◌^◌, Some, None, true, sum, length, slice_get, option_map};
+ghost use Rattle.std.specs.Option.{option_map_or};
+ghost use Rattle.gw_num.specs.Table.{at};
+ghost use Rattle.gw_entities.specs.Facility.{idle, seized, is_idle as is_idle_now};
+ghost use Rattle.gw_entities.specs.Storage.{vacant, has_room};
+ghost use Rattle.gw_chains.specs.declared.tx.Member.{Member};
+ghost use Rattle.gw_transactions.specs.Transactions.{Holds, attributes_at};
+ghost use Rattle.gw_kinds.specs.Kinds.{block_at};
+ghost use Rattle.gw_step.specs.State.{delay_list};
+ghost use Rattle.gw_step.specs.Changes as change;
+ghost use Rattle.gw_step.specs.Changes.{facility, storage};
+ghost use Rattle.gw_machine.specs.Leaving.{Moves};
+ghost use Rattle.gw_step.specs.Blocks as model;
+ghost use Rattle.gw_machine.specs.View.{state_of};
+ghost use Rattle.gw_machine.specs.Coherence.{Linked, IsSteady};
+
+use crate::machine::Machine;
+use gw_blocks::{Block, Units};
+use gw_chains::Tx;
+use gw_transactions::Transaction;
+
+/// The block of a number, from 1, if there is one.
+pub fn block_of(blocks: &[Block], number: u16) -> Option<Block>
+    ensures { result ≡ block_at blocks.now number }
+{
+    if number == 0 {
+        return None;
+    }
+    blocks.get(number as usize - 1).copied()
+}
+
+/// Whether it is the SEIZE of this facility.
+fn is_seize(f: u16, block: Option<Block>) -> bool
+    ensures { result ≡ model.is_seize f block }
+{
+    match block {
+        Some(Block::Seize(facility)) => facility == f,
+        _ => false,
+    }
+}
+
+/// The units of a storage that a block asks for, if it is its ENTER.
+fn asked(e: u16, block: Option<Block>) -> Option<Units>
+    ensures { result ≡ model.asked e block }
+{
+    match block {
+        Some(Block::Enter(units)) if units.entity == e => Some(units),
+        _ => None,
+    }
+}
+
+impl Machine {
+    /// A facility that nobody owns is handed over to the first of its delay list, if somebody waits.
+    pub fn hand_over(&mut self, blocks: &[Block], f: u16)
+        requires steady { IsSteady blocks.now (self.old.steps + 1) self.old }
+        requires there { f < length self.old.facilities.facilities }
+        requires idle { is_idle_now (facility f (state_of self.old)) ≡ true }
+        requires room { 0 < self.old.current_events.room }
+        ensures state { state_of self.new ≡ model.hand_over blocks.now f (delay_list f (state_of self.old)) (state_of self.old) }
+        ensures linked { Linked self.new }
+    {
+        if let Some(tx) = self.waits.waiter(f, 0) {
+            self.hand_over_to(blocks, f, tx);
+        }
+    }
+
+    /// A facility that nobody owns is handed over to the first of its delay list, where that waits at its SEIZE.
+    fn hand_over_to(&mut self, blocks: &[Block], f: u16, tx: Tx)
+        requires steady { IsSteady blocks.now (self.old.steps + 1) self.old }
+        requires there { f < length self.old.facilities.facilities }
+        requires idle { is_idle_now (facility f (state_of self.old)) ≡ true }
+        requires first { option_map (λ (m : Member). m.tx) (slice_get (at [] self.old.waits.lists f) 0) ≡ Some tx }
+        requires room { 0 < self.old.current_events.room }
+        ensures state { state_of self.new ≡ option_map_or (model.takes_over blocks.now f tx.number (state_of self.old))
+            (attributes_at tx.number self.old.transactions.txs) (state_of self.old) }
+        ensures linked { Linked self.new }
+    {
+        let transaction = *self.transactions.get(tx);
+        if is_seize(f, block_of(blocks, transaction.next)) {
+            self.take_over(f, tx, transaction);
+        }
+    }
+
+    /// The first of the delay list of an idle facility owns it at once, in its SEIZE block.
+    fn take_over(&mut self, f: u16, tx: Tx, transaction: Transaction)
+        requires linked { Linked self.old }
+        requires there { f < length self.old.facilities.facilities }
+        requires idle { is_idle_now (facility f (state_of self.old)) ≡ true }
+        requires first { option_map (λ (m : Member). m.tx) (slice_get (at [] self.old.waits.lists f) 0) ≡ Some tx }
+        requires held { Holds self.old.transactions tx }
+        requires found { attributes_at tx.number self.old.transactions.txs ≡ Some transaction }
+        requires block { (transaction.next < length self.old.entries.items) × (transaction.next ≤ 4096) }
+        requires few { (sum self.old.entries.items < 2 ^ 60) × ((at idle self.old.facilities.facilities f).entries < 2 ^ 62) }
+        requires room { 0 < self.old.current_events.room }
+        ensures state { state_of self.new ≡ change.put_facility f (seized tx.number (facility f (state_of self.old)))
+            (change.enters_and_falls tx.number transaction (change.called_from f tx.number (state_of self.old))) }
+        ensures linked { Linked self.new }
+    {
+        self.call(f, 0, tx, transaction.priority);
+        self.enter(tx, transaction, transaction.next + 1);
+        let _ = self.seize_facility(f, tx.number);
+    }
+
+    /// Whether units of a storage are free.
+    fn has_free(&self, u: Units) -> bool
+        requires there { u.entity < length self.now.storages.storages }
+        requires few { (at (vacant 0) self.now.storages.storages u.entity).contents.entries + u.number ≤ 2 ^ 62 }
+        ensures { result ≡ has_room u.number (storage u.entity (state_of self.now)) }
+    {
+        let storage = self.storages.get(u.entity);
+        storage.contents.content + u64::from(u.number) <= u64::from(storage.capacity)
+    }
+
+    /// Whether no unit of a storage is free.
+    fn has_nothing_free(&self, e: u16) -> bool
+        requires { e < length self.now.storages.storages }
+        ensures { result ≡ model.is_full (storage e (state_of self.now)) }
+    {
+        let storage = self.storages.get(e);
+        storage.contents.content >= u64::from(storage.capacity)
+    }
+
+    /// The transaction to which the walk over the delay list of a storage has come; none at its end, and none where no
+    /// unit is free, so that nobody else can enter.
+    fn next_waiter(&self, e: u16) -> Option<Tx>
+        requires linked { Linked self.now }
+        requires there { (e < length self.now.facilities.facilities) × (e < length self.now.storages.storages) }
+        ensures { MatchOption result
+            ((option_map (λ (m : Member). m.tx) (slice_get (at [] self.now.waits.lists e) (at 0 self.now.waits.places e)) ≡ None) ⊎
+            (model.is_full (storage e (state_of self.now)) ≡ true))
+            (λ tx. option_map (λ (m : Member). m.tx) (slice_get (at [] self.now.waits.lists e) (at 0 self.now.waits.places e)) ≡ Some tx) }
+    {
+        if self.has_nothing_free(e) {
+            return None;
+        }
+        self.waits.current(e)
+    }
+
+    /// One walk over those who wait for a storage, in their order: each whose units are free enters.
+    pub fn admit(&mut self, blocks: &[Block], e: u16)
+        requires steady { IsSteady blocks.now (self.old.steps + 1) self.old }
+        requires there { e < length self.old.facilities.facilities }
+        requires room { length (at [] self.old.waits.lists e) ≤ self.old.current_events.room }
+        ensures state { state_of self.new ≡ model.admission blocks.now e (delay_list e (state_of self.old)) (state_of self.old) }
+        ensures linked { Linked self.new }
+    {
+        self.start_walk(e);
+        while let Some(tx) = self.next_waiter(e) {
+            if !self.admit_one(blocks, e, tx) {
+                self.pass_waiter(e);
+            }
+        }
+    }
+
+    /// The transaction to which the walk over the delay list of a storage has come enters, if its units are free.
+    fn admit_one(&mut self, blocks: &[Block], e: u16, tx: Tx) -> bool
+        requires steady { IsSteady blocks.now (self.old.steps + 1) self.old }
+        requires there { e < length self.old.facilities.facilities }
+        requires waiter { option_map (λ (m : Member). m.tx) (slice_get (at [] self.old.waits.lists e) (at 0 self.old.waits.places e)) ≡
+            Some tx }
+        requires room { 0 < self.old.current_events.room }
+        ensures state { state_of self.new ≡ model.looked_at blocks.now e tx.number (state_of self.old) }
+        ensures steady { IsSteady blocks.now (self.old.steps + 1) self.new }
+        ensures moves { Moves result e (at 0 self.old.waits.places e) self.old self.new }
+        ensures frame { (self.new.steps ≡ self.old.steps) × (self.new.facilities ≡ self.old.facilities) }
+    {
+        let transaction = *self.transactions.get(tx);
+        match asked(e, block_of(blocks, transaction.next)) {
+            Some(units) => self.enter_if_free(units, tx, transaction),
+            None => false,
+        }
+    }
+
+    /// The transaction to which the walk over a delay list has come enters its ENTER block, if these units are free.
+    fn enter_if_free(&mut self, units: Units, tx: Tx, transaction: Transaction) -> bool
+        requires linked { Linked self.old }
+        requires there { (units.entity < length self.old.facilities.facilities) × (units.entity < length self.old.storages.storages) }
+        requires waiter { option_map (λ (m : Member). m.tx)
+            (slice_get (at [] self.old.waits.lists units.entity) (at 0 self.old.waits.places units.entity)) ≡ Some tx }
+        requires held { Holds self.old.transactions tx }
+        requires found { attributes_at tx.number self.old.transactions.txs ≡ Some transaction }
+        requires block { (transaction.next < length self.old.entries.items) × (transaction.next ≤ 4096) }
+        requires few { (sum self.old.entries.items < 2 ^ 60) ×
+            ((at (vacant 0) self.old.storages.storages units.entity).contents.entries + units.number ≤ 2 ^ 62) }
+        requires room { 0 < self.old.current_events.room }
+        ensures state { state_of self.new ≡ model.enters_if_free tx.number transaction (state_of self.old) units }
+        ensures linked { Linked self.new }
+        ensures moves { Moves result units.entity (at 0 self.old.waits.places units.entity) self.old self.new }
+        ensures frame { (self.new.steps ≡ self.old.steps) × (self.new.facilities ≡ self.old.facilities) }
+    {
+        if !self.has_free(units) {
+            return false;
+        }
+        match self.take(units) {
+            Ok(true) => {
+                self.call_current(units.entity, tx, transaction.priority);
+                self.enter(tx, transaction, transaction.next + 1);
+                true
+            }
+            _ => false,
+        }
+    }
+}

@@ -1,0 +1,6 @@
+use Rattle.std.proofs.Common.{◌≡◌, take}
+use Rattle.gw_code_flow.specs.Meaning.{opened}
+use Rattle.gw_plus.proofs.activation.opening_locals.Given as goal
+
+abbrev pub invariant-loop-i : goal.invariant-loop-i
+invariant-loop-i l = l.locals.items ≡ take l.i (opened l.count l.arguments).locals

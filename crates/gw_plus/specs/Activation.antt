@@ -1,0 +1,80 @@
+-- What an activation of a procedure stands for, and what its steps tell.
+use Rattle.std.specs.Prelude.{◌≡◌, ℕ, ◌+◌, ◌≤◌, ◌<◌, ℤ, List, [], ◌∷◌, length, map, Some, Bool, false, if◌then◌else◌, not, ◌==◌, ◌&&◌, ◌||◌}
+use Rattle.gw_code.specs.Limits.{most_backs}
+use Rattle.gw_code.specs.Grammar.{is_back}
+use Rattle.gw_code.specs.declared.parts.Sna.{Sna}
+use Rattle.gw_code.specs.declared.parts.Instruction.{Instruction}
+use Rattle.gw_code.specs.declared.parts.Procedure.{Procedure}
+use Rattle.gw_object.specs.declared.parts.Parts.{Parts}
+use Rattle.gw_object.specs.Grammar.{HasSpelling}
+use Rattle.gw_code_flow.specs.Code.{procedure_at}
+use Rattle.gw_code_flow.specs.Environment.{Environment, sna_value}
+use Rattle.gw_code_flow.specs.Laws.{MayBegin, CodeHolds}
+use Rattle.gw_code_flow.specs.PlusChecks.{PlusPasses}
+use Rattle.gw_code_flow.specs.Meaning.{Taken, Frame, Next, Goes, Calls, Returns, Ends, on, given, pushed, opening}
+use Rattle.gw_plus.specs.declared.activation.Turns.{Turns}
+use Rattle.gw_plus.specs.declared.activation.Activation.{Activation}
+use Rattle.gw_plus.specs.declared.activation.Step.{Step}
+use Rattle.gw_plus.specs.declared.activation.Step.TheVariants.{Went, Called, Returned, Ended}
+
+-- the code of a checked object: it keeps the format and kinds, and passes
+pub record HasGoodCode (p : Parts) : Type 0 where
+  pub fits : HasSpelling p
+  pub holds : CodeHolds p
+  pub passes : PlusPasses p
+
+-- how often each BACK was taken
+abbrev pub taken_of : List Turns → Taken
+taken_of turns = map (λ (t : Turns). (t.place, t.count)) turns
+
+-- where an activation stands
+abbrev pub frame_of : Activation → Frame
+frame_of a = record { place = a.place; stack = a.stack.items; locals = a.locals.items; taken = taken_of a.turns.items }
+
+-- where an activation begins that has these locals
+abbrev pub begun : List ℤ → Frame
+begun locals = record { place = 0; stack = []; locals = locals; taken = [] }
+
+-- an activation of the procedure n that may begin does so with these locals
+pub record Begins (p : Parts) (env : Environment) (n : ℕ) (locals : List ℤ) : Type 0 where
+  pub procedure : Procedure
+  pub arguments : List ℤ
+  pub may : MayBegin p env n procedure arguments
+  pub locals_are : locals ≡ (opening (Some procedure) arguments).locals
+
+-- COUNTS
+
+-- whether the BACK at k was taken yet
+abbrev pub is_taken : Taken → ℕ → Bool
+is_taken [] k = false
+is_taken (x ∷ xs) k = x.0 == k || is_taken xs k
+
+-- the BACK at k can be counted: it was taken before, or fewer were than there may be
+abbrev pub CanCount : Taken → ℕ → Type 0
+CanCount taken k = is_taken taken k ≡ false → length taken < most_backs
+
+-- how many BACKs there are, among these instructions from number k on, that weren't taken yet
+abbrev pub untaken : Taken → ℕ → List Instruction → ℕ
+untaken taken k [] = 0
+untaken taken k (i ∷ code) = (if is_back i && not (is_taken taken k) then 1 else 0) + untaken taken (k + 1) code
+
+-- each BACK of a code can be counted, also those that weren't taken yet
+abbrev pub CanCountEach : List Instruction → Taken → Type 0
+CanCountEach code taken = length taken + untaken taken 0 code ≤ most_backs
+
+-- STEPS
+
+-- VALUE
+abbrev pub reads : Environment → Sna → Frame → Next
+reads env sna f = given (sna_value env sna) (λ v. pushed v (on f))
+
+-- an activation did what comes next: it stands here then, and its step tells what was called, returned or ended
+abbrev pub Did : Parts → Next → Step → Frame → Type 0
+Did p next Went f = next ≡ Goes f
+Did p next (Called q locals) f = (arguments : List ℤ) × (next ≡ Calls q arguments f) × (locals.items ≡ (opening (procedure_at p q) arguments).locals)
+Did p next (Returned v) f = next ≡ Returns v
+Did p next (Ended end) f = next ≡ Ends end
+
+-- an activation did what comes next and called nothing, so this says the same of each object
+abbrev pub DidAlone : Next → Step → Frame → Type 0
+DidAlone next step f = (p : Parts) → Did p next step f

@@ -1,0 +1,2 @@
+pub mod Activation
+pub mod Reading

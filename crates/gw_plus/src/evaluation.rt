@@ -1,0 +1,55 @@
+//! Evaluation of procedures.
+
+ghost use Rattle.std.specs.Prelude.{◌≡◌, ℕ, []};
+ghost use Rattle.gw_code_flow.specs.Meaning.{Derives, Evaluates};
+ghost use Rattle.gw_plus.specs.Activation.{begun, Begins, HasGoodCode};
+ghost use Rattle.gw_plus.specs.Reading.{environment_of, IsOf, CanEvaluate};
+
+use crate::activation::{Activation, Step, opening_locals};
+use crate::env::Env;
+use arrayvec::ArrayVec;
+use gw_code_flow::PlusEnd;
+use gw_object::Parts;
+use gw_verify::Verified;
+
+/// The value or the end of the procedure of this number, from 0, that begins with these locals.
+fn activate(
+    parts: &Parts,
+    number: u16,
+    locals: ArrayVec<i64, 32>,
+    env: &Env,
+) -> Result<i64, PlusEnd>
+    requires code { HasGoodCode parts.now }
+    requires environment { IsOf parts.now env.now }
+    requires begins { Begins parts.now (environment_of env.now) number locals.items }
+    ensures { (count : ℕ) × Derives parts.now (environment_of env.now) number (begun locals.items) count result }
+{
+    let procedure = &parts.procedures.as_slice()[number as usize];
+    let code = procedure.code.as_slice();
+    let mut activation = Activation::begin(locals);
+    loop {
+        let instruction = code[activation.place];
+        match activation.step(parts, env, instruction) {
+            Step::Went => {}
+            Step::Called(called, locals) => {
+                let value = activate(parts, called, locals, env)?;
+                activation.push(value);
+            }
+            Step::Returned(value) => return Ok(value),
+            Step::Ended(end) => return Err(end),
+        }
+    }
+}
+
+/// The value of a procedure without arguments, by its number from 0, or how its evaluation ends (docs/plus-code.md).
+///
+/// It tests nothing that the checks have made sure of, and takes no memory.
+pub fn eval(verified: &Verified, procedure: u16, env: &Env) -> Result<i64, PlusEnd>
+    requires environment { IsOf verified.now env.now }
+    requires can { CanEvaluate verified.now (environment_of env.now) procedure }
+    ensures { Evaluates verified.now (environment_of env.now) procedure [] result }
+{
+    let parts = verified.object().parts();
+    let locals = opening_locals(parts.procedures.as_slice()[procedure as usize].locals, &[]);
+    activate(parts, procedure, locals, env)
+}

@@ -1,0 +1,337 @@
+//! What procedures come to: each instruction, by a value worked out by hand.
+
+ghost use Rattle.std.specs.Prelude.{◌≡◌, IfOk, slice_get, Some, [], ◌∷◌};
+
+use crate::models::*;
+use gw_blocks::{Attribute, EntityAttribute, Numbered};
+use gw_code::{Back, Instruction, Procedure, Sna};
+use gw_entities::{Facilities, Queues, Savevalues, Storages, Switches};
+use gw_num::{Binary, Unary};
+use gw_object::{Memory, Object};
+use gw_plus::{Env, PlusEnd, eval};
+use gw_verify::{Verified, verify};
+use std::alloc::Global;
+use std::test::Fail;
+
+const RET: Instruction = Instruction::Return;
+
+/// What an evaluation comes to.
+type Outcome = Result<i64, PlusEnd>;
+
+/// PUSH of a number, in a constant.
+macro_rules! push {
+    ($number:expr) => {
+        Instruction::Push($number)
+    };
+}
+
+/// VALUE of this attribute of an entity or a block, in a constant.
+macro_rules! value_of {
+    ($attribute:ident, $number:expr) => {
+        Instruction::Value(Sna::OfEntity(Numbered {
+            attribute: EntityAttribute::$attribute,
+            number: $number,
+        }))
+    };
+}
+
+/// VALUE of this attribute of the clock, the count or the transaction, in a constant.
+macro_rules! value {
+    ($attribute:ident) => {
+        Instruction::Value(Sna::Attribute(Attribute::$attribute))
+    };
+}
+
+/// A jump back to an instruction, at most so often, in a constant.
+macro_rules! back {
+    ($target:expr, $count:expr) => {
+        Instruction::Back(Back {
+            target: $target,
+            count: $count,
+        })
+    };
+}
+
+/// The difference of two arguments.
+const DIFFERENCE: &[Instruction] = &[
+    Instruction::Get(0),
+    Instruction::Get(1),
+    Instruction::Binary(Binary::Subtract),
+    RET,
+];
+
+/// The procedure 0, the difference of its two arguments, and the procedure 1, which has this code, two locals, and needs the
+/// parameter 1.
+fn two_procedures(alloc: Global, code: &[Instruction]) -> Result<Vec<Procedure>, Memory>
+    ensures { IfOk result (λ prs. (pr : Procedure) × (slice_get prs.items 1 ≡ Some pr) × (pr.arguments ≡ 0) × (pr.needs ≡ 1 ∷ [])) }
+{
+    let mut procedures = Vec::new(alloc);
+    procedures.push(procedure(alloc, (2, 2), &[], DIFFERENCE)?)?;
+    procedures.push(procedure(alloc, (0, 2), &[1], code)?)?;
+    Ok(procedures)
+}
+
+/// The object, accepted.
+fn accepted(alloc: Global, object: Object) -> Result<Verified, Fail>
+    ensures { IfOk result (λ v. v ≡ object) }
+{
+    match verify(alloc, object) {
+        Ok(verified) => Ok(verified),
+        Err(_) => Err(Fail::from("it is accepted")),
+    }
+}
+
+/// What a procedure of this code, with two locals, comes to at clock 100 for the transaction 12 of priority -3, which has
+/// marked 40, where TG1 is 7 and P1 is 5. The second block has 6 entries so far, and 2 transactions are in it.
+fn outcome_of(alloc: Global, code: &[Instruction]) -> Result<Outcome, Fail> {
+    let object = object_of(alloc, two_procedures(alloc, code)?)?;
+    let facilities = Facilities::new(alloc, &object)?;
+    let storages = Storages::new(alloc, &object)?;
+    let queues = Queues::new(alloc, &object)?;
+    let switches = Switches::new(alloc, &object)?;
+    let savevalues = Savevalues::new(alloc, &object)?;
+    let verified = accepted(alloc, object)?;
+    let env = Env {
+        number: 12,
+        priority: -3,
+        mark: 40,
+        parameters: &[None, Some(5)],
+        clock: 100,
+        count: 7,
+        facilities: &facilities,
+        storages: &storages,
+        queues: &queues,
+        switches: &switches,
+        savevalues: &savevalues,
+        entries: &[0, 4, 6],
+        here: &[0, 1, 2],
+    };
+    Ok(eval(&verified, 1, &env))
+}
+
+/// The place, from 0, of the first of these codes that comes to something else.
+fn wrong_outcome(
+    alloc: Global,
+    cases: &[(&[Instruction], Outcome)],
+) -> Result<Option<usize>, Fail> {
+    for i in 0..cases.len() {
+        let (code, outcome) = cases[i];
+        if outcome_of(alloc, code)? != outcome {
+            return Ok(Some(i));
+        }
+    }
+    Ok(None)
+}
+
+/// The place, from 0, of the first of these operators that makes something else of two values.
+fn wrong_binary(
+    alloc: Global,
+    cases: &[(i64, Binary, i64, Outcome)],
+) -> Result<Option<usize>, Fail> {
+    for i in 0..cases.len() {
+        let (left, operator, right, outcome) = cases[i];
+        let code = [
+            push!(left),
+            push!(right),
+            Instruction::Binary(operator),
+            RET,
+        ];
+        if outcome_of(alloc, &code)? != outcome {
+            return Ok(Some(i));
+        }
+    }
+    Ok(None)
+}
+
+#[test]
+fn values_are_pushed_kept_in_locals_and_dropped(rt: HostRuntime) -> Result<(), Fail> {
+    const CASES: &[(&'static [Instruction], Outcome)] = &[
+        (&[push!(42), RET], Ok(42)),
+        // Locals that are no arguments begin as 0.
+        (&[Instruction::Get(1), RET], Ok(0)),
+        (
+            &[
+                push!(9),
+                Instruction::Set(1),
+                push!(8),
+                Instruction::Set(0),
+                Instruction::Get(1),
+                RET,
+            ],
+            Ok(9),
+        ),
+        (&[push!(1), push!(2), Instruction::Pop, RET], Ok(1)),
+        // RET takes the value on top.
+        (&[push!(1), push!(2), RET], Ok(2)),
+    ];
+    assert!(rt; wrong_outcome(rt.alloc(), CASES)?.is_none());
+    Ok(())
+}
+
+#[test]
+fn attributes_are_read(rt: HostRuntime) -> Result<(), Fail> {
+    const CASES: &[(&'static [Instruction], Outcome)] = &[
+        (&[Instruction::Value(Sna::Parameter(1)), RET], Ok(5)),
+        (&[value!(Clock), RET], Ok(100)),
+        (&[value!(AbsoluteClock), RET], Ok(100)),
+        (&[value!(Priority), RET], Ok(-3)),
+        (&[value!(TransitTime), RET], Ok(60)),
+        (&[value!(TransactionNumber), RET], Ok(12)),
+        (&[value!(TerminationCount), RET], Ok(7)),
+        (&[value_of!(FacilityOwned, 0), RET], Ok(0)),
+        (&[value_of!(StorageContent, 1), RET], Ok(0)),
+        (&[value_of!(StorageRemaining, 1), RET], Ok(5)),
+        (&[value_of!(QueueContent, 2), RET], Ok(0)),
+        (&[value_of!(SavevalueValue, 3), RET], Ok(7)),
+        (&[value_of!(SwitchSetting, 4), RET], Ok(1)),
+        (&[value_of!(BlockEntries, 2), RET], Ok(6)),
+        (&[value_of!(BlockCount, 2), RET], Ok(2)),
+    ];
+    assert!(rt; wrong_outcome(rt.alloc(), CASES)?.is_none());
+    Ok(())
+}
+
+#[test]
+fn operators_take_the_lower_value_on_the_left(rt: HostRuntime) -> Result<(), Fail> {
+    const CASES: &[(i64, Binary, i64, Outcome)] = &[
+        (7, Binary::Add, 5, Ok(12)),
+        (7, Binary::Subtract, 5, Ok(2)),
+        (7, Binary::Multiply, 5, Ok(35)),
+        (-7, Binary::Divide, 2, Ok(-3)),
+        (-7, Binary::Remainder, 2, Ok(-1)),
+        (7, Binary::Power, 5, Ok(16_807)),
+        (7, Binary::Divide, 0, Err(PlusEnd::ZeroDivisor)),
+        (7, Binary::Remainder, 0, Err(PlusEnd::ZeroDivisor)),
+        (7, Binary::Power, -1, Err(PlusEnd::Number)),
+        (i64::MAX, Binary::Add, 1, Err(PlusEnd::Number)),
+    ];
+    assert!(rt; wrong_binary(rt.alloc(), CASES)?.is_none());
+    Ok(())
+}
+
+#[test]
+fn comparisons_and_conjunctions_are_1_or_0(rt: HostRuntime) -> Result<(), Fail> {
+    const CASES: &[(i64, Binary, i64, Outcome)] = &[
+        (5, Binary::Equal, 5, Ok(1)),
+        (5, Binary::Equal, 7, Ok(0)),
+        (5, Binary::NotEqual, 7, Ok(1)),
+        (5, Binary::NotEqual, 5, Ok(0)),
+        (7, Binary::Greater, 5, Ok(1)),
+        (5, Binary::Greater, 5, Ok(0)),
+        (5, Binary::GreaterOrEqual, 5, Ok(1)),
+        (4, Binary::GreaterOrEqual, 5, Ok(0)),
+        (4, Binary::Less, 5, Ok(1)),
+        (5, Binary::Less, 5, Ok(0)),
+        (5, Binary::LessOrEqual, 5, Ok(1)),
+        (6, Binary::LessOrEqual, 5, Ok(0)),
+        (-2, Binary::And, 3, Ok(1)),
+        (2, Binary::And, 0, Ok(0)),
+        (0, Binary::Or, -3, Ok(1)),
+        (0, Binary::Or, 0, Ok(0)),
+    ];
+    assert!(rt; wrong_binary(rt.alloc(), CASES)?.is_none());
+    Ok(())
+}
+
+#[test]
+fn one_value_is_negated_or_denied(rt: HostRuntime) -> Result<(), Fail> {
+    const CASES: &[(&'static [Instruction], Outcome)] = &[
+        (&[push!(7), Instruction::Unary(Unary::Negate), RET], Ok(-7)),
+        (
+            &[push!(i64::MIN), Instruction::Unary(Unary::Negate), RET],
+            Err(PlusEnd::Number),
+        ),
+        (&[push!(7), Instruction::Unary(Unary::Not), RET], Ok(0)),
+        (&[push!(0), Instruction::Unary(Unary::Not), RET], Ok(1)),
+    ];
+    assert!(rt; wrong_outcome(rt.alloc(), CASES)?.is_none());
+    Ok(())
+}
+
+#[test]
+fn jumps_lead_on(rt: HostRuntime) -> Result<(), Fail> {
+    const CASES: &[(&'static [Instruction], Outcome)] = &[
+        (
+            &[
+                push!(0),
+                Instruction::JumpIfZero(4),
+                push!(1),
+                Instruction::Jump(5),
+                push!(2),
+                RET,
+            ],
+            Ok(2),
+        ),
+        (
+            &[
+                push!(3),
+                Instruction::JumpIfZero(4),
+                push!(1),
+                Instruction::Jump(5),
+                push!(2),
+                RET,
+            ],
+            Ok(1),
+        ),
+    ];
+    assert!(rt; wrong_outcome(rt.alloc(), CASES)?.is_none());
+    Ok(())
+}
+
+/// The sum of 1, 2, 3 and 4, in a loop that goes back three times, where it may go back so often.
+fn sum_of_four(alloc: Global, most: u32) -> Result<Outcome, Fail> {
+    let code = [
+        Instruction::Get(0),
+        push!(1),
+        Instruction::Binary(Binary::Add),
+        Instruction::Set(0),
+        Instruction::Get(1),
+        Instruction::Get(0),
+        Instruction::Binary(Binary::Add),
+        Instruction::Set(1),
+        Instruction::Get(0),
+        push!(4),
+        Instruction::Binary(Binary::Less),
+        Instruction::JumpIfZero(13),
+        back!(0, most),
+        Instruction::Get(1),
+        RET,
+    ];
+    outcome_of(alloc, &code)
+}
+
+#[test]
+fn a_loop_goes_back_as_often_as_it_may(rt: HostRuntime) -> Result<(), Fail> {
+    let are_right = [
+        sum_of_four(rt.alloc(), 3)? == Ok(10),
+        sum_of_four(rt.alloc(), 2)? == Err(PlusEnd::LoopLimit),
+    ];
+    assert!(rt; first_wrong(&are_right).is_none());
+    Ok(())
+}
+
+#[test]
+fn a_call_takes_its_arguments_in_order(rt: HostRuntime) -> Result<(), Fail> {
+    const CASES: &[(&'static [Instruction], Outcome)] = &[
+        (&[push!(10), push!(3), Instruction::Call(0), RET], Ok(7)),
+        // The value below the arguments stays.
+        (
+            &[
+                push!(100),
+                push!(10),
+                push!(3),
+                Instruction::Call(0),
+                Instruction::Binary(Binary::Add),
+                RET,
+            ],
+            Ok(107),
+        ),
+        // An end in a procedure that is called is an end of the whole.
+        (
+            &[push!(i64::MIN), push!(1), Instruction::Call(0), RET],
+            Err(PlusEnd::Number),
+        ),
+    ];
+    assert!(rt; wrong_outcome(rt.alloc(), CASES)?.is_none());
+    Ok(())
+}
