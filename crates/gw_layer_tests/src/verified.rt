@@ -2,7 +2,8 @@
 
 use crate::models::*;
 use gw_blocks::{Block, Generate, Operand, Spread};
-use gw_object::{Fault, Items, Memory, Object, Parts, TableKind, TableState};
+use gw_code::Instruction;
+use gw_object::{Fault, Items, Memory, Object, Parts, Place, TableKind, TableState};
 use gw_verify::{Verified, verify};
 use std::alloc::Global;
 use std::test::Fail;
@@ -205,5 +206,41 @@ fn who_was_never_called_may_not_return(rt: HostRuntime) -> Result<(), Fail> {
     const BLOCKS: &[Block] = &[LIMITED_TO_1, Block::TransferByParameter(1)];
     let fault = fault_with(rt.alloc(), BLOCKS, &[Some(&[]), Some(&[])], &[])?;
     assert!(rt; fault == at_block(20, 2));
+    Ok(())
+}
+
+/// The parts of these blocks, whose rows own the facility F where `owned` says so, and of one procedure, whose code ends
+/// without a RET.
+fn parts_with_code(alloc: Global, blocks: &[Block], owned: &[bool]) -> Result<Parts, Memory> {
+    let endless = procedure(alloc, (0, 0), &[], &[Instruction::Push(1)])?;
+    let mut parts = weighted(alloc, blocks, owned)?;
+    parts.procedures = Items::from_vec(vec![in alloc; endless]?);
+    Ok(parts)
+}
+
+/// The fault with which an object of these blocks and that procedure is refused.
+fn refusal_with_code(
+    alloc: Global,
+    blocks: &[Block],
+    owned: &[bool],
+) -> Result<Option<Fault>, Fail> {
+    let object = built(parts_with_code(alloc, blocks, owned)?)?;
+    Ok(verify(alloc, object).err().map(|(_object, fault)| fault))
+}
+
+#[test]
+fn kinds_of_all_blocks_go_before_procedures(rt: HostRuntime) -> Result<(), Fail> {
+    const BLOCKS: &[Block] = &[GENERATE, Block::Release(F), LIMITED_TO_0, TERMINATE];
+    let found = refusal_with_code(rt.alloc(), BLOCKS, &[false; 4])?;
+    assert!(rt; found == at_block(13, 2));
+    Ok(())
+}
+
+#[test]
+fn procedures_go_before_flow(rt: HostRuntime) -> Result<(), Fail> {
+    const BLOCKS: &[Block] = &[GENERATE, Block::Release(F), TERMINATE];
+    let found = refusal_with_code(rt.alloc(), BLOCKS, &[false; 3])?;
+    let place = Place::Code(0, 0);
+    assert!(rt; found == Some(Fault { code: 32, place }));
     Ok(())
 }
