@@ -36,6 +36,14 @@ abbrev pub spread : Heights → ℕ → List ℕ → Heights
 spread heights height [] = heights
 spread heights height (target ∷ targets) = spread (put None heights target (Some height)) height targets
 
+-- the heights once the instruction k has told its own to those to which it leads
+abbrev pub heights_after : Parts → Heights → ℕ → Instruction → Heights
+heights_after p heights k i = spread heights (height_after p i (known_height (at None heights k))) (targets k i)
+
+-- a height after the instruction k is no more than the stack holds, and the one that is known where it leads
+abbrev pub fits_ahead : Heights → ℕ → ℕ → Instruction → Bool
+fits_ahead heights height k i = nat_le height most_values && list_all (λ target. agrees height (at None heights target)) (targets k i)
+
 -- ONE INSTRUCTION
 
 -- of the instruction k of the procedure n: a height is known before it (30); it leads where it may (32), calls a lower procedure (33), and asks for parameters that the procedure needs (35); it finds as many values as it takes (31), and leaves no more than the stack holds, and the height that is known where it leads (30)
@@ -46,7 +54,7 @@ instruction_checks p n pr heights k i (Some height) =
     ∷ check codes.call_order (places.Code n k) (calls_lower n (procedure_in i))
     ∷ check codes.needs_param (places.Code n k) (list_all (is_among pr.needs) (asks_for p i))
     ∷ check codes.stack_empty (places.Code n k) (nat_le (takes p i) height)
-    ∷ check codes.stack_height (places.Code n k) (nat_le (height_after p i height) most_values && list_all (λ target. agrees (height_after p i height) (at None heights target)) (targets k i))
+    ∷ check codes.stack_height (places.Code n k) (fits_ahead heights (height_after p i height) k i)
     ∷ []
 
 -- CODE
@@ -56,7 +64,7 @@ abbrev pub code_checks : Parts → ℕ → Procedure → Heights → ℕ → Lis
 code_checks p n pr heights k [] = []
 code_checks p n pr heights k (i ∷ code) =
     instruction_checks p n pr heights k i (at None heights k)
-    ++ code_checks p n pr (spread heights (height_after p i (known_height (at None heights k))) (targets k i)) (k + 1) code
+    ++ code_checks p n pr (heights_after p heights k i) (k + 1) code
 
 -- there are instructions
 abbrev pub has_code : List Instruction → Bool
@@ -67,13 +75,18 @@ has_code (i ∷ code) = true
 abbrev pub greatest_cost : ℕ
 greatest_cost = 1000000000
 
--- of the procedure n, by the costs of those below: its instructions, with an empty stack before the first; then that it has one (32), and that it isn't too costly (34)
+-- of the code of the procedure n as a whole, by the costs of those below: it has an instruction (32), and isn't too costly (34)
+abbrev pub whole_checks : List ℕ → ℕ → List Instruction → List Check
+whole_checks costs n code =
+    check codes.bad_jump (places.Code n 0) (has_code code)
+    ∷ check codes.too_costly (places.Code n 0) (nat_le (cost_of_code costs code) greatest_cost)
+    ∷ []
+
+-- of the procedure n: its instructions, with an empty stack before the first; then its code as a whole
 abbrev pub procedure_checks : Parts → List ℕ → ℕ → Procedure → List Check
 procedure_checks p costs n pr =
     code_checks p n pr (Some 0 ∷ []) 0 pr.code
-    ++ (check codes.bad_jump (places.Code n 0) (has_code pr.code)
-    ∷ check codes.too_costly (places.Code n 0) (nat_le (cost_of_code costs pr.code) greatest_cost)
-    ∷ [])
+    ++ whole_checks costs n pr.code
 
 -- of the procedures from n on, in order
 abbrev pub checks_from : Parts → List ℕ → ℕ → List Procedure → List Check

@@ -1,12 +1,10 @@
 //! The checks of PLUS code, in order (docs/plus-code.md). They take no memory.
 
-ghost use Rattle.std.specs.Prelude.{◌≡◌, ◌<◌, ◌≤◌, length, All, Some, None, [], ◌∷◌, IfOk, OnOk, nat_le};
+ghost use Rattle.std.specs.Prelude.{◌≡◌, ◌<◌, ◌≤◌, length, All, Some, None, [], ◌∷◌, IfOk, OnOk};
 ghost use Rattle.gw_num.specs.Table.{at};
 ghost use Rattle.gw_code.specs.Grammar.{ProcedureFits};
-ghost use Rattle.gw_object.specs.declared.fault.Place.TheVariants as places;
-ghost use Rattle.gw_kinds.specs.Checks.{Finds, check as check_of};
-ghost use Rattle.gw_code_flow.specs.Codes.{bad_jump, too_costly};
-ghost use Rattle.gw_code_flow.specs.Code.{most_values, targets, cost_of_code};
+ghost use Rattle.gw_kinds.specs.Checks.{Finds};
+ghost use Rattle.gw_code_flow.specs.Code.{most_values, cost_of_code};
 ghost use Rattle.gw_code_flow.specs.PlusChecks as model;
 
 use crate::codes::*;
@@ -62,8 +60,9 @@ fn check_instruction(
 ) -> Result<(), Fault>
     requires place { position < length procedure.now.code }
     requires limit { length procedure.now.code ≤ 4096 }
-    ensures checks { Finds result (model.instruction_checks parts.now number procedure.now heights.old position instruction (at None heights.old position)) }
-    ensures heights { OnOk result (heights.new ≡ model.spread heights.old (model.height_after parts.now instruction (model.known_height (at None heights.old position))) (targets position instruction)) }
+    ensures checks { Finds result (model.instruction_checks parts.now number procedure.now heights.old position instruction
+        (at None heights.old position)) }
+    ensures heights { OnOk result (heights.new ≡ model.heights_after parts.now heights.old position instruction) }
 {
     match height_at(heights, position as usize) {
         Some(height) => {
@@ -113,7 +112,7 @@ fn has_code(code: &[Instruction]) -> bool
 /// cost.
 fn check_cost(costs: &[u32], number: u16, code: &[Instruction]) -> Result<u32, Fault>
     requires { length code.now ≤ 4096 }
-    ensures checks { Finds result (check_of bad_jump (places.Code number 0) (model.has_code code.now) ∷ check_of too_costly (places.Code number 0) (nat_le (cost_of_code costs.now code.now) model.greatest_cost) ∷ []) }
+    ensures checks { Finds result (model.whole_checks costs.now number code.now) }
     ensures cost { IfOk result (λ cost. cost ≡ cost_of_code costs.now code.now) }
 {
     let place = Place::Code(number, 0);

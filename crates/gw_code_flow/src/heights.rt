@@ -1,9 +1,9 @@
 //! The heights of the stack that are known while a procedure is checked.
 
-ghost use Rattle.std.specs.Prelude.{◌≡◌, ◌<◌, ◌≤◌, length, Some, None, true, nat_le, ◌&&◌};
+ghost use Rattle.std.specs.Prelude.{◌≡◌, ◌<◌, ◌≤◌, length, Some, None, true};
 ghost use Rattle.std.specs.List.{list_all};
 ghost use Rattle.gw_num.specs.Table.{at, put};
-ghost use Rattle.gw_code_flow.specs.Code.{most_values, leads_well, targets};
+ghost use Rattle.gw_code_flow.specs.Code.{leads_well, targets};
 ghost use Rattle.gw_code_flow.specs.PlusChecks as model;
 
 use gw_code::{Instruction, MOST_INSTRUCTIONS};
@@ -57,7 +57,7 @@ pub(crate) fn fits_ahead(
     position: u16,
     instruction: Instruction,
 ) -> bool
-    ensures { result ≡ (nat_le height most_values && list_all (λ target. model.agrees height (at None heights.now target)) (targets position instruction)) }
+    ensures { result ≡ model.fits_ahead heights.now height position instruction }
 {
     height <= MOST_VALUES && agrees_ahead(heights, height, position, instruction)
 }
