@@ -3,17 +3,17 @@ use Rattle.std.proofs.Common.{◌≡◌, ℕ, ◌∷◌, refl, arith}
 use Rattle.std.specs.Int.{w16, w32, w64}
 use Rattle.gw_blocks.specs.Limits.{most_parameters, most_streams}
 use Rattle.gw_blocks.specs.declared.parts.Attribute.TheVariants.{Clock, AbsoluteClock, Priority, TransitTime, TransactionNumber, TerminationCount}
-use Rattle.gw_blocks.specs.declared.parts.EntityAttribute.TheVariants.{FacilityOwned, StorageContent, StorageRemaining, QueueContent, SavevalueValue, SwitchSetting, BlockEntries, BlockCount}
+use Rattle.gw_blocks.specs.declared.parts.EntityAttribute.TheVariants.{FacilityOwned, StorageContent, StorageRemaining, QueueContent, SavevalueValue, SwitchSetting, VariableValue, BooleanValue, FunctionValue, BlockEntries, BlockCount}
 use Rattle.gw_blocks.specs.declared.parts.Operand.{Operand}
-use Rattle.gw_blocks.specs.declared.parts.Operand.TheVariants.{Constant, Parameter, Attribute, OfEntity, Random}
+use Rattle.gw_blocks.specs.declared.parts.Operand.TheVariants.{Constant, Parameter, Attribute, OfEntity, Random, Procedure}
 use Rattle.gw_blocks.specs.declared.parts.Mode.TheVariants.{Set, Add, Subtract}
 use Rattle.gw_blocks.specs.declared.parts.Comparison.TheVariants.{Equal, NotEqual, Greater, GreaterOrEqual, Less, LessOrEqual}
 use Rattle.gw_blocks.specs.declared.parts.Condition.TheVariants.{SwitchSet, SwitchReset, FacilityInUse, FacilityNotInUse, StorageFull, StorageEmpty, StorageNotFull, StorageNotEmpty}
 use Rattle.gw_blocks.specs.declared.parts.SwitchAction.TheVariants.{Set as SetSwitch, Reset as ResetSwitch, Invert as InvertSwitch}
 use Rattle.gw_blocks.specs.declared.parts.Block.{Block}
-use Rattle.gw_blocks.specs.declared.parts.Block.TheVariants.{Generate, Terminate, Advance, Seize, Release, Enter, Leave, Queue, Depart, Assign, Test, Gate, Transfer, TransferByFraction, TransferToSubroutine, TransferByParameter, Loop, Logic, Savevalue, Mark}
+use Rattle.gw_blocks.specs.declared.parts.Block.TheVariants.{Generate, Terminate, Advance, Seize, Release, Enter, Leave, Queue, Depart, Assign, Test, Gate, Transfer, TransferByFraction, TransferToSubroutine, TransferByParameter, Loop, Logic, Savevalue, Mark, Plus, Tabulate}
 use Rattle.gw_fields.specs.Fields.{Field, behind, byte, signed, optional}
-use Rattle.gw_blocks.specs.Grammar.{parameter_number, stream_number, attribute_byte, attributes, attribute, entity_attribute_byte, entity_attributes, NumberedFits, numbered, OperandFits, operand_spelling, operand_forms, operand_read, operand, mode_byte, modes, mode, AssignFits, assign, comparison_byte, comparisons, TestFits, test_operands, condition_byte, conditions, GateFits, gate, CallFits, call, LoopFits, countdown, action_byte, actions, LogicFits, logic, SaveFits, save, SpreadFits, spread, GenerateFits, generate, entity_number, UnitsFit, units, block_number, FractionFits, fraction, BlockFits, block_spelling, block_forms, block_read, block}
+use Rattle.gw_blocks.specs.Grammar.{parameter_number, stream_number, attribute_byte, attributes, attribute, entity_attribute_byte, entity_attributes, NumberedFits, numbered, OperandFits, operand_spelling, operand_forms, operand_read, operand, mode_byte, modes, mode, AssignFits, assign, comparison_byte, comparisons, TestFits, test_operands, condition_byte, conditions, GateFits, gate, CallFits, call, LoopFits, countdown, action_byte, actions, LogicFits, logic, SaveFits, save, PlusFits, plus, SpreadFits, spread, GenerateFits, generate, entity_number, procedure_number, UnitsFit, units, block_number, FractionFits, fraction, BlockFits, block_spelling, block_forms, block_read, block}
 use Rattle.gw_fields.proofs.OneOf.{AreFound, one_of_exact}
 use Rattle.gw_fields.proofs.Exact.{ReadsBack, ◌also◌, tag_reads_back, IsExactForm, AreExactForms, behind_exact, by_tag_exact, IsExact, byte_exact, wide16, wide32, wide64, number_exact, signed_exact, made_exact, both_exact, fitting_exact, ranged_exact, optional_exact}
 
@@ -21,6 +21,9 @@ use Rattle.gw_fields.proofs.Exact.{ReadsBack, ◌also◌, tag_reads_back, IsExac
 
 pub entity_number_exact : IsExact entity_number
 entity_number_exact = number_exact w16 wide16
+
+pub procedure_number_exact : IsExact procedure_number
+procedure_number_exact = number_exact w16 wide16
 
 pub parameter_number_exact : IsExact parameter_number
 parameter_number_exact = ranged_exact 1 most_parameters byte (λ n h. omega arith) byte_exact
@@ -48,6 +51,9 @@ entity_attributes_are_found StorageRemaining = refl
 entity_attributes_are_found QueueContent = refl
 entity_attributes_are_found SavevalueValue = refl
 entity_attributes_are_found SwitchSetting = refl
+entity_attributes_are_found VariableValue = refl
+entity_attributes_are_found BooleanValue = refl
+entity_attributes_are_found FunctionValue = refl
 entity_attributes_are_found BlockEntries = refl
 entity_attributes_are_found BlockCount = refl
 
@@ -64,6 +70,7 @@ operand_forms_exact =
     also behind_exact operand_spelling OperandFits 2 (λ a. Attribute a) attribute (λ a. refl) (λ a h. tt) attribute_exact
     also behind_exact operand_spelling OperandFits 3 (λ n. OfEntity n) numbered (λ n. refl) (λ n h. h) numbered_exact
     also behind_exact operand_spelling OperandFits 4 (λ s. Random s) stream_number (λ s. refl) (λ s h. h) stream_number_exact
+    also behind_exact operand_spelling OperandFits 5 (λ q. Procedure q) procedure_number (λ q. refl) (λ q h. h) procedure_number_exact
     also tt
 
 operand_reads_back : (x : Operand) → OperandFits x → ReadsBack operand_read (operand_spelling x) x
@@ -73,6 +80,7 @@ operand_reads_back (Parameter p) fits = tag_reads_back operand_forms 1 (λ p. Pa
 operand_reads_back (Attribute a) fits = tag_reads_back operand_forms 2 (λ a. Attribute a) attribute (λ _ _. refl) attribute_exact a tt
 operand_reads_back (OfEntity n) fits = tag_reads_back operand_forms 3 (λ n. OfEntity n) numbered (λ _ _. refl) numbered_exact n fits
 operand_reads_back (Random s) fits = tag_reads_back operand_forms 4 (λ s. Random s) stream_number (λ _ _. refl) stream_number_exact s fits
+operand_reads_back (Procedure q) fits = tag_reads_back operand_forms 5 (λ q. Procedure q) procedure_number (λ _ _. refl) procedure_number_exact q fits
 
 pub operand_exact : IsExact operand
 unfolding operand_read
@@ -181,12 +189,17 @@ save_exact = fitting_exact SaveFits _ (λ s h. record { savevalue = h.0; value =
 parameter_if_any_exact : IsExact (optional parameter_number)
 parameter_if_any_exact = optional_exact parameter_number parameter_number_exact
 
+pub plus_exact : IsExact plus
+unfolding plus
+plus_exact = fitting_exact PlusFits _ (λ a h. record { value = h.0; parameter = h.1 }) (λ a h. (h.value, h.parameter))
+    (made_exact _ _ _ (λ x h. refl) (λ a h. refl) (both_exact _ _ operand_exact parameter_if_any_exact))
+
 -- a kind of block whose operands are those of a field
 block_form_exact : {A : Type 0} (tag : ℕ) (make : A → Block) (f : Field A) → ((x : A) → tag ∷ f.spell x ≡ block_spelling (make x)) → ((x : A) → f.Fits x → BlockFits (make x)) → IsExact f → IsExactForm block_spelling BlockFits (behind tag make f)
 block_form_exact tag make f spelled fit exact = behind_exact block_spelling BlockFits tag make f spelled fit exact
 
 block_forms_exact : AreExactForms block_spelling BlockFits block_forms
-unfolding generate spread units fraction call assign test_operands gate countdown logic save
+unfolding generate spread units fraction call assign test_operands gate countdown logic save plus
 block_forms_exact =
     block_form_exact 1 (λ g. Generate g) generate (λ g. refl) (λ g h. h) generate_exact
     also block_form_exact 2 (λ n. Terminate n) operand (λ n. refl) (λ n h. h) operand_exact
@@ -208,10 +221,12 @@ block_forms_exact =
     also block_form_exact 22 (λ l. Logic l) logic (λ l. refl) (λ l h. h) logic_exact
     also block_form_exact 23 (λ s. Savevalue s) save (λ s. refl) (λ s h. h) save_exact
     also block_form_exact 24 (λ p. Mark p) (optional parameter_number) (λ p. refl) (λ p h. h) parameter_if_any_exact
+    also block_form_exact 27 (λ a. Plus a) plus (λ a. refl) (λ a h. h) plus_exact
+    also block_form_exact 28 (λ n. Tabulate n) entity_number (λ n. refl) (λ n h. h) entity_number_exact
     also tt
 
 block_reads_back : (b : Block) → BlockFits b → ReadsBack block_read (block_spelling b) b
-unfolding block_read generate spread units fraction call assign test_operands gate countdown logic save
+unfolding block_read generate spread units fraction call assign test_operands gate countdown logic save plus
 block_reads_back (Generate g) fits = tag_reads_back block_forms 1 (λ g. Generate g) generate (λ _ _. refl) generate_exact g fits
 block_reads_back (Terminate n) fits = tag_reads_back block_forms 2 (λ n. Terminate n) operand (λ _ _. refl) operand_exact n fits
 block_reads_back (Advance s) fits = tag_reads_back block_forms 3 (λ s. Advance s) spread (λ _ _. refl) spread_exact s fits
@@ -232,6 +247,8 @@ block_reads_back (Loop l) fits = tag_reads_back block_forms 17 (λ l. Loop l) co
 block_reads_back (Logic l) fits = tag_reads_back block_forms 22 (λ l. Logic l) logic (λ _ _. refl) logic_exact l fits
 block_reads_back (Savevalue s) fits = tag_reads_back block_forms 23 (λ s. Savevalue s) save (λ _ _. refl) save_exact s fits
 block_reads_back (Mark p) fits = tag_reads_back block_forms 24 (λ p. Mark p) (optional parameter_number) (λ _ _. refl) parameter_if_any_exact p fits
+block_reads_back (Plus a) fits = tag_reads_back block_forms 27 (λ a. Plus a) plus (λ _ _. refl) plus_exact a fits
+block_reads_back (Tabulate n) fits = tag_reads_back block_forms 28 (λ n. Tabulate n) entity_number (λ _ _. refl) entity_number_exact n fits
 
 pub block_exact : IsExact block
 unfolding block_read

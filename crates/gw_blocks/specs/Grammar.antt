@@ -5,10 +5,10 @@ use Rattle.gw_blocks.specs.Limits.{most_parameters, most_streams}
 use Rattle.gw_blocks.specs.declared.parts.Attribute.{Attribute as OwnAttribute}
 use Rattle.gw_blocks.specs.declared.parts.Attribute.TheVariants.{Clock, AbsoluteClock, Priority, TransitTime, TransactionNumber, TerminationCount}
 use Rattle.gw_blocks.specs.declared.parts.EntityAttribute.{EntityAttribute}
-use Rattle.gw_blocks.specs.declared.parts.EntityAttribute.TheVariants.{FacilityOwned, StorageContent, StorageRemaining, QueueContent, SavevalueValue, SwitchSetting, BlockEntries, BlockCount}
+use Rattle.gw_blocks.specs.declared.parts.EntityAttribute.TheVariants.{FacilityOwned, StorageContent, StorageRemaining, QueueContent, SavevalueValue, SwitchSetting, VariableValue, BooleanValue, FunctionValue, BlockEntries, BlockCount}
 use Rattle.gw_blocks.specs.declared.parts.Numbered.{Numbered}
 use Rattle.gw_blocks.specs.declared.parts.Operand.{Operand}
-use Rattle.gw_blocks.specs.declared.parts.Operand.TheVariants.{Constant, Parameter, Attribute, OfEntity, Random}
+use Rattle.gw_blocks.specs.declared.parts.Operand.TheVariants.{Constant, Parameter, Attribute, OfEntity, Random, Procedure}
 use Rattle.gw_blocks.specs.declared.parts.Spread.{Spread}
 use Rattle.gw_blocks.specs.declared.parts.Generate.{Generate as GenerateOperands}
 use Rattle.gw_blocks.specs.declared.parts.Block.{Block}
@@ -29,7 +29,8 @@ use Rattle.gw_blocks.specs.declared.parts.SwitchAction.{SwitchAction}
 use Rattle.gw_blocks.specs.declared.parts.SwitchAction.TheVariants.{Set as SetSwitch, Reset as ResetSwitch, Invert as InvertSwitch}
 use Rattle.gw_blocks.specs.declared.parts.Logic.{Logic as LogicOperands}
 use Rattle.gw_blocks.specs.declared.parts.Save.{Save}
-use Rattle.gw_blocks.specs.declared.parts.Block.TheVariants.{Generate, Terminate, Advance, Seize, Release, Enter, Leave, Queue, Depart, Assign, Test, Gate, Transfer, TransferByFraction, TransferToSubroutine, TransferByParameter, Loop, Logic, Savevalue, Mark}
+use Rattle.gw_blocks.specs.declared.parts.Plus.{Plus as PlusOperands}
+use Rattle.gw_blocks.specs.declared.parts.Block.TheVariants.{Generate, Terminate, Advance, Seize, Release, Enter, Leave, Queue, Depart, Assign, Test, Gate, Transfer, TransferByFraction, TransferToSubroutine, TransferByParameter, Loop, Logic, Savevalue, Mark, Plus, Tabulate}
 use Rattle.gw_fields.specs.Fields.{Read, Field, byte, number, signed, made, both, fitting, ranged, optional, Form, behind, by_tag, one_of}
 
 -- ---- numbers
@@ -41,6 +42,10 @@ entity_number = number w16
 -- a block's number
 abbrev pub block_number : Field ℕ
 block_number = number w16
+
+-- a procedure's number
+abbrev pub procedure_number : Field ℕ
+procedure_number = number w16
 
 -- a parameter's number
 abbrev pub parameter_number : Field ℕ
@@ -77,12 +82,15 @@ entity_attribute_byte StorageRemaining = 2
 entity_attribute_byte QueueContent = 3
 entity_attribute_byte SavevalueValue = 4
 entity_attribute_byte SwitchSetting = 5
+entity_attribute_byte VariableValue = 7
+entity_attribute_byte BooleanValue = 8
+entity_attribute_byte FunctionValue = 9
 entity_attribute_byte BlockEntries = 10
 entity_attribute_byte BlockCount = 11
 
 -- these attributes
 abbrev pub entity_attributes : List EntityAttribute
-entity_attributes = FacilityOwned ∷ StorageContent ∷ StorageRemaining ∷ QueueContent ∷ SavevalueValue ∷ SwitchSetting ∷ BlockEntries ∷ BlockCount ∷ []
+entity_attributes = FacilityOwned ∷ StorageContent ∷ StorageRemaining ∷ QueueContent ∷ SavevalueValue ∷ SwitchSetting ∷ VariableValue ∷ BooleanValue ∷ FunctionValue ∷ BlockEntries ∷ BlockCount ∷ []
 
 -- the number of the entity or the block fits
 abbrev pub NumberedFits : Numbered → Type 0
@@ -102,6 +110,7 @@ OperandFits (Parameter p) = parameter_number.Fits p
 OperandFits (Attribute a) = Unit {0}
 OperandFits (OfEntity n) = NumberedFits n
 OperandFits (Random s) = stream_number.Fits s
+OperandFits (Procedure q) = procedure_number.Fits q
 
 -- the tag, and the value behind it
 abbrev pub operand_spelling : Operand → List ℕ
@@ -110,6 +119,7 @@ operand_spelling (Parameter p) = 1 ∷ parameter_number.spell p
 operand_spelling (Attribute a) = 2 ∷ attribute.spell a
 operand_spelling (OfEntity n) = 3 ∷ numbered.spell n
 operand_spelling (Random s) = 4 ∷ stream_number.spell s
+operand_spelling (Procedure q) = 5 ∷ procedure_number.spell q
 
 -- the operands
 abbrev pub operand_forms : List (Form Operand)
@@ -119,6 +129,7 @@ operand_forms =
     ∷ behind 2 (λ a. Attribute a) attribute
     ∷ behind 3 (λ n. OfEntity n) numbered
     ∷ behind 4 (λ s. Random s) stream_number
+    ∷ behind 5 (λ q. Procedure q) procedure_number
     ∷ []
 
 -- by its tag; another tag is a fault
@@ -303,6 +314,15 @@ save = fitting SaveFits (made
     (λ s. (s.savevalue, (s.mode, s.value)))
     (both entity_number (both mode operand)))
 
+-- each operand fits
+pub record PlusFits (a : PlusOperands) : Type 0 where
+  pub value : OperandFits a.value
+  pub parameter : IfSome a.parameter parameter_number.Fits
+
+-- what is evaluated, and the parameter that takes it
+unfoldable pub plus : Field PlusOperands
+plus = fitting PlusFits (made (λ (value, parameter). record { value = value; parameter = parameter }) (λ a. (a.value, a.parameter)) (both operand (optional parameter_number)))
+
 -- the operands of a block fit
 abbrev pub BlockFits : Block → Type 0
 BlockFits (Generate g) = GenerateFits g
@@ -325,6 +345,8 @@ BlockFits (Loop l) = LoopFits l
 BlockFits (Logic l) = LogicFits l
 BlockFits (Savevalue s) = SaveFits s
 BlockFits (Mark parameter) = IfSome parameter parameter_number.Fits
+BlockFits (Plus a) = PlusFits a
+BlockFits (Tabulate table) = entity_number.Fits table
 
 -- the tag, and the operands behind it
 abbrev pub block_spelling : Block → List ℕ
@@ -348,6 +370,8 @@ block_spelling (Loop l) = 17 ∷ countdown.spell l
 block_spelling (Logic l) = 22 ∷ logic.spell l
 block_spelling (Savevalue s) = 23 ∷ save.spell s
 block_spelling (Mark parameter) = 24 ∷ (optional parameter_number).spell parameter
+block_spelling (Plus a) = 27 ∷ plus.spell a
+block_spelling (Tabulate table) = 28 ∷ entity_number.spell table
 
 -- the blocks
 abbrev pub block_forms : List (Form Block)
@@ -372,6 +396,8 @@ block_forms =
     ∷ behind 22 (λ l. Logic l) logic
     ∷ behind 23 (λ s. Savevalue s) save
     ∷ behind 24 (λ parameter. Mark parameter) (optional parameter_number)
+    ∷ behind 27 (λ a. Plus a) plus
+    ∷ behind 28 (λ table. Tabulate table) entity_number
     ∷ []
 
 -- by its tag; another tag is a fault

@@ -227,6 +227,14 @@ impl Spelled for Block {
                 out.push(24)?;
                 parameter.put(out)?;
             }
+            Block::Plus(plus) => {
+                out.push(27)?;
+                plus.put(out)?;
+            }
+            Block::Tabulate(table) => {
+                out.push(28)?;
+                table.put(out)?;
+            }
         }
         Ok(())
     }
@@ -253,6 +261,8 @@ impl Spelled for Block {
             Block::Logic(logic) => logic.room_after(room),
             Block::Savevalue(save) => save.room_after(room),
             Block::Mark(parameter) => parameter.room_after(room),
+            Block::Plus(plus) => plus.room_after(room),
+            Block::Tabulate(table) => table.room_after(room),
         }
     }
 
@@ -340,6 +350,14 @@ impl Spelled for Block {
                 let (parameter, rest) = read_parameter_if_any(alloc, rest)?;
                 Ok((Block::Mark(parameter), rest))
             }
+            27 => {
+                let (plus, rest) = Plus::read(alloc, rest)?;
+                Ok((Block::Plus(plus), rest))
+            }
+            28 => {
+                let (table, rest) = u16::read(alloc, rest)?;
+                Ok((Block::Tabulate(table), rest))
+            }
             _ => Err(fault(TAG, bytes)),
         }
     }
@@ -367,6 +385,7 @@ fn block_fits(block: Block) -> bool
         Block::Loop(counted) => is_parameter(counted.parameter),
         Block::Savevalue(save) => operand_fits(save.value),
         Block::Mark(parameter) => parameter.is_none_or(is_parameter),
+        Block::Plus(plus) => operand_fits(plus.value) && plus.parameter.is_none_or(is_parameter),
         _ => true,
     }
 }

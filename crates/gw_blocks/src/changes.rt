@@ -1,11 +1,12 @@
-//! The operands of the blocks that change parameters, logic switches and savevalues, in bytes.
+//! The operands of the blocks that change parameters, logic switches and savevalues, or evaluate a
+//! value, in bytes.
 
 ghost use Rattle.std.specs.Prelude.{◌≡◌};
-ghost use Rattle.gw_blocks.specs.Grammar.{mode_byte, modes, assign, countdown, action_byte, actions, logic, save};
+ghost use Rattle.gw_blocks.specs.Grammar.{mode_byte, modes, assign, countdown, action_byte, actions, logic, save, plus};
 ghost use Rattle.gw_fields.specs.Answers.{Gives};
 
 use crate::Memory;
-use crate::operands::read_parameter_number;
+use crate::operands::{read_parameter_if_any, read_parameter_number};
 use crate::parts::*;
 use gw_fields::{OneByte, ReadError, Spelled, read_one_of};
 use std::alloc::Global;
@@ -168,5 +169,30 @@ impl Spelled for Save {
             value,
         };
         Ok((save, rest))
+    }
+}
+
+impl Spelled for Plus {
+    ghost spelling = { plus.spell };
+
+    ghost reading = { plus.read };
+
+    #[tactic(auto, unfolding(crate::specs::Grammar::plus))]
+    fn put(&self, out: &mut Vec<u8>) -> Result<(), Memory> {
+        self.value.put(out)?;
+        self.parameter.put(out)
+    }
+
+    #[tactic(auto, unfolding(crate::specs::Grammar::plus))]
+    fn room_after(&self, room: usize) -> Option<usize> {
+        let room = self.value.room_after(room)?;
+        self.parameter.room_after(room)
+    }
+
+    #[tactic(auto, unfolding(crate::specs::Grammar::plus))]
+    fn read(alloc: Global, bytes: &[u8]) -> Result<(Plus, &[u8]), ReadError> {
+        let (value, rest) = Operand::read(alloc, bytes)?;
+        let (parameter, rest) = read_parameter_if_any(alloc, rest)?;
+        Ok((Plus { value, parameter }, rest))
     }
 }

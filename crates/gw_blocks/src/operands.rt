@@ -107,6 +107,9 @@ impl OneByte for EntityAttribute {
             EntityAttribute::QueueContent => 3,
             EntityAttribute::SavevalueValue => 4,
             EntityAttribute::SwitchSetting => 5,
+            EntityAttribute::VariableValue => 7,
+            EntityAttribute::BooleanValue => 8,
+            EntityAttribute::FunctionValue => 9,
             EntityAttribute::BlockEntries => 10,
             EntityAttribute::BlockCount => 11,
         }
@@ -120,6 +123,9 @@ impl OneByte for EntityAttribute {
             3 => Some(EntityAttribute::QueueContent),
             4 => Some(EntityAttribute::SavevalueValue),
             5 => Some(EntityAttribute::SwitchSetting),
+            7 => Some(EntityAttribute::VariableValue),
+            8 => Some(EntityAttribute::BooleanValue),
+            9 => Some(EntityAttribute::FunctionValue),
             10 => Some(EntityAttribute::BlockEntries),
             11 => Some(EntityAttribute::BlockCount),
             _ => None,
@@ -179,6 +185,10 @@ impl Spelled for Operand {
                 out.push(4)?;
                 stream.put(out)?;
             }
+            Operand::Procedure(procedure) => {
+                out.push(5)?;
+                procedure.put(out)?;
+            }
         }
         Ok(())
     }
@@ -190,6 +200,7 @@ impl Spelled for Operand {
             Operand::Parameter(number) | Operand::Random(number) => number.room_after(room),
             Operand::Attribute(_) => room.checked_sub(1),
             Operand::OfEntity(numbered) => numbered.room_after(room),
+            Operand::Procedure(procedure) => procedure.room_after(room),
         }
     }
 
@@ -217,6 +228,10 @@ impl Spelled for Operand {
                 let (stream, rest) = read_ranged_u8(alloc, rest, 1, MOST_STREAMS as u8)?;
                 Ok((Operand::Random(stream), rest))
             }
+            5 => {
+                let (procedure, rest) = u16::read(alloc, rest)?;
+                Ok((Operand::Procedure(procedure), rest))
+            }
             _ => Err(fault(TAG, bytes)),
         }
     }
@@ -227,7 +242,10 @@ pub fn operand_fits(operand: Operand) -> bool
     ensures { IsTrue result ↔ OperandFits operand }
 {
     match operand {
-        Operand::Constant(_) | Operand::Attribute(_) | Operand::OfEntity(_) => true,
+        Operand::Constant(_)
+        | Operand::Attribute(_)
+        | Operand::OfEntity(_)
+        | Operand::Procedure(_) => true,
         Operand::Parameter(number) => is_parameter(number),
         Operand::Random(stream) => is_stream(stream),
     }

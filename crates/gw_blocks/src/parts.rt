@@ -33,6 +33,12 @@ pub enum EntityAttribute {
     SavevalueValue,
     /// LS: 1 where the logic switch is set, else 0.
     SwitchSetting,
+    /// V: the value of a variable, which is that of its procedure.
+    VariableValue,
+    /// BV: 1 where the value of a boolean variable, which is that of its procedure, isn't 0, else 0.
+    BooleanValue,
+    /// FN: the value of a function at its argument.
+    FunctionValue,
     /// N: the entries of a block so far.
     BlockEntries,
     /// W: how many transactions have the block as their current one.
@@ -59,8 +65,11 @@ pub enum Operand {
     Attribute(Attribute),
     /// An attribute of an entity or a block.
     OfEntity(Numbered),
-    /// A number from 0 to 999, drawn from a stream, which is given by its number from 1 to 16.
+    /// RN: a number from 0 to 999, or to 999,999 as the argument of a function, drawn from a stream, which is given by its
+    /// number from 1 to 16.
     Random(u8),
+    /// The value of a procedure without arguments, by its number from 0.
+    Procedure(u16),
 }
 
 /// A random time in clock units: the mean, and how far it may lie to either side (half the range).
@@ -238,6 +247,15 @@ pub struct Save {
     pub value: Operand,
 }
 
+/// The operands of a PLUS block.
+#[derive(Clone, Copy, Debug, PartialEq, Eq)]
+pub struct Plus {
+    /// What is evaluated.
+    pub value: Operand,
+    /// The parameter that takes the value, by its number from 1 to 64; without one the value is dropped.
+    pub parameter: Option<u8>,
+}
+
 /// A block.
 #[derive(Clone, Copy, Debug, PartialEq, Eq)]
 pub enum Block {
@@ -284,4 +302,8 @@ pub enum Block {
     /// Transactions put the clock into a parameter, which is given by its number from 1 to 64; without one it becomes
     /// their mark time.
     Mark(Option<u8>),
+    /// Transactions evaluate a value, and may put it into a parameter of theirs.
+    Plus(Plus),
+    /// Transactions enter the argument of a table into it; the table is given by its entity's number from 0.
+    Tabulate(u16),
 }

@@ -6,6 +6,7 @@ use Rattle.std.specs.Prelude.{slice_get}
 use Rattle.gw_code.specs.declared.parts.Back.{Back as JumpBack}
 use Rattle.gw_code.specs.declared.parts.Instruction.{Instruction}
 use Rattle.gw_code.specs.declared.parts.Instruction.TheVariants.{Back}
+use Rattle.gw_object.specs.declared.parts.Entity.{Entity}
 use Rattle.gw_code_flow.specs.Code.{turns, turns_of, cost_of_instruction, cost_of_body, cost_of_code}
 use Rattle.gw_code_flow.specs.Meaning.{Taken, taken_at, take_once, Frame}
 
@@ -19,24 +20,24 @@ abbrev pub left_turns : List Instruction → Taken → ℕ
 left_turns code taken = turns_left taken 0 code
 
 -- the most instructions that an activation executes still: those from its place on, and the whole code for each jump back that is left
-abbrev pub potential : List ℕ → List Instruction → Frame → ℕ
-potential costs code f = cost_of_body costs (drop f.place code) + left_turns code f.taken * cost_of_body costs code
+abbrev pub potential : List Entity → List ℕ → List Instruction → Frame → ℕ
+potential es costs code f = cost_of_body es costs (drop f.place code) + left_turns code f.taken * cost_of_body es costs code
 
 -- THE COST OF WHAT COMES LATER
 
-pub cost_drop : (costs : List ℕ) (code : List Instruction) (k : ℕ) (i : Instruction) → slice_get code k ≡ Some i → cost_of_body costs (drop k code) ≡ cost_of_instruction costs i + cost_of_body costs (drop (suc k) code)
-cost_drop costs [] k i here = absurd (cc)
-cost_drop costs (j ∷ code) zero i here = let same : j ≡ i = cc in ap (λ x. cost_of_instruction costs x + cost_of_body costs code) same
-cost_drop costs (j ∷ code) (suc k) i here = cost_drop costs code k i here
+pub cost_drop : (es : List Entity) (costs : List ℕ) (code : List Instruction) (k : ℕ) (i : Instruction) → slice_get code k ≡ Some i → cost_of_body es costs (drop k code) ≡ cost_of_instruction es costs i + cost_of_body es costs (drop (suc k) code)
+cost_drop es costs [] k i here = absurd (cc)
+cost_drop es costs (j ∷ code) zero i here = let same : j ≡ i = cc in ap (λ x. cost_of_instruction es costs x + cost_of_body es costs code) same
+cost_drop es costs (j ∷ code) (suc k) i here = cost_drop es costs code k i here
 
-pub cost_later : (costs : List ℕ) (code : List Instruction) (k t : ℕ) → k ≤ t → cost_of_body costs (drop t code) ≤ cost_of_body costs (drop k code)
-cost_later costs [] k zero le = omega arith
-cost_later costs [] zero (suc t) le = omega arith
-cost_later costs [] (suc k) (suc t) le = omega arith
-cost_later costs (i ∷ code) zero zero le = omega arith
-cost_later costs (i ∷ code) (suc k) zero le = absurd (omega arith)
-cost_later costs (i ∷ code) zero (suc t) le = omega (arith, cost_later costs code zero t (omega arith))
-cost_later costs (i ∷ code) (suc k) (suc t) le = cost_later costs code k t (omega arith)
+pub cost_later : (es : List Entity) (costs : List ℕ) (code : List Instruction) (k t : ℕ) → k ≤ t → cost_of_body es costs (drop t code) ≤ cost_of_body es costs (drop k code)
+cost_later es costs [] k zero le = omega arith
+cost_later es costs [] zero (suc t) le = omega arith
+cost_later es costs [] (suc k) (suc t) le = omega arith
+cost_later es costs (i ∷ code) zero zero le = omega arith
+cost_later es costs (i ∷ code) (suc k) zero le = absurd (omega arith)
+cost_later es costs (i ∷ code) zero (suc t) le = omega (arith, cost_later es costs code zero t (omega arith))
+cost_later es costs (i ∷ code) (suc k) (suc t) le = cost_later es costs code k t (omega arith)
 
 -- A JUMP BACK IS TAKEN
 
@@ -89,11 +90,11 @@ all_left : (k : ℕ) (code : List Instruction) → turns_left [] k code ≡ turn
 all_left k [] = refl
 all_left k (i ∷ code) = omega (arith, all_left (k + 1) code)
 
-pub opened_left : (costs : List ℕ) (code : List Instruction) (f : Frame) → f.place ≡ 0 → f.taken ≡ [] → potential costs code f ≡ cost_of_code costs code
-opened_left costs code f first none =
-    let a = ap (λ k. cost_of_body costs (drop k code)) first in
+pub opened_left : (es : List Entity) (costs : List ℕ) (code : List Instruction) (f : Frame) → f.place ≡ 0 → f.taken ≡ [] → potential es costs code f ≡ cost_of_code es costs code
+opened_left es costs code f first none =
+    let a = ap (λ k. cost_of_body es costs (drop k code)) first in
     let b : left_turns code f.taken ≡ turns_of code = subst (λ (t : Taken). left_turns code t ≡ turns_of code) (sym none) (all_left 0 code) in
-    omega (arith, a, ap (λ x. x * cost_of_body costs code) b, whole (cost_of_body costs code) (turns_of code))
+    omega (arith, a, ap (λ x. x * cost_of_body es costs code) b, whole (cost_of_body es costs code) (turns_of code))
   where
     whole : (body all : ℕ) → body + all * body ≡ body * (1 + all)
     whole body all = grind arith

@@ -7,10 +7,10 @@ use Rattle.gw_num.specs.Table.{at, put}
 use Rattle.gw_num.proofs.Tables.{at-put, by_entry}
 use Rattle.gw_code.specs.declared.parts.Instruction.{Instruction}
 use Rattle.gw_code.specs.declared.parts.Procedure.{Procedure}
+use Rattle.gw_object.specs.declared.parts.Entity.{Entity}
 use Rattle.gw_object.specs.declared.parts.Parts.{Parts}
-use Rattle.gw_kinds.specs.Procedures.{procedure_in}
 use Rattle.gw_kinds.proofs.Each.{Hold, first_and_others, parts_hold}
-use Rattle.gw_code_flow.specs.Code.{procedure_at, most_values, takes, targets, leads_well, calls_lower, asks_for, is_among, turns_of, cost_of_called, cost_of_body, cost_of_code}
+use Rattle.gw_code_flow.specs.Code.{procedure_at, most_values, takes, targets, leads_well, called_in, calls_lower, asks_for, is_among, turns_of, cost_of_called, cost_of_body, cost_of_code}
 use Rattle.gw_code_flow.specs.PlusChecks.{Heights, agrees, known_height, height_after, spread, instruction_checks, code_checks, has_code, greatest_cost, procedure_checks, checks_from, plus_checks, PlusPasses, costs_from, costs_of}
 use Rattle.gw_code_flow.proofs.Steps.{Fine, Sound, Lead}
 
@@ -25,7 +25,7 @@ pub record Kept (p : Parts) (n : ℕ) (pr : Procedure) (heights : Heights) (k : 
   pub height : ℕ
   pub is : before ≡ Some height
   pub leads_well : leads_well (length pr.code) k i ≡ true
-  pub calls_lower : calls_lower n (procedure_in i) ≡ true
+  pub calls_lower : calls_lower n (called_in p.entities i) ≡ true
   pub needs : list_all (is_among pr.needs) (asks_for p i) ≡ true
   pub enough : takes p i ≤ height
   pub room : height_after p i height ≤ most_values
@@ -136,7 +136,7 @@ some_code (i ∷ code) has = omega arith
 -- a procedure passes, by the costs of those below
 pub record Accepted (p : Parts) (costs : List ℕ) (n : ℕ) (pr : Procedure) : Type 0 where
   pub sound : Sound p n pr
-  pub cost : cost_of_code costs pr.code ≤ greatest_cost
+  pub cost : cost_of_code p.entities costs pr.code ≤ greatest_cost
 
 accepted : (p : Parts) (costs : List ℕ) (n : ℕ) (pr : Procedure) → Hold (procedure_checks p costs n pr) → Accepted p costs n pr
 accepted p costs n pr hold =
@@ -158,9 +158,9 @@ same_called : (n : ℕ) (costs others : List ℕ) (called : Option ℕ) → call
 same_called n costs others None lower alike = refl
 same_called n costs others (Some q) lower alike = alike q (ltb-true q n lower)
 
-same_body : (n : ℕ) (costs others : List ℕ) (code : List Instruction) → ((k : ℕ) (i : Instruction) → slice_get code k ≡ Some i → calls_lower n (procedure_in i) ≡ true) → Alike n costs others → cost_of_body costs code ≡ cost_of_body others code
-same_body n costs others [] lower alike = refl
-same_body n costs others (i ∷ code) lower alike = omega (arith, same_called n costs others (procedure_in i) (lower 0 i refl) alike, same_body n costs others code (λ j. lower (suc j)) alike)
+same_body : (es : List Entity) (n : ℕ) (costs others : List ℕ) (code : List Instruction) → ((k : ℕ) (i : Instruction) → slice_get code k ≡ Some i → calls_lower n (called_in es i) ≡ true) → Alike n costs others → cost_of_body es costs code ≡ cost_of_body es others code
+same_body es n costs others [] lower alike = refl
+same_body es n costs others (i ∷ code) lower alike = omega (arith, same_called n costs others (called_in es i) (lower 0 i refl) alike, same_body es n costs others code (λ j. lower (suc j)) alike)
 
 at_front : (costs : List ℕ) (cost q : ℕ) → q < length costs → at 0 (costs ++ cost ∷ []) q ≡ at 0 costs q
 at_front [] cost q within = absurd (omega arith)
@@ -171,38 +171,38 @@ at_end : (costs : List ℕ) (cost : ℕ) → at 0 (costs ++ cost ∷ []) (length
 at_end [] cost = refl
 at_end (c ∷ costs) cost = at_end costs cost
 
-costs_keep : (costs : List ℕ) (prs : List Procedure) (q : ℕ) → q < length costs → at 0 (costs_from costs prs) q ≡ at 0 costs q
-costs_keep costs [] q within = refl
-costs_keep costs (pr ∷ prs) q within =
-    let cost = cost_of_code costs pr.code in
-    costs_keep (costs ++ cost ∷ []) prs q (omega (arith, length-append costs (cost ∷ []))) ∙ at_front costs cost q within
+costs_keep : (es : List Entity) (costs : List ℕ) (prs : List Procedure) (q : ℕ) → q < length costs → at 0 (costs_from es costs prs) q ≡ at 0 costs q
+costs_keep es costs [] q within = refl
+costs_keep es costs (pr ∷ prs) q within =
+    let cost = cost_of_code es costs pr.code in
+    costs_keep es (costs ++ cost ∷ []) prs q (omega (arith, length-append costs (cost ∷ []))) ∙ at_front costs cost q within
 
 -- a procedure among the others: its heights, and its cost
 pub record Checked (p : Parts) (costs : List ℕ) (n : ℕ) (pr : Procedure) : Type 0 where
   pub sound : Sound p n pr
-  pub cost : at 0 costs n ≡ cost_of_code costs pr.code
+  pub cost : at 0 costs n ≡ cost_of_code p.entities costs pr.code
 
-checked_one : (p : Parts) (costs : List ℕ) (pr : Procedure) (prs : List Procedure) → Accepted p costs (length costs) pr → Checked p (costs_from costs (pr ∷ prs)) (length costs) pr
+checked_one : (p : Parts) (costs : List ℕ) (pr : Procedure) (prs : List Procedure) → Accepted p costs (length costs) pr → Checked p (costs_from p.entities costs (pr ∷ prs)) (length costs) pr
 checked_one p costs pr prs a =
-    let cost = cost_of_code costs pr.code in
-    let all = costs_from costs (pr ∷ prs) in
+    let cost = cost_of_code p.entities costs pr.code in
+    let all = costs_from p.entities costs (pr ∷ prs) in
     let s = a.sound in
-    let same : cost_of_body costs pr.code ≡ cost_of_body all pr.code = same_body (length costs) costs all pr.code (λ k i here. (s.each k i here).calls_lower) (λ q below. sym (costs_keep costs (pr ∷ prs) q below)) in
+    let same : cost_of_body p.entities costs pr.code ≡ cost_of_body p.entities all pr.code = same_body p.entities (length costs) costs all pr.code (λ k i here. (s.each k i here).calls_lower) (λ q below. sym (costs_keep p.entities costs (pr ∷ prs) q below)) in
     record {
       sound = s;
-      cost = costs_keep (costs ++ cost ∷ []) prs (length costs) (omega (arith, length-append costs (cost ∷ []))) ∙ at_end costs cost ∙ ap (λ x. x * (1 + turns_of pr.code)) same;
+      cost = costs_keep p.entities (costs ++ cost ∷ []) prs (length costs) (omega (arith, length-append costs (cost ∷ []))) ∙ at_end costs cost ∙ ap (λ x. x * (1 + turns_of pr.code)) same;
     }
 
-checked_from : (p : Parts) (costs : List ℕ) (n : ℕ) (prs : List Procedure) → length costs ≡ n → Hold (checks_from p costs n prs) → (j m : ℕ) (pr : Procedure) → m ≡ n + j → slice_get prs j ≡ Some pr → Checked p (costs_from costs prs) m pr
+checked_from : (p : Parts) (costs : List ℕ) (n : ℕ) (prs : List Procedure) → length costs ≡ n → Hold (checks_from p costs n prs) → (j m : ℕ) (pr : Procedure) → m ≡ n + j → slice_get prs j ≡ Some pr → Checked p (costs_from p.entities costs prs) m pr
 checked_from p costs n [] count hold j m pr number there = absurd (cc)
 checked_from p costs n (x ∷ prs) count hold zero m pr number there =
     let a = accepted p costs n x (parts_hold (procedure_checks p costs n x) _ hold).0 in
     let same : x ≡ pr = cc in
     let first : length costs ≡ m = omega arith in
-    subst (λ (y : Procedure). Checked p (costs_from costs (x ∷ prs)) m y) same
-    (subst (λ (y : ℕ). Checked p (costs_from costs (x ∷ prs)) y x) first (checked_one p costs x prs (subst (λ (y : ℕ). Accepted p costs y x) (sym count) a)))
+    subst (λ (y : Procedure). Checked p (costs_from p.entities costs (x ∷ prs)) m y) same
+    (subst (λ (y : ℕ). Checked p (costs_from p.entities costs (x ∷ prs)) y x) first (checked_one p costs x prs (subst (λ (y : ℕ). Accepted p costs y x) (sym count) a)))
 checked_from p costs n (x ∷ prs) count hold (suc j) m pr number there =
-    let cost = cost_of_code costs x.code in
+    let cost = cost_of_code p.entities costs x.code in
     checked_from p (costs ++ cost ∷ []) (n + 1) prs (omega (arith, length-append costs (cost ∷ []))) (parts_hold (procedure_checks p costs n x) _ hold).1 j m pr (omega arith) there
 
 -- where code passes, the checks hold at each procedure

@@ -2,13 +2,14 @@
 use Rattle.std.specs.Prelude.{ℕ, ◌+◌, ◌*◌, List, [], ◌∷◌, Option, Some, None, Bool, true, false, ◌==◌, ◌||◌, ◌&&◌, nat_le, nat_lt, slice_get}
 use Rattle.std.specs.Option.{option_map_or}
 use Rattle.gw_num.specs.Table.{at}
-use Rattle.gw_code.specs.declared.parts.Sna.{Sna}
-use Rattle.gw_code.specs.declared.parts.Sna.TheVariants.{Parameter}
+use Rattle.gw_blocks.specs.declared.parts.Operand.{Operand}
+use Rattle.gw_blocks.specs.declared.parts.Operand.TheVariants as operands
 use Rattle.gw_code.specs.declared.parts.Instruction.{Instruction}
 use Rattle.gw_code.specs.declared.parts.Instruction.TheVariants.{Push, Get, Set, Value, Binary, Unary, Pop, Jump, JumpIfZero, Back, Call, Return}
 use Rattle.gw_code.specs.declared.parts.Procedure.{Procedure}
 use Rattle.gw_object.specs.declared.parts.Parts.{Parts}
-use Rattle.gw_kinds.specs.Procedures.{procedure_in}
+use Rattle.gw_object.specs.declared.parts.Entity.{Entity}
+use Rattle.gw_kinds.specs.Evaluated.{source_of, as_operand, procedure_named}
 
 -- the procedure of a number; procedures count from 0
 abbrev pub procedure_at : Parts → ℕ → Option Procedure
@@ -69,19 +70,30 @@ leads_well length k instruction = nat_lt (k + 1) length
 
 -- CALLS AND PARAMETERS
 
+-- the procedure that an instruction calls, if it does: by CALL, or for the attribute that it reads
+abbrev pub called_in : List Entity → Instruction → Option ℕ
+called_in es (Call q) = Some q
+called_in es (Value sna) = procedure_named (source_of es (as_operand sna))
+called_in es instruction = None
+
 -- whether the procedure that is called, if one is, is lower than the procedure n
 abbrev pub calls_lower : ℕ → Option ℕ → Bool
 calls_lower n None = true
 calls_lower n (Some q) = nat_lt q n
 
--- the parameter that an attribute reads, if it does
-abbrev pub parameter_read : Sna → List ℕ
-parameter_read (Parameter p) = p ∷ []
-parameter_read sna = []
+-- the parameters that have to be set for a source: the one that it reads, or those that the procedure that it calls needs
+abbrev pub asked_by_source : Parts → Operand → List ℕ
+asked_by_source p (operands.Parameter q) = q ∷ []
+asked_by_source p (operands.Procedure q) = needs_of (procedure_at p q)
+asked_by_source p operand = []
 
--- the parameters that have to be set for an instruction: the one that it reads, and those that the procedure that it calls needs
+-- and for an operand
+abbrev pub parameters_asked : Parts → Operand → List ℕ
+parameters_asked p o = asked_by_source p (source_of p.entities o)
+
+-- and for an instruction
 abbrev pub asks_for : Parts → Instruction → List ℕ
-asks_for p (Value sna) = parameter_read sna
+asks_for p (Value sna) = parameters_asked p (as_operand sna)
 asks_for p (Call q) = needs_of (procedure_at p q)
 asks_for p instruction = []
 
@@ -103,13 +115,13 @@ cost_of_called costs None = 0
 cost_of_called costs (Some q) = at 0 costs q
 
 -- an instruction costs 1, and what it calls
-abbrev pub cost_of_instruction : List ℕ → Instruction → ℕ
-cost_of_instruction costs i = 1 + cost_of_called costs (procedure_in i)
+abbrev pub cost_of_instruction : List Entity → List ℕ → Instruction → ℕ
+cost_of_instruction es costs i = 1 + cost_of_called costs (called_in es i)
 
 -- the sum of the costs of these instructions
-abbrev pub cost_of_body : List ℕ → List Instruction → ℕ
-cost_of_body costs [] = 0
-cost_of_body costs (i ∷ code) = cost_of_instruction costs i + cost_of_body costs code
+abbrev pub cost_of_body : List Entity → List ℕ → List Instruction → ℕ
+cost_of_body es costs [] = 0
+cost_of_body es costs (i ∷ code) = cost_of_instruction es costs i + cost_of_body es costs code
 
 -- how often these instructions may jump back in all
 abbrev pub turns_of : List Instruction → ℕ
@@ -117,5 +129,5 @@ turns_of [] = 0
 turns_of (i ∷ code) = turns i + turns_of code
 
 -- code costs the sum of its instructions, once and once more for each jump back
-abbrev pub cost_of_code : List ℕ → List Instruction → ℕ
-cost_of_code costs code = cost_of_body costs code * (1 + turns_of code)
+abbrev pub cost_of_code : List Entity → List ℕ → List Instruction → ℕ
+cost_of_code es costs code = cost_of_body es costs code * (1 + turns_of code)

@@ -1,7 +1,10 @@
+pub mod Asked
 pub mod Code
 pub mod Codes
 pub mod Environment
 pub mod Laws
+pub mod Made
 pub mod Meaning
 pub mod Names
+pub mod Outcome
 pub mod PlusChecks

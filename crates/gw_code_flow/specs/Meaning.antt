@@ -13,8 +13,13 @@ use Rattle.gw_code.specs.declared.parts.Procedure.{Procedure}
 use Rattle.gw_object.specs.declared.parts.Parts.{Parts}
 use Rattle.gw_code_flow.specs.declared.ends.PlusEnd.{PlusEnd}
 use Rattle.gw_code_flow.specs.declared.ends.PlusEnd.TheVariants.{Number, ZeroDivisor, LoopLimit}
-use Rattle.gw_code_flow.specs.Environment.{Environment, sna_value}
+use Rattle.gw_blocks.specs.declared.parts.Operand.{Operand}
+use Rattle.gw_blocks.specs.declared.parts.Operand.TheVariants as operands
+use Rattle.gw_code.specs.declared.parts.Sna.{Sna}
+use Rattle.gw_kinds.specs.Evaluated.{source_of, as_operand}
+use Rattle.gw_code_flow.specs.Environment.{Environment, kept_value}
 use Rattle.gw_code_flow.specs.Code.{most_values, procedure_at}
+use Rattle.gw_code_flow.specs.Made.{made}
 
 -- ACTIVATIONS
 
@@ -43,8 +48,8 @@ pub record Frame : Type 0 where
 pub data Next : Type 0 where
   -- it goes on from here
   Goes : (frame : Frame) → Next
-  -- it calls a procedure with these arguments, and goes on from the rest with its value
-  Calls : (procedure : ℕ) (arguments : List ℤ) (rest : Frame) → Next
+  -- it calls a procedure with these arguments, and goes on from the rest with what is made of its value
+  Calls : (procedure : ℕ) (arguments : List ℤ) (finish : ℤ → ℤ) (rest : Frame) → Next
   -- it returns this value
   Returns : (value : ℤ) → Next
   -- it ends the evaluation
@@ -83,7 +88,7 @@ calculated (Err fault) f = Ends (ended_by fault)
 abbrev pub calls_with : ℕ → ℕ → Frame → Next
 calls_with q n f =
     if nat_le n (length f.stack)
-    then Calls q (drop (length f.stack - n) f.stack) (record f { stack = take (length f.stack - n) f.stack })
+    then Calls q (drop (length f.stack - n) f.stack) (λ v. v) (record f { stack = take (length f.stack - n) f.stack })
     else Stuck
 
 -- EACH INSTRUCTION
@@ -132,12 +137,21 @@ calls p q f = given (procedure_at p q) (λ pr. calls_with q pr.arguments (on f))
 abbrev pub returns_top : Frame → Next
 returns_top f = popped f.stack (λ v rest. Returns v)
 
+-- VALUE of this source: what is kept comes onto the stack, and a procedure is called; nothing is drawn
+abbrev pub reads_source : Environment → Operand → (ℤ → ℤ) → Frame → Next
+reads_source env (operands.Procedure q) finish f = Calls q [] finish f
+reads_source env source finish f = given (kept_value env source) (λ v. pushed (finish v) f)
+
+-- VALUE
+abbrev pub reads : Parts → Environment → Sna → Frame → Next
+reads p env sna f = reads_source env (source_of p.entities (as_operand sna)) (made p.entities (as_operand sna)) (on f)
+
 -- what an instruction does
 unfoldable pub act : Parts → Environment → Instruction → Frame → Next
 act p env (Push v) f = pushed v (on f)
 act p env (Get local) f = gets local f
 act p env (Set local) f = sets local f
-act p env (Value sna) f = given (sna_value env sna) (λ v. pushed v (on f))
+act p env (Value sna) f = reads p env sna f
 act p env (Binary operator) f = does_binary operator f
 act p env (Unary operator) f = does_unary operator f
 act p env Pop f = pops f
@@ -167,8 +181,8 @@ pub data Derives (p : Parts) (env : Environment) : ℕ → Frame → ℕ → Res
   returns : {n : ℕ} {f : Frame} {v : ℤ} → next p env n f ≡ Returns v → Derives p env n f 1 (Ok v)
   ends : {n : ℕ} {f : Frame} {e : PlusEnd} → next p env n f ≡ Ends e → Derives p env n f 1 (Err e)
   goes : {n : ℕ} {f g : Frame} {k : ℕ} {r : Result ℤ PlusEnd} → next p env n f ≡ Goes g → Derives p env n g k r → Derives p env n f (suc k) r
-  call_ends : {n q : ℕ} {f g : Frame} {arguments : List ℤ} {m : ℕ} {e : PlusEnd} → next p env n f ≡ Calls q arguments g → Derives p env q (opening (procedure_at p q) arguments) m (Err e) → Derives p env n f (suc m) (Err e)
-  call_gives : {n q : ℕ} {f g h : Frame} {arguments : List ℤ} {m k : ℕ} {v : ℤ} {r : Result ℤ PlusEnd} → next p env n f ≡ Calls q arguments g → Derives p env q (opening (procedure_at p q) arguments) m (Ok v) → pushed v g ≡ Goes h → Derives p env n h k r → Derives p env n f (suc (m + k)) r
+  call_ends : {n q : ℕ} {f g : Frame} {arguments : List ℤ} {finish : ℤ → ℤ} {m : ℕ} {e : PlusEnd} → next p env n f ≡ Calls q arguments finish g → Derives p env q (opening (procedure_at p q) arguments) m (Err e) → Derives p env n f (suc m) (Err e)
+  call_gives : {n q : ℕ} {f g h : Frame} {arguments : List ℤ} {finish : ℤ → ℤ} {m k : ℕ} {v : ℤ} {r : Result ℤ PlusEnd} → next p env n f ≡ Calls q arguments finish g → Derives p env q (opening (procedure_at p q) arguments) m (Ok v) → pushed (finish v) g ≡ Goes h → Derives p env n h k r → Derives p env n f (suc (m + k)) r
 
 -- the value or the end of a procedure with these arguments
 abbrev pub Evaluates : Parts → Environment → ℕ → List ℤ → Result ℤ PlusEnd → Type 0

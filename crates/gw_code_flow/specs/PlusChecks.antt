@@ -5,11 +5,11 @@ use Rattle.gw_num.specs.Table.{at, put}
 use Rattle.gw_code.specs.declared.parts.Instruction.{Instruction}
 use Rattle.gw_code.specs.declared.parts.Procedure.{Procedure}
 use Rattle.gw_object.specs.declared.fault.Place.TheVariants as places
+use Rattle.gw_object.specs.declared.parts.Entity.{Entity}
 use Rattle.gw_object.specs.declared.parts.Parts.{Parts}
 use Rattle.gw_kinds.specs.Checks.{Check, check, first_broken}
-use Rattle.gw_kinds.specs.Procedures.{procedure_in}
 use Rattle.gw_code_flow.specs.Codes as codes
-use Rattle.gw_code_flow.specs.Code.{most_values, takes, leaves, targets, leads_well, calls_lower, asks_for, is_among, cost_of_code}
+use Rattle.gw_code_flow.specs.Code.{most_values, takes, leaves, targets, leads_well, called_in, calls_lower, asks_for, is_among, cost_of_code}
 
 -- HEIGHTS
 
@@ -51,7 +51,7 @@ abbrev pub instruction_checks : Parts → ℕ → Procedure → Heights → ℕ 
 instruction_checks p n pr heights k i None = check codes.stack_height (places.Code n k) false ∷ []
 instruction_checks p n pr heights k i (Some height) =
     check codes.bad_jump (places.Code n k) (leads_well (length pr.code) k i)
-    ∷ check codes.call_order (places.Code n k) (calls_lower n (procedure_in i))
+    ∷ check codes.call_order (places.Code n k) (calls_lower n (called_in p.entities i))
     ∷ check codes.needs_param (places.Code n k) (list_all (is_among pr.needs) (asks_for p i))
     ∷ check codes.stack_empty (places.Code n k) (nat_le (takes p i) height)
     ∷ check codes.stack_height (places.Code n k) (fits_ahead heights (height_after p i height) k i)
@@ -76,22 +76,22 @@ abbrev pub greatest_cost : ℕ
 greatest_cost = 1000000000
 
 -- of the code of the procedure n as a whole, by the costs of those below: it has an instruction (32), and isn't too costly (34)
-abbrev pub whole_checks : List ℕ → ℕ → List Instruction → List Check
-whole_checks costs n code =
+abbrev pub whole_checks : Parts → List ℕ → ℕ → List Instruction → List Check
+whole_checks p costs n code =
     check codes.bad_jump (places.Code n 0) (has_code code)
-    ∷ check codes.too_costly (places.Code n 0) (nat_le (cost_of_code costs code) greatest_cost)
+    ∷ check codes.too_costly (places.Code n 0) (nat_le (cost_of_code p.entities costs code) greatest_cost)
     ∷ []
 
 -- of the procedure n: its instructions, with an empty stack before the first; then its code as a whole
 abbrev pub procedure_checks : Parts → List ℕ → ℕ → Procedure → List Check
 procedure_checks p costs n pr =
     code_checks p n pr (Some 0 ∷ []) 0 pr.code
-    ++ whole_checks costs n pr.code
+    ++ whole_checks p costs n pr.code
 
 -- of the procedures from n on, in order
 abbrev pub checks_from : Parts → List ℕ → ℕ → List Procedure → List Check
 checks_from p costs n [] = []
-checks_from p costs n (pr ∷ prs) = procedure_checks p costs n pr ++ checks_from p (costs ++ cost_of_code costs pr.code ∷ []) (n + 1) prs
+checks_from p costs n (pr ∷ prs) = procedure_checks p costs n pr ++ checks_from p (costs ++ cost_of_code p.entities costs pr.code ∷ []) (n + 1) prs
 
 -- every check of PLUS code, in order
 unfoldable pub plus_checks : Parts → List Check
@@ -102,10 +102,10 @@ abbrev pub PlusPasses : Parts → Type 0
 PlusPasses p = first_broken (plus_checks p) ≡ None
 
 -- the costs of these procedures, behind those of the ones before
-abbrev pub costs_from : List ℕ → List Procedure → List ℕ
-costs_from costs [] = costs
-costs_from costs (pr ∷ prs) = costs_from (costs ++ cost_of_code costs pr.code ∷ []) prs
+abbrev pub costs_from : List Entity → List ℕ → List Procedure → List ℕ
+costs_from es costs [] = costs
+costs_from es costs (pr ∷ prs) = costs_from es (costs ++ cost_of_code es costs pr.code ∷ []) prs
 
 -- the cost of each procedure
 abbrev pub costs_of : Parts → List ℕ
-costs_of p = costs_from [] p.procedures
+costs_of p = costs_from p.entities [] p.procedures

@@ -10,7 +10,8 @@ ghost use Rattle.gw_code_flow.specs.PlusChecks as model;
 use crate::codes::*;
 use crate::costs::cost_of_code;
 use crate::heights::{Heights, fits_ahead, height_at, mark_ahead};
-use crate::instructions::{asks_for_needs, calls_lower, finds_values, height_after, leads_well};
+use crate::instructions::{called_in, calls_lower, finds_values, height_after, leads_well};
+use crate::parameters::asks_for_needs;
 use arrayvec::ArrayVec;
 use gw_code::{Instruction, MOST_INSTRUCTIONS, Procedure};
 use gw_kinds::check;
@@ -34,7 +35,8 @@ fn check_at_height(
     let place = Place::Code(number, position);
     let length = procedure.code.as_slice().len();
     check(BAD_JUMP, place, leads_well(length, position, instruction))?;
-    check(CALL_ORDER, place, calls_lower(number, instruction))?;
+    let called = called_in(parts.entities.as_slice(), instruction);
+    check(CALL_ORDER, place, calls_lower(number, called))?;
     let needs = procedure.needs.as_slice();
     check(
         NEEDS_PARAM,
@@ -110,14 +112,14 @@ fn has_code(code: &[Instruction]) -> bool
 
 /// The fault of the code of the procedure of a number as a whole, by the costs of those below, if there is one; else its
 /// cost.
-fn check_cost(costs: &[u32], number: u16, code: &[Instruction]) -> Result<u32, Fault>
+fn check_cost(parts: &Parts, costs: &[u32], number: u16, code: &[Instruction]) -> Result<u32, Fault>
     requires { length code.now ≤ 4096 }
-    ensures checks { Finds result (model.whole_checks costs.now number code.now) }
-    ensures cost { IfOk result (λ cost. cost ≡ cost_of_code costs.now code.now) }
+    ensures checks { Finds result (model.whole_checks parts.now costs.now number code.now) }
+    ensures cost { IfOk result (λ cost. cost ≡ cost_of_code parts.now.entities costs.now code.now) }
 {
     let place = Place::Code(number, 0);
     check(BAD_JUMP, place, has_code(code))?;
-    match cost_of_code(costs, code) {
+    match cost_of_code(parts.entities.as_slice(), costs, code) {
         Some(cost) => Ok(cost),
         None => Err(Fault {
             code: TOO_COSTLY,
@@ -135,10 +137,10 @@ fn check_procedure(
 ) -> Result<u32, Fault>
     requires { length procedure.now.code ≤ 4096 }
     ensures checks { Finds result (model.procedure_checks parts.now costs.now number procedure.now) }
-    ensures cost { IfOk result (λ cost. cost ≡ cost_of_code costs.now procedure.now.code) }
+    ensures cost { IfOk result (λ cost. cost ≡ cost_of_code parts.now.entities costs.now procedure.now.code) }
 {
     check_code(parts, number, procedure)?;
-    check_cost(costs, number, procedure.code.as_slice())
+    check_cost(parts, costs, number, procedure.code.as_slice())
 }
 
 /// The first fault of the procedures, if there is one: one after the other, each with the costs of those below.

@@ -5,13 +5,15 @@ ghost use Rattle.gw_num.specs.Table.{at};
 ghost use Rattle.gw_code_flow.specs.Code as model;
 ghost use Rattle.gw_code_flow.specs.PlusChecks.{greatest_cost};
 
+use crate::instructions::called_in;
 use gw_code::Instruction;
+use gw_object::Entity;
 
 /// The most that a procedure may cost, in instructions.
 const GREATEST_COST: u64 = 1_000_000_000;
 
 /// What the procedure of this number costs, by the costs of the first procedures; 0 where it is none of these.
-fn cost_of_called(costs: &[u32], procedure: u16) -> u32
+fn cost_at(costs: &[u32], procedure: u16) -> u32
     ensures { result ≡ at 0 costs.now procedure }
 {
     match costs.get(procedure as usize) {
@@ -20,15 +22,22 @@ fn cost_of_called(costs: &[u32], procedure: u16) -> u32
     }
 }
 
+/// What the procedure that is called, if one is, costs, by the costs of the procedures below.
+fn cost_of_called(costs: &[u32], called: Option<u16>) -> u32
+    ensures { result ≡ model.cost_of_called costs.now called }
+{
+    match called {
+        Some(procedure) => cost_at(costs, procedure),
+        None => 0,
+    }
+}
+
 /// What an instruction costs, by the costs of the procedures below: 1, and what it calls.
-fn cost_of_instruction(costs: &[u32], instruction: Instruction) -> u64
-    ensures value { result ≡ model.cost_of_instruction costs.now instruction }
+fn cost_of_instruction(entities: &[Entity], costs: &[u32], instruction: Instruction) -> u64
+    ensures value { result ≡ model.cost_of_instruction entities.now costs.now instruction }
     ensures bound { result ≤ 2 ^ 32 }
 {
-    match instruction {
-        Instruction::Call(procedure) => 1 + u64::from(cost_of_called(costs, procedure)),
-        _ => 1,
-    }
+    1 + u64::from(cost_of_called(costs, called_in(entities, instruction)))
 }
 
 /// How often an instruction may jump back.
@@ -43,15 +52,15 @@ fn turns(instruction: Instruction) -> u32
 
 /// What code costs, by the costs of the procedures below: the sum of its instructions, once and once more for each jump
 /// back; none where that is more than a procedure may cost.
-pub(crate) fn cost_of_code(costs: &[u32], code: &[Instruction]) -> Option<u32>
+pub(crate) fn cost_of_code(entities: &[Entity], costs: &[u32], code: &[Instruction]) -> Option<u32>
     requires { length code.now ≤ 4096 }
-    ensures none { IfNone result (greatest_cost < model.cost_of_code costs.now code.now) }
-    ensures some { IfSome result (λ cost. (cost ≡ model.cost_of_code costs.now code.now) × (cost ≤ greatest_cost)) }
+    ensures none { IfNone result (greatest_cost < model.cost_of_code entities.now costs.now code.now) }
+    ensures some { IfSome result (λ cost. (cost ≡ model.cost_of_code entities.now costs.now code.now) × (cost ≤ greatest_cost)) }
 {
     let mut body: u64 = 0;
     let mut back: u64 = 0;
     for instruction in code {
-        body += cost_of_instruction(costs, *instruction);
+        body += cost_of_instruction(entities, costs, *instruction);
         back += u64::from(turns(*instruction));
     }
     if body <= GREATEST_COST / (1 + back) {

@@ -2,16 +2,17 @@
 
 ghost use Rattle.std.specs.Prelude.{◌≡◌, ◌≤◌, nat_le};
 ghost use Rattle.std.specs.Option.{option_copied};
-ghost use Rattle.std.specs.List.{list_all};
-ghost use Rattle.gw_kinds.specs.Procedures.{procedure_in};
+ghost use Rattle.gw_kinds.specs.Evaluated.{procedure_named};
 ghost use Rattle.gw_code_flow.specs.Code as model;
 ghost use Rattle.gw_code_flow.specs.PlusChecks.{height_after};
 
-use gw_code::{Instruction, Procedure, Sna};
-use gw_object::Parts;
+use gw_blocks::Operand;
+use gw_code::{Instruction, Procedure};
+use gw_kinds::{as_operand, source_of};
+use gw_object::{Entity, Parts};
 
 /// The procedure of this number, if it is there.
-fn procedure_at(parts: &Parts, number: u16) -> Option<&Procedure>
+pub(crate) fn procedure_at(parts: &Parts, number: u16) -> Option<&Procedure>
     ensures { option_copied result ≡ model.procedure_at parts.now number }
 {
     parts.procedures.as_slice().get(number as usize)
@@ -88,48 +89,33 @@ pub(crate) fn leads_well(length: usize, position: u16, instruction: Instruction)
     }
 }
 
-/// Whether the procedure that an instruction calls, if it does, is lower than this one.
-pub(crate) fn calls_lower(procedure: u16, instruction: Instruction) -> bool
-    ensures { result ≡ model.calls_lower procedure (procedure_in instruction) }
+/// The procedure that an operand calls, if it is a call.
+fn procedure_named(operand: Operand) -> Option<u16>
+    ensures { result ≡ procedure_named operand }
 {
-    match instruction {
-        Instruction::Call(called) => called < procedure,
-        _ => true,
+    match operand {
+        Operand::Procedure(procedure) => Some(procedure),
+        _ => None,
     }
 }
 
-/// Whether a number is among these.
-fn is_among(numbers: &[u8], number: u8) -> bool
-    ensures { result ≡ model.is_among numbers.now number }
+/// The procedure that an instruction calls, if it does: by CALL, or for the attribute that it reads.
+pub(crate) fn called_in(entities: &[Entity], instruction: Instruction) -> Option<u16>
+    ensures { result ≡ model.called_in entities.now instruction }
 {
-    numbers.contains(&number)
+    match instruction {
+        Instruction::Call(procedure) => Some(procedure),
+        Instruction::Value(sna) => procedure_named(source_of(entities, as_operand(sna))),
+        _ => None,
+    }
 }
 
-/// Whether each of some numbers is among these.
-fn are_among(numbers: &[u8], some: &[u8]) -> bool
-    ensures { result ≡ list_all (model.is_among numbers.now) some.now }
+/// Whether the procedure that is called, if one is, is lower than this one.
+pub(crate) fn calls_lower(procedure: u16, called: Option<u16>) -> bool
+    ensures { result ≡ model.calls_lower procedure called }
 {
-    some.iter().all(|number| is_among(numbers, *number))
-}
-
-/// Whether the parameters that a procedure needs, if it is there, are among these.
-fn needs_no_more(procedure: Option<&Procedure>, needs: &[u8]) -> bool
-    ensures { result ≡ list_all (model.is_among needs.now) (model.needs_of (option_copied procedure.entry)) }
-{
-    match procedure {
-        Some(procedure) => are_among(needs, procedure.needs.as_slice()),
+    match called {
+        Some(called) => called < procedure,
         None => true,
-    }
-}
-
-/// Whether the parameters that have to be set for an instruction are among these: the one that it reads, and those that
-/// the procedure that it calls needs.
-pub(crate) fn asks_for_needs(parts: &Parts, needs: &[u8], instruction: Instruction) -> bool
-    ensures { result ≡ list_all (model.is_among needs.now) (model.asks_for parts.now instruction) }
-{
-    match instruction {
-        Instruction::Value(Sna::Parameter(parameter)) => is_among(needs, parameter),
-        Instruction::Call(procedure) => needs_no_more(procedure_at(parts, procedure), needs),
-        _ => true,
     }
 }

@@ -1,4 +1,5 @@
-//! PLUS code: what it does, which code can do it without getting stuck, and what it costs (docs/plus-code.md).
+//! PLUS code: what it does, which code can do it without getting stuck, and what it costs; and what operands that are
+//! evaluated by it ask for, and make of its values (docs/plus-code.md).
 #![tactic(auto)]
 
 mod check;
@@ -8,6 +9,10 @@ mod ends;
 mod heights;
 mod instructions;
 pub mod laws;
+mod parameters;
+mod sources;
 
 pub use check::check_plus;
 pub use ends::PlusEnd;
+pub use parameters::{Asked, parameters_asked};
+pub use sources::made;

@@ -33,3 +33,5 @@ attribute_of r SavevalueValue x = at (pos 0) r.savevalues x
 attribute_of r SwitchSetting l = truth_value (at false r.switches l)
 attribute_of r BlockEntries b = pos (r.entries b)
 attribute_of r BlockCount b = pos (r.here b)
+-- nothing is kept of variables and functions: what they come to is evaluated
+attribute_of r other n = pos 0

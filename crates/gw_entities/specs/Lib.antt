@@ -7,4 +7,5 @@ pub mod Queue
 pub mod Fits
 pub mod Laws
 pub mod Numbered
+pub mod Tabulation
 pub mod Table

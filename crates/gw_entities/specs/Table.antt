@@ -1,14 +1,15 @@
 -- What a contract sees of entities: tables by entity number, with an entry at the number of each entity of the object. The
 -- entry at the number of another kind of entity is that of one to which nothing happened.
-use Rattle.std.specs.Prelude.{ℕ, ◌+◌, ℤ, pos, Bool, false, List, map, Result, Ok, Err}
+use Rattle.std.specs.Prelude.{ℕ, ◌+◌, ℤ, pos, Bool, false, List, [], map, replicate, Result, Ok, Err}
 use Rattle.gw_num.specs.Table.{at, put}
 use Rattle.gw_object.specs.declared.parts.Entity.{Entity}
 use Rattle.gw_object.specs.declared.parts.Kind.{Kind}
-use Rattle.gw_object.specs.declared.parts.Kind.TheVariants.{Switch, Savevalue}
+use Rattle.gw_object.specs.declared.parts.Kind.TheVariants.{Switch, Savevalue, Table}
 use Rattle.gw_object.specs.Entities.{capacity_of}
 use Rattle.gw_entities.specs.declared.contents.Contents.{Contents}
 use Rattle.gw_entities.specs.declared.facilities.Facility.{Facility}
 use Rattle.gw_entities.specs.declared.storages.Storage.{Storage}
+use Rattle.gw_entities.specs.Tabulation.{Tabulation}
 use Rattle.gw_entities.specs.declared.stop.Stop.{Stop}
 use Rattle.gw_entities.specs.Contents.{empty, contents_after}
 use Rattle.gw_entities.specs.Facility.{idle, facility_after}
@@ -121,9 +122,37 @@ savevalue_at x savevalues = at (pos 0) savevalues x
 abbrev pub set_savevalue : ℕ → ℤ → List ℤ → List ℤ
 set_savevalue x value savevalues = put (pos 0) savevalues x value
 
+-- TABLES: what was entered into each
+
+-- no table: it has no class
+abbrev pub no_table : Tabulation
+no_table = record { limit = pos 0; width = 1; count = 0; sum = pos 0; classes = [] }
+
+-- what was entered into an entity at first, which is nothing
+abbrev pub nothing_entered : Kind → Tabulation
+nothing_entered (Table t) = record { limit = t.limit; width = t.width; count = 0; sum = pos 0; classes = replicate t.classes 0 }
+nothing_entered other = no_table
+
+-- the tables of an object with these entities, as they are at first
+abbrev pub tables_of : List Entity → List Tabulation
+tables_of entities = map (λ (e : Entity). nothing_entered e.kind) entities
+
+-- the table of a number
+abbrev pub table_at : ℕ → List Tabulation → Tabulation
+table_at t tables = at no_table tables t
+
+-- the tables with this one at a number, and every other one as it was
+abbrev pub set_table : ℕ → Tabulation → List Tabulation → List Tabulation
+set_table t table tables = put no_table tables t table
+
 -- ANSWERS
 
 -- an answer with what it leaves of the entity; an error stop stands alone
 abbrev pub with_left : {A T : Type 0} → Result A Stop → T → Result (A × T) Stop
 with_left (Ok answer) left = Ok (answer, left)
 with_left (Err stop) left = Err stop
+
+-- what is left of the entity where there is no other answer; a fault stands alone
+abbrev pub left_by : {T E : Type 0} → Result (Unit {0}) E → T → Result T E
+left_by (Ok done) left = Ok left
+left_by (Err fault) left = Err fault

@@ -80,7 +80,7 @@ impl Timed for Facility {
 
     ghost Fits = { FacilityFits };
 
-    fn fresh(_kind: Kind) -> Facility {
+    fn fresh(_kind: &Kind) -> Facility {
         Facility {
             owner: None,
             entries: 0,

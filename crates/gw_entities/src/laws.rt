@@ -10,6 +10,7 @@ ghost use Rattle.gw_entities.specs.Laws.{
   UnitsAreConserved,
   AveragesAreCut,
 };
+ghost use Rattle.gw_entities.specs.Tabulation.{ValuesBelongToTheirClass};
 
 /// A facility has one owner at most: only an idle one is seized, an owned one stays its owner's, and only its owner
 /// releases it.
@@ -36,4 +37,10 @@ pub fn units_are_conserved()
 #[tactic(auto, using(crate::proofs::Averages::averages_are_cut))]
 pub fn averages_are_cut()
     ensures { AveragesAreCut }
+{}
+
+/// A value is counted in the class between whose borders it lies: above that of the class before, and at most its own.
+#[tactic(auto, using(crate::proofs::Classes::values_belong_to_their_class))]
+pub fn values_belong_to_their_class()
+    ensures { ValuesBelongToTheirClass }
 {}

@@ -22,8 +22,8 @@ pub(crate) trait Timed: Copy {
     ghost Fits: { ℕ → Self → Type 0 };
 
     /// The value of an entity of this kind to which nothing happened.
-    fn fresh(kind: Kind) -> Self
-        ensures value { result ≡ fresh kind }
+    fn fresh(kind: &Kind) -> Self
+        ensures value { result ≡ fresh kind.now }
         ensures fits { Fits 0 result };
 
     /// Lets `dt` clock units pass.
@@ -94,7 +94,7 @@ impl<T: Timed> Numbered<T> {
         let mut kept = Vec::new(alloc);
         for entity in entities {
             kept.push(Kept {
-                value: T::fresh(entity.kind),
+                value: T::fresh(&entity.kind),
                 since: 0,
             })?;
         }

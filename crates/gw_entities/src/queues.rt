@@ -61,7 +61,7 @@ impl Timed for Contents {
 
     ghost Fits = { QueueFits };
 
-    fn fresh(_kind: Kind) -> Contents {
+    fn fresh(_kind: &Kind) -> Contents {
         Contents::empty()
     }
 

@@ -10,11 +10,11 @@ use std::alloc::Global;
 use std::marker::Model;
 
 /// The initial value of an entity; 0 where it is no savevalue.
-fn initial_value(kind: Kind) -> i64
-    ensures { result ≡ model.initial_value kind }
+fn initial_value(kind: &Kind) -> i64
+    ensures { result ≡ model.initial_value kind.now }
 {
     match kind {
-        Kind::Savevalue(value) => value,
+        Kind::Savevalue(value) => *value,
         _ => 0,
     }
 }
@@ -25,7 +25,7 @@ fn initial_values(alloc: Global, entities: &[Entity]) -> Result<Vec<i64>, Memory
 {
     entities
         .iter()
-        .map(|entity| initial_value(entity.kind))
+        .map(|entity| initial_value(&entity.kind))
         .collect(alloc)
 }
 

@@ -79,9 +79,9 @@ impl Timed for Storage {
 
     ghost Fits = { StorageFits };
 
-    fn fresh(kind: Kind) -> Storage {
+    fn fresh(kind: &Kind) -> Storage {
         let capacity = match kind {
-            Kind::Storage(capacity) => capacity,
+            Kind::Storage(capacity) => *capacity,
             _ => 0,
         };
         Storage {

@@ -10,11 +10,11 @@ use std::alloc::Global;
 use std::marker::Model;
 
 /// The initial setting of an entity; false where it is no logic switch.
-fn initial_setting(kind: Kind) -> bool
-    ensures { result ≡ model.initial_setting kind }
+fn initial_setting(kind: &Kind) -> bool
+    ensures { result ≡ model.initial_setting kind.now }
 {
     match kind {
-        Kind::Switch(set) => set,
+        Kind::Switch(set) => *set,
         _ => false,
     }
 }
@@ -25,7 +25,7 @@ fn initial_settings(alloc: Global, entities: &[Entity]) -> Result<Vec<bool>, Mem
 {
     entities
         .iter()
-        .map(|entity| initial_setting(entity.kind))
+        .map(|entity| initial_setting(&entity.kind))
         .collect(alloc)
 }
 

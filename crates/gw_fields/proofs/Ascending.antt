@@ -1,12 +1,13 @@
 -- Lists whose elements begin with keys that ascend, in an order of the keys.
 use Rattle.std.proofs.Common.{◌≡◌, ℕ, ◌-◌, ◌+◌, ◌<◌, suc, Bool, IsTrue, List, [], ◌∷◌, ◌++◌, length, get_or, slice_get, Option, Some, Decides, refl, sym, subst, append_assoc, arith, inl, inr}
-use Rattle.std.specs.Prelude.{nat_lt}
+use Rattle.std.specs.Prelude.{nat_lt, int_lt, ◌<ℤ◌}
 use Rattle.std.specs.List.{All, AllPairs}
 use Rattle.std.specs.Option.{option_map}
 use Rattle.std.proofs.Math.ListN.{get_or-append}
 use Rattle.std.proofs.Math.Seq.{get_or-append_seam}
 use Rattle.std.proofs.lemmas.Bool.{cases_lt}
 use Rattle.std.proofs.lemmas.Bool.Decides.{Decides-ltb}
+use Rattle.std.proofs.lemmas.Int.{ints}
 use Rattle.std.proofs.lemmas.List.{append-nil, length-append}
 use Rattle.std.proofs.lemmas.List.Quantifiers.{all_pairs_push}
 use Rattle.std.proofs.lemmas.Option.{slice_get-get_or}
@@ -24,6 +25,10 @@ pub record IsOrder {K : Type 0} (is_below : K → K → Bool) (Below : K → K �
 -- numbers by size
 pub nat_order : IsOrder nat_lt (λ a b. a < b)
 nat_order = record { decides = Decides-ltb; transitive = λ a b c ab bc. omega arith }
+
+-- signed numbers by size
+pub int_order : IsOrder int_lt (λ a b. a <ℤ b)
+int_order = record { decides = λ a b. (λ h. omega (arith, ints), λ h. grind (arith, ints)); transitive = λ a b c ab bc. omega (arith, ints) }
 
 -- ---- elements whose keys ascend
 

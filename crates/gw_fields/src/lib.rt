@@ -21,7 +21,8 @@ pub use lists::{
     room_after_listed,
 };
 pub use numbers::{
-    put_count, read_count, read_ranged_u8, read_ranged_u32, read_ranged_u64, room_after_count,
+    put_count, read_count, read_ranged_u8, read_ranged_u16, read_ranged_u32, read_ranged_u64,
+    room_after_count,
 };
 pub use spelled::Spelled;
 /// The answer where there was no memory.

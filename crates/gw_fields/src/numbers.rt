@@ -198,6 +198,22 @@ pub fn read_ranged_u8(
 }
 
 /// A number within two limits.
+pub fn read_ranged_u16(
+    alloc: Global,
+    bytes: &[u8],
+    least: u16,
+    most: u16,
+) -> Result<(u16, &[u8]), ReadError>
+    ensures { Gives (λ x. (x.0, x.1.now)) result ((ranged least most (number w16)).read bytes.now) }
+{
+    let (number, rest) = u16::read(alloc, bytes)?;
+    if number < least || most < number {
+        return Err(fault(LIMIT, bytes));
+    }
+    Ok((number, rest))
+}
+
+/// A number within two limits.
 pub fn read_ranged_u32(
     alloc: Global,
     bytes: &[u8],

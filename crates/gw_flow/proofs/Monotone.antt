@@ -9,7 +9,7 @@ use Rattle.gw_blocks.specs.declared.parts.Block.TheVariants as blocks
 use Rattle.gw_object.specs.declared.parts.Parts.{Parts}
 use Rattle.gw_kinds.specs.declared.ways.Exit.{Exit}
 use Rattle.gw_kinds.specs.Exits.{leads_to, exits, returns_to}
-use Rattle.gw_kinds.specs.Kinds.{values}
+use Rattle.gw_kinds.specs.Evaluated.{evaluated}
 use Rattle.gw_flow.specs.Codes as codes
 use Rattle.gw_flow.specs.Entries.{lists, with_number, without_number}
 use Rattle.gw_flow.specs.Rows.{Row, ParamKind, Num, Ret, kind_of, is_number, is_return, return_blocks, units_of, with_parameter, with_facility, without_facility, with_units, kind_fits, Fits}
@@ -154,6 +154,8 @@ passes_like p b (blocks.Loop l) state row h = record { rules_hold = λ _ hold. b
 passes_like p b (blocks.Logic l) state row h = record { rules_hold = λ _ hold. hold; after_fits = h }
 passes_like p b (blocks.Savevalue s) state row h = record { rules_hold = λ _ hold. hold; after_fits = h }
 passes_like p b (blocks.Mark p') state row h = record { rules_hold = λ _ hold. hold; after_fits = fits_set b (parameter_set (blocks.Mark p')) state row h }
+passes_like p b (blocks.Plus a) state row h = record { rules_hold = λ _ hold. hold; after_fits = fits_set b (parameter_set (blocks.Plus a)) state row h }
+passes_like p b (blocks.Tabulate t) state row h = record { rules_hold = λ _ hold. hold; after_fits = h }
 passes_like p b (blocks.TransferToSubroutine c) state row h = record { rules_hold = λ _ hold. hold; after_fits = fits_parameter c.parameter (Ret (b ∷ [])) state row h }
 passes_like p b (blocks.TransferByParameter q) state row h = record { rules_hold = λ _ hold. by_return q state row h hold; after_fits = h }
 passes_like p b (blocks.Test t) state row h = record { rules_hold = λ _ hold. hold; after_fits = h }
@@ -223,14 +225,16 @@ module _ (table : Table) where
   block_fits p b (blocks.Logic l) state row h later hold arrive = edges_fit b (exits (blocks.Logic l)) (after b (blocks.Logic l) state) (after b (blocks.Logic l) row) later arrive
   block_fits p b (blocks.Savevalue s) state row h later hold arrive = edges_fit b (exits (blocks.Savevalue s)) (after b (blocks.Savevalue s) state) (after b (blocks.Savevalue s) row) later arrive
   block_fits p b (blocks.Mark o) state row h later hold arrive = edges_fit b (exits (blocks.Mark o)) (after b (blocks.Mark o) state) (after b (blocks.Mark o) row) later arrive
+  block_fits p b (blocks.Plus a) state row h later hold arrive = edges_fit b (exits (blocks.Plus a)) (after b (blocks.Plus a) state) (after b (blocks.Plus a) row) later arrive
+  block_fits p b (blocks.Tabulate t) state row h later hold arrive = edges_fit b (exits (blocks.Tabulate t)) (after b (blocks.Tabulate t) state) (after b (blocks.Tabulate t) row) later arrive
 
 pub fitting_states_pass : FittingStatesPass
 fitting_states_pass p table b block state row isnt h pass =
     let like = passes_like p b block state row h in
-    let own = All-back Holds (value_rules block row) (own_rules p block row) pass.each_rule in
+    let own = All-back Holds (value_rules p block row) (own_rules p block row) pass.each_rule in
     record {
-      each_rule = All-append Holds (value_rules block state) (own_rules p block state)
-          (by_numbers (parameters_read (values block)) state row h (All-front Holds (value_rules block row) (own_rules p block row) pass.each_rule))
+      each_rule = All-append Holds (value_rules p block state) (own_rules p block state)
+          (by_numbers (parameters_read p (evaluated p.entities block)) state row h (All-front Holds (value_rules p block row) (own_rules p block row) pass.each_rule))
           (like.rules_hold isnt own);
       each_edge = block_fits table p b block state row h like.after_fits own pass.each_edge;
     }

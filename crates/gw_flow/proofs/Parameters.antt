@@ -1,20 +1,20 @@
 -- Parameters that a transaction is sure to have set, where it may pass a block and once it has passed it.
-use Rattle.std.proofs.Common.{◌≡◌, ◌≢◌, ⊎_elim, ℕ, ◌<◌, nat_lt, List, [], ◌∷◌, Option, Some, None, true, refl, sym, ap, subst, ◌∙◌, arith}
-use Rattle.std.specs.Prelude.{All, is_some, filter, filter_map}
-use Rattle.std.specs.List.{flat_map, fold, cons_option}
-use Rattle.std.proofs.lemmas.Bool.{cases_order, eq-eqb, ne_eqb, lt-ltb, le-ltb, false≢true}
+use Rattle.std.proofs.Common.{◌≡◌, ◌≢◌, ⊎_elim, ℕ, ◌<◌, nat_lt, List, [], ◌∷◌, get_or, Option, Some, None, true, refl, sym, subst, ◌∙◌, arith}
+use Rattle.std.specs.Prelude.{All, is_some, filter, ◌==◌}
+use Rattle.std.specs.List.{flat_map, fold}
+use Rattle.std.proofs.lemmas.Bool.{cases_order, eq-eqb, eqb-true, ne_eqb, lt-ltb, le-ltb, or_cases, false≢true}
 use Rattle.std.proofs.lemmas.List.Elements.{All-nil, All-cons, All-head, All-tail}
 use Rattle.gw_blocks.specs.declared.parts.Operand.{Operand}
-use Rattle.gw_blocks.specs.declared.parts.Operand.TheVariants as forms
 use Rattle.gw_blocks.specs.declared.parts.Loop.{Loop}
 use Rattle.gw_blocks.specs.declared.parts.Block.{Block}
 use Rattle.gw_blocks.specs.declared.parts.Block.TheVariants as blocks
 use Rattle.gw_object.specs.declared.parts.Parts.{Parts}
-use Rattle.gw_kinds.specs.Kinds.{values}
+use Rattle.gw_kinds.specs.Evaluated.{evaluated}
+use Rattle.gw_code_flow.specs.Code.{parameters_asked, is_among}
 use Rattle.gw_flow.specs.Codes as codes
 use Rattle.gw_flow.specs.Entries.{with_number}
 use Rattle.gw_flow.specs.Rows.{Row, ParamKind, Num, Ret, kind_of, is_number, is_return, with_parameter}
-use Rattle.gw_flow.specs.Blocks.{Table, Rule, rule, number_rules, parameter_of, parameters_read, value_rules, own_rules, parameter_set, with_setting, after}
+use Rattle.gw_flow.specs.Blocks.{Table, Rule, rule, number_rules, parameters_read, value_rules, own_rules, parameter_set, with_setting, after}
 use Rattle.gw_flow.specs.Laws.{MayPass}
 use Rattle.gw_flow.proofs.Entries.{entry-with_entry}
 use Rattle.gw_flow.proofs.EachBlock.{All-front, All-back}
@@ -51,6 +51,8 @@ after_params b (blocks.Loop l) row = refl
 after_params b (blocks.Logic l) row = refl
 after_params b (blocks.Savevalue s) row = refl
 after_params b (blocks.Mark p) row = refl
+after_params b (blocks.Plus a) row = refl
+after_params b (blocks.Tabulate t) row = refl
 
 -- WHERE A BLOCK MAY BE PASSED
 
@@ -116,30 +118,47 @@ module _ (row : Row) where
       let now = placed n all later.0 in
       (now.1, All-cons IsNumber n ns now.0 later.1)
 
-  optional : (r : Option ℕ) (ps : List ℕ) → All IsNumber (cons_option r ps) → ((q : ℕ) → r ≡ Some q → IsNumber q) × All IsNumber ps
-  optional None ps h = (λ q none. absurd (cc), h)
-  optional (Some p) ps h = (λ q is. let same : p ≡ q = cc in subst IsNumber same (All-head IsNumber p ps h), All-tail IsNumber p ps h)
+  -- what holds of all holds of one that is among them
+  of_one : (ps : List ℕ) → All IsNumber ps → (q : ℕ) → is_among ps q ≡ true → IsNumber q
+  of_one [] h q among = absurd (false≢true among)
+  of_one (p ∷ ps) h q among =
+      ⊎_elim
+      (λ (here : (q == p) ≡ true). subst IsNumber (sym (eqb-true q p here)) (All-head IsNumber p ps h))
+      (λ (there : is_among ps q ≡ true). of_one ps (All-tail IsNumber p ps h) q there)
+      (or_cases (q == p) (is_among ps q) among)
 
-  -- the parameter that an operand reads, if it does, holds a number
-  abbrev Reads : Operand → Type 0
-  Reads operand = (q : ℕ) → operand ≡ forms.Parameter q → IsNumber q
+  -- of each of these operands: each parameter that it asks for holds a number
+  by_operand : (p : Parts) (os : List Operand) → All IsNumber (flat_map (parameters_asked p) os) → All (λ o. All IsNumber (parameters_asked p o)) os
+  by_operand p [] h = All-nil (λ o. All IsNumber (parameters_asked p o))
+  by_operand p (o ∷ os) h =
+      let later = flat_map (parameters_asked p) os in
+      All-cons (λ o. All IsNumber (parameters_asked p o)) o os (All-front IsNumber (parameters_asked p o) later h) (by_operand p os (All-back IsNumber (parameters_asked p o) later h))
 
-  by_operand : (os : List Operand) → All IsNumber (filter_map parameter_of os) → All Reads os
-  by_operand [] h = All-nil Reads
-  by_operand (o ∷ os) h =
-      let p = optional (parameter_of o) (filter_map parameter_of os) h in
-      All-cons Reads o os (λ q is. p.0 q (ap parameter_of is)) (by_operand os p.1)
+  -- where no parameter is known to be set, those that are numbers are none
+  no_numbers : (ps : List ℕ) → ((q : ℕ) → kind_of row q ≡ None) → All IsNumber ps → ps ≡ []
+  no_numbers [] none h = refl
+  no_numbers (p ∷ ps) none h = let never : None ≡ Some Num = sym (none p) ∙ All-head IsNumber p ps h in absurd cc
 
 module _ (p : Parts) (table : Table) (b : ℕ) where
   -- the block's own rules hold
   pub own_rules_hold : (block : Block) (row : Row) → MayPass p table b block row → All (λ (rule : Rule). rule.holds ≡ true) (own_rules p block row)
-  own_rules_hold block row h = All-back Holds (value_rules block row) (own_rules p block row) h.each_rule
+  own_rules_hold block row h = All-back Holds (value_rules p block row) (own_rules p block row) h.each_rule
 
-  -- each parameter that its values read is sure to hold a number
-  pub values_are_numbers : (block : Block) (row : Row) → MayPass p table b block row → All (λ (operand : Operand). (q : ℕ) → operand ≡ forms.Parameter q → kind_of row q ≡ Some Num) (values block)
-  values_are_numbers block row h =
-      let each = by_each row (parameters_read (values block)) (All-front Holds (value_rules block row) (own_rules p block row) h.each_rule) in
-      by_operand row (values block) (in_any_order row [] (filter_map parameter_of (values block)) each).1
+  -- each parameter that an operand asks for which is evaluated there is sure to hold a number
+  each_is_number : (block : Block) (row : Row) → MayPass p table b block row → All (λ (o : Operand). All (IsNumber row) (parameters_asked p o)) (evaluated p.entities block)
+  each_is_number block row h =
+      let os = evaluated p.entities block in
+      let each = by_each row (parameters_read p os) (All-front Holds (value_rules p block row) (own_rules p block row) h.each_rule) in
+      by_operand row p os (in_any_order row [] (flat_map (parameters_asked p) os) each).1
+
+  -- the same of a parameter that is among them
+  pub values_are_numbers : (block : Block) (row : Row) → MayPass p table b block row →
+      All (λ (o : Operand). (q : ℕ) → is_among (parameters_asked p o) q ≡ true → kind_of row q ≡ Some Num) (evaluated p.entities block)
+  values_are_numbers block row h i d within = of_one row (parameters_asked p (get_or (evaluated p.entities block) i d)) (each_is_number block row h i d within)
+
+  -- where no parameter is known to be set, as at a GENERATE, those operands ask for none
+  pub asks_for_none : (block : Block) (row : Row) → MayPass p table b block row → ((q : ℕ) → kind_of row q ≡ None) → All (λ (o : Operand). parameters_asked p o ≡ []) (evaluated p.entities block)
+  asks_for_none block row h none i d within = no_numbers row (parameters_asked p (get_or (evaluated p.entities block) i d)) none (each_is_number block row h i d within)
 
   -- what a LOOP counts down is sure to be a number
   pub loop_is_number : (l : Loop) (row : Row) → MayPass p table b (blocks.Loop l) row → kind_of row l.parameter ≡ Some Num

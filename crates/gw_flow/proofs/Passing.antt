@@ -23,8 +23,8 @@ row_decided state None = (λ h. false≢true h, λ h. absurd h)
 row_decided state (Some row) = fits_is_decided state row
 
 -- what a block without a row asks, if it is a GENERATE
-abbrev rules_if : Block → Bool → List Rule
-rules_if block g = if g then value_rules block nothing_known ++ rule codes.edge_state false ∷ [] else []
+abbrev rules_if : Parts → Block → Bool → List Rule
+rules_if p block g = if g then value_rules p block nothing_known ++ rule codes.edge_state false ∷ [] else []
 
 module _ (p : Parts) (table : Table) where
   -- what is decided of an edge: where it leads there is a row that its state fits
@@ -47,13 +47,13 @@ module _ (p : Parts) (table : Table) where
       hold_together (rule_checks p b block row) (edge_checks p table b block row) ((rules_decided b block row).1 h.each_rule) ((edges_decided b block row).1 h.each_edge)
 
   -- the checks of a block without a row hold exactly where it is no GENERATE
-  without_row : (b : ℕ) (block : Block) (g : Bool) → (g ≡ true → false ≡ true) → Hold (map (rule_check b) (rules_if block g))
+  without_row : (b : ℕ) (block : Block) (g : Bool) → (g ≡ true → false ≡ true) → Hold (map (rule_check b) (rules_if p block g))
   without_row b block true own = absurd (false≢true (own refl))
   without_row b block false own = refl
 
-  lacks_row : (b : ℕ) (block : Block) (g : Bool) → Hold (map (rule_check b) (rules_if block g)) → g ≡ true → false ≡ true
+  lacks_row : (b : ℕ) (block : Block) (g : Bool) → Hold (map (rule_check b) (rules_if p block g)) → g ≡ true → false ≡ true
   lacks_row b block true h is =
-      let values = value_rules block nothing_known in
+      let values = value_rules p block nothing_known in
       let parts = parts_hold (map (rule_check b) values) (map (rule_check b) (rule codes.edge_state false ∷ [])) (sym (ap first_broken (map-append (rule_check b) values (rule codes.edge_state false ∷ []))) ∙ h) in
       absurd (cc)
   lacks_row b block false h is = is

@@ -1,19 +1,21 @@
 -- The least unfit parameter decides what a test of all that are read finds.
-use Rattle.std.proofs.Common.{◌≡◌, ⊎_elim, ℕ, ◌<◌, List, [], ◌∷◌, ◌++◌, map, Option, Some, None, Bool, true, false, cond, if◌then◌else◌, nat_lt, not, refl, sym, ap, subst, ◌∙◌, arith}
-use Rattle.std.specs.Prelude.{All, AllPairs, is_some, filter, filter_map}
-use Rattle.std.specs.List.{find, fold, flat_map, cons_option}
+use Rattle.std.proofs.Common.{◌≡◌, ⊎_elim, ℕ, ◌+◌, ◌<◌, List, [], ◌∷◌, ◌++◌, length, map, take, get_or, Option, Some, None, Bool, true, false, cond, if◌then◌else◌, nat_lt, not, refl, sym, ap, subst, ◌∙◌, arith}
+use Rattle.std.specs.Prelude.{All, AllPairs, is_some, filter}
+use Rattle.std.specs.List.{find, fold, flat_map}
 use Rattle.std.proofs.lemmas.Bool.{cases_order, lt-ltb, le-ltb, le-leb, lt-leb}
-use Rattle.std.proofs.lemmas.List.{append-nil}
-use Rattle.std.proofs.lemmas.List.Sums.{fold_push}
-use Rattle.std.proofs.lemmas.List.Elements.{All-nil, All-cons, All-head, All-tail, filter_map-append}
+use Rattle.std.proofs.lemmas.List.{flat_map_more, take_more}
+use Rattle.std.proofs.lemmas.List.Sums.{fold-append}
+use Rattle.std.proofs.lemmas.List.Elements.{All-nil, All-cons, All-head, All-tail}
 use Rattle.gw_object.specs.declared.fault.Fault.{Fault}
 use Rattle.gw_blocks.specs.declared.parts.Operand.{Operand}
+use Rattle.gw_object.specs.declared.parts.Parts.{Parts}
 use Rattle.gw_kinds.specs.Checks.{first_broken}
+use Rattle.gw_code_flow.specs.Code.{parameters_asked}
 use Rattle.gw_flow.specs.Entries.{with_number, in_order}
 use Rattle.gw_flow.specs.Rows.{Row, ParamKind, Num, Ret, kind_of, is_number}
-use Rattle.gw_flow.specs.Blocks.{number_rules, parameter_of, parameters_read}
+use Rattle.gw_flow.specs.Blocks.{number_rules, parameters_read}
 use Rattle.gw_flow.specs.Flow.{rule_check}
-use Rattle.gw_flow.specs.Unfit.{is_unfit, lower, lowered}
+use Rattle.gw_flow.specs.Unfit.{is_unfit, lower, lowest}
 use Rattle.gw_flow.proofs.Ascending.{AllPairs-head, AllPairs-tail}
 use Rattle.gw_flow.proofs.Ordered.{with_number_ascends}
 
@@ -91,26 +93,28 @@ module _ (bad : ℕ → Bool) where
 
 -- WHAT IS READ
 
--- parameters in order with one more, if there is one
-abbrev with_read : Option ℕ → List ℕ → List ℕ
-with_read None ps = ps
-with_read (Some p) ps = with_number p ps
-
-one_more : (r : Option ℕ) (ps : List ℕ) → in_order (ps ++ cons_option r []) ≡ with_read r (in_order ps)
-one_more None ps = ap in_order (append-nil ps)
-one_more (Some p) ps = fold_push (λ all n. with_number n all) [] ps p
-
 module _ (state : Row) where
-  find_with : (r : Option ℕ) (ps : List ℕ) → AllPairs (λ a b. a < b) ps → find (is_unfit state) (with_read r ps) ≡ lowered state r (find (is_unfit state) ps)
-  find_with None ps up = refl
-  find_with (Some p) ps up = find-placed (is_unfit state) p ps up
+  -- the least unfit parameter once others are in their places too
+  find_with : (ps all : List ℕ) → AllPairs (λ a b. a < b) all → find (is_unfit state) (fold (λ ms n. with_number n ms) all ps) ≡ lowest state (find (is_unfit state) all) ps
+  find_with [] all up = refl
+  find_with (p ∷ ps) all up = find_with ps (with_number p all) (with_number_ascends p all up) ∙ ap (λ least. lowest state least ps) (find-placed (is_unfit state) p all up)
 
   -- the least unfit parameter once one more operand is read
-  pub lowered_by : (os : List Operand) (o : Operand) → find (is_unfit state) (parameters_read (os ++ o ∷ [])) ≡ lowered state (parameter_of o) (find (is_unfit state) (parameters_read os))
-  lowered_by os o =
-      ap (λ ps. find (is_unfit state) (in_order ps)) (filter_map-append parameter_of os (o ∷ []))
-      ∙ ap (find (is_unfit state)) (one_more (parameter_of o) (filter_map parameter_of os))
-      ∙ find_with (parameter_of o) (parameters_read os) (in_order_ascends (filter_map parameter_of os))
+  lowered_by : (p : Parts) (os : List Operand) (o : Operand) → find (is_unfit state) (parameters_read p (os ++ o ∷ [])) ≡ lowest state (find (is_unfit state) (parameters_read p os)) (parameters_asked p o)
+  lowered_by p os o =
+      let asked = flat_map (parameters_asked p) os in
+      ap (λ ps. find (is_unfit state) (in_order ps)) (sym (flat_map_more (parameters_asked p) [] os o))
+      ∙ ap (find (is_unfit state)) (fold-append (λ ms n. with_number n ms) [] asked (parameters_asked p o))
+      ∙ find_with (parameters_asked p o) (in_order asked) (in_order_ascends asked)
+
+  -- the least so far is that of the operands so far once it is lowered to what the next one asks for
+  pub lowered_so_far : (p : Parts) (os : List Operand) (i : ℕ) (d : Operand) → i < length os → (so_far least : Option ℕ) →
+      so_far ≡ find (is_unfit state) (parameters_read p (take i os)) → least ≡ lowest state so_far (parameters_asked p (get_or os i d)) → least ≡ find (is_unfit state) (parameters_read p (take (i + 1) os))
+  lowered_so_far p os i d within so_far least before is =
+      is
+      ∙ ap (λ so_far. lowest state so_far (parameters_asked p (get_or os i d))) before
+      ∙ sym (lowered_by p (take i os) (get_or os i d))
+      ∙ ap (λ xs. find (is_unfit state) (parameters_read p xs)) (sym (take_more os i d within))
 
   module _ (number : ℕ) where
     -- what the rules of a parameter find, if there is one

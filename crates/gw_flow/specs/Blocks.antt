@@ -1,5 +1,5 @@
 -- Blocks: what each asks of a transaction that enters it, and what is known of the transaction where it goes on.
-use Rattle.std.specs.Prelude.{ℕ, ◌+◌, ◌-◌, List, [], ◌∷◌, ◌++◌, map, filter_map, length, Option, Some, None, is_some, Bool, true, false, if◌then◌else◌, not, ◌||◌, ◌==◌, nat_le}
+use Rattle.std.specs.Prelude.{ℕ, ◌+◌, ◌-◌, List, [], ◌∷◌, ◌++◌, map, length, Option, Some, None, is_some, Bool, true, false, if◌then◌else◌, not, ◌||◌, ◌==◌, nat_le}
 use Rattle.std.specs.List.{flat_map}
 use Rattle.std.specs.Option.{option_map, option_map_or}
 use Rattle.gw_object.specs.Entities.{capacity_of}
@@ -7,13 +7,14 @@ use Rattle.gw_object.specs.declared.parts.Entity.{Entity}
 use Rattle.gw_blocks.specs.declared.parts.Mode.{Mode}
 use Rattle.gw_blocks.specs.declared.parts.Mode.TheVariants.{Set, Add, Subtract}
 use Rattle.gw_blocks.specs.declared.parts.Operand.{Operand}
-use Rattle.gw_blocks.specs.declared.parts.Operand.TheVariants as forms
 use Rattle.gw_blocks.specs.declared.parts.Block.{Block}
 use Rattle.gw_blocks.specs.declared.parts.Block.TheVariants as blocks
 use Rattle.gw_object.specs.declared.parts.Parts.{Parts}
 use Rattle.gw_kinds.specs.declared.ways.Exit.{Exit}
 use Rattle.gw_kinds.specs.Exits.{leads_to, exits_with}
-use Rattle.gw_kinds.specs.Kinds.{kind_at, is_generate, values}
+use Rattle.gw_kinds.specs.Evaluated.{kind_at, evaluated}
+use Rattle.gw_kinds.specs.Kinds.{is_generate}
+use Rattle.gw_code_flow.specs.Code.{parameters_asked}
 use Rattle.gw_flow.specs.declared.edges.Target.{Target}
 use Rattle.gw_flow.specs.declared.edges.Target.TheVariants as targets
 use Rattle.gw_flow.specs.declared.edges.FlowEdge.{FlowEdge}
@@ -51,18 +52,13 @@ holds_units state e n = rule codes.too_few_units (nat_le n (units_of state e))
 abbrev pub number_rules : Row → ℕ → List Rule
 number_rules state p = rule codes.unset_param (is_some (kind_of state p)) ∷ rule codes.param_kind (is_number (kind_of state p)) ∷ []
 
--- the parameter that an operand reads, if it reads one
-abbrev pub parameter_of : Operand → Option ℕ
-parameter_of (forms.Parameter p) = Some p
-parameter_of operand = None
+-- the parameters that operands ask for, through procedures, variables and functions too, ascending, each once
+abbrev pub parameters_read : Parts → List Operand → List ℕ
+parameters_read p os = in_order (flat_map (parameters_asked p) os)
 
--- the parameters that operands read, ascending, each once
-abbrev pub parameters_read : List Operand → List ℕ
-parameters_read os = in_order (filter_map parameter_of os)
-
--- the first rule of each block: each parameter that its values read is set, to a number
-abbrev pub value_rules : Block → Row → List Rule
-value_rules block state = flat_map (number_rules state) (parameters_read (values block))
+-- the first rule of each block: each parameter that the operands ask for which are evaluated there is set, to a number
+abbrev pub value_rules : Parts → Block → Row → List Rule
+value_rules p block state = flat_map (number_rules state) (parameters_read p (evaluated p.entities block))
 
 -- a parameter that is used as a return is set (20), and to a return (27)
 abbrev pub return_rules : Row → ℕ → List Rule
@@ -97,11 +93,11 @@ own_rules p block state = []
 
 -- the rules of a block in a state, in order
 abbrev pub rules : Parts → Block → Row → List Rule
-rules p block state = value_rules block state ++ own_rules p block state
+rules p block state = value_rules p block state ++ own_rules p block state
 
 -- the rules of a block for which the table has no row: a GENERATE has one (25). No parameter is set in a row that isn't there (20)
-abbrev pub rules_without_row : Block → List Rule
-rules_without_row block = if is_generate (Some block) then value_rules block nothing_known ++ rule codes.edge_state false ∷ [] else []
+abbrev pub rules_without_row : Parts → Block → List Rule
+rules_without_row p block = if is_generate (Some block) then value_rules p block nothing_known ++ rule codes.edge_state false ∷ [] else []
 
 -- EDGES
 
@@ -110,6 +106,7 @@ abbrev pub parameter_set : Block → Option Setting
 parameter_set (blocks.Assign a) = Some (record { parameter = a.parameter; to = Number })
 parameter_set (blocks.TransferToSubroutine c) = Some (record { parameter = c.parameter; to = ReturnHere })
 parameter_set (blocks.Mark p) = option_map (λ q. record { parameter = q; to = Number }) p
+parameter_set (blocks.Plus a) = option_map (λ q. record { parameter = q; to = Number }) a.parameter
 parameter_set block = None
 
 -- what a parameter holds that the block of number b has set

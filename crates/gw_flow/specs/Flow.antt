@@ -73,7 +73,7 @@ edge_checks p table b block state = map (edge_check table b) (edges p table b bl
 
 -- the checks of the block of number b: its rules and then its edges in its row, or the rules of one without a row
 abbrev pub checks_in : Parts → Table → ℕ → Block → Option Row → List Check
-checks_in p table b block None = map (rule_check b) (rules_without_row block)
+checks_in p table b block None = map (rule_check b) (rules_without_row p block)
 checks_in p table b block (Some row) = rule_checks p b block row ++ edge_checks p table b block row
 
 -- the checks of the block of number b in its row of a table, if it has one

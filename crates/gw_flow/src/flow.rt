@@ -127,7 +127,7 @@ fn check_block(
 {
     match row_at(rows, number) {
         Some(state) => check_in(alloc, parts, rows, number, block, state),
-        None => check_without_row(number, block),
+        None => check_without_row(parts, number, block),
     }
 }
 
@@ -233,9 +233,10 @@ fn edges_or_fault(
 /// The edges of the block of this number, from 1, that is there, for a transaction in a state: where it goes on to, and
 /// what is known of it there, in the numbers of that state: a parameter that the block leaves alone comes back as it was
 /// given, and one that it sets is a number, or the return to this block. Else the fault of the block's first rule that is
-/// broken in that state: first 20 UnsetParam or 27 ParamKind of a parameter that its values read; then 21 AlreadyOwned,
-/// 22 NotOwner, 23 TooFewUnits, 24 OwnsAtEnd, 25 EdgeState for a GENERATE, 28 OverCapacity, or 20 and 27 of a parameter
-/// that it changes or goes by (ours: docs/refusals.md); or 8 Memory at Nowhere where memory runs out.
+/// broken in that state: first 20 UnsetParam or 27 ParamKind of a parameter that its values ask for, through procedures,
+/// variables and functions too; then 21 AlreadyOwned, 22 NotOwner, 23 TooFewUnits, 24 OwnsAtEnd, 25 EdgeState for a
+/// GENERATE, 28 OverCapacity, or 20 and 27 of a parameter that it changes or goes by (ours: docs/refusals.md); or 8 Memory
+/// at Nowhere where memory runs out.
 pub fn out_edges(
     alloc: Global,
     object: &Object,

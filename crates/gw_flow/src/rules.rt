@@ -3,6 +3,7 @@
 ghost use Rattle.std.specs.Prelude.{◌≡◌, map};
 ghost use Rattle.std.specs.List.{find};
 ghost use Rattle.gw_kinds.specs.Checks.{Finds};
+ghost use Rattle.gw_code_flow.specs.Code.{parameters_asked};
 ghost use Rattle.gw_flow.specs.Blocks as model;
 ghost use Rattle.gw_flow.specs.Flow.{rule_check, rule_checks};
 ghost use Rattle.gw_flow.specs.Unfit as unfit;
@@ -10,7 +11,8 @@ ghost use Rattle.gw_flow.specs.Unfit as unfit;
 use crate::codes::*;
 use crate::lookups::{Lookups, NoRow};
 use gw_blocks::{Block, Mode, Operand};
-use gw_kinds::{check, values};
+use gw_code_flow::parameters_asked;
+use gw_kinds::{check, evaluated};
 use gw_object::{Entity, Fault, Kind, Parts, Place};
 
 /// The capacity of the entity of this number; 0 where it is no storage, or isn't there.
@@ -28,16 +30,6 @@ fn capacity_at(entities: &[Entity], number: u16) -> u32
     }
 }
 
-/// The parameter that an operand reads, if it reads one.
-fn parameter_of(operand: &Operand) -> Option<u8>
-    ensures { result ≡ model.parameter_of operand.now }
-{
-    match operand {
-        Operand::Parameter(number) => Some(*number),
-        _ => None,
-    }
-}
-
 /// The lesser of two parameters, or the one that there is.
 fn lower(least: Option<u8>, number: u8) -> Option<u8>
     ensures { result ≡ unfit.lower least number }
@@ -48,23 +40,48 @@ fn lower(least: Option<u8>, number: u8) -> Option<u8>
     }
 }
 
-/// The least so far, lowered to the parameter that an operand reads, if that one isn't sure to hold a number.
-fn lowered<S: Lookups>(least: Option<u8>, operand: &Operand, state: &S) -> Option<u8>
-    ensures { result ≡ unfit.lowered (S.known state.now) (model.parameter_of operand.now) least }
+/// The least so far, lowered to a parameter, if that one isn't sure to hold a number.
+fn lowered<S: Lookups>(least: Option<u8>, parameter: u8, state: &S) -> Option<u8>
+    ensures { result ≡ unfit.lowered (S.known state.now) least parameter }
 {
-    match parameter_of(operand) {
-        Some(number) if !state.is_number(number) => lower(least, number),
-        _ => least,
+    if state.is_number(parameter) {
+        least
+    } else {
+        lower(least, parameter)
     }
 }
 
-/// The least parameter that operands read and that isn't sure to hold a number, if there is one.
-fn first_unfit<S: Lookups>(operands: &[Operand], state: &S) -> Option<u8>
-    ensures { result ≡ find (unfit.is_unfit (S.known state.now)) (model.parameters_read operands.now) }
+/// The least so far, lowered to those of these parameters that aren't sure to hold a number.
+fn lowest<S: Lookups>(so_far: Option<u8>, parameters: &[u8], state: &S) -> Option<u8>
+    ensures { result ≡ unfit.lowest (S.known state.now) so_far parameters.now }
+{
+    let mut least = so_far;
+    for parameter in parameters {
+        least = lowered(least, *parameter, state);
+    }
+    least
+}
+
+/// The least so far, lowered to those of the parameters that an operand asks for that aren't sure to hold a number.
+fn lowest_asked<S: Lookups>(
+    so_far: Option<u8>,
+    parts: &Parts,
+    operand: Operand,
+    state: &S,
+) -> Option<u8>
+    ensures { result ≡ unfit.lowest (S.known state.now) so_far (parameters_asked parts.now operand) }
+{
+    let asked = parameters_asked(parts, operand);
+    lowest(so_far, asked.as_slice(), state)
+}
+
+/// The least parameter that operands ask for and that isn't sure to hold a number, if there is one.
+fn first_unfit<S: Lookups>(parts: &Parts, operands: &[Operand], state: &S) -> Option<u8>
+    ensures { result ≡ find (unfit.is_unfit (S.known state.now)) (model.parameters_read parts.now operands.now) }
 {
     let mut least = None;
     for operand in operands {
-        least = lowered(least, operand, state);
+        least = lowest_asked(least, parts, *operand, state);
     }
     least
 }
@@ -78,13 +95,19 @@ fn check_number<S: Lookups>(number: u16, parameter: u8, state: &S) -> Result<(),
     check(PARAM_KIND, place, state.is_number(parameter))
 }
 
-/// The fault of the first parameter that the values of the block of this number read, and that isn't sure to hold a
-/// number, if there is one.
+/// The fault of the first parameter that the operands ask for which are evaluated at the block of this number, through
+/// procedures, variables and functions too, and that isn't sure to hold a number, if there is one.
 #[tactic(auto, using(crate::proofs::Unfit::first_unfit_tells))]
-fn check_values<S: Lookups>(number: u16, block: &Block, state: &S) -> Result<(), Fault>
-    ensures { Finds result (map (rule_check number) (model.value_rules block.now (S.known state.now))) }
+fn check_values<S: Lookups>(
+    parts: &Parts,
+    number: u16,
+    block: &Block,
+    state: &S,
+) -> Result<(), Fault>
+    ensures { Finds result (map (rule_check number) (model.value_rules parts.now block.now (S.known state.now))) }
 {
-    match first_unfit(values(block).as_slice(), state) {
+    let operands = evaluated(parts.entities.as_slice(), block);
+    match first_unfit(parts, operands.as_slice(), state) {
         Some(parameter) => check_number(number, parameter, state),
         None => Ok(()),
     }
@@ -151,18 +174,18 @@ pub(crate) fn check_rules<S: Lookups>(
 ) -> Result<(), Fault>
     ensures { Finds result (rule_checks parts.now number block.now (S.known state.now)) }
 {
-    check_values(number, block, state)?;
+    check_values(parts, number, block, state)?;
     check_own_rules(parts, number, block, state)
 }
 
-/// The fault of a block for which the state table has no row, if it is to have one: a GENERATE. Where its values read a
-/// parameter, that one isn't set.
-pub(crate) fn check_without_row(number: u16, block: &Block) -> Result<(), Fault>
-    ensures { Finds result (map (rule_check number) (model.rules_without_row block.now)) }
+/// The fault of a block for which the state table has no row, if it is to have one: a GENERATE. Where its values ask for
+/// a parameter, that one isn't set.
+pub(crate) fn check_without_row(parts: &Parts, number: u16, block: &Block) -> Result<(), Fault>
+    ensures { Finds result (map (rule_check number) (model.rules_without_row parts.now block.now)) }
 {
     match block {
         Block::Generate(_) => {
-            check_values(number, block, &NoRow)?;
+            check_values(parts, number, block, &NoRow)?;
             check(EDGE_STATE, Place::Block(number), false)
         }
         _ => Ok(()),

@@ -71,6 +71,7 @@ pub(crate) fn parameter_set(block: &Block) -> Option<Setting>
             to: SetTo::ReturnHere,
         }),
         Block::Mark(parameter) => parameter.map(number_in),
+        Block::Plus(plus) => plus.parameter.map(number_in),
         _ => None,
     }
 }

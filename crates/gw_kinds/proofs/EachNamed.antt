@@ -8,7 +8,8 @@ use Rattle.gw_blocks.specs.declared.parts.Block.{Block}
 use Rattle.gw_object.specs.declared.parts.Parts.{Parts}
 use Rattle.gw_kinds.specs.declared.ways.Exit.{Exit}
 use Rattle.gw_kinds.specs.Exits.{exits}
-use Rattle.gw_kinds.specs.Kinds.{is_none_or, values, entity_of, own_entity, block_at, number_of, block_of}
+use Rattle.gw_kinds.specs.Evaluated.{values}
+use Rattle.gw_kinds.specs.Kinds.{is_none_or, entity_of, own_entity, block_at, number_of, block_of}
 use Rattle.gw_kinds.specs.Laws.{IsEntity, BlockHolds}
 
 -- where one passes a test, if it is there, a test of it and of others is a test of the others
@@ -28,7 +29,7 @@ module _ {B : Type 0} (P : B → Type 0) where
   later_hold (y ∷ ys) xs h = later_hold ys xs (All-tail P y (ys ++ xs) h)
 
   -- what holds of each thing that is named holds of what one of these names, if it does
-  each_names : {A : Type 0} (named : A → Option B) (xs : List A) → All P (filter_map named xs) → All (λ x. IfSome (named x) P) xs
+  pub each_names : {A : Type 0} (named : A → Option B) (xs : List A) → All P (filter_map named xs) → All (λ x. IfSome (named x) P) xs
   each_names named [] h = All-nil (λ x. IfSome (named x) P)
   each_names named (x ∷ xs) h =
       let two = own_holds (named x) (filter_map named xs) h in

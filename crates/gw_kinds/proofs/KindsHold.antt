@@ -3,11 +3,10 @@ use Rattle.std.proofs.Common.{◌≡◌, ℕ, zero, suc, ◌<◌, List, [], ◌�
 use Rattle.std.specs.Prelude.{◌&&◌, is_some, filter_map, IfSome, IsTrue}
 use Rattle.std.specs.List.{All, list_all, cons_option}
 use Rattle.std.specs.Option.{IsSome, IsSomeAnd}
-use Rattle.std.proofs.lemmas.Bool.{ltb-true, lt-ltb}
+use Rattle.std.proofs.lemmas.Bool.{and_parts, and_from, ltb-true, lt-ltb}
 use Rattle.std.proofs.lemmas.List.Elements.{All-nil, All-cons, All-head, All-tail}
 use Rattle.std.proofs.lemmas.List.Folds.{list_all-append, list_all-map}
 use Rattle.std.proofs.lemmas.List.Sums.{AllPass-from_list_all, list_all-from_AllPass}
-use Rattle.gw_object.specs.declared.fault.Place.{Place}
 use Rattle.gw_object.specs.declared.fault.Place.TheVariants as places
 use Rattle.gw_code.specs.declared.parts.Instruction.{Instruction}
 use Rattle.gw_code.specs.declared.parts.Procedure.{Procedure}
@@ -16,69 +15,41 @@ use Rattle.gw_blocks.specs.declared.parts.Block.{Block}
 use Rattle.gw_object.specs.declared.parts.TableState.{TableState}
 use Rattle.gw_object.specs.declared.parts.ReturnRow.{ReturnRow}
 use Rattle.gw_object.specs.declared.parts.Parts.{Parts}
-use Rattle.gw_kinds.specs.declared.entities.EntityKind.{EntityKind}
 use Rattle.gw_kinds.specs.declared.entities.Named.{Named}
 use Rattle.gw_kinds.specs.declared.ways.Way.{Way}
 use Rattle.gw_kinds.specs.declared.ways.Way.TheVariants.{Falls, Goes}
 use Rattle.gw_kinds.specs.declared.ways.Exit.{Exit}
 use Rattle.gw_kinds.specs.Checks.{Check, numbered}
+use Rattle.gw_kinds.specs.Evaluated.{operand_of, values}
 use Rattle.gw_kinds.specs.Exits.{leads_to, exits, is_call, comes_back, ways}
-use Rattle.gw_kinds.specs.Kinds.{is_none_or, kind_at, serves_as, values, named_entities, entities_of_row, names_no_other_kind, are_there, block_at, is_generate, number_of, block_of, named_blocks, has_named_blocks, leads_to_no_generate, stays_inside, is_call_at, return_rows_of, has_return_rows, entity_checks, exit_checks, constant_checks, return_checks, row_checks, block_checks, is_no_other_kind, is_there}
-use Rattle.gw_kinds.specs.Procedures.{entity_in, procedure_in, block_in, instruction_checks, procedure_checks}
-use Rattle.gw_kinds.specs.Pass.{row_and_block_checks, return_and_later_checks, kinds_checks}
-use Rattle.gw_kinds.specs.Laws.{IsEntity, MayBeEntered, InstructionHolds, ProcedureHolds, ReturnsHold, RowHolds, BlockHolds, KindsPassAtEachPlace}
+use Rattle.gw_kinds.specs.Kinds.{is_none_or, named_entities, named_procedures, entities_of_row, names_no_other_kind, are_there, is_no_other_kind, is_there, takes_no_arguments, is_procedure, is_block, block_at, is_generate, number_of, block_of, named_blocks, has_named_blocks, leads_to_no_generate, stays_inside, is_call_at, return_rows_of, has_return_rows, names_well, has_plain_argument, has_plain_half, entity_checks, naming_checks, exit_checks, constant_checks, return_checks, row_checks, block_checks}
+use Rattle.gw_kinds.specs.Procedures.{entity_in, procedure_in, block_in, draws_nothing, instruction_checks, procedure_checks}
+use Rattle.gw_kinds.specs.Pass.{row_and_block_checks, return_and_later_checks, procedure_and_later_checks, kinds_checks}
+use Rattle.gw_kinds.specs.Laws.{IsEntity, MayBeEntered, TakesNoArguments, EntityHolds, InstructionHolds, ProcedureHolds, ReturnsHold, RowHolds, BlockHolds, KindsPassAtEachPlace}
 use Rattle.gw_kinds.proofs.Each.{Hold, at_number, first_and_others, first_with_others, parts_hold, hold_together, each_holds, all_hold, each_has, from_each}
-
--- TESTS
-
-both_true : (a b : Bool) → (a && b) ≡ true → (a ≡ true) × (b ≡ true)
-both_true true b h = (refl, h)
-both_true false b h = absurd (cc)
-
-with_both : (a b : Bool) → a ≡ true → b ≡ true → (a && b) ≡ true
-with_both true b h k = k
-with_both false b h k = absurd (cc)
+use Rattle.gw_kinds.proofs.NamedHold.{if_any, tests_any, one_is, one_passes, each_is, each_passes, is_entity, from_entity, takes_none, from_takes_none, operand_if, passes_if}
 
 -- ENTITIES
-
--- an entity of the right kind that is there
-is_entity : (es : List Entity) (e : ℕ) (needed : EntityKind) → is_none_or (kind_at es e) (serves_as needed) ≡ true → e < length es → IsSomeAnd (kind_at es e) (λ kind. IsTrue (serves_as needed kind))
-is_entity [] e needed right below = absurd (omega arith)
-is_entity (x ∷ es) zero needed right below = right
-is_entity (x ∷ es) (suc e) needed right below = is_entity es e needed right (omega arith)
-
-from_entity : (es : List Entity) (e : ℕ) (needed : EntityKind) → IsSomeAnd (kind_at es e) (λ kind. IsTrue (serves_as needed kind)) → (is_none_or (kind_at es e) (serves_as needed) ≡ true) × (e < length es)
-from_entity [] e needed h = absurd h
-from_entity (x ∷ es) zero needed h = (h, omega arith)
-from_entity (x ∷ es) (suc e) needed h =
-    let there = from_entity es e needed h in
-    (there.0, omega (arith, there.1))
 
 -- the entities that are named at a place
 module _ (es : List Entity) where
   entities : (ns : List Named) → names_no_other_kind es ns ≡ true → are_there es ns ≡ true → All (IsEntity es) ns
-  entities [] right there = All-nil (IsEntity es)
-  entities (n ∷ ns) right there =
-      let a = both_true (is_none_or (kind_at es n.entity) (serves_as n.needed)) (names_no_other_kind es ns) right in
-      let b = both_true (nat_lt n.entity (length es)) (are_there es ns) there in
-      All-cons (IsEntity es) n ns (is_entity es n.entity n.needed a.0 (ltb-true n.entity (length es) b.0)) (entities ns a.1 b.1)
+  entities = each_is (is_no_other_kind es) (is_there es) (IsEntity es) (is_entity es)
 
   from_entities : (ns : List Named) → All (IsEntity es) ns → (names_no_other_kind es ns ≡ true) × (are_there es ns ≡ true)
-  from_entities [] h = (refl, refl)
-  from_entities (n ∷ ns) h =
-      let one = from_entity es n.entity n.needed (All-head (IsEntity es) n ns h) in
-      let others = from_entities ns (All-tail (IsEntity es) n ns h) in
-      (with_both _ _ one.0 others.0, with_both _ _ (lt-ltb n.entity (length es) one.1) others.1)
+  from_entities = each_passes (is_no_other_kind es) (is_there es) (IsEntity es) (from_entity es)
 
-  entities_from_checks : (place : Place) (ns : List Named) → Hold (entity_checks es place ns) → All (IsEntity es) ns
-  entities_from_checks place ns h =
-      let right = first_and_others _ _ _ h in
-      entities ns right.0 (first_and_others _ _ _ right.1).0
+entity_from_checks : (p : Parts) (e : ℕ) (entity : Entity) → Hold (entity_checks p e entity) → EntityHolds p entity
+entity_from_checks p e entity h =
+    let right = first_and_others _ _ _ h in
+    let both = and_parts (is_none_or (operand_of entity.kind) (names_well p)) (has_plain_argument entity.kind) right.0 in
+    let there = first_and_others _ _ _ right.1 in
+    record { operand = operand_if p (operand_of entity.kind) both.0 there.0 (first_and_others _ _ _ there.1).0; argument = both.1 }
 
-  checks_from_entities : (place : Place) (ns : List Named) → All (IsEntity es) ns → Hold (entity_checks es place ns)
-  checks_from_entities place ns h =
-      let two = from_entities ns h in
-      first_with_others _ _ _ two.0 (first_with_others _ _ _ two.1 refl)
+checks_from_entity : (p : Parts) (e : ℕ) (entity : Entity) → EntityHolds p entity → Hold (entity_checks p e entity)
+checks_from_entity p e entity h =
+    let three = passes_if p (operand_of entity.kind) h.operand in
+    first_with_others _ _ _ (and_from _ _ three.0 h.argument) (first_with_others _ _ _ three.1 (first_with_others _ _ _ three.2 refl))
 
 -- ROWS
 
@@ -86,25 +57,25 @@ module _ (es : List Entity) where
 rows_there : (n : ℕ) (rs : List ℕ) → list_all (λ r. nat_lt r n) rs ≡ true → All (λ r. r < n) rs
 rows_there n [] h = All-nil (λ r. r < n)
 rows_there n (r ∷ rs) h =
-    let two = both_true (nat_lt r n) (list_all (λ r. nat_lt r n) rs) h in
+    let two = and_parts (nat_lt r n) (list_all (λ r. nat_lt r n) rs) h in
     All-cons (λ r. r < n) r rs (ltb-true r n two.0) (rows_there n rs two.1)
 
 from_rows : (n : ℕ) (rs : List ℕ) → All (λ r. r < n) rs → list_all (λ r. nat_lt r n) rs ≡ true
 from_rows n [] h = refl
-from_rows n (r ∷ rs) h = with_both _ _ (lt-ltb r n (All-head (λ r. r < n) r rs h)) (from_rows n rs (All-tail (λ r. r < n) r rs h))
+from_rows n (r ∷ rs) h = and_from _ _ (lt-ltb r n (All-head (λ r. r < n) r rs h)) (from_rows n rs (All-tail (λ r. r < n) r rs h))
 
 row_from_checks : (p : Parts) (b : ℕ) (row : Option TableState) → Hold (row_checks p (places.Block b) row) → IfSome row (RowHolds p)
 row_from_checks p b None h = tt
 row_from_checks p b (Some row) h =
     let right = first_and_others _ _ _ h in
-    let there = both_true (are_there p.entities (entities_of_row row)) (has_return_rows p.returns row) (first_and_others _ _ _ right.1).0 in
+    let there = and_parts (are_there p.entities (entities_of_row row)) (has_return_rows p.returns row) (first_and_others _ _ _ right.1).0 in
     record { entities = entities p.entities (entities_of_row row) right.0 there.0; returns = rows_there (length p.returns) (return_rows_of row) there.1 }
 
 checks_from_row : (p : Parts) (b : ℕ) (row : Option TableState) → IfSome row (RowHolds p) → Hold (row_checks p (places.Block b) row)
 checks_from_row p b None h = refl
 checks_from_row p b (Some row) h =
     let two = from_entities p.entities (entities_of_row row) h.entities in
-    first_with_others _ _ _ two.0 (first_with_others _ _ _ (with_both _ _ two.1 (from_rows (length p.returns) (return_rows_of row) h.returns)) refl)
+    first_with_others _ _ _ two.0 (first_with_others _ _ _ (and_from _ _ two.1 (from_rows (length p.returns) (return_rows_of row) h.returns)) refl)
 
 returns_from_checks : (p : Parts) (r : ℕ) (row : ReturnRow) → Hold (return_checks p r row) → ReturnsHold p row
 returns_from_checks p r row h = AllPass-from_list_all (is_call_at p.blocks) row.blocks (first_and_others _ _ _ h).0
@@ -137,7 +108,7 @@ module _ (p : Parts) (b : ℕ) where
   -- a way leads to a block that is there: by its number, or as the next one
   way_there : (way : Way) (targets : List ℕ) → are_blocks (cons_option (number_of way) targets) ≡ true → stays_inside p.blocks b way ≡ true → (is_some (block_at p.blocks (leads_to b way)) ≡ true) × (are_blocks targets ≡ true)
   way_there Falls targets named inside = (inside, named)
-  way_there (Goes target) targets named inside = both_true _ _ named
+  way_there (Goes target) targets named inside = and_parts _ _ named
 
   from_way : (way : Way) → is_some (block_at p.blocks (leads_to b way)) ≡ true → stays_inside p.blocks b way ≡ true
   from_way Falls there = there
@@ -156,8 +127,8 @@ module _ (p : Parts) (b : ℕ) where
   lead_on : (es : List Exit) → named es ≡ true → no_generate es ≡ true → inside es ≡ true → All Leads es
   lead_on [] n g i = All-nil Leads
   lead_on (e ∷ es) n g i =
-      let g' = both_true _ (no_generate es) g in
-      let i' = both_true (stays_inside p.blocks b e.way) (inside es) i in
+      let g' = and_parts _ (no_generate es) g in
+      let i' = and_parts (stays_inside p.blocks b e.way) (inside es) i in
       let there = way_there e.way (filter_map (λ (exit : Exit). number_of exit.way) es) n i'.0 in
       All-cons Leads e es (enterable (block_at p.blocks (leads_to b e.way)) there.0 g'.0) (lead_on es there.1 g'.1 i'.1)
 
@@ -166,7 +137,7 @@ module _ (p : Parts) (b : ℕ) where
   from_leads (e ∷ es) h =
       let one = from_enterable (block_at p.blocks (leads_to b e.way)) (All-head Leads e es h) in
       let others = from_leads es (All-tail Leads e es h) in
-      (with_both _ _ one.1 others.0, with_both _ _ (from_way e.way one.0) others.1)
+      (and_from _ _ one.1 others.0, and_from _ _ (from_way e.way one.0) others.1)
 
   -- the same of the way on once a subroutine comes back, which is to the next block
   abbrev Goes_on : Way → Type 0
@@ -177,13 +148,13 @@ module _ (p : Parts) (b : ℕ) where
 
   leads_back : (call : Bool) → list_all (leads_to_no_generate p.blocks b) (back_of call) ≡ true → list_all (stays_inside p.blocks b) (back_of call) ≡ true → All Goes_on (back_of call)
   leads_back false g i = All-nil Goes_on
-  leads_back true g i = All-cons Goes_on Falls [] (enterable (block_at p.blocks (b + 1)) (both_true _ true i).0 (both_true _ true g).0) (All-nil Goes_on)
+  leads_back true g i = All-cons Goes_on Falls [] (enterable (block_at p.blocks (b + 1)) (and_parts _ true i).0 (and_parts _ true g).0) (All-nil Goes_on)
 
   from_back : (call : Bool) → All Goes_on (back_of call) → (list_all (leads_to_no_generate p.blocks b) (back_of call) ≡ true) × (list_all (stays_inside p.blocks b) (back_of call) ≡ true)
   from_back false h = (refl, refl)
   from_back true h =
       let two = from_enterable (block_at p.blocks (b + 1)) (All-head Goes_on Falls [] h) in
-      (with_both _ true two.1 refl, with_both _ true two.0 refl)
+      (and_from _ true two.1 refl, and_from _ true two.0 refl)
 
 -- a test of all ways on from a block: of those of its exits, and of the one once a subroutine comes back
 of_ways : (test : Way → Bool) (block : Block) → list_all test (ways block) ≡ (list_all (λ (exit : Exit). test exit.way) (exits block) && list_all test (comes_back block))
@@ -193,48 +164,26 @@ of_ways test block =
 
 -- PROCEDURES
 
--- a block that is named is there
-abbrev is_block : Parts → ℕ → Bool
-is_block p named = is_some (block_at p.blocks named)
-
--- what passes a test, if it is there
-if_any : {A : Type 0} (test : A → Bool) (Is : A → Type 0) → ((x : A) → test x ≡ true → Is x) → (o : Option A) → is_none_or o test ≡ true → IfSome o Is
-if_any test Is tells None h = tt
-if_any test Is tells (Some x) h = tells x h
-
-tests_any : {A : Type 0} (test : A → Bool) (Is : A → Type 0) → ((x : A) → Is x → test x ≡ true) → (o : Option A) → IfSome o Is → is_none_or o test ≡ true
-tests_any test Is passes None h = refl
-tests_any test Is passes (Some x) h = passes x h
-
--- an entity that may be named: of the right kind, and there
-named_entity : (es : List Entity) (o : Option Named) → is_none_or o (is_no_other_kind es) ≡ true → is_none_or o (is_there es) ≡ true → IfSome o (IsEntity es)
-named_entity es None right there = tt
-named_entity es (Some n) right there = is_entity es n.entity n.needed right (ltb-true n.entity (length es) there)
-
-from_named_entity : (es : List Entity) (o : Option Named) → IfSome o (IsEntity es) → (is_none_or o (is_no_other_kind es) ≡ true) × (is_none_or o (is_there es) ≡ true)
-from_named_entity es None h = (refl, refl)
-from_named_entity es (Some n) h =
-    let two = from_entity es n.entity n.needed h in
-    (two.0, lt-ltb n.entity (length es) two.1)
-
 instruction_from_checks : (p : Parts) (n locals k : ℕ) (i : Instruction) → Hold (instruction_checks p n locals k i) → InstructionHolds p locals i
 instruction_from_checks p n locals k i h =
     let right = first_and_others _ _ _ h in
+    let rights = and_parts (is_none_or (entity_in i) (is_no_other_kind p.entities)) (draws_nothing p.entities i) right.0 in
     let there = first_and_others _ _ _ right.1 in
-    let both = both_true (is_none_or (entity_in i) (is_there p.entities)) (is_none_or (procedure_in i) (λ q. nat_lt q (length p.procedures))) there.0 in
+    let theres = and_parts (is_none_or (entity_in i) (is_there p.entities)) (is_none_or (procedure_in i) (is_procedure p.procedures)) there.0 in
     let block = first_and_others _ _ _ there.1 in record {
-      entity = named_entity p.entities (entity_in i) right.0 both.0;
-      called = if_any (λ q. nat_lt q (length p.procedures)) (λ q. q < length p.procedures) (λ q. ltb-true q (length p.procedures)) (procedure_in i) both.1;
-      block = if_any (is_block p) (λ b. IsSome (block_at p.blocks b)) (λ b h. h) (block_in i) block.0;
+      entity = one_is (is_no_other_kind p.entities) (is_there p.entities) (IsEntity p.entities) (is_entity p.entities) (entity_in i) rights.0 theres.0;
+      called = if_any (is_procedure p.procedures) (λ q. q < length p.procedures) (λ q. ltb-true q (length p.procedures)) (procedure_in i) theres.1;
+      block = if_any (is_block p.blocks) (λ b. IsSome (block_at p.blocks b)) (λ b h. h) (block_in i) block.0;
+      draws = rights.1;
       numbers = (first_and_others _ _ _ block.1).0;
     }
 
 checks_from_instruction : (p : Parts) (n locals k : ℕ) (i : Instruction) → InstructionHolds p locals i → Hold (instruction_checks p n locals k i)
 checks_from_instruction p n locals k i h =
-    let entity = from_named_entity p.entities (entity_in i) h.entity in
-    let called = tests_any (λ q. nat_lt q (length p.procedures)) (λ q. q < length p.procedures) (λ q. lt-ltb q (length p.procedures)) (procedure_in i) h.called in
-    let block = tests_any (is_block p) (λ b. IsSome (block_at p.blocks b)) (λ b h. h) (block_in i) h.block in
-    first_with_others _ _ _ entity.0 (first_with_others _ _ _ (with_both _ _ entity.1 called) (first_with_others _ _ _ block (first_with_others _ _ _ h.numbers refl)))
+    let entity = one_passes (is_no_other_kind p.entities) (is_there p.entities) (IsEntity p.entities) (from_entity p.entities) (entity_in i) h.entity in
+    let called = tests_any (is_procedure p.procedures) (λ q. q < length p.procedures) (λ q. lt-ltb q (length p.procedures)) (procedure_in i) h.called in
+    let block = tests_any (is_block p.blocks) (λ b. IsSome (block_at p.blocks b)) (λ b h. h) (block_in i) h.block in
+    first_with_others _ _ _ (and_from _ _ entity.0 h.draws) (first_with_others _ _ _ (and_from _ _ entity.1 called) (first_with_others _ _ _ block (first_with_others _ _ _ h.numbers refl)))
 
 procedure_from_checks : (p : Parts) (n : ℕ) (pr : Procedure) → Hold (procedure_checks p n pr) → ProcedureHolds p pr
 procedure_from_checks p n pr h = each_has (instruction_checks p n pr.locals) (InstructionHolds p pr.locals) (instruction_from_checks p n pr.locals) 0 pr.code h
@@ -248,20 +197,44 @@ checks_from_procedure p n pr h = from_each (instruction_checks p n pr.locals) (I
 abbrev targets : Block → List ℕ
 targets block = filter_map (λ (exit : Exit). number_of exit.way) (exits block)
 
-targets_there : (p : Parts) (block : Block) → has_named_blocks p.blocks block ≡ true → list_all (is_block p) (targets block) ≡ true
-targets_there p block h = (both_true _ _ (sym (list_all-append (is_block p) (targets block) (filter_map block_of (values block))) ∙ h)).0
+targets_there : (p : Parts) (block : Block) → has_named_blocks p.blocks block ≡ true → list_all (is_block p.blocks) (targets block) ≡ true
+targets_there p block h = (and_parts _ _ (sym (list_all-append (is_block p.blocks) (targets block) (filter_map block_of (values block))) ∙ h)).0
+
+-- the entities and the procedures that a block names, and half the range of its time
+abbrev NamingHolds : Parts → Block → Type 0
+NamingHolds p block = All (IsEntity p.entities) (named_entities block) × All (TakesNoArguments p) (named_procedures block) × IsTrue (has_plain_half block)
+
+naming_from_checks : (p : Parts) (b : ℕ) (block : Block) → Hold (naming_checks p b block) → NamingHolds p block
+naming_from_checks p b block h =
+    let right = first_and_others _ _ _ h in
+    let three = and_parts (names_no_other_kind p.entities (named_entities block) && list_all (takes_no_arguments p.procedures) (named_procedures block)) (has_plain_half block) right.0 in
+    let rights = and_parts (names_no_other_kind p.entities (named_entities block)) (list_all (takes_no_arguments p.procedures) (named_procedures block)) three.0 in
+    let theres = and_parts (are_there p.entities (named_entities block)) (list_all (is_procedure p.procedures) (named_procedures block)) (first_and_others _ _ _ right.1).0 in (
+      entities p.entities (named_entities block) rights.0 theres.0,
+      each_is (takes_no_arguments p.procedures) (is_procedure p.procedures) (TakesNoArguments p) (takes_none p) (named_procedures block) rights.1 theres.1,
+      three.1,
+    )
+
+checks_from_naming : (p : Parts) (b : ℕ) (block : Block) → NamingHolds p block → Hold (naming_checks p b block)
+checks_from_naming p b block h =
+    let named = from_entities p.entities (named_entities block) h.0 in
+    let called = each_passes (takes_no_arguments p.procedures) (is_procedure p.procedures) (TakesNoArguments p) (from_takes_none p) (named_procedures block) h.1 in
+    first_with_others _ _ _ (and_from _ _ (and_from _ _ named.0 called.0) h.2) (first_with_others _ _ _ (and_from _ _ named.1 called.1) refl)
 
 block_from_checks : (p : Parts) (b : ℕ) (block : Block) → Hold (block_checks p b block) → BlockHolds p b block
 block_from_checks p b block h =
-    let two = parts_hold (entity_checks p.entities (places.Block b) (named_entities block)) (exit_checks p.blocks b block ++ constant_checks b block) h in
+    let two = parts_hold (naming_checks p b block) (exit_checks p.blocks b block ++ constant_checks b block) h in
     let three = parts_hold (exit_checks p.blocks b block) (constant_checks b block) two.1 in
+    let naming = naming_from_checks p b block two.0 in
     let named = first_and_others _ _ _ three.0 in
     let enters = first_and_others _ _ _ named.1 in
-    let no_generate = both_true (no_generate p b (exits block)) (list_all (leads_to_no_generate p.blocks b) (comes_back block)) (sym (of_ways (leads_to_no_generate p.blocks b) block) ∙ enters.0) in
-    let inside = both_true (inside p b (exits block)) (list_all (stays_inside p.blocks b) (comes_back block)) (sym (of_ways (stays_inside p.blocks b) block) ∙ (first_and_others _ _ _ enters.1).0) in
+    let no_generate = and_parts (no_generate p b (exits block)) (list_all (leads_to_no_generate p.blocks b) (comes_back block)) (sym (of_ways (leads_to_no_generate p.blocks b) block) ∙ enters.0) in
+    let inside = and_parts (inside p b (exits block)) (list_all (stays_inside p.blocks b) (comes_back block)) (sym (of_ways (stays_inside p.blocks b) block) ∙ (first_and_others _ _ _ enters.1).0) in
     record {
-      entities = entities_from_checks p.entities (places.Block b) (named_entities block) two.0;
-      blocks = AllPass-from_list_all (is_block p) (named_blocks block) named.0;
+      entities = naming.0;
+      procedures = naming.1;
+      half = naming.2;
+      blocks = AllPass-from_list_all (is_block p.blocks) (named_blocks block) named.0;
       exits = lead_on p b (exits block) (targets_there p block named.0) no_generate.0 inside.0;
       back = leads_back p b (is_call block) no_generate.1 inside.1;
       constants = (first_and_others _ _ _ three.1).0;
@@ -271,10 +244,10 @@ checks_from_block : (p : Parts) (b : ℕ) (block : Block) → BlockHolds p b blo
 checks_from_block p b block h =
     let e = from_leads p b (exits block) h.exits in
     let back = from_back p b (is_call block) h.back in
-    hold_together (entity_checks p.entities (places.Block b) (named_entities block)) (exit_checks p.blocks b block ++ constant_checks b block)
-    (checks_from_entities p.entities (places.Block b) (named_entities block) h.entities)
+    hold_together (naming_checks p b block) (exit_checks p.blocks b block ++ constant_checks b block)
+    (checks_from_naming p b block (h.entities, h.procedures, h.half))
     (hold_together (exit_checks p.blocks b block) (constant_checks b block)
-    (first_with_others _ _ _ (list_all-from_AllPass (is_block p) (named_blocks block) h.blocks) (first_with_others _ _ _ (of_ways (leads_to_no_generate p.blocks b) block ∙ with_both _ _ e.0 back.0) (first_with_others _ _ _ (of_ways (stays_inside p.blocks b) block ∙ with_both _ _ e.1 back.1) refl)))
+    (first_with_others _ _ _ (list_all-from_AllPass (is_block p.blocks) (named_blocks block) h.blocks) (first_with_others _ _ _ (of_ways (leads_to_no_generate p.blocks b) block ∙ and_from _ _ e.0 back.0) (first_with_others _ _ _ (of_ways (stays_inside p.blocks b) block ∙ and_from _ _ e.1 back.1) refl)))
     (first_with_others _ _ _ h.constants refl))
 
 -- THE OBJECT
@@ -289,16 +262,24 @@ unfolding kinds_checks
 kinds_pass_at_each_place p =
     let of_rows : ℕ → Option TableState → List Check = λ b. row_checks p (places.Block b) in (
       λ h.
-          let four = parts_hold (numbered (procedure_checks p) 0 p.procedures) (return_and_later_checks p) h in
+          let five = parts_hold (numbered (entity_checks p) 0 p.entities) (procedure_and_later_checks p) h in
+          let four = parts_hold (numbered (procedure_checks p) 0 p.procedures) (return_and_later_checks p) five.1 in
           let three = parts_hold (numbered (return_checks p) 0 p.returns) (row_and_block_checks p) four.1 in
-          let two = parts_hold (numbered of_rows 1 p.states) (numbered (block_checks p) 1 p.blocks) three.1 in
-          (each_has (procedure_checks p) (ProcedureHolds p) (procedure_from_checks p) 0 p.procedures four.0, each_has (return_checks p) (ReturnsHold p) (returns_from_checks p) 0 p.returns three.0, each_has of_rows (λ row. IfSome row (RowHolds p)) (row_from_checks p) 1 p.states two.0, λ b block is. block_holds p b block two.1 is),
+          let two = parts_hold (numbered of_rows 1 p.states) (numbered (block_checks p) 1 p.blocks) three.1 in (
+            each_has (entity_checks p) (EntityHolds p) (entity_from_checks p) 0 p.entities five.0,
+            each_has (procedure_checks p) (ProcedureHolds p) (procedure_from_checks p) 0 p.procedures four.0,
+            each_has (return_checks p) (ReturnsHold p) (returns_from_checks p) 0 p.returns three.0,
+            each_has of_rows (λ row. IfSome row (RowHolds p)) (row_from_checks p) 1 p.states two.0,
+            λ b block is. block_holds p b block two.1 is,
+          ),
       λ h.
-          hold_together (numbered (procedure_checks p) 0 p.procedures) (return_and_later_checks p)
-          (from_each (procedure_checks p) (ProcedureHolds p) (checks_from_procedure p) 0 p.procedures h.0)
+          hold_together (numbered (entity_checks p) 0 p.entities) (procedure_and_later_checks p)
+          (from_each (entity_checks p) (EntityHolds p) (checks_from_entity p) 0 p.entities h.0)
+          (hold_together (numbered (procedure_checks p) 0 p.procedures) (return_and_later_checks p)
+          (from_each (procedure_checks p) (ProcedureHolds p) (checks_from_procedure p) 0 p.procedures h.1)
           (hold_together (numbered (return_checks p) 0 p.returns) (row_and_block_checks p)
-          (from_each (return_checks p) (ReturnsHold p) (checks_from_returns p) 0 p.returns h.1)
+          (from_each (return_checks p) (ReturnsHold p) (checks_from_returns p) 0 p.returns h.2)
           (hold_together (numbered of_rows 1 p.states) (numbered (block_checks p) 1 p.blocks)
-          (from_each of_rows (λ row. IfSome row (RowHolds p)) (checks_from_row p) 1 p.states h.2)
-          (all_hold (block_checks p) 1 p.blocks (λ i block is. at_number (block_checks p) block (omega arith) (checks_from_block p (suc i) block (h.3 (suc i) block is)))))),
+          (from_each of_rows (λ row. IfSome row (RowHolds p)) (checks_from_row p) 1 p.states h.3)
+          (all_hold (block_checks p) 1 p.blocks (λ i block is. at_number (block_checks p) block (omega arith) (checks_from_block p (suc i) block (h.4 (suc i) block is))))))),
     )

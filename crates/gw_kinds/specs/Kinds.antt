@@ -1,5 +1,5 @@
 -- Kinds: what every number in an object names.
-use Rattle.std.specs.Prelude.{ℕ, zero, suc, ◌+◌, ◌^◌, pos, List, [], ◌∷◌, ◌++◌, length, map, filter_map, Option, Some, None, is_some, Bool, true, false, if◌then◌else◌, not, ◌&&◌, nat_lt, nat_le, int_le, slice_get}
+use Rattle.std.specs.Prelude.{ℕ, zero, suc, ◌+◌, ◌^◌, pos, List, [], ◌∷◌, ◌++◌, length, map, filter_map, Option, Some, None, is_some, Bool, true, false, if◌then◌else◌, not, ◌&&◌, nat_lt, nat_le, ◌==◌, int_le, slice_get}
 use Rattle.std.specs.Option.{option_map, option_map_or}
 use Rattle.std.specs.List.{list_all, cons_option}
 use Rattle.gw_object.specs.declared.fault.Place.{Place}
@@ -8,7 +8,7 @@ use Rattle.gw_object.specs.declared.parts.Kind.{Kind}
 use Rattle.gw_object.specs.declared.parts.Kind.TheVariants as kinds
 use Rattle.gw_object.specs.declared.parts.Entity.{Entity}
 use Rattle.gw_blocks.specs.declared.parts.EntityAttribute.{EntityAttribute}
-use Rattle.gw_blocks.specs.declared.parts.EntityAttribute.TheVariants.{FacilityOwned, StorageContent, StorageRemaining, QueueContent, SavevalueValue, SwitchSetting, BlockEntries, BlockCount}
+use Rattle.gw_blocks.specs.declared.parts.EntityAttribute.TheVariants.{FacilityOwned, StorageContent, StorageRemaining, QueueContent, SavevalueValue, SwitchSetting, VariableValue, BooleanValue, FunctionValue, BlockEntries, BlockCount}
 use Rattle.gw_blocks.specs.declared.parts.Numbered.{Numbered}
 use Rattle.gw_blocks.specs.declared.parts.Operand.{Operand}
 use Rattle.gw_blocks.specs.declared.parts.Operand.TheVariants.{OfEntity}
@@ -24,13 +24,15 @@ use Rattle.gw_object.specs.declared.parts.TableState.{TableState}
 use Rattle.gw_object.specs.declared.parts.ReturnRow.{ReturnRow}
 use Rattle.gw_object.specs.declared.parts.Parts.{Parts}
 use Rattle.gw_kinds.specs.declared.entities.EntityKind.{EntityKind}
-use Rattle.gw_kinds.specs.declared.entities.EntityKind.TheVariants.{Facility, Storage, Queue, Switch, Savevalue, StorageOrQueue}
+use Rattle.gw_kinds.specs.declared.entities.EntityKind.TheVariants.{Facility, Storage, Queue, Switch, Savevalue, Table, Variable, BooleanVariable, Function, StorageOrQueue}
 use Rattle.gw_kinds.specs.declared.entities.Named.{Named}
 use Rattle.gw_kinds.specs.declared.ways.Way.{Way}
 use Rattle.gw_kinds.specs.declared.ways.Way.TheVariants.{Falls, Goes}
 use Rattle.gw_kinds.specs.declared.ways.Exit.{Exit}
 use Rattle.gw_kinds.specs.Checks.{Check, check}
+use Rattle.gw_code.specs.declared.parts.Procedure.{Procedure}
 use Rattle.gw_kinds.specs.Codes as codes
+use Rattle.gw_kinds.specs.Evaluated.{kind_at, operand_of, values, procedure_named, is_function_value}
 use Rattle.gw_kinds.specs.Exits.{leads_to, exits, is_call, ways}
 
 -- whether there is none, or one that passes a test
@@ -38,23 +40,7 @@ abbrev pub is_none_or : {A : Type 0} → Option A → (A → Bool) → Bool
 is_none_or None test = true
 is_none_or (Some x) test = test x
 
--- VALUES
-
--- the operands of a block that are evaluated, in order
-abbrev pub values : Block → List Operand
-values (blocks.Generate g) = g.interval.mean ∷ g.interval.half ∷ []
-values (blocks.Terminate by) = by ∷ []
-values (blocks.Advance time) = time.mean ∷ time.half ∷ []
-values (blocks.Assign a) = a.value ∷ []
-values (blocks.Test t) = t.left ∷ t.right ∷ []
-values (blocks.Savevalue s) = s.value ∷ []
-values block = []
-
 -- ENTITIES
-
--- the kind of the entity of a number; entities count from 0
-abbrev pub kind_at : List Entity → ℕ → Option Kind
-kind_at es e = option_map (λ (entity : Entity). entity.kind) (slice_get es e)
 
 -- whether an entity is what it is needed as
 abbrev pub serves_as : EntityKind → Kind → Bool
@@ -63,6 +49,10 @@ serves_as Storage (kinds.Storage capacity) = true
 serves_as Queue kinds.Queue = true
 serves_as Switch (kinds.Switch set) = true
 serves_as Savevalue (kinds.Savevalue value) = true
+serves_as Table (kinds.Table t) = true
+serves_as Variable (kinds.Variable q) = true
+serves_as BooleanVariable (kinds.BooleanVariable q) = true
+serves_as Function (kinds.Function f) = true
 serves_as StorageOrQueue (kinds.Storage capacity) = true
 serves_as StorageOrQueue kinds.Queue = true
 serves_as needed kind = false
@@ -79,6 +69,9 @@ needed_for StorageRemaining = Some Storage
 needed_for QueueContent = Some Queue
 needed_for SavevalueValue = Some Savevalue
 needed_for SwitchSetting = Some Switch
+needed_for VariableValue = Some Variable
+needed_for BooleanValue = Some BooleanVariable
+needed_for FunctionValue = Some Function
 needed_for BlockEntries = None
 needed_for BlockCount = None
 
@@ -113,6 +106,7 @@ own_entity (blocks.Depart u) = Some (needs Queue u.entity)
 own_entity (blocks.Gate g) = Some (needs (needed_by g.condition) g.entity)
 own_entity (blocks.Logic l) = Some (needs Switch l.switch)
 own_entity (blocks.Savevalue s) = Some (needs Savevalue s.savevalue)
+own_entity (blocks.Tabulate t) = Some (needs Table t)
 own_entity block = None
 
 -- the entities that a block names, in order: its own, and then those of its values
@@ -148,6 +142,20 @@ names_no_other_kind es named = list_all (is_no_other_kind es) named
 abbrev pub are_there : List Entity → List Named → Bool
 are_there es named = list_all (is_there es) named
 
+-- PROCEDURES
+
+-- a procedure that is called without arguments takes none; one that isn't there has no say
+abbrev pub takes_no_arguments : List Procedure → ℕ → Bool
+takes_no_arguments ps q = is_none_or (slice_get ps q) (λ (pr : Procedure). pr.arguments == 0)
+
+-- a procedure is there
+abbrev pub is_procedure : List Procedure → ℕ → Bool
+is_procedure ps q = nat_lt q (length ps)
+
+-- the procedures that the values of a block call, in order
+abbrev pub named_procedures : Block → List ℕ
+named_procedures block = filter_map procedure_named (values block)
+
 -- BLOCKS
 
 -- the block of a number; blocks count from 1
@@ -178,9 +186,13 @@ block_of operand = None
 abbrev pub named_blocks : Block → List ℕ
 named_blocks block = filter_map (λ (exit : Exit). number_of exit.way) (exits block) ++ filter_map block_of (values block)
 
+-- a block is there
+abbrev pub is_block : List Block → ℕ → Bool
+is_block bs b = is_some (block_at bs b)
+
 -- the blocks that a block names are there
 abbrev pub has_named_blocks : List Block → Block → Bool
-has_named_blocks bs block = list_all (λ target. is_some (block_at bs target)) (named_blocks block)
+has_named_blocks bs block = list_all (is_block bs) (named_blocks block)
 
 -- a way from the block of number b leads to no GENERATE
 abbrev pub leads_to_no_generate : List Block → ℕ → Way → Bool
@@ -213,6 +225,31 @@ names_calls bs row = list_all (is_call_at bs) row.blocks
 abbrev pub has_return_rows : List ReturnRow → TableState → Bool
 has_return_rows rows row = list_all (λ r. nat_lt r (length rows)) (return_rows_of row)
 
+-- OPERANDS
+
+-- an operand names no entity of another kind than what it needs, and calls no procedure that takes arguments
+abbrev pub names_well : Parts → Operand → Bool
+names_well p o = is_none_or (entity_of o) (is_no_other_kind p.entities) && is_none_or (procedure_named o) (takes_no_arguments p.procedures)
+
+-- the entity that an operand names and the procedure that it calls are there
+abbrev pub names_what_is_there : Parts → Operand → Bool
+names_what_is_there p o = is_none_or (entity_of o) (is_there p.entities) && is_none_or (procedure_named o) (is_procedure p.procedures)
+
+-- the block that an operand names is there
+abbrev pub names_a_block : Parts → Operand → Bool
+names_a_block p o = is_none_or (block_of o) (is_block p.blocks)
+
+-- the argument of a function isn't a function's value itself
+abbrev pub has_plain_argument : Kind → Bool
+has_plain_argument (kinds.Function f) = not (is_function_value f.argument)
+has_plain_argument kind = true
+
+-- half the range of a time isn't a function's value: that would stand for a factor of the mean
+abbrev pub has_plain_half : Block → Bool
+has_plain_half (blocks.Generate g) = not (is_function_value g.interval.half)
+has_plain_half (blocks.Advance time) = not (is_function_value time.half)
+has_plain_half block = true
+
 -- CONSTANTS
 
 -- a block moves from 1 to 2^20 units
@@ -231,11 +268,12 @@ has_good_constants block = true
 
 -- THE CHECKS
 
--- the entities that are named at a place are of the right kinds (10) and there (11)
-abbrev pub entity_checks : List Entity → Place → List Named → List Check
-entity_checks es place named =
-    check codes.wrong_kind place (names_no_other_kind es named)
-    ∷ check codes.no_entity place (are_there es named)
+-- of the entity of number e, by the operand that is evaluated for it: that names an entity of the right kind, calls no procedure with arguments, and is no function's value where it is a function's argument (10); the entity and the procedure are there (11), and so is the block (12)
+abbrev pub entity_checks : Parts → ℕ → Entity → List Check
+entity_checks p e entity =
+    check codes.wrong_kind (places.Entity e) (is_none_or (operand_of entity.kind) (names_well p) && has_plain_argument entity.kind)
+    ∷ check codes.no_entity (places.Entity e) (is_none_or (operand_of entity.kind) (names_what_is_there p))
+    ∷ check codes.no_block (places.Entity e) (is_none_or (operand_of entity.kind) (names_a_block p))
     ∷ []
 
 -- the blocks of the return row of number r are there and call subroutines (10)
@@ -262,6 +300,13 @@ exit_checks bs b block =
 abbrev pub constant_checks : ℕ → Block → List Check
 constant_checks b block = check codes.bad_constant (places.Block b) (has_good_constants block) ∷ []
 
--- of the block of number b: its entities, its exits and its constants
+-- the block of number b names entities of the right kinds, calls no procedure with arguments, and has no function's value as half the range of a time (10); the entities and procedures are there (11)
+abbrev pub naming_checks : Parts → ℕ → Block → List Check
+naming_checks p b block =
+    check codes.wrong_kind (places.Block b) (names_no_other_kind p.entities (named_entities block) && list_all (takes_no_arguments p.procedures) (named_procedures block) && has_plain_half block)
+    ∷ check codes.no_entity (places.Block b) (are_there p.entities (named_entities block) && list_all (is_procedure p.procedures) (named_procedures block))
+    ∷ []
+
+-- of the block of number b: what it names, its exits and its constants
 abbrev pub block_checks : Parts → ℕ → Block → List Check
-block_checks p b block = entity_checks p.entities (places.Block b) (named_entities block) ++ exit_checks p.blocks b block ++ constant_checks b block
+block_checks p b block = naming_checks p b block ++ exit_checks p.blocks b block ++ constant_checks b block

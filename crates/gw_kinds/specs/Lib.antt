@@ -1,5 +1,6 @@
 pub mod Checks
 pub mod Codes
+pub mod Evaluated
 pub mod Exits
 pub mod Kinds
 pub mod Laws

@@ -3,7 +3,7 @@ use Rattle.std.specs.Prelude.{◌≡◌, List, ◌++◌, None}
 use Rattle.gw_object.specs.declared.fault.Place.TheVariants as places
 use Rattle.gw_object.specs.declared.parts.Parts.{Parts}
 use Rattle.gw_kinds.specs.Checks.{Check, first_broken, numbered}
-use Rattle.gw_kinds.specs.Kinds.{return_checks, row_checks, block_checks}
+use Rattle.gw_kinds.specs.Kinds.{entity_checks, return_checks, row_checks, block_checks}
 use Rattle.gw_kinds.specs.Procedures.{procedure_checks}
 
 -- of the state table's rows, each at its block, and of blocks
@@ -14,9 +14,13 @@ row_and_block_checks p = numbered (λ b. row_checks p (places.Block b)) 1 p.stat
 abbrev pub return_and_later_checks : Parts → List Check
 return_and_later_checks p = numbered (return_checks p) 0 p.returns ++ row_and_block_checks p
 
--- every check of kinds, in order: of procedures, of return rows, of the state table's rows, and of blocks
+-- of procedures, and what comes after them
+abbrev pub procedure_and_later_checks : Parts → List Check
+procedure_and_later_checks p = numbered (procedure_checks p) 0 p.procedures ++ return_and_later_checks p
+
+-- every check of kinds, in order: of entities, of procedures, of return rows, of the state table's rows, and of blocks
 unfoldable pub kinds_checks : Parts → List Check
-kinds_checks p = numbered (procedure_checks p) 0 p.procedures ++ return_and_later_checks p
+kinds_checks p = numbered (entity_checks p) 0 p.entities ++ procedure_and_later_checks p
 
 -- kinds hold: no check of them is broken
 abbrev pub KindsPass : Parts → Type 0

@@ -1,16 +1,16 @@
-//! The entities that blocks and rows of the state table name.
+//! The entities that operands, blocks and rows of the state table name.
 
 ghost use Rattle.std.specs.Prelude.{◌≡◌, filter_map};
 ghost use Rattle.gw_kinds.specs.Kinds as model;
 ghost use Rattle.gw_kinds.specs.declared.entities.EntityKind.TheVariants as needed;
 
-use crate::evaluated::values;
+use crate::evaluation::values;
 use gw_blocks::{Block, Condition, EntityAttribute, Numbered, Operand};
 use gw_object::{Entity, Kind};
 
 /// What an entity is needed as: SEIZE and RELEASE need a facility, ENTER and LEAVE a storage, QUEUE and DEPART a queue,
-/// GATE what its condition asks of, LOGIC a logic switch and SAVEVALUE a savevalue (GPSS World Reference Manual,
-/// chapter 7).
+/// GATE what its condition asks of, LOGIC a logic switch, SAVEVALUE a savevalue and TABULATE a table (GPSS World Reference
+/// Manual, chapter 7); an attribute needs what it is of (chapter 3).
 #[derive(Clone, Copy, Debug, PartialEq, Eq)]
 pub enum EntityKind {
     /// A facility.
@@ -23,6 +23,14 @@ pub enum EntityKind {
     Switch,
     /// A savevalue.
     Savevalue,
+    /// A table.
+    Table,
+    /// A variable.
+    Variable,
+    /// A boolean variable.
+    BooleanVariable,
+    /// A function.
+    Function,
     /// What units can be inside: a storage or a queue.
     StorageOrQueue,
 }
@@ -64,6 +72,9 @@ pub(crate) fn needed_for(attribute: EntityAttribute) -> Option<EntityKind>
         EntityAttribute::QueueContent => Some(EntityKind::Queue),
         EntityAttribute::SavevalueValue => Some(EntityKind::Savevalue),
         EntityAttribute::SwitchSetting => Some(EntityKind::Switch),
+        EntityAttribute::VariableValue => Some(EntityKind::Variable),
+        EntityAttribute::BooleanValue => Some(EntityKind::BooleanVariable),
+        EntityAttribute::FunctionValue => Some(EntityKind::Function),
         EntityAttribute::BlockEntries | EntityAttribute::BlockCount => None,
     }
 }
@@ -76,7 +87,7 @@ pub(crate) fn entity_named(of: Numbered) -> Option<Named>
 }
 
 /// The entity that an operand names, if it does.
-fn entity_of(operand: &Operand) -> Option<Named>
+pub(crate) fn entity_of(operand: &Operand) -> Option<Named>
     ensures { result ≡ model.entity_of operand.now }
 {
     match operand {
@@ -110,6 +121,7 @@ fn own_entity(block: &Block) -> Option<Named>
         Block::Gate(g) => Some(needs(needed_by(g.condition), g.entity)),
         Block::Logic(l) => Some(needs(EntityKind::Switch, l.switch)),
         Block::Savevalue(s) => Some(needs(EntityKind::Savevalue, s.savevalue)),
+        Block::Tabulate(table) => Some(needs(EntityKind::Table, *table)),
         _ => None,
     }
 }
@@ -124,6 +136,10 @@ fn serves_as(needed: EntityKind, kind: &Kind) -> bool
         (EntityKind::Queue | EntityKind::StorageOrQueue, Kind::Queue) => true,
         (EntityKind::Switch, Kind::Switch(_)) => true,
         (EntityKind::Savevalue, Kind::Savevalue(_)) => true,
+        (EntityKind::Table, Kind::Table(_)) => true,
+        (EntityKind::Variable, Kind::Variable(_)) => true,
+        (EntityKind::BooleanVariable, Kind::BooleanVariable(_)) => true,
+        (EntityKind::Function, Kind::Function(_)) => true,
         _ => false,
     }
 }

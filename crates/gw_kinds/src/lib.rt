@@ -2,20 +2,23 @@
 #![tactic(auto)]
 
 mod blocks;
+mod calls;
 mod checks;
 pub mod codes;
 mod constants;
 mod entities;
-mod evaluated;
+mod evaluation;
 pub mod laws;
+mod operands;
+mod pass;
 mod procedures;
 mod returns;
 mod rows;
 mod targets;
 mod ways;
 
-pub use blocks::check_kinds;
 pub use checks::check;
 pub use entities::{EntityKind, Named};
-pub use evaluated::{Operands, values};
+pub use evaluation::{Operands, argument_in, as_operand, evaluated, operand_at, source_of, values};
+pub use pass::check_kinds;
 pub use ways::{Exit, Way, exits, leads_to, returns_to};

@@ -3,12 +3,14 @@
 ghost use Rattle.std.specs.Prelude.{◌≡◌, ◌≤◌, length};
 ghost use Rattle.gw_kinds.specs.Procedures as model;
 
+use crate::calls::is_procedure;
 use crate::checks::{NumberedChecks, check, check_each};
 use crate::codes::{BAD_CONSTANT, NO_BLOCK, NO_ENTITY, WRONG_KIND};
 use crate::entities::{Named, entity_named, is_no_other_kind, is_there};
+use crate::evaluation::{argument_in, as_operand, is_drawn};
 use crate::targets::{block_named, is_block};
 use gw_code::{Instruction, Procedure, Sna};
-use gw_object::{Fault, Parts, Place};
+use gw_object::{Entity, Fault, Parts, Place};
 
 /// The most times that a jump back may be taken.
 const MOST_TURNS: u32 = 1_000_000;
@@ -43,6 +45,16 @@ fn block_in(instruction: Instruction) -> Option<u16>
     }
 }
 
+/// Whether an instruction draws nothing: it reads no function whose argument is drawn.
+fn draws_nothing(entities: &[Entity], instruction: Instruction) -> bool
+    ensures { result ≡ model.draws_nothing entities.now instruction }
+{
+    match instruction {
+        Instruction::Value(sna) => !is_drawn(argument_in(entities, as_operand(sna))),
+        _ => true,
+    }
+}
+
 /// Whether a local is one of so many, and a jump back is taken from 1 to 1,000,000 times.
 fn has_good_numbers(locals: u8, instruction: Instruction) -> bool
     ensures { result ≡ model.has_good_numbers locals instruction }
@@ -71,10 +83,15 @@ impl NumberedChecks<Instruction> for Instructions {
         let entities = parts.entities.as_slice();
         let named = entity_in(*element);
         let is_right = named.is_none_or(|named| is_no_other_kind(entities, named));
-        check(WRONG_KIND, place, is_right)?;
+        check(
+            WRONG_KIND,
+            place,
+            is_right && draws_nothing(entities, *element),
+        )?;
         let entity_is_there = named.is_none_or(|named| is_there(entities, named));
-        let procedures = parts.procedures.as_slice().len();
-        let called_is_there = procedure_in(*element).is_none_or(|q| (q as usize) < procedures);
+        let procedures = parts.procedures.as_slice();
+        let called = procedure_in(*element);
+        let called_is_there = called.is_none_or(|called| is_procedure(procedures, called));
         check(NO_ENTITY, place, entity_is_there && called_is_there)?;
         let blocks = parts.blocks.as_slice();
         let block_is_there = block_in(*element).is_none_or(|named| is_block(blocks, named));

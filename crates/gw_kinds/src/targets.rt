@@ -1,16 +1,16 @@
 //! Where transactions go on to: the blocks there.
 
-ghost use Rattle.std.specs.Prelude.{◌≡◌, ◌≤◌, ◌+◌, Some, is_some, not};
+ghost use Rattle.std.specs.Prelude.{◌≡◌, ◌≤◌, ◌+◌, Some, not};
 ghost use Rattle.gw_kinds.specs.Kinds as model;
 
 use crate::entities::needed_for;
-use crate::evaluated::values;
+use crate::evaluation::values;
 use crate::ways::{Way, comes_back, exits, leads_to};
 use gw_blocks::{Block, Numbered, Operand};
 
 /// Whether there is a block of this number, from 1.
 pub(crate) fn is_block(blocks: &[Block], number: u16) -> bool
-    ensures { result ≡ is_some (model.block_at blocks.now number) }
+    ensures { result ≡ model.is_block blocks.now number }
 {
     number != 0 && number as usize <= blocks.len()
 }
@@ -50,7 +50,7 @@ pub(crate) fn block_named(of: Numbered) -> Option<u16>
 }
 
 /// The block that an operand names, if it does.
-fn block_of(operand: &Operand) -> Option<u16>
+pub(crate) fn block_of(operand: &Operand) -> Option<u16>
     ensures { result ≡ model.block_of operand.now }
 {
     match operand {

@@ -3,7 +3,6 @@ use Rattle.std.proofs.Common.{◌≡◌, ℕ, zero, suc, ◌+◌, ◌^◌, ◌<�
 use Rattle.std.specs.Prelude.{sum, Bool, ℤ}
 use Rattle.std.proofs.lemmas.Int.{ints}
 use Rattle.std.proofs.lemmas.List.{length-map, length-replicate}
-use Rattle.gw_blocks.specs.declared.parts.Block.{Block}
 use Rattle.gw_chains.specs.declared.tx.Member.{Member}
 use Rattle.gw_object.specs.declared.parts.Entity.{Entity}
 use Rattle.gw_object.specs.declared.parts.Parts.{Parts}
@@ -13,15 +12,15 @@ use Rattle.gw_entities.specs.Contents.{empty}
 use Rattle.gw_entities.specs.Facility.{idle}
 use Rattle.gw_object.specs.Entities.{capacity_of}
 use Rattle.gw_entities.specs.Storage.{vacant}
-use Rattle.gw_entities.specs.Table.{FacilityTable, StorageTable, QueueTable, switches_of, savevalues_of, initial_setting, initial_value}
+use Rattle.gw_entities.specs.Table.{FacilityTable, StorageTable, QueueTable, switches_of, savevalues_of, tables_of, initial_setting, initial_value, nothing_entered}
+use Rattle.gw_entities.specs.Tabulation.{Tabulation}
 use Rattle.gw_step.proofs.Nothing.{resides-nothing}
 use Rattle.gw_machine.specs.declared.machine.Machine.{Machine}
-use Rattle.gw_step.specs.Operands.{BlocksFit}
 use Rattle.gw_step.specs.Start.{nothing}
 use Rattle.gw_step.specs.State.{State}
 use Rattle.gw_step.specs.Residence.{ResidesOnce}
 use Rattle.gw_machine.specs.View.{state_of, member_number}
-use Rattle.gw_machine.specs.Coherence.{Linked}
+use Rattle.gw_machine.specs.Coherence.{Linked, IsOf}
 use Rattle.gw_machine.specs.Evaluating.{IsReadable}
 
 -- what the parts of such a machine are
@@ -44,6 +43,7 @@ pub record Begins (p : Parts) (n : ℕ) (ss : List ℕ) (m : Machine) : Type 0 w
   pub queues : m.queues ≡ record { queues = map (λ _. empty) p.entities; passed = 0 }
   pub switches : m.switches ≡ switches_of p.entities
   pub savevalues : m.savevalues ≡ savevalues_of p.entities
+  pub tables : m.tables ≡ tables_of p.entities
   pub entries : m.entries.items ≡ replicate (length p.blocks + 1) 0
   pub ended : m.ended ≡ None
 
@@ -64,7 +64,7 @@ module _ (p : Parts) (count : ℕ) (streams : List ℕ) (m : Machine) (b : Begin
       let f = ap (λ (x : FacilityTable). x.facilities) b.facilities in
       let s = ap (λ (x : StorageTable). x.storages) b.storages in
       let q = ap (λ (x : QueueTable). x.queues) b.queues in
-      rw (delay_lists, f, s, q, b.switches, b.savevalues, b.clock, b.count, b.steps, b.streams, b.scheduled, b.transactions, b.active, b.current_events, b.future_events, b.retry, b.stir, b.entries, b.ended) refl
+      rw (delay_lists, f, s, q, b.switches, b.savevalues, b.tables, b.clock, b.count, b.steps, b.streams, b.scheduled, b.transactions, b.active, b.current_events, b.future_events, b.retry, b.stir, b.entries, b.ended) refl
 
   pub linked-nothing : Linked m
   linked-nothing = record {
@@ -85,6 +85,7 @@ module _ (p : Parts) (count : ℕ) (streams : List ℕ) (m : Machine) (b : Begin
     queues = ap (λ (x : QueueTable). length x.queues) b.queues ∙ length-map p.entities (λ _. empty) ∙ sym entities;
     switches = ap (λ (xs : List Bool). length xs) b.switches ∙ length-map p.entities (λ (e : Entity). initial_setting e.kind) ∙ sym entities;
     savevalues = ap (λ (xs : List ℤ). length xs) b.savevalues ∙ length-map p.entities (λ (e : Entity). initial_value e.kind) ∙ sym entities;
+    tables = ap (λ (xs : List Tabulation). length xs) b.tables ∙ length-map p.entities (λ (e : Entity). nothing_entered e.kind) ∙ sym entities;
     entries = omega (arith, ap sum b.entries, sum_by-replicate 0 (λ (x : ℕ). x) (length p.blocks + 1) refl);
     clock = rw b.clock (grind (arith, ints));
     sound = b.sound;
@@ -98,11 +99,8 @@ module _ (p : Parts) (count : ℕ) (streams : List ℕ) (m : Machine) (is : stat
       let scheduled = ap (λ (s : State). sum s.scheduled) is ∙ sum_by-replicate 0 (λ (x : ℕ). x) (length p.blocks + 1) refl in
       (omega (arith, none), omega (arith, scheduled))
 
-  module _ (q : Parts) (bs : List Block) (own : q ≡ p) (blocks : bs ≡ q.blocks) where
-    pub nothing-fit : BlocksFit (length p.entities) p.blocks → BlocksFit (length m.facilities.facilities) bs
-    nothing-fit fit = rw (ap (λ (s : State). length s.entities.facilities) is ∙ length-map p.entities (λ _. idle), blocks, own) fit
+  pub nothing-own : IsOf p m
+  nothing-own = ap (λ (s : State). length s.entities.facilities) is ∙ length-map p.entities (λ _. idle)
 
-    pub nothing-blocks : length m.scheduled.items ≡ length bs + 1
-    nothing-blocks =
-        ap (λ (s : State). length s.scheduled) is ∙ length-replicate (length p.blocks + 1) 0
-        ∙ sym (ap (λ (xs : List Block). length xs + 1) (blocks ∙ ap (λ (x : Parts). x.blocks) own))
+  pub nothing-blocks : length m.scheduled.items ≡ length p.blocks + 1
+  nothing-blocks = ap (λ (s : State). length s.scheduled) is ∙ length-replicate (length p.blocks + 1) 0

@@ -1,4 +1,5 @@
 pub mod Evaluating
+pub mod Lending
 pub mod Handles
 pub mod Changes
 pub mod Due

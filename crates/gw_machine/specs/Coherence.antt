@@ -2,6 +2,7 @@
 use Rattle.std.specs.Prelude.{◌≡◌, ◌≢◌, ℕ, ◌<◌, ◌≤◌, ◌^◌, pos, ◌<ℤ◌, length, List, [], ◌∷◌, IfSome, Some}
 use Rattle.std.specs.List.{AllByRecursion}
 use Rattle.gw_blocks.specs.declared.parts.Block.{Block}
+use Rattle.gw_object.specs.declared.parts.Parts.{Parts}
 use Rattle.gw_chains.specs.declared.tx.Tx.{Tx}
 use Rattle.gw_chains.specs.declared.tx.Member.{Member}
 use Rattle.gw_chains.specs.declared.tx.Event.{Event}
@@ -85,6 +86,10 @@ CanBePlaced JoinsRetryList m = 0 < m.waits.retry_room
 CanBePlaced placement m = Unit {0}
 
 -- A RUNNING MACHINE
+
+-- a machine is one of an object: it has an entry for each of its entities
+abbrev pub IsOf : Parts → Machine → Type 0
+IsOf p m = length m.facilities.facilities ≡ length p.entities
 
 -- a machine of these blocks in which at most so many entries and arrivals were made
 pub record IsSteady (bs : List Block) (made : ℕ) (m : Machine) : Type 0 where

@@ -1,19 +1,17 @@
 -- Evaluating operands: for whom, what may be read of a machine, and what is answered.
 use Rattle.std.specs.Prelude.{◌≡◌, ℕ, ◌≤◌, ◌^◌, ℤ, pos, ◌≤ℤ◌, sum, List, length, Option, Some, None, IfSome, Result, Ok, Err}
 use Rattle.gw_chains.specs.declared.tx.Tx.{Tx}
+use Rattle.gw_code_flow.specs.declared.ends.PlusEnd.{PlusEnd}
 use Rattle.gw_code_flow.specs.Environment.{Environment}
-use Rattle.gw_flow.specs.Values.{Evaluation, Value, Unset}
+use Rattle.gw_step.specs.declared.ends.End.{End}
+use Rattle.gw_flow.specs.Values.{Evaluation, Value, Fails}
 use Rattle.gw_transactions.specs.declared.Transaction.{Transaction}
 use Rattle.gw_transactions.specs.Parameters.{no_parameters}
 use Rattle.gw_transactions.specs.Transactions.{Holds, IsSound}
-use Rattle.gw_step.specs.Outcome.{Outcome, Gives, EndsBy, StopsBy, ◌>>=◌}
+use Rattle.gw_step.specs.Outcome.{Outcome, Gives, EndsBy, ◌>>=◌}
 use Rattle.gw_step.specs.State.{State}
 use Rattle.gw_step.specs.Times.{environment, parameters_of}
-use Rattle.gw_machine.specs.declared.halt.Halt.{Halt}
-use Rattle.gw_machine.specs.declared.halt.Halt.TheVariants.{Ends, Stops}
 use Rattle.gw_machine.specs.declared.machine.Machine.{Machine}
-use Rattle.gw_machine.specs.declared.machine.Made.{Made}
-use Rattle.gw_machine.specs.declared.machine.Made.TheVariants as made
 use Rattle.gw_machine.specs.declared.values.Subject.{Subject}
 
 -- FOR WHOM
@@ -39,6 +37,7 @@ pub record IsReadable (m : Machine) : Type 0 where
   pub queues : length m.queues.queues ≡ length m.facilities.facilities
   pub switches : length m.switches ≡ length m.facilities.facilities
   pub savevalues : length m.savevalues ≡ length m.facilities.facilities
+  pub tables : length m.tables ≡ length m.facilities.facilities
   pub entries : sum m.entries.items ≤ 2 ^ 60
   pub clock : pos 0 ≤ℤ m.clock
   pub sound : IsSound m.transactions
@@ -52,26 +51,16 @@ pub record CanEvaluate (m : Machine) (subject : Subject) : Type 0 where
 
 -- WHAT IS ANSWERED
 
--- an operand's value, and where the streams are then; nothing where a parameter isn't set
-abbrev pub value_and_streams : Option ℤ → List ℕ → Evaluation (ℤ × List ℕ)
-value_and_streams None streams = Unset
-value_and_streams (Some value) streams = Value (value, streams)
-
--- a halt is an outcome that gives nothing
-abbrev pub halted : {A : Type 0} → Halt → Outcome A
-halted (Ends end) = EndsBy end
-halted (Stops stop) = StopsBy stop
+-- an operand's value and where the streams are then, or how its evaluation ends
+abbrev pub valued : Result ℤ PlusEnd → List ℕ → Evaluation (ℤ × List ℕ)
+valued (Ok value) streams = Value (value, streams)
+valued (Err end) streams = Fails end
 
 -- what is answered, as an outcome
-abbrev pub outcome_of : {A : Type 0} → Result A Halt → Outcome A
+abbrev pub outcome_of : {A : Type 0} → Result A End → Outcome A
 outcome_of (Ok a) = Gives a
-outcome_of (Err halt) = halted halt
+outcome_of (Err end) = EndsBy end
 
 -- a time or a moment, and where the streams are then
-abbrev pub drawn : Result ℤ Halt → List ℕ → Outcome (ℤ × List ℕ)
+abbrev pub drawn : Result ℤ End → List ℕ → Outcome (ℤ × List ℕ)
 drawn result streams = outcome_of result >>= λ value. Gives (value, streams)
-
--- what a block made that came to a halt
-abbrev pub made_by : Halt → Made
-made_by (Ends end) = made.Ends end
-made_by (Stops stop) = made.Stops stop

@@ -1,20 +1,21 @@
 -- What a call on a machine leaves.
 use Rattle.std.specs.Prelude.{[], ◌≡◌, ℕ, ◌+◌, ◌≤◌, remove, Option, Some, None, Result, Ok, Err, Bool, true, false}
 use Rattle.gw_entities.specs.declared.stop.Stop.{Stop}
+use Rattle.gw_entities.specs.Tabulation.{Tabulation}
+use Rattle.gw_num.specs.declared.arithmetic.NumFault.{NumFault}
 use Rattle.gw_num.specs.Table.{at}
-use Rattle.gw_machine.specs.declared.halt.Halt.{Halt}
+use Rattle.gw_step.specs.declared.ends.End.{End}
 use Rattle.gw_machine.specs.declared.machine.Machine.{Machine}
 use Rattle.gw_machine.specs.View.{state_of}
-use Rattle.gw_machine.specs.Evaluating.{halted}
-use Rattle.gw_step.specs.Outcome.{Outcome, Gives}
+use Rattle.gw_step.specs.Outcome.{Outcome, Gives, EndsBy}
 use Rattle.gw_step.specs.State.{State}
 
 -- THE START
 
--- the first arrivals are scheduled; or the halt that they come to is answered, and nothing is said of the new state
-abbrev pub Schedules : Option Halt → Outcome State → State → Type 0
+-- the first arrivals are scheduled; or the named end that they come to is answered, and nothing is said of the new state
+abbrev pub Schedules : Option End → Outcome State → State → Type 0
 Schedules None outcome new = outcome ≡ Gives new
-Schedules (Some halt) outcome new = outcome ≡ halted halt
+Schedules (Some end) outcome new = outcome ≡ EndsBy end
 
 -- ENTITIES
 
@@ -22,6 +23,11 @@ Schedules (Some halt) outcome new = outcome ≡ halted halt
 abbrev pub Leaves : {A T : Type 0} → Result A Stop → Result (A × T) Stop → (T → State) → State → State → Type 0
 Leaves {T = T} (Ok answer) rule puts old new = (left : T) × (rule ≡ Ok (answer, left)) × (new ≡ puts left)
 Leaves (Err stop) rule puts old new = (rule ≡ Err stop) × (new ≡ old)
+
+-- a value was entered into a table, which stands in the new state as the rule leaves it; or the rule answers a fault, and nothing changed
+abbrev pub Tabulates : Result (Unit {0}) NumFault → Result Tabulation NumFault → (Tabulation → State) → State → State → Type 0
+Tabulates (Ok done) rule puts old new = (left : Tabulation) × (rule ≡ Ok left) × (new ≡ puts left)
+Tabulates (Err fault) rule puts old new = (rule ≡ Err fault) × (new ≡ old)
 
 -- DELAY LISTS
 

@@ -6,17 +6,21 @@ ghost use Rattle.gw_entities.specs.Contents.{empty};
 ghost use Rattle.gw_entities.specs.Facility.{idle, seizing, releasing};
 ghost use Rattle.gw_entities.specs.Queue.{joined, departing};
 ghost use Rattle.gw_entities.specs.Storage.{vacant, entering, leaving};
+ghost use Rattle.gw_entities.specs.Table.{table_at};
+ghost use Rattle.gw_entities.specs.Tabulation.{tabulating};
 ghost use Rattle.gw_step.specs.Blocks as model;
 ghost use Rattle.gw_step.specs.Blocks.{has_to_wait, turned};
-ghost use Rattle.gw_step.specs.Changes.{facility, storage, queue, switch, put_facility, put_storage, put_queue, put_switch, put_savevalue};
+ghost use Rattle.gw_step.specs.Changes.{facility, storage, queue, switch, table};
+ghost use Rattle.gw_step.specs.Changes.{put_facility, put_storage, put_queue, put_switch, put_savevalue, put_table};
 ghost use Rattle.gw_machine.specs.View.{state_of};
 ghost use Rattle.gw_machine.specs.Coherence.{Linked};
 ghost use Rattle.gw_machine.specs.Evaluating.{IsReadable};
-ghost use Rattle.gw_machine.specs.Leaving.{Leaves};
+ghost use Rattle.gw_machine.specs.Leaving.{Leaves, Tabulates};
 
 use crate::machine::Machine;
 use gw_blocks::{Condition, Logic, SwitchAction, Units};
 use gw_entities::{Facility, Stop, Storage};
+use gw_num::NumFault;
 
 /// Whether the transaction of this number has to wait for a facility, since another owns it.
 fn is_anothers(facility: Facility, number: u64) -> bool
@@ -172,6 +176,24 @@ impl Machine {
     {
         self.savevalues.set(savevalue, value);
     }
+
+    // TABLES
+
+    /// A value is entered into a table. `Number` where an `i64` can't hold the sum of its values, and nothing changes then.
+    pub fn tabulate(&mut self, t: u16, value: i64) -> Result<(), NumFault>
+        requires there { t < length self.old.tables }
+        requires few { (table_at t self.old.tables).count < 2 ^ 62 }
+        ensures made { Tabulates result (tabulating value (table t (state_of self.old))) (λ v. put_table t v (state_of self.old))
+            (state_of self.old) (state_of self.new) }
+        ensures linked { Linked self.old → Linked self.new }
+        ensures frame { self.new ≡ record self.old { tables = self.new.tables } }
+        ensures table { length self.new.tables ≡ length self.old.tables }
+    {
+        self.tables.tabulate(t, value)
+    }
+
+    // CONDITIONS
+
     /// Whether it is so with an entity.
     pub fn is_so(&self, condition: Condition, entity: u16) -> bool
         requires readable { IsReadable self.now }

@@ -3,8 +3,8 @@
 
 mod clock;
 mod delays;
+mod ends;
 mod entities;
-mod halt;
 mod machine;
 mod resting;
 mod start;
@@ -12,7 +12,7 @@ mod times;
 mod transfers;
 mod values;
 
-pub use halt::{Halt, end_by};
+pub use ends::{end_by, end_by_fault};
 pub use machine::{Machine, Made};
 pub use transfers::block_of;
 pub use values::{Subject, active_subject, drawn_thousandths};

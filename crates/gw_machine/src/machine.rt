@@ -10,7 +10,7 @@ ghost use Rattle.gw_machine.specs.View.{state_of};
 ghost use Rattle.gw_machine.specs.Coherence.{Linked, Carries, Every};
 
 use gw_chains::{Cec, Fec, Memory, Tx, Waits};
-use gw_entities::{Facilities, Queues, Savevalues, Stop, Storages, Switches};
+use gw_entities::{Facilities, Queues, Savevalues, Stop, Storages, Switches, Tables};
 use gw_num::Stream;
 use gw_step::End;
 use gw_transactions::{Transaction, Transactions};
@@ -65,6 +65,8 @@ pub struct Machine {
     pub switches: Switches,
     /// The savevalues, each by its number as an entity.
     pub savevalues: Savevalues,
+    /// The tables, each by its number as an entity.
+    pub tables: Tables,
     /// The entries so far, for each block.
     pub entries: Vec<u64>,
     /// The named end, if one stands.

@@ -1,23 +1,27 @@
 //! The state before the first step.
 
 ghost use Rattle.std.specs.Prelude.{◌≡◌, Some, ◌≤◌, ◌<◌, ◌+◌, ◌^◌, length, sum, replicate, IfOk, OnOk};
-ghost use Rattle.gw_entities.specs.Table.{facilities_of, storages_of, queues_of, switches_of, savevalues_of};
-ghost use Rattle.gw_step.specs.Operands.{GenerateFits, OperandsFit, BlocksFit};
+ghost use Rattle.gw_entities.specs.Table.{facilities_of, storages_of, queues_of, switches_of, savevalues_of, tables_of};
+ghost use Rattle.gw_object.specs.Grammar.{HasSpelling};
+ghost use Rattle.gw_kinds.specs.Kinds.{block_at};
+ghost use Rattle.gw_verify.specs.Checks.{Checked};
+ghost use Rattle.gw_step.specs.Operands.{OperandsFit, BlocksFit, MayDraw};
 ghost use Rattle.gw_step.specs.Start as model;
+ghost use Rattle.gw_step.specs.Times.{environment_of_next};
 ghost use Rattle.gw_machine.specs.View.{state_of};
 ghost use Rattle.gw_machine.specs.Evaluating.{IsReadable, drawn};
-ghost use Rattle.gw_machine.specs.Coherence.{Linked};
+ghost use Rattle.gw_machine.specs.Coherence.{Linked, IsOf};
 ghost use Rattle.gw_machine.specs.Leaving.{Schedules};
 
-use crate::halt::Halt;
 use crate::machine::Machine;
 use gw_blocks::{Block, Generate};
 use gw_chains::{Cec, Fec, Memory, Waits};
-use gw_entities::{Facilities, Queues, Savevalues, Storages, Switches};
+use gw_entities::{Facilities, Queues, Savevalues, Storages, Switches, Tables};
 use gw_num::Stream;
 use gw_object::Object;
 use gw_step::End;
 use gw_transactions::Transactions;
+use gw_verify::Verified;
 use std::alloc::Global;
 
 /// A table of so many counts, each 0.
@@ -35,6 +39,7 @@ struct EntityTables {
     queues: Queues,
     switches: Switches,
     savevalues: Savevalues,
+    tables: Tables,
 }
 
 /// The entities of an object as they are at first. It fails for want of memory.
@@ -44,6 +49,7 @@ fn entity_tables(alloc: Global, object: &Object) -> Result<EntityTables, Memory>
     ensures queues { IfOk result (λ t. t.queues ≡ queues_of object.now.entities) }
     ensures switches { IfOk result (λ t. t.switches ≡ switches_of object.now.entities) }
     ensures savevalues { IfOk result (λ t. t.savevalues ≡ savevalues_of object.now.entities) }
+    ensures tables { IfOk result (λ t. t.tables ≡ tables_of object.now.entities) }
 {
     Ok(EntityTables {
         facilities: Facilities::new(alloc, object)?,
@@ -51,6 +57,7 @@ fn entity_tables(alloc: Global, object: &Object) -> Result<EntityTables, Memory>
         queues: Queues::new(alloc, object)?,
         switches: Switches::new(alloc, object)?,
         savevalues: Savevalues::new(alloc, object)?,
+        tables: Tables::new(alloc, object)?,
     })
 }
 
@@ -90,6 +97,7 @@ impl Machine {
             queues: tables.queues,
             switches: tables.switches,
             savevalues: tables.savevalues,
+            tables: tables.tables,
             entries,
             ended: None,
         })
@@ -97,26 +105,45 @@ impl Machine {
 
     /// When the first arrival of a GENERATE block comes, in clock units: at the time that the block gives, which draws
     /// nothing, else after a drawn time. The streams are the machine's own, and are moved by the draw.
-    fn first_moment(&self, g: &Generate, streams: &mut [Stream; 16]) -> Result<i64, Halt>
+    fn first_moment(
+        &self,
+        verified: &Verified,
+        g: &Generate,
+        streams: &mut [Stream; 16],
+    ) -> Result<i64, End>
+        requires own { IsOf verified.now self.now }
         requires readable { IsReadable self.now }
-        requires operands { GenerateFits (length self.now.facilities.facilities) g.now }
-        requires own { streams.old ≡ self.now.streams }
-        ensures { model.first_moment g.now (state_of self.now) g.now.first ≡ drawn result streams.new }
+        requires interval { MayDraw verified.now (environment_of_next g.now.priority (state_of self.now)) g.now.interval }
+        requires streams { streams.old ≡ self.now.streams }
+        ensures { model.first_moment verified.now g.now (state_of self.now) g.now.first ≡ drawn result streams.new }
     {
         match g.first {
             Some(time) => Ok(time),
-            None => self.drawn_moment(self.next_subject(g.priority), g.interval, streams),
+            None => {
+                let subject = self.next_subject(g.priority);
+                self.drawn_moment(verified, subject, g.interval, streams)
+            }
         }
     }
 
-    /// Schedules the first arrival of a block, if it is a GENERATE, or answers what its time comes to.
-    fn first_arrival(&mut self, number: u16, block: &Block) -> Result<Option<Halt>, Memory>
+    /// Schedules the first arrival of the block of this number, if it is a GENERATE, or answers the named end that its time
+    /// comes to.
+    fn first_arrival(
+        &mut self,
+        verified: &Verified,
+        number: u16,
+        block: &Block,
+    ) -> Result<Option<End>, Memory>
+        requires spelled { HasSpelling verified.now }
+        requires checked { Checked verified.now }
+        requires own { IsOf verified.now self.old }
         requires linked { Linked self.old }
         requires readable { IsReadable self.old }
-        requires operands { OperandsFit (length self.old.facilities.facilities) block.now }
+        requires there { block_at verified.now.blocks number ≡ Some block.now }
         requires block { number < length self.old.scheduled.items }
         requires few { (length self.old.transactions.txs < 2 ^ 60) × (sum self.old.scheduled.items < 2 ^ 60) }
-        ensures made { IfOk result (λ halt. Schedules halt (model.first_arrival number block.now (state_of self.old)) (state_of self.new)) }
+        ensures made { IfOk result (λ end. Schedules end (model.first_arrival verified.now number block.now (state_of self.old))
+            (state_of self.new)) }
         ensures linked { OnOk result (Linked self.new) }
         ensures readable { OnOk result (IsReadable self.new) }
         ensures entities { OnOk result (self.new.facilities ≡ self.old.facilities) }
@@ -129,31 +156,34 @@ impl Machine {
             _ => return Ok(None),
         };
         let mut streams = self.streams;
-        match self.first_moment(g, &mut streams) {
+        match self.first_moment(verified, g, &mut streams) {
             Ok(moment) => {
                 self.reserve_arrival()?;
                 self.set_streams(&streams);
                 self.arrive(number, g.priority, moment);
                 Ok(None)
             }
-            Err(halt) => Ok(Some(halt)),
+            Err(end) => Ok(Some(end)),
         }
     }
 
-    /// Schedules the first arrival of each GENERATE block, up to the first block whose time comes to something else.
-    fn first_arrivals(&mut self, blocks: &[Block]) -> Result<Option<Halt>, Memory>
+    /// Schedules the first arrival of each GENERATE block, up to the first block whose time comes to a named end.
+    fn first_arrivals(&mut self, verified: &Verified) -> Result<Option<End>, Memory>
+        requires own { IsOf verified.now self.old }
         requires linked { Linked self.old }
         requires readable { IsReadable self.old }
-        requires fit { BlocksFit (length self.old.facilities.facilities) blocks.now }
-        requires blocks { length self.old.scheduled.items ≡ length blocks.now + 1 }
+        requires few_blocks { length verified.now.blocks ≤ 4096 }
+        requires blocks { length self.old.scheduled.items ≡ length verified.now.blocks + 1 }
         requires few { (length self.old.transactions.txs < 2 ^ 50) × (sum self.old.scheduled.items < 2 ^ 50) }
-        ensures made { IfOk result (λ halt. Schedules halt (model.first_arrivals 1 blocks.now (state_of self.old)) (state_of self.new)) }
+        ensures made { IfOk result (λ end. Schedules end
+            (model.first_arrivals verified.now 1 verified.now.blocks (state_of self.old)) (state_of self.new)) }
         ensures linked { OnOk result (Linked self.new) }
     {
+        let blocks = verified.object().parts().blocks.as_slice();
         for i in 0..blocks.len() {
-            let halt = self.first_arrival((i + 1) as u16, &blocks[i])?;
-            if halt.is_some() {
-                return Ok(halt);
+            let end = self.first_arrival(verified, (i + 1) as u16, &blocks[i])?;
+            if end.is_some() {
+                return Ok(end);
             }
         }
         Ok(None)
@@ -177,23 +207,22 @@ impl Machine {
     }
 
     /// The start state: the first arrivals are scheduled; or nothing is, where one of them comes to a named end, which
-    /// stands then, or to an error stop.
+    /// stands then.
     pub fn start(
         alloc: Global,
-        object: &Object,
+        verified: &Verified,
         count: u64,
         streams: [Stream; 16],
     ) -> Result<Machine, Memory>
         requires few { count ≤ 2 ^ 40 }
-        requires fit { BlocksFit (length object.now.entities) object.now.blocks }
-        ensures state { IfOk result (λ m. state_of m ≡ model.start object.now count streams) }
+        requires fit { BlocksFit (length verified.now.entities) verified.now.blocks }
+        ensures state { IfOk result (λ m. state_of m ≡ model.start verified.now count streams) }
         ensures linked { IfOk result Linked }
     {
-        let mut machine = Machine::nothing(alloc, object, count, streams)?;
-        match machine.first_arrivals(object.parts().blocks.as_slice())? {
+        let mut machine = Machine::nothing(alloc, verified.object(), count, streams)?;
+        match machine.first_arrivals(verified)? {
             None => Ok(machine),
-            Some(Halt::Ends(end)) => Machine::ended_by(alloc, object, count, streams, end),
-            Some(Halt::Stops(_)) => Machine::nothing(alloc, object, count, streams),
+            Some(end) => Machine::ended_by(alloc, verified.object(), count, streams, end),
         }
     }
 }

@@ -1,32 +1,33 @@
 //! Drawn times and moments.
 
-ghost use Rattle.std.specs.Prelude.{◌≡◌, length};
+ghost use Rattle.std.specs.Prelude.{◌≡◌};
 ghost use Rattle.gw_num.specs.Generator as generator;
 ghost use Rattle.gw_flow.specs.Values as values;
-ghost use Rattle.gw_step.specs.Operands.{SpreadFits};
-ghost use Rattle.gw_step.specs.Outcome.{evaluated};
+ghost use Rattle.gw_step.specs.Operands.{MayDraw};
 ghost use Rattle.gw_step.specs.Times as model;
 ghost use Rattle.gw_machine.specs.View.{state_of};
-ghost use Rattle.gw_machine.specs.Evaluating.{environment_for, CanEvaluate, outcome_of, drawn};
+ghost use Rattle.gw_machine.specs.Coherence.{IsOf};
+ghost use Rattle.gw_machine.specs.Evaluating.{environment_for, CanEvaluate, valued, outcome_of, drawn};
 
-use crate::halt::{Halt, end_by};
+use crate::ends::{end_by, end_by_fault, ended_by};
 use crate::machine::Machine;
 use crate::values::Subject;
 use gw_blocks::Spread;
-use gw_entities::Stop;
+use gw_code_flow::PlusEnd;
 use gw_num::{NumFault, Stream, add};
 use gw_step::End;
+use gw_verify::Verified;
 
 /// The clock so much later, in clock units. A time below 0, and a moment that an i64 can't hold, are named ends.
-fn moment_after(clock: i64, time: i64) -> Result<i64, Halt>
+fn moment_after(clock: i64, time: i64) -> Result<i64, End>
     ensures { outcome_of result ≡ model.moment_after clock time }
 {
     if time < 0 {
-        return Err(Halt::Ends(End::NegativeTime));
+        return Err(End::NegativeTime);
     }
     match add(clock, time) {
         Ok(moment) => Ok(moment),
-        Err(fault) => Err(Halt::Ends(end_by(fault))),
+        Err(fault) => Err(end_by_fault(fault)),
     }
 }
 
@@ -46,43 +47,45 @@ impl Machine {
     /// streams.
     fn drawn_time(
         &self,
+        verified: &Verified,
         subject: Subject,
         spread: Spread,
         streams: &mut [Stream; 16],
-    ) -> Result<i64, Halt>
+    ) -> Result<i64, PlusEnd>
+        requires own { IsOf verified.now self.now }
         requires subject { CanEvaluate self.now subject }
-        requires spread { SpreadFits (length self.now.facilities.facilities) spread }
-        ensures { evaluated (values.drawn_time (environment_for subject (state_of self.now)) spread streams.old) ≡
-            drawn result streams.new }
+        requires spread { MayDraw verified.now (environment_for subject (state_of self.now)) spread }
+        ensures { values.drawn_time verified.now (environment_for subject (state_of self.now)) spread streams.old ≡
+            valued result streams.new }
     {
-        let Some(mean) = self.value(subject, spread.mean, streams) else {
-            return Err(Halt::Stops(Stop::UnsetParam));
-        };
-        let Some(half) = self.value(subject, spread.half, streams) else {
-            return Err(Halt::Stops(Stop::UnsetParam));
-        };
+        let mean = self.value(verified, subject, spread.mean, streams)?;
+        let half = self.value(verified, subject, spread.half, streams)?;
         match spread_from(streams[0], mean, half) {
             Ok((time, stream)) => {
                 streams[0] = stream;
                 Ok(time)
             }
-            Err(fault) => Err(Halt::Ends(end_by(fault))),
+            Err(fault) => Err(ended_by(fault)),
         }
     }
 
     /// The moment that lies a drawn time after the clock, in clock units.
     pub fn drawn_moment(
         &self,
+        verified: &Verified,
         subject: Subject,
         spread: Spread,
         streams: &mut [Stream; 16],
-    ) -> Result<i64, Halt>
+    ) -> Result<i64, End>
+        requires own { IsOf verified.now self.now }
         requires subject { CanEvaluate self.now subject }
-        requires spread { SpreadFits (length self.now.facilities.facilities) spread }
-        ensures { model.drawn_moment (environment_for subject (state_of self.now)) spread self.now.clock streams.old ≡
+        requires spread { MayDraw verified.now (environment_for subject (state_of self.now)) spread }
+        ensures { model.drawn_moment verified.now (environment_for subject (state_of self.now)) spread self.now.clock streams.old ≡
             drawn result streams.new }
     {
-        let time = self.drawn_time(subject, spread, streams)?;
-        moment_after(self.clock, time)
+        match self.drawn_time(verified, subject, spread, streams) {
+            Ok(time) => moment_after(self.clock, time),
+            Err(end) => Err(end_by(end)),
+        }
     }
 }

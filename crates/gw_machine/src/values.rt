@@ -1,25 +1,34 @@
 //! Operand values.
 
-ghost use Rattle.std.specs.Prelude.{◌≡◌, ◌≤◌, ◌<◌, ◌^◌, ◌%◌, ◌-ℤ◌, pos, ◌≤ℤ◌, not, length, None, IfSome};
+ghost use Rattle.std.specs.Prelude.{◌≡◌, ◌≤◌, ◌<◌, ◌%◌, ℕ, None, IfSome};
 ghost use Rattle.gw_num.specs.Generator as generator;
 ghost use Rattle.gw_num.specs.Table.{at};
-ghost use Rattle.gw_code_flow.specs.Environment.{attribute_value};
+ghost use Rattle.gw_blocks.specs.Grammar.{OperandFits};
+ghost use Rattle.gw_object.specs.Grammar.{HasSpelling};
+ghost use Rattle.gw_object.specs.declared.parts.Parts.{Parts};
+ghost use Rattle.gw_kinds.specs.Laws.{OperandHolds};
+ghost use Rattle.gw_code_flow.specs.Code.{asked_by_source};
+ghost use Rattle.gw_code_flow.specs.Environment.{ReadTheSame};
+ghost use Rattle.gw_code_flow.specs.Laws.{HasSet};
 ghost use Rattle.gw_flow.specs.Values as values;
-ghost use Rattle.gw_kinds.specs.Kinds.{needed_for};
-ghost use Rattle.gw_entities.specs.Attributes.{attribute_of};
-ghost use Rattle.gw_entities.specs.Facility.{is_idle};
+ghost use Rattle.gw_verify.specs.Checks.{Checked};
+ghost use Rattle.gw_plus.specs.Reading as lent;
 ghost use Rattle.gw_transactions.specs.Transactions.{Holds};
-ghost use Rattle.gw_step.specs.Operands.{ValueFits};
+ghost use Rattle.gw_step.specs.Operands.{MayEvaluate};
 ghost use Rattle.gw_step.specs.Times as model;
 ghost use Rattle.gw_machine.specs.View.{state_of};
-ghost use Rattle.gw_machine.specs.Evaluating.{subject_of, parameters_for, environment_for, IsReadable, CanEvaluate, value_and_streams};
+ghost use Rattle.gw_machine.specs.Coherence.{IsOf};
+ghost use Rattle.gw_machine.specs.Evaluating.{subject_of, parameters_for, environment_for, IsReadable, CanEvaluate, valued};
 
 use crate::machine::Machine;
-use gw_blocks::{Attribute, EntityAttribute, Operand};
+use gw_blocks::{EntityAttribute, Numbered, Operand};
 use gw_chains::Tx;
-use gw_entities::{Facility, Storage};
-use gw_num::{Stream, truth_value};
+use gw_code_flow::{PlusEnd, made};
+use gw_kinds::source_of;
+use gw_num::Stream;
+use gw_plus::{Env, eval};
 use gw_transactions::Transaction;
+use gw_verify::Verified;
 
 /// For whom operands are evaluated: the active transaction, or the next that is to arrive.
 #[derive(Clone, Copy, Debug, PartialEq, Eq)]
@@ -34,49 +43,29 @@ pub struct Subject {
     pub tx: Option<Tx>,
 }
 
-// NUMBERS
-
-/// A count as a value.
-fn value_of(count: u64) -> i64
-    requires { count ≤ 2 ^ 62 }
-    ensures { result ≡ pos count }
-{
-    count as i64
-}
-
-/// The clock less a mark time, in clock units.
-fn transit_time(clock: i64, mark: i64) -> i64
-    requires { (pos 0 ≤ℤ clock) × (pos 0 ≤ℤ mark) }
-    ensures { result ≡ clock -ℤ mark }
-{
-    clock - mark
-}
-
-/// What is left of a storage's capacity, in units.
-fn remaining(storage: Storage) -> i64
-    requires { storage.contents.content ≤ 2 ^ 62 }
-    ensures { result ≡ pos storage.capacity -ℤ pos storage.contents.content }
-{
-    i64::from(storage.capacity) - value_of(storage.contents.content)
-}
-
-/// Whether somebody owns a facility.
-fn is_owned(facility: Facility) -> bool
-    ensures { result ≡ not (is_idle facility) }
-{
-    facility.owner.is_some()
-}
-
 // STREAMS
 
-/// Thousandths drawn from a stream, and where the stream then is.
-fn thousandths_from(stream: Stream) -> (u32, Stream)
-    ensures thousandths { result.0 ≡ generator.next_after stream % 1000 }
+/// A number below a bound drawn from a stream, and where the stream then is.
+fn below_from(bound: u32, stream: Stream) -> (u32, Stream)
+    requires { 0 < bound }
+    ensures drawn { result.0 ≡ generator.next_after stream % bound }
     ensures stream { result.1 ≡ generator.next_after stream }
 {
-    let mut drawn = stream;
-    let thousandths = drawn.thousandths();
-    (thousandths, drawn)
+    let mut moved = stream;
+    let drawn = moved.next() % bound;
+    (drawn, moved)
+}
+
+/// A number from 0 on and below a bound, drawn from the stream of this number, from 1 to 16.
+fn drawn_below(bound: u32, number: u8, streams: &mut [Stream; 16]) -> i64
+    requires bound { 0 < bound }
+    requires stream { (1 ≤ number) × (number ≤ 16) }
+    ensures { values.drawn_below bound number streams.old ≡ (result, streams.new) }
+{
+    let place = number as usize - 1;
+    let (drawn, stream) = below_from(bound, streams[place]);
+    streams[place] = stream;
+    i64::from(drawn)
 }
 
 /// Thousandths, from 0 to 999, drawn from the stream of this number, from 1 to 16.
@@ -84,10 +73,23 @@ pub fn drawn_thousandths(number: u8, streams: &mut [Stream; 16]) -> i64
     requires { (1 ≤ number) × (number ≤ 16) }
     ensures { values.drawn_thousandths number streams.old ≡ (result, streams.new) }
 {
-    let place = number as usize - 1;
-    let (thousandths, stream) = thousandths_from(streams[place]);
-    streams[place] = stream;
-    value_of(u64::from(thousandths))
+    drawn_below(1000, number, streams)
+}
+
+/// Below what a draw for an operand is: it is in millionths for the value of a function, else in thousandths.
+fn draws_below(operand: Operand) -> u32
+    ensures bound { result ≡ values.draws_below operand }
+    ensures some { 0 < result }
+{
+    match operand {
+        Operand::OfEntity(
+            Numbered {
+                attribute: EntityAttribute::FunctionValue,
+                ..
+            },
+        ) => 1_000_000,
+        _ => 1000,
+    }
 }
 
 // OPERANDS
@@ -119,67 +121,89 @@ impl Machine {
         }
     }
 
-    /// The value of a parameter, if it is set.
-    fn parameter_for(&self, tx: Option<Tx>, number: u8) -> Option<i64>
+    /// The parameters of a subject by their numbers, as far as they are set.
+    fn parameters_for(&self, tx: Option<Tx>) -> &[Option<i64>]
         requires { IfSome tx (Holds self.now.transactions) }
-        ensures { result ≡ at None (parameters_for tx (state_of self.now)) number }
+        ensures { (number : ℕ) → at None result.now number ≡ at None (parameters_for tx (state_of self.now)) number }
     {
         match tx {
-            Some(tx) => self.transactions.parameter(tx, number),
-            None => None,
+            Some(tx) => self.transactions.parameters(tx),
+            None => &[],
         }
     }
 
-    /// An attribute of the clock, the termination count or the transaction.
-    fn attribute_value(&self, subject: Subject, attribute: Attribute) -> i64
+    /// What operands and procedures read, for a subject.
+    fn env(&self, subject: Subject) -> Env<'_>
         requires { CanEvaluate self.now subject }
-        ensures { result ≡ attribute_value (environment_for subject (state_of self.now)) attribute }
+        ensures same { ReadTheSame (lent.environment_of result) (environment_for subject (state_of self.now)) }
+        ensures own { (p : Parts) → IsOf p self.now → lent.IsOf p result }
     {
-        match attribute {
-            Attribute::Clock | Attribute::AbsoluteClock => self.clock,
-            Attribute::Priority => i64::from(subject.priority),
-            Attribute::TransitTime => transit_time(self.clock, subject.mark),
-            Attribute::TransactionNumber => value_of(subject.number),
-            Attribute::TerminationCount => self.count,
+        Env {
+            number: subject.number,
+            priority: subject.priority,
+            mark: subject.mark,
+            parameters: self.parameters_for(subject.tx),
+            clock: self.clock,
+            count: self.count,
+            facilities: &self.facilities,
+            storages: &self.storages,
+            queues: &self.queues,
+            switches: &self.switches,
+            savevalues: &self.savevalues,
+            tables: &self.tables,
+            entries: &self.entries,
+            here: self.transactions.here_by_block(),
         }
     }
 
-    /// An attribute of an entity, by its number from 0, or of a block, by its number from 1.
-    fn attribute_of(&self, attribute: EntityAttribute, number: u16) -> i64
-        requires readable { IsReadable self.now }
-        requires there { IfSome (needed_for attribute) (λ _. number < length self.now.facilities.facilities) }
-        ensures { result ≡ attribute_of (model.readings (state_of self.now)) attribute number }
+    /// The value of a source, where draws are below a bound, evaluated for a subject with these streams, or how its
+    /// evaluation ends.
+    fn source_value(
+        &self,
+        verified: &Verified,
+        subject: Subject,
+        bound: u32,
+        source: Operand,
+        streams: &mut [Stream; 16],
+    ) -> Result<i64, PlusEnd>
+        requires spelled { HasSpelling verified.now }
+        requires checked { Checked verified.now }
+        requires own { IsOf verified.now self.now }
+        requires subject { CanEvaluate self.now subject }
+        requires bound { 0 < bound }
+        requires holds { OperandHolds verified.now source }
+        requires fits { OperandFits source }
+        requires set { HasSet (environment_for subject (state_of self.now)) (asked_by_source verified.now source) }
+        ensures { values.source_value verified.now (environment_for subject (state_of self.now)) bound source streams.old ≡
+            valued result streams.new }
     {
-        match attribute {
-            EntityAttribute::FacilityOwned => truth_value(is_owned(self.facilities.get(number))),
-            EntityAttribute::StorageContent => value_of(self.storages.get(number).contents.content),
-            EntityAttribute::StorageRemaining => remaining(self.storages.get(number)),
-            EntityAttribute::QueueContent => value_of(self.queues.get(number).content),
-            EntityAttribute::SavevalueValue => self.savevalues.get(number),
-            EntityAttribute::SwitchSetting => truth_value(self.switches.get(number)),
-            EntityAttribute::BlockEntries => value_of(self.entries_at(number)),
-            EntityAttribute::BlockCount => value_of(self.transactions.here(number) as u64),
+        match source {
+            Operand::Random(stream) => Ok(drawn_below(bound, stream, streams)),
+            Operand::Procedure(procedure) => eval(verified, procedure, &self.env(subject)),
+            _ => Ok(self.env(subject).kept(source)),
         }
     }
 
-    /// The value of an operand, evaluated for a subject with these streams. None where a parameter isn't set.
+    /// The value of an operand, evaluated for a subject with these streams, or how its evaluation ends.
     pub fn value(
         &self,
+        verified: &Verified,
         subject: Subject,
         operand: Operand,
         streams: &mut [Stream; 16],
-    ) -> Option<i64>
+    ) -> Result<i64, PlusEnd>
+        requires own { IsOf verified.now self.now }
         requires subject { CanEvaluate self.now subject }
-        requires operand { ValueFits (length self.now.facilities.facilities) operand }
-        ensures { values.operand_value (environment_for subject (state_of self.now)) operand streams.old ≡
-            value_and_streams result streams.new }
+        requires operand { MayEvaluate verified.now (environment_for subject (state_of self.now)) operand }
+        ensures { values.operand_value verified.now (environment_for subject (state_of self.now)) operand streams.old ≡
+            valued result streams.new }
     {
-        match operand {
-            Operand::Constant(number) => Some(number),
-            Operand::Parameter(number) => self.parameter_for(subject.tx, number),
-            Operand::Attribute(attribute) => Some(self.attribute_value(subject, attribute)),
-            Operand::OfEntity(of) => Some(self.attribute_of(of.attribute, of.number)),
-            Operand::Random(stream) => Some(drawn_thousandths(stream, streams)),
+        if let Operand::Constant(number) = operand {
+            return Ok(number);
         }
+        let entities = verified.object().parts().entities.as_slice();
+        let source = source_of(entities, operand);
+        let value = self.source_value(verified, subject, draws_below(operand), source, streams)?;
+        Ok(made(entities, operand, value))
     }
 }

@@ -2,7 +2,6 @@
 use Rattle.std.proofs.Common.{◌≡◌, ℕ, suc, ◌+◌, ◌<◌, Bool, true, false, IsTrue, not, List, [], ◌∷◌, ◌++◌, length, get_or, take, refl, sym, subst, ◌∙◌, append_assoc, add-one, arith}
 use Rattle.std.specs.Bool.{Decides}
 use Rattle.std.specs.List.{All, AllPairs, list_any}
-use Rattle.std.specs.Int.{w32, w64}
 use Rattle.std.proofs.Math.ListN.{get_or-append}
 use Rattle.std.proofs.Math.Seq.{take-suc, get_or-append_seam}
 use Rattle.std.proofs.lemmas.Bool.Decides.{Decides-and, Decides-eqb, nat_tests}
@@ -11,14 +10,17 @@ use Rattle.std.proofs.lemmas.List.Folds.{Any-from_list_any, list_any_at}
 use Rattle.std.proofs.lemmas.List.Quantifiers.{all_pairs_push}
 use Rattle.std.proofs.lemmas.Slice.Eq.{bytes_eq-Decides}
 use Rattle.gw_object.specs.Codes as codes
-use Rattle.gw_object.specs.Limits.{most_letters, greatest_capacity}
+use Rattle.gw_object.specs.Limits.{most_letters}
 use Rattle.gw_object.specs.declared.parts.Kind.{Kind}
-use Rattle.gw_object.specs.declared.parts.Kind.TheVariants.{Facility, Storage, Queue, Switch, Savevalue}
+use Rattle.gw_object.specs.declared.parts.Kind.TheVariants.{Facility, Storage, Queue, Switch, Savevalue, Table, Variable, BooleanVariable, Function}
 use Rattle.gw_object.specs.declared.parts.Entity.{Entity}
-use Rattle.gw_fields.specs.Fields.{Field, byte, flag, number, tested, both, nothing, form_read, by_tag, plain, ElementsFit}
-use Rattle.gw_object.specs.Entities.{is_letter, letter, name, kind_tag, capacity, initial_value, kind_fields, KindFits, IsLettered, EntityFits, IsNamed, AreNamesakes, is_named, new_name, kind_form, kind_forms, entity_spelling, entity_read, FitsBehind, entity}
+use Rattle.gw_fields.specs.Fields.{Field, byte, flag, tested, both, nothing, form_read, by_tag, plain, ElementsFit}
+use Rattle.gw_blocks.specs.Grammar.{procedure_number}
+use Rattle.gw_object.specs.Entities.{is_letter, letter, name, kind_tag, capacity, initial_value, table, function, kind_fields, KindFits, KindAscends, IsLettered, EntityFits, EntityAscends, IsNamed, AreNamesakes, is_named, new_name, kind_form, kind_forms, entity_spelling, entity_read, FitsBehind, entity}
+use Rattle.gw_object.proofs.KindLaws.{capacity_exact, initial_value_exact, table_exact, function_exact}
+use Rattle.gw_blocks.proofs.BlockLaws.{procedure_number_exact}
 use Rattle.gw_fields.proofs.OneOf.{flag_exact}
-use Rattle.gw_fields.proofs.Exact.{ReadsBack, ◌also◌, IsExact, IsExactForm, AreExactForms, IsExactElement, behind_exact, by_tag_takes, by_tag_within, tag_reads_back, byte_exact, wide32, wide64, number_exact, signed_exact, tested_exact, both_exact, fitting_exact, ranged_exact, nothing_exact, plain_exact, listed_exact, All-from_fit, fit-from_All}
+use Rattle.gw_fields.proofs.Exact.{ReadsBack, ◌also◌, IsExact, IsExactForm, AreExactForms, IsExactElement, behind_exact, by_tag_takes, by_tag_within, tag_reads_back, byte_exact, tested_exact, both_exact, fitting_exact, nothing_exact, plain_exact, listed_exact, All-from_fit, fit-from_All}
 
 -- ---- names
 
@@ -57,32 +59,32 @@ to_not false h = refl
 
 -- ---- kinds
 
-capacity_exact : IsExact capacity
-capacity_exact = ranged_exact 1 greatest_capacity (number w32) (λ n h. omega arith) (number_exact w32 wide32)
-
-initial_value_exact : IsExact initial_value
-initial_value_exact = signed_exact w64 wide64
-
 -- a kind whose byte and fields are these
-kind_form_exact : {A : Type 0} (front : List Entity) (tag : ℕ) (make : A → Kind) (fields : Field A) → ((x : A) → kind_tag (make x) ≡ tag) → ((x : A) → fields.spell x ≡ kind_fields (make x)) → ((x : A) → fields.Fits x → KindFits (make x)) → IsExact fields
+kind_form_exact : {A : Type 0} (front : List Entity) (tag : ℕ) (make : A → Kind) (fields : Field A) → ((x : A) → kind_tag (make x) ≡ tag) → ((x : A) → fields.spell x ≡ kind_fields (make x)) → ((x : A) → fields.Fits x → KindFits (make x) × KindAscends (make x)) → IsExact fields
     → IsExactForm entity_spelling (FitsBehind front) (kind_form front tag make fields)
 kind_form_exact {A} front tag make fields tags spells fits exact =
     behind_exact entity_spelling (FitsBehind front) tag (λ (n, x). record { name = n; kind = make x }) (both (new_name front tag) fields)
     (λ y. rw (tags y.1, spells y.1) refl)
     (λ y h. record {
       letters = All-from_fit (λ _ _. letter.Fits) letter.Fits (λ before left b fit. fit) y.0 [] h.0.0.2;
-      limits = record { name_least = h.0.0.0; name_most = h.0.0.1; kind = fits y.1 h.1 };
+      limits = record { name_least = h.0.0.0; name_most = h.0.0.1; kind = (fits y.1 h.1).0 };
+      ascends = (fits y.1 h.1).1;
       own = rw (tags y.1) (none_named tag y.0 front (from_not (list_any (is_named tag y.0) front) h.0.1));
     })
     (both_exact (new_name front tag) fields (new_name_exact front tag) exact)
 
 kind_forms_exact : (front : List Entity) → AreExactForms entity_spelling (FitsBehind front) (kind_forms front)
+unfolding table function
 kind_forms_exact front =
-    kind_form_exact front 1 (λ _. Facility) nothing (λ x. refl) (λ x. refl) (λ x h. tt) nothing_exact
-    also kind_form_exact front 2 (λ n. Storage n) capacity (λ x. refl) (λ x. refl) (λ x h. h) capacity_exact
-    also kind_form_exact front 3 (λ _. Queue) nothing (λ x. refl) (λ x. refl) (λ x h. tt) nothing_exact
-    also kind_form_exact front 4 (λ set. Switch set) flag (λ x. refl) (λ x. refl) (λ x h. tt) flag_exact
-    also kind_form_exact front 5 (λ n. Savevalue n) initial_value (λ x. refl) (λ x. refl) (λ x h. h) initial_value_exact
+    kind_form_exact front 1 (λ _. Facility) nothing (λ x. refl) (λ x. refl) (λ x h. (tt, tt)) nothing_exact
+    also kind_form_exact front 2 (λ n. Storage n) capacity (λ x. refl) (λ x. refl) (λ x h. (h, tt)) capacity_exact
+    also kind_form_exact front 3 (λ _. Queue) nothing (λ x. refl) (λ x. refl) (λ x h. (tt, tt)) nothing_exact
+    also kind_form_exact front 4 (λ set. Switch set) flag (λ x. refl) (λ x. refl) (λ x h. (tt, tt)) flag_exact
+    also kind_form_exact front 5 (λ n. Savevalue n) initial_value (λ x. refl) (λ x. refl) (λ x h. (h, tt)) initial_value_exact
+    also kind_form_exact front 6 (λ t. Table t) table (λ x. refl) (λ x. refl) (λ x h. (h, tt)) table_exact
+    also kind_form_exact front 8 (λ q. Variable q) procedure_number (λ x. refl) (λ x. refl) (λ x h. (h, tt)) procedure_number_exact
+    also kind_form_exact front 9 (λ q. BooleanVariable q) procedure_number (λ x. refl) (λ x. refl) (λ x h. (h, tt)) procedure_number_exact
+    also kind_form_exact front 10 (λ f. Function f) function (λ x. refl) (λ x. refl) (λ x h. h) function_exact
     also tt
 
 -- ---- entities
@@ -101,12 +103,16 @@ form_reads_back front tag make fields found exact n x new fits =
     tag_reads_back (kind_forms front) tag (λ (n, x). record { name = n; kind = make x }) (both (new_name front tag) fields) found (both_exact (new_name front tag) fields (new_name_exact front tag) exact) (n, x) (new, fits)
 
 kind_reads_back : (front : List Entity) (n : List ℕ) (k : Kind) → FitsBehind front (record { name = n; kind = k }) → ReadsBack (entity_read front) (entity_spelling (record { name = n; kind = k })) (record { name = n; kind = k })
-unfolding entity_read
+unfolding entity_read table function
 kind_reads_back front n Facility h = form_reads_back front 1 (λ _. Facility) nothing (λ _ _. refl) nothing_exact n tt (name_is_new front _ h) tt
 kind_reads_back front n (Storage c) h = form_reads_back front 2 (λ c. Storage c) capacity (λ _ _. refl) capacity_exact n c (name_is_new front _ h) h.limits.kind
 kind_reads_back front n Queue h = form_reads_back front 3 (λ _. Queue) nothing (λ _ _. refl) nothing_exact n tt (name_is_new front _ h) tt
 kind_reads_back front n (Switch set) h = form_reads_back front 4 (λ set. Switch set) flag (λ _ _. refl) flag_exact n set (name_is_new front _ h) tt
 kind_reads_back front n (Savevalue z) h = form_reads_back front 5 (λ z. Savevalue z) initial_value (λ _ _. refl) initial_value_exact n z (name_is_new front _ h) h.limits.kind
+kind_reads_back front n (Table t) h = form_reads_back front 6 (λ t. Table t) table (λ _ _. refl) table_exact n t (name_is_new front _ h) h.limits.kind
+kind_reads_back front n (Variable q) h = form_reads_back front 8 (λ q. Variable q) procedure_number (λ _ _. refl) procedure_number_exact n q (name_is_new front _ h) h.limits.kind
+kind_reads_back front n (BooleanVariable q) h = form_reads_back front 9 (λ q. BooleanVariable q) procedure_number (λ _ _. refl) procedure_number_exact n q (name_is_new front _ h) h.limits.kind
+kind_reads_back front n (Function f) h = form_reads_back front 10 (λ f. Function f) function (λ _ _. refl) function_exact n f (name_is_new front _ h) (h.limits.kind, h.ascends)
 
 pub entity_exact : IsExactElement entity
 unfolding entity_read
@@ -130,28 +136,30 @@ strangers-from_fit (x ∷ xs) front own h =
 pub record KeepRules (es : List Entity) : Type 0 where
   pub letters : All IsLettered es
   pub limits : All EntityFits es
+  pub ascend : All EntityAscends es
   pub own : AllPairs AreStrangers es
 
 pub entities_are : (es : List Entity) → ElementsFit entity.Fits [] es → KeepRules es
 entities_are es h = record {
   letters = All-from_fit entity.Fits IsLettered (λ front left e fit. fit.letters) es [] h;
   limits = All-from_fit entity.Fits EntityFits (λ front left e fit. fit.limits) es [] h;
+  ascend = All-from_fit entity.Fits EntityAscends (λ front left e fit. fit.ascends) es [] h;
   own = strangers-from_fit es [] (λ i j d lt in_none. absurd (omega arith)) h;
 }
 
-fit_behind : (xs front : List Entity) → All IsLettered xs → All EntityFits xs → AllPairs AreStrangers (front ++ xs) → ElementsFit entity.Fits front xs
-fit_behind [] front letters limits own = tt
-fit_behind (x ∷ xs) front letters limits own =
+fit_behind : (xs front : List Entity) → All IsLettered xs → All EntityFits xs → All EntityAscends xs → AllPairs AreStrangers (front ++ xs) → ElementsFit entity.Fits front xs
+fit_behind [] front letters limits ascend own = tt
+fit_behind (x ∷ xs) front letters limits ascend own =
     let whole = front ++ x ∷ xs in
     let before : All (λ other. AreStrangers other x) front = λ k d lt.
     let pair : AreStrangers (get_or whole k d) (get_or whole (length front) d) = own k (length front) d lt (omega (arith, length-append front (x ∷ xs))) in
     rw (get_or-append front (x ∷ xs) d k lt, get_or-append_seam front x xs d) at pair in (
-      record { letters = letters 0 x (omega arith); limits = limits 0 x (omega arith); own = before },
-      fit_behind xs (front ++ x ∷ []) (λ k d lt. letters (suc k) d (omega arith)) (λ k d lt. limits (suc k) d (omega arith)) (subst (AllPairs AreStrangers) (sym (append_assoc front (x ∷ []) xs)) own),
+      record { letters = letters 0 x (omega arith); limits = limits 0 x (omega arith); ascends = ascend 0 x (omega arith); own = before },
+      fit_behind xs (front ++ x ∷ []) (λ k d lt. letters (suc k) d (omega arith)) (λ k d lt. limits (suc k) d (omega arith)) (λ k d lt. ascend (suc k) d (omega arith)) (subst (AllPairs AreStrangers) (sym (append_assoc front (x ∷ []) xs)) own),
     )
 
-pub entities_fit : (es : List Entity) → All IsLettered es → All EntityFits es → AllPairs AreStrangers es → ElementsFit entity.Fits [] es
-entities_fit es letters limits own = fit_behind es [] letters limits own
+pub entities_fit : (es : List Entity) → All IsLettered es → All EntityFits es → All EntityAscends es → AllPairs AreStrangers es → ElementsFit entity.Fits [] es
+entities_fit es letters limits ascend own = fit_behind es [] letters limits ascend own
 
 -- one more entity whose kind and name none of the first ones has
 pub strangers_more : (es : List Entity) (i : ℕ) (e : Entity) (tag : ℕ) (n : List ℕ) → i < length es → e ≡ get_or es i e → tag ≡ kind_tag e.kind → n ≡ e.name → list_any (is_named tag n) (take i es) ≡ false → AllPairs AreStrangers (take i es)

@@ -1,3 +1,4 @@
 pub mod EntityLaws
+pub mod KindLaws
 pub mod ObjectLaws
 pub mod StateLaws

@@ -101,7 +101,7 @@ spelled_fits p h =
         (
           (limits.count_least, limits.count_most),
           (
-            (omega arith, limits.entities, entities_fit p.entities h.letters.names limits.each_entity h.canonical.own_names),
+            (omega arith, limits.entities, entities_fit p.entities h.letters.names limits.each_entity h.canonical.each_entity h.canonical.own_names),
             (
               (omega arith, limits.procedures, procedures_fit p.procedures limits.each_procedure h.canonical.each_procedure),
               (
@@ -141,7 +141,7 @@ fits_spelled p (h, (seeds, (count, (entities, (procedures, (blocks, (returns, (s
         each_weight = All-from_fit (λ front left. weight.Fits) weight.Fits (λ front left w h. h) p.weights [] weights.1;
         size = size;
       };
-      canonical = record { last_seed = last_seed_is p.seeds [] seeds.2; own_names = each_entity.own; each_procedure = λ k d lt. (each_procedure k d lt).1; each_return = λ k d lt. (each_return k d lt).1; each_state = λ k d lt. (each_row k d lt).1 };
+      canonical = record { last_seed = last_seed_is p.seeds [] seeds.2; own_names = each_entity.own; each_entity = each_entity.ascend; each_procedure = λ k d lt. (each_procedure k d lt).1; each_return = λ k d lt. (each_return k d lt).1; each_state = λ k d lt. (each_row k d lt).1 };
     }
 
 -- ---- reading as a whole

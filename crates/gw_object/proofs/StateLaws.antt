@@ -11,7 +11,7 @@ use Rattle.gw_object.specs.declared.parts.TableKind.TheVariants.{Num, Ret}
 use Rattle.gw_object.specs.declared.parts.TableParameter.{TableParameter}
 use Rattle.gw_object.specs.declared.parts.TableState.{TableState}
 use Rattle.gw_object.specs.declared.parts.ReturnRow.{ReturnRow}
-use Rattle.gw_fields.specs.Fields.{Field, number, ranged, nothing, optional, above_last, plain, listed, ElementsFit}
+use Rattle.gw_fields.specs.Fields.{Field, number, ranged, nothing, optional, plain, listed, ElementsFit}
 use Rattle.gw_object.specs.Grammar.{row_number, returned, ReturnRowFits, AreAscending, return_row, TableKindFits, table_kind_spelling, table_kind_forms, table_kind_read, table_kind, ParameterFits, parameter, owned, held, HeldFits, StateFits, IsAscending, state}
 use Rattle.gw_blocks.specs.Grammar.{entity_number, block_number, parameter_number}
 use Rattle.gw_blocks.proofs.BlockLaws.{entity_number_exact, block_number_exact, parameter_number_exact}

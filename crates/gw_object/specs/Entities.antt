@@ -1,14 +1,18 @@
 -- Entities: their kinds and names, and how they stand in the bytes.
-use Rattle.std.specs.Prelude.{◌≡◌, ℕ, ◌≤◌, ℤ, Bool, IsTrue, not, ◌==◌, ◌&&◌, ◌||◌, List, [], ◌∷◌, ◌++◌, length, bytes_eq}
-use Rattle.std.specs.List.{All, list_any}
+use Rattle.std.specs.Prelude.{◌≡◌, ℕ, ◌≤◌, ◌<ℤ◌, FitsSigned, int_lt, ℤ, Bool, IsTrue, not, ◌==◌, ◌&&◌, ◌||◌, List, [], ◌∷◌, ◌++◌, length, bytes_eq}
+use Rattle.std.specs.List.{All, AllPairs, list_any}
 use Rattle.std.specs.Char.{is_ascii_uppercase, is_ascii_digit}
-use Rattle.std.specs.Int.{w32, w64}
+use Rattle.std.specs.Int.{w16, w32, w64}
 use Rattle.gw_object.specs.Codes as codes
-use Rattle.gw_object.specs.Limits.{most_letters, greatest_capacity}
+use Rattle.gw_object.specs.Limits.{most_letters, greatest_capacity, greatest_width, least_classes, most_classes, most_points}
 use Rattle.gw_object.specs.declared.parts.Kind.{Kind}
-use Rattle.gw_object.specs.declared.parts.Kind.TheVariants.{Facility, Storage, Queue, Switch, Savevalue}
+use Rattle.gw_object.specs.declared.parts.Kind.TheVariants.{Facility, Storage, Queue, Switch, Savevalue, Table, Variable, BooleanVariable, Function}
+use Rattle.gw_object.specs.declared.parts.Table.{Table as TableOperands}
+use Rattle.gw_object.specs.declared.parts.Point.{Point}
+use Rattle.gw_object.specs.declared.parts.Function.{Function as FunctionOperands}
 use Rattle.gw_object.specs.declared.parts.Entity.{Entity}
-use Rattle.gw_fields.specs.Fields.{Read, Field, byte, number, signed, flag, tested, both, fitting, ranged, nothing, Form, behind, by_tag, Element, plain, listed}
+use Rattle.gw_fields.specs.Fields.{Read, Field, byte, number, signed, made, flag, tested, both, fitting, ranged, nothing, Form, behind, by_tag, Element, plain, ascending, listed}
+use Rattle.gw_blocks.specs.Grammar.{OperandFits, operand, procedure_number}
 
 -- ---- names
 
@@ -33,6 +37,10 @@ kind_tag (Storage n) = 2
 kind_tag Queue = 3
 kind_tag (Switch set) = 4
 kind_tag (Savevalue n) = 5
+kind_tag (Table t) = 6
+kind_tag (Variable q) = 8
+kind_tag (BooleanVariable q) = 9
+kind_tag (Function f) = 10
 
 -- a storage's capacity, in units
 abbrev pub capacity : Field ℕ
@@ -41,6 +49,46 @@ capacity = ranged 1 greatest_capacity (number w32)
 -- a savevalue's initial value
 abbrev pub initial_value : Field ℤ
 initial_value = signed w64
+
+-- the argument, the upper limit of the first class, and the width and the number of classes fit
+pub record TableFits (t : TableOperands) : Type 0 where
+  pub argument : OperandFits t.argument
+  pub limit : FitsSigned w64 t.limit
+  pub width_least : 1 ≤ t.width
+  pub width_most : t.width ≤ greatest_width
+  pub classes_least : least_classes ≤ t.classes
+  pub classes_most : t.classes ≤ most_classes
+
+-- the argument, the upper limit of the first class, and the width and the number of classes
+unfoldable pub table : Field TableOperands
+table = fitting TableFits (made
+    (λ (argument, (limit, (width, classes))). record { argument = argument; limit = limit; width = width; classes = classes })
+    (λ t. (t.argument, (t.limit, (t.width, t.classes))))
+    (both operand (both (signed w64) (both (ranged 1 greatest_width (number w32)) (ranged least_classes most_classes (number w16))))))
+
+-- both numbers fit
+pub record PointFits (p : Point) : Type 0 where
+  pub x : FitsSigned w64 p.x
+  pub y : FitsSigned w64 p.y
+
+-- a point of a function, above the one before it
+abbrev pub point : Element Point
+point = ascending int_lt (λ (x, y). record { x = x; y = y }) (λ p. (p.x, p.y)) (signed w64) (signed w64)
+
+-- the argument fits, the number of points is within limits, and each point fits
+pub record FunctionFits (f : FunctionOperands) : Type 0 where
+  pub argument : OperandFits f.argument
+  pub least : 1 ≤ length f.points
+  pub most : length f.points ≤ most_points
+  pub each : All PointFits f.points
+
+-- the points ascend
+abbrev pub PointsAscend : FunctionOperands → Type 0
+PointsAscend f = AllPairs (λ (a b : Point). a.x <ℤ b.x) f.points
+
+-- the argument and the points
+unfoldable pub function : Field FunctionOperands
+function = fitting (λ f. FunctionFits f × PointsAscend f) (made (λ (argument, points). record { argument = argument; points = points }) (λ f. (f.argument, f.points)) (both operand (listed 1 most_points point)))
 
 -- the capacity of an entity, in units; 0 where it is no storage
 abbrev pub capacity_of : Kind → ℕ
@@ -54,6 +102,10 @@ kind_fields (Storage n) = capacity.spell n
 kind_fields Queue = []
 kind_fields (Switch set) = flag.spell set
 kind_fields (Savevalue n) = initial_value.spell n
+kind_fields (Table t) = table.spell t
+kind_fields (Variable q) = procedure_number.spell q
+kind_fields (BooleanVariable q) = procedure_number.spell q
+kind_fields (Function f) = function.spell f
 
 -- the fields of a kind are within limits
 abbrev pub KindFits : Kind → Type 0
@@ -62,6 +114,19 @@ KindFits (Storage n) = capacity.Fits n
 KindFits Queue = Unit {0}
 KindFits (Switch set) = Unit {0}
 KindFits (Savevalue n) = initial_value.Fits n
+KindFits (Table t) = TableFits t
+KindFits (Variable q) = procedure_number.Fits q
+KindFits (BooleanVariable q) = procedure_number.Fits q
+KindFits (Function f) = FunctionFits f
+
+-- the points of a function ascend
+abbrev pub KindAscends : Kind → Type 0
+KindAscends (Function f) = PointsAscend f
+KindAscends kind = Unit {0}
+
+-- so do those of an entity, if it is one
+abbrev pub EntityAscends : Entity → Type 0
+EntityAscends e = KindAscends e.kind
 
 -- ---- entities
 
@@ -107,6 +172,10 @@ kind_forms front =
     ∷ kind_form front 3 (λ _. Queue) nothing
     ∷ kind_form front 4 (λ set. Switch set) flag
     ∷ kind_form front 5 (λ n. Savevalue n) initial_value
+    ∷ kind_form front 6 (λ t. Table t) table
+    ∷ kind_form front 8 (λ q. Variable q) procedure_number
+    ∷ kind_form front 9 (λ q. BooleanVariable q) procedure_number
+    ∷ kind_form front 10 (λ f. Function f) function
     ∷ []
 
 -- an entity behind those at the front, by its kind; another byte there is a fault
@@ -117,6 +186,7 @@ entity_read front = by_tag (kind_forms front)
 pub record FitsBehind (front : List Entity) (e : Entity) : Type 0 where
   pub letters : IsLettered e
   pub limits : EntityFits e
+  pub ascends : EntityAscends e
   pub own : All (λ other. ¬ AreNamesakes other e) front
 
 -- an entity; no earlier one of its kind has its name

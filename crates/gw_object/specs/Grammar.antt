@@ -14,7 +14,7 @@ use Rattle.gw_object.specs.declared.parts.ReturnRow.{ReturnRow}
 use Rattle.gw_object.specs.declared.parts.Parts.{Parts}
 use Rattle.gw_fields.specs.Fields.{Read, Field, number, made, both, and_then, constant, fitting, ranged, optional, Form, behind, by_tag, nothing, Element, plain, last_tested, ascending, above_last, elements, listed}
 use Rattle.gw_code.specs.Grammar.{ProcedureFits, NeedsAscend, procedure}
-use Rattle.gw_object.specs.Entities.{entity, EntityFits, IsLettered, AreNamesakes}
+use Rattle.gw_object.specs.Entities.{entity, EntityFits, EntityAscends, IsLettered, AreNamesakes}
 use Rattle.gw_blocks.specs.Grammar.{entity_number, block_number, parameter_number, BlockFits, block}
 
 -- ---- what stands for each block
@@ -172,6 +172,7 @@ pub record IsWithinLimits (p : Parts) : Type 0 where
 pub record IsCanonical (p : Parts) : Type 0 where
   pub last_seed : slice_get p.seeds (length p.seeds - 1) ≢ Some 0
   pub own_names : AllPairs (λ a b. ¬ AreNamesakes a b) p.entities
+  pub each_entity : All EntityAscends p.entities
   pub each_procedure : All NeedsAscend p.procedures
   pub each_return : All AreAscending p.returns
   pub each_state : All (λ row. IfSome row IsAscending) p.states

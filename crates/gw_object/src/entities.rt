@@ -1,17 +1,18 @@
 //! Entities, in bytes and against the rules of the object format.
 
-ghost use Rattle.std.specs.Prelude.{◌≡◌, ◌↔◌, ◌++◌, IsTrue, OnOk};
+ghost use Rattle.std.specs.Prelude.{◌≡◌, ◌↔◌, IsTrue};
 ghost use Rattle.std.specs.List.{All, AllPairs, list_any};
 ghost use Rattle.gw_fields.specs.Fields.{plain};
-ghost use Rattle.gw_object.specs.Entities.{is_letter, letter, kind_tag, kind_fields, KindFits, IsLettered, EntityFits, AreNamesakes, is_named, new_name, entity};
+ghost use Rattle.gw_object.specs.Entities.{is_letter, letter, IsLettered, EntityFits, EntityAscends, AreNamesakes, is_named, new_name, entity};
 ghost use Rattle.gw_fields.specs.Answers.{Gives};
 
 use crate::Memory;
 use crate::codes::*;
+use crate::kinds::{kind_ascends, kind_fits, put_fields, room_after_fields, tag_of};
 use crate::limits::*;
 use crate::parts::*;
 use gw_fields::{
-    Elements, Items, OneByte, ReadError, Spelled, fault, put_listed, read_listed, read_one_of,
+    Elements, Items, ReadError, Spelled, fault, put_listed, read_listed, read_one_of,
     read_ranged_u32, room_after_listed,
 };
 use std::alloc::Global;
@@ -23,24 +24,18 @@ fn is_letter_of_name(byte: u8) -> bool
     byte.is_ascii_uppercase() || byte.is_ascii_digit() || byte == b'_'
 }
 
-/// The byte that stands for a kind.
-fn tag_of(kind: Kind) -> u8
-    ensures { result ≡ kind_tag kind }
+/// Whether an entity is of the kind of this byte and has this name.
+fn has_name(entity: &Entity, tag: u8, name: &[u8]) -> bool
+    ensures { result ≡ is_named tag name.now entity.now }
 {
-    match kind {
-        Kind::Facility => 1,
-        Kind::Storage(_) => 2,
-        Kind::Queue => 3,
-        Kind::Switch(_) => 4,
-        Kind::Savevalue(_) => 5,
-    }
+    tag_of(&entity.kind) == tag && entity.name.as_slice() == name
 }
 
 /// Whether one of these entities is of the kind of this byte and has this name.
 fn has_namesake(entities: &[Entity], tag: u8, name: &[u8]) -> bool
     ensures { result ≡ list_any (is_named tag name.now) entities.now }
 {
-    entities.iter().any(|entity| tag_of(entity.kind) == tag && entity.name.as_slice() == name)
+    entities.iter().any(|entity| has_name(entity, tag, name))
 }
 
 /// The letters of a name.
@@ -75,18 +70,6 @@ impl Elements for Letters {
     }
 }
 
-/// Puts the fields of a kind at the end.
-fn put_fields(out: &mut Vec<u8>, kind: Kind) -> Result<(), Memory>
-    ensures { OnOk result (out.new.items ≡ out.old.items ++ kind_fields kind) }
-{
-    match kind {
-        Kind::Facility | Kind::Queue => Ok(()),
-        Kind::Storage(capacity) => capacity.put(out),
-        Kind::Switch(set) => Ok(out.push(set.byte())?),
-        Kind::Savevalue(value) => value.put(out),
-    }
-}
-
 /// A name that no entity of the kind of this byte has at the front.
 fn read_new_name<'a>(
     alloc: Global,
@@ -116,20 +99,15 @@ impl Elements for Entities {
     ghost can_put = { EntityFits };
 
     fn put_element(out: &mut Vec<u8>, entity: &Entity) -> Result<(), Memory> {
-        out.push(tag_of(entity.kind))?;
+        out.push(tag_of(&entity.kind))?;
         put_listed::<Letters>(out, entity.name.as_slice())?;
-        put_fields(out, entity.kind)
+        put_fields(out, &entity.kind)
     }
 
     fn room_after_element(entity: &Entity, room: usize) -> Option<usize> {
         let room = room.checked_sub(1)?;
         let room = room_after_listed::<Letters>(entity.name.as_slice(), room)?;
-        match entity.kind {
-            Kind::Facility | Kind::Queue => Some(room),
-            Kind::Storage(capacity) => capacity.room_after(room),
-            Kind::Switch(_) => room.checked_sub(1),
-            Kind::Savevalue(value) => value.room_after(room),
-        }
+        room_after_fields(&entity.kind, room)
     }
 
     #[tactic(auto, unfolding(crate::specs::Entities::entity_read))]
@@ -169,6 +147,30 @@ impl Elements for Entities {
                 let kind = Kind::Savevalue(value);
                 Ok((Entity { name, kind }, rest))
             }
+            6 => {
+                let (name, rest) = read_new_name(alloc, front, tag, rest)?;
+                let (table, rest) = Table::read(alloc, rest)?;
+                let kind = Kind::Table(table);
+                Ok((Entity { name, kind }, rest))
+            }
+            8 => {
+                let (name, rest) = read_new_name(alloc, front, tag, rest)?;
+                let (procedure, rest) = u16::read(alloc, rest)?;
+                let kind = Kind::Variable(procedure);
+                Ok((Entity { name, kind }, rest))
+            }
+            9 => {
+                let (name, rest) = read_new_name(alloc, front, tag, rest)?;
+                let (procedure, rest) = u16::read(alloc, rest)?;
+                let kind = Kind::BooleanVariable(procedure);
+                Ok((Entity { name, kind }, rest))
+            }
+            10 => {
+                let (name, rest) = read_new_name(alloc, front, tag, rest)?;
+                let (function, rest) = Function::read(alloc, rest)?;
+                let kind = Kind::Function(function);
+                Ok((Entity { name, kind }, rest))
+            }
             _ => Err(fault(TAG, bytes)),
         }
     }
@@ -192,22 +194,12 @@ pub fn are_lettered(entities: &[Entity]) -> bool
     entities.iter().all(is_lettered)
 }
 
-/// Whether a kind's fields keep their limits.
-fn kind_fits(kind: Kind) -> bool
-    ensures { IsTrue result ↔ KindFits kind }
-{
-    match kind {
-        Kind::Facility | Kind::Queue | Kind::Switch(_) | Kind::Savevalue(_) => true,
-        Kind::Storage(capacity) => 1 <= capacity && capacity <= GREATEST_CAPACITY,
-    }
-}
-
 /// Whether an entity keeps its limits.
 fn entity_fits(entity: &Entity) -> bool
     ensures { IsTrue result ↔ EntityFits entity.now }
 {
     let length = entity.name.as_slice().len();
-    1 <= length && length <= MOST_LETTERS && kind_fits(entity.kind)
+    1 <= length && length <= MOST_LETTERS && kind_fits(&entity.kind)
 }
 
 /// Whether each entity keeps its limits.
@@ -222,10 +214,24 @@ pub fn names_are_own(entities: &[Entity]) -> bool
     ensures { IsTrue result ↔ AllPairs (λ a b. ¬ AreNamesakes a b) entities.now }
 {
     for (number, entity) in entities.iter().enumerate() {
-        let tag = tag_of(entity.kind);
+        let tag = tag_of(&entity.kind);
         if has_namesake(&entities[..number], tag, entity.name.as_slice()) {
             return false;
         }
     }
     true
+}
+
+/// Whether the points of an entity ascend, if it is a function.
+fn entity_ascends(entity: &Entity) -> bool
+    ensures { IsTrue result ↔ EntityAscends entity.now }
+{
+    kind_ascends(&entity.kind)
+}
+
+/// Whether the points of each function ascend.
+pub fn entities_ascend(entities: &[Entity]) -> bool
+    ensures { IsTrue result ↔ All EntityAscends entities.now }
+{
+    entities.iter().all(entity_ascends)
 }

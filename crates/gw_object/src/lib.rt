@@ -4,6 +4,7 @@
 pub mod codes;
 mod entities;
 mod fault;
+mod kinds;
 pub mod laws;
 mod limits;
 mod lists;
@@ -18,11 +19,14 @@ mod writing;
 pub use fault::{Fault, Place};
 pub use gw_fields::Items;
 pub use limits::{
-    GREATEST_CAPACITY, GREATEST_COUNT, GREATEST_SEED, GREATEST_UNITS, GREATEST_WEIGHT, MOST_BLOCKS,
-    MOST_BYTES, MOST_ENTITIES, MOST_LETTERS, MOST_PROCEDURES, MOST_RETURN_ROWS, MOST_SEEDS,
+    GREATEST_CAPACITY, GREATEST_COUNT, GREATEST_SEED, GREATEST_UNITS, GREATEST_WEIGHT,
+    GREATEST_WIDTH, LEAST_CLASSES, MOST_BLOCKS, MOST_BYTES, MOST_CLASSES, MOST_ENTITIES,
+    MOST_LETTERS, MOST_POINTS, MOST_PROCEDURES, MOST_RETURN_ROWS, MOST_SEEDS,
 };
 pub use object::Object;
-pub use parts::{Entity, Kind, Parts, ReturnRow, TableKind, TableParameter, TableState};
+pub use parts::{
+    Entity, Function, Kind, Parts, Point, ReturnRow, Table, TableKind, TableParameter, TableState,
+};
 pub use reading::read;
 pub use std::alloc::AllocError as Memory;
 pub use writing::write;

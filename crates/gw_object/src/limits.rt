@@ -23,6 +23,18 @@ pub const MOST_LETTERS: usize = 32;
 /// The greatest capacity of a storage, in units.
 pub const GREATEST_CAPACITY: u32 = 2_147_483_647;
 
+/// The greatest width of a class of a table.
+pub const GREATEST_WIDTH: u32 = 4_294_967_295;
+
+/// The fewest classes of a table.
+pub const LEAST_CLASSES: u16 = 2;
+
+/// The most classes of a table.
+pub const MOST_CLASSES: u16 = 1_000;
+
+/// The most points of a function.
+pub const MOST_POINTS: usize = 256;
+
 /// The greatest number of units of one entity that the state table says of a transaction.
 pub const GREATEST_UNITS: u32 = 2_147_483_647;
 

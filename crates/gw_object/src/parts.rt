@@ -1,12 +1,43 @@
 //! The parts of an object, as a plain record. Their limits are the object format's (docs/object-format.md);
 //! what the blocks mean is in the GPSS World Reference Manual, chapter 7.
 
-use gw_blocks::{Block, Units};
+use gw_blocks::{Block, Operand, Units};
 use gw_code::Procedure;
 use gw_fields::Items;
 
-/// What an entity is.
+/// The operands of a TABLE: which values it counts, and in which classes.
 #[derive(Clone, Copy, Debug, PartialEq, Eq)]
+pub struct Table {
+    /// What TABULATE enters.
+    pub argument: Operand,
+    /// The upper limit of the first class, which is the class 0.
+    pub limit: i64,
+    /// The width of each class but the first and the last, at least 1.
+    pub width: u32,
+    /// How many classes there are: from 2 to 1,000.
+    pub classes: u16,
+}
+
+/// A point of a function.
+#[derive(Clone, Copy, Debug, PartialEq, Eq)]
+pub struct Point {
+    /// Up to which argument it counts.
+    pub x: i64,
+    /// The value that the function has there.
+    pub y: i64,
+}
+
+/// A discrete function: its value is that of the first point which the argument isn't above, else that of the last.
+#[derive(Debug, Drop, PartialEq, Eq)]
+pub struct Function {
+    /// Its argument.
+    pub argument: Operand,
+    /// Its points, ascending by `x`; from 1 to 256.
+    pub points: Items<Point>,
+}
+
+/// What an entity is.
+#[derive(Debug, Drop, PartialEq, Eq)]
 pub enum Kind {
     /// Owned by one transaction at a time.
     Facility,
@@ -18,9 +49,17 @@ pub enum Kind {
     Switch(bool),
     /// A savevalue, with its initial value.
     Savevalue(i64),
+    /// Counts values by classes.
+    Table(Table),
+    /// A variable: its value is that of a procedure without arguments, which is given by its number from 0.
+    Variable(u16),
+    /// A boolean variable: whether the value of a procedure without arguments isn't 0; it is given by its number from 0.
+    BooleanVariable(u16),
+    /// A function.
+    Function(Function),
 }
 
-/// An entity: a facility, a storage, a queue, a logic switch or a savevalue.
+/// An entity: a facility, a storage, a queue, a logic switch, a savevalue, a table, a variable or a function.
 #[derive(Debug, Drop, PartialEq, Eq)]
 pub struct Entity {
     /// Its name: 1 to 32 letters `A` to `Z`, digits and `_`. No two entities of a kind have one name.

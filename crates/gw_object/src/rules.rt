@@ -6,7 +6,7 @@ ghost use Rattle.gw_object.specs.Limits.{most_bytes, greatest_seed, greatest_wei
 ghost use Rattle.gw_object.specs.Grammar.{HasLetters, IsWithinLimits, IsCanonical, HasSpelling, Refuses, spelling};
 
 use crate::codes::*;
-use crate::entities::{are_lettered, entities_fit, names_are_own};
+use crate::entities::{are_lettered, entities_ascend, entities_fit, names_are_own};
 use crate::limits::*;
 use crate::parts::*;
 use crate::returns::{return_rows_ascend, return_rows_fit};
@@ -83,14 +83,15 @@ fn is_within_limits(parts: &Parts) -> bool
 fn is_canonical(parts: &Parts) -> bool
     ensures { IsTrue result ↔ IsCanonical parts.now }
 {
+    let entities = parts.entities.as_slice();
     let returns = parts.returns.as_slice();
-    if !procedures_ascend(parts.procedures.as_slice()) {
+    if !entities_ascend(entities) || !procedures_ascend(parts.procedures.as_slice()) {
         return false;
     }
     if !return_rows_ascend(returns) || !states_ascend(parts.states.as_slice()) {
         return false;
     }
-    parts.seeds.as_slice().last() != Some(&0) && names_are_own(parts.entities.as_slice())
+    parts.seeds.as_slice().last() != Some(&0) && names_are_own(entities)
 }
 
 /// The lowest code that applies anywhere in parts that have no spelling.

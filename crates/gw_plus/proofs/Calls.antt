@@ -6,12 +6,14 @@ use Rattle.std.proofs.lemmas.Bool.Decides.{nat_tests}
 use Rattle.std.proofs.lemmas.Option.{slice_get_within, slice_get_read}
 use Rattle.arrayvec.specs.ArrayVec.{ArrayVec}
 use Rattle.gw_num.proofs.Tables.{at-get_or, at-replicate}
+use Rattle.gw_code.specs.declared.parts.Instruction.{Instruction}
+use Rattle.gw_code.specs.declared.parts.Instruction.TheVariants.{Call}
 use Rattle.gw_code.specs.declared.parts.Procedure.{Procedure}
 use Rattle.gw_object.specs.declared.parts.Parts.{Parts}
 use Rattle.gw_code_flow.specs.Code.{procedure_at}
-use Rattle.gw_code_flow.specs.Meaning.{Frame, Stuck, calls, calls_with, given, on, opened}
+use Rattle.gw_code_flow.specs.Meaning.{Frame, Calls, Stuck, calls, calls_with, given, on, opened}
 use Rattle.gw_plus.specs.declared.activation.Step.TheVariants.{Called}
-use Rattle.gw_plus.specs.Activation.{Did}
+use Rattle.gw_plus.specs.Activation.{finish_of, Did}
 
 -- LOCALS
 
@@ -48,7 +50,11 @@ has_arguments p q f pr there going = by (nat_le pr.arguments (length f.stack)) r
 
 pub did_call : (p : Parts) (q : ℕ) (f : Frame) (pr : Procedure) (locals : ArrayVec ℤ) (arguments rest : List ℤ) → procedure_at p q ≡ Some pr → pr.arguments ≤ length f.stack
     → arguments ≡ drop (length f.stack - pr.arguments) f.stack → rest ≡ take (length f.stack - pr.arguments) f.stack → locals.items ≡ (opened pr.locals arguments).locals
-    → Did p (calls p q f) (Called q locals) (record f { place = f.place + 1; stack = rest })
+    → Did p (Call q) (calls p q f) (Called q locals) (record f { place = f.place + 1; stack = rest })
 did_call p q f pr locals arguments rest there enough top below begun =
     let is : nat_le pr.arguments (length f.stack) ≡ true = grind (arith, nat_tests) in
     (arguments, rw (there, is, top, below) refl, rw there begun)
+
+-- a call without arguments
+pub did_call_alone : (p : Parts) (q : ℕ) (f : Frame) (pr : Procedure) (locals : ArrayVec ℤ) (i : Instruction) → procedure_at p q ≡ Some pr → locals.items ≡ (opened pr.locals []).locals → Did p i (Calls q [] (finish_of p i) f) (Called q locals) f
+did_call_alone p q f pr locals i there begun = ([], refl, rw there begun)

@@ -3,18 +3,23 @@ use Rattle.std.proofs.Common.{◌≡◌, ℕ, zero, suc, ◌+◌, ◌-◌, ◌�
 use Rattle.std.specs.Prelude.{slice_get, slice_set}
 use Rattle.std.proofs.lemmas.Bool.Decides.{nat_tests}
 use Rattle.gw_num.specs.Arithmetic.{is_zero}
+use Rattle.gw_num.specs.Table.{at}
 use Rattle.gw_num.specs.Operators.{binary_value, unary_value}
 use Rattle.gw_num.specs.declared.arithmetic.NumFault.{NumFault}
+use Rattle.gw_blocks.specs.declared.parts.Operand.{Operand}
+use Rattle.gw_blocks.specs.declared.parts.Operand.TheVariants as operands
 use Rattle.gw_code.specs.Limits.{most_backs}
 use Rattle.gw_code.specs.Grammar.{is_back, backs}
 use Rattle.gw_code.specs.declared.parts.Instruction.{Instruction}
 use Rattle.gw_code.specs.declared.parts.Instruction.TheVariants.{Push, Get, Set, Value, Binary, Unary, Pop, Jump, JumpIfZero, Back, Call, Return}
 use Rattle.gw_code.specs.declared.parts.Procedure.{Procedure}
 use Rattle.gw_object.specs.declared.parts.Parts.{Parts}
-use Rattle.gw_code_flow.specs.Environment.{Environment, sna_value}
+use Rattle.gw_kinds.specs.Evaluated.{source_of, as_operand}
+use Rattle.gw_code_flow.specs.Environment.{Environment, attribute_value}
+use Rattle.gw_code_flow.specs.Made.{made}
 use Rattle.gw_code_flow.specs.Code.{most_values, procedure_at}
 use Rattle.gw_code_flow.specs.declared.ends.PlusEnd.TheVariants.{LoopLimit}
-use Rattle.gw_code_flow.specs.Meaning.{Taken, taken_at, take_once, Frame, Next, Goes, Calls, Returns, Ends, Stuck, on, pushed, given, popped, calculated, calls_with, act}
+use Rattle.gw_code_flow.specs.Meaning.{Taken, taken_at, take_once, Frame, Next, Goes, Calls, Returns, Ends, Stuck, on, pushed, given, popped, calculated, calls_with, reads_source, act}
 use Rattle.gw_plus.specs.Activation.{is_taken, untaken, CanCount, CanCountEach}
 
 -- AT FIRST
@@ -119,7 +124,7 @@ room_once code taken k i there back room = by (is_taken taken k) refl
 -- where an activation goes on there is room still
 abbrev pub KeepsRoom : List Instruction → Next → Type 0
 KeepsRoom code (Goes g) = CanCountEach code g.taken
-KeepsRoom code (Calls q arguments g) = CanCountEach code g.taken
+KeepsRoom code (Calls q arguments finish g) = CanCountEach code g.taken
 KeepsRoom code (Returns v) = Unit {0}
 KeepsRoom code (Ends end) = Unit {0}
 KeepsRoom code Stuck = Unit {0}
@@ -143,6 +148,15 @@ module _ (code : List Instruction) where
   calculated_keeps (Ok v) g room = pushed_keeps v g room
   calculated_keeps (Err fault) g room = tt
 
+  -- VALUE of a source
+  read_keeps : (env : Environment) (source : Operand) (finish : ℤ → ℤ) (g : Frame) → CanCountEach code g.taken → KeepsRoom code (reads_source env source finish g)
+  read_keeps env (operands.Constant z) finish g room = pushed_keeps (finish z) g room
+  read_keeps env (operands.Parameter x) finish g room = given_keeps (at None env.parameters x) (λ v. pushed (finish v) g) (λ v. pushed_keeps (finish v) g room)
+  read_keeps env (operands.Attribute a) finish g room = pushed_keeps (finish (attribute_value env a)) g room
+  read_keeps env (operands.OfEntity a) finish g room = pushed_keeps (finish (env.of_entity a)) g room
+  read_keeps env (operands.Random j) finish g room = tt
+  read_keeps env (operands.Procedure q) finish g room = room
+
   module _ (p : Parts) (env : Environment) (f : Frame) (room : CanCountEach code f.taken) where
     pub act_keeps : (i : Instruction) → slice_get code f.place ≡ Some i → KeepsRoom code (act p env i f)
     unfolding act
@@ -154,7 +168,7 @@ module _ (code : List Instruction) where
         by : (v : ℤ) (rest : List ℤ) (b : Bool) → KeepsRoom code (if b then Goes (record f { place = f.place + 1; stack = rest; locals = slice_set f.locals local v }) else Stuck)
         by v rest true = room
         by v rest false = tt
-    act_keeps (Value sna) there = given_keeps (sna_value env sna) (λ v. pushed v (on f)) (λ v. pushed_keeps v (on f) room)
+    act_keeps (Value sna) there = read_keeps env (source_of p.entities (as_operand sna)) (made p.entities (as_operand sna)) (on f) room
     act_keeps (Binary operator) there =
         popped_keeps f.stack (λ right rest. popped rest (λ left below. calculated (binary_value operator left right) (record f { place = f.place + 1; stack = below }))) (λ right rest.
         popped_keeps rest (λ left below. calculated (binary_value operator left right) (record f { place = f.place + 1; stack = below })) (λ left below.
@@ -172,7 +186,7 @@ module _ (code : List Instruction) where
         by false = tt
     act_keeps (Call q) there = given_keeps (procedure_at p q) (λ pr. calls_with q pr.arguments (on f)) (λ pr. by pr (nat_le pr.arguments (length f.stack)))
       where
-        by : (pr : Procedure) (b : Bool) → KeepsRoom code (if b then Calls q (drop (length f.stack - pr.arguments) f.stack) (record f { place = f.place + 1; stack = take (length f.stack - pr.arguments) f.stack }) else Stuck)
+        by : (pr : Procedure) (b : Bool) → KeepsRoom code (if b then Calls q (drop (length f.stack - pr.arguments) f.stack) (λ v. v) (record f { place = f.place + 1; stack = take (length f.stack - pr.arguments) f.stack }) else Stuck)
         by pr true = room
         by pr false = tt
     act_keeps Return there = popped_keeps f.stack (λ v rest. Returns v) (λ v rest. tt)

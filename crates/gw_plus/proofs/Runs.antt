@@ -22,7 +22,7 @@ use Rattle.gw_code_flow.proofs.Rules.{checked}
 use Rattle.gw_code_flow.proofs.Steps.{Sound, Ready, Well, CallsWell, next_well, opened_ready}
 use Rattle.gw_plus.specs.Activation.{HasGoodCode}
 use Rattle.gw_plus.specs.declared.activation.Step.TheVariants.{Called, Returned, Ended}
-use Rattle.gw_plus.specs.Activation.{begun, Begins, CanCountEach, CanCount, Did}
+use Rattle.gw_plus.specs.Activation.{begun, Begins, CanCountEach, CanCount, finish_of, Did}
 use Rattle.gw_plus.proofs.Room.{room_at_first, room_for, KeepsRoom, pushed_keeps, act_keeps}
 
 -- where an activation of the procedure n with this code stands that began with these locals
@@ -38,7 +38,7 @@ pub record Standing (p : Parts) (env : Environment) (n : ℕ) (code : List Instr
 
 -- what is left of the cost
 abbrev pub left : Parts → List Instruction → Frame → ℕ
-left p code f = potential (costs_of p) code f
+left p code f = potential p.entities (costs_of p) code f
 
 -- AT FIRST
 
@@ -51,7 +51,7 @@ begin p env n pr code locals f good there code_is begins at_first =
     let sound = (checked p good.passes n pr there).sound in
     let arguments : length begins.arguments ≡ pr.arguments = begins.may.arguments ∙ ap (λ (x : Procedure). x.arguments) same in
     let opened : opening (Some pr) begins.arguments ≡ f = ap (λ (x : Procedure). opening (Some x) begins.arguments) (sym same) ∙ ap begun (sym begins.locals_are) ∙ sym at_first in
-    let room : CanCountEach pr.code f.taken = subst (λ (g : Frame). CanCountEach pr.code g.taken) (sym at_first) (room_at_first pr.code (good.holds n pr there).0.backs) in
+    let room : CanCountEach pr.code f.taken = subst (λ (g : Frame). CanCountEach pr.code g.taken) (sym at_first) (room_at_first pr.code (good.holds.procedures n pr there).0.backs) in
     record {
       procedure = pr;
       there = there;
@@ -96,10 +96,10 @@ module _ (p : Parts) (env : Environment) (n : ℕ) (code : List Instruction) (lo
   moves stuck = subst WellHere stuck well
 
   pub place : f.place < most_instructions
-  place = let inside = s.ready.inside in omega (arith, inside, (good.holds n pr s.there).0.code)
+  place = let inside = s.ready.inside in omega (arith, inside, (good.holds.procedures n pr s.there).0.code)
 
   pub holds : InstructionHolds p pr.locals i
-  holds = subst (InstructionHolds p pr.locals) (get_or_from_slice_get pr.code f.place i i here_in) (All-get_or (InstructionHolds p pr.locals) pr.code f.place i s.ready.inside (good.holds n pr s.there).1)
+  holds = subst (InstructionHolds p pr.locals) (get_or_from_slice_get pr.code f.place i i here_in) (All-get_or (InstructionHolds p pr.locals) pr.code f.place i s.ready.inside (good.holds.procedures n pr s.there).1)
 
   pub room : IsTrue (is_back i) → CanCount f.taken f.place
   room back = room_for code f.taken f.place i here s.room back
@@ -125,13 +125,13 @@ module _ (p : Parts) (env : Environment) (n : ℕ) (code : List Instruction) (lo
   pub went_less : (g : Frame) → act p env i f ≡ Goes g → left p code g < left p code f
   went_less g is = let paid : left p pr.code g + 1 ≤ left p pr.code f = (subst WellHere is well).1 in subst (λ c. left p c g < left p c f) s.code_is (omega (arith, paid))
 
-  pub returned : (v : ℤ) (g : Frame) → Did p (act p env i f) (Returned v) g → (all : ℕ) × Derives p env n (begun locals) all (Ok v)
+  pub returned : (v : ℤ) (g : Frame) → Did p i (act p env i f) (Returned v) g → (all : ℕ) × Derives p env n (begun locals) all (Ok v)
   returned v g is = s.onward 1 (Ok v) (returns (did _ is))
 
-  pub ended : (end : PlusEnd) (g : Frame) → Did p (act p env i f) (Ended end) g → (all : ℕ) × Derives p env n (begun locals) all (Err end)
+  pub ended : (end : PlusEnd) (g : Frame) → Did p i (act p env i f) (Ended end) g → (all : ℕ) × Derives p env n (begun locals) all (Err end)
   ended end g is = s.onward 1 (Err end) (ends (did _ is))
 
-  module _ (q : ℕ) (given : ArrayVec ℤ) (g : Frame) (d : Did p (act p env i f) (Called q given) g) where
+  module _ (q : ℕ) (given : ArrayVec ℤ) (g : Frame) (d : Did p i (act p env i f) (Called q given) g) where
     calls_well : CallsWell p env n pr s.sound.heights (costs_of p) f q d.0 g
     calls_well = subst WellHere d.1 well
 
@@ -165,16 +165,16 @@ module _ (p : Parts) (env : Environment) (n : ℕ) (code : List Instruction) (lo
     same_frame : (v : ℤ) (h : Frame) → pushed v g ≡ Goes h → (calls_well.answered v).frame ≡ h
     same_frame v h push = let is = (calls_well.answered v).is in let same : Goes (calls_well.answered v).frame ≡ Goes h = sym is ∙ push in cc
 
-    pub called_gave : (count : ℕ) (v : ℤ) (h : Frame) → Derives p env q (begun given.items) count (Ok v) → pushed v g ≡ Goes h → Standing p env n code locals h
-    called_gave count v h c push = record {
+    pub called_gave : (count : ℕ) (v w : ℤ) (h : Frame) → Derives p env q (begun given.items) count (Ok v) → w ≡ finish_of p i v → pushed w g ≡ Goes h → Standing p env n code locals h
+    called_gave count v w h c made push = record {
       procedure = pr;
       there = s.there;
       code_is = s.code_is;
       needs = s.needs;
       sound = s.sound;
-      ready = subst (Ready pr s.sound.heights) (same_frame v h push) (calls_well.answered v).ready;
-      room = subst (KeepsRoom code) push (pushed_keeps code v g (subst (KeepsRoom code) d.1 keeps));
-      onward = λ more r rest. s.onward (suc (count + more)) r (call_gives (did _ d.1) (from_opening count (Ok v) c) push rest);
+      ready = subst (Ready pr s.sound.heights) (same_frame w h push) (calls_well.answered w).ready;
+      room = subst (KeepsRoom code) push (pushed_keeps code w g (subst (KeepsRoom code) d.1 keeps));
+      onward = λ more r rest. s.onward (suc (count + more)) r (call_gives (did _ d.1) (from_opening count (Ok v) c) (subst (λ x. pushed x g ≡ Goes h) made push) rest);
     }
 
     pub called_less : (v : ℤ) (h : Frame) → pushed v g ≡ Goes h → left p code h < left p code f

@@ -2,16 +2,18 @@
 use Rattle.std.specs.Prelude.{◌≡◌, ℕ, ◌+◌, ◌≤◌, ◌<◌, ℤ, List, [], ◌∷◌, length, map, Some, Bool, false, if◌then◌else◌, not, ◌==◌, ◌&&◌, ◌||◌}
 use Rattle.gw_code.specs.Limits.{most_backs}
 use Rattle.gw_code.specs.Grammar.{is_back}
-use Rattle.gw_code.specs.declared.parts.Sna.{Sna}
 use Rattle.gw_code.specs.declared.parts.Instruction.{Instruction}
+use Rattle.gw_code.specs.declared.parts.Instruction.TheVariants.{Value}
 use Rattle.gw_code.specs.declared.parts.Procedure.{Procedure}
 use Rattle.gw_object.specs.declared.parts.Parts.{Parts}
 use Rattle.gw_object.specs.Grammar.{HasSpelling}
+use Rattle.gw_kinds.specs.Evaluated.{as_operand}
 use Rattle.gw_code_flow.specs.Code.{procedure_at}
-use Rattle.gw_code_flow.specs.Environment.{Environment, sna_value}
+use Rattle.gw_code_flow.specs.Environment.{Environment}
 use Rattle.gw_code_flow.specs.Laws.{MayBegin, CodeHolds}
+use Rattle.gw_code_flow.specs.Made.{made}
 use Rattle.gw_code_flow.specs.PlusChecks.{PlusPasses}
-use Rattle.gw_code_flow.specs.Meaning.{Taken, Frame, Next, Goes, Calls, Returns, Ends, on, given, pushed, opening}
+use Rattle.gw_code_flow.specs.Meaning.{Taken, Frame, Next, Goes, Calls, Returns, Ends, opening}
 use Rattle.gw_plus.specs.declared.activation.Turns.{Turns}
 use Rattle.gw_plus.specs.declared.activation.Activation.{Activation}
 use Rattle.gw_plus.specs.declared.activation.Step.{Step}
@@ -64,17 +66,18 @@ CanCountEach code taken = length taken + untaken taken 0 code ≤ most_backs
 
 -- STEPS
 
--- VALUE
-abbrev pub reads : Environment → Sna → Frame → Next
-reads env sna f = given (sna_value env sna) (λ v. pushed v (on f))
+-- what an instruction makes of the value of the procedure that it calls: VALUE what its attribute makes of it, and CALL leaves it as it is
+abbrev pub finish_of : Parts → Instruction → ℤ → ℤ
+finish_of p (Value sna) = made p.entities (as_operand sna)
+finish_of p other = λ v. v
 
--- an activation did what comes next: it stands here then, and its step tells what was called, returned or ended
-abbrev pub Did : Parts → Next → Step → Frame → Type 0
-Did p next Went f = next ≡ Goes f
-Did p next (Called q locals) f = (arguments : List ℤ) × (next ≡ Calls q arguments f) × (locals.items ≡ (opening (procedure_at p q) arguments).locals)
-Did p next (Returned v) f = next ≡ Returns v
-Did p next (Ended end) f = next ≡ Ends end
+-- an activation did what comes next, which is what this instruction does: it stands here then, and its step tells what was called, returned or ended
+abbrev pub Did : Parts → Instruction → Next → Step → Frame → Type 0
+Did p i next Went f = next ≡ Goes f
+Did p i next (Called q locals) f = (arguments : List ℤ) × (next ≡ Calls q arguments (finish_of p i) f) × (locals.items ≡ (opening (procedure_at p q) arguments).locals)
+Did p i next (Returned v) f = next ≡ Returns v
+Did p i next (Ended end) f = next ≡ Ends end
 
--- an activation did what comes next and called nothing, so this says the same of each object
+-- an activation did what comes next and called nothing, so this says the same of each object and each instruction
 abbrev pub DidAlone : Next → Step → Frame → Type 0
-DidAlone next step f = (p : Parts) → Did p next step f
+DidAlone next step f = (p : Parts) (i : Instruction) → Did p i next step f

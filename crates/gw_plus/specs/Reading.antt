@@ -3,10 +3,10 @@ use Rattle.std.specs.Prelude.{◌≡◌, ℕ, ◌≤◌, ◌<◌, ◌^◌, pos, 
 use Rattle.std.specs.Option.{IsSome}
 use Rattle.gw_num.specs.Table.{at}
 use Rattle.gw_blocks.specs.declared.parts.EntityAttribute.{EntityAttribute}
-use Rattle.gw_blocks.specs.declared.parts.EntityAttribute.TheVariants.{FacilityOwned, StorageContent, StorageRemaining, QueueContent, SavevalueValue, SwitchSetting, BlockEntries, BlockCount}
+use Rattle.gw_blocks.specs.declared.parts.EntityAttribute.TheVariants.{FacilityOwned, StorageContent, StorageRemaining, QueueContent, SavevalueValue, SwitchSetting, VariableValue, BooleanValue, FunctionValue, BlockEntries, BlockCount}
 use Rattle.gw_blocks.specs.declared.parts.Numbered.{Numbered}
-use Rattle.gw_code.specs.declared.parts.Sna.{Sna}
-use Rattle.gw_code.specs.declared.parts.Sna.TheVariants.{Parameter, Attribute, OfEntity}
+use Rattle.gw_blocks.specs.declared.parts.Operand.{Operand}
+use Rattle.gw_blocks.specs.declared.parts.Operand.TheVariants as operands
 use Rattle.gw_code.specs.declared.parts.Procedure.{Procedure}
 use Rattle.gw_object.specs.declared.parts.Parts.{Parts}
 use Rattle.gw_entities.specs.Attributes.{Readings, attribute_of}
@@ -46,6 +46,7 @@ pub record IsOf (p : Parts) (env : Env) : Type 0 where
   pub queues : length env.queues.now.queues ≡ length p.entities
   pub switches : length env.switches.now ≡ length p.entities
   pub savevalues : length env.savevalues.now ≡ length p.entities
+  pub tables : length env.tables.now ≡ length p.entities
   pub entries : (b : ℕ) → at 0 env.entries.now b ≤ 2 ^ 62
   pub here : (b : ℕ) → at 0 env.here.now b ≤ 2 ^ 62
   pub number : env.number ≤ 2 ^ 62
@@ -62,7 +63,7 @@ pub record AttributesFit (env : Env) : Type 0 where
   pub clock : pos 0 ≤ℤ env.clock
   pub mark : pos 0 ≤ℤ env.mark
 
--- an attribute of an entity or a block may be read: the table has an entry for the entity, or an i64 holds the block's count
+-- an attribute of an entity or a block may be read: the table has an entry for the entity, or an i64 holds the block's count; nothing is asked where nothing is kept
 abbrev pub MayRead : Env → EntityAttribute → ℕ → Type 0
 MayRead env FacilityOwned f = f < length env.facilities.now.facilities
 MayRead env StorageContent s = s < length env.storages.now.storages
@@ -70,11 +71,17 @@ MayRead env StorageRemaining s = s < length env.storages.now.storages
 MayRead env QueueContent q = q < length env.queues.now.queues
 MayRead env SavevalueValue x = x < length env.savevalues.now
 MayRead env SwitchSetting l = l < length env.switches.now
+MayRead env VariableValue v = Unit {0}
+MayRead env BooleanValue v = Unit {0}
+MayRead env FunctionValue f = Unit {0}
 MayRead env BlockEntries b = at 0 env.entries.now b ≤ 2 ^ 62
 MayRead env BlockCount b = at 0 env.here.now b ≤ 2 ^ 62
 
--- an attribute that code names may be read: if it is a parameter, that one is set
-abbrev pub MayReadSna : Env → Sna → Type 0
-MayReadSna env (Parameter p) = IsSome (at None env.parameters.now p)
-MayReadSna env (Attribute a) = AttributesFit env
-MayReadSna env (OfEntity a) = MayRead env a.attribute a.number
+-- an operand may be read that is kept: if it is a parameter, that one is set; nothing is kept of what is drawn, or evaluated by a procedure
+abbrev pub MayReadKept : Env → Operand → Type 0
+MayReadKept env (operands.Constant z) = Unit {0}
+MayReadKept env (operands.Parameter p) = IsSome (at None env.parameters.now p)
+MayReadKept env (operands.Attribute a) = AttributesFit env
+MayReadKept env (operands.OfEntity a) = MayRead env a.attribute a.number
+MayReadKept env (operands.Random j) = ⊥
+MayReadKept env (operands.Procedure q) = ⊥

@@ -1,20 +1,22 @@
 //! Activations of procedures: one small method for each instruction (docs/plus-code.md).
 
-ghost use Rattle.std.specs.Prelude.{◌≡◌, ◌≢◌, ◌≤◌, ◌<◌, ◌-◌, ◌+◌, ℕ, length, take, Some, slice_get, slice_set, IsTrue, ◌==◌};
+ghost use Rattle.std.specs.Prelude.{◌≡◌, ◌≢◌, ◌≤◌, ◌<◌, ◌-◌, ◌+◌, ℕ, [], length, take, Some, slice_get, slice_set, IsTrue, ◌==◌};
 ghost use Rattle.std.specs.List.{position};
 ghost use Rattle.gw_code.specs.Limits.{most_instructions, most_locals};
 ghost use Rattle.gw_code.specs.Grammar.{is_back};
 ghost use Rattle.gw_kinds.specs.Laws.{InstructionHolds};
 ghost use Rattle.gw_code_flow.specs.Laws.{CodeHolds};
 ghost use Rattle.gw_code_flow.specs.Meaning as model;
-ghost use Rattle.gw_code_flow.specs.Meaning.{Goes, Stuck, on, pushed, calculated, taken_at, take_once, opened};
-ghost use Rattle.gw_plus.specs.Reading.{environment_of, IsOf, MayReadSna};
-ghost use Rattle.gw_plus.specs.Activation.{taken_of, frame_of, begun, CanCount, reads, Did, DidAlone};
+ghost use Rattle.gw_code_flow.specs.Meaning.{Goes, Calls, Stuck, on, pushed, calculated, taken_at, take_once, opened};
+ghost use Rattle.gw_plus.specs.Reading.{environment_of, IsOf};
+ghost use Rattle.gw_plus.specs.Activation.{taken_of, frame_of, begun, CanCount, finish_of, Did, DidAlone};
 
 use crate::env::Env;
 use arrayvec::ArrayVec;
+use gw_blocks::Operand;
 use gw_code::{Back, Instruction, Sna};
-use gw_code_flow::PlusEnd;
+use gw_code_flow::{PlusEnd, made};
+use gw_kinds::{as_operand, source_of};
 use gw_num::{Binary, NumFault, Unary};
 use gw_object::Parts;
 
@@ -45,7 +47,8 @@ pub(crate) struct Activation {
 pub(crate) enum Step {
     /// The activation went on.
     Went,
-    /// It called the procedure of this number, from 0, which begins with these locals; it goes on with its value.
+    /// It called the procedure of this number, from 0, which begins with these locals; it goes on with what the instruction
+    /// makes of its value (`finished`).
     Called(u16, ArrayVec<i64, 32>),
     /// It returned this value.
     Returned(i64),
@@ -98,6 +101,17 @@ fn entry_for(turns: &mut ArrayVec<Turns, 32>, place: usize) -> usize
             turns.push(Turns { place, count: 0 });
             turns.len() - 1
         }
+    }
+}
+
+/// What an instruction makes of the value of the procedure that it called: VALUE what its attribute makes of it
+/// (`gw_code_flow::made`), and CALL leaves it as it is.
+pub(crate) fn finished(parts: &Parts, instruction: Instruction, value: i64) -> i64
+    ensures { result ≡ finish_of parts.now instruction value }
+{
+    match instruction {
+        Instruction::Value(sna) => made(parts.entities.as_slice(), as_operand(sna), value),
+        _ => value,
     }
 }
 
@@ -187,14 +201,36 @@ impl Activation {
         Step::Went
     }
 
-    /// VALUE: the value of this attribute comes onto the stack.
-    fn value(&mut self, env: &Env, sna: Sna) -> Step
-        requires readable { MayReadSna env.now sna }
-        requires going { reads (environment_of env.now) sna (frame_of self.old) ≢ Stuck }
+    /// VALUE whose source is a procedure: that one is called, without arguments.
+    fn call_alone(&mut self, parts: &Parts, called: u16) -> Step
+        requires code { CodeHolds parts.now }
+        requires there { called < length parts.now.procedures }
         requires place { self.old.place < most_instructions }
-        ensures { DidAlone (reads (environment_of env.now) sna (frame_of self.old)) result (frame_of self.new) }
+        ensures { (i : Instruction) → let next = Calls called [] (finish_of parts.now i) (on (frame_of self.old)) in
+            Did parts.now i next result (frame_of self.new) }
     {
-        self.push_and_go(env.sna(sna))
+        let procedure = &parts.procedures.as_slice()[called as usize];
+        self.place += 1;
+        Step::Called(called, opening_locals(procedure.locals, &[]))
+    }
+
+    /// VALUE: by its source, a procedure is called, or what the attribute makes of a value that is kept comes onto the stack
+    /// (`gw_kinds::source_of`, `gw_code_flow::made`).
+    fn value(&mut self, parts: &Parts, env: &Env, sna: Sna) -> Step
+        requires code { CodeHolds parts.now }
+        requires environment { IsOf parts.now env.now }
+        requires holds { (locals : ℕ) × InstructionHolds parts.now locals (Instruction.Value sna) }
+        requires going { model.reads parts.now (environment_of env.now) sna (frame_of self.old) ≢ Stuck }
+        requires place { self.old.place < most_instructions }
+        ensures { let next = model.reads parts.now (environment_of env.now) sna (frame_of self.old) in
+            Did parts.now (Instruction.Value sna) next result (frame_of self.new) }
+    {
+        let entities = parts.entities.as_slice();
+        let operand = as_operand(sna);
+        match source_of(entities, operand) {
+            Operand::Procedure(called) => self.call_alone(parts, called),
+            source => self.push_and_go(made(entities, operand, env.kept(source))),
+        }
     }
 
     /// ADD to POW, EQ to LE, AND and OR: the two values on top of the stack give way to what the operator makes of them; the
@@ -277,7 +313,7 @@ impl Activation {
         requires code { CodeHolds parts.now }
         requires going { model.calls parts.now called (frame_of self.old) ≢ Stuck }
         requires place { self.old.place < most_instructions }
-        ensures { Did parts.now (model.calls parts.now called (frame_of self.old)) result (frame_of self.new) }
+        ensures { Did parts.now (Instruction.Call called) (model.calls parts.now called (frame_of self.old)) result (frame_of self.new) }
     {
         let procedure = &parts.procedures.as_slice()[called as usize];
         let base = self.stack.len() - procedure.arguments as usize;
@@ -305,13 +341,13 @@ impl Activation {
         requires place { self.old.place < most_instructions }
         requires room { IsTrue (is_back instruction) → CanCount (taken_of self.old.turns.items) self.old.place }
         ensures { let next = model.act parts.now (environment_of env.now) instruction (frame_of self.old) in
-            Did parts.now next result (frame_of self.new) }
+            Did parts.now instruction next result (frame_of self.new) }
     {
         match instruction {
             Instruction::Push(value) => self.push_and_go(value),
             Instruction::Get(local) => self.get(local),
             Instruction::Set(local) => self.set(local),
-            Instruction::Value(sna) => self.value(env, sna),
+            Instruction::Value(sna) => self.value(parts, env, sna),
             Instruction::Binary(operator) => self.binary(operator),
             Instruction::Unary(operator) => self.unary(operator),
             Instruction::Pop => self.pop(),

@@ -5,12 +5,11 @@ ghost use Rattle.std.specs.Option.{IsSome};
 ghost use Rattle.gw_num.specs.Table.{at};
 ghost use Rattle.gw_entities.specs.Attributes as model;
 ghost use Rattle.gw_entities.specs.Facility.{is_idle};
-ghost use Rattle.gw_code_flow.specs.Environment.{attribute_value, sna_value};
-ghost use Rattle.gw_plus.specs.Reading.{readings_of, environment_of, AttributesFit, MayRead, MayReadSna};
+ghost use Rattle.gw_code_flow.specs.Environment.{attribute_value, kept_value};
+ghost use Rattle.gw_plus.specs.Reading.{readings_of, environment_of, AttributesFit, MayRead, MayReadKept};
 
-use gw_blocks::{Attribute, EntityAttribute};
-use gw_code::Sna;
-use gw_entities::{Facilities, Facility, Queues, Savevalues, Storage, Storages, Switches};
+use gw_blocks::{Attribute, EntityAttribute, Operand};
+use gw_entities::{Facilities, Facility, Queues, Savevalues, Storage, Storages, Switches, Tables};
 use gw_num::truth_value;
 
 /// What procedures read: it lends what is to be read of the job and of one transaction.
@@ -38,6 +37,8 @@ pub struct Env<'a> {
     pub switches: &'a Switches,
     /// The savevalues, each by its number as an entity.
     pub savevalues: &'a Savevalues,
+    /// The tables, each by its number as an entity.
+    pub tables: &'a Tables,
     /// The entries of each block so far, by the blocks' numbers, which begin with 1.
     pub entries: &'a [u64],
     /// How many transactions have each block as their current one, by the blocks' numbers, which begin with 1.
@@ -97,7 +98,8 @@ impl Env<'_> {
         }
     }
 
-    /// An attribute of an entity, by its number from 0, or of a block, by its number from 1 (docs/plus-code.md).
+    /// An attribute of an entity, by its number from 0, or of a block, by its number from 1 (docs/plus-code.md): 0 where
+    /// nothing is kept of it, since a procedure evaluates it.
     pub fn attribute_of(&self, attribute: EntityAttribute, number: u16) -> i64
         requires { MayRead self.now attribute number }
         ensures { result ≡ model.attribute_of (readings_of self.now) attribute number }
@@ -109,6 +111,9 @@ impl Env<'_> {
             EntityAttribute::QueueContent => value_of(self.queues.get(number).content),
             EntityAttribute::SavevalueValue => self.savevalues.get(number),
             EntityAttribute::SwitchSetting => truth_value(self.switches.get(number)),
+            EntityAttribute::VariableValue
+            | EntityAttribute::BooleanValue
+            | EntityAttribute::FunctionValue => 0,
             EntityAttribute::BlockEntries => value_of(entry_at(self.entries, 0, number)),
             EntityAttribute::BlockCount => value_of(entry_at(self.here, 0, number) as u64),
         }
@@ -122,15 +127,17 @@ impl Env<'_> {
         self.parameters[number as usize].unwrap()
     }
 
-    /// The value of an attribute that code reads.
-    pub(crate) fn sna(&self, sna: Sna) -> i64
-        requires { MayReadSna self.now sna }
-        ensures { sna_value (environment_of self.now) sna ≡ Some result }
+    /// The value of an operand that is kept: a constant, a parameter that is set, or an attribute (docs/plus-code.md).
+    pub fn kept(&self, operand: Operand) -> i64
+        requires { MayReadKept self.now operand }
+        ensures { kept_value (environment_of self.now) operand ≡ Some result }
     {
-        match sna {
-            Sna::Parameter(number) => self.parameter(number),
-            Sna::Attribute(attribute) => self.attribute(attribute),
-            Sna::OfEntity(of) => self.attribute_of(of.attribute, of.number),
+        match operand {
+            Operand::Constant(value) => value,
+            Operand::Parameter(number) => self.parameter(number),
+            Operand::Attribute(attribute) => self.attribute(attribute),
+            Operand::OfEntity(of) => self.attribute_of(of.attribute, of.number),
+            Operand::Random(_) | Operand::Procedure(_) => unreachable!(),
         }
     }
 }

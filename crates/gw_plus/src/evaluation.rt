@@ -5,7 +5,7 @@ ghost use Rattle.gw_code_flow.specs.Meaning.{Derives, Evaluates};
 ghost use Rattle.gw_plus.specs.Activation.{begun, Begins, HasGoodCode};
 ghost use Rattle.gw_plus.specs.Reading.{environment_of, IsOf, CanEvaluate};
 
-use crate::activation::{Activation, Step, opening_locals};
+use crate::activation::{Activation, Step, finished, opening_locals};
 use crate::env::Env;
 use arrayvec::ArrayVec;
 use gw_code_flow::PlusEnd;
@@ -33,7 +33,7 @@ fn activate(
             Step::Went => {}
             Step::Called(called, locals) => {
                 let value = activate(parts, called, locals, env)?;
-                activation.push(value);
+                activation.push(finished(parts, instruction, value));
             }
             Step::Returned(value) => return Ok(value),
             Step::Ended(end) => return Err(end),

@@ -172,6 +172,108 @@ fn calls_of_procedures_that_are_not_lower_are_refused(rt: HostRuntime) -> Result
     Ok(())
 }
 
+/// VALUE of the variable and of the boolean variable of the procedure 1.
+const V: Instruction = value_of!(VariableValue, 5);
+
+const BV: Instruction = value_of!(BooleanValue, 6);
+
+/// VALUE of the function of the parameter 1, and of the one of the variable.
+const FN_OF_P1: Instruction = value_of!(FunctionValue, 8);
+
+const FN_OF_V: Instruction = value_of!(FunctionValue, 9);
+
+#[test]
+fn variables_and_functions_may_be_read_above_their_procedures(rt: HostRuntime) -> Result<(), Fail> {
+    const CODES: &[Code<'static>] = &[
+        (0, &[1], &[FN_OF_P1, RET]),
+        (0, &[3], &[PUSH, RET]),
+        (0, &[3], &[V, BV, ADD, RET]),
+        (0, &[1, 2, 3], &[FN_OF_V, FN_OF_P1, ADD, RET]),
+    ];
+    assert!(rt; fault_of(rt.alloc(), CODES)?.is_none());
+    Ok(())
+}
+
+#[test]
+fn variables_of_procedures_that_are_not_lower_are_refused(rt: HostRuntime) -> Result<(), Fail> {
+    const CASES: &[Refused<'static>] = &[
+        (
+            &[(0, &[], &[PUSH, POP, V, RET]), (0, &[], &[PUSH, RET])],
+            CALL_ORDER,
+            0,
+            2,
+        ),
+        (
+            &[(0, &[], &[BV, RET]), (0, &[], &[PUSH, RET])],
+            CALL_ORDER,
+            0,
+            0,
+        ),
+        (
+            &[(0, &[], &[FN_OF_V, RET]), (0, &[], &[PUSH, RET])],
+            CALL_ORDER,
+            0,
+            0,
+        ),
+        // In their own procedure.
+        (
+            &[(0, &[], &[PUSH, RET]), (0, &[], &[V, RET])],
+            CALL_ORDER,
+            1,
+            0,
+        ),
+        // It goes before a parameter that isn't listed.
+        (
+            &[(0, &[], &[V, RET]), (0, &[1], &[PUSH, RET])],
+            CALL_ORDER,
+            0,
+            0,
+        ),
+    ];
+    assert!(rt; wrong_fault(rt.alloc(), CASES)?.is_none());
+    Ok(())
+}
+
+#[test]
+fn parameters_of_variables_and_functions_have_to_be_listed(rt: HostRuntime) -> Result<(), Fail> {
+    const CASES: &[Refused<'static>] = &[
+        (&[(0, &[], &[FN_OF_P1, RET])], NEEDS_PARAM, 0, 0),
+        (&[(0, &[2, 3], &[PUSH, FN_OF_P1, RET])], NEEDS_PARAM, 0, 1),
+        (
+            &[
+                (0, &[], &[PUSH, RET]),
+                (0, &[1, 3], &[P1, RET]),
+                (0, &[1], &[P1, BV, ADD, RET]),
+            ],
+            NEEDS_PARAM,
+            2,
+            1,
+        ),
+        (
+            &[
+                (0, &[], &[PUSH, RET]),
+                (0, &[1, 3], &[P1, RET]),
+                (0, &[3], &[V, RET]),
+            ],
+            NEEDS_PARAM,
+            2,
+            0,
+        ),
+        (
+            &[
+                (0, &[], &[PUSH, RET]),
+                (0, &[4], &[PUSH, RET]),
+                (0, &[1, 2, 3], &[FN_OF_V, RET]),
+            ],
+            NEEDS_PARAM,
+            2,
+            0,
+        ),
+    ];
+    assert!(rt; wrong_fault(rt.alloc(), CASES)?.is_none());
+    Ok(())
+}
+
 #[test]
 fn parameters_that_are_not_listed_as_needed_are_refused(rt: HostRuntime) -> Result<(), Fail> {
     const CASES: &[Refused<'static>] = &[
@@ -255,11 +357,15 @@ const LOOP: &[Instruction] = &[
     RET,
 ];
 
-/// So many calls of the procedure 0, whose values are dropped, and then 0.
-fn calls_of_first(alloc: Global, calls: usize) -> Result<Vec<Instruction>, Memory> {
+/// So many of an instruction that leaves a value, which is dropped, and then 0.
+fn calls_of(
+    alloc: Global,
+    instruction: Instruction,
+    calls: usize,
+) -> Result<Vec<Instruction>, Memory> {
     let mut code = Vec::new(alloc);
     for _ in 0..calls {
-        code.push(Instruction::Call(0))?;
+        code.push(instruction)?;
         code.push(POP)?;
     }
     code.push(Instruction::Push(0))?;
@@ -269,8 +375,19 @@ fn calls_of_first(alloc: Global, calls: usize) -> Result<Vec<Instruction>, Memor
 
 /// The fault of so many calls of the loop, if they have one.
 fn fault_of_calls(alloc: Global, calls: usize) -> Result<Option<Fault>, Fail> {
-    let code = calls_of_first(alloc, calls)?;
+    let code = calls_of(alloc, Instruction::Call(0), calls)?;
     fault_of(alloc, &[(0, &[], LOOP), (0, &[], code.as_slice())])
+}
+
+/// The fault of so many values of the variable, whose procedure is the loop, if they have one.
+fn fault_of_values(alloc: Global, values: usize) -> Result<Option<Fault>, Fail> {
+    let code = calls_of(alloc, V, values)?;
+    let codes: [Code; 3] = [
+        (0, &[], &[PUSH, RET]),
+        (0, &[], LOOP),
+        (0, &[], code.as_slice()),
+    ];
+    fault_of(alloc, &codes)
 }
 
 #[test]
@@ -280,6 +397,16 @@ fn a_procedure_that_costs_more_than_1000000000_is_refused(rt: HostRuntime) -> Re
         fault_of_calls(rt.alloc(), 199)?.is_none(),
         // 200 (5,000,005 + 2) + 2 = 1,000,001,402.
         fault_of_calls(rt.alloc(), 200)? == at_code(TOO_COSTLY, 1, 0),
+    ];
+    assert!(rt; first_wrong(&are_right).is_none());
+    Ok(())
+}
+
+#[test]
+fn what_a_variable_calls_costs_as_a_call_does(rt: HostRuntime) -> Result<(), Fail> {
+    let are_right = [
+        fault_of_values(rt.alloc(), 199)?.is_none(),
+        fault_of_values(rt.alloc(), 200)? == at_code(TOO_COSTLY, 2, 0),
     ];
     assert!(rt; first_wrong(&are_right).is_none());
     Ok(())

@@ -1,12 +1,18 @@
 //! What the tests are made of: procedures, and objects of them.
 
-ghost use Rattle.std.specs.Prelude.{◌≡◌, length, IfOk};
+ghost use Rattle.std.specs.Prelude.{◌≡◌, IfOk};
 
-use gw_blocks::{Block, Operand};
+use gw_blocks::{Block, EntityAttribute, Numbered, Operand};
 use gw_code::{Instruction, Procedure};
-use gw_object::{Entity, Items, Kind, Memory, Object, Parts};
+use gw_object::{Entity, Function, Items, Kind, Memory, Object, Parts, Point};
 use std::alloc::Global;
 use std::test::Fail;
+
+/// The value of the variable.
+const VARIABLE: Numbered = Numbered {
+    attribute: EntityAttribute::VariableValue,
+    number: 5,
+};
 
 /// A procedure with these numbers of arguments and of locals, needs and code.
 pub(crate) fn procedure(
@@ -32,10 +38,21 @@ fn entity(alloc: Global, kind: Kind, name: &[u8]) -> Result<Entity, Memory> {
     Ok(Entity { name, kind })
 }
 
+/// Points at 0, 5 and 9.
+const POINTS: [Point; 3] = [
+    Point { x: 0, y: 10 },
+    Point { x: 5, y: -20 },
+    Point { x: 9, y: 30 },
+];
+
+/// A function of this argument, with those points.
+fn function(alloc: Global, argument: Operand) -> Result<Kind, Memory> {
+    let points = Items::from_vec(Vec::from_slice(alloc, &POINTS)?);
+    Ok(Kind::Function(Function { argument, points }))
+}
+
 /// A facility, a storage for 5 units, a queue, a savevalue of 7 and a logic switch that is set, in this order.
-fn five_entities(alloc: Global) -> Result<Vec<Entity>, Memory>
-    ensures { IfOk result (λ e. length e.items ≡ 5) }
-{
+fn five_entities(alloc: Global) -> Result<Vec<Entity>, Memory> {
     let entities = vec![in alloc;
         entity(alloc, Kind::Facility, b"F")?,
         entity(alloc, Kind::Storage(5), b"S")?,
@@ -46,7 +63,21 @@ fn five_entities(alloc: Global) -> Result<Vec<Entity>, Memory>
     Ok(entities)
 }
 
-/// Parts of these procedures, with five entities and two blocks that nobody enters.
+/// Behind those five a variable and a boolean variable of the procedure 1, a boolean variable of the procedure 2, a
+/// function of the parameter 1, and a function of the variable.
+fn ten_entities(alloc: Global) -> Result<Vec<Entity>, Memory> {
+    let mut entities = five_entities(alloc)?;
+    entities.push(entity(alloc, Kind::Variable(1), b"V")?)?;
+    entities.push(entity(alloc, Kind::BooleanVariable(1), b"A")?)?;
+    entities.push(entity(alloc, Kind::BooleanVariable(2), b"B")?)?;
+    let of_parameter = function(alloc, Operand::Parameter(1))?;
+    entities.push(entity(alloc, of_parameter, b"OFP")?)?;
+    let of_variable = function(alloc, Operand::OfEntity(VARIABLE))?;
+    entities.push(entity(alloc, of_variable, b"OFV")?)?;
+    Ok(entities)
+}
+
+/// Parts of these procedures, with ten entities and two blocks that nobody enters.
 fn parts_of(alloc: Global, procedures: Vec<Procedure>) -> Result<Parts, Memory>
     ensures procedures { IfOk result (λ p. p.procedures ≡ procedures.items) }
 {
@@ -57,7 +88,7 @@ fn parts_of(alloc: Global, procedures: Vec<Procedure>) -> Result<Parts, Memory>
     Ok(Parts {
         seeds: Items::from_vec(Vec::new(alloc)),
         count: 1,
-        entities: Items::from_vec(five_entities(alloc)?),
+        entities: Items::from_vec(ten_entities(alloc)?),
         procedures: Items::from_vec(procedures),
         blocks: Items::from_vec(Vec::from_slice(alloc, &[terminate, terminate])?),
         returns: Items::from_vec(Vec::new(alloc)),
@@ -66,7 +97,7 @@ fn parts_of(alloc: Global, procedures: Vec<Procedure>) -> Result<Parts, Memory>
     })
 }
 
-/// An object of these procedures, with five entities and two blocks that nobody enters.
+/// An object of these procedures, with ten entities and two blocks that nobody enters.
 pub(crate) fn object_of(alloc: Global, procedures: Vec<Procedure>) -> Result<Object, Fail>
     ensures { IfOk result (λ o. o.procedures ≡ procedures.items) }
 {
@@ -75,6 +106,18 @@ pub(crate) fn object_of(alloc: Global, procedures: Vec<Procedure>) -> Result<Obj
         Err(_) => Err(Fail::from("the parts have a spelling")),
     }
 }
+
+/// VALUE of this attribute of an entity or a block, in a constant.
+macro_rules! value_of {
+    ($attribute:ident, $number:expr) => {
+        gw_code::Instruction::Value(gw_code::Sna::OfEntity(gw_blocks::Numbered {
+            attribute: gw_blocks::EntityAttribute::$attribute,
+            number: $number,
+        }))
+    };
+}
+
+pub(crate) use value_of;
 
 /// The place, from 0, of the first that does not hold.
 pub(crate) fn first_wrong(holds: &[bool]) -> Option<usize> {

@@ -1,11 +1,11 @@
 //! What procedures come to: each instruction, by a value worked out by hand.
 
-ghost use Rattle.std.specs.Prelude.{◌≡◌, IfOk, slice_get, Some, [], ◌∷◌};
+ghost use Rattle.std.specs.Prelude.{◌≡◌, length, IfOk, slice_get, Some, [], ◌∷◌};
 
 use crate::models::*;
-use gw_blocks::{Attribute, EntityAttribute, Numbered};
+use gw_blocks::Attribute;
 use gw_code::{Back, Instruction, Procedure, Sna};
-use gw_entities::{Facilities, Queues, Savevalues, Storages, Switches};
+use gw_entities::{Facilities, Queues, Savevalues, Storages, Switches, Tables};
 use gw_num::{Binary, Unary};
 use gw_object::{Memory, Object};
 use gw_plus::{Env, PlusEnd, eval};
@@ -22,16 +22,6 @@ type Outcome = Result<i64, PlusEnd>;
 macro_rules! push {
     ($number:expr) => {
         Instruction::Push($number)
-    };
-}
-
-/// VALUE of this attribute of an entity or a block, in a constant.
-macro_rules! value_of {
-    ($attribute:ident, $number:expr) => {
-        Instruction::Value(Sna::OfEntity(Numbered {
-            attribute: EntityAttribute::$attribute,
-            number: $number,
-        }))
     };
 }
 
@@ -60,13 +50,15 @@ const DIFFERENCE: &[Instruction] = &[
     RET,
 ];
 
-/// The procedure 0, the difference of its two arguments, and the procedure 1, which has this code, two locals, and needs the
-/// parameter 1.
-fn two_procedures(alloc: Global, code: &[Instruction]) -> Result<Vec<Procedure>, Memory>
-    ensures { IfOk result (λ prs. (pr : Procedure) × (slice_get prs.items 1 ≡ Some pr) × (pr.arguments ≡ 0) × (pr.needs ≡ 1 ∷ [])) }
+/// The procedure 0, the difference of its two arguments, the procedures 1 and 2, of the values 5 and 0, and the
+/// procedure 3, which has this code, two locals, and needs the parameter 1.
+fn four_procedures(alloc: Global, code: &[Instruction]) -> Result<Vec<Procedure>, Memory>
+    ensures { IfOk result (λ prs. (pr : Procedure) × (slice_get prs.items 3 ≡ Some pr) × (pr.arguments ≡ 0) × (pr.needs ≡ 1 ∷ [])) }
 {
     let mut procedures = Vec::new(alloc);
     procedures.push(procedure(alloc, (2, 2), &[], DIFFERENCE)?)?;
+    procedures.push(procedure(alloc, (0, 0), &[], &[push!(5), RET])?)?;
+    procedures.push(procedure(alloc, (0, 0), &[], &[push!(0), RET])?)?;
     procedures.push(procedure(alloc, (0, 2), &[1], code)?)?;
     Ok(procedures)
 }
@@ -81,32 +73,64 @@ fn accepted(alloc: Global, object: Object) -> Result<Verified, Fail>
     }
 }
 
+/// The entities of an object, as they are at first.
+#[derive(Drop)]
+struct Entities {
+    facilities: Facilities,
+    storages: Storages,
+    queues: Queues,
+    switches: Switches,
+    savevalues: Savevalues,
+    tables: Tables,
+}
+
+/// The entities of this object.
+fn entities_of(alloc: Global, object: &Object) -> Result<Entities, Memory>
+    ensures facilities { IfOk result (λ e. length e.facilities.facilities ≡ length object.now.entities) }
+    ensures storages { IfOk result (λ e. length e.storages.storages ≡ length object.now.entities) }
+    ensures queues { IfOk result (λ e. length e.queues.queues ≡ length object.now.entities) }
+    ensures switches { IfOk result (λ e. length e.switches ≡ length object.now.entities) }
+    ensures savevalues { IfOk result (λ e. length e.savevalues ≡ length object.now.entities) }
+    ensures tables { IfOk result (λ e. length e.tables ≡ length object.now.entities) }
+{
+    Ok(Entities {
+        facilities: Facilities::new(alloc, object)?,
+        storages: Storages::new(alloc, object)?,
+        queues: Queues::new(alloc, object)?,
+        switches: Switches::new(alloc, object)?,
+        savevalues: Savevalues::new(alloc, object)?,
+        tables: Tables::new(alloc, object)?,
+    })
+}
+
 /// What a procedure of this code, with two locals, comes to at clock 100 for the transaction 12 of priority -3, which has
-/// marked 40, where TG1 is 7 and P1 is 5. The second block has 6 entries so far, and 2 transactions are in it.
-fn outcome_of(alloc: Global, code: &[Instruction]) -> Result<Outcome, Fail> {
-    let object = object_of(alloc, two_procedures(alloc, code)?)?;
-    let facilities = Facilities::new(alloc, &object)?;
-    let storages = Storages::new(alloc, &object)?;
-    let queues = Queues::new(alloc, &object)?;
-    let switches = Switches::new(alloc, &object)?;
-    let savevalues = Savevalues::new(alloc, &object)?;
+/// marked 40, where TG1 is 7 and P1 is this. The second block has 6 entries so far, and 2 transactions are in it.
+fn outcome_with(alloc: Global, first: i64, code: &[Instruction]) -> Result<Outcome, Fail> {
+    let object = object_of(alloc, four_procedures(alloc, code)?)?;
+    let entities = entities_of(alloc, &object)?;
     let verified = accepted(alloc, object)?;
     let env = Env {
         number: 12,
         priority: -3,
         mark: 40,
-        parameters: &[None, Some(5)],
+        parameters: &[None, Some(first)],
         clock: 100,
         count: 7,
-        facilities: &facilities,
-        storages: &storages,
-        queues: &queues,
-        switches: &switches,
-        savevalues: &savevalues,
+        facilities: &entities.facilities,
+        storages: &entities.storages,
+        queues: &entities.queues,
+        switches: &entities.switches,
+        savevalues: &entities.savevalues,
+        tables: &entities.tables,
         entries: &[0, 4, 6],
         here: &[0, 1, 2],
     };
-    Ok(eval(&verified, 1, &env))
+    Ok(eval(&verified, 3, &env))
+}
+
+/// What it comes to where P1 is 5.
+fn outcome_of(alloc: Global, code: &[Instruction]) -> Result<Outcome, Fail> {
+    outcome_with(alloc, 5, code)
 }
 
 /// The place, from 0, of the first of these codes that comes to something else.
@@ -333,5 +357,66 @@ fn a_call_takes_its_arguments_in_order(rt: HostRuntime) -> Result<(), Fail> {
         ),
     ];
     assert!(rt; wrong_outcome(rt.alloc(), CASES)?.is_none());
+    Ok(())
+}
+
+#[test]
+fn a_variable_is_what_its_procedure_gives(rt: HostRuntime) -> Result<(), Fail> {
+    const CASES: &[(&'static [Instruction], Outcome)] = &[
+        (&[value_of!(VariableValue, 5), RET], Ok(5)),
+        // A boolean variable asks whether it is 0.
+        (&[value_of!(BooleanValue, 6), RET], Ok(1)),
+        (&[value_of!(BooleanValue, 7), RET], Ok(0)),
+        // The value below stays.
+        (
+            &[
+                push!(100),
+                value_of!(VariableValue, 5),
+                Instruction::Binary(Binary::Subtract),
+                RET,
+            ],
+            Ok(95),
+        ),
+    ];
+    assert!(rt; wrong_outcome(rt.alloc(), CASES)?.is_none());
+    Ok(())
+}
+
+/// The place, from 0, of the first of these arguments, which P1 is, at which the function has another value.
+fn wrong_function(alloc: Global, cases: &[(i64, Outcome)]) -> Result<Option<usize>, Fail> {
+    for i in 0..cases.len() {
+        let (argument, outcome) = cases[i];
+        let code = [value_of!(FunctionValue, 8), RET];
+        if outcome_with(alloc, argument, &code)? != outcome {
+            return Ok(Some(i));
+        }
+    }
+    Ok(None)
+}
+
+#[test]
+fn a_function_has_the_value_of_the_first_point_that_is_not_below(
+    rt: HostRuntime,
+) -> Result<(), Fail> {
+    const CASES: &[(i64, Outcome)] = &[
+        (i64::MIN, Ok(10)),
+        (-1, Ok(10)),
+        (0, Ok(10)),
+        (1, Ok(-20)),
+        (5, Ok(-20)),
+        (6, Ok(30)),
+        (9, Ok(30)),
+        // Above the last point it has that one's value.
+        (10, Ok(30)),
+        (i64::MAX, Ok(30)),
+    ];
+    assert!(rt; wrong_function(rt.alloc(), CASES)?.is_none());
+    Ok(())
+}
+
+#[test]
+fn a_function_of_a_variable_is_at_the_variables_value(rt: HostRuntime) -> Result<(), Fail> {
+    const CODE: &[Instruction] = &[value_of!(FunctionValue, 9), RET];
+    assert!(rt; outcome_with(rt.alloc(), 9, CODE)? == Ok(-20));
     Ok(())
 }

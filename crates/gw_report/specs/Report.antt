@@ -4,7 +4,7 @@ use Rattle.std.specs.Fmt.{decimal, signed_decimal}
 use Rattle.std.specs.Int.{from_bool}
 use Rattle.std.specs.Option.{unwrap_or}
 use Rattle.gw_blocks.specs.declared.parts.Block.{Block}
-use Rattle.gw_blocks.specs.declared.parts.Block.TheVariants.{Generate, Terminate, Advance, Seize, Release, Enter, Leave, Queue, Depart, Assign, Test, Gate, Transfer, TransferByFraction, TransferToSubroutine, TransferByParameter, Loop, Logic, Savevalue, Mark}
+use Rattle.gw_blocks.specs.declared.parts.Block.TheVariants.{Generate, Terminate, Advance, Seize, Release, Enter, Leave, Queue, Depart, Assign, Test, Gate, Transfer, TransferByFraction, TransferToSubroutine, TransferByParameter, Loop, Logic, Savevalue, Mark, Plus, Tabulate}
 use Rattle.gw_object.specs.declared.parts.Entity.{Entity}
 use Rattle.gw_object.specs.declared.parts.Kind.{Kind}
 use Rattle.gw_object.specs.declared.parts.Kind.TheVariants as kinds
@@ -18,6 +18,7 @@ use Rattle.gw_entities.specs.Average.{average}
 use Rattle.gw_entities.specs.Contents.{empty}
 use Rattle.gw_entities.specs.Facility.{idle}
 use Rattle.gw_entities.specs.Storage.{vacant}
+use Rattle.gw_entities.specs.Table.{table_at}
 use Rattle.gw_step.specs.declared.ends.End.TheVariants.{Done, Number, ZeroDivisor, NegativeTime, LoopLimit, NoMoreEvents, Budget, Live}
 use Rattle.gw_step.specs.State.{State, delay_list}
 use Rattle.gw_scan.specs.declared.sim.Status.{Status}
@@ -60,6 +61,8 @@ block_word (Loop l) = codes "LOOP"
 block_word (Logic l) = codes "LOGIC"
 block_word (Savevalue save) = codes "SAVEVALUE"
 block_word (Mark parameter) = codes "MARK"
+block_word (Plus a) = codes "PLUS"
+block_word (Tabulate table) = codes "TABULATE"
 
 -- the entries of all blocks, and the termination count
 abbrev pub counts : State → List ℕ
@@ -133,22 +136,46 @@ switch_line s e name = codes "SWITCH " ++ name ++ codes " " ++ decimal (from_boo
 abbrev pub savevalue_line : State → ℕ → List ℕ → List ℕ
 savevalue_line s e name = codes "SAVEVALUE " ++ name ++ codes " " ++ signed_decimal (at (pos 0) s.entities.savevalues e) ++ codes "\n"
 
--- the line of an entity of this kind, by its number and its name
-abbrev pub line_of_kind : Kind → State → ℕ → List ℕ → List ℕ
-line_of_kind kinds.Facility = facility_line
-line_of_kind (kinds.Storage capacity) = storage_line
-line_of_kind kinds.Queue = queue_line
-line_of_kind (kinds.Switch set) = switch_line
-line_of_kind (kinds.Savevalue value) = savevalue_line
+-- a class of a table: its number, and how many values it has
+abbrev pub class_line : ℕ → ℕ → List ℕ
+class_line i values = codes "CLASS " ++ decimal i ++ codes " " ++ decimal values ++ codes "\n"
 
--- the line of an entity, by its number
-abbrev pub entity_line : State → ℕ → Entity → List ℕ
-entity_line s e entity = line_of_kind entity.kind s e entity.name
+-- the lines of these classes, the first of which has this number
+unfoldable pub class_lines : ℕ → List ℕ → List ℕ
+class_lines i [] = []
+class_lines i (values ∷ rest) = class_line i values ++ class_lines (i + 1) rest
+
+-- the table of a number and a name: how many values were entered, their sum, and its classes
+abbrev pub table_lines : State → ℕ → List ℕ → List ℕ
+table_lines s e name =
+    let table = table_at e s.entities.tables in
+    codes "TABLE " ++ name ++ codes " COUNT " ++ decimal table.count ++ codes " SUM " ++ signed_decimal table.sum ++ codes "\n"
+    ++ class_lines 0 table.classes
+
+-- a variable or a function has no line
+abbrev pub no_line : State → ℕ → List ℕ → List ℕ
+no_line s e name = []
+
+-- the lines of an entity of this kind, by its number and its name
+abbrev pub lines_of_kind : Kind → State → ℕ → List ℕ → List ℕ
+lines_of_kind kinds.Facility = facility_line
+lines_of_kind (kinds.Storage capacity) = storage_line
+lines_of_kind kinds.Queue = queue_line
+lines_of_kind (kinds.Switch set) = switch_line
+lines_of_kind (kinds.Savevalue value) = savevalue_line
+lines_of_kind (kinds.Table operands) = table_lines
+lines_of_kind (kinds.Variable procedure) = no_line
+lines_of_kind (kinds.BooleanVariable procedure) = no_line
+lines_of_kind (kinds.Function operands) = no_line
+
+-- the lines of an entity, by its number
+abbrev pub lines_of : State → ℕ → Entity → List ℕ
+lines_of s e entity = lines_of_kind entity.kind s e entity.name
 
 -- the lines of these entities, the first of which has this number
 unfoldable pub entity_lines : State → ℕ → List Entity → List ℕ
 entity_lines s e [] = []
-entity_lines s e (entity ∷ rest) = entity_line s e entity ++ entity_lines s (e + 1) rest
+entity_lines s e (entity ∷ rest) = lines_of s e entity ++ entity_lines s (e + 1) rest
 
 -- the report of a job that stands so
 abbrev pub report_as : Status → Progress → List ℕ

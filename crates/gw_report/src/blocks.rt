@@ -33,6 +33,8 @@ fn block_word(block: &Block) -> &'static str
         Block::Logic(_) => "LOGIC",
         Block::Savevalue(_) => "SAVEVALUE",
         Block::Mark(_) => "MARK",
+        Block::Plus(_) => "PLUS",
+        Block::Tabulate(_) => "TABULATE",
     }
 }
 

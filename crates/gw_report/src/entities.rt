@@ -10,10 +10,11 @@ ghost use Rattle.gw_report.specs.Report.{
   queue_line,
   switch_line,
   savevalue_line,
-  entity_line,
+  lines_of,
   entity_lines,
 };
 
+use crate::tables::put_table_lines;
 use crate::text::{put, put_average, put_number};
 use gw_entities::{Contents, Facility};
 use gw_object::{Entity, Kind, Memory};
@@ -102,28 +103,31 @@ fn put_savevalue_line(out: &mut Vec<u8>, sim: &Sim, number: u16, name: &[u8]) ->
     put(out, "\n")
 }
 
-fn put_entity_line(out: &mut Vec<u8>, sim: &Sim, number: u16, entity: &Entity) -> Result<(), Memory>
+/// The lines of an entity: variables and functions have none.
+fn put_lines_of(out: &mut Vec<u8>, sim: &Sim, number: u16, entity: &Entity) -> Result<(), Memory>
     requires { number < length sim.now.job.parts.entities }
-    ensures { OnOk result (out.new.items ≡ out.old.items ++ entity_line sim.now.state number entity.now) }
+    ensures { OnOk result (out.new.items ≡ out.old.items ++ lines_of sim.now.state number entity.now) }
 {
     let name = entity.name.as_slice();
-    match entity.kind {
+    match &entity.kind {
         Kind::Facility => put_facility_line(out, sim, number, name),
         Kind::Storage(_) => put_storage_line(out, sim, number, name),
         Kind::Queue => put_queue_line(out, sim, number, name),
         Kind::Switch(_) => put_switch_line(out, sim, number, name),
         Kind::Savevalue(_) => put_savevalue_line(out, sim, number, name),
+        Kind::Table(_) => put_table_lines(out, sim, number, name),
+        Kind::Variable(_) | Kind::BooleanVariable(_) | Kind::Function(_) => Ok(()),
     }
 }
 
-/// A line for each entity, in the order of the object.
+/// The lines of the entities, in the order of the object.
 #[tactic(auto, unfolding(crate::specs::Report::entity_lines))]
 pub(crate) fn put_entity_lines(out: &mut Vec<u8>, sim: &Sim) -> Result<(), Memory>
     ensures { OnOk result (out.new.items ≡ out.old.items ++ entity_lines sim.now.state 0 sim.now.job.parts.entities) }
 {
     let entities = sim.spec().verified().object().parts().entities.as_slice();
     for i in 0..entities.len() {
-        put_entity_line(out, sim, i as u16, &entities[i])?;
+        put_lines_of(out, sim, i as u16, &entities[i])?;
     }
     Ok(())
 }

@@ -1,8 +1,9 @@
-//! The report of a job: one line for how it stands, one for each block, and one for each entity.
+//! The report of a job: one line for how it stands, one for each block, and those of each entity.
 #![tactic(auto)]
 
 mod blocks;
 mod entities;
+mod tables;
 mod text;
 
 ghost use Rattle.std.specs.Prelude.{◌≡◌, ◌++◌, OnOk, IfOk};

@@ -1,5 +1,6 @@
 pub mod Fits
 pub mod BlocksWithValue
+pub mod Meeting
 pub mod Running
 pub mod FewReside
 pub mod Nowhere

@@ -1,11 +1,16 @@
 -- What a call of the machine made.
-use Rattle.std.specs.Prelude.{◌≡◌, ℕ, List, Option, Some, None, Bool, not, ◌&&◌, is_none, if◌then◌else◌}
+use Rattle.std.specs.Prelude.{◌≡◌, ℕ, List, Option, Some, None, Bool, not, ◌&&◌, Result, is_none, if◌then◌else◌}
 use Rattle.gw_blocks.specs.declared.parts.Block.{Block}
 use Rattle.gw_entities.specs.declared.stop.Stop.{Stop}
+use Rattle.gw_entities.specs.declared.stop.Stop.TheVariants.{NoBlock}
+use Rattle.gw_entities.specs.Tabulation.{Tabulation}
+use Rattle.gw_flow.specs.Values.{answered}
+use Rattle.gw_num.specs.declared.arithmetic.NumFault.{NumFault}
+use Rattle.gw_object.specs.declared.parts.Parts.{Parts}
 use Rattle.gw_machine.specs.declared.machine.Machine.{Machine}
 use Rattle.gw_machine.specs.declared.machine.Made.{Made}
 use Rattle.gw_machine.specs.declared.machine.Made.TheVariants.{Step, Ends, Stops}
-use Rattle.gw_step.specs.Outcome.{Outcome, Gives, EndsBy, StopsBy, stop_in}
+use Rattle.gw_step.specs.Outcome.{Outcome, Gives, EndsBy, StopsBy, ◌>>=◌, evaluated, stop_in}
 use Rattle.gw_step.specs.declared.placement.Placement.{Placement}
 use Rattle.gw_step.specs.declared.placement.Placement.TheVariants.{JoinsRetryList}
 use Rattle.gw_step.specs.Placing.{placed}
@@ -35,6 +40,10 @@ passes_or_retries bs n t otherwise so s =
     if is_none otherwise && not so then Gives (placed n JoinsRetryList s) else then_placed n (transfer bs n t (led_by t.next otherwise so) s)
 
 -- a step of a running state was made; or there is none, for the error stop that is answered, and nothing changed
-abbrev pub MakesStep : Option Stop → List Block → ℕ → State → State → Type 0
-MakesStep None bs budget old new = step bs budget old ≡ Some new
-MakesStep (Some stop) bs budget old new = (step bs budget old ≡ None) × (stop_in (scan bs old.lists.active old) ≡ Some stop) × (new ≡ old)
+abbrev pub MakesStep : Option Stop → Parts → ℕ → State → State → Type 0
+MakesStep None p budget old new = step p budget old ≡ Some new
+MakesStep (Some stop) p budget old new = (step p budget old ≡ None) × (stop_in (scan p old.lists.active old) ≡ Some stop) × (new ≡ old)
+
+-- a TABULATE that leads nowhere comes to the end of its arithmetic, else to an error stop
+abbrev pub leads_nowhere : Result Tabulation NumFault → Outcome State
+leads_nowhere rule = evaluated (answered rule) >>= λ left. StopsBy NoBlock

@@ -1,20 +1,27 @@
-//! Blocks that set parameters, logic switches and savevalues.
+//! Blocks that set parameters, logic switches and savevalues, and those that enter values into tables.
 
-ghost use Rattle.std.specs.Prelude.{◌≡◌, ◌≤◌, ◌<◌, Some, None, length, OnOk, OnErr, IfOk};
+ghost use Rattle.std.specs.Prelude.{◌≡◌, ◌≤◌, ◌<◌, ◌+◌, Some, None, length, OnOk, OnErr, IfOk, IfSome};
 ghost use Rattle.gw_step.specs.Changes as change;
 ghost use Rattle.gw_step.specs.Blocks as model;
-ghost use Rattle.gw_step.specs.Operands.{AssignFits, SaveFits, IsParameter};
+ghost use Rattle.gw_step.specs.State as state;
+ghost use Rattle.gw_step.specs.Operands.{IsParameter, MayEvaluate};
+ghost use Rattle.gw_step.specs.Times.{environment_of};
+ghost use Rattle.gw_kinds.specs.Evaluated.{operand_at};
 ghost use Rattle.gw_machine.specs.View.{state_of};
-ghost use Rattle.gw_machine.specs.Coherence.{Linked, IsActive};
-ghost use Rattle.gw_scan.specs.Makes.{MakesFrom, Enters};
+ghost use Rattle.gw_machine.specs.Coherence.{Linked, IsOf, IsActive};
+ghost use Rattle.gw_entities.specs.Table.{table_at};
+ghost use Rattle.gw_entities.specs.Tabulation.{tabulating};
+ghost use Rattle.gw_scan.specs.Makes.{Makes, MakesFrom, Enters, leads_nowhere};
 
-use crate::blocks::may_enter;
-use gw_blocks::{Assign, Block, Logic, Loop, Mode, Save};
+use crate::blocks::{blocks_of, may_enter};
+use gw_blocks::{Assign, Block, Logic, Loop, Mode, Plus, Save};
 use gw_chains::{Memory, Tx};
 use gw_entities::Stop;
-use gw_machine::{Machine, Made, active_subject, end_by};
-use gw_num::{NumFault, add, sub};
+use gw_kinds::operand_at;
+use gw_machine::{Machine, Made, active_subject, end_by, end_by_fault};
+use gw_num::{NumFault, Stream, add, sub};
 use gw_transactions::Transaction;
+use gw_verify::Verified;
 
 /// A value put where an old one is: it takes its place, or is added to it, or subtracted from it.
 fn put_by(mode: Mode, old: i64, value: i64) -> Result<i64, NumFault>
@@ -63,22 +70,25 @@ pub(crate) fn assign_and_enter(
 #[tactic(auto, unfolding(gw_step::specs::Blocks::act, gw_step::specs::Blocks::effect))]
 pub(crate) fn assign_parameter(
     machine: &mut Machine,
-    blocks: &[Block],
+    verified: &Verified,
     tx: Tx,
     transaction: Transaction,
     assign: Assign,
 ) -> Result<Made, Memory>
-    requires active { IsActive blocks.now machine.old tx transaction }
-    requires operands { AssignFits (length machine.old.facilities.facilities) assign }
+    requires active { IsActive verified.now.blocks machine.old tx transaction }
+    requires own { IsOf verified.now machine.old }
+    requires parameter { IsParameter assign.parameter }
+    requires operands { MayEvaluate verified.now (environment_of tx.number transaction (state_of machine.old)) assign.value }
     ensures made { IfOk result (λ made. MakesFrom made
-        (model.act blocks.now tx.number transaction (Block.Assign assign)) machine.old machine.new) }
+        (model.act verified.now tx.number transaction (Block.Assign assign)) machine.old machine.new) }
     ensures err { OnErr result (state_of machine.new ≡ state_of machine.old) }
     ensures linked { Linked machine.new }
 {
     let mut streams = machine.streams;
     let subject = active_subject(tx, transaction);
-    let Some(value) = machine.value(subject, assign.value, &mut streams) else {
-        return Ok(Made::Stops(Stop::UnsetParam));
+    let value = match machine.value(verified, subject, assign.value, &mut streams) {
+        Ok(value) => value,
+        Err(end) => return Ok(Made::Ends(end_by(end))),
     };
     let old = machine
         .transactions
@@ -86,8 +96,9 @@ pub(crate) fn assign_parameter(
         .unwrap_or(0);
     let new = match put_by(assign.mode, old, value) {
         Ok(new) => new,
-        Err(fault) => return Ok(Made::Ends(end_by(fault))),
+        Err(fault) => return Ok(Made::Ends(end_by_fault(fault))),
     };
+    let blocks = blocks_of(verified);
     let next = transaction.next + 1;
     if !may_enter(blocks, next) {
         return Ok(Made::Stops(Stop::NoBlock));
@@ -124,7 +135,7 @@ pub(crate) fn loop_back(
     };
     let left = match sub(old, 1) {
         Ok(left) => left,
-        Err(fault) => return Ok(Made::Ends(end_by(fault))),
+        Err(fault) => return Ok(Made::Ends(end_by_fault(fault))),
     };
     let next = looped(transaction.next, l.target, left);
     if !may_enter(blocks, next) {
@@ -178,6 +189,89 @@ pub(crate) fn mark_parameter(
     Ok(Made::Step)
 }
 
+// PLUS
+
+/// The transaction enters with the streams here.
+fn pass_with(
+    machine: &mut Machine,
+    blocks: &[Block],
+    tx: Tx,
+    transaction: Transaction,
+    streams: &[Stream; 16],
+) -> Made
+    requires { IsActive blocks.now machine.old tx transaction }
+    ensures made { Enters result tx.number
+        (λ s. model.transfer blocks.now tx.number transaction (transaction.next + 1) (state.with_streams streams.now s))
+        machine.old machine.new }
+    ensures linked { Linked machine.new }
+{
+    let next = transaction.next + 1;
+    if !may_enter(blocks, next) {
+        return Made::Stops(Stop::NoBlock);
+    }
+    machine.set_streams(streams);
+    machine.enter(tx, transaction, next);
+    Made::Step
+}
+
+/// A PLUS whose value a parameter takes: it is set, and the transaction enters with the streams here.
+fn take_value(
+    machine: &mut Machine,
+    blocks: &[Block],
+    tx: Tx,
+    transaction: Transaction,
+    parameter: u8,
+    value: i64,
+    streams: &[Stream; 16],
+) -> Result<Made, Memory>
+    requires active { IsActive blocks.now machine.old tx transaction }
+    requires parameter { IsParameter parameter }
+    ensures made { IfOk result (λ made. Enters made tx.number
+        (λ s. model.plus blocks.now tx.number transaction (Some parameter) value (state.with_streams streams.now s))
+        machine.old machine.new) }
+    ensures err { OnErr result (state_of machine.new ≡ state_of machine.old) }
+    ensures linked { Linked machine.new }
+{
+    let next = transaction.next + 1;
+    if !may_enter(blocks, next) {
+        return Ok(Made::Stops(Stop::NoBlock));
+    }
+    assign_and_enter(machine, blocks, tx, transaction, next, parameter, value)?;
+    machine.set_streams(streams);
+    Ok(Made::Step)
+}
+
+/// PLUS: an expression is evaluated, and its value is a parameter's from now on, if one takes it.
+#[tactic(auto, unfolding(gw_step::specs::Blocks::act, gw_step::specs::Blocks::effect))]
+pub(crate) fn plus(
+    machine: &mut Machine,
+    verified: &Verified,
+    tx: Tx,
+    transaction: Transaction,
+    plus: Plus,
+) -> Result<Made, Memory>
+    requires active { IsActive verified.now.blocks machine.old tx transaction }
+    requires own { IsOf verified.now machine.old }
+    requires parameter { IfSome plus.parameter IsParameter }
+    requires operands { MayEvaluate verified.now (environment_of tx.number transaction (state_of machine.old)) plus.value }
+    ensures made { IfOk result (λ made. MakesFrom made
+        (model.act verified.now tx.number transaction (Block.Plus plus)) machine.old machine.new) }
+    ensures err { OnErr result (state_of machine.new ≡ state_of machine.old) }
+    ensures linked { Linked machine.new }
+{
+    let mut streams = machine.streams;
+    let subject = active_subject(tx, transaction);
+    let value = match machine.value(verified, subject, plus.value, &mut streams) {
+        Ok(value) => value,
+        Err(end) => return Ok(Made::Ends(end_by(end))),
+    };
+    let blocks = blocks_of(verified);
+    match plus.parameter {
+        None => Ok(pass_with(machine, blocks, tx, transaction, &streams)),
+        Some(p) => take_value(machine, blocks, tx, transaction, p, value, &streams),
+    }
+}
+
 // LOGIC SWITCHES AND SAVEVALUES
 
 /// LOGIC: a logic switch is set, reset or inverted.
@@ -205,30 +299,106 @@ pub(crate) fn logic(
 #[tactic(auto, unfolding(gw_step::specs::Blocks::act, gw_step::specs::Blocks::effect))]
 pub(crate) fn save(
     machine: &mut Machine,
-    blocks: &[Block],
+    verified: &Verified,
     tx: Tx,
     transaction: Transaction,
     save: Save,
 ) -> Made
-    requires active { IsActive blocks.now machine.old tx transaction }
-    requires operands { SaveFits (length machine.old.facilities.facilities) save }
-    ensures made { MakesFrom result (model.act blocks.now tx.number transaction (Block.Savevalue save)) machine.old machine.new }
+    requires active { IsActive verified.now.blocks machine.old tx transaction }
+    requires own { IsOf verified.now machine.old }
+    requires there { save.savevalue < length machine.old.facilities.facilities }
+    requires operands { MayEvaluate verified.now (environment_of tx.number transaction (state_of machine.old)) save.value }
+    ensures made { MakesFrom result (model.act verified.now tx.number transaction (Block.Savevalue save)) machine.old machine.new }
     ensures linked { Linked machine.new }
 {
     let mut streams = machine.streams;
     let subject = active_subject(tx, transaction);
-    let Some(value) = machine.value(subject, save.value, &mut streams) else {
-        return Made::Stops(Stop::UnsetParam);
+    let value = match machine.value(verified, subject, save.value, &mut streams) {
+        Ok(value) => value,
+        Err(end) => return Made::Ends(end_by(end)),
     };
     let new = match put_by(save.mode, machine.savevalues.get(save.savevalue), value) {
         Ok(new) => new,
-        Err(fault) => return Made::Ends(end_by(fault)),
+        Err(fault) => return Made::Ends(end_by_fault(fault)),
     };
-    if !may_enter(blocks, transaction.next + 1) {
+    if !may_enter(blocks_of(verified), transaction.next + 1) {
         return Made::Stops(Stop::NoBlock);
     }
     machine.set_streams(&streams);
     machine.set_savevalue(save.savevalue, new);
     machine.enter(tx, transaction, transaction.next + 1);
     Made::Step
+}
+
+// TABLES
+
+/// A TABULATE that leads nowhere: a fault of arithmetic comes before the error stop.
+fn tabulate_nowhere(machine: &Machine, table: u16, value: i64) -> Made
+    requires { table < length machine.now.tables }
+    ensures { Makes result (leads_nowhere (tabulating value (table_at table machine.now.tables)))
+        (state_of machine.now) (state_of machine.now) }
+{
+    match add(machine.tables.get(table).sum(), value) {
+        Ok(_) => Made::Stops(Stop::NoBlock),
+        Err(fault) => Made::Ends(end_by_fault(fault)),
+    }
+}
+
+/// A TABULATE whose value is known, with the streams here: the value is entered into the table, and the transaction enters.
+fn enter_value(
+    machine: &mut Machine,
+    blocks: &[Block],
+    tx: Tx,
+    transaction: Transaction,
+    table: u16,
+    value: i64,
+    streams: &[Stream; 16],
+) -> Made
+    requires active { IsActive blocks.now machine.old tx transaction }
+    requires there { table < length machine.old.facilities.facilities }
+    ensures made { Enters result tx.number
+        (λ s. model.tabulate blocks.now tx.number transaction table value (state.with_streams streams.now s)) machine.old machine.new }
+    ensures linked { Linked machine.new }
+{
+    if !may_enter(blocks, transaction.next + 1) {
+        return tabulate_nowhere(machine, table, value);
+    }
+    match machine.tabulate(table, value) {
+        Ok(()) => machine.enter(tx, transaction, transaction.next + 1),
+        Err(fault) => return Made::Ends(end_by_fault(fault)),
+    }
+    machine.set_streams(streams);
+    Made::Step
+}
+
+/// TABULATE: the argument of a table is evaluated, and its value is entered into the table.
+#[tactic(auto, unfolding(gw_step::specs::Blocks::act, gw_step::specs::Blocks::effect))]
+pub(crate) fn tabulate(
+    machine: &mut Machine,
+    verified: &Verified,
+    tx: Tx,
+    transaction: Transaction,
+    table: u16,
+) -> Made
+    requires active { IsActive verified.now.blocks machine.old tx transaction }
+    requires own { IsOf verified.now machine.old }
+    requires there { table < length machine.old.facilities.facilities }
+    requires argument { IfSome (operand_at verified.now.entities table)
+        (MayEvaluate verified.now (environment_of tx.number transaction (state_of machine.old))) }
+    ensures made { MakesFrom result (model.act verified.now tx.number transaction (Block.Tabulate table)) machine.old machine.new }
+    ensures linked { Linked machine.new }
+{
+    let mut streams = machine.streams;
+    let subject = active_subject(tx, transaction);
+    let entities = verified.object().parts().entities.as_slice();
+    let Some(argument) = operand_at(entities, table) else {
+        return Made::Stops(Stop::UnsetParam);
+    };
+    match machine.value(verified, subject, argument, &mut streams) {
+        Ok(value) => {
+            let blocks = blocks_of(verified);
+            enter_value(machine, blocks, tx, transaction, table, value, &streams)
+        }
+        Err(end) => Made::Ends(end_by(end)),
+    }
 }

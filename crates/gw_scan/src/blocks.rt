@@ -8,21 +8,30 @@ ghost use Rattle.gw_step.specs.Changes as change;
 ghost use Rattle.gw_step.specs.Blocks as model;
 ghost use Rattle.gw_step.specs.Placing.{placed};
 ghost use Rattle.gw_machine.specs.View.{state_of};
-ghost use Rattle.gw_step.specs.Operands.{OperandsFit, GenerateFits, SpreadFits, UnitsFit, ValueFits};
+ghost use Rattle.gw_step.specs.Operands.{OperandsFit, UnitsFit, MayEvaluate, MayDraw, MayMeet};
+ghost use Rattle.gw_step.specs.Times.{environment_of, environment_of_next};
 ghost use Rattle.gw_entities.specs.Facility.{is_idle as is_idle_now};
-ghost use Rattle.gw_machine.specs.Coherence.{Linked, CanBePlaced, IsActive, IsPassing};
+ghost use Rattle.gw_machine.specs.Coherence.{Linked, CanBePlaced, IsOf, IsActive, IsPassing};
 ghost use Rattle.gw_scan.specs.Makes.{MakesFrom, Enters};
 
-use crate::assigning::{self, assign_parameter, loop_back, mark, mark_parameter};
+use crate::assigning::{self, assign_parameter, loop_back, mark, mark_parameter, tabulate};
 use crate::conditions;
 use crate::subroutines::{call_subroutine, come_back};
 use gw_blocks::{Block, Fraction, Generate, Operand, Spread, Units};
 use gw_chains::{Memory, Tx};
 use gw_entities::Stop;
-use gw_machine::{Machine, Made, active_subject, block_of, drawn_thousandths};
+use gw_machine::{Machine, Made, active_subject, block_of, drawn_thousandths, end_by};
 use gw_num::Stream;
 use gw_step::{End, Placement};
 use gw_transactions::Transaction;
+use gw_verify::Verified;
+
+/// The blocks of an object, in order.
+pub(crate) fn blocks_of(verified: &Verified) -> &[Block]
+    ensures { result.now ≡ verified.now.blocks }
+{
+    verified.object().parts().blocks.as_slice()
+}
 
 /// Whether a move may lead to the block of this number: it exists and isn't GENERATE.
 pub(crate) fn may_enter(blocks: &[Block], number: u16) -> bool
@@ -63,14 +72,14 @@ fn until(clock: i64, moment: i64) -> Placement
 /// GENERATE, with the next arrival at a moment, after whose draw the streams are here.
 fn generate_and_arrive(
     machine: &mut Machine,
-    blocks: &[Block],
+    verified: &Verified,
     tx: Tx,
     transaction: Transaction,
     priority: i32,
     moment: i64,
     streams: &[Stream; 16],
 ) -> Result<(), Memory>
-    requires { IsActive blocks.now machine.old tx transaction }
+    requires { IsActive verified.now.blocks machine.old tx transaction }
     ensures ok { OnOk result (state_of machine.new ≡
         change.enters_and_falls tx.number (record transaction { mark = machine.old.clock })
         (change.arrives transaction.next priority moment (state.with_streams streams.now (state_of machine.old)))) }
@@ -87,35 +96,37 @@ fn generate_and_arrive(
 /// GENERATE: the transaction enters the model, and the next arrival is scheduled, if one is owed.
 fn generate(
     machine: &mut Machine,
-    blocks: &[Block],
+    verified: &Verified,
     tx: Tx,
     transaction: Transaction,
     g: Generate,
 ) -> Result<Made, Memory>
-    requires active { IsActive blocks.now machine.old tx transaction }
-    requires operands { GenerateFits (length machine.old.facilities.facilities) g }
-    ensures made { IfOk result (λ made. Enters made tx.number (model.generate blocks.now tx.number transaction g) machine.old machine.new) }
+    requires active { IsActive verified.now.blocks machine.old tx transaction }
+    requires own { IsOf verified.now machine.old }
+    requires operands { MayDraw verified.now (environment_of_next g.priority (state_of machine.old)) g.interval }
+    ensures made { IfOk result (λ made. Enters made tx.number
+        (model.generate verified.now tx.number transaction g) machine.old machine.new) }
     ensures err { OnErr result (state_of machine.new ≡ state_of machine.old) }
     ensures linked { Linked machine.new }
 {
     if !machine.owes(transaction.next, g.limit) {
-        return Ok(mark(machine, blocks, tx, transaction));
+        return Ok(mark(machine, blocks_of(verified), tx, transaction));
     }
     let mut streams = machine.streams;
     let next = machine.next_subject(g.priority);
-    let moment = match machine.drawn_moment(next, g.interval, &mut streams) {
+    let moment = match machine.drawn_moment(verified, next, g.interval, &mut streams) {
         Ok(moment) => moment,
-        Err(halt) => return Ok(halt.made()),
+        Err(end) => return Ok(Made::Ends(end)),
     };
     if machine.is_full() {
         return Ok(Made::Ends(End::Live));
     }
-    if !may_enter(blocks, transaction.next + 1) {
+    if !may_enter(blocks_of(verified), transaction.next + 1) {
         return Ok(Made::Stops(Stop::NoBlock));
     }
     generate_and_arrive(
         machine,
-        blocks,
+        verified,
         tx,
         transaction,
         g.priority,
@@ -128,13 +139,13 @@ fn generate(
 /// The transaction enters its next block with the streams here, and is then placed.
 fn pass_to(
     machine: &mut Machine,
-    blocks: &[Block],
+    verified: &Verified,
     tx: Tx,
     transaction: Transaction,
     streams: &[Stream; 16],
     placement: Placement,
 ) -> Result<(), Memory>
-    requires active { IsActive blocks.now machine.old tx transaction }
+    requires active { IsActive verified.now.blocks machine.old tx transaction }
     requires there { CanBePlaced placement machine.old }
     ensures ok { OnOk result (state_of machine.new ≡
         placed tx.number placement (change.enters_and_falls tx.number transaction
@@ -153,30 +164,31 @@ fn pass_to(
 #[tactic(auto, unfolding(gw_step::specs::Blocks::act, gw_step::specs::Blocks::effect))]
 fn advance(
     machine: &mut Machine,
-    blocks: &[Block],
+    verified: &Verified,
     tx: Tx,
     transaction: Transaction,
     time: Spread,
 ) -> Result<Made, Memory>
-    requires active { IsActive blocks.now machine.old tx transaction }
-    requires operands { SpreadFits (length machine.old.facilities.facilities) time }
+    requires active { IsActive verified.now.blocks machine.old tx transaction }
+    requires own { IsOf verified.now machine.old }
+    requires operands { MayDraw verified.now (environment_of tx.number transaction (state_of machine.old)) time }
     ensures made { IfOk result (λ made. MakesFrom made
-        (model.act blocks.now tx.number transaction (Block.Advance time)) machine.old machine.new) }
+        (model.act verified.now tx.number transaction (Block.Advance time)) machine.old machine.new) }
     ensures err { OnErr result (state_of machine.new ≡ state_of machine.old) }
     ensures linked { Linked machine.new }
 {
     let mut streams = machine.streams;
     let subject = active_subject(tx, transaction);
-    let moment = match machine.drawn_moment(subject, time, &mut streams) {
+    let moment = match machine.drawn_moment(verified, subject, time, &mut streams) {
         Ok(moment) => moment,
-        Err(halt) => return Ok(halt.made()),
+        Err(end) => return Ok(Made::Ends(end)),
     };
-    if !may_enter(blocks, transaction.next + 1) {
+    if !may_enter(blocks_of(verified), transaction.next + 1) {
         return Ok(Made::Stops(Stop::NoBlock));
     }
     pass_to(
         machine,
-        blocks,
+        verified,
         tx,
         transaction,
         &streams,
@@ -191,15 +203,15 @@ fn advance(
 #[tactic(auto, unfolding(gw_step::specs::Blocks::effect))]
 fn seize(
     machine: &mut Machine,
-    blocks: &[Block],
+    verified: &Verified,
     tx: Tx,
     transaction: Transaction,
     f: u16,
 ) -> Result<Made, Memory>
-    requires active { IsActive blocks.now machine.old tx transaction }
+    requires active { IsActive verified.now.blocks machine.old tx transaction }
     requires there { f < length machine.old.facilities.facilities }
     ensures made { IfOk result (λ made. MakesFrom made
-        (model.meets blocks.now tx.number transaction (Block.Seize f) []) machine.old machine.new) }
+        (model.meets verified.now tx.number transaction (Block.Seize f) []) machine.old machine.new) }
     ensures err { OnErr result (state_of machine.new ≡ state_of machine.old) }
     ensures linked { Linked machine.new }
 {
@@ -207,7 +219,7 @@ fn seize(
         machine.wait_for(f, tx, transaction.priority)?;
         return Ok(Made::Step);
     }
-    if !may_enter(blocks, transaction.next + 1) {
+    if !may_enter(blocks_of(verified), transaction.next + 1) {
         return Ok(Made::Stops(Stop::NoBlock));
     }
     match machine.seize_facility(f, tx.number) {
@@ -268,15 +280,15 @@ fn release(
 #[tactic(auto, unfolding(gw_step::specs::Blocks::effect))]
 fn enter_storage(
     machine: &mut Machine,
-    blocks: &[Block],
+    verified: &Verified,
     tx: Tx,
     transaction: Transaction,
     u: Units,
 ) -> Result<Made, Memory>
-    requires active { IsActive blocks.now machine.old tx transaction }
+    requires active { IsActive verified.now.blocks machine.old tx transaction }
     requires units { UnitsFit (length machine.old.facilities.facilities) u }
     ensures made { IfOk result (λ made. MakesFrom made
-        (model.meets blocks.now tx.number transaction (Block.Enter u) []) machine.old machine.new) }
+        (model.meets verified.now tx.number transaction (Block.Enter u) []) machine.old machine.new) }
     ensures err { OnErr result (state_of machine.new ≡ state_of machine.old) }
     ensures linked { Linked machine.new }
 {
@@ -284,7 +296,7 @@ fn enter_storage(
         machine.wait_for(u.entity, tx, transaction.priority)?;
         return Ok(Made::Step);
     }
-    if !may_enter(blocks, transaction.next + 1) {
+    if !may_enter(blocks_of(verified), transaction.next + 1) {
         return Ok(Made::Stops(Stop::NoBlock));
     }
     match machine.take(u) {
@@ -405,19 +417,20 @@ pub(crate) fn transfer(
 #[tactic(auto, unfolding(gw_step::specs::Blocks::act, gw_step::specs::Blocks::effect))]
 fn transfer_by_fraction(
     machine: &mut Machine,
-    blocks: &[Block],
+    verified: &Verified,
     tx: Tx,
     transaction: Transaction,
     fraction: Fraction,
 ) -> Made
-    requires { IsActive blocks.now machine.old tx transaction }
-    ensures made { MakesFrom result (model.act blocks.now tx.number transaction (Block.TransferByFraction fraction)) machine.old machine.new }
+    requires { IsActive verified.now.blocks machine.old tx transaction }
+    ensures made { MakesFrom result
+        (model.act verified.now tx.number transaction (Block.TransferByFraction fraction)) machine.old machine.new }
     ensures linked { Linked machine.new }
 {
     let mut streams = machine.streams;
     let drawn = drawn_thousandths(1, &mut streams);
     let target = chosen(transaction.next, fraction, drawn);
-    if !may_enter(blocks, target) {
+    if !may_enter(blocks_of(verified), target) {
         return Made::Stops(Stop::NoBlock);
     }
     machine.set_streams(&streams);
@@ -430,13 +443,13 @@ fn transfer_by_fraction(
 /// The transaction enters its TERMINATE block, the termination count falls, and it is destroyed.
 fn pass_and_leave(
     machine: &mut Machine,
-    blocks: &[Block],
+    verified: &Verified,
     tx: Tx,
     transaction: Transaction,
     by: i64,
     streams: &[Stream; 16],
 ) -> Result<(), Memory>
-    requires active { IsActive blocks.now machine.old tx transaction }
+    requires active { IsActive verified.now.blocks machine.old tx transaction }
     requires by { pos 0 ≤ℤ by }
     ensures ok { OnOk result (state_of machine.new ≡
         placed tx.number Placement.LeavesModel (change.counted by
@@ -457,22 +470,24 @@ fn pass_and_leave(
 #[tactic(auto, unfolding(gw_step::specs::Blocks::act, gw_step::specs::Blocks::effect))]
 fn terminate(
     machine: &mut Machine,
-    blocks: &[Block],
+    verified: &Verified,
     tx: Tx,
     transaction: Transaction,
     by: Operand,
 ) -> Result<Made, Memory>
-    requires active { IsActive blocks.now machine.old tx transaction }
-    requires operands { ValueFits (length machine.old.facilities.facilities) by }
+    requires active { IsActive verified.now.blocks machine.old tx transaction }
+    requires own { IsOf verified.now machine.old }
+    requires operands { MayEvaluate verified.now (environment_of tx.number transaction (state_of machine.old)) by }
     ensures made { IfOk result (λ made. MakesFrom made
-        (model.act blocks.now tx.number transaction (Block.Terminate by)) machine.old machine.new) }
+        (model.act verified.now tx.number transaction (Block.Terminate by)) machine.old machine.new) }
     ensures err { OnErr result (state_of machine.new ≡ state_of machine.old) }
     ensures linked { Linked machine.new }
 {
     let mut streams = machine.streams;
     let subject = active_subject(tx, transaction);
-    let Some(by) = machine.value(subject, by, &mut streams) else {
-        return Ok(Made::Stops(Stop::UnsetParam));
+    let by = match machine.value(verified, subject, by, &mut streams) {
+        Ok(by) => by,
+        Err(end) => return Ok(Made::Ends(end_by(end))),
     };
     if by < 0 {
         return Ok(Made::Ends(End::Number));
@@ -480,7 +495,7 @@ fn terminate(
     if machine.facilities.owns_any(tx.number) {
         return Ok(Made::Stops(Stop::OwnsAtEnd));
     }
-    pass_and_leave(machine, blocks, tx, transaction, by, &streams)?;
+    pass_and_leave(machine, verified, tx, transaction, by, &streams)?;
     Ok(Made::Step)
 }
 
@@ -490,40 +505,45 @@ fn terminate(
 #[tactic(auto, unfolding(gw_step::specs::Blocks::act, gw_step::specs::Blocks::effect))]
 pub(crate) fn act(
     machine: &mut Machine,
-    blocks: &[Block],
+    verified: &Verified,
     tx: Tx,
     transaction: Transaction,
     block: Block,
 ) -> Result<Made, Memory>
-    requires active { IsActive blocks.now machine.old tx transaction }
+    requires active { IsActive verified.now.blocks machine.old tx transaction }
+    requires own { IsOf verified.now machine.old }
+    requires meet { MayMeet verified.now (state_of machine.old) tx.number transaction block }
     requires operands { OperandsFit (length machine.old.facilities.facilities) block }
-    ensures made { IfOk result (λ made. MakesFrom made (model.act blocks.now tx.number transaction block) machine.old machine.new) }
+    ensures made { IfOk result (λ made. MakesFrom made (model.act verified.now tx.number transaction block) machine.old machine.new) }
     ensures err { OnErr result (state_of machine.new ≡ state_of machine.old) }
     ensures linked { Linked machine.new }
 {
+    let blocks = blocks_of(verified);
     match block {
-        Block::Generate(g) => generate(machine, blocks, tx, transaction, g),
-        Block::Terminate(by) => terminate(machine, blocks, tx, transaction, by),
-        Block::Advance(time) => advance(machine, blocks, tx, transaction, time),
-        Block::Seize(f) => seize(machine, blocks, tx, transaction, f),
+        Block::Generate(g) => generate(machine, verified, tx, transaction, g),
+        Block::Terminate(by) => terminate(machine, verified, tx, transaction, by),
+        Block::Advance(time) => advance(machine, verified, tx, transaction, time),
+        Block::Seize(f) => seize(machine, verified, tx, transaction, f),
         Block::Release(f) => release(machine, blocks, tx, transaction, f),
-        Block::Enter(units) => enter_storage(machine, blocks, tx, transaction, units),
+        Block::Enter(units) => enter_storage(machine, verified, tx, transaction, units),
         Block::Leave(units) => leave(machine, blocks, tx, transaction, units),
         Block::Queue(units) => Ok(join_queue(machine, blocks, tx, transaction, units)),
         Block::Depart(units) => Ok(depart(machine, blocks, tx, transaction, units)),
-        Block::Test(test) => conditions::test(machine, blocks, tx, transaction, test),
-        Block::Gate(gate) => conditions::gate(machine, blocks, tx, transaction, gate),
+        Block::Test(test) => conditions::test(machine, verified, tx, transaction, test),
+        Block::Gate(gate) => conditions::gate(machine, verified, tx, transaction, gate),
         Block::Transfer(target) => Ok(transfer(machine, blocks, tx, transaction, target)),
         Block::TransferToSubroutine(c) => call_subroutine(machine, blocks, tx, transaction, c),
         Block::TransferByParameter(p) => Ok(come_back(machine, blocks, tx, transaction, p)),
-        Block::Assign(assign) => assign_parameter(machine, blocks, tx, transaction, assign),
+        Block::Assign(assign) => assign_parameter(machine, verified, tx, transaction, assign),
+        Block::Plus(plus) => assigning::plus(machine, verified, tx, transaction, plus),
         Block::Loop(l) => loop_back(machine, blocks, tx, transaction, l),
         Block::Logic(logic) => Ok(assigning::logic(machine, blocks, tx, transaction, logic)),
-        Block::Savevalue(save) => Ok(assigning::save(machine, blocks, tx, transaction, save)),
+        Block::Savevalue(save) => Ok(assigning::save(machine, verified, tx, transaction, save)),
+        Block::Tabulate(table) => Ok(tabulate(machine, verified, tx, transaction, table)),
         Block::Mark(None) => Ok(mark(machine, blocks, tx, transaction)),
         Block::Mark(Some(p)) => mark_parameter(machine, blocks, tx, transaction, p),
         Block::TransferByFraction(fraction) => {
-            Ok(transfer_by_fraction(machine, blocks, tx, transaction, fraction))
+            Ok(transfer_by_fraction(machine, verified, tx, transaction, fraction))
         }
     }
 }

@@ -4,19 +4,21 @@ ghost use Rattle.std.specs.Prelude.{◌≡◌, ◌≤◌, ◌<◌, [], length, O
 ghost use Rattle.gw_step.specs.State as state;
 ghost use Rattle.gw_step.specs.Blocks as model;
 ghost use Rattle.gw_step.specs.Placing.{placed};
-ghost use Rattle.gw_step.specs.Operands.{TestFits};
+ghost use Rattle.gw_step.specs.Operands.{MayEvaluate};
+ghost use Rattle.gw_step.specs.Times.{environment_of};
 ghost use Rattle.gw_machine.specs.View.{state_of};
-ghost use Rattle.gw_machine.specs.Coherence.{Linked, IsActive};
+ghost use Rattle.gw_machine.specs.Coherence.{Linked, IsOf, IsActive};
 ghost use Rattle.gw_scan.specs.Makes.{MakesFrom, passes_or_retries};
 
-use crate::blocks::may_enter;
+use crate::blocks::{blocks_of, may_enter};
 use gw_blocks::{Block, Comparison, Gate, Test};
 use gw_chains::{Memory, Tx};
 use gw_entities::Stop;
-use gw_machine::{Machine, Made, active_subject};
+use gw_machine::{Machine, Made, active_subject, end_by};
 use gw_num::Stream;
 use gw_step::Placement;
 use gw_transactions::Transaction;
+use gw_verify::Verified;
 
 /// Whether two values compare so.
 fn compares(comparison: Comparison, left: i64, right: i64) -> bool
@@ -54,7 +56,8 @@ fn wait_to_retry(
     streams: &[Stream; 16],
 ) -> Result<(), Memory>
     requires { IsActive blocks.now machine.old tx transaction }
-    ensures ok { OnOk result (state_of machine.new ≡ placed tx.number Placement.JoinsRetryList (state.with_streams streams.now (state_of machine.old))) }
+    ensures ok { OnOk result (state_of machine.new ≡ placed tx.number Placement.JoinsRetryList
+        (state.with_streams streams.now (state_of machine.old))) }
     ensures err { OnErr result (state_of machine.new ≡ state_of machine.old) }
     ensures linked { Linked machine.new }
 {
@@ -77,7 +80,8 @@ fn pass_or_retry(
     streams: &[Stream; 16],
 ) -> Result<Made, Memory>
     requires { IsActive blocks.now machine.old tx transaction }
-    ensures made { IfOk result (λ made. MakesFrom made (λ s. passes_or_retries blocks.now tx.number transaction otherwise so (state.with_streams streams.now s)) machine.old machine.new) }
+    ensures made { IfOk result (λ made. MakesFrom made (λ s. passes_or_retries blocks.now tx.number transaction otherwise so
+        (state.with_streams streams.now s)) machine.old machine.new) }
     ensures err { OnErr result (state_of machine.new ≡ state_of machine.old) }
     ensures linked { Linked machine.new }
 {
@@ -98,29 +102,34 @@ fn pass_or_retry(
 #[tactic(auto, unfolding(gw_step::specs::Blocks::act, gw_step::specs::Blocks::effect))]
 pub(crate) fn test(
     machine: &mut Machine,
-    blocks: &[Block],
+    verified: &Verified,
     tx: Tx,
     transaction: Transaction,
     test: Test,
 ) -> Result<Made, Memory>
-    requires active { IsActive blocks.now machine.old tx transaction }
-    requires operands { TestFits (length machine.old.facilities.facilities) test }
-    ensures made { IfOk result (λ made. MakesFrom made (model.act blocks.now tx.number transaction (Block.Test test)) machine.old machine.new) }
+    requires active { IsActive verified.now.blocks machine.old tx transaction }
+    requires own { IsOf verified.now machine.old }
+    requires left { MayEvaluate verified.now (environment_of tx.number transaction (state_of machine.old)) test.left }
+    requires right { MayEvaluate verified.now (environment_of tx.number transaction (state_of machine.old)) test.right }
+    ensures made { IfOk result (λ made. MakesFrom made
+        (model.act verified.now tx.number transaction (Block.Test test)) machine.old machine.new) }
     ensures err { OnErr result (state_of machine.new ≡ state_of machine.old) }
     ensures linked { Linked machine.new }
 {
     let mut streams = machine.streams;
     let subject = active_subject(tx, transaction);
-    let Some(left) = machine.value(subject, test.left, &mut streams) else {
-        return Ok(Made::Stops(Stop::UnsetParam));
+    let left = match machine.value(verified, subject, test.left, &mut streams) {
+        Ok(left) => left,
+        Err(end) => return Ok(Made::Ends(end_by(end))),
     };
-    let Some(right) = machine.value(subject, test.right, &mut streams) else {
-        return Ok(Made::Stops(Stop::UnsetParam));
+    let right = match machine.value(verified, subject, test.right, &mut streams) {
+        Ok(right) => right,
+        Err(end) => return Ok(Made::Ends(end_by(end))),
     };
     let so = compares(test.comparison, left, right);
     pass_or_retry(
         machine,
-        blocks,
+        blocks_of(verified),
         tx,
         transaction,
         test.otherwise,
@@ -133,14 +142,15 @@ pub(crate) fn test(
 #[tactic(auto, unfolding(gw_step::specs::Blocks::effect))]
 pub(crate) fn gate(
     machine: &mut Machine,
-    blocks: &[Block],
+    verified: &Verified,
     tx: Tx,
     transaction: Transaction,
     gate: Gate,
 ) -> Result<Made, Memory>
-    requires active { IsActive blocks.now machine.old tx transaction }
+    requires active { IsActive verified.now.blocks machine.old tx transaction }
     requires there { gate.entity < length machine.old.facilities.facilities }
-    ensures made { IfOk result (λ made. MakesFrom made (model.meets blocks.now tx.number transaction (Block.Gate gate) []) machine.old machine.new) }
+    ensures made { IfOk result (λ made. MakesFrom made
+        (model.meets verified.now tx.number transaction (Block.Gate gate) []) machine.old machine.new) }
     ensures err { OnErr result (state_of machine.new ≡ state_of machine.old) }
     ensures linked { Linked machine.new }
 {
@@ -148,7 +158,7 @@ pub(crate) fn gate(
     let so = machine.is_so(gate.condition, gate.entity);
     pass_or_retry(
         machine,
-        blocks,
+        blocks_of(verified),
         tx,
         transaction,
         gate.otherwise,

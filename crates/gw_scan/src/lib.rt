@@ -12,7 +12,7 @@ mod subroutines;
 pub use gw_entities::Stop;
 pub use gw_step::{
     End, all_jobs_come_to_rest, ends_leave_the_rest, no_job_meets_an_error_stop,
-    slices_reach_the_same, steps_are_determined, typed_states_never_get_stuck,
+    parameters_suffice, slices_reach_the_same, steps_are_determined, typed_states_never_get_stuck,
     waiters_are_not_forgotten,
 };
 pub use sim::{Sim, Status};

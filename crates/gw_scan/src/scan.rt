@@ -2,22 +2,25 @@
 
 ghost use Rattle.std.specs.Prelude.{◌≡◌, ◌<◌, ◌+◌, ◌^◌, OnErr, IfOk};
 ghost use Rattle.gw_step.specs.Step as model;
+ghost use Rattle.gw_step.specs.Operands.{MayStep};
 ghost use Rattle.gw_machine.specs.View.{state_of};
-ghost use Rattle.gw_machine.specs.Coherence.{Linked, IsRunning};
+ghost use Rattle.gw_machine.specs.Coherence.{Linked, IsOf, IsRunning};
 ghost use Rattle.gw_scan.specs.Makes.{MakesFrom, MakesStep};
 
-use crate::blocks::act;
+use crate::blocks::{act, blocks_of};
 use gw_blocks::Block;
 use gw_chains::Memory;
 use gw_entities::Stop;
 use gw_machine::{Machine, Made, block_of};
 use gw_step::End;
+use gw_verify::Verified;
 
 /// Nobody is active: the first of the current events chain becomes so; else the clock moves; else nothing is left.
 fn next_active(machine: &mut Machine, blocks: &[Block]) -> Result<Made, Memory>
     requires running { IsRunning blocks.now machine.old }
     requires nobody { machine.old.active ≡ None }
-    ensures made { IfOk result (λ made. MakesFrom made (model.next_active (state_of machine.old).lists.current_events) machine.old machine.new) }
+    ensures made { IfOk result (λ made. MakesFrom made
+        (model.next_active (state_of machine.old).lists.current_events) machine.old machine.new) }
     ensures err { OnErr result (state_of machine.new ≡ state_of machine.old) }
     ensures linked { Linked machine.new }
 {
@@ -34,19 +37,22 @@ fn next_active(machine: &mut Machine, blocks: &[Block]) -> Result<Made, Memory>
 }
 
 /// What a step does, but for the count of steps.
-fn scan(machine: &mut Machine, blocks: &[Block]) -> Result<Made, Memory>
-    requires { IsRunning blocks.now machine.old }
-    ensures made { IfOk result (λ made. MakesFrom made (model.scan blocks.now (state_of machine.old).lists.active) machine.old machine.new) }
+fn scan(machine: &mut Machine, verified: &Verified) -> Result<Made, Memory>
+    requires running { IsRunning verified.now.blocks machine.old }
+    requires own { IsOf verified.now machine.old }
+    requires may { MayStep verified.now (state_of machine.old) }
+    ensures made { IfOk result (λ made. MakesFrom made
+        (model.scan verified.now (state_of machine.old).lists.active) machine.old machine.new) }
     ensures err { OnErr result (state_of machine.new ≡ state_of machine.old) }
     ensures linked { Linked machine.new }
 {
     let tx = match machine.active {
         Some(tx) => tx,
-        None => return next_active(machine, blocks),
+        None => return next_active(machine, blocks_of(verified)),
     };
     let transaction = *machine.transactions.get(tx);
-    match block_of(blocks, transaction.next) {
-        Some(block) => act(machine, blocks, tx, transaction, block),
+    match block_of(blocks_of(verified), transaction.next) {
+        Some(block) => act(machine, verified, tx, transaction, block),
         None => Ok(Made::Stops(Stop::NoBlock)),
     }
 }
@@ -76,16 +82,18 @@ fn end_by(machine: &mut Machine, end: End)
 /// One step of a running job, or the error stop for which it has none; nothing changes then.
 pub(crate) fn step(
     machine: &mut Machine,
-    blocks: &[Block],
+    verified: &Verified,
     budget: u64,
 ) -> Result<Option<Stop>, Memory>
-    requires running { IsRunning blocks.now machine.old }
+    requires running { IsRunning verified.now.blocks machine.old }
+    requires own { IsOf verified.now machine.old }
+    requires may { MayStep verified.now (state_of machine.old) }
     requires runs { (machine.old.ended ≡ None) × (machine.old.steps < 2 ^ 60) }
-    ensures made { IfOk result (λ stop. MakesStep stop blocks.now budget (state_of machine.old) (state_of machine.new)) }
+    ensures made { IfOk result (λ stop. MakesStep stop verified.now budget (state_of machine.old) (state_of machine.new)) }
     ensures err { OnErr result (state_of machine.new ≡ state_of machine.old) }
     ensures linked { Linked machine.new }
 {
-    match scan(machine, blocks)? {
+    match scan(machine, verified)? {
         Made::Step => count_step(machine, budget),
         Made::Ends(end) => end_by(machine, end),
         Made::Stops(stop) => return Ok(Some(stop)),

@@ -9,7 +9,7 @@ ghost use Rattle.gw_step.specs.Job.{Alone, IsFinal, start_of};
 use crate::scan::step;
 use crate::spec::{Spec, StartFault};
 use gw_chains::Memory;
-use gw_entities::{Facilities, Queues, Savevalues, Stop, Storages, Switches};
+use gw_entities::{Facilities, Queues, Savevalues, Stop, Storages, Switches, Tables};
 use gw_machine::Machine;
 use gw_step::End;
 use std::alloc::Global;
@@ -56,12 +56,7 @@ impl Sim {
         ensures started { IfOk result (λ sim. (sim.job ≡ spec) × (sim.state ≡ start_of spec)) }
         ensures refused { IfErr result (λ e. (e.0 ≡ spec) × (e.1 ≡ StartFault.Memory)) }
     {
-        match Machine::start(
-            alloc,
-            spec.verified().object(),
-            spec.count(),
-            spec.streams(),
-        ) {
+        match Machine::start(alloc, spec.verified(), spec.count(), spec.streams()) {
             Ok(machine) => Ok(Sim { spec, machine }),
             Err(_) => Err((spec, StartFault::Memory)),
         }
@@ -80,9 +75,9 @@ impl Sim {
         if let Some(end) = self.machine.ended {
             return Ok(Status::Ended(end));
         }
-        let blocks = self.spec.verified().object().parts().blocks.as_slice();
+        let verified = self.spec.verified();
         let budget = self.spec.budget();
-        match step(&mut self.machine, blocks, budget)? {
+        match step(&mut self.machine, verified, budget)? {
             Some(stop) => Ok(Status::Stopped(stop)),
             None => Ok(self.status()),
         }
@@ -183,6 +178,14 @@ impl Sim {
         ensures count { length result.now ≡ length self.now.job.parts.entities }
     {
         &self.machine.savevalues
+    }
+
+    /// The tables, each by its number as an entity.
+    pub fn tables(&self) -> &Tables
+        ensures tables { result.now ≡ self.now.state.entities.tables }
+        ensures count { length result.now ≡ length self.now.job.parts.entities }
+    {
+        &self.machine.tables
     }
 
     /// How many transactions wait for an entity, by its number from 0: the length of its delay list.

@@ -17,7 +17,8 @@ use gw_transactions::Transaction;
 
 /// The number of the block after the one whose number a value is, if a block may have it.
 fn block_after(value: i64) -> Option<u16>
-    ensures { MatchOption result ((model.block_after value ≡ 0) ⊎ (65535 < model.block_after value)) (λ number. number ≡ model.block_after value) }
+    ensures { MatchOption result ((model.block_after value ≡ 0) ⊎ (65535 < model.block_after value))
+        (λ number. number ≡ model.block_after value) }
 {
     u16::try_from(value).ok()?.checked_add(1)
 }

@@ -3,7 +3,7 @@ use Rattle.std.proofs.Common.{◌≡◌, ◌≢◌, ℕ, ◌+◌, ◌≤◌, Lis
 use Rattle.std.specs.Prelude.{IfSome}
 use Rattle.std.proofs.lemmas.Bool.{cases_eq}
 use Rattle.gw_object.specs.declared.parts.Parts.{Parts}
-use Rattle.gw_kinds.specs.Kinds.{kind_at}
+use Rattle.gw_kinds.specs.Evaluated.{kind_at}
 use Rattle.gw_flow.specs.Rows.{Row}
 use Rattle.gw_num.specs.Table.{at, put}
 use Rattle.gw_num.proofs.Tables.{by_entry, at-put_other, sum_by-put}
@@ -23,6 +23,7 @@ pub record AreWhole (entities : ℕ) (g : EntityStates) : Type 0 where
   pub queues : length g.queues ≡ entities
   pub switches : length g.switches ≡ entities
   pub savevalues : length g.savevalues ≡ entities
+  pub tables : length g.tables ≡ entities
 
 -- the transaction n goes from one row to another, and what the entities hold goes with it, from g to h
 pub record Balanced (p : Parts) (n : ℕ) (old new : Option Row) (g h : EntityStates) : Type 0 where

@@ -1,6 +1,5 @@
 -- Arrivals: what a GENERATE does, and the state before the first step.
-use Rattle.std.proofs.Common.{◌≡◌, ℕ, zero, suc, ◌+◌, ◌≤◌, List, [], ◌∷◌, length, map, Some, None, true, false, pos, ◌≤ℤ◌, refl, sym, ap, ◌∙◌, subst, arith}
-use Rattle.std.proofs.lemmas.Bool.{false≢true}
+use Rattle.std.proofs.Common.{◌≡◌, ℕ, zero, suc, ◌+◌, ◌≤◌, List, [], ◌∷◌, length, map, Some, true, false, pos, ◌≤ℤ◌, refl, sym, ap, ◌∙◌, subst, arith}
 use Rattle.std.specs.Prelude.{slice_get, nat_lt, IfSome}
 use Rattle.gw_blocks.specs.declared.parts.Generate.{Generate}
 use Rattle.gw_object.specs.declared.parts.Entity.{Entity}
@@ -8,14 +7,12 @@ use Rattle.gw_blocks.specs.declared.parts.Block.{Block}
 use Rattle.gw_blocks.specs.declared.parts.Block.TheVariants as blocks
 use Rattle.gw_object.specs.declared.parts.Parts.{Parts}
 use Rattle.gw_object.specs.Entities.{capacity_of}
-use Rattle.gw_kinds.specs.Kinds.{block_at, is_generate, values}
+use Rattle.gw_kinds.specs.Kinds.{block_at, is_generate}
 use Rattle.gw_flow.specs.Codes as codes
-use Rattle.gw_flow.specs.Rows.{Num, Row, is_empty}
+use Rattle.gw_flow.specs.Rows.{Row, is_empty}
 use Rattle.gw_flow.specs.Blocks.{capacity_at}
 use Rattle.gw_flow.specs.Flow.{own_table, own_row}
-use Rattle.gw_flow.specs.Laws.{MayPass, FlowHolds}
-use Rattle.gw_code_flow.specs.Environment.{Environment}
-use Rattle.gw_flow.proofs.Parameters.{values_are_numbers}
+use Rattle.gw_flow.specs.Laws.{FlowHolds}
 use Rattle.gw_num.specs.Table.{at}
 use Rattle.gw_num.proofs.Tables.{at-replicate}
 use Rattle.gw_transactions.specs.declared.Transaction.{Transaction}
@@ -36,13 +33,14 @@ use Rattle.gw_step.proofs.Nothing.{no_transaction, resides-nothing}
 use Rattle.gw_step.specs.Places.{row_of}
 use Rattle.gw_step.specs.Typing.{IsPlaced, lists_facility, WellTyped, AreWithinCapacity}
 use Rattle.gw_step.proofs.Balances.{balanced-nothing}
-use Rattle.gw_step.proofs.Traces.{none_known, all_as_known, Goes, Arrives, Draws, Trace, Done, Then, trace_on, present, arrived}
+use Rattle.gw_step.proofs.Traces.{all_as_known, Goes, Arrives, Draws, Trace, Done, Then, trace_on, present, arrived}
 use Rattle.gw_step.proofs.Unstopped.{Safe, safe_bind, safe_if}
-use Rattle.gw_step.proofs.Drawn.{IsDrawn, safe_drawn, AreRead}
+use Rattle.gw_step.proofs.Drawn.{IsSound, IsDrawn, safe_drawn}
+use Rattle.gw_step.proofs.Asked.{interval_read}
 use Rattle.gw_step.proofs.AtBlock.{first_may_be_entered}
 use Rattle.gw_step.proofs.Moving.{Acts, Enters, safe_leads, at_first, the_rule}
 use Rattle.gw_step.proofs.Calling.{some_of}
-use Rattle.gw_step.proofs.PlainBlocks.{by_block, by_arrival}
+use Rattle.gw_step.proofs.PlainBlocks.{by_arrival}
 use Rattle.gw_step.proofs.Attributes.{attributes-past}
 
 -- THE NEXT ARRIVAL
@@ -56,22 +54,16 @@ record Scheduled (p : Parts) (k : ℕ) (s : State) (n : ℕ) (t : Transaction) (
   active : after.lists.active ≡ s.lists.active
   clock : after.clock ≡ s.clock
 
--- the interval of a GENERATE reads no parameter, since nothing is known where one arrives
-pub interval_read : (p : Parts) (b : ℕ) (g : Generate) (row : Row) → MayPass p (own_table p) b (blocks.Generate g) row → is_empty row ≡ true → (env : Environment) → AreRead env (values (blocks.Generate g))
-interval_read p b g row pass empty env k d within q is =
-    let never : None ≡ Some Num = sym (none_known row empty q) ∙ values_are_numbers p (own_table p) b (blocks.Generate g) row pass k d within q is in
-    absurd cc
-
-module _ (p : Parts) (s : State) (n : ℕ) (t : Transaction) (k : ℕ) (g : Generate) (row : Row) (acts : Acts p s n t (blocks.Generate g) row) where
+module _ (p : Parts) (sound : IsSound p) (s : State) (n : ℕ) (t : Transaction) (k : ℕ) (g : Generate) (row : Row) (acts : Acts p s n t (blocks.Generate g) row) where
   empty_row : is_empty row ≡ true
   empty_row = the_rule p t.next codes.edge_state (is_empty row) (blocks.Generate g) row refl acts.flow
 
-  safe_next : Safe (Scheduled p k s n t) (next_arrival t.next g s)
+  safe_next : Safe (Scheduled p k s n t) (next_arrival p t.next g s)
   safe_next =
       safe_if (Scheduled p k s n t) (is_owed g.limit (at 0 s.scheduled t.next)) _ (Gives s)
       (λ owed.
       let env = environment_of_next g.priority s in
-      safe_bind (IsDrawn s.clock s.streams) (Scheduled p k s n t) (drawn_moment env g.interval s.clock s.streams) _ (safe_drawn env g.interval s.clock s.streams (interval_read p t.next g row acts.flow empty_row env))
+      safe_bind (IsDrawn s.clock s.streams) (Scheduled p k s n t) (drawn_moment p env g.interval s.clock s.streams) _ (safe_drawn p sound env g.interval s.clock s.streams (interval_read p sound.entities t.next g row acts.kinds acts.flow empty_row env))
       (λ d drawn.
       safe_if (Scheduled p k s n t) (nat_lt (live_count s.transactions) 65536) (Gives (arrives t.next g.priority d.0 (with_streams d.1 s))) _
       (λ few.
@@ -86,10 +78,10 @@ module _ (p : Parts) (s : State) (n : ℕ) (t : Transaction) (k : ℕ) (g : Gene
       (λ many. tt)))
       (λ none. record { arrivals = k; trace = Done; few = omega arith; found = acts.is.found; active = refl; clock = refl })
 
-  pub safe_generate : Safe (Enters p k s n) (generate p.blocks n t g s)
+  pub safe_generate : Safe (Enters p k s n) (generate p n t g s)
   safe_generate =
       let may = first_may_be_entered p t.next _ [] acts.kinds.exits in
-      safe_bind (Scheduled p k s n t) (Enters p k s n) (next_arrival t.next g s) _ safe_next
+      safe_bind (Scheduled p k s n t) (Enters p k s n) (next_arrival p t.next g s) _ safe_next
       (λ after h.
       safe_leads p (Enters p k s n) (t.next + 1) _ may
       (record {
@@ -141,34 +133,21 @@ pub record Starts (p : Parts) (s : State) : Type 0 where
   pub within : AreWithinCapacity s.entities
 
 module _ (p : Parts) (flow : FlowHolds p (own_table p)) where
-  first_typed : (b : ℕ) (block : Block) (s : State) → block_at p.blocks b ≡ Some block → Starts p s → OnGives (Starts p) (first_arrival b block s)
+  first_typed : (b : ℕ) (block : Block) (s : State) → block_at p.blocks b ≡ Some block → Starts p s → OnGives (Starts p) (first_arrival p b block s)
   first_typed b block s =
-      by_arrival (λ x. block_at p.blocks b ≡ Some x → Starts p s → OnGives (Starts p) (first_arrival b x s))
+      by_arrival (λ x. block_at p.blocks b ≡ Some x → Starts p s → OnGives (Starts p) (first_arrival p b x s))
       (λ g is h.
       let row = some_of (own_row p b) (flow.arrivals b (ap is_generate is)) in
       let none = the_rule p b codes.edge_state (is_empty row.0) (blocks.Generate g) row.0 refl (flow.each_row b (blocks.Generate g) row.0 is row.1) in
-      on_bind (Starts p) (first_moment g s g.first) _ (λ d found. record { typed = arrived p flow (with_streams d.1 s) h.typed b g row.0 g.priority d.0 is row.1 none; within = h.within }))
-      (λ x none is h. subst (OnGives (Starts p)) (sym (none b s)) h)
+      on_bind (Starts p) (first_moment p g s g.first) _ (λ d found. record { typed = arrived p flow (with_streams d.1 s) h.typed b g row.0 g.priority d.0 is row.1 none; within = h.within }))
+      (λ x none is h. subst (OnGives (Starts p)) (sym (none p b s)) h)
       block
 
-  -- a GENERATE's interval reads no parameter
-  pub no_parameters_read : (b : ℕ) (block : Block) → block_at p.blocks b ≡ Some block → is_generate (Some block) ≡ true → (env : Environment) → AreRead env (values block)
-  no_parameters_read b block =
-      by_block (λ x. block_at p.blocks b ≡ Some x → is_generate (Some x) ≡ true → (env : Environment) → AreRead env (values x))
-      (λ g is generate.
-      let row = some_of (own_row p b) (flow.arrivals b (ap is_generate is)) in
-      let pass = flow.each_row b (blocks.Generate g) row.0 is row.1 in
-      interval_read p b g row.0 pass (the_rule p b codes.edge_state (is_empty row.0) (blocks.Generate g) row.0 refl pass))
-      (λ f is generate. absurd (false≢true generate))
-      (λ u is generate. absurd (false≢true generate))
-      (λ x plain is generate. absurd (false≢true (sym plain.generates ∙ generate)))
-      block
-
-  firsts_typed : (b : ℕ) (bs : List Block) (s : State) → ((i : ℕ) (block : Block) → slice_get bs i ≡ Some block → block_at p.blocks (b + i) ≡ Some block) → Starts p s → OnGives (Starts p) (first_arrivals b bs s)
+  firsts_typed : (b : ℕ) (bs : List Block) (s : State) → ((i : ℕ) (block : Block) → slice_get bs i ≡ Some block → block_at p.blocks (b + i) ≡ Some block) → Starts p s → OnGives (Starts p) (first_arrivals p b bs s)
   unfolding first_arrivals
   firsts_typed b [] s there h = h
   firsts_typed b (block ∷ rest) s there h =
-      on_both (Starts p) (Starts p) (first_arrival b block s) (first_arrivals (b + 1) rest)
+      on_both (Starts p) (Starts p) (first_arrival p b block s) (first_arrivals p (b + 1) rest)
       (first_typed b block s (subst (λ k. block_at p.blocks k ≡ Some block) (omega arith) (there 0 block refl)) h)
       (λ t h'. firsts_typed (b + 1) rest t (λ i x is. subst (λ k. block_at p.blocks k ≡ Some x) (omega arith) (there (suc i) x is)) h')
 
@@ -180,5 +159,5 @@ module _ (p : Parts) (flow : FlowHolds p (own_table p)) where
   pub start_typed : (count : ℕ) (streams : List ℕ) → Starts p (start p count streams)
   start_typed count streams =
       let none : Starts p (nothing p count streams) = record { typed = nothing_typed p count streams; within = nothing_fills p count streams } in
-      started_typed (first_arrivals 1 p.blocks (nothing p count streams)) (nothing p count streams) none
+      started_typed (first_arrivals p 1 p.blocks (nothing p count streams)) (nothing p count streams) none
       (firsts_typed 1 p.blocks (nothing p count streams) (λ i block is. let one : suc i ≡ 1 + i = omega arith in subst (λ k. block_at p.blocks k ≡ Some block) one is) none)

@@ -3,6 +3,8 @@ use Rattle.std.proofs.Common.{◌≡◌, ℕ, zero, suc, ◌+◌, ◌<◌, List,
 use Rattle.std.specs.Prelude.{All, IsSomeAnd, IsTrue, unwrap_or}
 use Rattle.std.proofs.lemmas.Bool.{false≢true}
 use Rattle.std.proofs.lemmas.List.Elements.{All-head, All-tail}
+use Rattle.std.specs.Option.{option_and_then}
+use Rattle.gw_blocks.specs.declared.parts.Operand.{Operand}
 use Rattle.gw_object.specs.declared.parts.Kind.{Kind}
 use Rattle.gw_object.specs.declared.parts.Kind.TheVariants as kinds
 use Rattle.gw_object.specs.declared.parts.Entity.{Entity}
@@ -11,7 +13,8 @@ use Rattle.gw_kinds.specs.declared.entities.EntityKind.TheVariants as needed
 use Rattle.gw_kinds.specs.declared.entities.Named.{Named}
 use Rattle.gw_kinds.specs.declared.ways.Exit.{Exit}
 use Rattle.gw_kinds.specs.Exits.{leads_to, goes_or_falls}
-use Rattle.gw_kinds.specs.Kinds.{kind_at, serves_as, needs}
+use Rattle.gw_kinds.specs.Evaluated.{kind_at, operand_of, operand_at}
+use Rattle.gw_kinds.specs.Kinds.{serves_as, needs}
 use Rattle.gw_kinds.specs.Laws.{IsEntity, MayBeEntered}
 
 -- EXITS
@@ -53,11 +56,8 @@ is_storage es e h = by_kind (kind_at es e) (All-head (IsEntity es) (needs needed
   where
     by_kind : (o : Option Kind) → IsSomeAnd o (λ kind. IsTrue (serves_as needed.Storage kind)) → (capacity : ℕ) × (o ≡ Some (kinds.Storage capacity))
     by_kind None h = absurd h
-    by_kind (Some kinds.Facility) h = absurd (false≢true h)
     by_kind (Some (kinds.Storage capacity)) h = (capacity, refl)
-    by_kind (Some kinds.Queue) h = absurd (false≢true h)
-    by_kind (Some (kinds.Switch set)) h = absurd (false≢true h)
-    by_kind (Some (kinds.Savevalue value)) h = absurd (false≢true h)
+    by_kind (Some kind) h = absurd (false≢true h)
 
 -- it is a queue where it is needed as one
 pub is_queue : (es : List Entity) (e : ℕ) → All (IsEntity es) (needs needed.Queue e ∷ []) → kind_at es e ≡ Some kinds.Queue
@@ -65,8 +65,14 @@ is_queue es e h = by_kind (kind_at es e) (All-head (IsEntity es) (needs needed.Q
   where
     by_kind : (o : Option Kind) → IsSomeAnd o (λ kind. IsTrue (serves_as needed.Queue kind)) → o ≡ Some kinds.Queue
     by_kind None h = absurd h
-    by_kind (Some kinds.Facility) h = absurd (false≢true h)
-    by_kind (Some (kinds.Storage capacity)) h = absurd (false≢true h)
     by_kind (Some kinds.Queue) h = refl
-    by_kind (Some (kinds.Switch set)) h = absurd (false≢true h)
-    by_kind (Some (kinds.Savevalue value)) h = absurd (false≢true h)
+    by_kind (Some kind) h = absurd (false≢true h)
+
+-- an operand is evaluated for it where it is needed as a table
+pub is_table : (es : List Entity) (e : ℕ) → All (IsEntity es) (needs needed.Table e ∷ []) → (o : Operand) × (operand_at es e ≡ Some o)
+is_table es e h = by_kind (kind_at es e) (All-head (IsEntity es) (needs needed.Table e) [] h)
+  where
+    by_kind : (o : Option Kind) → IsSomeAnd o (λ kind. IsTrue (serves_as needed.Table kind)) → (argument : Operand) × (option_and_then operand_of o ≡ Some argument)
+    by_kind None h = absurd h
+    by_kind (Some (kinds.Table t)) h = (t.argument, refl)
+    by_kind (Some kind) h = absurd (false≢true h)

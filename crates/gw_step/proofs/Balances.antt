@@ -5,7 +5,7 @@ use Rattle.std.specs.Option.{option_map_or}
 use Rattle.gw_object.specs.declared.parts.Kind.{Kind}
 use Rattle.gw_object.specs.declared.parts.Kind.TheVariants as kinds
 use Rattle.gw_object.specs.declared.parts.Parts.{Parts}
-use Rattle.gw_kinds.specs.Kinds.{kind_at}
+use Rattle.gw_kinds.specs.Evaluated.{kind_at}
 use Rattle.gw_flow.specs.Entries.{lists, amount_of}
 use Rattle.gw_flow.specs.Rows.{Row, owns, units_of, is_empty, with_facility, without_facility, with_units, Fits}
 use Rattle.gw_flow.proofs.Entries.{amount-with_entry}
@@ -17,12 +17,13 @@ use Rattle.gw_entities.specs.declared.contents.Contents.{Contents}
 use Rattle.gw_entities.specs.Contents.{empty}
 use Rattle.gw_entities.specs.Facility.{idle, seized, released, is_idle, is_owned_by}
 use Rattle.gw_entities.specs.Storage.{vacant}
-use Rattle.gw_entities.specs.Table.{set_switch, set_savevalue}
+use Rattle.gw_entities.specs.Tabulation.{Tabulation}
+use Rattle.gw_entities.specs.Table.{set_switch, set_savevalue, table_at, set_table}
 use Rattle.gw_step.specs.State.{EntityStates}
 use Rattle.gw_step.specs.Typing.{content_of}
 use Rattle.gw_step.proofs.Owning.{lists-with, lists-with_other, lists-without, lists-without_other, lists-none}
 use Rattle.gw_step.proofs.Within.{raises-same}
-use Rattle.gw_step.proofs.Follows.{raises-seized, raises-released, raises-storage, raises-queue, raises-switch, raises-savevalue}
+use Rattle.gw_step.proofs.Follows.{raises-seized, raises-released, raises-storage, raises-queue, raises-switch, raises-savevalue, raises-table}
 use Rattle.gw_step.proofs.AtBlock.{kind_below}
 use Rattle.gw_step.proofs.Agreeing.{Balanced}
 
@@ -45,22 +46,18 @@ balanced-parameters p n row state g facilities units = record {
   raises = λ w. raises-same g;
 }
 
--- LOGIC SWITCHES AND SAVEVALUES
+-- LOGIC SWITCHES, SAVEVALUES AND TABLES
 
 -- what is inside the entities doesn't depend on them
-apart_from_settings : (switches : List Bool) (savevalues : List ℤ) (g : EntityStates) (e : ℕ) (kind : Option Kind) → content_of e (record g { switches = switches; savevalues = savevalues }) kind ≡ content_of e g kind
-apart_from_settings switches savevalues g e None = refl
-apart_from_settings switches savevalues g e (Some kinds.Facility) = refl
-apart_from_settings switches savevalues g e (Some (kinds.Storage capacity)) = refl
-apart_from_settings switches savevalues g e (Some kinds.Queue) = refl
-apart_from_settings switches savevalues g e (Some (kinds.Switch set)) = refl
-apart_from_settings switches savevalues g e (Some (kinds.Savevalue value)) = refl
+apart_from_settings : (switches : List Bool) (savevalues : List ℤ) (tables : List Tabulation) (g : EntityStates) (e : ℕ) (kind : Option Kind) → content_of e (record g { switches = switches; savevalues = savevalues; tables = tables }) kind ≡ content_of e g kind
+apart_from_settings switches savevalues tables g e None = refl
+apart_from_settings switches savevalues tables g e (Some kind) = refl
 
 pub balanced-switch : (p : Parts) (n l : ℕ) (on : Bool) (row : Row) (g : EntityStates) → l < length p.entities → Balanced p n (Some row) (Some row) g (record g { switches = set_switch l on g.switches })
 balanced-switch p n l on row g there = record {
   others = λ f m other. refl;
   own = λ f h. h;
-  units = λ e. omega (arith, apart_from_settings (set_switch l on g.switches) g.savevalues g e (kind_at p.entities e));
+  units = λ e. omega (arith, apart_from_settings (set_switch l on g.switches) g.savevalues g.tables g e (kind_at p.entities e));
   sized = λ e. refl;
   filled = λ w. record { contents = w.contents };
   raises = λ w. raises-switch l on g (omega (arith, there, w.switches));
@@ -70,10 +67,20 @@ pub balanced-savevalue : (p : Parts) (n x : ℕ) (value : ℤ) (row : Row) (g : 
 balanced-savevalue p n x value row g there = record {
   others = λ f m other. refl;
   own = λ f h. h;
-  units = λ e. omega (arith, apart_from_settings g.switches (set_savevalue x value g.savevalues) g e (kind_at p.entities e));
+  units = λ e. omega (arith, apart_from_settings g.switches (set_savevalue x value g.savevalues) g.tables g e (kind_at p.entities e));
   sized = λ e. refl;
   filled = λ w. record { contents = w.contents };
   raises = λ w. raises-savevalue x value g (omega (arith, there, w.savevalues));
+}
+
+pub balanced-table : (p : Parts) (n t : ℕ) (v : Tabulation) (row : Row) (g : EntityStates) → t < length p.entities → v.count ≤ (table_at t g.tables).count + 1 → Balanced p n (Some row) (Some row) g (record g { tables = set_table t v g.tables })
+balanced-table p n t v row g there more = record {
+  others = λ f m other. refl;
+  own = λ f h. h;
+  units = λ e. omega (arith, apart_from_settings g.switches g.savevalues (set_table t v g.tables) g e (kind_at p.entities e));
+  sized = λ e. refl;
+  filled = λ w. record { contents = w.contents };
+  raises = λ w. raises-table t v g (omega (arith, there, w.tables)) more;
 }
 
 -- the row may promise less
@@ -128,11 +135,7 @@ owner_alone f n m h other = by_owner f.owner h
 -- what is inside the entities doesn't depend on the facilities
 apart_from_facilities : (fs : List Facility) (g : EntityStates) (e : ℕ) (kind : Option Kind) → content_of e (record g { facilities = fs }) kind ≡ content_of e g kind
 apart_from_facilities fs g e None = refl
-apart_from_facilities fs g e (Some kinds.Facility) = refl
-apart_from_facilities fs g e (Some (kinds.Storage capacity)) = refl
-apart_from_facilities fs g e (Some kinds.Queue) = refl
-apart_from_facilities fs g e (Some (kinds.Switch set)) = refl
-apart_from_facilities fs g e (Some (kinds.Savevalue value)) = refl
+apart_from_facilities fs g e (Some kind) = refl
 
 pub balanced-seize : (p : Parts) (n f : ℕ) (row : Row) (g : EntityStates) → f < length p.entities → is_idle (at idle g.facilities f) ≡ true → Balanced p n (Some row) (Some (with_facility f row)) g (record g { facilities = put idle g.facilities f (seized n (at idle g.facilities f)) })
 balanced-seize p n f row g below free =
@@ -199,11 +202,8 @@ balanced-storage p n e k v row g capacity kind same less within more = record {
 
     by_kind : (d : ℕ) → d ≢ e → (kind : Option Kind) → units_of (with_units e k row) d + content_of d g kind ≤ units_of row d + content_of d h kind
     by_kind d apart None = omega (arith, units_apart e k row d apart)
-    by_kind d apart (Some kinds.Facility) = omega (arith, units_apart e k row d apart)
     by_kind d apart (Some (kinds.Storage c)) = omega (arith, units_apart e k row d apart, ap (λ (x : Storage). x.contents.content) (at-put_other (vacant 0) g.storages e d v apart))
-    by_kind d apart (Some kinds.Queue) = omega (arith, units_apart e k row d apart)
-    by_kind d apart (Some (kinds.Switch set)) = omega (arith, units_apart e k row d apart)
-    by_kind d apart (Some (kinds.Savevalue value)) = omega (arith, units_apart e k row d apart)
+    by_kind d apart (Some kind) = omega (arith, units_apart e k row d apart)
 
 -- a queue of which a row promises so many units
 pub balanced-queue : (p : Parts) (n e k : ℕ) (v : Contents) (row : Row) (g : EntityStates) → kind_at p.entities e ≡ Some kinds.Queue
@@ -227,8 +227,5 @@ balanced-queue p n e k v row g kind less more inside = record {
 
     by_kind : (d : ℕ) → d ≢ e → (kind : Option Kind) → units_of (with_units e k row) d + content_of d g kind ≤ units_of row d + content_of d h kind
     by_kind d apart None = omega (arith, units_apart e k row d apart)
-    by_kind d apart (Some kinds.Facility) = omega (arith, units_apart e k row d apart)
-    by_kind d apart (Some (kinds.Storage c)) = omega (arith, units_apart e k row d apart)
     by_kind d apart (Some kinds.Queue) = omega (arith, units_apart e k row d apart, ap (λ (x : Contents). x.content) (at-put_other empty g.queues e d v apart))
-    by_kind d apart (Some (kinds.Switch set)) = omega (arith, units_apart e k row d apart)
-    by_kind d apart (Some (kinds.Savevalue value)) = omega (arith, units_apart e k row d apart)
+    by_kind d apart (Some kind) = omega (arith, units_apart e k row d apart)

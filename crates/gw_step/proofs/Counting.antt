@@ -5,6 +5,7 @@ use Rattle.std.proofs.lemmas.Int.{ints}
 use Rattle.gw_blocks.specs.declared.parts.Generate.{Generate}
 use Rattle.gw_blocks.specs.declared.parts.Block.{Block}
 use Rattle.gw_blocks.specs.declared.parts.Block.TheVariants as blocks
+use Rattle.gw_object.specs.declared.parts.Parts.{Parts}
 use Rattle.gw_kinds.specs.Kinds.{block_at}
 use Rattle.gw_flow.specs.Values.{answered, operands}
 use Rattle.gw_num.specs.Arithmetic.{difference_of}
@@ -17,6 +18,7 @@ use Rattle.gw_entities.specs.declared.stop.Stop.TheVariants.{NoBlock, OwnsAtEnd,
 use Rattle.gw_entities.specs.Facility.{seizing, releasing, owns_any}
 use Rattle.gw_entities.specs.Storage.{entering, leaving}
 use Rattle.gw_entities.specs.Queue.{joined, departing}
+use Rattle.gw_entities.specs.Tabulation.{tabulating}
 use Rattle.gw_step.specs.declared.ends.End.{End}
 use Rattle.gw_step.specs.declared.ends.End.TheVariants.{Done, Number, Live}
 use Rattle.gw_step.specs.declared.placement.Placement.{Placement}
@@ -24,9 +26,9 @@ use Rattle.gw_step.specs.declared.placement.Placement.TheVariants.{StaysActive, 
 use Rattle.gw_step.specs.Outcome.{Outcome, Gives, EndsBy, StopsBy, ◌>>=◌, or_stop, granted, evaluated}
 use Rattle.gw_step.specs.State.{FutureEvent, State, may_enter, with_streams, delay_list}
 use Rattle.gw_step.specs.Times.{environment_of, environment_of_next, moment_after, drawn_moment}
-use Rattle.gw_step.specs.Changes.{entered, enters_and_falls, assigned, arrives, woken, facility, storage, queue, switch, savevalue, put_facility, put_storage, put_queue, put_switch, put_savevalue, end_at}
+use Rattle.gw_step.specs.Changes.{entered, enters_and_falls, assigned, arrives, woken, facility, storage, queue, switch, savevalue, put_facility, put_storage, put_queue, put_switch, put_savevalue, table, put_table, end_at}
 use Rattle.gw_step.specs.Placing.{woken_if_stirred, placed}
-use Rattle.gw_step.specs.Blocks.{refuses, refusal, is_owed, next_arrival, chosen, passes_test, is_so, led_by, block_after, put_by, looped, turned, the_value, effect, then_placed, meets, act}
+use Rattle.gw_step.specs.Blocks.{refuses, refusal, is_owed, next_arrival, chosen, passes_test, is_so, led_by, block_after, put_by, looped, turned, the_value, plus, effect, then_placed, meets, act}
 use Rattle.gw_step.specs.Step.{next_event, next_active, scan}
 use Rattle.gw_step.proofs.Outcomes.{OnGives, on_bind, on_test, on_if, on_both, choose}
 use Rattle.gw_step.proofs.Follows.{Stays, stays-same, stays-hand_over, stays-admission}
@@ -79,75 +81,83 @@ module _ (s : State) where
   passed : (t : State) → t.steps ≡ s.steps → t.ended ≡ s.ended → t.count ≡ s.count → IsCounted s t
   passed t steps ended count = record { steps = steps; ended = inl (ended, count) }
 
-  arrival_stays : (b : ℕ) (g : Generate) → OnGives (Stays s) (next_arrival b g s)
-  arrival_stays b g =
+  arrival_stays : (p : Parts) (b : ℕ) (g : Generate) → OnGives (Stays s) (next_arrival p b g s)
+  arrival_stays p b g =
       on_if (Stays s) (is_owed g.limit (at 0 s.scheduled b)) _ (Gives s)
-      (on_bind (Stays s) (drawn_moment (environment_of_next g.priority s) g.interval s.clock s.streams) _
+      (on_bind (Stays s) (drawn_moment p (environment_of_next g.priority s) g.interval s.clock s.streams) _
       (λ d _. on_if (Stays s) (nat_lt (live_count s.transactions) 65536) (Gives (arrives b g.priority d.0 (with_streams d.1 s))) (EndsBy Live) (record { clock = refl; count = refl; steps = refl; ended = refl }) tt))
       (stays-same s)
 
-  effect_counted : (bs : List Block) (n : ℕ) (t : Transaction) (block : Block) (values : List ℤ) → OnGives Entered (effect bs n t block values s)
+  plus_counted : (p : Parts) (n : ℕ) (t : Transaction) (q : Option ℕ) (value : ℤ) → OnGives Entered (plus p.blocks n t q value s)
+  plus_counted p n t None value = on_test Entered (may_enter (block_at p.blocks (t.next + 1))) NoBlock _ (passed (enters_and_falls n t s) refl refl refl)
+  plus_counted p n t (Some q) value = on_test Entered (may_enter (block_at p.blocks (t.next + 1))) NoBlock _ (passed (enters_and_falls n t (assigned n q value s)) refl refl refl)
+
+  effect_counted : (p : Parts) (n : ℕ) (t : Transaction) (block : Block) (values : List ℤ) → OnGives Entered (effect p n t block values s)
   unfolding effect
-  effect_counted bs n t (blocks.Generate g) values =
-      on_both (Stays s) Entered (next_arrival t.next g s) _ (arrival_stays t.next g)
-      (λ u h. on_test Entered (may_enter (block_at bs (t.next + 1))) NoBlock _ (passed (enters_and_falls n (record t { mark = s.clock }) u) h.steps h.ended h.count))
-  effect_counted bs n t (blocks.Terminate by) values =
+  effect_counted p n t (blocks.Generate g) values =
+      on_both (Stays s) Entered (next_arrival p t.next g s) _ (arrival_stays p t.next g)
+      (λ u h. on_test Entered (may_enter (block_at p.blocks (t.next + 1))) NoBlock _ (passed (enters_and_falls n (record t { mark = s.clock }) u) h.steps h.ended h.count))
+  effect_counted p n t (blocks.Terminate by) values =
       on_if Entered (int_lt (the_value values) (pos 0)) (EndsBy Number) _ tt (on_test Entered (not (owns_any n s.entities.facilities)) OwnsAtEnd _ (record { steps = refl; ended = inr refl }))
-  effect_counted bs n t (blocks.Advance time) values =
-      on_bind Entered (moment_after s.clock (the_value values)) _ (λ moment _. on_test Entered (may_enter (block_at bs (t.next + 1))) NoBlock _ (passed (enters_and_falls n t s) refl refl refl))
-  effect_counted bs n t (blocks.Seize f) values =
-      on_test Entered (may_enter (block_at bs (t.next + 1))) NoBlock _ (on_granted Entered (seizing n (facility f s)) _ (λ r. passed (put_facility f r.1 (enters_and_falls n t s)) refl refl refl))
-  effect_counted bs n t (blocks.Release f) values =
-      on_test Entered (may_enter (block_at bs (t.next + 1))) NoBlock _ (on_granted Entered (releasing n (facility f s)) _
-      (λ r. let u = put_facility f r.1 (enters_and_falls n t s) in counted_on s u _ (passed u refl refl refl) (stays-hand_over bs u f (delay_list f s))))
-  effect_counted bs n t (blocks.Enter u) values =
-      on_test Entered (may_enter (block_at bs (t.next + 1))) NoBlock _ (on_granted Entered (entering u.number (storage u.entity s)) _ (λ r. passed (put_storage u.entity r.1 (enters_and_falls n t s)) refl refl refl))
-  effect_counted bs n t (blocks.Leave u) values =
-      on_test Entered (may_enter (block_at bs (t.next + 1))) NoBlock _ (on_granted Entered (leaving u.number (storage u.entity s)) _
-      (λ r. let v = put_storage u.entity r.1 (enters_and_falls n t s) in counted_on s v _ (passed v refl refl refl) (stays-admission bs u.entity (delay_list u.entity s) v)))
-  effect_counted bs n t (blocks.Queue u) values = on_test Entered (may_enter (block_at bs (t.next + 1))) NoBlock _ (passed (put_queue u.entity (joined u.number (queue u.entity s)) (enters_and_falls n t s)) refl refl refl)
-  effect_counted bs n t (blocks.Depart u) values =
-      on_test Entered (may_enter (block_at bs (t.next + 1))) NoBlock _ (on_granted Entered (departing u.number (queue u.entity s)) _ (λ r. passed (put_queue u.entity r.1 (enters_and_falls n t s)) refl refl refl))
-  effect_counted bs n t (blocks.Assign a) values =
+  effect_counted p n t (blocks.Advance time) values =
+      on_bind Entered (moment_after s.clock (the_value values)) _ (λ moment _. on_test Entered (may_enter (block_at p.blocks (t.next + 1))) NoBlock _ (passed (enters_and_falls n t s) refl refl refl))
+  effect_counted p n t (blocks.Seize f) values =
+      on_test Entered (may_enter (block_at p.blocks (t.next + 1))) NoBlock _ (on_granted Entered (seizing n (facility f s)) _ (λ r. passed (put_facility f r.1 (enters_and_falls n t s)) refl refl refl))
+  effect_counted p n t (blocks.Release f) values =
+      on_test Entered (may_enter (block_at p.blocks (t.next + 1))) NoBlock _ (on_granted Entered (releasing n (facility f s)) _
+      (λ r. let u = put_facility f r.1 (enters_and_falls n t s) in counted_on s u _ (passed u refl refl refl) (stays-hand_over p.blocks u f (delay_list f s))))
+  effect_counted p n t (blocks.Enter u) values =
+      on_test Entered (may_enter (block_at p.blocks (t.next + 1))) NoBlock _ (on_granted Entered (entering u.number (storage u.entity s)) _ (λ r. passed (put_storage u.entity r.1 (enters_and_falls n t s)) refl refl refl))
+  effect_counted p n t (blocks.Leave u) values =
+      on_test Entered (may_enter (block_at p.blocks (t.next + 1))) NoBlock _ (on_granted Entered (leaving u.number (storage u.entity s)) _
+      (λ r. let v = put_storage u.entity r.1 (enters_and_falls n t s) in counted_on s v _ (passed v refl refl refl) (stays-admission p.blocks u.entity (delay_list u.entity s) v)))
+  effect_counted p n t (blocks.Queue u) values = on_test Entered (may_enter (block_at p.blocks (t.next + 1))) NoBlock _ (passed (put_queue u.entity (joined u.number (queue u.entity s)) (enters_and_falls n t s)) refl refl refl)
+  effect_counted p n t (blocks.Depart u) values =
+      on_test Entered (may_enter (block_at p.blocks (t.next + 1))) NoBlock _ (on_granted Entered (departing u.number (queue u.entity s)) _ (λ r. passed (put_queue u.entity r.1 (enters_and_falls n t s)) refl refl refl))
+  effect_counted p n t (blocks.Assign a) values =
       on_bind Entered (evaluated (answered (put_by a.mode (unwrap_or (parameter_at n a.parameter s.transactions) (pos 0)) (the_value values)))) _
-      (λ new _. on_test Entered (may_enter (block_at bs (t.next + 1))) NoBlock _ (passed (enters_and_falls n t (assigned n a.parameter new s)) refl refl refl))
-  effect_counted bs n t (blocks.Test test) values =
+      (λ new _. on_test Entered (may_enter (block_at p.blocks (t.next + 1))) NoBlock _ (passed (enters_and_falls n t (assigned n a.parameter new s)) refl refl refl))
+  effect_counted p n t (blocks.Test test) values =
       let to = led_by t.next test.otherwise (passes_test test values) in
-      on_test Entered (may_enter (block_at bs to)) NoBlock _ (passed (entered n t to s) refl refl refl)
-  effect_counted bs n t (blocks.Gate gate) values =
+      on_test Entered (may_enter (block_at p.blocks to)) NoBlock _ (passed (entered n t to s) refl refl refl)
+  effect_counted p n t (blocks.Gate gate) values =
       let to = led_by t.next gate.otherwise (is_so gate.condition gate.entity s) in
-      on_test Entered (may_enter (block_at bs to)) NoBlock _ (passed (entered n t to s) refl refl refl)
-  effect_counted bs n t (blocks.Transfer target) values = on_test Entered (may_enter (block_at bs target)) NoBlock _ (passed (entered n t target s) refl refl refl)
-  effect_counted bs n t (blocks.TransferByFraction f) values =
-      on_test Entered (may_enter (block_at bs (chosen t.next f (the_value values)))) NoBlock _ (passed (entered n t (chosen t.next f (the_value values)) s) refl refl refl)
-  effect_counted bs n t (blocks.TransferToSubroutine c) values =
-      on_test Entered (may_enter (block_at bs c.target)) NoBlock _ (passed (entered n t c.target (assigned n c.parameter (pos t.next) s)) refl refl refl)
-  effect_counted bs n t (blocks.TransferByParameter q) values =
+      on_test Entered (may_enter (block_at p.blocks to)) NoBlock _ (passed (entered n t to s) refl refl refl)
+  effect_counted p n t (blocks.Transfer target) values = on_test Entered (may_enter (block_at p.blocks target)) NoBlock _ (passed (entered n t target s) refl refl refl)
+  effect_counted p n t (blocks.TransferByFraction f) values =
+      on_test Entered (may_enter (block_at p.blocks (chosen t.next f (the_value values)))) NoBlock _ (passed (entered n t (chosen t.next f (the_value values)) s) refl refl refl)
+  effect_counted p n t (blocks.TransferToSubroutine c) values =
+      on_test Entered (may_enter (block_at p.blocks c.target)) NoBlock _ (passed (entered n t c.target (assigned n c.parameter (pos t.next) s)) refl refl refl)
+  effect_counted p n t (blocks.TransferByParameter q) values =
       on_bind Entered (or_stop (parameter_at n q s.transactions) UnsetParam) _
-      (λ value _. on_test Entered (may_enter (block_at bs (block_after value))) NoBlock _ (passed (entered n t (block_after value) s) refl refl refl))
-  effect_counted bs n t (blocks.Loop l) values =
+      (λ value _. on_test Entered (may_enter (block_at p.blocks (block_after value))) NoBlock _ (passed (entered n t (block_after value) s) refl refl refl))
+  effect_counted p n t (blocks.Loop l) values =
       on_bind Entered (or_stop (parameter_at n l.parameter s.transactions) UnsetParam) _
       (λ old _. on_bind Entered (evaluated (answered (difference_of old (pos 1)))) _
-      (λ left _. on_test Entered (may_enter (block_at bs (looped t.next l.target left))) NoBlock _ (passed (entered n t (looped t.next l.target left) (assigned n l.parameter left s)) refl refl refl)))
-  effect_counted bs n t (blocks.Logic l) values =
-      on_test Entered (may_enter (block_at bs (t.next + 1))) NoBlock _ (passed (put_switch l.switch (turned l.action (switch l.switch s)) (enters_and_falls n t s)) refl refl refl)
-  effect_counted bs n t (blocks.Savevalue a) values =
+      (λ left _. on_test Entered (may_enter (block_at p.blocks (looped t.next l.target left))) NoBlock _ (passed (entered n t (looped t.next l.target left) (assigned n l.parameter left s)) refl refl refl)))
+  effect_counted p n t (blocks.Logic l) values =
+      on_test Entered (may_enter (block_at p.blocks (t.next + 1))) NoBlock _ (passed (put_switch l.switch (turned l.action (switch l.switch s)) (enters_and_falls n t s)) refl refl refl)
+  effect_counted p n t (blocks.Savevalue a) values =
       on_bind Entered (evaluated (answered (put_by a.mode (savevalue a.savevalue s) (the_value values)))) _
-      (λ new _. on_test Entered (may_enter (block_at bs (t.next + 1))) NoBlock _ (passed (put_savevalue a.savevalue new (enters_and_falls n t s)) refl refl refl))
-  effect_counted bs n t (blocks.Mark None) values = on_test Entered (may_enter (block_at bs (t.next + 1))) NoBlock _ (passed (enters_and_falls n (record t { mark = s.clock }) s) refl refl refl)
-  effect_counted bs n t (blocks.Mark (Some q)) values = on_test Entered (may_enter (block_at bs (t.next + 1))) NoBlock _ (passed (enters_and_falls n t (assigned n q s.clock s)) refl refl refl)
+      (λ new _. on_test Entered (may_enter (block_at p.blocks (t.next + 1))) NoBlock _ (passed (put_savevalue a.savevalue new (enters_and_falls n t s)) refl refl refl))
+  effect_counted p n t (blocks.Tabulate e) values =
+      on_bind Entered (evaluated (answered (tabulating (the_value values) (table e s)))) _
+      (λ new _. on_test Entered (may_enter (block_at p.blocks (t.next + 1))) NoBlock _ (passed (put_table e new (enters_and_falls n t s)) refl refl refl))
+  effect_counted p n t (blocks.Plus a) values = plus_counted p n t a.parameter (the_value values)
+  effect_counted p n t (blocks.Mark None) values = on_test Entered (may_enter (block_at p.blocks (t.next + 1))) NoBlock _ (passed (enters_and_falls n (record t { mark = s.clock }) s) refl refl refl)
+  effect_counted p n t (blocks.Mark (Some q)) values = on_test Entered (may_enter (block_at p.blocks (t.next + 1))) NoBlock _ (passed (enters_and_falls n t (assigned n q s.clock s)) refl refl refl)
 
-  meets_counted : (bs : List Block) (n : ℕ) (t : Transaction) (block : Block) (values : List ℤ) → OnGives (IsCounted s) (meets bs n t block values s)
-  meets_counted bs n t block values =
-      on_if (IsCounted s) (refuses n block values s) (Gives (placed n (refusal block) s)) (then_placed n (effect bs n t block values s))
+  meets_counted : (p : Parts) (n : ℕ) (t : Transaction) (block : Block) (values : List ℤ) → OnGives (IsCounted s) (meets p n t block values s)
+  meets_counted p n t block values =
+      on_if (IsCounted s) (refuses n block values s) (Gives (placed n (refusal block) s)) (then_placed n (effect p n t block values s))
       (counted_same s _ (placed_stays n (refusal block) s))
-      (on_both Entered (IsCounted s) (effect bs n t block values s) _ (effect_counted bs n t block values) (λ e h. counted_on s e.0 _ h (placed_stays n e.1 e.0)))
+      (on_both Entered (IsCounted s) (effect p n t block values s) _ (effect_counted p n t block values) (λ e h. counted_on s e.0 _ h (placed_stays n e.1 e.0)))
 
-act_counted : (bs : List Block) (n : ℕ) (t : Transaction) (block : Block) (s : State) → OnGives (IsCounted s) (act bs n t block s)
+act_counted : (p : Parts) (n : ℕ) (t : Transaction) (block : Block) (s : State) → OnGives (IsCounted s) (act p n t block s)
 unfolding act
-act_counted bs n t block s =
-    on_bind (IsCounted s) (evaluated (operands (environment_of n t s) block s.streams)) _
-    (λ read _. on_then (IsCounted (with_streams read.1 s)) (IsCounted s) (meets bs n t block read.0 (with_streams read.1 s)) (meets_counted (with_streams read.1 s) bs n t block read.0) (λ u h. record { steps = h.steps; ended = h.ended }))
+act_counted p n t block s =
+    on_bind (IsCounted s) (evaluated (operands p (environment_of n t s) block s.streams)) _
+    (λ read _. on_then (IsCounted (with_streams read.1 s)) (IsCounted s) (meets p n t block read.0 (with_streams read.1 s)) (meets_counted (with_streams read.1 s) p n t block read.0) (λ u h. record { steps = h.steps; ended = h.ended }))
 
 -- THE SCAN
 
@@ -159,14 +169,14 @@ next_counted : (s : State) (ns : List ℕ) → OnGives (IsCounted s) (next_activ
 next_counted s [] = event_counted s s.lists.future_events
 next_counted s (n ∷ ns) = record { steps = refl; ended = inl (refl, refl) }
 
-scan_counted : (bs : List Block) (a : Option ℕ) (s : State) → OnGives (IsCounted s) (scan bs a s)
-scan_counted bs None s = next_counted s s.lists.current_events
-scan_counted bs (Some n) s =
-    on_bind (IsCounted s) (or_stop (attributes_at n s.transactions) NoBlock) (λ t. or_stop (block_at bs t.next) NoBlock >>= λ block. act bs n t block s) (λ t _.
-    on_bind (IsCounted s) (or_stop (block_at bs t.next) NoBlock) (λ block. act bs n t block s) (λ block _. act_counted bs n t block s))
+scan_counted : (p : Parts) (a : Option ℕ) (s : State) → OnGives (IsCounted s) (scan p a s)
+scan_counted p None s = next_counted s s.lists.current_events
+scan_counted p (Some n) s =
+    on_bind (IsCounted s) (or_stop (attributes_at n s.transactions) NoBlock) (λ t. or_stop (block_at p.blocks t.next) NoBlock >>= λ block. act p n t block s) (λ t _.
+    on_bind (IsCounted s) (or_stop (block_at p.blocks t.next) NoBlock) (λ block. act p n t block s) (λ block _. act_counted p n t block s))
 
-pub is_counted : (bs : List Block) (s t : State) → scan bs s.lists.active s ≡ Gives t → IsCounted s t
-is_counted bs s t h = subst (OnGives (IsCounted s)) h (scan_counted bs s.lists.active s)
+pub is_counted : (p : Parts) (s t : State) → scan p s.lists.active s ≡ Gives t → IsCounted s t
+is_counted p s t h = subst (OnGives (IsCounted s)) h (scan_counted p s.lists.active s)
 
 -- where no named end stands, the count is still above 0
 still_counts : (count : ℤ) → end_at count ≡ None → pos 0 <ℤ count

@@ -1,5 +1,5 @@
 -- What each block does to a well-typed state is a list of elementary changes, and never an error stop.
-use Rattle.std.proofs.Common.{◌≡◌, ◌≢◌, ℕ, suc, ◌+◌, ◌-◌, ◌≤◌, ℤ, pos, ◌≤ℤ◌, List, [], ◌∷◌, length, map, Option, Some, None, Result, Ok, Err, Bool, true, false, not, if◌then◌else◌, ◌==◌, ◌||◌, option_map, IsSome, inl, inr, refl, sym, ap, ◌∙◌, subst, arith}
+use Rattle.std.proofs.Common.{◌≡◌, ◌≢◌, ℕ, suc, ◌+◌, ◌-◌, ◌≤◌, ℤ, pos, ◌+ℤ◌, ◌≤ℤ◌, List, [], ◌∷◌, length, map, Option, Some, None, Result, Ok, Err, Bool, true, false, not, if◌then◌else◌, ◌==◌, ◌||◌, option_map, IsSome, inl, inr, refl, sym, ap, ◌∙◌, subst, arith}
 use Rattle.std.specs.Prelude.{int_lt, nat_le, unwrap_or, is_none, ◌&&◌, All, Contains}
 use Rattle.std.specs.Option.{option_map_or, option_flatten}
 use Rattle.std.specs.List.{list_any}
@@ -16,6 +16,7 @@ use Rattle.gw_blocks.specs.declared.parts.Logic.{Logic}
 use Rattle.gw_blocks.specs.declared.parts.Test.{Test}
 use Rattle.gw_blocks.specs.declared.parts.Gate.{Gate}
 use Rattle.gw_blocks.specs.declared.parts.Save.{Save}
+use Rattle.gw_blocks.specs.declared.parts.Plus.{Plus}
 use Rattle.gw_object.specs.declared.parts.Kind.{Kind}
 use Rattle.gw_object.specs.declared.parts.Kind.TheVariants as kinds
 use Rattle.gw_blocks.specs.declared.parts.Block.{Block}
@@ -25,14 +26,15 @@ use Rattle.gw_kinds.specs.declared.entities.EntityKind.TheVariants as needed
 use Rattle.gw_kinds.specs.declared.ways.Way.TheVariants.{Goes}
 use Rattle.gw_kinds.specs.declared.ways.Exit.{Exit}
 use Rattle.gw_kinds.specs.Exits.{leads_to, at_once, goes_or_falls, falls_or_goes, exits, returns_to, exits_with}
-use Rattle.gw_kinds.specs.Kinds.{kind_at, block_at, needs}
+use Rattle.gw_kinds.specs.Evaluated.{kind_at}
+use Rattle.gw_kinds.specs.Kinds.{block_at, needs}
 use Rattle.gw_kinds.specs.Laws.{MayBeEntered, ReturnsHold, BlockHolds}
 use Rattle.gw_flow.specs.Codes as codes
 use Rattle.gw_flow.specs.Entries.{lists}
 use Rattle.gw_flow.specs.Rows.{ParamKind, Num, Ret, Row, kind_of, return_blocks, owns, units_of, with_parameter, with_facility, without_facility, with_units}
 use Rattle.gw_flow.specs.Values.{answered}
 use Rattle.gw_flow.proofs.Parameters.{loop_is_number, return_is, kind_of_set, kind_of_other}
-use Rattle.gw_num.specs.Arithmetic.{difference_of}
+use Rattle.gw_num.specs.Arithmetic.{fits_i64, difference_of}
 use Rattle.gw_flow.specs.Blocks.{capacity_at, move, edges, edges_along, returns_read, after}
 use Rattle.gw_flow.specs.Flow.{own_table}
 use Rattle.gw_flow.specs.Laws.{FlowHolds}
@@ -47,14 +49,15 @@ use Rattle.gw_entities.specs.Contents.{holds}
 use Rattle.gw_entities.specs.Facility.{idle, seized, seizing, released, releasing, is_idle, is_owned_by, owns_any}
 use Rattle.gw_entities.specs.Storage as storages
 use Rattle.gw_entities.specs.Queue.{joined, departed, departing}
+use Rattle.gw_entities.specs.Tabulation.{Tabulation, tabulating}
 use Rattle.gw_step.specs.declared.placement.Placement.{Placement}
 use Rattle.gw_step.specs.declared.placement.Placement.TheVariants.{StaysActive, RestsUntil, JoinsDelayList, JoinsRetryList}
 use Rattle.gw_step.specs.Outcome.{Gives, ◌>>=◌, granted, evaluated}
 use Rattle.gw_step.specs.State.{State, delay_list}
 use Rattle.gw_step.specs.Times.{moment_after, parameters_of}
-use Rattle.gw_step.specs.Changes.{entered, assigned, enters_and_falls, facility, storage, queue, switch, savevalue, put_facility, put_storage, put_queue, put_switch, put_savevalue}
+use Rattle.gw_step.specs.Changes.{entered, assigned, enters_and_falls, facility, storage, queue, switch, savevalue, table, put_facility, put_storage, put_queue, put_switch, put_savevalue, put_table}
 use Rattle.gw_step.specs.Placing.{placed}
-use Rattle.gw_step.specs.Blocks.{has_to_wait, leads, stays, until, advance, hand_over, release, admission, leave, join_queue, depart, transfer, chosen, passes_test, is_so, led_by, put_by, assign, loop, call, block_after, come_back, mark, turned, logic, save, terminate, effect, then_placed, meets}
+use Rattle.gw_step.specs.Blocks.{has_to_wait, leads, stays, until, advance, hand_over, release, admission, leave, join_queue, depart, transfer, chosen, passes_test, is_so, led_by, put_by, assign, loop, call, block_after, come_back, plus, mark, turned, logic, save, tabulate, terminate, effect, then_placed, meets}
 use Rattle.gw_step.proofs.Outcomes.{choose}
 use Rattle.gw_step.proofs.Residence.{at-le-sum}
 use Rattle.gw_step.proofs.Owning.{idle-released}
@@ -63,7 +66,7 @@ use Rattle.gw_step.specs.Places.{row_of}
 use Rattle.gw_step.specs.Typing.{IsAsKnown, promised_units, content_of, awaited, WaitsFor}
 use Rattle.gw_step.proofs.Owning.{lists-none}
 use Rattle.gw_step.proofs.Operands.{good_units}
-use Rattle.gw_step.proofs.Balances.{balanced-nothing, balanced-parameters, balanced-switch, balanced-savevalue, balanced-seize, balanced-release, balanced-storage, balanced-queue}
+use Rattle.gw_step.proofs.Balances.{balanced-nothing, balanced-parameters, balanced-switch, balanced-savevalue, balanced-table, balanced-seize, balanced-release, balanced-storage, balanced-queue}
 use Rattle.gw_step.proofs.Traces.{its_parameters, EntersLast, Counts, Done, Then, change-keeps, present, Rested, credited, its_row}
 use Rattle.gw_step.proofs.Unstopped.{Safe, Any, safe_bind, safe_test, safe_if, safe_found, safe_answered}
 use Rattle.gw_step.proofs.AtBlock.{first_may_be_entered, second_may_be_entered, led_to, named_below, is_storage, is_queue}
@@ -147,6 +150,14 @@ parameter_read s n q b found =
     ap (λ o. at None (option_map_or (λ (t : LiveTransaction). t.parameters) o no_parameters) q) found
     ∙ sym (ap (λ o. option_flatten (option_map (λ (t : LiveTransaction). at None t.parameters q) o)) found)
 
+-- a value that is entered into a table is one more
+counts_once : (value : ℤ) (v : Tabulation) → Safe (λ (new : Tabulation). new.count ≤ v.count + 1) (evaluated (answered (tabulating value v)))
+counts_once value v = by_fit (fits_i64 (v.sum +ℤ value)) refl
+  where
+    by_fit : (b : Bool) → fits_i64 (v.sum +ℤ value) ≡ b → Safe (λ (new : Tabulation). new.count ≤ v.count + 1) (evaluated (answered (tabulating value v)))
+    by_fit true is = rw is (omega arith)
+    by_fit false is = rw is tt
+
 module _ (p : Parts) (each_block : (b : ℕ) (block : Block) → block_at p.blocks b ≡ Some block → BlockHolds p b block) (flow : FlowHolds p (own_table p)) (s : State) (n : ℕ) (t : Transaction) (k : ℕ) where
   -- the units that its row promises are inside
   inside : (block : Block) (row : Row) → Acts p s n t block row → (e : ℕ) → units_of row e ≤ content_of e s.entities (kind_at p.entities e)
@@ -182,7 +193,7 @@ module _ (p : Parts) (each_block : (b : ℕ) (block : Block) → block_at p.bloc
         few_arrivals = omega arith;
       }))
 
-  pub safe_seize : (f : ℕ) (values : List ℤ) (row : Row) → Acts p s n t (blocks.Seize f) row → Safe (Reaches p k s) (meets p.blocks n t (blocks.Seize f) values s)
+  pub safe_seize : (f : ℕ) (values : List ℤ) (row : Row) → Acts p s n t (blocks.Seize f) row → Safe (Reaches p k s) (meets p n t (blocks.Seize f) values s)
   unfolding effect
   safe_seize f values row acts =
       let may = first_may_be_entered p t.next _ [] acts.kinds.exits in
@@ -210,7 +221,7 @@ module _ (p : Parts) (each_block : (b : ℕ) (block : Block) → block_at p.bloc
 
   -- STORAGES AND QUEUES
 
-  pub safe_enter : (u : Units) (values : List ℤ) (row : Row) → Acts p s n t (blocks.Enter u) row → Safe (Reaches p k s) (meets p.blocks n t (blocks.Enter u) values s)
+  pub safe_enter : (u : Units) (values : List ℤ) (row : Row) → Acts p s n t (blocks.Enter u) row → Safe (Reaches p k s) (meets p n t (blocks.Enter u) values s)
   unfolding effect
   safe_enter u values row acts =
       let may = first_may_be_entered p t.next _ [] acts.kinds.exits in
@@ -299,14 +310,14 @@ module _ (p : Parts) (each_block : (b : ℕ) (block : Block) → block_at p.bloc
       by_case (Some c) true ways is passes = goes_to block row acts (t.next + 1) (along _ (t.next + 1) ways (at_first _ (move c row ∷ []))) (first_may_be_entered p t.next _ (at_once (Goes c) ∷ []) (exits_hold _ is))
       by_case (Some c) false ways is passes = goes_to block row acts c (along _ c ways (at_second (move (t.next + 1) row) _ [])) (second_may_be_entered p t.next _ _ [] (exits_hold _ is))
 
-  pub safe_comparison : (test : Test) (values : List ℤ) (row : Row) → Acts p s n t (blocks.Test test) row → Safe (Reaches p k s) (meets p.blocks n t (blocks.Test test) values s)
+  pub safe_comparison : (test : Test) (values : List ℤ) (row : Row) → Acts p s n t (blocks.Test test) row → Safe (Reaches p k s) (meets p n t (blocks.Test test) values s)
   unfolding effect
   safe_comparison test values row acts =
       safe_if (Reaches p k s) (is_none test.otherwise && not (passes_test test values)) _ _
       (λ false. refused p k s n JoinsRetryList acts.active (omega arith))
       (λ passes. safe_placed p k s n _ (led (blocks.Test test) row acts refl test.otherwise refl refl (passes_test test values) passes))
 
-  pub safe_gate : (gate : Gate) (values : List ℤ) (row : Row) → Acts p s n t (blocks.Gate gate) row → Safe (Reaches p k s) (meets p.blocks n t (blocks.Gate gate) values s)
+  pub safe_gate : (gate : Gate) (values : List ℤ) (row : Row) → Acts p s n t (blocks.Gate gate) row → Safe (Reaches p k s) (meets p n t (blocks.Gate gate) values s)
   unfolding effect
   safe_gate gate values row acts =
       safe_if (Reaches p k s) (is_none gate.otherwise && not (is_so gate.condition gate.entity s)) _ _
@@ -364,6 +375,21 @@ module _ (p : Parts) (each_block : (b : ℕ) (block : Block) → block_at p.bloc
       let may = first_may_be_entered p t.next _ [] acts.kinds.exits in
       safe_leads p (Enters p k s n) (t.next + 1) _ may (sets (blocks.Mark (Some q)) row acts q Num s.clock (t.next + 1) (at_first _ []) may tt)
 
+  -- the block PLUS, by the operand that it evaluates and the parameter that it sets, if it sets one
+  abbrev plus_block : Operand → Option ℕ → Block
+  plus_block operand q = blocks.Plus (record { value = operand; parameter = q })
+
+  safe_plus_by : (operand : Operand) (o : Option ℕ) (value : ℤ) (row : Row) → Acts p s n t (plus_block operand o) row → Safe (Enters p k s n) (plus p.blocks n t o value s)
+  safe_plus_by operand None value row acts =
+      let may = first_may_be_entered p t.next _ [] acts.kinds.exits in
+      safe_leads p (Enters p k s n) (t.next + 1) _ may (just_goes p s n t (plus_block operand None) row acts k (t.next + 1) row s.entities (λ q. refl) (at_first _ []) may (balanced-nothing p n row s.entities))
+  safe_plus_by operand (Some q) value row acts =
+      let may = first_may_be_entered p t.next _ [] acts.kinds.exits in
+      safe_leads p (Enters p k s n) (t.next + 1) _ may (sets (plus_block operand (Some q)) row acts q Num value (t.next + 1) (at_first _ []) may tt)
+
+  pub safe_plus : (a : Plus) (value : ℤ) (row : Row) → Acts p s n t (blocks.Plus a) row → Safe (Enters p k s n) (plus p.blocks n t a.parameter value s)
+  safe_plus a value row acts = safe_plus_by a.value a.parameter value row acts
+
   -- SUBROUTINES
 
   pub safe_call : (c : Call) (row : Row) → Acts p s n t (blocks.TransferToSubroutine c) row → Safe (Enters p k s n) (call p.blocks n t c s)
@@ -383,7 +409,7 @@ module _ (p : Parts) (each_block : (b : ℕ) (block : Block) → block_at p.bloc
       (subst (λ to. Safe (Enters p k s n) (transfer p.blocks n t to s)) (sym (after_it held.0))
       (goes_to block row acts (held.0 + 1) along (may_come_back p each_block each_return t.next q held.0 row kind.0 acts.is.row_is kind.1 held.1)))
 
-  -- LOGIC SWITCHES AND SAVEVALUES
+  -- LOGIC SWITCHES, SAVEVALUES AND TABLES
 
   pub safe_logic : (l : Logic) (row : Row) → Acts p s n t (blocks.Logic l) row → Safe (Enters p k s n) (logic p.blocks n t l s)
   safe_logic l row acts =
@@ -401,6 +427,15 @@ module _ (p : Parts) (each_block : (b : ℕ) (block : Block) → block_at p.bloc
       (λ new _.
       safe_leads p (Enters p k s n) (t.next + 1) _ may
       (just_goes p s n t (blocks.Savevalue a) row acts k (t.next + 1) row (put_savevalue a.savevalue new s).entities (λ q. refl) (at_first _ []) may (balanced-savevalue p n a.savevalue new row s.entities below)))
+
+  pub safe_tabulate : (e : ℕ) (value : ℤ) (row : Row) → Acts p s n t (blocks.Tabulate e) row → Safe (Enters p k s n) (tabulate p.blocks n t e value s)
+  safe_tabulate e value row acts =
+      let may = first_may_be_entered p t.next _ [] acts.kinds.exits in
+      let below = named_below p.entities (needs needed.Table e) [] acts.kinds.entities in
+      safe_bind (λ (new : Tabulation). new.count ≤ (table e s).count + 1) (Enters p k s n) (evaluated (answered (tabulating value (table e s)))) _ (counts_once value (table e s))
+      (λ new more.
+      safe_leads p (Enters p k s n) (t.next + 1) _ may
+      (just_goes p s n t (blocks.Tabulate e) row acts k (t.next + 1) row (put_table e new s).entities (λ q. refl) (at_first _ []) may (balanced-table p n e new row s.entities below more)))
 
   -- TERMINATE
 

@@ -20,7 +20,8 @@ use Rattle.gw_entities.specs.declared.contents.Contents.{Contents}
 use Rattle.gw_entities.specs.Contents.{empty, contents_after}
 use Rattle.gw_entities.specs.Facility.{idle, seized, released, is_idle, facility_after}
 use Rattle.gw_entities.specs.Storage as storages
-use Rattle.gw_entities.specs.Table.{set_switch, set_savevalue}
+use Rattle.gw_entities.specs.Tabulation.{Tabulation}
+use Rattle.gw_entities.specs.Table.{set_switch, set_savevalue, no_table, table_at, set_table}
 use Rattle.gw_step.specs.declared.ends.End.TheVariants.{NegativeTime}
 use Rattle.gw_step.specs.Outcome.{Gives, EndsBy, evaluated}
 use Rattle.gw_step.specs.State.{FutureEvent, EntityStates, State, delay_list}
@@ -77,12 +78,14 @@ raises-seized f n g there = record {
   facilities = raised_by_put idle g.facilities f (seized n (at idle g.facilities f)) (λ (x : Facility). x.entries) 1 (omega arith);
   storages = λ e. omega arith;
   queues = λ q. omega arith;
+  tables = λ t. omega arith;
   inside = λ q h. h;
   facility_table = length-put idle g.facilities f (seized n (at idle g.facilities f)) there;
   storage_table = refl;
   queue_table = refl;
   switch_table = refl;
   savevalue_table = refl;
+  table_table = refl;
 }
 
 pub raises-released : (f : ℕ) (g : EntityStates) → f < length g.facilities → Raises g (record g { facilities = put idle g.facilities f (released (at idle g.facilities f)) })
@@ -90,12 +93,14 @@ raises-released f g there = record {
   facilities = raised_by_put idle g.facilities f (released (at idle g.facilities f)) (λ (x : Facility). x.entries) 1 (omega arith);
   storages = λ e. omega arith;
   queues = λ q. omega arith;
+  tables = λ t. omega arith;
   inside = λ q h. h;
   facility_table = length-put idle g.facilities f (released (at idle g.facilities f)) there;
   storage_table = refl;
   queue_table = refl;
   switch_table = refl;
   savevalue_table = refl;
+  table_table = refl;
 }
 
 pub raises-storage : (e : ℕ) (v : Storage) (g : EntityStates) → e < length g.storages → v.contents.entries ≤ (at (storages.vacant 0) g.storages e).contents.entries + 2 ^ 20
@@ -104,12 +109,14 @@ raises-storage e v g there more = record {
   facilities = λ f. omega arith;
   storages = raised_by_put (storages.vacant 0) g.storages e v (λ (x : Storage). x.contents.entries) (2 ^ 20) more;
   queues = λ q. omega arith;
+  tables = λ t. omega arith;
   inside = λ q h. h;
   facility_table = refl;
   storage_table = length-put (storages.vacant 0) g.storages e v there;
   queue_table = refl;
   switch_table = refl;
   savevalue_table = refl;
+  table_table = refl;
 }
 
 pub raises-queue : (q : ℕ) (v : Contents) (g : EntityStates) → q < length g.queues → v.entries ≤ (at empty g.queues q).entries + 2 ^ 20 → ((at empty g.queues q).content ≤ (at empty g.queues q).entries → v.content ≤ v.entries) → Raises g (record g { queues = put empty g.queues q v })
@@ -117,12 +124,14 @@ raises-queue q v g there more inside = record {
   facilities = λ f. omega arith;
   storages = λ e. omega arith;
   queues = raised_by_put empty g.queues q v (λ (x : Contents). x.entries) (2 ^ 20) more;
+  tables = λ t. omega arith;
   inside = by_entry empty g.queues q v (λ j x. (at empty g.queues j).content ≤ (at empty g.queues j).entries → x.content ≤ x.entries) inside (λ j other h. h);
   facility_table = refl;
   storage_table = refl;
   queue_table = length-put empty g.queues q v there;
   switch_table = refl;
   savevalue_table = refl;
+  table_table = refl;
 }
 
 -- a logic switch or a savevalue changes: nothing is entered
@@ -131,12 +140,14 @@ raises-switch l on g there = record {
   facilities = λ f. omega arith;
   storages = λ e. omega arith;
   queues = λ q. omega arith;
+  tables = λ t. omega arith;
   inside = λ q h. h;
   facility_table = refl;
   storage_table = refl;
   queue_table = refl;
   switch_table = length-put false g.switches l on there;
   savevalue_table = refl;
+  table_table = refl;
 }
 
 pub raises-savevalue : (x : ℕ) (value : ℤ) (g : EntityStates) → x < length g.savevalues → Raises g (record g { savevalues = set_savevalue x value g.savevalues })
@@ -144,18 +155,36 @@ raises-savevalue x value g there = record {
   facilities = λ f. omega arith;
   storages = λ e. omega arith;
   queues = λ q. omega arith;
+  tables = λ t. omega arith;
   inside = λ q h. h;
   facility_table = refl;
   storage_table = refl;
   queue_table = refl;
   switch_table = refl;
   savevalue_table = length-put (pos 0) g.savevalues x value there;
+  table_table = refl;
+}
+
+-- one value was entered into a table
+pub raises-table : (t : ℕ) (v : Tabulation) (g : EntityStates) → t < length g.tables → v.count ≤ (table_at t g.tables).count + 1 → Raises g (record g { tables = set_table t v g.tables })
+raises-table t v g there more = record {
+  facilities = λ f. omega arith;
+  storages = λ e. omega arith;
+  queues = λ q. omega arith;
+  tables = raised_by_put no_table g.tables t v (λ (x : Tabulation). x.count) 1 more;
+  inside = λ q h. h;
+  facility_table = refl;
+  storage_table = refl;
+  queue_table = refl;
+  switch_table = refl;
+  savevalue_table = refl;
+  table_table = length-put no_table g.tables t v there;
 }
 
 -- what is given up or given back enters nothing
 module _ (bs es en ar : ℕ) (s : State) (w : IsWithin bs es en ar s) where
-  with_entities : (g : EntityStates) → AreEntered (sum s.entries) g → length g.facilities ≡ length s.entities.facilities → length g.storages ≡ length s.entities.storages → g.queues ≡ s.entities.queues → g.switches ≡ s.entities.switches → g.savevalues ≡ s.entities.savevalues → IsWithin bs es en ar (record s { entities = g })
-  with_entities g entered fac sto que swi sav = record {
+  with_entities : (g : EntityStates) → AreEntered (sum s.entries) g → length g.facilities ≡ length s.entities.facilities → length g.storages ≡ length s.entities.storages → g.queues ≡ s.entities.queues → g.switches ≡ s.entities.switches → g.savevalues ≡ s.entities.savevalues → g.tables ≡ s.entities.tables → IsWithin bs es en ar (record s { entities = g })
+  with_entities g entered fac sto que swi sav tab = record {
     entries = w.entries;
     entity_entries = entered;
     made = w.made;
@@ -170,6 +199,7 @@ module _ (bs es en ar : ℕ) (s : State) (w : IsWithin bs es en ar s) where
       queues = ap length que ∙ w.whole.queues;
       switches = ap length swi ∙ w.whole.switches;
       savevalues = ap length sav ∙ w.whole.savevalues;
+      tables = ap length tab ∙ w.whole.tables;
       streams = w.whole.streams;
     };
     clock = w.clock;
@@ -184,9 +214,10 @@ module _ (bs es en ar : ℕ) (s : State) (w : IsWithin bs es en ar s) where
         facilities = λ j. omega (arith, raised_by_put idle s.entities.facilities f v (λ (x : Facility). x.entries) 0 (omega arith) j, w.entity_entries.facilities j);
         storages = w.entity_entries.storages;
         queues = w.entity_entries.queues;
+        tables = w.entity_entries.tables;
         inside = w.entity_entries.inside;
       })
-      (length-put idle s.entities.facilities f v (omega (arith, w.whole.facilities, here))) refl refl refl refl
+      (length-put idle s.entities.facilities f v (omega (arith, w.whole.facilities, here))) refl refl refl refl refl
 
   pub within-given_back : (u : Units) → u.entity < es → IsWithin bs es en ar (put_storage u.entity (storages.left u.number (storage u.entity s)) s)
   within-given_back u here =
@@ -196,9 +227,10 @@ module _ (bs es en ar : ℕ) (s : State) (w : IsWithin bs es en ar s) where
         facilities = w.entity_entries.facilities;
         storages = λ j. omega (arith, raised_by_put (storages.vacant 0) s.entities.storages u.entity v (λ (x : Storage). x.contents.entries) 0 (omega arith) j, w.entity_entries.storages j);
         queues = w.entity_entries.queues;
+        tables = w.entity_entries.tables;
         inside = w.entity_entries.inside;
       })
-      refl (length-put (storages.vacant 0) s.entities.storages u.entity v (omega (arith, w.whole.storages, here))) refl refl refl
+      refl (length-put (storages.vacant 0) s.entities.storages u.entity v (omega (arith, w.whole.storages, here))) refl refl refl refl
 
 -- WAITERS
 
@@ -288,6 +320,7 @@ entered-after entries time g a = record {
   facilities = λ f. subst (λ k. k ≤ entries) (sym (ap (λ (x : Facility). x.entries) (at-map (facility_after time) idle g.facilities f) ∙ entries-facility time (at idle g.facilities f))) (a.facilities f);
   storages = λ e. subst (λ k. k ≤ entries * 2 ^ 20) (sym (ap (λ (x : Storage). x.contents.entries) (at-map_same (storages.storage_after time) (storages.vacant 0) g.storages e (ap (λ c. record (storages.vacant 0) { contents = c }) (nothing-after time))))) (a.storages e);
   queues = λ q. subst (λ k. k ≤ entries * 2 ^ 20) (sym (ap (λ (x : Contents). x.entries) (at-map_same (contents_after time) empty g.queues q (nothing-after time)))) (a.queues q);
+  tables = a.tables;
   inside = λ q. subst (λ (x : Contents). x.content ≤ x.entries) (sym (at-map_same (contents_after time) empty g.queues q (nothing-after time))) (a.inside q);
 }
 
@@ -310,6 +343,7 @@ within-clock bs es en ar s w e rest is =
         queues = length-map s.entities.queues (contents_after time) ∙ w.whole.queues;
         switches = w.whole.switches;
         savevalues = w.whole.savevalues;
+        tables = w.whole.tables;
         streams = w.whole.streams;
       };
       clock = omega (arith, ints, w.clock, from.0);

@@ -16,12 +16,14 @@ pub mod Balances
 pub mod Traces
 pub mod Unstopped
 pub mod Drawn
+pub mod Asked
 pub mod Moving
 pub mod Calling
 pub mod Returns
 pub mod Effects
 pub mod Arriving
 pub mod Safe
+pub mod Suffices
 pub mod Attributes
 pub mod PlainBlocks
 pub mod Counting

@@ -1,8 +1,8 @@
 -- A job's state through its start and through a step.
-use Rattle.gw_kinds.specs.Kinds.{block_at, is_generate, values, is_none_or, has_good_constants}
+use Rattle.gw_kinds.specs.Kinds.{block_at, is_none_or, has_good_constants}
 use Rattle.gw_code_flow.specs.Environment.{Environment}
 use Rattle.gw_transactions.specs.Transactions.{LiveTransaction, live_count}
-use Rattle.std.proofs.Common.{◌≡◌, ℕ, zero, suc, ◌+◌, ◌≤◌, ℤ, pos, ◌≤ℤ◌, List, [], ◌∷◌, map, length, replicate, Option, Some, None, true, IfSome, refl, sym, ap, ◌∙◌, subst, arith, ◌<◌}
+use Rattle.std.proofs.Common.{◌≡◌, ℕ, zero, suc, ◌+◌, ◌≤◌, ℤ, pos, ◌≤ℤ◌, List, [], ◌∷◌, map, length, replicate, Option, Some, None, IfSome, refl, sym, ap, ◌∙◌, subst, arith, ◌<◌}
 use Rattle.std.specs.Prelude.{sum, int_le, nat_lt, IfSome, IsTrue}
 use Rattle.std.specs.List.{AllByRecursion}
 use Rattle.std.proofs.lemmas.Bool.{and_parts, ltb-true}
@@ -12,6 +12,7 @@ use Rattle.gw_blocks.specs.declared.parts.Generate.{Generate}
 use Rattle.gw_blocks.specs.declared.parts.Block.{Block}
 use Rattle.gw_blocks.specs.declared.parts.Block.TheVariants as blocks
 use Rattle.gw_object.specs.declared.parts.Entity.{Entity}
+use Rattle.gw_object.specs.declared.parts.Parts.{Parts}
 use Rattle.gw_num.specs.Table.{at}
 use Rattle.gw_num.proofs.Tables.{sum_by-replicate, length-put_next, by_entry, at-replicate}
 use Rattle.gw_entities.specs.declared.facilities.Facility.{Facility}
@@ -20,7 +21,9 @@ use Rattle.gw_entities.specs.Contents.{empty}
 use Rattle.gw_entities.specs.Facility.{idle}
 use Rattle.gw_object.specs.Entities.{capacity_of}
 use Rattle.gw_entities.specs.Storage.{vacant}
-use Rattle.gw_entities.specs.Table.{initial_setting, initial_value}
+use Rattle.gw_object.specs.declared.parts.Kind.{Kind}
+use Rattle.gw_object.specs.declared.parts.Kind.TheVariants as kinds
+use Rattle.gw_entities.specs.Table.{initial_setting, initial_value, nothing_entered, tables_of, table_at}
 use Rattle.gw_step.specs.declared.ends.End.{End}
 use Rattle.gw_step.specs.Outcome.{Outcome, Gives, EndsBy, StopsBy}
 use Rattle.gw_step.specs.State.{State, with_streams}
@@ -36,9 +39,9 @@ use Rattle.gw_step.proofs.Within.{sum-raised, within-arrives, within-streams, wi
 use Rattle.gw_step.proofs.Counting.{IsCounted, is_counted, runs_still}
 use Rattle.gw_step.proofs.Traces.{KeepStreams, trace-within, trace-limits, trace-live, written-live}
 use Rattle.gw_step.proofs.Unstopped.{given}
-use Rattle.gw_step.proofs.Drawn.{IsDrawn, AreRead, safe_drawn}
-use Rattle.gw_step.proofs.Arriving.{no_parameters_read}
-use Rattle.gw_step.proofs.Safe.{kinds_of, flow_of, reached_in_step, reached_states_are_well_typed}
+use Rattle.gw_step.proofs.Drawn.{IsSound, IsDrawn, AreRead, safe_drawn}
+use Rattle.gw_step.proofs.Asked.{arrival_read}
+use Rattle.gw_step.proofs.Safe.{kinds_of, flow_of, sound_of, reached_in_step, reached_states_are_well_typed}
 use Rattle.gw_step.proofs.Operands.{blocks_fit, all-blocks}
 use Rattle.gw_step.proofs.Steps.{step-scan, by_budget, counts_more, some_is}
 use Rattle.gw_step.proofs.PlainBlocks.{by_arrival}
@@ -95,11 +98,11 @@ record Leads (j : Job) (s t : State) : Type 0 where
   bounded : IsBounded j t
   steps : t.steps ≡ s.steps + 1
 
-leads_from : (j : Job) (s t : State) (o : Outcome State) → IsBounded j s → s.ended ≡ None → scan j.parts.blocks s.lists.active s ≡ o → Numbered j (s.steps + 1) t → stepped j.budget s o ≡ Some t → Leads j s t
+leads_from : (j : Job) (s t : State) (o : Outcome State) → IsBounded j s → s.ended ≡ None → scan j.parts s.lists.active s ≡ o → Numbered j (s.steps + 1) t → stepped j.budget s o ≡ Some t → Leads j s t
 leads_from j s t (Gives u) b runs is n h =
     let same = some_is _ t h in
     subst (Leads j s) same
-    (record { bounded = bounded_more j s u b runs (is_counted j.parts.blocks s u is) (subst (Numbered j (s.steps + 1)) (sym same) n); steps = counts_more j.budget s u })
+    (record { bounded = bounded_more j s u b runs (is_counted j.parts s u is) (subst (Numbered j (s.steps + 1)) (sym same) n); steps = counts_more j.budget s u })
 leads_from j s t (EndsBy end) b runs is n h = subst (Leads j s) (some_is _ t h) (record { bounded = bounded_ended j s end b runs; steps = refl })
 leads_from j s t (StopsBy stop) b runs is n h = absurd cc
 
@@ -115,7 +118,7 @@ numbered_step j s t r next =
 
 pub reached_more : (j : Job) (s t : State) → IsReached (record { job = j; state = s }) → s.ended ≡ None → Step j s t → IsReached (record { job = j; state = t })
 reached_more j s t r runs next =
-    let l = leads_from j s t (scan j.parts.blocks s.lists.active s) r.bounded runs refl (numbered_step j s t r next) (sym (step-scan j.parts.blocks j.budget s runs) ∙ next) in
+    let l = leads_from j s t (scan j.parts s.lists.active s) r.bounded runs refl (numbered_step j s t r next) (sym (step-scan j.parts j.budget s runs) ∙ next) in
     record {
       alone = subst (λ (k : ℕ). Alone j k t) (sym l.steps) (one_more j s.steps s t r.alone next);
       fits = r.fits;
@@ -163,34 +166,34 @@ begun_arrives bs es count k s b priority time streams here block least keeps h =
   live = omega (arith, h.live, written-live s.transactions (length s.transactions) (Some (newcomer b priority s)));
 }
 
-first-later : (g : Generate) (s : State) (o : Option ℤ) → s.clock ≡ pos 0 → IfSome o (λ time. pos 0 ≤ℤ time) → ((env : Environment) → AreRead env (values (blocks.Generate g))) → OnGives (IsDrawn (pos 0) s.streams) (first_moment g s o)
-first-later g s (Some time) clock least read = record { later = least; keeps = λ h. h }
-first-later g s None clock least read =
+first-later : (p : Parts) → IsSound p → (g : Generate) (s : State) (o : Option ℤ) → s.clock ≡ pos 0 → IfSome o (λ time. pos 0 ≤ℤ time) → ((env : Environment) → AreRead p env (g.interval.mean ∷ g.interval.half ∷ [])) → OnGives (IsDrawn (pos 0) s.streams) (first_moment p g s o)
+first-later p sound g s (Some time) clock least read = record { later = least; keeps = λ h. h }
+first-later p sound g s None clock least read =
     let env = environment_of_next g.priority s in
-    subst (λ c. OnGives (IsDrawn c s.streams) (drawn_moment env g.interval s.clock s.streams)) clock (given (IsDrawn s.clock s.streams) _ (safe_drawn env g.interval s.clock s.streams (read env)))
+    subst (λ c. OnGives (IsDrawn c s.streams) (drawn_moment p env g.interval s.clock s.streams)) clock (given (IsDrawn s.clock s.streams) _ (safe_drawn p sound env g.interval s.clock s.streams (read env)))
 
--- a block with which a job may begin: its operands fit, and if it is a GENERATE its interval reads no parameter
-record Begins (es : ℕ) (block : Block) : Type 0 where
-  operands : OperandsFit es block
-  interval : is_generate (Some block) ≡ true → (env : Environment) → AreRead env (values block)
+-- a block with which a job may begin: its operands fit, and if it is a GENERATE its interval asks for no parameter
+record Begins (p : Parts) (block : Block) : Type 0 where
+  operands : OperandsFit (length p.entities) block
+  interval : (g : Generate) → block ≡ blocks.Generate g → (env : Environment) → AreRead p env (g.interval.mean ∷ g.interval.half ∷ [])
 
-module _ (bs es : ℕ) (count : ℤ) where
-  first_begins : (b : ℕ) (block : Block) (k : ℕ) (s : State) → b ≡ suc k → b ≤ bs → Begins es block → Begun bs es count k s → OnGives (Begun bs es count (suc k)) (first_arrival b block s)
+module _ (p : Parts) (sound : IsSound p) (bs es : ℕ) (count : ℤ) where
+  first_begins : (b : ℕ) (block : Block) (k : ℕ) (s : State) → b ≡ suc k → b ≤ bs → Begins p block → Begun bs es count k s → OnGives (Begun bs es count (suc k)) (first_arrival p b block s)
   first_begins b block k s here below fits h =
-      by_arrival (λ x. Begins es x → OnGives (Begun bs es count (suc k)) (first_arrival b x s))
+      by_arrival (λ x. Begins p x → OnGives (Begun bs es count (suc k)) (first_arrival p b x s))
       (λ g begins.
-      on_both (IsDrawn (pos 0) s.streams) (Begun bs es count (suc k)) (first_moment g s g.first) _ (first-later g s g.first h.clock begins.operands.first (begins.interval refl))
+      on_both (IsDrawn (pos 0) s.streams) (Begun bs es count (suc k)) (first_moment p g s g.first) _ (first-later p sound g s g.first h.clock begins.operands (begins.interval g refl))
       (λ d drawn. begun_arrives bs es count k s b g.priority d.0 d.1 here below drawn.later drawn.keeps h))
-      (λ x none _. subst (OnGives (Begun bs es count (suc k))) (sym (none b s)) (begun_more bs es count k (suc k) s (omega arith) h))
+      (λ x none _. subst (OnGives (Begun bs es count (suc k))) (sym (none p b s)) (begun_more bs es count k (suc k) s (omega arith) h))
       block fits
 
-  firsts_begin : (b : ℕ) (xs : List Block) (k : ℕ) (s : State) → b ≡ suc k → b + length xs ≤ suc bs → AllByRecursion (Begins es) xs → Begun bs es count k s → OnGives (Begun bs es count (length xs + k)) (first_arrivals b xs s)
+  firsts_begin : (b : ℕ) (xs : List Block) (k : ℕ) (s : State) → b ≡ suc k → b + length xs ≤ suc bs → AllByRecursion (Begins p) xs → Begun bs es count k s → OnGives (Begun bs es count (length xs + k)) (first_arrivals p b xs s)
   unfolding first_arrivals
   firsts_begin b [] k s here below fits h = begun_more bs es count k (length {A = Block} [] + k) s (omega arith) h
   firsts_begin b (x ∷ xs) k s here below fits h =
       let e : length xs + suc k ≡ suc (length xs) + k = omega arith in
-      on_both (Begun bs es count (suc k)) (Begun bs es count (suc (length xs) + k)) (first_arrival b x s) (first_arrivals (b + 1) xs) (first_begins b x k s here (omega arith) fits.0 h)
-      (λ u more. subst (λ l. OnGives (Begun bs es count l) (first_arrivals (b + 1) xs u)) e (firsts_begin (b + 1) xs (suc k) u (omega (arith, here)) (omega arith) fits.1 more))
+      on_both (Begun bs es count (suc k)) (Begun bs es count (suc (length xs) + k)) (first_arrival p b x s) (first_arrivals p (b + 1) xs) (first_begins b x k s here (omega arith) fits.0 h)
+      (λ u more. subst (λ l. OnGives (Begun bs es count l) (first_arrivals p (b + 1) xs u)) e (firsts_begin (b + 1) xs (suc k) u (omega (arith, here)) (omega arith) fits.1 more))
 
 -- a table of one value has it at each number, and as its default
 at-map_any : {X Y : Type 0} (xs : List X) (f : X → Y) (d : Y) (k : ℕ) → ((x : X) → f x ≡ d) → at d (map f xs) k ≡ d
@@ -202,6 +205,15 @@ all_vacant : (es : List Entity) (k : ℕ) → (at (vacant 0) (map (λ (e : Entit
 all_vacant [] k = omega arith
 all_vacant (e ∷ es) zero = omega arith
 all_vacant (e ∷ es) (suc k) = all_vacant es k
+
+none_entered : (es : List Entity) (t : ℕ) → (table_at t (tables_of es)).count ≡ 0
+none_entered [] t = refl
+none_entered (e ∷ es) zero = by_kind e.kind
+  where
+    by_kind : (kind : Kind) → (nothing_entered kind).count ≡ 0
+    by_kind (kinds.Table t) = refl
+    by_kind kind = refl
+none_entered (e ∷ es) (suc t) = none_entered es t
 
 -- the job begins with nothing scheduled
 nothing_begun : (j : Job) → JobFits j → Begun (length j.parts.blocks) (length j.parts.entities) (pos j.count) 0 (nothing j.parts j.count j.streams)
@@ -218,6 +230,7 @@ nothing_begun j fits =
           facilities = λ f. omega (arith, ap (λ (x : Facility). x.entries) (at-map_any es (λ _. idle) idle f (λ _. refl)));
           storages = λ e. omega (arith, all_vacant es e);
           queues = λ q. omega (arith, ap (λ (x : Contents). x.entries) (at-map_any es (λ _. empty) empty q (λ _. refl)));
+          tables = λ t. omega (arith, none_entered es t);
           inside = λ q. subst (λ (x : Contents). x.content ≤ x.entries) (sym (at-map_any es (λ _. empty) empty q (λ _. refl))) (omega arith);
         };
         made = omega arith;
@@ -232,6 +245,7 @@ nothing_begun j fits =
           queues = length-map es (λ _. empty);
           switches = length-map es (λ (e : Entity). initial_setting e.kind);
           savevalues = length-map es (λ (e : Entity). initial_value e.kind);
+          tables = length-map es (λ (e : Entity). nothing_entered e.kind);
           streams = fits.streams;
         };
         clock = omega (arith, ints);
@@ -288,8 +302,11 @@ reached_first j s fits is =
     let bs = j.parts.blocks in
     let n = nothing j.parts j.count j.streams in
     let fit = blocks_fit j.parts fits.checked fits.spelled in
-    let b = firsts_begin (length bs) (length j.parts.entities) (pos j.count) 1 bs 0 n (omega arith) (omega arith) (all-blocks (Begins (length j.parts.entities)) bs (λ i block at. record { operands = fit.operands (suc i) block at; interval = no_parameters_read j.parts (flow_of j.parts fits.checked) (suc i) block at })) (nothing_begun j fits) in
-    let starts = starts_from j (length bs + 0) (first_arrivals 1 bs n) fits (omega (arith, fit.few)) b in
+    let sound = sound_of j.parts fits.checked in
+    let read = arrival_read j.parts sound.entities (kinds_of j.parts fits.checked) (flow_of j.parts fits.checked) in
+    let begins = all-blocks (Begins j.parts) bs (λ i block at. record { operands = fit.operands (suc i) block at; interval = λ g same. read (suc i) g (at ∙ ap Some same) }) in
+    let b = firsts_begin j.parts sound (length bs) (length j.parts.entities) (pos j.count) 1 bs 0 n (omega arith) (omega arith) begins (nothing_begun j fits) in
+    let starts = starts_from j (length bs + 0) (first_arrivals j.parts 1 bs n) fits (omega (arith, fit.few)) b in
     subst (λ (t : State). IsReached (record { job = j; state = t })) (sym is)
     (record {
       alone = subst (λ (k : ℕ). Alone j k (start_of j)) (sym starts.steps) (alone_at_start j);

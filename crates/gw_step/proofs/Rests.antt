@@ -1,6 +1,7 @@
 -- Each job comes to a named end or to an error stop within its budget.
 use Rattle.std.proofs.Common.{◌≡◌, ◌≢◌, ◌+◌, ℕ, ℤ, zero, suc, List, [], ◌∷◌, Option, Some, None, is_some, inl, inr, arith, refl, sym, ap, subst, ◌∙◌}
 use Rattle.gw_blocks.specs.declared.parts.Block.{Block}
+use Rattle.gw_object.specs.declared.parts.Parts.{Parts}
 use Rattle.gw_entities.specs.declared.stop.Stop.{Stop}
 use Rattle.gw_step.specs.Outcome.{Outcome, Gives, EndsBy, StopsBy, ◌>>=◌, stop_in}
 use Rattle.gw_step.specs.State.{State, with_streams}
@@ -30,11 +31,11 @@ timed s (Gives d) f h = h d
 timed s (EndsBy end) f h = tt
 timed s (StopsBy stop) f h = tt
 
-one_arrival : (b : ℕ) (block : Block) (s : State) → KeepsSteps s (first_arrival b block s)
-one_arrival b block s =
-    by_arrival (λ x. KeepsSteps s (first_arrival b x s))
-    (λ g. timed s (first_moment g s g.first) (λ d. arrives b g.priority d.0 (with_streams d.1 s)) (λ d. refl))
-    (λ x none. subst (KeepsSteps s) (sym (none b s)) refl)
+one_arrival : (p : Parts) (b : ℕ) (block : Block) (s : State) → KeepsSteps s (first_arrival p b block s)
+one_arrival p b block s =
+    by_arrival (λ x. KeepsSteps s (first_arrival p b x s))
+    (λ g. timed s (first_moment p g s g.first) (λ d. arrives b g.priority d.0 (with_streams d.1 s)) (λ d. refl))
+    (λ x none. subst (KeepsSteps s) (sym (none p b s)) refl)
     block
 
 in_turn : (s : State) (o : Outcome State) (f : State → Outcome State) → KeepsSteps s o → ((t : State) → KeepsSteps t (f t)) → KeepsSteps s (o >>= f)
@@ -42,10 +43,10 @@ in_turn s (Gives t) f e h = along s t (f t) e (h t)
 in_turn s (EndsBy end) f e h = tt
 in_turn s (StopsBy stop) f e h = tt
 
-all_arrivals : (b : ℕ) (bs : List Block) (s : State) → KeepsSteps s (first_arrivals b bs s)
+all_arrivals : (p : Parts) (b : ℕ) (bs : List Block) (s : State) → KeepsSteps s (first_arrivals p b bs s)
 unfolding first_arrivals
-all_arrivals b [] s = refl
-all_arrivals b (block ∷ rest) s = in_turn s (first_arrival b block s) (first_arrivals (b + 1) rest) (one_arrival b block s) (λ t. all_arrivals (b + 1) rest t)
+all_arrivals p b [] s = refl
+all_arrivals p b (block ∷ rest) s = in_turn s (first_arrival p b block s) (first_arrivals p (b + 1) rest) (one_arrival p b block s) (λ t. all_arrivals p (b + 1) rest t)
 
 started_steps : (s : State) (o : Outcome State) → KeepsSteps s o → (started s o).steps ≡ s.steps
 started_steps s (Gives t) h = h
@@ -55,7 +56,7 @@ started_steps s (StopsBy stop) h = refl
 start_steps : (j : Job) → (start_of j).steps ≡ 0
 start_steps j =
     let empty : State = nothing j.parts j.count j.streams in
-    started_steps empty (first_arrivals 1 j.parts.blocks empty) (all_arrivals 1 j.parts.blocks empty)
+    started_steps empty (first_arrivals j.parts 1 j.parts.blocks empty) (all_arrivals j.parts 1 j.parts.blocks empty)
 
 -- A RUNNING STATE HAS STEPS LEFT
 
@@ -71,7 +72,7 @@ spare_from budget s t (EndsBy end) h runs all =
 spare_from budget s t (StopsBy stop) h runs all = cc
 
 spare : (j : Job) (s t : State) → Step j s t → t.ended ≡ None → t.steps ≢ j.budget
-spare j s t h = spare_from j.budget s t (scan j.parts.blocks s.lists.active s) (sym (step-scan j.parts.blocks j.budget s (ends_are_final j s t h)) ∙ h)
+spare j s t h = spare_from j.budget s t (scan j.parts s.lists.active s) (sym (step-scan j.parts j.budget s (ends_are_final j s t h)) ∙ h)
 
 -- A STUCK STATE HAS ITS CAUSE
 
@@ -80,8 +81,8 @@ cause_in budget s (Gives t) h = absurd cc
 cause_in budget s (EndsBy end) h = absurd cc
 cause_in budget s (StopsBy stop) h = (stop, refl)
 
-cause : (j : Job) (s : State) → s.ended ≡ None → step j.parts.blocks j.budget s ≡ None → (stop : Stop) × (stop_of j s ≡ Some stop)
-cause j s runs h = cause_in j.budget s (scan j.parts.blocks s.lists.active s) (sym (step-scan j.parts.blocks j.budget s runs) ∙ h)
+cause : (j : Job) (s : State) → s.ended ≡ None → step j.parts j.budget s ≡ None → (stop : Stop) × (stop_of j s ≡ Some stop)
+cause j s runs h = cause_in j.budget s (scan j.parts s.lists.active s) (sym (step-scan j.parts j.budget s runs) ∙ h)
 
 -- A JOB COMES TO REST
 
@@ -99,7 +100,7 @@ rests j zero n s alone e running = by_cases s.ended
     (λ runs. let all : s.steps ≡ j.budget = omega (arith, e) in absurd (running runs all))
     (λ end h. record { steps = n; state = s; alone = alone; over = inl (ap is_some h) })
 rests j (suc left) n s alone e running = by_cases s.ended
-    (λ runs. by_cases (step j.parts.blocks j.budget s)
+    (λ runs. by_cases (step j.parts j.budget s)
     (λ last. record { steps = n; state = s; alone = alone; over = inr ((runs, last), cause j s runs last) })
     (λ t h. rests j left (suc n) t (next_alone j n s t alone h) (omega (arith, e, steps_are_counted j s t h)) (spare j s t h)))
     (λ end h. record { steps = n; state = s; alone = alone; over = inl (ap is_some h) })

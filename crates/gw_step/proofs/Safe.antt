@@ -1,18 +1,19 @@
 -- Typed states never get stuck.
 use Rattle.std.proofs.Common.{◌≡◌, ℕ, zero, suc, ◌+◌, ◌≤◌, ℤ, List, [], ◌∷◌, Option, Some, None, Bool, true, false, is_some, is_none, if◌then◌else◌, ◌==◌, ◌&&◌, refl, sym, ap, ◌∙◌, subst, arith, ⊎_elim}
-use Rattle.std.specs.Prelude.{All, IfSome, IsSome}
+use Rattle.std.specs.Prelude.{All, IfSome}
 use Rattle.gw_blocks.specs.declared.parts.Block.{Block}
 use Rattle.gw_blocks.specs.declared.parts.Block.TheVariants as blocks
 use Rattle.gw_object.specs.declared.parts.Parts.{Parts}
-use Rattle.gw_kinds.specs.Kinds.{block_at, values}
+use Rattle.gw_kinds.specs.Kinds.{block_at}
 use Rattle.gw_kinds.specs.Laws.{ReturnsHold, BlockHolds}
+use Rattle.gw_code_flow.proofs.Theorems.{comes_to}
 use Rattle.gw_kinds.proofs.KindsHold.{kinds_pass_at_each_place}
-use Rattle.gw_flow.specs.Rows.{ParamKind, Num, Row, kind_of}
+use Rattle.gw_flow.specs.Rows.{Row}
 use Rattle.gw_flow.specs.Flow.{own_table}
 use Rattle.gw_flow.specs.Laws.{FlowHolds}
 use Rattle.gw_flow.proofs.Passing.{flow_passes_at_each_block}
 use Rattle.gw_verify.specs.Checks.{Checked}
-use Rattle.gw_verify.proofs.AllPass.{kinds_pass, flow_passes}
+use Rattle.gw_verify.proofs.AllPass.{kinds_pass, plus_passes, flow_passes}
 use Rattle.gw_num.specs.Table.{at}
 use Rattle.gw_transactions.specs.declared.Transaction.{Transaction}
 use Rattle.gw_transactions.specs.Transactions.{LiveTransaction, attributes_at}
@@ -21,8 +22,7 @@ use Rattle.gw_step.specs.declared.ends.End.TheVariants.{Budget}
 use Rattle.gw_step.specs.Outcome.{Outcome, Gives, EndsBy, StopsBy, evaluated}
 use Rattle.gw_step.specs.State.{FutureEvent, State, with_streams}
 use Rattle.gw_flow.specs.Values.{operands}
-use Rattle.gw_step.specs.Times.{environment_of, parameters_of}
-use Rattle.gw_flow.proofs.Parameters.{values_are_numbers}
+use Rattle.gw_step.specs.Times.{environment_of}
 use Rattle.gw_step.specs.Changes.{woken, clock_moves}
 use Rattle.gw_step.specs.Blocks.{the_value, effect, meets, act}
 use Rattle.gw_step.specs.Step.{next_event, next_active, scan, within_budget, stepped, step}
@@ -31,14 +31,15 @@ use Rattle.gw_step.specs.Job.{Job, Step, then_step, after, start_of}
 use Rattle.gw_step.proofs.Outcomes.{choose}
 use Rattle.gw_step.proofs.Rests.{all_come_to_rest}
 use Rattle.gw_step.proofs.Residence.{one_if, at_most_one, same_number}
-use Rattle.gw_step.specs.Typing.{IsAsKnown, IsPlaced, WellTyped, AreWithinCapacity}
+use Rattle.gw_step.specs.Typing.{IsPlaced, WellTyped, AreWithinCapacity}
 use Rattle.gw_step.specs.Safety.{RetryingResideOnce, StartIsWellTyped, StepsKeepTypes, WellTypedStatesStep, ReachedStatesAreWellTyped, NoJobIsStuck, AllJobsEnd, StoragesKeepTheirCapacity}
-use Rattle.gw_step.proofs.Traces.{its_parameters, Activates, ClockMoves, Woken, Draws, Marks, Change, Trace, Done, Then, trace_on, trace-keeps, trace-fills}
+use Rattle.gw_step.proofs.Traces.{Activates, ClockMoves, Woken, Draws, Marks, Change, Trace, Done, Then, trace_on, trace-keeps, trace-fills}
 use Rattle.gw_step.proofs.Unstopped.{Safe, safe_bind, safe_then, safe_found}
-use Rattle.gw_step.proofs.Drawn.{Read, AreRead, safe_operands}
+use Rattle.gw_step.proofs.Drawn.{IsSound, Read, safe_operands}
+use Rattle.gw_step.proofs.Asked.{are_read, acts_at}
 use Rattle.gw_step.proofs.Moving.{Acts, Reaches, safe_placed}
-use Rattle.gw_step.proofs.Calling.{some_of, is_at}
-use Rattle.gw_step.proofs.Effects.{value_is_set, safe_call, safe_come_back, safe_comparison, safe_gate, safe_advance, safe_seize, safe_release, safe_enter, safe_leave, safe_join, safe_depart, safe_assign, safe_transfer, safe_fraction, safe_loop, safe_logic, safe_save, safe_mark, safe_terminate}
+use Rattle.gw_step.proofs.Calling.{some_of}
+use Rattle.gw_step.proofs.Effects.{safe_call, safe_come_back, safe_comparison, safe_gate, safe_advance, safe_seize, safe_release, safe_enter, safe_leave, safe_join, safe_depart, safe_assign, safe_transfer, safe_fraction, safe_loop, safe_logic, safe_save, safe_mark, safe_plus, safe_tabulate, safe_terminate}
 use Rattle.gw_step.proofs.Arriving.{safe_generate, start_typed}
 use Rattle.gw_step.proofs.Attributes.{attributes_of}
 
@@ -48,11 +49,11 @@ live : (o : Option LiveTransaction) → 1 ≤ one_if (is_some o) → is_some o �
 live None h = absurd (omega (arith, h))
 live (Some t) h = refl
 
-module _ (p : Parts) (each_return : All (ReturnsHold p) p.returns) (each_block : (b : ℕ) (block : Block) → block_at p.blocks b ≡ Some block → BlockHolds p b block) (flow : FlowHolds p (own_table p)) (k : ℕ) where
+module _ (p : Parts) (each_return : All (ReturnsHold p) p.returns) (each_block : (b : ℕ) (block : Block) → block_at p.blocks b ≡ Some block → BlockHolds p b block) (flow : FlowHolds p (own_table p)) (sound : IsSound p) (k : ℕ) where
   -- the one walk over the blocks
-  safe_meets : (s : State) (n : ℕ) (t : Transaction) (block : Block) (values : List ℤ) (row : Row) → Acts p s n t block row → Safe (Reaches p k s) (meets p.blocks n t block values s)
+  safe_meets : (s : State) (n : ℕ) (t : Transaction) (block : Block) (values : List ℤ) (row : Row) → Acts p s n t block row → Safe (Reaches p k s) (meets p n t block values s)
   unfolding effect
-  safe_meets s n t (blocks.Generate g) values row acts = safe_placed p k s n _ (safe_generate p s n t k g row acts)
+  safe_meets s n t (blocks.Generate g) values row acts = safe_placed p k s n _ (safe_generate p sound s n t k g row acts)
   safe_meets s n t (blocks.Terminate by) values row acts = safe_placed p k s n _ (safe_terminate p each_block flow s n t k by (the_value values) row acts)
   safe_meets s n t (blocks.Advance time) values row acts = safe_placed p k s n _ (safe_advance p each_block flow s n t k time (the_value values) row acts)
   safe_meets s n t (blocks.Seize f) values row acts = safe_seize p each_block flow s n t k f values row acts
@@ -72,28 +73,21 @@ module _ (p : Parts) (each_return : All (ReturnsHold p) p.returns) (each_block :
   safe_meets s n t (blocks.Logic l) values row acts = safe_placed p k s n _ (safe_logic p each_block flow s n t k l row acts)
   safe_meets s n t (blocks.Savevalue a) values row acts = safe_placed p k s n _ (safe_save p each_block flow s n t k a (the_value values) row acts)
   safe_meets s n t (blocks.Mark q) values row acts = safe_placed p k s n _ (safe_mark p each_block flow s n t k q row acts)
+  safe_meets s n t (blocks.Plus a) values row acts = safe_placed p k s n _ (safe_plus p each_block flow s n t k a (the_value values) row acts)
+  safe_meets s n t (blocks.Tabulate e) values row acts = safe_placed p k s n _ (safe_tabulate p each_block flow s n t k e (the_value values) row acts)
 
-  -- a parameter that is known to be a number is set
-  is_set : (kind : Option ParamKind) (value : Option ℤ) → kind ≡ Some Num → IsAsKnown kind value → IsSome value
-  is_set kind value number is = value_is_set Num value (subst (λ k. IsAsKnown k value) number is)
-
-  -- the parameters that the values of its block read are set
-  are_read : (s : State) (n : ℕ) (t : Transaction) (block : Block) (row : Row) → Acts p s n t block row → AreRead (environment_of n t s) (values block)
-  are_read s n t block row acts i d within q is =
-      is_set (kind_of row q) (at None (parameters_of n s) q) (values_are_numbers p (own_table p) t.next block row acts.flow i d within q is) (its_parameters p s acts.typed n t block row acts.is q)
-
-  safe_act : (s : State) (n : ℕ) (t : Transaction) (block : Block) (row : Row) → Acts p s n t block row → Safe (Reaches p k s) (act p.blocks n t block s)
+  safe_act : (s : State) (n : ℕ) (t : Transaction) (block : Block) (row : Row) → Acts p s n t block row → Safe (Reaches p k s) (act p n t block s)
   unfolding act
   safe_act s n t block row acts =
       let env = environment_of n t s in
-      safe_bind (Read s.streams) (Reaches p k s) (evaluated (operands env block s.streams)) _ (safe_operands env block s.streams (are_read s n t block row acts))
+      safe_bind (Read s.streams) (Reaches p k s) (evaluated (operands p env block s.streams)) _ (safe_operands p sound env t.next block s.streams acts.kinds (are_read p sound.entities s n t block row acts))
       (λ read keeps.
       let u : State = with_streams read.1 s in
-      safe_then (Reaches p k u) (Reaches p k s) (meets p.blocks n t block read.0 u)
+      safe_then (Reaches p k u) (Reaches p k s) (meets p n t block read.0 u)
       (safe_meets u n t block read.0 row (record { typed = acts.typed; active = acts.active; is = acts.is; kinds = acts.kinds; flow = acts.flow }))
       (λ v x. record { entries = x.entries; arrivals = x.arrivals; trace = Then (Draws read.1 keeps) x.trace; few_entries = x.few_entries; few_arrivals = x.few_arrivals }))
 
-  safe_active : (s : State) → WellTyped p s → (n : ℕ) → s.lists.active ≡ Some n → Safe (Reaches p k s) (scan p.blocks (Some n) s)
+  safe_active : (s : State) → WellTyped p s → (n : ℕ) → s.lists.active ≡ Some n → Safe (Reaches p k s) (scan p (Some n) s)
   safe_active s ty n active =
       let here = live (at None s.transactions n) (omega (arith, ty.resides n, ap (λ a. occurrences n (active_numbers a)) active, same_number n n refl)) in
       let bears = some_of (at None s.transactions n) here in
@@ -101,11 +95,9 @@ module _ (p : Parts) (each_return : All (ReturnsHold p) p.returns) (each_block :
       let found : attributes_at n s.transactions ≡ Some t = attributes_of (at None s.transactions n) bears.0 bears.1 in
       let place : IsPlaced p bears.0 = subst (λ o. IfSome o (IsPlaced p)) bears.1 (ty.placed n) in
       let block = some_of (block_at p.blocks t.next) place.block in
-      let row = is_at p each_block flow s ty n t block.0 found block.1 in
+      let acts = acts_at p sound.entities each_block flow s ty n t block.0 active found block.1 in
       safe_found (Reaches p k s) (attributes_at n s.transactions) NoBlock t _ found
-      (safe_found (Reaches p k s) (block_at p.blocks t.next) NoBlock block.0 _ block.1
-      (safe_act s n t block.0 row.0
-      (record { typed = ty; active = active; is = row.1; kinds = each_block t.next block.0 block.1; flow = flow.each_row t.next block.0 row.0 block.1 row.1.row_is })))
+      (safe_found (Reaches p k s) (block_at p.blocks t.next) NoBlock block.0 _ block.1 (safe_act s n t block.0 acts.0 acts.1))
 
   -- a step with no entry and no arrival
   apart : (s t : State) → Trace p k k s k k t → Reaches p k s t
@@ -119,7 +111,7 @@ module _ (p : Parts) (each_return : All (ReturnsHold p) p.returns) (each_block :
   safe_chain s nobody [] is = safe_events s s.lists.future_events refl
   safe_chain s nobody (n ∷ ns) is = apart s (record s { lists = record s.lists { active = Some n; current_events = ns } }) (Then (Activates n ns nobody is) Done)
 
-  safe_scan : (s : State) → WellTyped p s → (active : Option ℕ) → s.lists.active ≡ active → Safe (Reaches p k s) (scan p.blocks active s)
+  safe_scan : (s : State) → WellTyped p s → (active : Option ℕ) → s.lists.active ≡ active → Safe (Reaches p k s) (scan p active s)
   safe_scan s ty None is = safe_chain s is s.lists.current_events refl
   safe_scan s ty (Some n) is = safe_active s ty n is
 
@@ -147,43 +139,49 @@ module _ (p : Parts) (each_return : All (ReturnsHold p) p.returns) (each_block :
   stepped_leads budget s (StopsBy stop) h = absurd h
 
   -- each step of a well-typed state is a list of elementary changes
-  step_traced : (budget : ℕ) (s t : State) → WellTyped p s → step p.blocks budget s ≡ Some t → Reaches p k s t
+  step_traced : (budget : ℕ) (s t : State) → WellTyped p s → step p budget s ≡ Some t → Reaches p k s t
   unfolding step
   step_traced budget s t ty is = by_test (is_none s.ended) is
     where
-      by_test : (b : Bool) → (if b then stepped budget s (scan p.blocks s.lists.active s) else None) ≡ Some t → Reaches p k s t
-      by_test true is = stepped_traced budget s t (scan p.blocks s.lists.active s) (safe_scan s ty s.lists.active refl) is
+      by_test : (b : Bool) → (if b then stepped budget s (scan p s.lists.active s) else None) ≡ Some t → Reaches p k s t
+      by_test true is = stepped_traced budget s t (scan p s.lists.active s) (safe_scan s ty s.lists.active refl) is
       by_test false is = absurd cc
 
-  step_leads : (budget : ℕ) (s : State) → WellTyped p s → s.ended ≡ None → (t : State) × (step p.blocks budget s ≡ Some t)
+  step_leads : (budget : ℕ) (s : State) → WellTyped p s → s.ended ≡ None → (t : State) × (step p budget s ≡ Some t)
   unfolding step
   step_leads budget s ty runs =
-      let found = stepped_leads budget s (scan p.blocks s.lists.active s) (safe_scan s ty s.lists.active refl) in
-      (found.0, ap (λ e. if is_none e then stepped budget s (scan p.blocks s.lists.active s) else None) runs ∙ found.1)
+      let found = stepped_leads budget s (scan p s.lists.active s) (safe_scan s ty s.lists.active refl) in
+      (found.0, ap (λ e. if is_none e then stepped budget s (scan p s.lists.active s) else None) runs ∙ found.1)
 
 -- THE LAWS
 
 pub kinds_of : (p : Parts) → Checked p → (b : ℕ) (block : Block) → block_at p.blocks b ≡ Some block → BlockHolds p b block
-kinds_of p checked = ((kinds_pass_at_each_place p).0 (kinds_pass p checked)).3
+kinds_of p checked = ((kinds_pass_at_each_place p).0 (kinds_pass p checked)).4
 
 pub returns_of : (p : Parts) → Checked p → All (ReturnsHold p) p.returns
-returns_of p checked = ((kinds_pass_at_each_place p).0 (kinds_pass p checked)).1
+returns_of p checked = ((kinds_pass_at_each_place p).0 (kinds_pass p checked)).2
 
 pub flow_of : (p : Parts) → Checked p → FlowHolds p (own_table p)
 flow_of p checked = (flow_passes_at_each_block p (own_table p)).0 (flow_passes p checked)
+
+pub sound_of : (p : Parts) → Checked p → IsSound p
+sound_of p checked = record {
+  entities = ((kinds_pass_at_each_place p).0 (kinds_pass p checked)).0;
+  procedures = λ env q pr may. let came = comes_to p env q pr (kinds_pass p checked) (plus_passes p checked) may in (came.0, came.1);
+}
 
 pub start_is_well_typed : StartIsWellTyped
 start_is_well_typed j checked = (start_typed j.parts (flow_of j.parts checked) j.count j.streams).typed
 
 -- a step, from so many entries and arrivals
 pub reached_in_step : (j : Job) (k : ℕ) (s t : State) → Checked j.parts → WellTyped j.parts s → Step j s t → Reaches j.parts k s t
-reached_in_step j k s t checked ty is = step_traced j.parts (returns_of j.parts checked) (kinds_of j.parts checked) (flow_of j.parts checked) k j.budget s t ty is
+reached_in_step j k s t checked ty is = step_traced j.parts (returns_of j.parts checked) (kinds_of j.parts checked) (flow_of j.parts checked) (sound_of j.parts checked) k j.budget s t ty is
 
 pub steps_keep_types : StepsKeepTypes
 steps_keep_types j s t checked ty is = trace-keeps j.parts (flow_of j.parts checked) (reached_in_step j 0 s t checked ty is).trace ty
 
 pub well_typed_states_step : WellTypedStatesStep
-well_typed_states_step j s checked ty runs = step_leads j.parts (returns_of j.parts checked) (kinds_of j.parts checked) (flow_of j.parts checked) 0 j.budget s ty runs
+well_typed_states_step j s checked ty runs = step_leads j.parts (returns_of j.parts checked) (kinds_of j.parts checked) (flow_of j.parts checked) (sound_of j.parts checked) 0 j.budget s ty runs
 
 -- what a reached state is
 record IsKept (p : Parts) (s : State) : Type 0 where

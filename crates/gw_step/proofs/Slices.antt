@@ -11,18 +11,18 @@ same_some : {A : Type 0} (a b : A) (o : Option A) → o ≡ Some a → o ≡ Som
 same_some a b o p q = cc
 
 pub one_step : AtMostOneStep
-one_step j s t u p q = same_some t u (step j.parts.blocks j.budget s) p q
+one_step j s t u p q = same_some t u (step j.parts j.budget s) p q
 
 pub one_state : OneLoneState
 one_state j n s t p q = same_some s t (after j n (start_of j)) p q
 
-stays : (j : Job) (n : ℕ) (s : State) → step j.parts.blocks j.budget s ≡ None → slice j n s ≡ s
+stays : (j : Job) (n : ℕ) (s : State) → step j.parts j.budget s ≡ None → slice j n s ≡ s
 unfolding slice
 stays j zero s h = refl
 stays j (suc n) s h = rw (h, slice) refl
 
 -- a slice by its first step
-goes : (j : Job) (n : ℕ) (s t : State) → step j.parts.blocks j.budget s ≡ Some t → slice j (suc n) s ≡ slice j n t
+goes : (j : Job) (n : ℕ) (s t : State) → step j.parts j.budget s ≡ Some t → slice j (suc n) s ≡ slice j n t
 unfolding slice
 goes j n s t h = rw (h, slice) refl
 
@@ -35,7 +35,7 @@ unfolding slice
 slice-add j zero n s = let e : 0 + n ≡ n = omega arith in ap (λ k. slice j k s) (sym e)
 slice-add j (suc m) n s =
     let e : suc m + n ≡ suc (m + n) = omega arith in
-    cases (step j.parts.blocks j.budget s)
+    cases (step j.parts j.budget s)
     (λ none. ap (slice j n) (stays j (suc m) s none) ∙ stays j n s none ∙ sym (stays j (suc m + n) s none))
     (λ t some. ap (slice j n) (goes j m s t some) ∙ slice-add j m n t ∙ sym (ap (λ k. slice j k s) e ∙ goes j (m + n) s t some))
 
@@ -44,7 +44,7 @@ unfolding slice slices
 slices_same j [] s = refl
 slices_same j (n ∷ ns) s = slices_same j ns (slice j n s) ∙ slice-add j n (sum ns) s ∙ ap (λ k. slice j k s) (sym (sum_by-cons (λ (x : ℕ). x) n ns))
 
-one_more : (j : Job) (o : Option State) (t : State) → then_step j o ≡ Some t → (s : State) × (o ≡ Some s) × (step j.parts.blocks j.budget s ≡ Some t)
+one_more : (j : Job) (o : Option State) (t : State) → then_step j o ≡ Some t → (s : State) × (o ≡ Some s) × (step j.parts j.budget s ≡ Some t)
 one_more j None t h = absurd cc
 one_more j (Some s) t h = (s, refl, h)
 

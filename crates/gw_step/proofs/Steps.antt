@@ -1,7 +1,7 @@
 -- A step by what its scan comes to.
-use Rattle.std.proofs.Common.{◌≡◌, ◌≢◌, ℕ, ◌+◌, List, Option, Some, None, Bool, true, false, is_none, if◌then◌else◌, ◌==◌, ◌&&◌, refl, ap, ◌∙◌}
+use Rattle.std.proofs.Common.{◌≡◌, ◌≢◌, ℕ, ◌+◌, Option, Some, None, Bool, true, false, is_none, if◌then◌else◌, ◌==◌, ◌&&◌, refl, ap, ◌∙◌}
 use Rattle.std.proofs.lemmas.Bool.{eqb-true, eqb-false}
-use Rattle.gw_blocks.specs.declared.parts.Block.{Block}
+use Rattle.gw_object.specs.declared.parts.Parts.{Parts}
 use Rattle.gw_step.specs.declared.ends.End.{End}
 use Rattle.gw_step.specs.declared.ends.End.TheVariants.{NoMoreEvents, Budget}
 use Rattle.gw_entities.specs.declared.stop.Stop.{Stop}
@@ -10,18 +10,18 @@ use Rattle.gw_step.specs.State.{State}
 use Rattle.gw_step.specs.Step.{next_event, next_active, scan, step, stepped, within_budget}
 use Rattle.gw_step.specs.Laws.{WaitersAloneEnd}
 
-module _ (bs : List Block) (budget : ℕ) (s : State) (runs : s.ended ≡ None) where
-  pub step-scan : step bs budget s ≡ stepped budget s (scan bs s.lists.active s)
+module _ (p : Parts) (budget : ℕ) (s : State) (runs : s.ended ≡ None) where
+  pub step-scan : step p budget s ≡ stepped budget s (scan p s.lists.active s)
   unfolding step
   step-scan = rw (runs, step) refl
 
-  pub step-gives : (t : State) → scan bs s.lists.active s ≡ Gives t → step bs budget s ≡ Some (within_budget budget (record t { steps = s.steps + 1 }))
+  pub step-gives : (t : State) → scan p s.lists.active s ≡ Gives t → step p budget s ≡ Some (within_budget budget (record t { steps = s.steps + 1 }))
   step-gives t h = step-scan ∙ ap (stepped budget s) h
 
-  pub step-ends : (end : End) → scan bs s.lists.active s ≡ EndsBy end → step bs budget s ≡ Some (record s { steps = s.steps + 1; ended = Some end })
+  pub step-ends : (end : End) → scan p s.lists.active s ≡ EndsBy end → step p budget s ≡ Some (record s { steps = s.steps + 1; ended = Some end })
   step-ends end h = step-scan ∙ ap (stepped budget s) h
 
-  pub step-stops : (stop : Stop) → scan bs s.lists.active s ≡ StopsBy stop → (step bs budget s ≡ None) × (stop_in (scan bs s.lists.active s) ≡ Some stop)
+  pub step-stops : (stop : Stop) → scan p s.lists.active s ≡ StopsBy stop → (step p budget s ≡ None) × (stop_in (scan p s.lists.active s) ≡ Some stop)
   step-stops stop h = (step-scan ∙ ap (stepped budget s) h, ap stop_in h)
 
 -- the budget ends a job or leaves it as it is
@@ -45,5 +45,5 @@ some_is a b h = cc
 -- where nobody is active and nothing is to come, nothing is left to do
 pub waiters_alone_end : WaitersAloneEnd
 waiters_alone_end j s runs nobody current future =
-    step-ends j.parts.blocks j.budget s runs NoMoreEvents
-    (ap (λ a. scan j.parts.blocks a s) nobody ∙ ap (λ ns. next_active ns s) current ∙ ap (λ es. next_event es s) future)
+    step-ends j.parts j.budget s runs NoMoreEvents
+    (ap (λ a. scan j.parts a s) nobody ∙ ap (λ ns. next_active ns s) current ∙ ap (λ es. next_event es s) future)

@@ -12,7 +12,8 @@ use Rattle.gw_object.specs.declared.parts.Kind.TheVariants as kinds
 use Rattle.gw_blocks.specs.declared.parts.Block.{Block}
 use Rattle.gw_blocks.specs.declared.parts.Block.TheVariants as blocks
 use Rattle.gw_object.specs.declared.parts.Parts.{Parts}
-use Rattle.gw_kinds.specs.Kinds.{kind_at, block_at, is_generate}
+use Rattle.gw_kinds.specs.Evaluated.{kind_at}
+use Rattle.gw_kinds.specs.Kinds.{block_at, is_generate}
 use Rattle.gw_kinds.specs.Laws.{MayBeEntered}
 use Rattle.gw_flow.specs.Entries.{entry}
 use Rattle.gw_flow.specs.Rows.{ParamKind, Num, Ret, Row, is_empty, kind_of, kind_fits, Fits}
@@ -318,11 +319,9 @@ module _ (p : Parts) (flow : FlowHolds p (own_table p)) where
 
   contents_stay : (time e : ℕ) (g : EntityStates) (kind : Option Kind) → content_of e (time_passes time g) kind ≡ content_of e g kind
   contents_stay time e g None = refl
-  contents_stay time e g (Some kinds.Facility) = refl
   contents_stay time e g (Some (kinds.Storage capacity)) = ap (λ (x : Storage). x.contents.content) (storages-later time g.storages e)
   contents_stay time e g (Some kinds.Queue) = ap (λ (x : Contents). x.content) (at-map_same (contents_after time) empty g.queues e (nothing-after time))
-  contents_stay time e g (Some (kinds.Switch set)) = refl
-  contents_stay time e g (Some (kinds.Savevalue value)) = refl
+  contents_stay time e g (Some kind) = refl
 
   agree-later : (ts : List (Option LiveTransaction)) (l : Lists) (g : EntityStates) (time : ℕ) → Agree p ts l g → Agree p ts l (time_passes time g)
   agree-later ts l g time ty = record {
@@ -417,7 +416,7 @@ module _ (p : Parts) where
   rests-within en ar n LeavesModel s may w = within-destroyed (length p.blocks) (length p.entities) en ar s w n (at_some s.transactions n may.1.t may.1.found)
 
   whole-of : (en ar : ℕ) (s : State) → IsWithin (length p.blocks) (length p.entities) en ar s → AreWhole (length p.entities) s.entities
-  whole-of en ar s w = record { facilities = w.whole.facilities; storages = w.whole.storages; queues = w.whole.queues; switches = w.whole.switches; savevalues = w.whole.savevalues }
+  whole-of en ar s w = record { facilities = w.whole.facilities; storages = w.whole.storages; queues = w.whole.queues; switches = w.whole.switches; savevalues = w.whole.savevalues; tables = w.whole.tables }
 
   change-within : {en ar en' ar' : ℕ} {s t : State} → Change p en ar s en' ar' t → IsWithin (length p.blocks) (length p.entities) en ar s → IsWithin (length p.blocks) (length p.entities) en' ar' t
   change-within (Goes {en = en} {ar = ar} {s = s} n to t u block row state h is same here known along may balance) w =

@@ -12,6 +12,7 @@ use Rattle.gw_transactions.specs.Transactions.{LiveTransaction, with_attributes,
 use Rattle.gw_entities.specs.Contents.{empty}
 use Rattle.gw_entities.specs.Facility.{idle}
 use Rattle.gw_entities.specs.Storage.{vacant}
+use Rattle.gw_entities.specs.Table.{table_at}
 use Rattle.gw_step.specs.State.{FutureEvent, EntityStates, State, priority_of, raised, with_streams, delay_list, without}
 use Rattle.gw_step.specs.Changes.{newcomer, retries, woken, entered, assigned, destroyed, arrives, rests_until, waits_for, called_from, counted}
 use Rattle.gw_step.specs.Residence.{occurrences}
@@ -76,6 +77,7 @@ pub record Raises (g h : EntityStates) : Type 0 where
   pub facilities : (f : ℕ) → (at idle h.facilities f).entries ≤ (at idle g.facilities f).entries + 1
   pub storages : (e : ℕ) → (at (vacant 0) h.storages e).contents.entries ≤ (at (vacant 0) g.storages e).contents.entries + 2 ^ 20
   pub queues : (q : ℕ) → (at empty h.queues q).entries ≤ (at empty g.queues q).entries + 2 ^ 20
+  pub tables : (t : ℕ) → (table_at t h.tables).count ≤ (table_at t g.tables).count + 1
   -- no more than ever joined is inside
   pub inside : (q : ℕ) → (at empty g.queues q).content ≤ (at empty g.queues q).entries → (at empty h.queues q).content ≤ (at empty h.queues q).entries
   pub facility_table : length h.facilities ≡ length g.facilities
@@ -83,9 +85,10 @@ pub record Raises (g h : EntityStates) : Type 0 where
   pub queue_table : length h.queues ≡ length g.queues
   pub switch_table : length h.switches ≡ length g.switches
   pub savevalue_table : length h.savevalues ≡ length g.savevalues
+  pub table_table : length h.tables ≡ length g.tables
 
 pub raises-same : (g : EntityStates) → Raises g g
-raises-same g = record { facilities = λ f. omega arith; storages = λ e. omega arith; queues = λ q. omega arith; inside = λ q h. h; facility_table = refl; storage_table = refl; queue_table = refl; switch_table = refl; savevalue_table = refl }
+raises-same g = record { facilities = λ f. omega arith; storages = λ e. omega arith; queues = λ q. omega arith; tables = λ t. omega arith; inside = λ q h. h; facility_table = refl; storage_table = refl; queue_table = refl; switch_table = refl; savevalue_table = refl; table_table = refl }
 
 pub raised_by_put : {X : Type 0} (d : X) (xs : List X) (k : ℕ) (v : X) (f : X → ℕ) (more : ℕ) → f v ≤ f (at d xs k) + more → (j : ℕ) → f (at d (put d xs k v) j) ≤ f (at d xs j) + more
 raised_by_put d xs k v f more here = by_entry d xs k v (λ j x. f x ≤ f (at d xs j) + more) here (λ j other. omega arith)
@@ -141,6 +144,7 @@ module _ (bs es en ar : ℕ) (s : State) (w : IsWithin bs es en ar s) where
       queues = ap (λ (g : EntityStates). length g.queues) entities ∙ w.whole.queues;
       switches = ap (λ (g : EntityStates). length g.switches) entities ∙ w.whole.switches;
       savevalues = ap (λ (g : EntityStates). length g.savevalues) entities ∙ w.whole.savevalues;
+      tables = ap (λ (g : EntityStates). length g.tables) entities ∙ w.whole.tables;
       streams = streams;
     };
     clock = rw clock w.clock;
@@ -174,6 +178,7 @@ module _ (bs es en ar : ℕ) (s : State) (w : IsWithin bs es en ar s) where
           facilities = λ f. omega (arith, r.facilities f, w.entity_entries.facilities f, more);
           storages = λ e. omega (arith, r.storages e, w.entity_entries.storages e, more);
           queues = λ q. omega (arith, r.queues q, w.entity_entries.queues q, more);
+          tables = λ t. omega (arith, r.tables t, w.entity_entries.tables t, more);
           inside = λ q. r.inside q (w.entity_entries.inside q);
         };
         made = omega (arith, w.made, length-put None s.transactions n (option_map (with_attributes (record t { current = t.next; next = next })) (at None s.transactions n)) there);
@@ -188,6 +193,7 @@ module _ (bs es en ar : ℕ) (s : State) (w : IsWithin bs es en ar s) where
           queues = r.queue_table ∙ w.whole.queues;
           switches = r.switch_table ∙ w.whole.switches;
           savevalues = r.savevalue_table ∙ w.whole.savevalues;
+          tables = r.table_table ∙ w.whole.tables;
           streams = w.whole.streams;
         };
         clock = w.clock;
@@ -201,7 +207,7 @@ module _ (bs es en ar : ℕ) (s : State) (w : IsWithin bs es en ar s) where
     made = omega (arith, w.made, length-put None s.transactions n None there);
     scheduled = w.scheduled;
     marked = marked-put s.transactions n None tt w.marked;
-    whole = record { entries = w.whole.entries; scheduled = w.whole.scheduled; delay_lists = w.whole.delay_lists; facilities = w.whole.facilities; storages = w.whole.storages; queues = w.whole.queues; switches = w.whole.switches; savevalues = w.whole.savevalues; streams = w.whole.streams };
+    whole = record { entries = w.whole.entries; scheduled = w.whole.scheduled; delay_lists = w.whole.delay_lists; facilities = w.whole.facilities; storages = w.whole.storages; queues = w.whole.queues; switches = w.whole.switches; savevalues = w.whole.savevalues; tables = w.whole.tables; streams = w.whole.streams };
     clock = w.clock;
     future = w.future;
   }
@@ -214,7 +220,7 @@ module _ (bs es en ar : ℕ) (s : State) (w : IsWithin bs es en ar s) where
     made = omega (arith, w.made, length-put None s.transactions n (option_map (with_parameter p value) (at None s.transactions n)) there);
     scheduled = w.scheduled;
     marked = marked-assigned s.transactions n p value w.marked;
-    whole = record { entries = w.whole.entries; scheduled = w.whole.scheduled; delay_lists = w.whole.delay_lists; facilities = w.whole.facilities; storages = w.whole.storages; queues = w.whole.queues; switches = w.whole.switches; savevalues = w.whole.savevalues; streams = w.whole.streams };
+    whole = record { entries = w.whole.entries; scheduled = w.whole.scheduled; delay_lists = w.whole.delay_lists; facilities = w.whole.facilities; storages = w.whole.storages; queues = w.whole.queues; switches = w.whole.switches; savevalues = w.whole.savevalues; tables = w.whole.tables; streams = w.whole.streams };
     clock = w.clock;
     future = w.future;
   }
@@ -226,7 +232,7 @@ module _ (bs es en ar : ℕ) (s : State) (w : IsWithin bs es en ar s) where
     made = w.made;
     scheduled = w.scheduled;
     marked = w.marked;
-    whole = record { entries = w.whole.entries; scheduled = w.whole.scheduled; delay_lists = w.whole.delay_lists; facilities = w.whole.facilities; storages = w.whole.storages; queues = w.whole.queues; switches = w.whole.switches; savevalues = w.whole.savevalues; streams = w.whole.streams };
+    whole = record { entries = w.whole.entries; scheduled = w.whole.scheduled; delay_lists = w.whole.delay_lists; facilities = w.whole.facilities; storages = w.whole.storages; queues = w.whole.queues; switches = w.whole.switches; savevalues = w.whole.savevalues; tables = w.whole.tables; streams = w.whole.streams };
     clock = w.clock;
     future = w.future;
   }
@@ -249,6 +255,7 @@ module _ (bs es en ar : ℕ) (s : State) (w : IsWithin bs es en ar s) where
           queues = w.whole.queues;
           switches = w.whole.switches;
           savevalues = w.whole.savevalues;
+          tables = w.whole.tables;
           streams = w.whole.streams;
         };
         clock = w.clock;
@@ -262,7 +269,7 @@ module _ (bs es en ar : ℕ) (s : State) (w : IsWithin bs es en ar s) where
     made = w.made;
     scheduled = w.scheduled;
     marked = w.marked;
-    whole = record { entries = w.whole.entries; scheduled = w.whole.scheduled; delay_lists = w.whole.delay_lists; facilities = w.whole.facilities; storages = w.whole.storages; queues = w.whole.queues; switches = w.whole.switches; savevalues = w.whole.savevalues; streams = w.whole.streams };
+    whole = record { entries = w.whole.entries; scheduled = w.whole.scheduled; delay_lists = w.whole.delay_lists; facilities = w.whole.facilities; storages = w.whole.storages; queues = w.whole.queues; switches = w.whole.switches; savevalues = w.whole.savevalues; tables = w.whole.tables; streams = w.whole.streams };
     clock = w.clock;
     future = from-in_time s.clock (record { time = time; number = n }) s.lists.future_events later w.future;
   }
@@ -289,6 +296,7 @@ module _ (bs es en ar : ℕ) (s : State) (w : IsWithin bs es en ar s) where
           queues = w.whole.queues;
           switches = w.whole.switches;
           savevalues = w.whole.savevalues;
+          tables = w.whole.tables;
           streams = w.whole.streams;
         };
         clock = w.clock;
@@ -321,6 +329,7 @@ module _ (bs es en ar : ℕ) (s : State) (w : IsWithin bs es en ar s) where
           queues = w.whole.queues;
           switches = w.whole.switches;
           savevalues = w.whole.savevalues;
+          tables = w.whole.tables;
           streams = w.whole.streams;
         };
         clock = w.clock;

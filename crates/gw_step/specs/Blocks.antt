@@ -21,6 +21,7 @@ use Rattle.gw_blocks.specs.declared.parts.Logic.{Logic}
 use Rattle.gw_blocks.specs.declared.parts.Save.{Save}
 use Rattle.gw_blocks.specs.declared.parts.Block.{Block}
 use Rattle.gw_blocks.specs.declared.parts.Block.TheVariants as blocks
+use Rattle.gw_object.specs.declared.parts.Parts.{Parts}
 use Rattle.gw_kinds.specs.Kinds.{block_at}
 use Rattle.gw_flow.specs.Values.{answered, operands}
 use Rattle.gw_num.specs.declared.arithmetic.NumFault.{NumFault}
@@ -34,13 +35,14 @@ use Rattle.gw_entities.specs.declared.stop.Stop.TheVariants.{NoBlock, OwnsAtEnd,
 use Rattle.gw_entities.specs.Facility.{is_idle, seized, seizing, releasing, owns_any}
 use Rattle.gw_entities.specs.Storage.{has_room, entered as with_units_entered, entering, leaving}
 use Rattle.gw_entities.specs.Queue.{joined, departing}
+use Rattle.gw_entities.specs.Tabulation.{tabulating}
 use Rattle.gw_step.specs.declared.ends.End.TheVariants.{Number, Live}
 use Rattle.gw_step.specs.declared.placement.Placement.{Placement}
 use Rattle.gw_step.specs.declared.placement.Placement.TheVariants.{StaysActive, RestsUntil, JoinsDelayList, JoinsRetryList, LeavesModel}
 use Rattle.gw_step.specs.Outcome.{Outcome, Gives, EndsBy, ◌>>=◌, unless_stopped, or_stop, granted, evaluated}
 use Rattle.gw_step.specs.State.{State, may_enter, with_streams, delay_list}
 use Rattle.gw_step.specs.Times.{environment_of, environment_of_next, moment_after, drawn_moment}
-use Rattle.gw_step.specs.Changes.{entered, enters_and_falls, arrives, called_from, assigned, facility, storage, queue, switch, savevalue, put_facility, put_storage, put_queue, put_switch, put_savevalue, counted}
+use Rattle.gw_step.specs.Changes.{entered, enters_and_falls, arrives, called_from, assigned, facility, storage, queue, switch, savevalue, table, put_facility, put_storage, put_queue, put_switch, put_savevalue, put_table, counted}
 use Rattle.gw_step.specs.Placing.{placed}
 
 -- REFUSAL
@@ -125,15 +127,15 @@ abbrev pub within_live_limit : State → Outcome State → Outcome State
 within_live_limit s outcome = if nat_lt (live_count s.transactions) 65536 then outcome else EndsBy Live
 
 -- the next arrival of a GENERATE block, b, is scheduled, if one is owed; the interval is evaluated for the coming transaction
-abbrev pub next_arrival : ℕ → Generate → State → Outcome State
-next_arrival b g s =
+abbrev pub next_arrival : Parts → ℕ → Generate → State → Outcome State
+next_arrival p b g s =
     if is_owed g.limit (at 0 s.scheduled b)
-    then (drawn_moment (environment_of_next g.priority s) g.interval s.clock s.streams >>= λ d. within_live_limit s (Gives (arrives b g.priority d.0 (with_streams d.1 s))))
+    then (drawn_moment p (environment_of_next g.priority s) g.interval s.clock s.streams >>= λ d. within_live_limit s (Gives (arrives b g.priority d.0 (with_streams d.1 s))))
     else Gives s
 
 -- the effect of GENERATE: the next arrival is scheduled, and the transaction enters with the clock as its mark time
-abbrev pub generate : List Block → ℕ → Transaction → Generate → State → Outcome (State × Placement)
-generate bs n t g s = next_arrival t.next g s >>= λ after. leads bs (t.next + 1) (stays (enters_and_falls n (record t { mark = s.clock }) after))
+abbrev pub generate : Parts → ℕ → Transaction → Generate → State → Outcome (State × Placement)
+generate p n t g s = next_arrival p t.next g s >>= λ after. leads p.blocks (t.next + 1) (stays (enters_and_falls n (record t { mark = s.clock }) after))
 
 -- a transaction rests until a moment; where that is now it stays active
 abbrev pub until : ℤ → ℤ → Placement
@@ -274,7 +276,12 @@ abbrev pub mark : List Block → ℕ → Transaction → Option ℕ → State �
 mark bs n t None s = leads bs (t.next + 1) (stays (enters_and_falls n (record t { mark = s.clock }) s))
 mark bs n t (Some p) s = leads bs (t.next + 1) (stays (enters_and_falls n t (assigned n p s.clock s)))
 
--- LOGIC SWITCHES AND SAVEVALUES
+-- the effect of PLUS: the transaction enters, and a parameter of it has the value, if one takes it
+abbrev pub plus : List Block → ℕ → Transaction → Option ℕ → ℤ → State → Outcome (State × Placement)
+plus bs n t None value s = leads bs (t.next + 1) (stays (enters_and_falls n t s))
+plus bs n t (Some p) value s = leads bs (t.next + 1) (stays (enters_and_falls n t (assigned n p value s)))
+
+-- LOGIC SWITCHES, SAVEVALUES AND TABLES
 
 -- what becomes of a logic switch
 abbrev pub turned : SwitchAction → Bool → Bool
@@ -292,6 +299,12 @@ save bs n t a value s =
     evaluated (answered (put_by a.mode (savevalue a.savevalue s) value)) >>= λ new.
     leads bs (t.next + 1) (stays (put_savevalue a.savevalue new (enters_and_falls n t s)))
 
+-- the effect of TABULATE: the transaction enters, and the value is entered into the table
+abbrev pub tabulate : List Block → ℕ → Transaction → ℕ → ℤ → State → Outcome (State × Placement)
+tabulate bs n t e value s =
+    evaluated (answered (tabulating value (table e s))) >>= λ new.
+    leads bs (t.next + 1) (stays (put_table e new (enters_and_falls n t s)))
+
 -- THE END OF A TRANSACTION
 
 -- the effect of TERMINATE: the transaction, which owns nothing, enters and is destroyed, and the termination count falls, but not by less than 0
@@ -301,36 +314,38 @@ terminate n t by s = if int_lt by (pos 0) then EndsBy Number else unless_stopped
 -- THE STEP OF THE ACTIVE TRANSACTION
 
 -- what entering comes to: the active transaction n, which is t, enters its next block, which has these operand values
-unfoldable pub effect : List Block → ℕ → Transaction → Block → List ℤ → State → Outcome (State × Placement)
-effect bs n t (blocks.Generate g) values s = generate bs n t g s
-effect bs n t (blocks.Terminate by) values s = terminate n t (the_value values) s
-effect bs n t (blocks.Advance time) values s = advance bs n t (the_value values) s
-effect bs n t (blocks.Seize f) values s = seize bs n t f s
-effect bs n t (blocks.Release f) values s = release bs n t f s
-effect bs n t (blocks.Enter u) values s = enter bs n t u s
-effect bs n t (blocks.Leave u) values s = leave bs n t u s
-effect bs n t (blocks.Queue u) values s = join_queue bs n t u s
-effect bs n t (blocks.Depart u) values s = depart bs n t u s
-effect bs n t (blocks.Assign a) values s = assign bs n t a (the_value values) s
-effect bs n t (blocks.Test test) values s = transfer bs n t (led_by t.next test.otherwise (passes_test test values)) s
-effect bs n t (blocks.Gate gate) values s = transfer bs n t (led_by t.next gate.otherwise (is_so gate.condition gate.entity s)) s
-effect bs n t (blocks.Transfer target) values s = transfer bs n t target s
-effect bs n t (blocks.TransferByFraction f) values s = transfer bs n t (chosen t.next f (the_value values)) s
-effect bs n t (blocks.TransferToSubroutine c) values s = call bs n t c s
-effect bs n t (blocks.TransferByParameter q) values s = come_back bs n t q s
-effect bs n t (blocks.Loop l) values s = loop bs n t l s
-effect bs n t (blocks.Logic l) values s = logic bs n t l s
-effect bs n t (blocks.Savevalue a) values s = save bs n t a (the_value values) s
-effect bs n t (blocks.Mark p) values s = mark bs n t p s
+unfoldable pub effect : Parts → ℕ → Transaction → Block → List ℤ → State → Outcome (State × Placement)
+effect p n t (blocks.Generate g) values s = generate p n t g s
+effect p n t (blocks.Terminate by) values s = terminate n t (the_value values) s
+effect p n t (blocks.Advance time) values s = advance p.blocks n t (the_value values) s
+effect p n t (blocks.Seize f) values s = seize p.blocks n t f s
+effect p n t (blocks.Release f) values s = release p.blocks n t f s
+effect p n t (blocks.Enter u) values s = enter p.blocks n t u s
+effect p n t (blocks.Leave u) values s = leave p.blocks n t u s
+effect p n t (blocks.Queue u) values s = join_queue p.blocks n t u s
+effect p n t (blocks.Depart u) values s = depart p.blocks n t u s
+effect p n t (blocks.Assign a) values s = assign p.blocks n t a (the_value values) s
+effect p n t (blocks.Test test) values s = transfer p.blocks n t (led_by t.next test.otherwise (passes_test test values)) s
+effect p n t (blocks.Gate gate) values s = transfer p.blocks n t (led_by t.next gate.otherwise (is_so gate.condition gate.entity s)) s
+effect p n t (blocks.Transfer target) values s = transfer p.blocks n t target s
+effect p n t (blocks.TransferByFraction f) values s = transfer p.blocks n t (chosen t.next f (the_value values)) s
+effect p n t (blocks.TransferToSubroutine c) values s = call p.blocks n t c s
+effect p n t (blocks.TransferByParameter q) values s = come_back p.blocks n t q s
+effect p n t (blocks.Loop l) values s = loop p.blocks n t l s
+effect p n t (blocks.Logic l) values s = logic p.blocks n t l s
+effect p n t (blocks.Savevalue a) values s = save p.blocks n t a (the_value values) s
+effect p n t (blocks.Mark q) values s = mark p.blocks n t q s
+effect p n t (blocks.Plus a) values s = plus p.blocks n t a.parameter (the_value values) s
+effect p n t (blocks.Tabulate e) values s = tabulate p.blocks n t e (the_value values) s
 
 -- what entering came to, with the transaction n placed
 abbrev pub then_placed : ℕ → Outcome (State × Placement) → Outcome State
 then_placed n outcome = outcome >>= λ e. Gives (placed n e.1 e.0)
 
 -- the block refuses the active transaction n, which is t, or is entered by it
-abbrev pub meets : List Block → ℕ → Transaction → Block → List ℤ → State → Outcome State
-meets bs n t block values s = if refuses n block values s then Gives (placed n (refusal block) s) else then_placed n (effect bs n t block values s)
+abbrev pub meets : Parts → ℕ → Transaction → Block → List ℤ → State → Outcome State
+meets p n t block values s = if refuses n block values s then Gives (placed n (refusal block) s) else then_placed n (effect p n t block values s)
 
 -- the active transaction n, which is t, at its next block: the operands are evaluated before it enters, and their draws stand also where it is refused
-unfoldable pub act : List Block → ℕ → Transaction → Block → State → Outcome State
-act bs n t block s = evaluated (operands (environment_of n t s) block s.streams) >>= λ read. meets bs n t block read.0 (with_streams read.1 s)
+unfoldable pub act : Parts → ℕ → Transaction → Block → State → Outcome State
+act p n t block s = evaluated (operands p (environment_of n t s) block s.streams) >>= λ read. meets p n t block read.0 (with_streams read.1 s)

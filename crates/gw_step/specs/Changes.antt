@@ -10,7 +10,8 @@ use Rattle.gw_entities.specs.declared.contents.Contents.{Contents}
 use Rattle.gw_entities.specs.Contents.{empty, contents_after}
 use Rattle.gw_entities.specs.Facility.{idle, facility_after}
 use Rattle.gw_entities.specs.Storage as storages
-use Rattle.gw_entities.specs.Table.{switch_at, set_switch, savevalue_at, set_savevalue}
+use Rattle.gw_entities.specs.Tabulation.{Tabulation}
+use Rattle.gw_entities.specs.Table.{switch_at, set_switch, savevalue_at, set_savevalue, table_at, set_table}
 use Rattle.gw_step.specs.declared.ends.End.{End}
 use Rattle.gw_step.specs.declared.ends.End.TheVariants.{Done}
 use Rattle.gw_step.specs.State.{FutureEvent, EntityStates, State, priority_of, raised, delay_list, without}
@@ -132,6 +133,14 @@ put_switch l on s = record s { entities = record s.entities { switches = set_swi
 -- the savevalue of this number now has this value
 abbrev pub put_savevalue : ℕ → ℤ → State → State
 put_savevalue x value s = record s { entities = record s.entities { savevalues = set_savevalue x value s.entities.savevalues } }
+
+-- a table of a state
+abbrev pub table : ℕ → State → Tabulation
+table e s = table_at e s.entities.tables
+
+-- the table of this number is now this one
+abbrev pub put_table : ℕ → Tabulation → State → State
+put_table e v s = record s { entities = record s.entities { tables = set_table e v s.entities.tables } }
 
 -- so many clock units pass: what each entity holds is added up over them
 abbrev pub time_passes : ℕ → EntityStates → EntityStates

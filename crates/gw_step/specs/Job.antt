@@ -32,7 +32,7 @@ streams_of seeds = map (seed_at seeds) (range_with_len 0 16)
 
 -- s has a step, which leads to t
 abbrev pub Step : Job → State → State → Type 0
-Step j s t = step j.parts.blocks j.budget s ≡ Some t
+Step j s t = step j.parts j.budget s ≡ Some t
 
 -- a named end stands
 abbrev pub IsFinal : State → Type 0
@@ -40,11 +40,11 @@ IsFinal s = IsTrue (is_some s.ended)
 
 -- it runs and has no step: the job meets an error stop
 abbrev pub IsStuck : Job → State → Type 0
-IsStuck j s = (s.ended ≡ None) × (step j.parts.blocks j.budget s ≡ None)
+IsStuck j s = (s.ended ≡ None) × (step j.parts j.budget s ≡ None)
 
 -- the error stop of a state, if it is stuck
 abbrev pub stop_of : Job → State → Option Stop
-stop_of j s = stop_in (scan j.parts.blocks s.lists.active s)
+stop_of j s = stop_in (scan j.parts s.lists.active s)
 
 -- THE LONE RUN
 
@@ -55,7 +55,7 @@ start_of j = start j.parts j.count j.streams
 -- one step more, if there is one
 abbrev pub then_step : Job → Option State → Option State
 then_step j None = None
-then_step j (Some s) = step j.parts.blocks j.budget s
+then_step j (Some s) = step j.parts j.budget s
 
 -- the state after so many steps, if there are so many
 unfoldable pub after : Job → ℕ → State → Option State

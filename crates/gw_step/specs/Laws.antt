@@ -41,7 +41,7 @@ AllComeToRest = (j : Job) → 0 < j.budget → Rest j
 -- the state that a slice of so many steps leaves, or of fewer where the job has no further step
 unfoldable pub slice : Job → ℕ → State → State
 slice j zero s = s
-slice j (suc n) s = elim (step j.parts.blocks j.budget s) [ None ↦ s | Some t ↦ slice j n t ]
+slice j (suc n) s = elim (step j.parts j.budget s) [ None ↦ s | Some t ↦ slice j n t ]
 
 -- the state that slices of so many steps leave, one after the other
 unfoldable pub slices : Job → List ℕ → State → State

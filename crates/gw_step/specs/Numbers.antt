@@ -9,6 +9,7 @@ use Rattle.gw_num.specs.Table.{at}
 use Rattle.gw_entities.specs.Contents.{empty}
 use Rattle.gw_entities.specs.Facility.{idle}
 use Rattle.gw_entities.specs.Storage.{vacant}
+use Rattle.gw_entities.specs.Table.{table_at}
 use Rattle.gw_step.specs.State.{FutureEvent, EntityStates, State}
 
 -- events in order, none before a moment
@@ -30,6 +31,7 @@ pub record IsWhole (blocks entities : ℕ) (s : State) : Type 0 where
   pub queues : length s.entities.queues ≡ entities
   pub switches : length s.entities.switches ≡ entities
   pub savevalues : length s.entities.savevalues ≡ entities
+  pub tables : length s.entities.tables ≡ entities
   pub streams : length s.streams ≡ 16
 
 -- each entity has at most so many entries, of at most 2^20 units each, and a queue holds no more than ever joined it
@@ -37,6 +39,7 @@ pub record AreEntered (entries : ℕ) (g : EntityStates) : Type 0 where
   pub facilities : (f : ℕ) → (at idle g.facilities f).entries ≤ entries
   pub storages : (e : ℕ) → (at (vacant 0) g.storages e).contents.entries ≤ entries * 2 ^ 20
   pub queues : (q : ℕ) → (at empty g.queues q).entries ≤ entries * 2 ^ 20
+  pub tables : (t : ℕ) → (table_at t g.tables).count ≤ entries
   pub inside : (q : ℕ) → (at empty g.queues q).content ≤ (at empty g.queues q).entries
 
 -- no mark time lies before clock 0

@@ -1,10 +1,10 @@
 -- What an evaluation, or the effect of a block, comes to.
 use Rattle.std.specs.Prelude.{Bool, true, false, Option, Some, None, Result, Ok, Err}
-use Rattle.gw_num.specs.declared.arithmetic.NumFault.{NumFault}
-use Rattle.gw_num.specs.declared.arithmetic.NumFault.TheVariants as faults
+use Rattle.gw_code_flow.specs.declared.ends.PlusEnd.{PlusEnd}
+use Rattle.gw_code_flow.specs.declared.ends.PlusEnd.TheVariants as ends
 use Rattle.gw_flow.specs.Values.{Evaluation, Value, Fails, Unset}
 use Rattle.gw_step.specs.declared.ends.End.{End}
-use Rattle.gw_step.specs.declared.ends.End.TheVariants.{Number, ZeroDivisor}
+use Rattle.gw_step.specs.declared.ends.End.TheVariants.{Number, ZeroDivisor, LoopLimit}
 use Rattle.gw_entities.specs.declared.stop.Stop.{Stop}
 use Rattle.gw_entities.specs.declared.stop.Stop.TheVariants.{UnsetParam}
 
@@ -36,15 +36,16 @@ abbrev pub granted : {A : Type 0} → Result A Stop → Outcome A
 granted (Ok a) = Gives a
 granted (Err stop) = StopsBy stop
 
--- the named end that a fault of arithmetic brings
-abbrev pub end_by : NumFault → End
-end_by faults.Number = Number
-end_by faults.ZeroDivisor = ZeroDivisor
+-- the named end that the end of an evaluation brings
+abbrev pub end_by : PlusEnd → End
+end_by ends.Number = Number
+end_by ends.ZeroDivisor = ZeroDivisor
+end_by ends.LoopLimit = LoopLimit
 
--- what an evaluation comes to; its fault is a named end, and where it comes to nothing there is an error stop
+-- what an evaluation comes to; its end is a named one, and where it comes to nothing there is an error stop
 abbrev pub evaluated : {A : Type 0} → Evaluation A → Outcome A
 evaluated (Value a) = Gives a
-evaluated (Fails fault) = EndsBy (end_by fault)
+evaluated (Fails end) = EndsBy (end_by end)
 evaluated Unset = StopsBy UnsetParam
 
 -- the error stop of an outcome, if it is one

@@ -1,5 +1,12 @@
 -- Typed states never get stuck: no job of a checked object meets an error stop.
-use Rattle.std.specs.Prelude.{◌≡◌, ℕ, ◌<◌, ◌≤◌, [], None}
+use Rattle.std.specs.Prelude.{◌≡◌, ℕ, ◌<◌, ◌≤◌, [], Some, None}
+use Rattle.gw_blocks.specs.declared.parts.Generate.{Generate}
+use Rattle.gw_blocks.specs.declared.parts.Block.TheVariants as blocks
+use Rattle.gw_object.specs.declared.parts.Parts.{Parts}
+use Rattle.gw_object.specs.Grammar.{HasSpelling}
+use Rattle.gw_kinds.specs.Kinds.{block_at}
+use Rattle.gw_code_flow.specs.Environment.{Environment}
+use Rattle.gw_step.specs.Operands.{MayDraw, MayStep}
 use Rattle.gw_verify.specs.Checks.{Checked}
 use Rattle.gw_step.specs.State.{State}
 use Rattle.gw_step.specs.Job.{Job, Step, IsFinal, IsStuck, Alone, start_of}
@@ -17,6 +24,14 @@ StepsKeepTypes = (j : Job) (s t : State) → Checked j.parts → WellTyped j.par
 -- a well-typed state that runs has a step
 abbrev pub WellTypedStatesStep : Type 0
 WellTypedStatesStep = (j : Job) (s : State) → Checked j.parts → WellTyped j.parts s → s.ended ≡ None → (t : State) × Step j s t
+
+-- in a well-typed state the parameters of the active transaction suffice for all that its next block evaluates, also for the procedures that its operands call
+abbrev pub ParametersSuffice : Type 0
+ParametersSuffice = (p : Parts) (s : State) → Checked p → HasSpelling p → WellTyped p s → MayStep p s
+
+-- and the interval of a GENERATE asks for no parameter at all
+abbrev pub IntervalsAskForNothing : Type 0
+IntervalsAskForNothing = (p : Parts) (b : ℕ) (g : Generate) (env : Environment) → Checked p → HasSpelling p → block_at p.blocks b ≡ Some (blocks.Generate g) → MayDraw p env g.interval
 
 -- a state that a job of a checked object reaches is well-typed
 abbrev pub ReachedStatesAreWellTyped : Type 0

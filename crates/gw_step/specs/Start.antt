@@ -9,13 +9,13 @@ use Rattle.gw_entities.specs.Contents.{empty}
 use Rattle.gw_entities.specs.Facility.{idle}
 use Rattle.gw_object.specs.Entities.{capacity_of}
 use Rattle.gw_entities.specs.Storage.{vacant}
-use Rattle.gw_entities.specs.Table.{switches_of, savevalues_of}
+use Rattle.gw_entities.specs.Table.{switches_of, savevalues_of, tables_of}
 use Rattle.gw_step.specs.Outcome.{Outcome, Gives, EndsBy, StopsBy, ◌>>=◌}
 use Rattle.gw_step.specs.State.{EntityStates, State, with_streams}
 use Rattle.gw_step.specs.Times.{environment_of_next, drawn_moment}
 use Rattle.gw_step.specs.Changes.{arrives}
 
--- every facility is idle, every storage and queue is empty, and logic switches and savevalues are as the object gives them
+-- every facility is idle, every storage and queue is empty, nothing was entered into a table, and logic switches and savevalues are as the object gives them
 abbrev pub untouched : List Entity → EntityStates
 untouched entities =
     record {
@@ -24,6 +24,7 @@ untouched entities =
       queues = map (λ _. empty) entities;
       switches = switches_of entities;
       savevalues = savevalues_of entities;
+      tables = tables_of entities;
     }
 
 -- nothing is scheduled: an object, this termination count, these streams
@@ -44,19 +45,19 @@ nothing parts count streams =
     }
 
 -- when the first arrival of a GENERATE block comes, and the streams then: at the time that the block gives, which draws nothing, else at a drawn moment
-abbrev pub first_moment : Generate → State → Option ℤ → Outcome (ℤ × List ℕ)
-first_moment g s (Some time) = Gives (time, s.streams)
-first_moment g s None = drawn_moment (environment_of_next g.priority s) g.interval s.clock s.streams
+abbrev pub first_moment : Parts → Generate → State → Option ℤ → Outcome (ℤ × List ℕ)
+first_moment p g s (Some time) = Gives (time, s.streams)
+first_moment p g s None = drawn_moment p (environment_of_next g.priority s) g.interval s.clock s.streams
 
 -- the first arrival of a block, b, if it is a GENERATE
-abbrev pub first_arrival : ℕ → Block → State → Outcome State
-first_arrival b (blocks.Generate g) s = first_moment g s g.first >>= λ d. Gives (arrives b g.priority d.0 (with_streams d.1 s))
-first_arrival b block s = Gives s
+abbrev pub first_arrival : Parts → ℕ → Block → State → Outcome State
+first_arrival p b (blocks.Generate g) s = first_moment p g s g.first >>= λ d. Gives (arrives b g.priority d.0 (with_streams d.1 s))
+first_arrival p b block s = Gives s
 
 -- one for each GENERATE, in ascending order; the first of these blocks has the number b
-unfoldable pub first_arrivals : ℕ → List Block → State → Outcome State
-first_arrivals b [] s = Gives s
-first_arrivals b (block ∷ rest) s = first_arrival b block s >>= first_arrivals (b + 1) rest
+unfoldable pub first_arrivals : Parts → ℕ → List Block → State → Outcome State
+first_arrivals p b [] s = Gives s
+first_arrivals p b (block ∷ rest) s = first_arrival p b block s >>= first_arrivals p (b + 1) rest
 
 -- a named end is the job's end, and then nothing is scheduled
 abbrev pub started : State → Outcome State → State
@@ -66,4 +67,4 @@ started s (StopsBy stop) = s
 
 -- the start state of an object, this termination count and these streams
 abbrev pub start : Parts → ℕ → List ℕ → State
-start parts count streams = started (nothing parts count streams) (first_arrivals 1 parts.blocks (nothing parts count streams))
+start parts count streams = started (nothing parts count streams) (first_arrivals parts 1 parts.blocks (nothing parts count streams))

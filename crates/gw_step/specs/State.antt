@@ -7,6 +7,7 @@ use Rattle.gw_transactions.specs.Transactions.{LiveTransaction}
 use Rattle.gw_entities.specs.declared.facilities.Facility.{Facility}
 use Rattle.gw_entities.specs.declared.storages.Storage.{Storage}
 use Rattle.gw_entities.specs.declared.contents.Contents.{Contents}
+use Rattle.gw_entities.specs.Tabulation.{Tabulation}
 use Rattle.gw_step.specs.declared.ends.End.{End}
 
 -- a member of the future events chain: a transaction's number, and the clock time that it waits for
@@ -34,6 +35,8 @@ pub record EntityStates : Type 0 where
   pub switches : List Bool
   -- in each savevalue, its value
   pub savevalues : List ℤ
+  -- what was entered into each table
+  pub tables : List Tabulation
 
 -- the state of a job; a table has an entry at each number, that of a block or of a transaction, from 1
 pub record State : Type 0 where

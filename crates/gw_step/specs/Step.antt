@@ -1,6 +1,6 @@
 -- One step of a job.
 use Rattle.std.specs.Prelude.{ℕ, ◌+◌, List, [], ◌∷◌, Option, Some, None, ◌==◌, ◌&&◌, is_none, if◌then◌else◌}
-use Rattle.gw_blocks.specs.declared.parts.Block.{Block}
+use Rattle.gw_object.specs.declared.parts.Parts.{Parts}
 use Rattle.gw_kinds.specs.Kinds.{block_at}
 use Rattle.gw_transactions.specs.Transactions.{attributes_at}
 use Rattle.gw_entities.specs.declared.stop.Stop.TheVariants.{NoBlock}
@@ -23,9 +23,9 @@ next_active [] s = next_event s.lists.future_events s
 next_active (n ∷ ns) s = Gives (record s { lists = record s.lists { active = Some n; current_events = ns } })
 
 -- what a step does, but for the count of steps: the active transaction meets its next block, or another becomes active
-abbrev pub scan : List Block → Option ℕ → State → Outcome State
-scan bs None s = next_active s.lists.current_events s
-scan bs (Some n) s = or_stop (attributes_at n s.transactions) NoBlock >>= λ t. or_stop (block_at bs t.next) NoBlock >>= λ block. act bs n t block s
+abbrev pub scan : Parts → Option ℕ → State → Outcome State
+scan p None s = next_active s.lists.current_events s
+scan p (Some n) s = or_stop (attributes_at n s.transactions) NoBlock >>= λ t. or_stop (block_at p.blocks t.next) NoBlock >>= λ block. act p n t block s
 
 -- THE STEP
 
@@ -40,5 +40,5 @@ stepped budget s (EndsBy end) = Some (record s { steps = s.steps + 1; ended = So
 stepped budget s (StopsBy stop) = None
 
 -- the one state after a running state; there is none after a final state, nor where it meets an error stop
-unfoldable pub step : List Block → ℕ → State → Option State
-step bs budget s = if is_none s.ended then stepped budget s (scan bs s.lists.active s) else None
+unfoldable pub step : Parts → ℕ → State → Option State
+step p budget s = if is_none s.ended then stepped budget s (scan p s.lists.active s) else None

@@ -3,6 +3,7 @@ use Rattle.std.specs.Prelude.{ℕ, ℤ, pos, List, length, Option, None, if◌th
 use Rattle.std.specs.Option.{option_map_or}
 use Rattle.gw_blocks.specs.declared.parts.Numbered.{Numbered}
 use Rattle.gw_blocks.specs.declared.parts.Spread.{Spread}
+use Rattle.gw_object.specs.declared.parts.Parts.{Parts}
 use Rattle.gw_num.specs.Arithmetic.{sum_of}
 use Rattle.gw_num.specs.Table.{at}
 use Rattle.gw_transactions.specs.declared.Transaction.{Transaction}
@@ -53,5 +54,5 @@ abbrev pub moment_after : ℤ → ℤ → Outcome ℤ
 moment_after clock time = if int_lt time (pos 0) then EndsBy NegativeTime else evaluated (answered (sum_of clock time))
 
 -- the moment that lies a drawn time after the clock, and the streams then
-abbrev pub drawn_moment : Environment → Spread → ℤ → List ℕ → Outcome (ℤ × List ℕ)
-drawn_moment env spread clock streams = evaluated (drawn_time env spread streams) >>= λ d. moment_after clock d.0 >>= λ moment. Gives (moment, d.1)
+abbrev pub drawn_moment : Parts → Environment → Spread → ℤ → List ℕ → Outcome (ℤ × List ℕ)
+drawn_moment p env spread clock streams = evaluated (drawn_time p env spread streams) >>= λ d. moment_after clock d.0 >>= λ moment. Gives (moment, d.1)

@@ -6,7 +6,7 @@ use Rattle.gw_object.specs.declared.parts.Kind.TheVariants as kinds
 use Rattle.gw_blocks.specs.declared.parts.Block.{Block}
 use Rattle.gw_blocks.specs.declared.parts.Block.TheVariants as blocks
 use Rattle.gw_object.specs.declared.parts.Parts.{Parts}
-use Rattle.gw_kinds.specs.Kinds.{kind_at}
+use Rattle.gw_kinds.specs.Evaluated.{kind_at}
 use Rattle.gw_flow.specs.Entries.{lists}
 use Rattle.gw_flow.specs.Rows.{ParamKind, Num, Ret, Row, kind_of, owns, units_of}
 use Rattle.gw_flow.specs.Blocks.{capacity_at}

@@ -6,8 +6,8 @@
 pub enum End {
     /// The termination count is 0 or less after a TERMINATE, whose effect stands.
     Done,
-    /// A value can't be held by an i64: a drawn time, its least value or its range, or the clock and a time. Also where half the
-    /// range of a time is below 0, and where a TERMINATE would raise the termination count.
+    /// A value can't be held by an i64: a drawn time, its least value or its range, the clock and a time, or the sum of a table.
+    /// Also where half the range of a time is below 0, and where a TERMINATE would raise the termination count.
     Number,
     /// A division by 0.
     ZeroDivisor,

@@ -15,6 +15,8 @@ ghost use Rattle.gw_step.specs.Safety.{
   StartIsWellTyped,
   StepsKeepTypes,
   WellTypedStatesStep,
+  ParametersSuffice,
+  IntervalsAskForNothing,
   ReachedStatesAreWellTyped,
   NoJobIsStuck,
   AllJobsEnd,
@@ -57,6 +59,13 @@ pub fn typed_states_never_get_stuck()
     ensures start { StartIsWellTyped }
     ensures kept { StepsKeepTypes }
     ensures steps { WellTypedStatesStep }
+{}
+
+/// In a well-typed state the active transaction has all parameters that its next block asks for, also through procedures,
+/// variables and functions; and the interval of a GENERATE asks for none (ours: docs/machine.md, "Well-typed states").
+pub fn parameters_suffice()
+    ensures active { ParametersSuffice }
+    ensures arrivals { IntervalsAskForNothing }
 {}
 
 /// No job of a checked object meets an error stop: each state that it reaches is well-typed and isn't stuck, no storage

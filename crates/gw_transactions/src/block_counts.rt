@@ -44,6 +44,13 @@ impl BlockCounts {
         self.counts.get(block as usize).copied().unwrap_or(0)
     }
 
+    /// How many there are at each block, by its number.
+    pub fn as_slice(&self) -> &[usize]
+        ensures { result.now ≡ self.now }
+    {
+        self.counts.as_slice()
+    }
+
     /// One more is at a block.
     pub fn add(&mut self, block: u16)
         requires block { block ≤ 4096 }

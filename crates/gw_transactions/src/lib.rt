@@ -1,8 +1,8 @@
 //! The transactions of a job: each is kept under a number of its own, and contracts see tables by number.
 #![tactic(auto)]
 
-ghost use Rattle.std.specs.Prelude.{◌≡◌, ◌≤◌, ◌<◌, ◌+◌, ◌^◌, ◌∷◌, [], length, IfOk, OnOk, OnErr};
-ghost use Rattle.gw_num.specs.Table.{put};
+ghost use Rattle.std.specs.Prelude.{◌≡◌, ◌≤◌, ℕ, None, ◌<◌, ◌+◌, ◌^◌, ◌∷◌, [], length, IfOk, OnOk, OnErr};
+ghost use Rattle.gw_num.specs.Table.{at, put};
 
 mod block_counts;
 mod parameters;
@@ -132,6 +132,14 @@ impl Transactions {
         self.here.get(block)
     }
 
+    /// How many transactions have each block as their current one, by the blocks' numbers, and at 0 how many were in none
+    /// yet.
+    pub fn here_by_block(&self) -> &[usize]
+        ensures { (block : ℕ) → at 0 result.now block ≡ here_count block self.now.txs }
+    {
+        self.here.as_slice()
+    }
+
     /// Puts a transaction under the next number, in room that `reserve` made; no parameter of it is set. Its current block
     /// has a number from 0 to 4,096.
     pub fn insert(&mut self, transaction: Transaction) -> Tx
@@ -197,6 +205,15 @@ impl Transactions {
         ensures { result ≡ parameter_at tx.number number self.now.txs }
     {
         self.slots[tx.place].1.parameters.get(number)
+    }
+
+    /// The parameters of the transaction of a handle by their numbers, as far as they are set; those that aren't listed
+    /// aren't set.
+    pub fn parameters(&self, tx: Tx) -> &[Option<i64>]
+        requires { Holds self.now tx }
+        ensures { (number : ℕ) → at None result.now number ≡ parameter_at tx.number number self.now.txs }
+    {
+        self.slots[tx.place].1.parameters.as_slice()
     }
 
     /// Sets a parameter, by its number from 1 to 64, of the transaction of a handle.

@@ -1,6 +1,6 @@
 //! The parameters of a transaction.
 
-ghost use Rattle.std.specs.Prelude.{◌≡◌, ◌≤◌, Some, None, OnOk, OnErr, IfOk};
+ghost use Rattle.std.specs.Prelude.{◌≡◌, ◌≤◌, ℕ, Some, None, OnOk, OnErr, IfOk};
 ghost use Rattle.gw_num.specs.Table.{at, put};
 ghost use Rattle.gw_transactions.specs.Parameters.{no_parameters};
 
@@ -45,6 +45,13 @@ impl Parameters {
         ensures { result ≡ at None self.now number }
     {
         self.values.get(number as usize).copied().flatten()
+    }
+
+    /// The parameters by their numbers, as far as they are set; there are none where none was set.
+    pub fn as_slice(&self) -> &[Option<i64>]
+        ensures { (number : ℕ) → at None result.now number ≡ at None self.now number }
+    {
+        self.values.as_slice()
     }
 
     /// Sets a parameter, by its number from 1 to 64.

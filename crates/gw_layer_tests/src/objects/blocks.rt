@@ -69,7 +69,7 @@ fn each_fault_of_a_block_is_named_by_its_code_and_place(rt: HostRuntime) -> Resu
     const FAULTS: &[(usize, usize, &'static [u8], u16, u32)] = &[
         (18, 1, &[0x00], TAG, 18),
         (18, 1, &[0x12], TAG, 18),
-        (28, 1, &[0x05], TAG, 28),
+        (28, 1, &[0x06], TAG, 28),
         (56, 1, &[0x13], TAG, 56),
         // A SEIZE that is called ENTER takes four bytes more: 05 and ff ff of the RELEASE, and the 06.
         (56, 1, &[0x06], TAG, 63),

@@ -113,7 +113,7 @@ fn each_fault_of_a_condition_is_named_by_its_code_and_place(rt: HostRuntime) -> 
         // TEST: how it compares, its two values and its flag.
         (19, 1, &[0x06], TAG, 19),
         (19, 1, &[0xff], TAG, 19),
-        (20, 1, &[0x05], TAG, 20),
+        (20, 1, &[0x06], TAG, 20),
         (21, 1, &[0x06], TAG, 21),
         (22, 1, &[0x06], TAG, 22),
         (23, 1, &[0x00], LIMIT, 23),

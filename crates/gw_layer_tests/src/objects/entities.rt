@@ -38,13 +38,24 @@ fn three_entities_are_read_built_and_written(rt: HostRuntime) -> Result<(), Fail
     Ok(())
 }
 
+/// A storage of this capacity, or without one a queue.
+fn kind_of(capacity: Option<u32>) -> Kind {
+    match capacity {
+        Some(capacity) => Kind::Storage(capacity),
+        None => Kind::Queue,
+    }
+}
+
 /// The place, from 0, of the first of these entities, by kind and name, that is the storage S of capacity 3 where it is
 /// not said to be, or the other way round.
-fn wrong_equality(alloc: Global, cases: &[(Kind, &[u8], bool)]) -> Result<Option<usize>, Memory> {
+fn wrong_equality(
+    alloc: Global,
+    cases: &[(Option<u32>, &[u8], bool)],
+) -> Result<Option<usize>, Memory> {
     let storage = entity(alloc, Kind::Storage(3), b"S")?;
     for i in 0..cases.len() {
-        let (kind, name, is_same) = cases[i];
-        if (storage == entity(alloc, kind, name)?) != is_same {
+        let (capacity, name, is_same) = cases[i];
+        if (storage == entity(alloc, kind_of(capacity), name)?) != is_same {
             return Ok(Some(i));
         }
     }
@@ -53,12 +64,12 @@ fn wrong_equality(alloc: Global, cases: &[(Kind, &[u8], bool)]) -> Result<Option
 
 #[test]
 fn entities_of_other_names_kinds_or_capacities_differ(rt: HostRuntime) -> Result<(), Fail> {
-    const CASES: &[(Kind, &'static [u8], bool)] = &[
-        (Kind::Storage(3), b"S", true),
-        (Kind::Storage(4), b"S", false),
-        (Kind::Queue, b"S", false),
-        (Kind::Storage(3), b"T", false),
-        (Kind::Storage(3), b"S1", false),
+    const CASES: &[(Option<u32>, &'static [u8], bool)] = &[
+        (Some(3), b"S", true),
+        (Some(4), b"S", false),
+        (None, b"S", false),
+        (Some(3), b"T", false),
+        (Some(3), b"S1", false),
     ];
     assert!(rt; wrong_equality(rt.alloc(), CASES)?.is_none());
     Ok(())
@@ -73,7 +84,8 @@ fn each_cut_of_entities_is_truncated_at_the_cut_field(rt: HostRuntime) {
 fn each_fault_of_an_entity_is_named_by_its_code_and_place(rt: HostRuntime) -> Result<(), Fail> {
     const FAULTS: &[(usize, usize, &'static [u8], u16, u32)] = &[
         (16, 1, &[0x00], TAG, 16),
-        (16, 1, &[0x06], TAG, 16),
+        (16, 1, &[0x07], TAG, 16),
+        (16, 1, &[0x0b], TAG, 16),
         (17, 1, &[0x00], LIMIT, 17),
         (17, 1, &[0x21], LIMIT, 17),
         (17, 1, &[0xff, 0x00, 0x00, 0x00, 0x00], LIMIT, 17),
@@ -121,20 +133,20 @@ fn each_fault_of_an_entity_is_named_by_its_code_and_place(rt: HostRuntime) -> Re
 }
 
 /// The code of an entity that stands behind the three, when its object is built.
-fn added_code(alloc: Global, kind: Kind, name: &[u8]) -> Result<Option<u16>, Memory> {
+fn added_code(alloc: Global, capacity: Option<u32>, name: &[u8]) -> Result<Option<u16>, Memory> {
     let mut entities = three_named(alloc)?;
-    entities.push(entity(alloc, kind, name)?)?;
+    entities.push(entity(alloc, kind_of(capacity), name)?)?;
     Ok(build_code(parts_of(alloc, entities)?))
 }
 
 /// The number, from 0, of the first of these entities whose code is another.
 fn wrong_code(
     alloc: Global,
-    entities: &[(Kind, &[u8], Option<u16>)],
+    entities: &[(Option<u32>, &[u8], Option<u16>)],
 ) -> Result<Option<usize>, Memory> {
     for i in 0..entities.len() {
-        let (kind, name, code) = entities[i];
-        if added_code(alloc, kind, name)? != code {
+        let (capacity, name, code) = entities[i];
+        if added_code(alloc, capacity, name)? != code {
             return Ok(Some(i));
         }
     }
@@ -143,19 +155,19 @@ fn wrong_code(
 
 #[test]
 fn entities_outside_the_rules_are_not_built(rt: HostRuntime) -> Result<(), Fail> {
-    const CASES: &[(Kind, &'static [u8], Option<u16>)] = &[
-        (Kind::Storage(1), b"DESK_1", None),
-        (Kind::Storage(2_147_483_647), &[b'Z'; 32], None),
-        (Kind::Queue, b"desk", Some(TAG)),
-        (Kind::Queue, b"", Some(LIMIT)),
-        (Kind::Queue, &[b'Z'; 33], Some(LIMIT)),
-        (Kind::Storage(0), b"T", Some(LIMIT)),
-        (Kind::Storage(2_147_483_648), b"T", Some(LIMIT)),
-        (Kind::Queue, b"DESK_1", Some(NOT_CANONICAL)),
-        (Kind::Storage(4), b"S", Some(NOT_CANONICAL)),
+    const CASES: &[(Option<u32>, &'static [u8], Option<u16>)] = &[
+        (Some(1), b"DESK_1", None),
+        (Some(2_147_483_647), &[b'Z'; 32], None),
+        (None, b"desk", Some(TAG)),
+        (None, b"", Some(LIMIT)),
+        (None, &[b'Z'; 33], Some(LIMIT)),
+        (Some(0), b"T", Some(LIMIT)),
+        (Some(2_147_483_648), b"T", Some(LIMIT)),
+        (None, b"DESK_1", Some(NOT_CANONICAL)),
+        (Some(4), b"S", Some(NOT_CANONICAL)),
         // A capacity of 0, with a letter that isn't listed, and with a name that is taken.
-        (Kind::Storage(0), b"s", Some(TAG)),
-        (Kind::Storage(0), b"S", Some(LIMIT)),
+        (Some(0), b"s", Some(TAG)),
+        (Some(0), b"S", Some(LIMIT)),
     ];
     assert!(rt; wrong_code(rt.alloc(), CASES)?.is_none());
     Ok(())

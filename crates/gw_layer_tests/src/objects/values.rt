@@ -42,7 +42,7 @@ fn each_cut_of_settings_is_truncated_at_the_cut_field(rt: HostRuntime) {
 #[test]
 fn each_fault_of_a_setting_is_named_by_its_code_and_place(rt: HostRuntime) -> Result<(), Fail> {
     const FAULTS: &[(usize, usize, &'static [u8], u16, u32)] = &[
-        (16, 1, &[0x06], TAG, 16),
+        (16, 1, &[0x07], TAG, 16),
         (19, 1, &[0x02], TAG, 19),
         (23, 1, &[0xff], TAG, 23),
         (24, 1, &[0x07], TAG, 24),
@@ -160,7 +160,7 @@ fn each_fault_of_a_change_is_named_by_its_code_and_place(rt: HostRuntime) -> Res
         (19, 1, &[0x00], LIMIT, 19),
         (19, 1, &[0x41], LIMIT, 19),
         (20, 1, &[0x03], TAG, 20),
-        (21, 1, &[0x05], TAG, 21),
+        (21, 1, &[0x06], TAG, 21),
         (34, 1, &[0x00], LIMIT, 34),
         (39, 1, &[0x06], TAG, 39),
         // LOOP: its parameter.
@@ -278,14 +278,14 @@ fn wrong_refusal(alloc: Global, cases: &[(&[u8], u16, u32)]) -> Result<Option<us
 #[test]
 fn each_fault_of_an_operand_is_named_by_its_code_and_place(rt: HostRuntime) -> Result<(), Fail> {
     const CASES: &[(&'static [u8], u16, u32)] = &[
-        (&[0x05, 0x00, 0x00], TAG, 19),
-        (&[0x06, 0x00], TAG, 19),
+        (&[0x06, 0x00, 0x00], TAG, 19),
+        (&[0xff, 0x00], TAG, 19),
         (&[0x01, 0x00], LIMIT, 20),
         (&[0x01, 0x41], LIMIT, 20),
         (&[0x02, 0x06], TAG, 20),
         (&[0x03, 0x06, 0x00, 0x00], TAG, 20),
-        (&[0x03, 0x09, 0x00, 0x00], TAG, 20),
         (&[0x03, 0x0c, 0x00, 0x00], TAG, 20),
+        (&[0x03, 0xff, 0x00, 0x00], TAG, 20),
         (&[0x04, 0x00], LIMIT, 20),
         (&[0x04, 0x11], LIMIT, 20),
         // A constant without its number takes six bytes that stand behind it, of the eight that it wants.

@@ -7,5 +7,5 @@ use Rattle.gw_flow.proofs.flow.check_flow.Goals as goal
 pub own_rows-requires-clause-next : goal.own_rows-requires-clause-next
 own_rows-requires-clause-next c =
     let o = c.args.object.now in
-    let calls : All (ReturnsHold o) o.returns = ((kinds_pass_at_each_place o).0 c.requires.kinds).1 in
+    let calls : All (ReturnsHold o) o.returns = ((kinds_pass_at_each_place o).0 c.requires.kinds).2 in
     rw (c.as_slice.ensures, c.parts-parts.ensures.value) (calls_have_next o c.parts-parts.ensures.limits.limits.blocks calls)

@@ -6,4 +6,4 @@ use Rattle.gw_flow.proofs.rules.first_unfit.Given as goal
 
 -- the least so far is that of the operands so far
 abbrev pub invariant-loop-operand : goal.invariant-loop-operand
-invariant-loop-operand g l = l.least ≡ find (is_unfit (g.S.Lookups.known l.state)) (parameters_read (take l.operand-index l.operands))
+invariant-loop-operand g l = l.least ≡ find (is_unfit (g.S.Lookups.known l.state)) (parameters_read l.parts (take l.operand-index l.operands))

@@ -66,8 +66,9 @@ loop-called-smaller t c = called_less c.args.parts.now (environment_of c.args.en
 pub loop-called-preserved : goal.loop-called-preserved
 loop-called-preserved t c =
     let fits : SFits w64 c.in_ok-value-in-Called.value = search rules in
+    let made : SFits w64 c.finished.result = search rules in
     let came = subst (λ r. Derives c.args.parts.now (environment_of c.args.env.now) c.in-Called.called (begun c.in-Called.locals.items) c.activate.ensures.0 r) c.in_ok-value-in-Called.was c.activate.ensures.1 in
-    called_gave c.args.parts.now (environment_of c.args.env.now) c.args.number c.as_slice-code.result.now c.args.locals.items (frame_of c.loop-called.activation) c.requires.code c.loop-called.invariant c.in-Called.called c.in-Called.locals (frame_of c.step.new.self) c.in-Called.ensures c.activate.ensures.0 c.in_ok-value-in-Called.value (frame_of c.push.new.self) came (rw to_z-of_z at c.push.ensures)
+    called_gave c.args.parts.now (environment_of c.args.env.now) c.args.number c.as_slice-code.result.now c.args.locals.items (frame_of c.loop-called.activation) c.requires.code c.loop-called.invariant c.in-Called.called c.in-Called.locals (frame_of c.step.new.self) c.in-Called.ensures c.activate.ensures.0 c.in_ok-value-in-Called.value c.finished.result (frame_of c.push.new.self) came (rw to_z-of_z at c.finished.ensures) (rw to_z-of_z at c.push.ensures)
 
 pub returns-in-Returned : goal.returns-in-Returned
 returns-in-Returned t c =

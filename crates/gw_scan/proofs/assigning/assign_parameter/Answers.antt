@@ -10,12 +10,12 @@ use Rattle.gw_step.specs.State.{with_streams}
 use Rattle.gw_scan.proofs.BlocksWithValue.{act-assign}
 use Rattle.gw_scan.proofs.assigning.assign_parameter.Goals as goal
 
-value_is : (c : goal.After-set_streams) → operand_value (environment_of c.args.tx.number c.args.transaction (state_of c.args.machine.now)) c.args.assign.value c.args.machine.now.streams ≡ Value (c.in-Some.value, c.value.new.streams)
+value_is : (c : goal.After-set_streams) → operand_value c.args.verified.now (environment_of c.args.tx.number c.args.transaction (state_of c.args.machine.now)) c.args.assign.value c.args.machine.now.streams ≡ Value (c.in-Ok.value, c.value.new.streams)
 value_is c =
-    subst (λ (x : Subject). operand_value (environment_for x (state_of c.args.machine.now)) c.args.assign.value c.args.machine.now.streams ≡ Value (c.in-Some.value, c.value.new.streams)) c.active_subject-subject.ensures c.in-Some.ensures
+    subst (λ (x : Subject). operand_value c.args.verified.now (environment_for x (state_of c.args.machine.now)) c.args.assign.value c.args.machine.now.streams ≡ Value (c.in-Ok.value, c.value.new.streams)) c.active_subject-subject.ensures c.in-Ok.ensures
 
-made : (c : goal.After-set_streams) → then_placed c.args.tx.number (assign c.args.blocks.now c.args.tx.number c.args.transaction c.args.assign c.in-Some.value (with_streams c.value.new.streams (state_of c.args.machine.now))) ≡ Gives (state_of c.set_streams.new.self)
+made : (c : goal.After-set_streams) → then_placed c.args.tx.number (assign c.args.verified.now.blocks c.args.tx.number c.args.transaction c.args.assign c.in-Ok.value (with_streams c.value.new.streams (state_of c.args.machine.now))) ≡ Gives (state_of c.set_streams.new.self)
 made c = search rules
 
 pub returns-clause-made : goal.returns-clause-made
-returns-clause-made c = act-assign c.args.blocks.now c.args.tx.number c.args.transaction (state_of c.args.machine.now) c.args.assign c.in-Some.value c.value.new.streams (value_is c) ∙ made c
+returns-clause-made c = act-assign c.args.verified.now c.args.tx.number c.args.transaction (state_of c.args.machine.now) c.args.assign c.in-Ok.value c.value.new.streams (value_is c) ∙ made c

@@ -1,9 +1,11 @@
-use Rattle.std.proofs.Common.{◌≡◌, ◌∙◌, None, length, ap, arith}
+use Rattle.std.proofs.Common.{◌≡◌, ◌∙◌, None, Some, length, ap, arith}
 use Rattle.std.specs.Prelude.{sum}
 use Rattle.gw_num.proofs.Tables.{length-put_next}
 use Rattle.gw_step.specs.State.{State, raised}
 use Rattle.gw_machine.specs.View.{state_of}
+use Rattle.gw_step.specs.Times.{environment_of_next}
 use Rattle.gw_step.proofs.Within.{sum-raised, length-raised}
+use Rattle.gw_step.proofs.Suffices.{intervals_ask_for_nothing}
 use Rattle.gw_machine.proofs.machine.Machine.first_arrival.Goals as goal
 
 scheduled : (c : goal.After-arrive) → c.arrive.new.self.scheduled.items ≡ raised c.args.number c.args.self.now.scheduled.items
@@ -23,3 +25,8 @@ returns-in_ok-reserve_arrival-in-Ok-clause-made_by c =
     let before = ap (λ (s : State). length s.transactions) c.set_streams.ensures.state ∙ ap (λ (s : State). length s.transactions) c.in_ok-reserve_arrival-in-Ok.ensures.state in
     let after = ap (λ (s : State). length s.transactions) c.arrive.ensures.state ∙ length-put_next None (state_of c.set_streams.new.self).transactions _ in
     omega (arith, before, after)
+
+pub first_moment-requires-clause-interval : goal.first_moment-requires-clause-interval
+first_moment-requires-clause-interval c =
+    let there = c.requires.there ∙ ap Some c.in-Generate.is in
+    intervals_ask_for_nothing c.args.verified.now c.args.number c.in-Generate.g (environment_of_next c.in-Generate.g.priority (state_of c.args.self.now)) c.requires.checked c.requires.spelled there

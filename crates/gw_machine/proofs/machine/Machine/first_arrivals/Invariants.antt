@@ -2,18 +2,19 @@ use Rattle.std.proofs.Common.{◌≡◌, ◌+◌, ◌≤◌, drop, length}
 use Rattle.std.specs.Prelude.{sum}
 use Rattle.gw_step.specs.Start.{first_arrivals}
 use Rattle.gw_machine.specs.View.{state_of}
-use Rattle.gw_machine.specs.Coherence.{Linked}
+use Rattle.gw_machine.specs.Coherence.{Linked, IsOf}
 use Rattle.gw_machine.specs.Evaluating.{IsReadable}
 use Rattle.gw_machine.proofs.machine.Machine.first_arrivals.Given as goal
 
 -- the arrivals of the blocks that are left, after those so far, are the arrivals of all
 abbrev pub invariant-loop-i : goal.invariant-loop-i
 invariant-loop-i l = record {
-  made : first_arrivals (l.i + 1) (drop l.i l.blocks) (state_of l.self) ≡ first_arrivals 1 l.blocks (state_of l.fn.self);
+  blocks : l.blocks ≡ l.verified.blocks;
+  made : first_arrivals l.verified (l.i + 1) (drop l.i l.verified.blocks) (state_of l.self) ≡ first_arrivals l.verified 1 l.verified.blocks (state_of l.fn.self);
   linked : Linked l.self;
   readable : IsReadable l.self;
-  entities : l.self.facilities ≡ l.fn.self.facilities;
-  table : length l.self.scheduled.items ≡ length l.blocks + 1;
+  own : IsOf l.verified l.self;
+  table : length l.self.scheduled.items ≡ length l.verified.blocks + 1;
   txs : length l.self.transactions.txs ≤ length l.fn.self.transactions.txs + l.i;
   scheduled : sum l.self.scheduled.items ≤ sum l.fn.self.scheduled.items + l.i;
 }

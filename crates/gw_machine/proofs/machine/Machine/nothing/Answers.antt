@@ -21,6 +21,7 @@ made c = record {
   queues = c.in_ok-tables.tables.queues;
   switches = c.in_ok-tables.tables.switches;
   savevalues = c.in_ok-tables.tables.savevalues;
+  tables = c.in_ok-tables.tables.tables;
   entries = c.in_ok-entries.entries;
   ended = None;
 }
@@ -45,6 +46,7 @@ begins c = record {
   queues = c.in_ok-tables.ensures.queues;
   switches = c.in_ok-tables.ensures.switches;
   savevalues = c.in_ok-tables.ensures.savevalues;
+  tables = c.in_ok-tables.ensures.tables;
   entries = search rules;
   ended = refl;
 }

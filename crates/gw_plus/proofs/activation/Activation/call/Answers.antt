@@ -15,7 +15,7 @@ enough : (c : After-as_slice-2) → c.index-as_slice-called.result.arguments ≤
 enough c = has_arguments c.args.parts.now c.args.called (frame_of c.args.self.now) c.index-as_slice-called.result (there c) c.requires.going
 
 fits : (c : After-as_slice-2) → ProcedureFits c.index-as_slice-called.result
-fits c = (c.requires.code c.args.called c.index-as_slice-called.result (there c)).0
+fits c = (c.requires.code.procedures c.args.called c.index-as_slice-called.result (there c)).0
 
 -- the slice from the first argument on
 arguments : (c : After-as_slice-2) → let base = c.len.result - c.index-as_slice-called.result.arguments in take (length c.as_slice-2.result.now - base) (drop base c.as_slice-2.result.now) ≡ drop (length c.args.self.now.stack.items - c.index-as_slice-called.result.arguments) c.args.self.now.stack.items

@@ -10,4 +10,4 @@ returns c =
     let value = get_or c.deref.result.now c.args.local (pos 0) in
     let fits : SFits w64 value = search rules in
     let is = gets_is c.args.local (frame_of c.args.self.now) value c.requires.going (ap (λ xs. get_or xs c.args.local (pos 0)) c.deref.ensures.0) in
-    λ p. rw is (rw to_z-of_z at (c.push_and_go.ensures p))
+    λ p i. rw is (rw to_z-of_z at (c.push_and_go.ensures p i))

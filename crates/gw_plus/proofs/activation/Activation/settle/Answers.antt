@@ -6,4 +6,4 @@ use Rattle.gw_plus.proofs.activation.Activation.settle.Goals as goal
 pub returns-in-Ok : goal.returns-in-Ok
 returns-in-Ok c =
     let fits : SFits w64 c.in-Ok.value = search rules in
-    λ p. rw c.in-Ok.is (rw to_z-of_z at (c.push_and_go.ensures p))
+    λ p i. rw c.in-Ok.is (rw to_z-of_z at (c.push_and_go.ensures p i))

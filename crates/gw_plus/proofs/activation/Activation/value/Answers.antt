@@ -1,9 +1,41 @@
-use Rattle.std.proofs.Common.{rules, w64}
+use Rattle.std.proofs.Common.{rules, ◌≡◌, Some, sym, ap, ◌∙◌, subst, w64}
 use Rattle.std.proofs.lemmas.Int.{to_z-of_z}
 use mir.Val.{SFits}
+use Rattle.gw_blocks.specs.declared.parts.Operand.{Operand}
+use Rattle.gw_code.specs.declared.parts.Instruction.TheVariants.{Value}
+use Rattle.gw_kinds.specs.Evaluated.{source_of, as_operand}
+use Rattle.gw_code_flow.specs.Environment.{kept_value}
+use Rattle.gw_code_flow.specs.Made.{made}
+use Rattle.gw_code_flow.specs.Meaning.{on, pushed}
+use Rattle.gw_code_flow.proofs.Reading.{source_is_good}
+use Rattle.gw_plus.specs.Activation.{frame_of, Did}
+use Rattle.gw_plus.specs.Reading.{environment_of, MayReadKept}
+use Rattle.gw_plus.proofs.Reading.{may_read_kept, kept_read}
 use Rattle.gw_plus.proofs.activation.Activation.value.Goals as goal
+use Rattle.gw_plus.proofs.activation.Activation.value.Goals.{After-source_of}
 
-pub returns : goal.returns
-returns c =
-    let fits : SFits w64 c.sna.result = search rules in
-    λ p. rw c.sna.ensures (rw to_z-of_z at (c.push_and_go.ensures p))
+source_is : (c : After-source_of) → c.source_of.result ≡ source_of c.args.parts.now.entities (as_operand c.args.sna)
+source_is c = rw (c.as_slice-entities.ensures, c.as_operand-operand.ensures) at c.source_of.ensures
+
+pub kept-requires : goal.kept-requires
+kept-requires c =
+    let parts = c.args.parts.now in
+    let operand = as_operand c.args.sna in
+    let good = source_is_good parts c.requires.holds.0 c.args.sna c.requires.code.entities c.requires.holds.1 in
+    let is = source_is (goal.at.kept-requires c).After-source_of in
+    subst (MayReadKept c.args.env.now) (sym is)
+    (may_read_kept parts c.args.env.now c.requires.environment (source_of parts.entities operand) (made parts.entities operand) (on (frame_of c.args.self.now)) good c.requires.going (λ q same. c.in_default.not-Procedure q (is ∙ same)))
+
+pub returns-in_default : goal.returns-in_default
+returns-in_default c =
+    let parts = c.args.parts.now in
+    let env = environment_of c.args.env.now in
+    let operand = as_operand c.args.sna in
+    let next = on (frame_of c.args.self.now) in
+    let value_fits : SFits w64 c.kept.result = search rules in
+    let made_fits : SFits w64 c.made.result = search rules in
+    let kept = subst (λ (o : Operand). kept_value env o ≡ Some c.kept.result) (source_is (goal.at.returns-in_default c).After-source_of) c.kept.ensures in
+    let value : c.made.result ≡ made parts.entities operand c.kept.result = rw (c.as_slice-entities.ensures, c.as_operand-operand.ensures, to_z-of_z) at c.made.ensures in
+    let reads = kept_read env (source_of parts.entities operand) (made parts.entities operand) next c.kept.result kept in
+    subst (λ x. Did parts (Value c.args.sna) x c.push_and_go.result (frame_of c.push_and_go.new.self)) (ap (λ v. pushed v next) value ∙ sym reads)
+    (rw to_z-of_z at (c.push_and_go.ensures parts (Value c.args.sna)))

@@ -10,13 +10,10 @@ use Rattle.gw_scan.proofs.sim.Sim.start.Goals as goal
 is_start : (c : goal.In-Ok) → state_of c.in-Ok.machine ≡ start_of c.args.spec
 is_start c = search rules
 
-object_is : (c : goal.After-streams) → c.object.result.now ≡ c.args.spec.parts
-object_is c = search rules
-
 pub start-requires-clause-fit : goal.start-requires-clause-fit
 start-requires-clause-fit c =
     let fits = c.verified.ensures.fits in
-    subst (λ (p : Parts). BlocksFit (length p.entities) p.blocks) (sym (object_is c)) (blocks_fit c.args.spec.parts fits.checked fits.spelled)
+    subst (λ (p : Parts). BlocksFit (length p.entities) p.blocks) (sym c.verified.ensures.value) (blocks_fit c.args.spec.parts fits.checked fits.spelled)
 
 pub invariant_of-result : goal.invariant_of-result
 invariant_of-result c = record {

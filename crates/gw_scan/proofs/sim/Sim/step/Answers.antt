@@ -1,8 +1,9 @@
-use Rattle.std.proofs.Common.{rules, ◌≡◌, List, None, sym, subst}
-use Rattle.gw_blocks.specs.declared.parts.Block.{Block}
-use Rattle.gw_machine.specs.Coherence.{IsRunning}
-use Rattle.gw_scan.proofs.Running.{running}
+use Rattle.std.proofs.Common.{rules, ◌≡◌, None, sym, subst}
+use Rattle.gw_object.specs.declared.parts.Parts.{Parts}
+use Rattle.gw_machine.specs.Coherence.{IsOf, IsRunning}
+use Rattle.gw_scan.proofs.Running.{running, is_own, may_step}
 use Rattle.gw_step.specs.Job.{Step}
+use Rattle.gw_step.specs.Operands.{MayStep}
 use Rattle.gw_machine.specs.View.{state_of}
 use Rattle.gw_step.proofs.Reached.{reached_more}
 use Rattle.gw_scan.proofs.sim.Sim.step.Goals as goal
@@ -21,6 +22,11 @@ invariant_of-self-in-None c = record {
 
 pub step-requires-clause-running : goal.step-requires-clause-running
 step-requires-clause-running c =
-    let blocks : c.as_slice-blocks.result.now ≡ c.self.inside.spec.parts.blocks = search rules in
     let runs : c.self.inside.machine.ended ≡ None = search rules in
-    subst (λ (bs : List Block). IsRunning bs c.self.inside.machine) (sym blocks) (running c.self.inside.spec c.self.inside.machine c.self.invariant.reached c.self.invariant.linked runs)
+    subst (λ (p : Parts). IsRunning p.blocks c.self.inside.machine) (sym c.verified-verified.ensures.value) (running c.self.inside.spec c.self.inside.machine c.self.invariant.reached c.self.invariant.linked runs)
+
+pub step-requires-clause-own : goal.step-requires-clause-own
+step-requires-clause-own c = subst (λ (p : Parts). IsOf p c.self.inside.machine) (sym c.verified-verified.ensures.value) (is_own c.self.inside.spec c.self.inside.machine c.self.invariant.reached)
+
+pub step-requires-clause-may : goal.step-requires-clause-may
+step-requires-clause-may c = subst (λ (p : Parts). MayStep p (state_of c.self.inside.machine)) (sym c.verified-verified.ensures.value) (may_step c.self.inside.spec c.self.inside.machine c.self.invariant.reached)

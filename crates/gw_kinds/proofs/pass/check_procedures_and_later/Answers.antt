@@ -1,0 +1,16 @@
+use Rattle.std.proofs.lemmas.Result.{err_from_is_err_and}
+use Rattle.gw_kinds.specs.Checks.{numbered}
+use Rattle.gw_kinds.specs.Procedures.{procedure_checks}
+use Rattle.gw_kinds.specs.Pass.{return_and_later_checks}
+use Rattle.gw_kinds.proofs.Broken.{stops_first, joined}
+use Rattle.gw_kinds.proofs.pass.check_procedures_and_later.Goals as goal
+
+pub returns-in_err-check_procedures : goal.returns-in_err-check_procedures
+returns-in_err-check_procedures c =
+    let p = err_from_is_err_and c.from_residual.result c.from_residual.ensures.1 in
+    rw (p.1, p.2) (stops_first (numbered (procedure_checks c.args.parts.now) 0 c.args.parts.now.procedures) _ _ c.in_err-check_procedures.ensures)
+
+pub returns : goal.returns
+returns c =
+    joined c.check_returns_and_later.result (numbered (procedure_checks c.args.parts.now) 0 c.args.parts.now.procedures) (return_and_later_checks c.args.parts.now)
+    c.in_ok-check_procedures.ensures c.check_returns_and_later.ensures

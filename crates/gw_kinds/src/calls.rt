@@ -1,0 +1,58 @@
+//! The procedures that operands call.
+
+ghost use Rattle.std.specs.Prelude.{◌≡◌};
+ghost use Rattle.std.specs.List.{list_all};
+ghost use Rattle.gw_kinds.specs.Evaluated as evaluation;
+ghost use Rattle.gw_kinds.specs.Kinds as model;
+
+use crate::evaluation::values;
+use gw_blocks::{Block, Operand};
+use gw_code::Procedure;
+
+/// The procedure that an operand calls, if it is a call.
+pub(crate) fn procedure_named(operand: &Operand) -> Option<u16>
+    ensures { result ≡ evaluation.procedure_named operand.now }
+{
+    match operand {
+        Operand::Procedure(procedure) => Some(*procedure),
+        _ => None,
+    }
+}
+
+/// Whether a procedure that is called without arguments takes none; one that isn't there has no say.
+pub(crate) fn takes_no_arguments(procedures: &[Procedure], number: u16) -> bool
+    ensures { result ≡ model.takes_no_arguments procedures.now number }
+{
+    procedures
+        .get(number as usize)
+        .is_none_or(|procedure| procedure.arguments == 0)
+}
+
+/// Whether a procedure is there.
+pub(crate) fn is_procedure(procedures: &[Procedure], number: u16) -> bool
+    ensures { result ≡ model.is_procedure procedures.now number }
+{
+    (number as usize) < procedures.len()
+}
+
+/// Whether none of the procedures that the values of a block call takes arguments.
+pub(crate) fn calls_without_arguments(procedures: &[Procedure], block: &Block) -> bool
+    ensures { result ≡ list_all (model.takes_no_arguments procedures.now) (model.named_procedures block.now) }
+{
+    values(block)
+        .as_slice()
+        .iter()
+        .filter_map(procedure_named)
+        .all(|called| takes_no_arguments(procedures, called))
+}
+
+/// Whether the procedures that the values of a block call are there.
+pub(crate) fn called_are_there(procedures: &[Procedure], block: &Block) -> bool
+    ensures { result ≡ list_all (model.is_procedure procedures.now) (model.named_procedures block.now) }
+{
+    values(block)
+        .as_slice()
+        .iter()
+        .filter_map(procedure_named)
+        .all(|called| is_procedure(procedures, called))
+}

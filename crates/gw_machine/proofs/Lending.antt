@@ -1,0 +1,81 @@
+-- What a machine lends to those who evaluate for a subject, and what may be read of it.
+use Rattle.std.proofs.Common.{◌≡◌, ◌≢◌, ℕ, ◌≤◌, ◌^◌, ◌==◌, ℤ, List, length, Option, Some, None, false, refl, sym, ap, ◌∙◌, subst, arith}
+use Rattle.std.specs.Prelude.{sum}
+use Rattle.std.specs.Option.{option_map_or}
+use Rattle.std.proofs.lemmas.Bool.Decides.{nat_tests}
+use Rattle.std.proofs.lemmas.List.Sums.{count_by-le-length}
+use Rattle.gw_num.specs.Table.{at}
+use Rattle.gw_blocks.specs.declared.parts.EntityAttribute.{EntityAttribute}
+use Rattle.gw_blocks.specs.declared.parts.EntityAttribute.TheVariants.{BlockCount}
+use Rattle.gw_blocks.specs.declared.parts.Operand.{Operand}
+use Rattle.gw_blocks.specs.declared.parts.Operand.TheVariants.{Constant, Parameter, Attribute, OfEntity, Random, Procedure}
+use Rattle.gw_code.specs.declared.parts.Procedure.{Procedure as ACode}
+use Rattle.gw_object.specs.declared.parts.Parts.{Parts}
+use Rattle.gw_kinds.specs.Laws.{OperandHolds}
+use Rattle.gw_entities.specs.Attributes.{attribute_of}
+use Rattle.gw_entities.specs.Table.{FacilityTable, StorageTable, QueueTable}
+use Rattle.gw_code_flow.specs.Code.{procedure_at, asked_by_source, is_among}
+use Rattle.gw_code_flow.specs.Environment.{Environment, kept_value, ReadTheSame}
+use Rattle.gw_code_flow.specs.Laws.{HasSet}
+use Rattle.gw_transactions.specs.Transactions.{LiveTransaction, here_count}
+use Rattle.gw_plus.specs.declared.env.Env.{Env}
+use Rattle.gw_plus.specs.Reading as lent
+use Rattle.gw_plus.proofs.Reading.{may_read}
+use Rattle.gw_step.proofs.Residence.{at-le-sum}
+use Rattle.gw_step.specs.Times.{readings}
+use Rattle.gw_machine.specs.declared.machine.Machine.{Machine}
+use Rattle.gw_machine.specs.declared.values.Subject.{Subject}
+use Rattle.gw_machine.specs.View.{state_of}
+use Rattle.gw_machine.specs.Coherence.{IsOf}
+use Rattle.gw_machine.specs.Evaluating.{parameters_for, environment_for, CanEvaluate}
+
+-- what is lent is the machine's own
+pub record Lends (m : Machine) (subject : Subject) (env : Env) : Type 0 where
+  pub number : env.number ≡ subject.number
+  pub priority : env.priority ≡ subject.priority
+  pub mark : env.mark ≡ subject.mark
+  pub parameters : (k : ℕ) → at None env.parameters.now k ≡ at None (parameters_for subject.tx (state_of m)) k
+  pub clock : env.clock ≡ m.clock
+  pub count : env.count ≡ m.count
+  pub facilities : env.facilities.now ≡ m.facilities
+  pub storages : env.storages.now ≡ m.storages
+  pub queues : env.queues.now ≡ m.queues
+  pub switches : env.switches.now ≡ m.switches
+  pub savevalues : env.savevalues.now ≡ m.savevalues
+  pub tables : env.tables.now ≡ m.tables
+  pub entries : env.entries.now ≡ m.entries.items
+  pub here : (b : ℕ) → at 0 env.here.now b ≡ here_count b m.transactions.txs
+
+module _ (m : Machine) (subject : Subject) (env : Env) (l : Lends m subject env) where
+  of_entity_same : (attribute : EntityAttribute) (n : ℕ) → attribute_of (lent.readings_of env) attribute n ≡ attribute_of (readings (state_of m)) attribute n
+  of_entity_same BlockCount b = let same = l.here b in cc
+  of_entity_same attribute n = cc
+
+  kept_same : (o : Operand) → kept_value (lent.environment_of env) o ≡ kept_value (environment_for subject (state_of m)) o
+  kept_same (Parameter x) = l.parameters x
+  kept_same (OfEntity a) = ap Some (of_entity_same a.attribute a.number)
+  kept_same o = cc
+
+  pub reads_the_same : ReadTheSame (lent.environment_of env) (environment_for subject (state_of m))
+  reads_the_same = record { kept = kept_same }
+
+  pub lends_of : CanEvaluate m subject → (p : Parts) → IsOf p m → lent.IsOf p env
+  lends_of can p own =
+      let r = can.readable in
+      record {
+        facilities = ap (λ (t : FacilityTable). length t.facilities) l.facilities ∙ own;
+        storages = ap (λ (t : StorageTable). length t.storages) l.storages ∙ r.storages ∙ own;
+        queues = ap (λ (t : QueueTable). length t.queues) l.queues ∙ r.queues ∙ own;
+        switches = ap length l.switches ∙ r.switches ∙ own;
+        savevalues = ap length l.savevalues ∙ r.savevalues ∙ own;
+        tables = ap length l.tables ∙ r.tables ∙ own;
+        entries = λ b.
+            let fewer : at 0 m.entries.items b ≤ sum m.entries.items = at-le-sum 0 (λ x. x) m.entries.items b refl in
+            omega (arith, ap (λ (xs : List ℕ). at 0 xs b) l.entries, fewer, r.entries);
+        here = λ b.
+            let fewer = count_by-le-length (λ t. option_map_or (λ (t : LiveTransaction). t.attributes.current == b) t false) m.transactions.txs in
+            omega (arith, l.here b, fewer, r.sound.few);
+        number = omega (arith, l.number, can.number);
+        clock = rw l.clock r.clock;
+        mark = rw l.mark can.mark;
+      }

@@ -1,0 +1,33 @@
+-- Parameters suffice for what is evaluated, in a checked object that has a spelling.
+use Rattle.std.proofs.Common.{List, [], ◌∷◌}
+use Rattle.std.specs.Prelude.{All}
+use Rattle.std.proofs.lemmas.List.Elements.{All-head, All-tail}
+use Rattle.gw_blocks.specs.declared.parts.Operand.{Operand}
+use Rattle.gw_blocks.specs.declared.parts.Block.TheVariants as blocks
+use Rattle.gw_blocks.specs.Grammar.{OperandFits}
+use Rattle.gw_object.specs.declared.parts.Parts.{Parts}
+use Rattle.gw_code_flow.specs.Environment.{Environment}
+use Rattle.gw_step.specs.Operands.{MayEvaluate}
+use Rattle.gw_step.specs.Safety.{ParametersSuffice, IntervalsAskForNothing}
+use Rattle.gw_step.proofs.Operands.{block_spelled, evaluated_spelled}
+use Rattle.gw_step.proofs.Drawn.{AreRead}
+use Rattle.gw_step.proofs.Asked.{are_read_there, arrival_read, acts_at}
+use Rattle.gw_step.proofs.Safe.{kinds_of, flow_of, sound_of}
+
+-- what names what is there, and has what it asks for, may be evaluated where it has a spelling
+may_be_evaluated : (p : Parts) (env : Environment) (os : List Operand) → AreRead p env os → All OperandFits os → All (MayEvaluate p env) os
+may_be_evaluated p env os read fits i d within = record { holds = (read i d within).holds; fits = fits i d within; set = (read i d within).set }
+
+pub parameters_suffice : ParametersSuffice
+parameters_suffice p s checked spelled ty n t block active found there =
+    let sound = sound_of p checked in
+    let acts = acts_at p sound.entities (kinds_of p checked) (flow_of p checked) s ty n t block active found there in
+    may_be_evaluated p _ _ (are_read_there p sound.entities s n t block acts.0 acts.1) (evaluated_spelled p.entities block spelled.limits.each_entity (block_spelled p.blocks t.next block there spelled.limits.each_block))
+
+pub intervals_ask_for_nothing : IntervalsAskForNothing
+intervals_ask_for_nothing p b g env checked spelled is =
+    let sound = sound_of p checked in
+    let read = arrival_read p sound.entities (kinds_of p checked) (flow_of p checked) b g is env in
+    let fits = evaluated_spelled p.entities (blocks.Generate g) spelled.limits.each_entity (block_spelled p.blocks b (blocks.Generate g) is spelled.limits.each_block) in
+    let may = may_be_evaluated p env (g.interval.mean ∷ g.interval.half ∷ []) read fits in
+    record { mean = All-head (MayEvaluate p env) g.interval.mean (g.interval.half ∷ []) may; half = All-head (MayEvaluate p env) g.interval.half [] (All-tail (MayEvaluate p env) g.interval.mean (g.interval.half ∷ []) may) }
