@@ -11,11 +11,11 @@ use Rattle.gw_blocks.specs.declared.parts.Comparison.TheVariants.{Equal, NotEqua
 use Rattle.gw_blocks.specs.declared.parts.Condition.TheVariants.{SwitchSet, SwitchReset, FacilityInUse, FacilityNotInUse, StorageFull, StorageEmpty, StorageNotFull, StorageNotEmpty}
 use Rattle.gw_blocks.specs.declared.parts.SwitchAction.TheVariants.{Set as SetSwitch, Reset as ResetSwitch, Invert as InvertSwitch}
 use Rattle.gw_blocks.specs.declared.parts.Block.{Block}
-use Rattle.gw_blocks.specs.declared.parts.Block.TheVariants.{Generate, Terminate, Advance, Seize, Release, Enter, Leave, Queue, Depart, Assign, Test, Gate, Transfer, TransferByFraction, TransferToSubroutine, TransferByParameter, Loop, Logic, Savevalue, Mark, Plus, Tabulate}
-use Rattle.gw_fields.specs.Fields.{Field, behind, byte, signed, optional}
-use Rattle.gw_blocks.specs.Grammar.{parameter_number, stream_number, attribute_byte, attributes, attribute, entity_attribute_byte, entity_attributes, NumberedFits, numbered, OperandFits, operand_spelling, operand_forms, operand_read, operand, mode_byte, modes, mode, AssignFits, assign, comparison_byte, comparisons, TestFits, test_operands, condition_byte, conditions, GateFits, gate, CallFits, call, LoopFits, countdown, action_byte, actions, LogicFits, logic, SaveFits, save, PlusFits, plus, SpreadFits, spread, GenerateFits, generate, entity_number, procedure_number, UnitsFit, units, block_number, FractionFits, fraction, BlockFits, block_spelling, block_forms, block_read, block}
-use Rattle.gw_fields.proofs.OneOf.{AreFound, one_of_exact}
-use Rattle.gw_fields.proofs.Exact.{ReadsBack, ◌also◌, tag_reads_back, IsExactForm, AreExactForms, behind_exact, by_tag_exact, IsExact, byte_exact, wide16, wide32, wide64, number_exact, signed_exact, made_exact, both_exact, fitting_exact, ranged_exact, optional_exact}
+use Rattle.gw_blocks.specs.declared.parts.Block.TheVariants.{Generate, Terminate, Advance, Seize, Release, Enter, Leave, Queue, Depart, Assign, Test, Gate, Transfer, TransferByFraction, TransferToSubroutine, TransferByParameter, Loop, Split, Assemble, Logic, Savevalue, Mark, Priority as NewPriority, Buffer, Plus, Tabulate}
+use Rattle.gw_fields.specs.Fields.{Field, behind, byte, signed, nothing, optional}
+use Rattle.gw_blocks.specs.Grammar.{parameter_number, stream_number, attribute_byte, attributes, attribute, entity_attribute_byte, entity_attributes, NumberedFits, numbered, OperandFits, operand_spelling, operand_forms, operand_read, operand, mode_byte, modes, mode, AssignFits, assign, comparison_byte, comparisons, TestFits, test_operands, condition_byte, conditions, GateFits, gate, CallFits, call, LoopFits, countdown, SplitFits, split, set_size, action_byte, actions, LogicFits, logic, SaveFits, save, PriorityFits, priority, PlusFits, plus, SpreadFits, spread, GenerateFits, generate, entity_number, procedure_number, UnitsFit, units, block_number, FractionFits, fraction, BlockFits, block_spelling, block_forms, block_read, block}
+use Rattle.gw_fields.proofs.OneOf.{AreFound, one_of_exact, flag_exact}
+use Rattle.gw_fields.proofs.Exact.{ReadsBack, ◌also◌, tag_reads_back, IsExactForm, AreExactForms, behind_exact, by_tag_exact, IsExact, byte_exact, wide16, wide32, wide64, number_exact, signed_exact, made_exact, both_exact, fitting_exact, ranged_exact, nothing_exact, optional_exact}
 
 -- ---- numbers
 
@@ -171,6 +171,14 @@ unfolding countdown
 countdown_exact = fitting_exact LoopFits _ (λ l h. record { parameter = h.0; target = h.1 }) (λ l h. (h.parameter, h.target))
     (made_exact _ _ _ (λ x h. refl) (λ l h. refl) (both_exact _ _ parameter_number_exact block_number_exact))
 
+pub split_exact : IsExact split
+unfolding split
+split_exact = fitting_exact SplitFits _ (λ s h. record { copies = h.0; target = h.1 }) (λ s h. (h.copies, h.target))
+    (made_exact _ _ _ (λ x h. refl) (λ s h. refl) (both_exact _ _ (number_exact w16 wide16) otherwise_exact))
+
+set_size_exact : IsExact set_size
+set_size_exact = number_exact w16 wide16
+
 actions_are_found : AreFound action_byte actions
 actions_are_found SetSwitch = refl
 actions_are_found ResetSwitch = refl
@@ -186,6 +194,11 @@ unfolding save
 save_exact = fitting_exact SaveFits _ (λ s h. record { savevalue = h.0; value = h.1.1 }) (λ s h. (h.savevalue, (tt, h.value)))
     (made_exact _ _ _ (λ x h. refl) (λ s h. refl) (both_exact _ _ entity_number_exact (both_exact _ _ mode_exact operand_exact)))
 
+pub priority_exact : IsExact priority
+unfolding priority
+priority_exact = fitting_exact PriorityFits _ (λ p h. h.0) (λ p h. (h, tt))
+    (made_exact _ _ _ (λ x h. refl) (λ p h. refl) (both_exact _ _ operand_exact flag_exact))
+
 parameter_if_any_exact : IsExact (optional parameter_number)
 parameter_if_any_exact = optional_exact parameter_number parameter_number_exact
 
@@ -199,7 +212,7 @@ block_form_exact : {A : Type 0} (tag : ℕ) (make : A → Block) (f : Field A) �
 block_form_exact tag make f spelled fit exact = behind_exact block_spelling BlockFits tag make f spelled fit exact
 
 block_forms_exact : AreExactForms block_spelling BlockFits block_forms
-unfolding generate spread units fraction call assign test_operands gate countdown logic save plus
+unfolding generate spread units fraction call assign test_operands gate countdown split logic save priority plus
 block_forms_exact =
     block_form_exact 1 (λ g. Generate g) generate (λ g. refl) (λ g h. h) generate_exact
     also block_form_exact 2 (λ n. Terminate n) operand (λ n. refl) (λ n h. h) operand_exact
@@ -218,15 +231,19 @@ block_forms_exact =
     also block_form_exact 15 (λ c. TransferToSubroutine c) call (λ c. refl) (λ c h. h) call_exact
     also block_form_exact 16 (λ p. TransferByParameter p) parameter_number (λ p. refl) (λ p h. h) parameter_number_exact
     also block_form_exact 17 (λ l. Loop l) countdown (λ l. refl) (λ l h. h) countdown_exact
+    also block_form_exact 18 (λ s. Split s) split (λ s. refl) (λ s h. h) split_exact
+    also block_form_exact 19 (λ n. Assemble n) set_size (λ n. refl) (λ n h. h) set_size_exact
     also block_form_exact 22 (λ l. Logic l) logic (λ l. refl) (λ l h. h) logic_exact
     also block_form_exact 23 (λ s. Savevalue s) save (λ s. refl) (λ s h. h) save_exact
     also block_form_exact 24 (λ p. Mark p) (optional parameter_number) (λ p. refl) (λ p h. h) parameter_if_any_exact
+    also block_form_exact 25 (λ p. NewPriority p) priority (λ p. refl) (λ p h. h) priority_exact
+    also block_form_exact 26 (λ _. Buffer) nothing (λ _. refl) (λ _ h. tt) nothing_exact
     also block_form_exact 27 (λ a. Plus a) plus (λ a. refl) (λ a h. h) plus_exact
     also block_form_exact 28 (λ n. Tabulate n) entity_number (λ n. refl) (λ n h. h) entity_number_exact
     also tt
 
 block_reads_back : (b : Block) → BlockFits b → ReadsBack block_read (block_spelling b) b
-unfolding block_read generate spread units fraction call assign test_operands gate countdown logic save plus
+unfolding block_read generate spread units fraction call assign test_operands gate countdown split logic save priority plus
 block_reads_back (Generate g) fits = tag_reads_back block_forms 1 (λ g. Generate g) generate (λ _ _. refl) generate_exact g fits
 block_reads_back (Terminate n) fits = tag_reads_back block_forms 2 (λ n. Terminate n) operand (λ _ _. refl) operand_exact n fits
 block_reads_back (Advance s) fits = tag_reads_back block_forms 3 (λ s. Advance s) spread (λ _ _. refl) spread_exact s fits
@@ -244,9 +261,13 @@ block_reads_back (TransferByFraction f) fits = tag_reads_back block_forms 14 (λ
 block_reads_back (TransferToSubroutine c) fits = tag_reads_back block_forms 15 (λ c. TransferToSubroutine c) call (λ _ _. refl) call_exact c fits
 block_reads_back (TransferByParameter p) fits = tag_reads_back block_forms 16 (λ p. TransferByParameter p) parameter_number (λ _ _. refl) parameter_number_exact p fits
 block_reads_back (Loop l) fits = tag_reads_back block_forms 17 (λ l. Loop l) countdown (λ _ _. refl) countdown_exact l fits
+block_reads_back (Split s) fits = tag_reads_back block_forms 18 (λ s. Split s) split (λ _ _. refl) split_exact s fits
+block_reads_back (Assemble n) fits = tag_reads_back block_forms 19 (λ n. Assemble n) set_size (λ _ _. refl) set_size_exact n fits
 block_reads_back (Logic l) fits = tag_reads_back block_forms 22 (λ l. Logic l) logic (λ _ _. refl) logic_exact l fits
 block_reads_back (Savevalue s) fits = tag_reads_back block_forms 23 (λ s. Savevalue s) save (λ _ _. refl) save_exact s fits
 block_reads_back (Mark p) fits = tag_reads_back block_forms 24 (λ p. Mark p) (optional parameter_number) (λ _ _. refl) parameter_if_any_exact p fits
+block_reads_back (NewPriority p) fits = tag_reads_back block_forms 25 (λ p. NewPriority p) priority (λ _ _. refl) priority_exact p fits
+block_reads_back Buffer fits = tag_reads_back block_forms 26 (λ _. Buffer) nothing (λ _ _. refl) nothing_exact tt tt
 block_reads_back (Plus a) fits = tag_reads_back block_forms 27 (λ a. Plus a) plus (λ _ _. refl) plus_exact a fits
 block_reads_back (Tabulate n) fits = tag_reads_back block_forms 28 (λ n. Tabulate n) entity_number (λ _ _. refl) entity_number_exact n fits
 

@@ -25,13 +25,15 @@ use Rattle.gw_blocks.specs.declared.parts.Condition.TheVariants.{SwitchSet, Swit
 use Rattle.gw_blocks.specs.declared.parts.Gate.{Gate as GateOperands}
 use Rattle.gw_blocks.specs.declared.parts.Loop.{Loop as LoopOperands}
 use Rattle.gw_blocks.specs.declared.parts.Call.{Call}
+use Rattle.gw_blocks.specs.declared.parts.Split.{Split as SplitOperands}
 use Rattle.gw_blocks.specs.declared.parts.SwitchAction.{SwitchAction}
 use Rattle.gw_blocks.specs.declared.parts.SwitchAction.TheVariants.{Set as SetSwitch, Reset as ResetSwitch, Invert as InvertSwitch}
 use Rattle.gw_blocks.specs.declared.parts.Logic.{Logic as LogicOperands}
 use Rattle.gw_blocks.specs.declared.parts.Save.{Save}
+use Rattle.gw_blocks.specs.declared.parts.Priority.{Priority as PriorityOperands}
 use Rattle.gw_blocks.specs.declared.parts.Plus.{Plus as PlusOperands}
-use Rattle.gw_blocks.specs.declared.parts.Block.TheVariants.{Generate, Terminate, Advance, Seize, Release, Enter, Leave, Queue, Depart, Assign, Test, Gate, Transfer, TransferByFraction, TransferToSubroutine, TransferByParameter, Loop, Logic, Savevalue, Mark, Plus, Tabulate}
-use Rattle.gw_fields.specs.Fields.{Read, Field, byte, number, signed, made, both, fitting, ranged, optional, Form, behind, by_tag, one_of}
+use Rattle.gw_blocks.specs.declared.parts.Block.TheVariants.{Generate, Terminate, Advance, Seize, Release, Enter, Leave, Queue, Depart, Assign, Test, Gate, Transfer, TransferByFraction, TransferToSubroutine, TransferByParameter, Loop, Split, Assemble, Logic, Savevalue, Mark, Priority as NewPriority, Buffer, Plus, Tabulate}
+use Rattle.gw_fields.specs.Fields.{Read, Field, byte, number, signed, flag, nothing, made, both, fitting, ranged, optional, Form, behind, by_tag, one_of}
 
 -- ---- numbers
 
@@ -284,6 +286,19 @@ pub record LoopFits (l : LoopOperands) : Type 0 where
 unfoldable pub countdown : Field LoopOperands
 countdown = fitting LoopFits (made (λ (parameter, target). record { parameter = parameter; target = target }) (λ l. (l.parameter, l.target)) (both parameter_number block_number))
 
+-- each operand fits
+pub record SplitFits (s : SplitOperands) : Type 0 where
+  pub copies : s.copies < 2 ^ 16
+  pub target : IfSome s.target block_number.Fits
+
+-- the number of copies and their target
+unfoldable pub split : Field SplitOperands
+split = fitting SplitFits (made (λ (copies, target). record { copies = copies; target = target }) (λ s. (s.copies, s.target)) (both (number w16) (optional block_number)))
+
+-- how many transactions an assembly waits for in all
+abbrev pub set_size : Field ℕ
+set_size = number w16
+
 -- the byte that stands for what is done with a switch
 abbrev pub action_byte : SwitchAction → ℕ
 action_byte SetSwitch = 0
@@ -314,6 +329,14 @@ save = fitting SaveFits (made
     (λ s. (s.savevalue, (s.mode, s.value)))
     (both entity_number (both mode operand)))
 
+-- the new priority fits
+abbrev pub PriorityFits : PriorityOperands → Type 0
+PriorityFits p = OperandFits p.value
+
+-- the new priority, and whether the transaction goes behind its peers
+unfoldable pub priority : Field PriorityOperands
+priority = fitting PriorityFits (made (λ (value, behind_peers). record { value = value; behind = behind_peers }) (λ p. (p.value, p.behind)) (both operand flag))
+
 -- each operand fits
 pub record PlusFits (a : PlusOperands) : Type 0 where
   pub value : OperandFits a.value
@@ -342,9 +365,13 @@ BlockFits (TransferByFraction f) = FractionFits f
 BlockFits (TransferToSubroutine c) = CallFits c
 BlockFits (TransferByParameter parameter) = parameter_number.Fits parameter
 BlockFits (Loop l) = LoopFits l
+BlockFits (Split s) = SplitFits s
+BlockFits (Assemble size) = set_size.Fits size
 BlockFits (Logic l) = LogicFits l
 BlockFits (Savevalue s) = SaveFits s
 BlockFits (Mark parameter) = IfSome parameter parameter_number.Fits
+BlockFits (NewPriority p) = PriorityFits p
+BlockFits Buffer = Unit {0}
 BlockFits (Plus a) = PlusFits a
 BlockFits (Tabulate table) = entity_number.Fits table
 
@@ -367,9 +394,13 @@ block_spelling (TransferByFraction f) = 14 ∷ fraction.spell f
 block_spelling (TransferToSubroutine c) = 15 ∷ call.spell c
 block_spelling (TransferByParameter parameter) = 16 ∷ parameter_number.spell parameter
 block_spelling (Loop l) = 17 ∷ countdown.spell l
+block_spelling (Split s) = 18 ∷ split.spell s
+block_spelling (Assemble size) = 19 ∷ set_size.spell size
 block_spelling (Logic l) = 22 ∷ logic.spell l
 block_spelling (Savevalue s) = 23 ∷ save.spell s
 block_spelling (Mark parameter) = 24 ∷ (optional parameter_number).spell parameter
+block_spelling (NewPriority p) = 25 ∷ priority.spell p
+block_spelling Buffer = 26 ∷ []
 block_spelling (Plus a) = 27 ∷ plus.spell a
 block_spelling (Tabulate table) = 28 ∷ entity_number.spell table
 
@@ -393,9 +424,13 @@ block_forms =
     ∷ behind 15 (λ c. TransferToSubroutine c) call
     ∷ behind 16 (λ parameter. TransferByParameter parameter) parameter_number
     ∷ behind 17 (λ l. Loop l) countdown
+    ∷ behind 18 (λ s. Split s) split
+    ∷ behind 19 (λ size. Assemble size) set_size
     ∷ behind 22 (λ l. Logic l) logic
     ∷ behind 23 (λ s. Savevalue s) save
     ∷ behind 24 (λ parameter. Mark parameter) (optional parameter_number)
+    ∷ behind 25 (λ p. NewPriority p) priority
+    ∷ behind 26 (λ _. Buffer) nothing
     ∷ behind 27 (λ a. Plus a) plus
     ∷ behind 28 (λ table. Tabulate table) entity_number
     ∷ []

@@ -2,7 +2,7 @@
 
 ghost use Rattle.std.specs.Prelude.{◌≡◌, ◌↔◌, IsTrue};
 ghost use Rattle.std.specs.List.{All};
-ghost use Rattle.gw_blocks.specs.Grammar.{generate, GenerateFits, units, fraction, call, block, BlockFits};
+ghost use Rattle.gw_blocks.specs.Grammar.{generate, GenerateFits, units, fraction, call, split, block, BlockFits};
 ghost use Rattle.gw_fields.specs.Answers.{Gives};
 
 use crate::Memory;
@@ -140,6 +140,31 @@ impl Spelled for Call {
     }
 }
 
+impl Spelled for Split {
+    ghost spelling = { split.spell };
+
+    ghost reading = { split.read };
+
+    #[tactic(auto, unfolding(crate::specs::Grammar::split))]
+    fn put(&self, out: &mut Vec<u8>) -> Result<(), Memory> {
+        self.copies.put(out)?;
+        self.target.put(out)
+    }
+
+    #[tactic(auto, unfolding(crate::specs::Grammar::split))]
+    fn room_after(&self, room: usize) -> Option<usize> {
+        let room = self.copies.room_after(room)?;
+        self.target.room_after(room)
+    }
+
+    #[tactic(auto, unfolding(crate::specs::Grammar::split))]
+    fn read(alloc: Global, bytes: &[u8]) -> Result<(Split, &[u8]), ReadError> {
+        let (copies, rest) = u16::read(alloc, bytes)?;
+        let (target, rest) = Option::<u16>::read(alloc, rest)?;
+        Ok((Split { copies, target }, rest))
+    }
+}
+
 impl Spelled for Block {
     ghost spelling = { block.spell };
 
@@ -215,6 +240,14 @@ impl Spelled for Block {
                 out.push(17)?;
                 counted.put(out)?;
             }
+            Block::Split(split) => {
+                out.push(18)?;
+                split.put(out)?;
+            }
+            Block::Assemble(size) => {
+                out.push(19)?;
+                size.put(out)?;
+            }
             Block::Logic(logic) => {
                 out.push(22)?;
                 logic.put(out)?;
@@ -226,6 +259,13 @@ impl Spelled for Block {
             Block::Mark(parameter) => {
                 out.push(24)?;
                 parameter.put(out)?;
+            }
+            Block::Priority(priority) => {
+                out.push(25)?;
+                priority.put(out)?;
+            }
+            Block::Buffer => {
+                out.push(26)?;
             }
             Block::Plus(plus) => {
                 out.push(27)?;
@@ -258,9 +298,13 @@ impl Spelled for Block {
             Block::TransferToSubroutine(call) => call.room_after(room),
             Block::TransferByParameter(parameter) => parameter.room_after(room),
             Block::Loop(counted) => counted.room_after(room),
+            Block::Split(split) => split.room_after(room),
+            Block::Assemble(size) => size.room_after(room),
             Block::Logic(logic) => logic.room_after(room),
             Block::Savevalue(save) => save.room_after(room),
             Block::Mark(parameter) => parameter.room_after(room),
+            Block::Priority(priority) => priority.room_after(room),
+            Block::Buffer => Some(room),
             Block::Plus(plus) => plus.room_after(room),
             Block::Tabulate(table) => table.room_after(room),
         }
@@ -338,6 +382,14 @@ impl Spelled for Block {
                 let (counted, rest) = Loop::read(alloc, rest)?;
                 Ok((Block::Loop(counted), rest))
             }
+            18 => {
+                let (split, rest) = Split::read(alloc, rest)?;
+                Ok((Block::Split(split), rest))
+            }
+            19 => {
+                let (size, rest) = u16::read(alloc, rest)?;
+                Ok((Block::Assemble(size), rest))
+            }
             22 => {
                 let (logic, rest) = Logic::read(alloc, rest)?;
                 Ok((Block::Logic(logic), rest))
@@ -350,6 +402,11 @@ impl Spelled for Block {
                 let (parameter, rest) = read_parameter_if_any(alloc, rest)?;
                 Ok((Block::Mark(parameter), rest))
             }
+            25 => {
+                let (priority, rest) = Priority::read(alloc, rest)?;
+                Ok((Block::Priority(priority), rest))
+            }
+            26 => Ok((Block::Buffer, rest)),
             27 => {
                 let (plus, rest) = Plus::read(alloc, rest)?;
                 Ok((Block::Plus(plus), rest))
@@ -385,6 +442,7 @@ fn block_fits(block: Block) -> bool
         Block::Loop(counted) => is_parameter(counted.parameter),
         Block::Savevalue(save) => operand_fits(save.value),
         Block::Mark(parameter) => parameter.is_none_or(is_parameter),
+        Block::Priority(priority) => operand_fits(priority.value),
         Block::Plus(plus) => operand_fits(plus.value) && plus.parameter.is_none_or(is_parameter),
         _ => true,
     }

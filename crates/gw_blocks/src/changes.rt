@@ -1,8 +1,8 @@
-//! The operands of the blocks that change parameters, logic switches and savevalues, or evaluate a
-//! value, in bytes.
+//! The operands of the blocks that change parameters, logic switches, savevalues and priorities, or
+//! evaluate a value, in bytes.
 
 ghost use Rattle.std.specs.Prelude.{◌≡◌};
-ghost use Rattle.gw_blocks.specs.Grammar.{mode_byte, modes, assign, countdown, action_byte, actions, logic, save, plus};
+ghost use Rattle.gw_blocks.specs.Grammar.{mode_byte, modes, assign, countdown, action_byte, actions, logic, save, priority, plus};
 ghost use Rattle.gw_fields.specs.Answers.{Gives};
 
 use crate::Memory;
@@ -169,6 +169,32 @@ impl Spelled for Save {
             value,
         };
         Ok((save, rest))
+    }
+}
+
+impl Spelled for Priority {
+    ghost spelling = { priority.spell };
+
+    ghost reading = { priority.read };
+
+    #[tactic(auto, unfolding(crate::specs::Grammar::priority))]
+    fn put(&self, out: &mut Vec<u8>) -> Result<(), Memory> {
+        self.value.put(out)?;
+        out.push(self.behind.byte())?;
+        Ok(())
+    }
+
+    #[tactic(auto, unfolding(crate::specs::Grammar::priority))]
+    fn room_after(&self, room: usize) -> Option<usize> {
+        let room = self.value.room_after(room)?;
+        room.checked_sub(1)
+    }
+
+    #[tactic(auto, unfolding(crate::specs::Grammar::priority))]
+    fn read(alloc: Global, bytes: &[u8]) -> Result<(Priority, &[u8]), ReadError> {
+        let (value, rest) = Operand::read(alloc, bytes)?;
+        let (behind, rest) = read_one_of::<bool>(alloc, rest)?;
+        Ok((Priority { value, behind }, rest))
     }
 }
 

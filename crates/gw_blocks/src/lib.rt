@@ -15,7 +15,8 @@ pub use limits::{MOST_PARAMETERS, MOST_STREAMS};
 pub use operands::{is_parameter, operand_fits, read_parameter_above, read_parameter_number};
 pub use parts::{
     Assign, Attribute, Block, Call, Comparison, Condition, EntityAttribute, Fraction, Gate,
-    Generate, Logic, Loop, Mode, Numbered, Operand, Plus, Save, Spread, SwitchAction, Test, Units,
+    Generate, Logic, Loop, Mode, Numbered, Operand, Plus, Priority, Save, Split, Spread,
+    SwitchAction, Test, Units,
 };
 /// The answer where there was no memory.
 pub use std::alloc::AllocError as Memory;

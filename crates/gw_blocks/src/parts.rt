@@ -216,6 +216,15 @@ pub struct Loop {
     pub target: u16,
 }
 
+/// The operands of a SPLIT block.
+#[derive(Clone, Copy, Debug, PartialEq, Eq)]
+pub struct Split {
+    /// How many copies of the transaction are made.
+    pub copies: u16,
+    /// The number of the block to which the copies go, from 1; without it they go to the next block.
+    pub target: Option<u16>,
+}
+
 /// What a LOGIC block does with a logic switch.
 #[derive(Clone, Copy, Debug, PartialEq, Eq)]
 pub enum SwitchAction {
@@ -245,6 +254,15 @@ pub struct Save {
     pub mode: Mode,
     /// The value.
     pub value: Operand,
+}
+
+/// The operands of a PRIORITY block.
+#[derive(Clone, Copy, Debug, PartialEq, Eq)]
+pub struct Priority {
+    /// The new priority.
+    pub value: Operand,
+    /// BU: the transaction joins the current events chain behind those of that priority; without it ahead of them.
+    pub behind: bool,
 }
 
 /// The operands of a PLUS block.
@@ -295,6 +313,10 @@ pub enum Block {
     TransferByParameter(u8),
     /// Transactions count a parameter of theirs down, and go to a block as long as it is above 0.
     Loop(Loop),
+    /// Transactions make copies of themselves.
+    Split(Split),
+    /// Transactions of one assembly set, as many as this number, become one.
+    Assemble(u16),
     /// Transactions set, reset or invert a logic switch.
     Logic(Logic),
     /// Transactions put a value into a savevalue.
@@ -302,6 +324,10 @@ pub enum Block {
     /// Transactions put the clock into a parameter, which is given by its number from 1 to 64; without one it becomes
     /// their mark time.
     Mark(Option<u8>),
+    /// Transactions get a priority, and let others go first.
+    Priority(Priority),
+    /// Transactions let the others of their priority go first.
+    Buffer,
     /// Transactions evaluate a value, and may put it into a parameter of theirs.
     Plus(Plus),
     /// Transactions enter the argument of a table into it; the table is given by its entity's number from 0.

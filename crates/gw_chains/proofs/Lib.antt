@@ -1,4 +1,5 @@
 pub mod Each
 pub mod Places
 pub mod Turning
+pub mod Finding
 mod Merging

@@ -1,3 +1,4 @@
 pub mod Chain
 pub mod Lists
 pub mod Runs
+pub mod Assembling

@@ -4,6 +4,7 @@
 //! Only `reserve` takes memory; an insertion asks for room and can't fail.
 #![tactic(auto)]
 
+mod assemblies;
 mod cec;
 mod delay_list;
 mod fec;
@@ -13,6 +14,7 @@ mod tx;
 mod user_chains;
 mod waits;
 
+pub use assemblies::{Assemblies, Assembly};
 pub use cec::Cec;
 pub use fec::Fec;
 /// The answer where there was no memory.

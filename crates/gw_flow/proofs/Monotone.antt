@@ -7,6 +7,8 @@ use Rattle.std.proofs.lemmas.List.Elements.{All-nil, All-cons, All-head, All-tai
 use Rattle.gw_blocks.specs.declared.parts.Block.{Block}
 use Rattle.gw_blocks.specs.declared.parts.Block.TheVariants as blocks
 use Rattle.gw_object.specs.declared.parts.Parts.{Parts}
+use Rattle.gw_kinds.specs.declared.ways.Who.{Who}
+use Rattle.gw_kinds.specs.declared.ways.Who.TheVariants.{Itself, Copies}
 use Rattle.gw_kinds.specs.declared.ways.Exit.{Exit}
 use Rattle.gw_kinds.specs.Exits.{leads_to, exits, returns_to}
 use Rattle.gw_kinds.specs.Evaluated.{evaluated}
@@ -16,7 +18,7 @@ use Rattle.gw_flow.specs.Rows.{Row, ParamKind, Num, Ret, kind_of, is_number, is_
 use Rattle.gw_flow.specs.declared.edges.FlowEdge.{FlowEdge}
 use Rattle.gw_flow.specs.declared.edges.Target.TheVariants as targets
 use Rattle.gw_flow.specs.declared.setting.Setting.{Setting}
-use Rattle.gw_flow.specs.Blocks.{Table, Rule, rule, holds_units, number_rules, return_rules, parameters_read, value_rules, replaces, own_rules, parameter_set, kind_set, with_setting, after, move, edges_along, edges_from}
+use Rattle.gw_flow.specs.Blocks.{Table, Rule, rule, holds_units, number_rules, return_rules, parameters_read, value_rules, replaces, own_rules, parameter_set, kind_set, with_setting, after, move, is_used, known_of, edge_along, edges_along, edges_from}
 use Rattle.gw_flow.specs.Laws.{forbids, FittingStatesPass}
 use Rattle.gw_flow.proofs.Entries.{entry-with_entry, amount-with_entry}
 use Rattle.gw_flow.proofs.EachBlock.{All-front, All-back}
@@ -55,6 +57,11 @@ fits_units e more less state row le h = record {
   facilities = h.facilities;
   units = λ q. rw (amount-with_entry e less row.units q, amount-with_entry e more state.units q) (if-le (e == q) less more (units_of row q) (units_of state q) le (h.units q));
 }
+
+-- what is known of who goes along an exit fits too
+fits_known : (who : Who) (state row : Row) → Fits state row → Fits (known_of who state) (known_of who row)
+fits_known Itself state row h = h
+fits_known (Copies copies) state row h = record { params = h.params; facilities = refl; units = λ e. omega arith }
 
 -- RULES
 
@@ -162,6 +169,10 @@ passes_like p b (blocks.Test t) state row h = record { rules_hold = λ _ hold. h
 passes_like p b (blocks.Gate g) state row h = record { rules_hold = λ _ hold. hold; after_fits = h }
 passes_like p b (blocks.Transfer target) state row h = record { rules_hold = λ _ hold. hold; after_fits = h }
 passes_like p b (blocks.TransferByFraction f) state row h = record { rules_hold = λ _ hold. hold; after_fits = h }
+passes_like p b (blocks.Split s) state row h = record { rules_hold = λ _ hold. hold; after_fits = h }
+passes_like p b (blocks.Assemble size) state row h = record { rules_hold = λ _ hold. by_facilities codes.owns_at_end (λ fs. length fs == 0) state row h hold; after_fits = h }
+passes_like p b (blocks.Priority q) state row h = record { rules_hold = λ _ hold. hold; after_fits = h }
+passes_like p b blocks.Buffer state row h = record { rules_hold = λ _ hold. hold; after_fits = h }
 
 -- EDGES
 
@@ -173,14 +184,18 @@ module _ (table : Table) where
   on None state row h g = g
   on (Some other) state row h g = fits_on state row other h g
 
-  -- along each exit what fits arrives where what it fits does
+  -- along an exit, if somebody may go along it, what fits arrives where what it fits does
+  edge_fits : (used : Bool) (to : ℕ) (state row : Row) → Fits state row → All Arrives (if used then move to row ∷ [] else []) → All Arrives (if used then move to state ∷ [] else [])
+  edge_fits true to state row h arrive = All-cons Arrives (move to state) [] (on (table (targets.Block to)) state row h (All-head Arrives (move to row) [] arrive)) (All-nil Arrives)
+  edge_fits false to state row h arrive = All-nil Arrives
+
+  -- and along each exit
   edges_fit : (b : ℕ) (es : List Exit) (state row : Row) → Fits state row → All Arrives (edges_along b es row) → All Arrives (edges_along b es state)
   edges_fit b [] state row h arrive = All-nil Arrives
   edges_fit b (e ∷ es) state row h arrive =
-      let to = leads_to b e.way in
-      All-cons Arrives (move to state) (edges_along b es state)
-      (on (table (move to state).target) state row h (All-head Arrives (move to row) (edges_along b es row) arrive))
-      (edges_fit b es state row h (All-tail Arrives (move to row) (edges_along b es row) arrive))
+      All-append Arrives (edge_along b state e) (edges_along b es state)
+      (edge_fits (is_used e.who) (leads_to b e.way) (known_of e.who state) (known_of e.who row) (fits_known e.who state row h) (All-front Arrives (edge_along b row e) (edges_along b es row) arrive))
+      (edges_fit b es state row h (All-back Arrives (edge_along b row e) (edges_along b es row) arrive))
 
   -- the edges to the blocks after some of those to which what it fits returns
   one_of_them : (b : ℕ) (cs : List ℕ) (c : ℕ) (row : Row) → lists cs c ≡ true → All Arrives (edges_along b (map returns_to cs) row) → IsSomeAnd (table (targets.Block (c + 1))) (Fits row)
@@ -227,6 +242,10 @@ module _ (table : Table) where
   block_fits p b (blocks.Mark o) state row h later hold arrive = edges_fit b (exits (blocks.Mark o)) (after b (blocks.Mark o) state) (after b (blocks.Mark o) row) later arrive
   block_fits p b (blocks.Plus a) state row h later hold arrive = edges_fit b (exits (blocks.Plus a)) (after b (blocks.Plus a) state) (after b (blocks.Plus a) row) later arrive
   block_fits p b (blocks.Tabulate t) state row h later hold arrive = edges_fit b (exits (blocks.Tabulate t)) (after b (blocks.Tabulate t) state) (after b (blocks.Tabulate t) row) later arrive
+  block_fits p b (blocks.Split s) state row h later hold arrive = edges_fit b (exits (blocks.Split s)) (after b (blocks.Split s) state) (after b (blocks.Split s) row) later arrive
+  block_fits p b (blocks.Assemble size) state row h later hold arrive = edges_fit b (exits (blocks.Assemble size)) (after b (blocks.Assemble size) state) (after b (blocks.Assemble size) row) later arrive
+  block_fits p b (blocks.Priority q) state row h later hold arrive = edges_fit b (exits (blocks.Priority q)) (after b (blocks.Priority q) state) (after b (blocks.Priority q) row) later arrive
+  block_fits p b blocks.Buffer state row h later hold arrive = edges_fit b (exits blocks.Buffer) (after b blocks.Buffer state) (after b blocks.Buffer row) later arrive
 
 pub fitting_states_pass : FittingStatesPass
 fitting_states_pass p table b block state row isnt h pass =

@@ -1,9 +1,11 @@
 -- The parameters after a block, in the numbers that were given.
-use Rattle.std.proofs.Common.{◌≡◌, ℕ, ◌<◌, List, Option, Some, None, option_map, refl, sym, ap, ◌∙◌}
+use Rattle.std.proofs.Common.{◌≡◌, ℕ, ◌<◌, List, [], ◌∷◌, Option, Some, None, option_map, Bool, true, false, if◌then◌else◌, refl, sym, ap, ◌∙◌}
 use Rattle.std.specs.Prelude.{All, AllPairs}
-use Rattle.std.proofs.lemmas.List.Elements.{All-map}
+use Rattle.std.proofs.lemmas.List.Elements.{All-nil, All-cons, All-append}
 use Rattle.gw_blocks.specs.declared.parts.Block.{Block}
 use Rattle.gw_object.specs.declared.parts.ReturnRow.{ReturnRow}
+use Rattle.gw_kinds.specs.declared.ways.Who.{Who}
+use Rattle.gw_kinds.specs.declared.ways.Who.TheVariants.{Itself, Copies}
 use Rattle.gw_kinds.specs.declared.ways.Exit.{Exit}
 use Rattle.gw_kinds.specs.Exits.{leads_to, exits_with}
 use Rattle.gw_flow.specs.declared.abstract_state.Parameter.{Parameter}
@@ -13,9 +15,10 @@ use Rattle.gw_flow.specs.declared.setting.SetTo.TheVariants.{Number, ReturnHere}
 use Rattle.gw_flow.specs.declared.setting.Setting.{Setting}
 use Rattle.gw_flow.specs.declared.edges.FlowEdge.{FlowEdge}
 use Rattle.gw_flow.specs.Entries.{with_entry}
+use Rattle.gw_flow.specs.Rows.{ParamKind, Row}
 use Rattle.gw_flow.specs.Seen.{kind_seen, params_of, known}
 use Rattle.gw_flow.specs.Flow.{own_kind, own_setting, parameters_with}
-use Rattle.gw_flow.specs.Blocks.{parameter_set, kind_set, with_setting, after, returns_read, move, edges_from}
+use Rattle.gw_flow.specs.Blocks.{parameter_set, kind_set, with_setting, after, returns_read, move, is_used, known_of, edge_along, edges_along, edges_from}
 use Rattle.gw_flow.proofs.Entries.{entries-in_place}
 use Rattle.gw_flow.proofs.Parameters.{after_params}
 use Rattle.gw_flow.proofs.Ordered.{in_place_ascends}
@@ -38,12 +41,33 @@ own_with rows b (Some set) s =
 own_after : (rows : List ReturnRow) (b : ℕ) (block : Block) (s : StateParts) → (after b block (known rows s)).params ≡ params_of rows (parameters_with (own_setting b block) s.parameters)
 own_after rows b block s = after_params b block (known rows s) ∙ own_with rows b (parameter_set block) s
 
+-- who goes along an exit has the parameters of who entered
+known_params : (who : Who) (passed : Row) → (known_of who passed).params ≡ passed.params
+known_params Itself passed = refl
+known_params (Copies copies) passed = refl
+
+module _ (params : List (ℕ × ParamKind)) where
+  -- these are the parameters at an edge
+  abbrev Has : FlowEdge → Type 0
+  Has edge = edge.state.params ≡ params
+
+  at_edge : (used : Bool) (to : ℕ) (state : Row) → state.params ≡ params → All Has (if used then move to state ∷ [] else [])
+  at_edge true to state h = All-cons Has (move to state) [] h (All-nil Has)
+  at_edge false to state h = All-nil Has
+
+  -- and at each of several
+  at_edges : (b : ℕ) (es : List Exit) (passed : Row) → passed.params ≡ params → All Has (edges_along b es passed)
+  at_edges b [] passed h = All-nil Has
+  at_edges b (e ∷ es) passed h =
+      All-append Has (edge_along b passed e) (edges_along b es passed)
+      (at_edge (is_used e.who) (leads_to b e.way) (known_of e.who passed) (known_params e.who passed ∙ h))
+      (at_edges b es passed h)
+
 -- and so at each edge of the block
 pub own_at_edges : (rows : List ReturnRow) (b : ℕ) (block : Block) (s : StateParts) →
     All (λ (e : FlowEdge). e.state.params ≡ params_of rows (parameters_with (own_setting b block) s.parameters)) (edges_from b block (known rows s))
 own_at_edges rows b block s =
-    All-map (λ (e : FlowEdge). e.state.params ≡ params_of rows (parameters_with (own_setting b block) s.parameters)) (λ (exit : Exit). move (leads_to b exit.way) (after b block (known rows s))) (exits_with (returns_read block (known rows s)) block)
-    (λ i d within. own_after rows b block s)
+    at_edges (params_of rows (parameters_with (own_setting b block) s.parameters)) b (exits_with (returns_read block (known rows s)) block) (after b block (known rows s)) (own_after rows b block s)
 
 -- parameters ascend once one is set, if one is
 pub with_ascends : (set : Option Parameter) (ps : List Parameter) → AllPairs (λ (a b : Parameter). a.number < b.number) ps → AllPairs (λ (a b : Parameter). a.number < b.number) (parameters_with set ps)

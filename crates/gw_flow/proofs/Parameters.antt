@@ -53,6 +53,10 @@ after_params b (blocks.Savevalue s) row = refl
 after_params b (blocks.Mark p) row = refl
 after_params b (blocks.Plus a) row = refl
 after_params b (blocks.Tabulate t) row = refl
+after_params b (blocks.Split s) row = refl
+after_params b (blocks.Assemble size) row = refl
+after_params b (blocks.Priority q) row = refl
+after_params b blocks.Buffer row = refl
 
 -- WHERE A BLOCK MAY BE PASSED
 

@@ -1,5 +1,5 @@
 -- Blocks: what each asks of a transaction that enters it, and what is known of the transaction where it goes on.
-use Rattle.std.specs.Prelude.{ℕ, ◌+◌, ◌-◌, List, [], ◌∷◌, ◌++◌, map, length, Option, Some, None, is_some, Bool, true, false, if◌then◌else◌, not, ◌||◌, ◌==◌, nat_le}
+use Rattle.std.specs.Prelude.{ℕ, ◌+◌, ◌-◌, List, [], ◌∷◌, ◌++◌, length, Option, Some, None, is_some, Bool, true, false, if◌then◌else◌, not, ◌||◌, ◌==◌, nat_le}
 use Rattle.std.specs.List.{flat_map}
 use Rattle.std.specs.Option.{option_map, option_map_or}
 use Rattle.gw_object.specs.Entities.{capacity_of}
@@ -10,6 +10,8 @@ use Rattle.gw_blocks.specs.declared.parts.Operand.{Operand}
 use Rattle.gw_blocks.specs.declared.parts.Block.{Block}
 use Rattle.gw_blocks.specs.declared.parts.Block.TheVariants as blocks
 use Rattle.gw_object.specs.declared.parts.Parts.{Parts}
+use Rattle.gw_kinds.specs.declared.ways.Who.{Who}
+use Rattle.gw_kinds.specs.declared.ways.Who.TheVariants.{Itself, Copies}
 use Rattle.gw_kinds.specs.declared.ways.Exit.{Exit}
 use Rattle.gw_kinds.specs.Exits.{leads_to, exits_with}
 use Rattle.gw_kinds.specs.Evaluated.{kind_at, evaluated}
@@ -23,7 +25,7 @@ use Rattle.gw_flow.specs.declared.setting.SetTo.TheVariants.{Number, ReturnHere}
 use Rattle.gw_flow.specs.declared.setting.Setting.{Setting}
 use Rattle.gw_flow.specs.Codes as codes
 use Rattle.gw_flow.specs.Entries.{in_order}
-use Rattle.gw_flow.specs.Rows.{ParamKind, Num, Ret, Row, kind_of, is_number, is_return, return_blocks, owns, units_of, is_empty, nothing_known, with_parameter, with_facility, without_facility, with_units}
+use Rattle.gw_flow.specs.Rows.{ParamKind, Num, Ret, Row, kind_of, is_number, is_return, return_blocks, owns, units_of, is_empty, nothing_known, with_parameter, with_facility, without_facility, with_units, parameters_alone}
 
 -- a state table: what is known of a transaction that is about to go to a target, if it says that one may go there
 abbrev pub Table : Type 0
@@ -76,6 +78,8 @@ abbrev pub own_rules : Parts → Block → Row → List Rule
 own_rules p (blocks.Generate g) state = rule codes.edge_state (is_empty state) ∷ []
 -- who ends owns nothing (24)
 own_rules p (blocks.Terminate by) state = rule codes.owns_at_end (length state.facilities == 0) ∷ []
+-- who may be merged into another owns nothing (24)
+own_rules p (blocks.Assemble size) state = rule codes.owns_at_end (length state.facilities == 0) ∷ []
 -- a facility isn't seized by its owner (21), and is released by its owner alone (22)
 own_rules p (blocks.Seize f) state = rule codes.already_owned (not (owns state f)) ∷ []
 own_rules p (blocks.Release f) state = rule codes.not_owner (owns state f) ∷ []
@@ -138,9 +142,23 @@ returns_read block state = []
 abbrev pub move : ℕ → Row → FlowEdge
 move b state = record { code = codes.edge_state; target = targets.Block b; state = state }
 
+-- whether somebody may go along an exit: the way of no copies isn't gone
+abbrev pub is_used : Who → Bool
+is_used Itself = true
+is_used (Copies copies) = not (copies == 0)
+
+-- what is known of who goes along an exit, where this is known of a transaction that has passed the block
+abbrev pub known_of : Who → Row → Row
+known_of Itself passed = passed
+known_of (Copies copies) passed = parameters_alone passed
+
+-- the flow edge along an exit of the block of number b, if somebody may go along it
+abbrev pub edge_along : ℕ → Row → Exit → List FlowEdge
+edge_along b passed exit = if is_used exit.who then move (leads_to b exit.way) (known_of exit.who passed) ∷ [] else []
+
 -- the flow edges along these exits of the block of number b, where this is known of a transaction that has passed it
 abbrev pub edges_along : ℕ → List Exit → Row → List FlowEdge
-edges_along b exits passed = map (λ (exit : Exit). move (leads_to b exit.way) passed) exits
+edges_along b exits passed = flat_map (edge_along b passed) exits
 
 -- the flow edges of the block of number b in a state, in order: those of most blocks are the same for every table
 abbrev pub edges_from : ℕ → Block → Row → List FlowEdge

@@ -78,6 +78,10 @@ with_facility f row = record row { facilities = with_number f row.facilities }
 abbrev pub without_facility : ℕ → Row → Row
 without_facility f row = record row { facilities = without_number f row.facilities }
 
+-- what is known of a copy: the parameters are those of its parent, and it owns and holds nothing
+abbrev pub parameters_alone : Row → Row
+parameters_alone row = record row { facilities = []; units = [] }
+
 -- a number that isn't 0
 abbrev pub nonzero : ℕ → Option ℕ
 nonzero n = if n == 0 then None else Some n

@@ -115,6 +115,7 @@ operands p env (blocks.Test t) streams =
     Value (left.0 ∷ right.0 ∷ [], right.1)
 operands p env (blocks.TransferByFraction f) streams = Value (alone (drawn_thousandths 1 streams))
 operands p env (blocks.Savevalue a) streams = one_operand p env (Some a.value) streams
+operands p env (blocks.Priority a) streams = one_operand p env (Some a.value) streams
 operands p env (blocks.Plus a) streams = one_operand p env (Some a.value) streams
 operands p env (blocks.Tabulate t) streams = one_operand p env (operand_at p.entities t) streams
 operands p env block streams = Value ([], streams)

@@ -16,7 +16,7 @@ use crate::lookups::Lookups;
 use crate::setting::{Setting, parameter_set};
 use crate::state::{Holds, State};
 use gw_blocks::Block;
-use gw_kinds::{Exit, exits, leads_to, returns_to};
+use gw_kinds::{Exit, Who, exits, leads_to, returns_to};
 use gw_object::{Items, Memory};
 use std::alloc::Global;
 
@@ -116,6 +116,26 @@ fn move_to<'a>(target: u16, state: State<'a>) -> FlowEdge<'a>
     }
 }
 
+/// Whether somebody may go along an exit: the way of no copies isn't gone.
+fn is_used(who: Who) -> bool
+    ensures { result ≡ model.is_used who }
+{
+    match who {
+        Who::Itself => true,
+        Who::Copies(copies) => copies != 0,
+    }
+}
+
+/// What is known of who goes along an exit, of a transaction that has passed the block.
+fn known_of<'a>(alloc: Global, who: Who, passed: &State<'a>) -> Result<State<'a>, Memory>
+    ensures { IfOk result (λ state. state ≡ model.known_of who passed.now) }
+{
+    match who {
+        Who::Itself => passed.copy(alloc),
+        Who::Copies(_) => passed.parameters_alone(alloc),
+    }
+}
+
 /// The edges along these exits of the block of this number, in order, of a transaction that has passed it.
 fn edges_along<'a>(
     alloc: Global,
@@ -128,8 +148,10 @@ fn edges_along<'a>(
 {
     let mut edges = Vec::new(alloc);
     for exit in exits {
-        let state = passed.copy(alloc)?;
-        edges.push(move_to(leads_to(number, exit.way), state))?;
+        if is_used(exit.who) {
+            let state = known_of(alloc, exit.who, passed)?;
+            edges.push(move_to(leads_to(number, exit.way), state))?;
+        }
     }
     Ok(edges)
 }

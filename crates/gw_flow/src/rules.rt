@@ -144,7 +144,7 @@ fn check_own_rules<S: Lookups>(
     let place = Place::Block(number);
     match block {
         Block::Generate(_) => check(EDGE_STATE, place, state.is_empty()),
-        Block::Terminate(_) => check(OWNS_AT_END, place, state.owns_nothing()),
+        Block::Terminate(_) | Block::Assemble(_) => check(OWNS_AT_END, place, state.owns_nothing()),
         Block::Seize(f) => check(ALREADY_OWNED, place, !state.owns(*f)),
         Block::Release(f) => check(NOT_OWNER, place, state.owns(*f)),
         Block::Enter(u) => {

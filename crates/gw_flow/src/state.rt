@@ -205,6 +205,17 @@ impl<'a> State<'a> {
         })
     }
 
+    /// What is known of a copy: its parameters are those of its parent, and it owns and holds nothing.
+    pub(crate) fn parameters_alone(&self, alloc: Global) -> Result<State<'a>, Memory>
+        ensures { IfOk result (λ state. state ≡ rows.parameters_alone self.now) }
+    {
+        Ok(State {
+            params: copy_of(alloc, &self.params)?,
+            facilities: Items::from_vec(Vec::new(alloc)),
+            units: Items::from_vec(Vec::new(alloc)),
+        })
+    }
+
     /// The state once a parameter is set to what it then holds.
     pub(crate) fn with_parameter(
         &self,

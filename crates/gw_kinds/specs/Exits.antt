@@ -6,6 +6,7 @@ use Rattle.gw_blocks.specs.declared.parts.Block.{Block}
 use Rattle.gw_blocks.specs.declared.parts.Block.TheVariants as blocks
 use Rattle.gw_kinds.specs.declared.ways.Way.{Way}
 use Rattle.gw_kinds.specs.declared.ways.Way.TheVariants.{Falls, Goes}
+use Rattle.gw_kinds.specs.declared.ways.Who.TheVariants.{Itself, Copies}
 use Rattle.gw_kinds.specs.declared.ways.Exit.{Exit}
 
 -- the number of the block to which a way leads from the block of number b
@@ -13,9 +14,13 @@ abbrev pub leads_to : ℕ → Way → ℕ
 leads_to b Falls = b + 1
 leads_to b (Goes target) = target
 
--- an exit at once: no time passes on it
+-- an exit at once of who entered: no time passes on it
 abbrev pub at_once : Way → Exit
-at_once way = record { way = way; passes_time = false }
+at_once way = record { way = way; passes_time = false; who = Itself }
+
+-- an exit at once of so many copies of who entered
+abbrev pub for_copies : ℕ → Way → Exit
+for_copies copies way = record { way = way; passes_time = false; who = Copies copies }
 
 -- whether the least time that may be drawn is known to be 1 or more, with this mean and half the range: both are constants, half the range is 0 or more, and the mean is above it
 abbrev pub takes_time : Operand → Operand → Bool
@@ -35,7 +40,7 @@ falls_or_goes (Some target) = at_once Falls ∷ at_once (Goes target) ∷ []
 -- the exits of a block, in order; most blocks fall to the next one at once. A TRANSFER in parameter mode has those of the returns that its parameter may hold
 abbrev pub exits : Block → List Exit
 exits (blocks.Terminate by) = []
-exits (blocks.Advance time) = record { way = Falls; passes_time = takes_time time.mean time.half } ∷ []
+exits (blocks.Advance time) = record { way = Falls; passes_time = takes_time time.mean time.half; who = Itself } ∷ []
 exits (blocks.Test t) = falls_or_goes t.otherwise
 exits (blocks.Gate g) = falls_or_goes g.otherwise
 exits (blocks.Transfer target) = at_once (Goes target) ∷ []
@@ -43,6 +48,7 @@ exits (blocks.TransferByFraction f) = at_once (goes_or_falls f.otherwise) ∷ at
 exits (blocks.TransferToSubroutine c) = at_once (Goes c.target) ∷ []
 exits (blocks.TransferByParameter q) = []
 exits (blocks.Loop l) = at_once Falls ∷ at_once (Goes l.target) ∷ []
+exits (blocks.Split s) = at_once Falls ∷ for_copies s.copies (goes_or_falls s.target) ∷ []
 exits block = at_once Falls ∷ []
 
 -- SUBROUTINES

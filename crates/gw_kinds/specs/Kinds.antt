@@ -256,7 +256,7 @@ has_plain_half block = true
 abbrev pub are_units : ℕ → Bool
 are_units n = nat_le 1 n && nat_le n (2 ^ 20)
 
--- a first arrival isn't before clock 0, a limit of arrivals isn't 0, units are within their range, and a fraction is at most the whole
+-- a first arrival isn't before clock 0, a limit of arrivals isn't 0, units are within their range, a fraction is at most the whole, and an assembly set isn't empty
 abbrev pub has_good_constants : Block → Bool
 has_good_constants (blocks.Generate g) = is_none_or g.first (int_le (pos 0)) && is_none_or g.limit (nat_lt 0)
 has_good_constants (blocks.Enter u) = are_units u.number
@@ -264,6 +264,7 @@ has_good_constants (blocks.Leave u) = are_units u.number
 has_good_constants (blocks.Queue u) = are_units u.number
 has_good_constants (blocks.Depart u) = are_units u.number
 has_good_constants (blocks.TransferByFraction f) = nat_le f.thousandths 1000
+has_good_constants (blocks.Assemble size) = nat_lt 0 size
 has_good_constants block = true
 
 -- THE CHECKS

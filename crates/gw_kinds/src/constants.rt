@@ -18,8 +18,8 @@ fn are_units(number: u32) -> bool
     1 <= number && number <= MOST_UNITS
 }
 
-/// Whether no first arrival comes before clock 0, no limit of arrivals is 0, units are within their range, and a
-/// fraction is at most the whole.
+/// Whether no first arrival comes before clock 0, no limit of arrivals is 0, units are within their range, a
+/// fraction is at most the whole, and an assembly set isn't empty.
 pub(crate) fn has_good_constants(block: &Block) -> bool
     ensures { result ≡ model.has_good_constants block.now }
 {
@@ -31,6 +31,7 @@ pub(crate) fn has_good_constants(block: &Block) -> bool
             are_units(units.number)
         }
         Block::TransferByFraction(fraction) => fraction.thousandths <= WHOLE,
+        Block::Assemble(size) => 0 < *size,
         _ => true,
     }
 }

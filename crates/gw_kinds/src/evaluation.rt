@@ -101,8 +101,8 @@ pub fn operand_at(entities: &[Entity], number: u16) -> Option<Operand>
 }
 
 /// The operands of a block that are evaluated, in order (GPSS World Reference Manual, chapter 7): the mean and half the
-/// range of a GENERATE or an ADVANCE, what a TERMINATE, an ASSIGN or a SAVEVALUE takes, what a TEST compares, and what a
-/// PLUS evaluates.
+/// range of a GENERATE or an ADVANCE, what a TERMINATE, an ASSIGN or a SAVEVALUE takes, what a TEST compares, the new
+/// priority of a PRIORITY, and what a PLUS evaluates.
 pub fn values(block: &Block) -> Operands
     ensures { result ≡ model.values block.now }
 {
@@ -113,6 +113,7 @@ pub fn values(block: &Block) -> Operands
         Block::Assign(assign) => Operands::one(assign.value),
         Block::Test(test) => Operands::two(test.left, test.right),
         Block::Savevalue(save) => Operands::one(save.value),
+        Block::Priority(priority) => Operands::one(priority.value),
         Block::Plus(plus) => Operands::one(plus.value),
         _ => Operands::none(),
     }

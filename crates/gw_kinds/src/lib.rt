@@ -21,4 +21,4 @@ pub use checks::check;
 pub use entities::{EntityKind, Named};
 pub use evaluation::{Operands, argument_in, as_operand, evaluated, operand_at, source_of, values};
 pub use pass::check_kinds;
-pub use ways::{Exit, Way, exits, leads_to, returns_to};
+pub use ways::{Exit, Way, Who, exits, leads_to, returns_to};

@@ -16,6 +16,15 @@ pub enum Way {
     Goes(u16),
 }
 
+/// Who goes on along an exit.
+#[derive(Clone, Copy, Debug, PartialEq, Eq)]
+pub enum Who {
+    /// The transaction that entered the block.
+    Itself,
+    /// So many copies of it.
+    Copies(u16),
+}
+
 /// An exit of a block.
 #[derive(Clone, Copy, Debug, PartialEq, Eq)]
 pub struct Exit {
@@ -23,6 +32,8 @@ pub struct Exit {
     pub way: Way,
     /// Whether at least one clock unit passes before a transaction is there.
     pub passes_time: bool,
+    /// Who goes on along it.
+    pub who: Who,
 }
 
 impl Default for Exit {
@@ -41,6 +52,18 @@ fn at_once(way: Way) -> Exit
     Exit {
         way,
         passes_time: false,
+        who: Who::Itself,
+    }
+}
+
+/// An exit at once of so many copies.
+fn for_copies(copies: u16, way: Way) -> Exit
+    ensures { result ≡ model.for_copies copies way }
+{
+    Exit {
+        way,
+        passes_time: false,
+        who: Who::Copies(copies),
     }
 }
 
@@ -65,6 +88,7 @@ pub fn exits(block: &Block) -> ArrayVec<Exit, 2>
         Block::Advance(time) => exits.push(Exit {
             way: Way::Falls,
             passes_time: takes_time(*time),
+            who: Who::Itself,
         }),
         Block::Test(test) => exits = falls_or_goes(test.otherwise),
         Block::Gate(gate) => exits = falls_or_goes(gate.otherwise),
@@ -77,6 +101,10 @@ pub fn exits(block: &Block) -> ArrayVec<Exit, 2>
         Block::Loop(looping) => {
             exits.push(at_once(Way::Falls));
             exits.push(at_once(Way::Goes(looping.target)));
+        }
+        Block::Split(split) => {
+            exits.push(at_once(Way::Falls));
+            exits.push(for_copies(split.copies, goes_or_falls(split.target)));
         }
         _ => exits.push(at_once(Way::Falls)),
     }

@@ -37,6 +37,7 @@ pub record Begins (p : Parts) (n : ℕ) (ss : List ℕ) (m : Machine) : Type 0 w
   pub future_events : m.future_events.items ≡ []
   pub lists : m.waits.lists ≡ replicate (length p.entities) []
   pub retry : m.waits.retry ≡ []
+  pub assemblies : m.assemblies.items ≡ []
   pub stir : m.stir ≡ false
   pub facilities : m.facilities ≡ record { facilities = map (λ _. idle) p.entities; passed = 0 }
   pub storages : m.storages ≡ record { storages = map (λ (e : Entity). vacant (capacity_of e.kind)) p.entities; passed = 0 }
@@ -64,7 +65,7 @@ module _ (p : Parts) (count : ℕ) (streams : List ℕ) (m : Machine) (b : Begin
       let f = ap (λ (x : FacilityTable). x.facilities) b.facilities in
       let s = ap (λ (x : StorageTable). x.storages) b.storages in
       let q = ap (λ (x : QueueTable). x.queues) b.queues in
-      rw (delay_lists, f, s, q, b.switches, b.savevalues, b.tables, b.clock, b.count, b.steps, b.streams, b.scheduled, b.transactions, b.active, b.current_events, b.future_events, b.retry, b.stir, b.entries, b.ended) refl
+      rw (delay_lists, f, s, q, b.switches, b.savevalues, b.tables, b.clock, b.count, b.steps, b.streams, b.scheduled, b.transactions, b.active, b.current_events, b.future_events, b.retry, b.assemblies, b.stir, b.entries, b.ended) refl
 
   pub linked-nothing : Linked m
   linked-nothing = record {
@@ -74,6 +75,7 @@ module _ (p : Parts) (count : ℕ) (streams : List ℕ) (m : Machine) (b : Begin
     delay_lists = λ e below. rw (b.lists, at-replicate {X = List Member} [] (length p.entities) e) tt;
     listed = rw b.lists (length-replicate (length p.entities) [] ∙ sym entities);
     retry = rw b.retry tt;
+    assemblies = rw b.assemblies tt;
     sound = b.sound;
     resides = subst ResidesOnce (sym state-nothing) (resides-nothing p count streams);
     timed = record { facilities = rw (b.facilities, b.clock) refl; storages = rw (b.storages, b.clock) refl; queues = rw (b.queues, b.clock) refl };

@@ -6,19 +6,20 @@ use Rattle.gw_num.specs.Table.{at, put}
 use Rattle.gw_chains.specs.declared.tx.Tx.{Tx}
 use Rattle.gw_chains.specs.declared.tx.Member.{Member}
 use Rattle.gw_chains.specs.declared.tx.Event.{Event}
+use Rattle.gw_chains.specs.declared.assemblies.Assembly.{Assembly as HeldAssembly}
 use Rattle.gw_transactions.specs.declared.Transaction.{Transaction}
 use Rattle.gw_transactions.specs.Transactions.{LiveTransaction, put_attributes, put_parameter, Holds, IsSound}
 use Rattle.gw_num.proofs.Tables.{at-put, set-put, at-get_or_any, at-map}
 use Rattle.gw_transactions.proofs.Populations.{transaction_of}
 use Rattle.gw_machine.specs.declared.machine.Machine.{Machine}
-use Rattle.gw_step.specs.State.{FutureEvent, priority_of, raised, delay_list}
+use Rattle.gw_step.specs.State.{FutureEvent, Assembly, priority_of, raised, delay_list}
 use Rattle.gw_step.specs.Residence.{ResidesOnce, occurrences}
 use Rattle.gw_step.specs.Changes.{entered, assigned, destroyed, rests_until, arrives}
-use Rattle.gw_machine.specs.View.{state_of, event_of, member_number}
+use Rattle.gw_machine.specs.View.{state_of, event_of, member_number, assembly_of}
 use Rattle.gw_machine.specs.Coherence.{Linked, IsTimed, IsHeld, CanRest, Carries, Every, Others}
 use Rattle.gw_step.proofs.Lists.{all_placed, map-placed, all_same, map-map}
 use Rattle.gw_step.proofs.Residence.{resides-entered, resides-assigned, resides-destroyed, resides-rests, resides-arrives, alone}
-use Rattle.gw_machine.proofs.Handles.{active_carried, members_carried, events_carried, every, others, carries-set, carries-assign, carries-same, carries-insert, carries-remove}
+use Rattle.gw_machine.proofs.Handles.{active_carried, members_carried, events_carried, assemblies_carried, every, others, carries-set, carries-assign, carries-same, carries-insert, carries-remove}
 
 -- one more at a place, as the code writes it
 pub raised_is : (counts : List ℕ) (place was : ℕ) → place < length counts → was ≡ get_or counts place was → slice_set counts place (was + 1) ≡ raised place counts
@@ -37,6 +38,7 @@ events-in_time tx time xs = map-placed event_of (λ (y : Event). int_le y.time t
 -- what these changes leave as it was: who waits, the entities and the clock
 pub record Keeps (m new : Machine) : Type 0 where
   pub waits : new.waits ≡ m.waits
+  pub assemblies : new.assemblies.items ≡ m.assemblies.items
   pub facilities : new.facilities ≡ m.facilities
   pub storages : new.storages ≡ m.storages
   pub queues : new.queues ≡ m.queues
@@ -59,6 +61,7 @@ linked-carried m new c sound a cs fs k resides l =
       future_events = rw fs (events_carried Every m.transactions new.transactions c m.future_events.items (every (λ (x : Event). x.tx.number) m.future_events.items) l.future_events);
       delay_lists = λ e below. rw k.waits (carried (at [] m.waits.lists e) (l.delay_lists e (rw k.facilities at below)));
       retry = rw k.waits (carried m.waits.retry l.retry);
+      assemblies = rw k.assemblies (assemblies_carried Every m.transactions new.transactions c m.assemblies.items (every (λ (x : HeldAssembly). x.first.number) m.assemblies.items) l.assemblies);
       listed = rw (k.waits, k.facilities) l.listed;
       sound = sound;
       resides = resides;
@@ -107,6 +110,8 @@ linked-destroyed m new tx ts ps sound r a cs fs k is =
           let within : e < length m.facilities.facilities = rw k.facilities at below in
           rw k.waits (carried (at [] m.waits.lists e) (sym (ap (occurrences n) (delay_list-at m e)) ∙ none.delay_lists e) (l.delay_lists e within));
       retry = rw k.waits (carried m.waits.retry none.retry l.retry);
+      assemblies = rw k.assemblies (assemblies_carried (Others n) m.transactions new.transactions c m.assemblies.items
+          (others (λ (x : HeldAssembly). x.first.number) n m.assemblies.items (sym (ap (occurrences n) (map-map (λ (a : Assembly). a.number) assembly_of m.assemblies.items)) ∙ none.assemblies)) l.assemblies);
       listed = rw (k.waits, k.facilities) l.listed;
       sound = sound;
       resides = subst ResidesOnce (sym is) (resides-destroyed n u.0 (state_of m) active u.1 l.resides);
@@ -125,6 +130,7 @@ linked-rested m new tx time ps r a cs fs k is =
       future_events = rw (ps, fs) (all_placed (IsHeld m.transactions) (λ (y : Event). int_le y.time time) (record { tx = tx; time = time }) m.future_events.items r.held l.future_events);
       delay_lists = λ e below. rw (ps, k.waits) (l.delay_lists e (rw k.facilities at below));
       retry = rw (ps, k.waits) l.retry;
+      assemblies = rw (ps, k.assemblies) l.assemblies;
       listed = rw (k.waits, k.facilities) l.listed;
       sound = rw ps l.sound;
       resides = subst ResidesOnce (sym is) (resides-rests tx.number time (state_of m) active l.resides);
@@ -148,6 +154,7 @@ linked-arrived m new tx t b priority time ts ps ns sound a cs fs k is l =
           (events_carried Every p q c m.future_events.items (every (λ (x : Event). x.tx.number) m.future_events.items) l.future_events));
       delay_lists = λ e below. rw k.waits (carried (at [] m.waits.lists e) (l.delay_lists e (rw k.facilities at below)));
       retry = rw k.waits (carried m.waits.retry l.retry);
+      assemblies = rw k.assemblies (assemblies_carried Every p q c m.assemblies.items (every (λ (x : HeldAssembly). x.first.number) m.assemblies.items) l.assemblies);
       listed = rw (k.waits, k.facilities) l.listed;
       sound = sound;
       resides = subst ResidesOnce (sym is) (resides-arrives b priority time (state_of m) l.resides);

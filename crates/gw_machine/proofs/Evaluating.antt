@@ -1,8 +1,8 @@
 -- What evaluations come to.
-use Rattle.std.proofs.Common.{◌≡◌, ◌≢◌, ℕ, suc, zero, ◌-◌, ◌%◌, ◌<◌, ◌==◌, pos, ℤ, List, [], ◌∷◌, length, get_or, Option, Some, None, Result, Ok, Err, true, option_map, refl, sym, ap, ◌∙◌, subst, arith}
-use Rattle.std.specs.Prelude.{slice_set, slice_get, unwrap_or, IfSome}
+use Rattle.std.proofs.Common.{◌≡◌, ◌≢◌, ℕ, suc, zero, ◌-◌, ◌%◌, ◌<◌, ◌==◌, pos, ℤ, List, [], ◌∷◌, length, get_or, Option, Some, None, Result, Ok, Err, true, option_map, refl, sym, ap, ◌∙◌, arith}
+use Rattle.std.specs.Prelude.{slice_set, unwrap_or, IfSome}
 use Rattle.std.specs.List.{All}
-use Rattle.std.specs.Option.{option_map_or, option_flatten, IsSome, IsSomeAnd}
+use Rattle.std.specs.Option.{option_map_or, option_flatten, IsSomeAnd}
 use Rattle.std.proofs.lemmas.Bool.Decides.{nat_tests}
 use Rattle.std.proofs.lemmas.List.Elements.{All-head, All-tail}
 use Rattle.gw_num.specs.Table.{at}
@@ -21,16 +21,16 @@ use Rattle.gw_object.specs.declared.parts.Kind.{Kind}
 use Rattle.gw_object.specs.declared.parts.Kind.TheVariants as kinds
 use Rattle.gw_object.specs.declared.parts.Parts.{Parts}
 use Rattle.gw_kinds.specs.Evaluated.{operand_of, operand_at, if_function, if_variable, argument_in, call_in, source_of}
-use Rattle.gw_kinds.specs.Laws.{TakesNoArguments, OperandHolds}
+use Rattle.gw_kinds.specs.Laws.{OperandHolds}
 use Rattle.gw_code_flow.specs.declared.ends.PlusEnd.{PlusEnd}
-use Rattle.gw_code_flow.specs.Code.{procedure_at, needs_of, asked_by_source}
+use Rattle.gw_code_flow.specs.Code.{procedure_at, asked_by_source}
 use Rattle.gw_code_flow.specs.Environment.{Environment, kept_value, ReadTheSame}
 use Rattle.gw_code_flow.specs.Laws.{HasSet, MayBegin}
 use Rattle.gw_code_flow.specs.Meaning.{Evaluates, opening}
 use Rattle.gw_code_flow.specs.Outcome.{outcome_of}
 use Rattle.gw_code_flow.proofs.Theorems.{one_outcome_law, outcomes_are_evaluated_law}
 use Rattle.gw_code_flow.proofs.Within.{outcomes_depend_on_what_is_kept}
-use Rattle.gw_flow.specs.Values.{Evaluation, Value, ◌>>=◌, drawn_below, came_to, if_set, source_value}
+use Rattle.gw_flow.specs.Values.{Value, ◌>>=◌, drawn_below, came_to, if_set, source_value}
 use Rattle.gw_verify.specs.Checks.{Checked}
 use Rattle.gw_verify.proofs.AllPass.{kinds_pass, plus_passes}
 use Rattle.gw_plus.specs.declared.env.Env.{Env}

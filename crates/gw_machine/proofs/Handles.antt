@@ -5,13 +5,14 @@ use Rattle.std.proofs.lemmas.Bool.{cases_eq}
 use Rattle.gw_chains.specs.declared.tx.Tx.{Tx}
 use Rattle.gw_chains.specs.declared.tx.Member.{Member}
 use Rattle.gw_chains.specs.declared.tx.Event.{Event}
+use Rattle.gw_chains.specs.declared.assemblies.Assembly.{Assembly}
 use Rattle.gw_transactions.specs.declared.Transaction.{Transaction}
 use Rattle.gw_num.specs.Table.{at, put}
 use Rattle.gw_transactions.specs.Transactions.{LiveTransaction, Population, put_attributes, put_parameter, with_parameter, Holds, IsSound}
 use Rattle.gw_num.proofs.Tables.{at-put, at-put_other}
 use Rattle.gw_step.specs.State.{priority_in, priority_of}
 use Rattle.gw_step.specs.Residence.{occurrences}
-use Rattle.gw_machine.specs.Coherence.{IsRanked, IsHeld, Carries, Every, Others}
+use Rattle.gw_machine.specs.Coherence.{IsRanked, IsHeld, IsHeldBy, Carries, Every, Others}
 use Rattle.gw_step.proofs.Residence.{same_number}
 use Rattle.gw_step.proofs.Attributes.{priority-attributes}
 
@@ -29,6 +30,10 @@ members_carried these p q c (x ∷ xs) ts h = (
 pub events_carried : (these : ℕ → Type 0) (p q : Population) → Carries these p q → (xs : List Event) → AllByRecursion (λ (x : Event). these x.tx.number) xs → AllByRecursion (IsHeld p) xs → AllByRecursion (IsHeld q) xs
 events_carried these p q c [] ts h = tt
 events_carried these p q c (x ∷ xs) ts h = (c.held x.tx ts.0 h.0, events_carried these p q c xs ts.1 h.1)
+
+pub assemblies_carried : (these : ℕ → Type 0) (p q : Population) → Carries these p q → (xs : List Assembly) → AllByRecursion (λ (x : Assembly). these x.first.number) xs → AllByRecursion (IsHeldBy p) xs → AllByRecursion (IsHeldBy q) xs
+assemblies_carried these p q c [] ts h = tt
+assemblies_carried these p q c (x ∷ xs) ts h = (c.held x.first ts.0 h.0, assemblies_carried these p q c xs ts.1 h.1)
 
 pub every : {A : Type 0} (f : A → ℕ) (xs : List A) → AllByRecursion (λ x. Every (f x)) xs
 every f [] = tt
@@ -63,6 +68,13 @@ carries-set p q n t ts ps pr = record {
     | inl e ↦ ap (λ xs. priority_of xs h.number) ts ∙ ap (priority_of (put_attributes n t p.txs)) e ∙ ap priority_in (at-put None p.txs n _) ∙ priority-attributes t (at None p.txs n) pr ∙ sym (ap (priority_of p.txs) e)
     | inr e ↦ ap (λ xs. priority_of xs h.number) ts ∙ ap priority_in (at-put_other None p.txs n h.number _ e)
   ];
+}
+
+-- one transaction was written, with another priority
+pub carries-ranked : (p q : Population) (n : ℕ) (t : Transaction) → q.txs ≡ put_attributes n t p.txs → q.places ≡ p.places → Carries (Others n) p q
+carries-ranked p q n t ts ps = record {
+  held = λ h other is. ap (λ xs. at None xs h.number) ps ∙ is;
+  rank = λ h other is. ap (λ xs. priority_of xs h.number) ts ∙ ap priority_in (at-put_other None p.txs n h.number _ other);
 }
 
 -- nothing changed

@@ -1,26 +1,20 @@
 -- What a machine lends to those who evaluate for a subject, and what may be read of it.
-use Rattle.std.proofs.Common.{◌≡◌, ◌≢◌, ℕ, ◌≤◌, ◌^◌, ◌==◌, ℤ, List, length, Option, Some, None, false, refl, sym, ap, ◌∙◌, subst, arith}
+use Rattle.std.proofs.Common.{◌≡◌, ℕ, ◌≤◌, ◌==◌, List, length, Some, None, false, refl, ap, ◌∙◌, arith}
 use Rattle.std.specs.Prelude.{sum}
 use Rattle.std.specs.Option.{option_map_or}
-use Rattle.std.proofs.lemmas.Bool.Decides.{nat_tests}
 use Rattle.std.proofs.lemmas.List.Sums.{count_by-le-length}
 use Rattle.gw_num.specs.Table.{at}
 use Rattle.gw_blocks.specs.declared.parts.EntityAttribute.{EntityAttribute}
 use Rattle.gw_blocks.specs.declared.parts.EntityAttribute.TheVariants.{BlockCount}
 use Rattle.gw_blocks.specs.declared.parts.Operand.{Operand}
-use Rattle.gw_blocks.specs.declared.parts.Operand.TheVariants.{Constant, Parameter, Attribute, OfEntity, Random, Procedure}
-use Rattle.gw_code.specs.declared.parts.Procedure.{Procedure as ACode}
+use Rattle.gw_blocks.specs.declared.parts.Operand.TheVariants.{Parameter, OfEntity}
 use Rattle.gw_object.specs.declared.parts.Parts.{Parts}
-use Rattle.gw_kinds.specs.Laws.{OperandHolds}
 use Rattle.gw_entities.specs.Attributes.{attribute_of}
 use Rattle.gw_entities.specs.Table.{FacilityTable, StorageTable, QueueTable}
-use Rattle.gw_code_flow.specs.Code.{procedure_at, asked_by_source, is_among}
-use Rattle.gw_code_flow.specs.Environment.{Environment, kept_value, ReadTheSame}
-use Rattle.gw_code_flow.specs.Laws.{HasSet}
+use Rattle.gw_code_flow.specs.Environment.{kept_value, ReadTheSame}
 use Rattle.gw_transactions.specs.Transactions.{LiveTransaction, here_count}
 use Rattle.gw_plus.specs.declared.env.Env.{Env}
 use Rattle.gw_plus.specs.Reading as lent
-use Rattle.gw_plus.proofs.Reading.{may_read}
 use Rattle.gw_step.proofs.Residence.{at-le-sum}
 use Rattle.gw_step.specs.Times.{readings}
 use Rattle.gw_machine.specs.declared.machine.Machine.{Machine}

@@ -10,3 +10,6 @@ pub mod Joining
 pub mod Beginning
 pub mod Starting
 pub mod Retrying
+pub mod AtRest
+pub mod AtSets
+pub mod AtCopies

@@ -16,7 +16,7 @@ use Rattle.gw_entities.specs.Table.{FacilityTable}
 use Rattle.gw_machine.specs.declared.machine.Machine.{Machine}
 use Rattle.gw_step.specs.State.{State}
 use Rattle.gw_step.specs.Changes.{enters_and_falls, facility, storage, put_facility, put_storage}
-use Rattle.gw_step.specs.Numbers.{IsWithin}
+use Rattle.gw_step.specs.Numbers.{IsWithin, made_in}
 use Rattle.gw_machine.specs.View.{state_of}
 use Rattle.gw_machine.specs.Coherence.{Linked, IsSteady, IsActive, IsPassing}
 use Rattle.gw_machine.specs.Leaving.{Leaves}
@@ -25,11 +25,11 @@ use Rattle.gw_step.proofs.Follows.{within-released, within-given_back}
 use Rattle.gw_step.proofs.Attributes.{number_below}
 
 -- a machine whose state keeps its numbers, and whose entities are as many as before
-pub steady-now : (bs : List Block) (k l : ℕ) (m new : Machine) → IsSteady bs k m → l ≤ k + 1 → length new.facilities.facilities ≡ length m.facilities.facilities → Linked new → IsWithin (length bs) (length m.facilities.facilities) l l (state_of new) → l ≤ 2 ^ 41 → IsSteady bs l new
+pub steady-now : (bs : List Block) (k l : ℕ) (m new : Machine) → IsSteady bs k m → l ≤ k + 1 → length new.facilities.facilities ≡ length m.facilities.facilities → Linked new → IsWithin (length bs) (length m.facilities.facilities) l (made_in l) (state_of new) → l ≤ 2 ^ 41 → IsSteady bs l new
 steady-now bs k l m new s le count linked within few = record {
   linked = linked;
   fit = rw count s.fit;
-  within = subst (λ (n : ℕ). IsWithin (length bs) n l l (state_of new)) (sym count) within;
+  within = subst (λ (n : ℕ). IsWithin (length bs) n l (made_in l) (state_of new)) (sym count) within;
   few = few;
 }
 
@@ -38,29 +38,29 @@ pub steady-entered : (bs : List Block) (m new : Machine) (tx : Tx) (t : Transact
     → state_of new ≡ enters_and_falls tx.number t (state_of m) → new.facilities ≡ m.facilities → Linked new → IsSteady bs (m.steps + 1) new
 steady-entered bs m new tx t s few block live is fac linked =
     let es = length m.facilities.facilities in
-    let w = within-entered (length bs) es m.steps m.steps (state_of m) s.within tx.number t (t.next + 1) (state_of m).entities block (number_below m.transactions.txs tx.number t live) (mark_from m.transactions.txs tx.number t s.within.marked live) (raises-same (state_of m).entities) in
+    let w = within-entered (length bs) es m.steps (made_in m.steps) (state_of m) s.within tx.number t (t.next + 1) (state_of m).entities block (number_below m.transactions.txs tx.number t live) (mark_from m.transactions.txs tx.number t s.within.marked live) (raises-same (state_of m).entities) in
     let e : suc m.steps ≡ m.steps + 1 = omega arith in
-    let v = within-more (length bs) es (suc m.steps) m.steps (enters_and_falls tx.number t (state_of m)) w (m.steps + 1) (m.steps + 1) (omega arith) (omega arith) in
+    let v = within-more (length bs) es (suc m.steps) (made_in m.steps) (enters_and_falls tx.number t (state_of m)) w (m.steps + 1) (made_in (m.steps + 1)) (omega arith) (omega arith) in
     steady-now bs m.steps (m.steps + 1) m new s (omega arith) (ap (λ (f : FacilityTable). length f.facilities) fac) linked
-    (subst (λ (x : State). IsWithin (length bs) es (m.steps + 1) (m.steps + 1) x) (sym is) v) (omega (arith, few))
+    (subst (λ (x : State). IsWithin (length bs) es (m.steps + 1) (made_in (m.steps + 1)) x) (sym is) v) (omega (arith, few))
 
 -- a facility was given up
 pub steady-released : (bs : List Block) (k : ℕ) (m new : Machine) (f : ℕ) → IsSteady bs k m → f < length m.facilities.facilities → state_of new ≡ put_facility f (released (facility f (state_of m))) (state_of m) → length new.facilities.facilities ≡ length m.facilities.facilities → Linked new → IsSteady bs k new
 steady-released bs k m new f s here is count linked =
     steady-now bs k k m new s (omega arith) count linked
-    (subst (λ (x : State). IsWithin (length bs) (length m.facilities.facilities) k k x) (sym is) (within-released (length bs) (length m.facilities.facilities) k k (state_of m) s.within f here)) s.few
+    (subst (λ (x : State). IsWithin (length bs) (length m.facilities.facilities) k (made_in k) x) (sym is) (within-released (length bs) (length m.facilities.facilities) k (made_in k) (state_of m) s.within f here)) s.few
 
 -- units were given back
 pub steady-given_back : (bs : List Block) (k : ℕ) (m new : Machine) (u : Units) → IsSteady bs k m → u.entity < length m.facilities.facilities → state_of new ≡ put_storage u.entity (left u.number (storage u.entity (state_of m))) (state_of m) → new.facilities ≡ m.facilities → Linked new → IsSteady bs k new
 steady-given_back bs k m new u s here is fac linked =
     steady-now bs k k m new s (omega arith) (ap (λ (f : FacilityTable). length f.facilities) fac) linked
-    (subst (λ (x : State). IsWithin (length bs) (length m.facilities.facilities) k k x) (sym is) (within-given_back (length bs) (length m.facilities.facilities) k k (state_of m) s.within u here)) s.few
+    (subst (λ (x : State). IsWithin (length bs) (length m.facilities.facilities) k (made_in k) x) (sym is) (within-given_back (length bs) (length m.facilities.facilities) k (made_in k) (state_of m) s.within u here)) s.few
 
 -- nothing but room changed
 pub steady-same : (bs : List Block) (k : ℕ) (m new : Machine) → IsSteady bs k m → state_of new ≡ state_of m → new.facilities ≡ m.facilities → Linked new → IsSteady bs k new
 steady-same bs k m new s is fac linked =
     steady-now bs k k m new s (omega arith) (ap (λ (f : FacilityTable). length f.facilities) fac) linked
-    (subst (λ (x : State). IsWithin (length bs) (length m.facilities.facilities) k k x) (sym is) s.within) s.few
+    (subst (λ (x : State). IsWithin (length bs) (length m.facilities.facilities) k (made_in k) x) (sym is) s.within) s.few
 
 -- WHAT ENTITIES ANSWERED
 

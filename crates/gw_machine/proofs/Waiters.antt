@@ -92,15 +92,16 @@ module _ (m : Machine) (l : Linked m) (e : ℕ) (below : e < length m.facilities
         ∙ ap (put [] (map (map member_number) m.waits.lists) e)
         (joined-numbers (at [] m.waits.lists e) (l.delay_lists e below) ∙ ap (behind (priority_of m.transactions.txs) tx.number) (sym (delay_list-at m e))))
 
-    pub linked-waits : (new : Machine) → new.transactions ≡ m.transactions → new.active ≡ None → new.current_events ≡ m.current_events → new.future_events ≡ m.future_events → new.waits.lists ≡ ws → new.waits.retry ≡ rs
+    pub linked-waits : (new : Machine) → new.transactions ≡ m.transactions → new.active ≡ None → new.current_events ≡ m.current_events → new.future_events ≡ m.future_events → new.waits.lists ≡ ws → new.waits.retry ≡ rs → new.assemblies ≡ m.assemblies
         → new.facilities ≡ m.facilities → new.storages ≡ m.storages → new.queues ≡ m.queues → new.clock ≡ m.clock → state_of new ≡ waits_for e tx.number (state_of m) → Linked new
-    linked-waits new ts a cs fs w r fac sto que clock is = record {
+    linked-waits new ts a cs fs w r assemblies fac sto que clock is = record {
       active = rw a tt;
       current_events = rw (ts, cs) l.current_events;
       future_events = rw (ts, fs) l.future_events;
       retry = rw (ts, r, kept) l.retry;
       delay_lists = λ k within. rw (ts, w) (all_changed (IsRanked m.transactions) m.waits.lists ws e (behind (λ (x : Member). x.priority) newcomer) changes
           (joined-ranked (at [] m.waits.lists e) held (l.delay_lists e below)) k (l.delay_lists k (rw fac at within)));
+      assemblies = rw (ts, assemblies) l.assemblies;
       listed = rw (w, fac) (as_many m.waits.lists ws e (behind (λ (x : Member). x.priority) newcomer) (rw l.listed below) changes ∙ l.listed);
       sound = rw ts l.sound;
       resides = subst ResidesOnce (sym is) (resides-waits e tx.number (state_of m) (ap (option_map (λ (x : Tx). x.number)) active) l.resides);
@@ -133,15 +134,16 @@ module _ (m : Machine) (l : Linked m) (e : ℕ) (below : e < length m.facilities
         ∙ ap (put [] (map (map member_number) m.waits.lists) e)
         (numbers-without tx.number (at [] m.waits.lists e) i number-there once ∙ ap (without tx.number) (sym (delay_list-at m e))))
 
-    pub linked-called : (new : Machine) → Holds m.transactions tx → new.transactions ≡ m.transactions → new.active ≡ m.active → new.current_events.items ≡ behind (λ (x : Member). x.priority) newcomer m.current_events.items → new.future_events ≡ m.future_events → new.waits.lists ≡ ws → new.waits.retry ≡ rs
+    pub linked-called : (new : Machine) → Holds m.transactions tx → new.transactions ≡ m.transactions → new.active ≡ m.active → new.current_events.items ≡ behind (λ (x : Member). x.priority) newcomer m.current_events.items → new.future_events ≡ m.future_events → new.waits.lists ≡ ws → new.waits.retry ≡ rs → new.assemblies ≡ m.assemblies
         → new.facilities ≡ m.facilities → new.storages ≡ m.storages → new.queues ≡ m.queues → new.clock ≡ m.clock → state_of new ≡ called_from e tx.number (state_of m) → Linked new
-    linked-called new held ts a cs fs w r fac sto que clock is = record {
+    linked-called new held ts a cs fs w r assemblies fac sto que clock is = record {
       active = rw (ts, a) l.active;
       current_events = rw (ts, cs) (joined-ranked m.current_events.items held l.current_events);
       future_events = rw (ts, fs) l.future_events;
       retry = rw (ts, r, kept) l.retry;
       delay_lists = λ k within. rw (ts, w) (all_changed (IsRanked m.transactions) m.waits.lists ws e (λ xs. remove xs i) changes
           (all_without (IsRanked m.transactions) (at [] m.waits.lists e) i (l.delay_lists e below)) k (l.delay_lists k (rw fac at within)));
+      assemblies = rw (ts, assemblies) l.assemblies;
       listed = rw (w, fac) (as_many m.waits.lists ws e (λ xs. remove xs i) (rw l.listed below) changes ∙ l.listed);
       sound = rw ts l.sound;
       resides = subst ResidesOnce (sym is) (resides-called e tx.number (state_of m) occurs-there l.resides);
@@ -161,6 +163,7 @@ linked-walked m l ws lists retry = record {
   future_events = l.future_events;
   delay_lists = λ e below. rw lists (l.delay_lists e below);
   retry = rw retry l.retry;
+  assemblies = l.assemblies;
   listed = rw lists l.listed;
   sound = l.sound;
   resides = subst ResidesOnce (sym (state-walked m ws lists retry)) l.resides;

@@ -23,7 +23,7 @@ use Rattle.gw_blocks.specs.declared.parts.Block.TheVariants as blocks
 use Rattle.gw_transactions.specs.declared.Transaction.{Transaction}
 use Rattle.std.proofs.lemmas.Bool.{leb-true}
 use Rattle.gw_step.specs.Residence.{occurrences}
-use Rattle.gw_step.specs.Numbers.{IsWithin}
+use Rattle.gw_step.specs.Numbers.{IsWithin, made_in}
 use Rattle.gw_machine.specs.View.{state_of, member_number}
 use Rattle.gw_machine.specs.Coherence.{Linked, IsSteady}
 use Rattle.gw_machine.specs.Leaving.{Moves}
@@ -63,8 +63,8 @@ module _ (bs : List Block) (m : Machine) (e : ℕ) (below : e < length m.facilit
       record {
         linked = linked;
         fit = rw fac s.fit;
-        within = subst (λ (n : ℕ). IsWithin (length bs) n k k (state_of new)) (sym (ap (λ (f : FacilityTable). length f.facilities) fac))
-            (subst (λ (t : State). IsWithin (length bs) (length m.facilities.facilities) k k t) (sym is) (within-looked_at bs (length m.facilities.facilities) k k s.fit (state_of m) s.within e tx.number waits));
+        within = subst (λ (n : ℕ). IsWithin (length bs) n k (made_in k) (state_of new)) (sym (ap (λ (f : FacilityTable). length f.facilities) fac))
+            (subst (λ (t : State). IsWithin (length bs) (length m.facilities.facilities) k (made_in k) t) (sym is) (within-looked_at bs (length m.facilities.facilities) k (made_in k) s.fit (state_of m) s.within e tx.number waits));
         few = s.few;
       }
 

@@ -6,15 +6,16 @@ use Rattle.gw_object.specs.declared.parts.Parts.{Parts}
 use Rattle.gw_chains.specs.declared.tx.Tx.{Tx}
 use Rattle.gw_chains.specs.declared.tx.Member.{Member}
 use Rattle.gw_chains.specs.declared.tx.Event.{Event}
+use Rattle.gw_chains.specs.declared.assemblies.Assembly.{Assembly}
 use Rattle.gw_num.specs.Table.{at}
 use Rattle.gw_transactions.specs.declared.Transaction.{Transaction}
 use Rattle.gw_transactions.specs.Transactions.{Population, attributes_at, Holds, IsSound}
 use Rattle.gw_machine.specs.declared.machine.Machine.{Machine}
 use Rattle.gw_step.specs.declared.placement.Placement.{Placement}
-use Rattle.gw_step.specs.declared.placement.Placement.TheVariants.{JoinsDelayList, JoinsRetryList}
+use Rattle.gw_step.specs.declared.placement.Placement.TheVariants.{JoinsDelayList, JoinsRetryList, AwaitsSet}
 use Rattle.gw_step.specs.State.{priority_of}
 use Rattle.gw_step.specs.Residence.{ResidesOnce}
-use Rattle.gw_step.specs.Numbers.{IsWithin}
+use Rattle.gw_step.specs.Numbers.{IsWithin, made_in}
 use Rattle.gw_step.specs.Operands.{BlocksFit}
 use Rattle.gw_machine.specs.View.{state_of}
 
@@ -29,6 +30,10 @@ pub record IsRanked (p : Population) (m : Member) : Type 0 where
 abbrev pub IsHeld : Population → Event → Type 0
 IsHeld p e = Holds p e.tx
 
+-- an assembly: the handle of who waits is held
+abbrev pub IsHeldBy : Population → Assembly → Type 0
+IsHeldBy p a = Holds p a.first
+
 -- the clock units that passed over the entities are the clock
 pub record IsTimed (m : Machine) : Type 0 where
   pub facilities : pos m.facilities.passed ≡ m.clock
@@ -42,6 +47,7 @@ pub record Linked (m : Machine) : Type 0 where
   pub future_events : AllByRecursion (IsHeld m.transactions) m.future_events.items
   pub delay_lists : (e : ℕ) → e < length m.facilities.facilities → AllByRecursion (IsRanked m.transactions) (at [] m.waits.lists e)
   pub retry : AllByRecursion (IsRanked m.transactions) m.waits.retry
+  pub assemblies : AllByRecursion (IsHeldBy m.transactions) m.assemblies.items
   -- there is a delay list for each entity
   pub listed : length m.waits.lists ≡ length m.facilities.facilities
   pub sound : IsSound m.transactions
@@ -68,9 +74,9 @@ ranked p (e ∷ es) = record { tx = e.tx; priority = priority_of p.txs e.tx.numb
 
 -- RESTING
 
--- a machine has room to wake the retry list, and to let its active transaction rest for a time
+-- a machine has room to wake the retry list, and to let its active transaction rest on the current events chain or for a time
 pub record HasRoom (m : Machine) : Type 0 where
-  pub current_events : length m.waits.retry ≤ m.current_events.room
+  pub current_events : length m.waits.retry < m.current_events.room
   pub future_events : 0 < m.future_events.room
 
 -- the handle is the active transaction's
@@ -79,10 +85,11 @@ pub record CanRest (m : Machine) (tx : Tx) : Type 0 where
   pub active : m.active ≡ Some tx
   pub held : Holds m.transactions tx
 
--- a delay list or the retry list that a transaction joins is there, and has room
+-- a delay list or the retry list that a transaction joins is there, and has room; so have the assemblies where it begins one
 abbrev pub CanBePlaced : Placement → Machine → Type 0
 CanBePlaced (JoinsDelayList e) m = (e < length m.facilities.facilities) × (0 < at 0 m.waits.rooms e)
 CanBePlaced JoinsRetryList m = 0 < m.waits.retry_room
+CanBePlaced (AwaitsSet a) m = 0 < m.assemblies.room
 CanBePlaced placement m = Unit {0}
 
 -- A RUNNING MACHINE
@@ -91,11 +98,11 @@ CanBePlaced placement m = Unit {0}
 abbrev pub IsOf : Parts → Machine → Type 0
 IsOf p m = length m.facilities.facilities ≡ length p.entities
 
--- a machine of these blocks in which at most so many entries and arrivals were made
+-- a machine of these blocks in which at most so many entries were made, and as many transactions as that many steps make
 pub record IsSteady (bs : List Block) (made : ℕ) (m : Machine) : Type 0 where
   pub linked : Linked m
   pub fit : BlocksFit (length m.facilities.facilities) bs
-  pub within : IsWithin (length bs) (length m.facilities.facilities) made made (state_of m)
+  pub within : IsWithin (length bs) (length m.facilities.facilities) made (made_in made) (state_of m)
   pub few : made ≤ 2 ^ 41
 
 -- a running machine of these blocks

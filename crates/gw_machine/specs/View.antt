@@ -3,8 +3,9 @@ use Rattle.std.specs.Prelude.{ℕ, map, option_map}
 use Rattle.gw_chains.specs.declared.tx.Tx.{Tx}
 use Rattle.gw_chains.specs.declared.tx.Member.{Member}
 use Rattle.gw_chains.specs.declared.tx.Event.{Event}
+use Rattle.gw_chains.specs.declared.assemblies.Assembly.{Assembly as HeldAssembly}
 use Rattle.gw_machine.specs.declared.machine.Machine.{Machine}
-use Rattle.gw_step.specs.State.{FutureEvent, Lists, EntityStates, State}
+use Rattle.gw_step.specs.State.{FutureEvent, Assembly, Lists, EntityStates, State}
 
 -- the number of a member of a list by priority
 abbrev pub member_number : Member → ℕ
@@ -14,6 +15,10 @@ member_number m = m.tx.number
 abbrev pub event_of : Event → FutureEvent
 event_of e = record { time = e.time; number = e.tx.number }
 
+-- an assembly, by the number of who waits
+abbrev pub assembly_of : HeldAssembly → Assembly
+assembly_of a = record { block = a.block; set = a.set; number = a.first.number; missing = a.missing }
+
 -- which transactions reside where
 abbrev pub lists_of : Machine → Lists
 lists_of m = record {
@@ -22,6 +27,7 @@ lists_of m = record {
   future_events = map event_of m.future_events.items;
   delay_lists = map (map member_number) m.waits.lists;
   retry = map member_number m.waits.retry;
+  assemblies = map assembly_of m.assemblies.items;
 }
 
 -- the entities as they are now

@@ -1,7 +1,9 @@
 //! The state of a job in memory: its elementary changes, and what blocks read of it.
 #![tactic(auto)]
 
+mod assembling;
 mod clock;
+mod copies;
 mod delays;
 mod ends;
 mod entities;

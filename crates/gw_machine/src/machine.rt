@@ -1,15 +1,16 @@
 //! The state of a job in memory, and the elementary changes of it.
 
-ghost use Rattle.std.specs.Prelude.{◌≡◌, ◌≤◌, ◌<◌, ◌+◌, ◌^◌, Some, None, length, vec_len, sum, OnOk, OnErr, pos, ◌<ℤ◌, ◌≤ℤ◌, not, nat_lt};
+ghost use Rattle.std.specs.Prelude.{◌≡◌, ◌≤◌, ◌<◌, ◌+◌, ◌^◌, Some, None, length, vec_len, sum, OnOk, OnErr, pos, ◌<ℤ◌, ◌≤ℤ◌, nat_le};
 ghost use Rattle.gw_num.specs.Table.{at};
-ghost use Rattle.gw_transactions.specs.Transactions.{Holds, live_count};
+ghost use Rattle.gw_transactions.specs.Transactions.{Holds, attributes_at, live_count};
 ghost use Rattle.gw_step.specs.State.{priority_of, raised, with_streams};
 ghost use Rattle.gw_step.specs.Blocks.{is_owed};
 ghost use Rattle.gw_step.specs.Changes as model;
+ghost use Rattle.gw_step.specs.Times.{parameters_of};
 ghost use Rattle.gw_machine.specs.View.{state_of};
 ghost use Rattle.gw_machine.specs.Coherence.{Linked, Carries, Every};
 
-use gw_chains::{Cec, Fec, Memory, Tx, Waits};
+use gw_chains::{Assemblies, Cec, Fec, Memory, Tx, Waits};
 use gw_entities::{Facilities, Queues, Savevalues, Stop, Storages, Switches, Tables};
 use gw_num::Stream;
 use gw_step::End;
@@ -55,6 +56,8 @@ pub struct Machine {
     pub future_events: Fec,
     /// Who waits on the delay list of a facility or storage, or on the retry list.
     pub waits: Waits,
+    /// Who waits for the rest of an assembly set.
+    pub assemblies: Assemblies,
     /// The facilities, each by its number as an entity.
     pub facilities: Facilities,
     /// The storages, each by its number as an entity.
@@ -106,6 +109,9 @@ impl Machine {
         ensures state { state_of self.new ≡ model.entered tx.number transaction next (state_of self.old) }
         ensures linked { Linked self.old → Linked self.new }
         ensures held { Holds self.new.transactions tx }
+        ensures parameters { parameters_of tx.number (state_of self.new) ≡ parameters_of tx.number (state_of self.old) }
+        ensures made { length self.new.transactions.txs ≡ length self.old.transactions.txs }
+        ensures room { self.old.transactions.room ≤ self.new.transactions.room }
         ensures rank { priority_of self.new.transactions.txs tx.number ≡ transaction.priority }
         ensures frame { self.new ≡ record self.old
             { stir = self.new.stir; entries = self.new.entries; transactions = self.new.transactions } }
@@ -131,6 +137,31 @@ impl Machine {
         let mut marked = transaction;
         marked.mark = self.clock;
         self.enter(tx, marked, transaction.next + 1);
+    }
+
+    /// The transaction, which is on no chain, enters its next block with this priority, and falls to the block after.
+    pub fn enter_with_priority(&mut self, tx: Tx, transaction: Transaction, priority: i32)
+        requires linked { Linked self.old }
+        requires active { self.old.active ≡ Some tx }
+        requires held { Holds self.old.transactions tx }
+        requires block { (transaction.next < vec_len self.old.entries) × (transaction.next ≤ 4096) }
+        requires few { sum self.old.entries.items < 2 ^ 60 }
+        requires found { attributes_at tx.number self.old.transactions.txs ≡ Some transaction }
+        ensures state { state_of self.new ≡ model.enters_and_falls tx.number (record transaction { priority = priority })
+            (state_of self.old) }
+        ensures linked { Linked self.new }
+        ensures held { Holds self.new.transactions tx }
+        ensures rank { priority_of self.new.transactions.txs tx.number ≡ priority }
+        ensures frame { self.new ≡ record self.old
+            { stir = self.new.stir; entries = self.new.entries; transactions = self.new.transactions } }
+    {
+        self.stir = true;
+        raise(&mut self.entries, transaction.next as usize);
+        let mut entered = transaction;
+        entered.current = transaction.next;
+        entered.next = transaction.next + 1;
+        entered.priority = priority;
+        self.transactions.set(tx, entered);
     }
 
     /// A new transaction is scheduled to arrive at its GENERATE block.
@@ -224,10 +255,11 @@ impl Machine {
             Some(limit) => self.scheduled[block as usize] < limit as u64,
         }
     }
-    /// Whether as many transactions live as may.
-    pub fn is_full(&self) -> bool
-        ensures { result ≡ not (nat_lt (live_count self.now.transactions.txs) 65536) }
+
+    /// Whether so many more transactions may live, scheduled arrivals included.
+    pub fn may_live(&self, more: u16) -> bool
+        ensures { result ≡ nat_le (live_count self.now.transactions.txs + more) 65536 }
     {
-        self.transactions.live() >= MOST_LIVE
+        self.transactions.live() <= MOST_LIVE - more as usize
     }
 }

@@ -1,6 +1,6 @@
 //! Where the active transaction comes to rest, and waking the retry list before.
 
-ghost use Rattle.std.specs.Prelude.{◌≡◌, ◌≤◌, ◌<◌, None, length, OnOk, OnErr};
+ghost use Rattle.std.specs.Prelude.{◌≡◌, ◌≤◌, ◌<◌, ◌+◌, None, length, OnOk, OnErr};
 ghost use Rattle.gw_num.specs.Table.{at};
 ghost use Rattle.gw_chains.specs.Lists.{LosesRoom};
 ghost use Rattle.gw_step.specs.State.{priority_of};
@@ -10,21 +10,33 @@ ghost use Rattle.gw_machine.specs.View.{state_of};
 ghost use Rattle.gw_machine.specs.Coherence.{Linked, HasRoom, CanRest, CanBePlaced};
 
 use crate::machine::Machine;
-use gw_chains::{Memory, Tx};
-use gw_step::Placement;
+use gw_chains::{Assembly, Memory, Tx};
+use gw_step::{Assembling, Placement};
 
 impl Machine {
     // ROOM
 
-    /// Makes room to wake the retry list, and to let the active transaction rest for a time.
+    /// Makes room to wake the retry list, and to let the active transaction rest on the current events chain or for a time.
     pub fn reserve_rest(&mut self) -> Result<(), Memory>
+        requires linked { Linked self.old }
         ensures state { state_of self.new ≡ state_of self.old }
         ensures linked { Linked self.old → Linked self.new }
         ensures room { OnOk result (HasRoom self.new) }
         ensures frame { self.new ≡ record self.old { current_events = self.new.current_events; future_events = self.new.future_events } }
     {
-        self.current_events.reserve(self.waits.retrying())?;
+        self.current_events.reserve(self.waits.retrying() + 1)?;
         self.future_events.reserve(1)
+    }
+
+    /// Makes room besides for one whom the active transaction calls to the current events chain.
+    pub fn reserve_assembled(&mut self) -> Result<(), Memory>
+        requires linked { Linked self.old }
+        ensures state { state_of self.new ≡ state_of self.old }
+        ensures linked { Linked self.old → Linked self.new }
+        ensures room { OnOk result (length self.new.waits.retry + 1 < self.new.current_events.room) }
+        ensures frame { self.new ≡ record self.old { current_events = self.new.current_events } }
+    {
+        self.current_events.reserve(self.waits.retrying() + 2)
     }
 
     /// Makes room for one more on the delay list of an entity.
@@ -61,6 +73,7 @@ impl Machine {
         ensures state { state_of self.new ≡ model.woken (state_of self.old) }
         ensures linked { Linked self.new }
         ensures room { LosesRoom 0 self.old.waits.rooms self.new.waits.rooms × (self.old.waits.retry_room ≤ self.new.waits.retry_room) }
+        ensures left { self.old.current_events.room ≤ self.new.current_events.room + length self.old.waits.retry }
         ensures frame { self.new ≡ record self.old
             { stir = self.new.stir; current_events = self.new.current_events; waits = self.new.waits } }
     {
@@ -75,6 +88,7 @@ impl Machine {
         ensures state { state_of self.new ≡ woken_if_stirred (state_of self.old) }
         ensures linked { Linked self.new }
         ensures room { LosesRoom 0 self.old.waits.rooms self.new.waits.rooms × (self.old.waits.retry_room ≤ self.new.waits.retry_room) }
+        ensures left { self.old.current_events.room ≤ self.new.current_events.room + length self.old.waits.retry }
         ensures frame { self.new ≡ record self.old
             { stir = self.new.stir; current_events = self.new.current_events; waits = self.new.waits } }
     {
@@ -121,6 +135,46 @@ impl Machine {
         self.waits.push_retry(tx, priority);
     }
 
+    /// The active transaction rests on the current events chain, ahead of its peers.
+    fn rest_ahead(&mut self, tx: Tx, priority: i32)
+        requires rests { CanRest self.old tx }
+        requires rank { priority_of self.old.transactions.txs tx.number ≡ priority }
+        requires room { 0 < self.old.current_events.room }
+        ensures state { state_of self.new ≡ model.rests_ahead tx.number (state_of self.old) }
+        ensures linked { Linked self.new }
+    {
+        self.active = None;
+        self.current_events.insert_ahead(tx, priority);
+    }
+
+    /// The active transaction rests on the current events chain, behind its peers.
+    fn rest_behind(&mut self, tx: Tx, priority: i32)
+        requires rests { CanRest self.old tx }
+        requires rank { priority_of self.old.transactions.txs tx.number ≡ priority }
+        requires room { 0 < self.old.current_events.room }
+        ensures state { state_of self.new ≡ model.rests_behind tx.number (state_of self.old) }
+        ensures linked { Linked self.new }
+    {
+        self.active = None;
+        self.current_events.insert_behind(tx, priority);
+    }
+
+    /// The active transaction waits for the rest of its assembly set.
+    fn await_set(&mut self, tx: Tx, begins: Assembling)
+        requires rests { CanRest self.old tx }
+        requires room { 0 < self.old.assemblies.room }
+        ensures state { state_of self.new ≡ model.awaits_set tx.number begins (state_of self.old) }
+        ensures linked { Linked self.new }
+    {
+        self.active = None;
+        self.assemblies.begin(Assembly {
+            block: begins.block,
+            set: begins.set,
+            first: tx,
+            missing: begins.missing,
+        });
+    }
+
     /// The active transaction is destroyed.
     fn leave_model(&mut self, tx: Tx)
         requires rests { CanRest self.old tx }
@@ -156,6 +210,18 @@ impl Machine {
             Placement::JoinsRetryList => {
                 self.wake_if_stirred();
                 self.join_retry_list(tx, priority);
+            }
+            Placement::RestsAhead => {
+                self.wake_if_stirred();
+                self.rest_ahead(tx, priority);
+            }
+            Placement::RestsBehind => {
+                self.wake_if_stirred();
+                self.rest_behind(tx, priority);
+            }
+            Placement::AwaitsSet(begins) => {
+                self.wake_if_stirred();
+                self.await_set(tx, begins);
             }
             Placement::LeavesModel => {
                 self.wake_if_stirred();

@@ -15,7 +15,7 @@ ghost use Rattle.gw_machine.specs.Leaving.{Schedules};
 
 use crate::machine::Machine;
 use gw_blocks::{Block, Generate};
-use gw_chains::{Cec, Fec, Memory, Waits};
+use gw_chains::{Assemblies, Cec, Fec, Memory, Waits};
 use gw_entities::{Facilities, Queues, Savevalues, Storages, Switches, Tables};
 use gw_num::Stream;
 use gw_object::Object;
@@ -92,6 +92,7 @@ impl Machine {
             current_events: Cec::new(alloc),
             future_events: Fec::new(alloc),
             waits,
+            assemblies: Assemblies::new(alloc),
             facilities: tables.facilities,
             storages: tables.storages,
             queues: tables.queues,

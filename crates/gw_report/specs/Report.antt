@@ -4,7 +4,7 @@ use Rattle.std.specs.Fmt.{decimal, signed_decimal}
 use Rattle.std.specs.Int.{from_bool}
 use Rattle.std.specs.Option.{unwrap_or}
 use Rattle.gw_blocks.specs.declared.parts.Block.{Block}
-use Rattle.gw_blocks.specs.declared.parts.Block.TheVariants.{Generate, Terminate, Advance, Seize, Release, Enter, Leave, Queue, Depart, Assign, Test, Gate, Transfer, TransferByFraction, TransferToSubroutine, TransferByParameter, Loop, Logic, Savevalue, Mark, Plus, Tabulate}
+use Rattle.gw_blocks.specs.declared.parts.Block.TheVariants.{Generate, Terminate, Advance, Seize, Release, Enter, Leave, Queue, Depart, Assign, Test, Gate, Transfer, TransferByFraction, TransferToSubroutine, TransferByParameter, Loop, Split, Assemble, Logic, Savevalue, Mark, Priority, Buffer, Plus, Tabulate}
 use Rattle.gw_object.specs.declared.parts.Entity.{Entity}
 use Rattle.gw_object.specs.declared.parts.Kind.{Kind}
 use Rattle.gw_object.specs.declared.parts.Kind.TheVariants as kinds
@@ -58,6 +58,10 @@ block_word (TransferByFraction fraction) = codes "TRANSFER"
 block_word (TransferToSubroutine c) = codes "TRANSFER"
 block_word (TransferByParameter parameter) = codes "TRANSFER"
 block_word (Loop l) = codes "LOOP"
+block_word (Split s) = codes "SPLIT"
+block_word (Assemble size) = codes "ASSEMBLE"
+block_word (Priority p) = codes "PRIORITY"
+block_word Buffer = codes "BUFFER"
 block_word (Logic l) = codes "LOGIC"
 block_word (Savevalue save) = codes "SAVEVALUE"
 block_word (Mark parameter) = codes "MARK"

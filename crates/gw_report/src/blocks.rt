@@ -30,6 +30,10 @@ fn block_word(block: &Block) -> &'static str
         | Block::TransferToSubroutine(_)
         | Block::TransferByParameter(_) => "TRANSFER",
         Block::Loop(_) => "LOOP",
+        Block::Split(_) => "SPLIT",
+        Block::Assemble(_) => "ASSEMBLE",
+        Block::Priority(_) => "PRIORITY",
+        Block::Buffer => "BUFFER",
         Block::Logic(_) => "LOGIC",
         Block::Savevalue(_) => "SAVEVALUE",
         Block::Mark(_) => "MARK",

@@ -4,6 +4,7 @@ use Rattle.gw_blocks.specs.declared.parts.Operand.{Operand}
 use Rattle.gw_blocks.specs.declared.parts.Spread.{Spread}
 use Rattle.gw_blocks.specs.declared.parts.Assign.{Assign}
 use Rattle.gw_blocks.specs.declared.parts.Save.{Save}
+use Rattle.gw_blocks.specs.declared.parts.Priority.{Priority}
 use Rattle.gw_blocks.specs.declared.parts.Plus.{Plus}
 use Rattle.gw_blocks.specs.declared.parts.Block.TheVariants as blocks
 use Rattle.gw_object.specs.declared.parts.Parts.{Parts}
@@ -13,7 +14,7 @@ use Rattle.gw_transactions.specs.declared.Transaction.{Transaction}
 use Rattle.gw_step.specs.Outcome.{Outcome, Gives, EndsBy, StopsBy, ◌>>=◌, evaluated}
 use Rattle.gw_step.specs.State.{State, with_streams}
 use Rattle.gw_step.specs.Times.{environment_of, moment_after, drawn_moment}
-use Rattle.gw_step.specs.Blocks.{leads, until, advance, assign, save, plus, tabulate, then_placed, meets, act, effect}
+use Rattle.gw_step.specs.Blocks.{leads, until, advance, assign, save, set_priority, plus, tabulate, then_placed, meets, act, effect}
 use Rattle.gw_step.specs.Changes.{enters_and_falls}
 
 -- what the one value of a block comes to
@@ -32,6 +33,11 @@ module _ (p : Parts) (n : ℕ) (t : Transaction) (s : State) where
       → act p n t (blocks.Savevalue a) s ≡ then_placed n (save p.blocks n t a value (with_streams streams s))
   unfolding act effect
   act-save a value streams is = rw is refl
+
+  pub act-priority : (a : Priority) (value : ℤ) (streams : List ℕ) → operand_value p (environment_of n t s) a.value s.streams ≡ Value (value, streams)
+      → act p n t (blocks.Priority a) s ≡ then_placed n (set_priority p.blocks n t a.behind value (with_streams streams s))
+  unfolding act effect
+  act-priority a value streams is = rw is refl
 
   pub act-plus : (a : Plus) (value : ℤ) (streams : List ℕ) → operand_value p (environment_of n t s) a.value s.streams ≡ Value (value, streams)
       → act p n t (blocks.Plus a) s ≡ then_placed n (plus p.blocks n t a.parameter value (with_streams streams s))

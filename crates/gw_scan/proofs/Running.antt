@@ -2,7 +2,7 @@
 use Rattle.std.proofs.Common.{[], ◌≡◌, ℕ, ◌^◌, ◌<◌, length, None, sym, ap, ◌∙◌, subst, arith}
 use Rattle.gw_machine.specs.declared.machine.Machine.{Machine}
 use Rattle.gw_step.specs.State.{delay_list}
-use Rattle.gw_step.specs.Numbers.{IsWithin}
+use Rattle.gw_step.specs.Numbers.{IsWithin, made_in}
 use Rattle.gw_step.specs.Operands.{BlocksFit, MayStep}
 use Rattle.gw_step.specs.Job.{Job, IsReached}
 use Rattle.gw_machine.specs.View.{state_of, member_number}
@@ -23,7 +23,7 @@ running j m r linked runs =
       steady = record {
         linked = linked;
         fit = subst (λ (n : ℕ). BlocksFit n j.parts.blocks) (sym entities) (blocks_fit j.parts r.fits.checked r.fits.spelled);
-        within = subst (λ (n : ℕ). IsWithin (length j.parts.blocks) n m.steps m.steps (state_of m)) (sym entities) numbers;
+        within = subst (λ (n : ℕ). IsWithin (length j.parts.blocks) n m.steps (made_in m.steps) (state_of m)) (sym entities) numbers;
         few = omega (arith, few);
       };
       few = few;

@@ -16,6 +16,8 @@ ghost use Rattle.gw_scan.specs.Makes.{MakesFrom, Enters};
 
 use crate::assigning::{self, assign_parameter, loop_back, mark, mark_parameter, tabulate};
 use crate::conditions;
+use crate::copying::{assemble, split};
+use crate::passing::{buffer, set_priority};
 use crate::subroutines::{call_subroutine, come_back};
 use gw_blocks::{Block, Fraction, Generate, Operand, Spread, Units};
 use gw_chains::{Memory, Tx};
@@ -118,7 +120,7 @@ fn generate(
         Ok(moment) => moment,
         Err(end) => return Ok(Made::Ends(end)),
     };
-    if machine.is_full() {
+    if !machine.may_live(1) {
         return Ok(Made::Ends(End::Live));
     }
     if !may_enter(blocks_of(verified), transaction.next + 1) {
@@ -137,15 +139,15 @@ fn generate(
 }
 
 /// The transaction enters its next block with the streams here, and is then placed.
-fn pass_to(
+pub(crate) fn pass_to(
     machine: &mut Machine,
-    verified: &Verified,
+    blocks: &[Block],
     tx: Tx,
     transaction: Transaction,
     streams: &[Stream; 16],
     placement: Placement,
 ) -> Result<(), Memory>
-    requires active { IsActive verified.now.blocks machine.old tx transaction }
+    requires active { IsActive blocks.now machine.old tx transaction }
     requires there { CanBePlaced placement machine.old }
     ensures ok { OnOk result (state_of machine.new ≡
         placed tx.number placement (change.enters_and_falls tx.number transaction
@@ -188,7 +190,7 @@ fn advance(
     }
     pass_to(
         machine,
-        verified,
+        blocks_of(verified),
         tx,
         transaction,
         &streams,
@@ -537,6 +539,10 @@ pub(crate) fn act(
         Block::Assign(assign) => assign_parameter(machine, verified, tx, transaction, assign),
         Block::Plus(plus) => assigning::plus(machine, verified, tx, transaction, plus),
         Block::Loop(l) => loop_back(machine, blocks, tx, transaction, l),
+        Block::Split(s) => split(machine, blocks, tx, transaction, s),
+        Block::Assemble(size) => assemble(machine, blocks, tx, transaction, size),
+        Block::Priority(p) => set_priority(machine, verified, tx, transaction, p),
+        Block::Buffer => buffer(machine, blocks, tx, transaction),
         Block::Logic(logic) => Ok(assigning::logic(machine, blocks, tx, transaction, logic)),
         Block::Savevalue(save) => Ok(assigning::save(machine, verified, tx, transaction, save)),
         Block::Tabulate(table) => Ok(tabulate(machine, verified, tx, transaction, table)),

@@ -4,6 +4,8 @@
 mod assigning;
 mod blocks;
 mod conditions;
+mod copying;
+mod passing;
 mod scan;
 mod sim;
 mod spec;

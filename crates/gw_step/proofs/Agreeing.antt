@@ -1,6 +1,6 @@
 -- Transactions, lists and entities that agree with an object's state table, through what may change of them.
 use Rattle.std.proofs.Common.{◌≡◌, ◌≢◌, ℕ, ◌+◌, ◌≤◌, List, [], Option, None, refl, sym, ◌∙◌, subst, arith, inl, inr, length}
-use Rattle.std.specs.Prelude.{IfSome}
+use Rattle.std.specs.Prelude.{IfSome, All}
 use Rattle.std.proofs.lemmas.Bool.{cases_eq}
 use Rattle.gw_object.specs.declared.parts.Parts.{Parts}
 use Rattle.gw_kinds.specs.Evaluated.{kind_at}
@@ -10,11 +10,15 @@ use Rattle.gw_num.proofs.Tables.{by_entry, at-put_other, sum_by-put}
 use Rattle.gw_transactions.specs.Transactions.{LiveTransaction}
 use Rattle.gw_entities.specs.Facility.{idle, is_owned_by}
 use Rattle.gw_entities.specs.Storage.{vacant}
-use Rattle.gw_step.specs.State.{Lists, EntityStates}
+use Rattle.gw_step.specs.State.{Assembly, Lists, EntityStates}
 use Rattle.gw_step.specs.Residence.{occurrences, EachResidesOnce}
 use Rattle.gw_step.proofs.Within.{Raises}
 use Rattle.gw_step.specs.Places.{row_of}
 use Rattle.gw_step.specs.Typing.{IsPlaced, lists_facility, promised_units, content_of, WaitsFor, Agree, AreWithinCapacity}
+
+-- an assembly waits for one more at least
+abbrev pub IsMissing : Assembly → Type 0
+IsMissing a = 1 ≤ a.missing
 
 -- the tables of so many entities are whole
 pub record AreWhole (entities : ℕ) (g : EntityStates) : Type 0 where
@@ -43,29 +47,31 @@ module _ (p : Parts) (ts : List (Option LiveTransaction)) (l : Lists) (g : Entit
       ]
 
   -- a transaction that is on no delay list is written, and the entities with it
-  pub agree-written : (k : Lists) (h : EntityStates) (n : ℕ) (v : Option LiveTransaction) → ((e : ℕ) → occurrences n (at [] l.delay_lists e) ≡ 0) → EachResidesOnce (put None ts n v) k → k.delay_lists ≡ l.delay_lists
+  pub agree-written : (k : Lists) (h : EntityStates) (n : ℕ) (v : Option LiveTransaction) → ((e : ℕ) → occurrences n (at [] l.delay_lists e) ≡ 0) → EachResidesOnce (put None ts n v) k → k.delay_lists ≡ l.delay_lists → k.assemblies ≡ l.assemblies
       → IfSome v (IsPlaced p) → Balanced p n (row_of p (at None ts n)) (row_of p v) g h → Agree p (put None ts n v) k h
-  agree-written k h n v nowhere resides same placed balance = record {
+  agree-written k h n v nowhere resides same missing placed balance = record {
     resides = resides;
     placed = by_entry None ts n v (λ m t. IfSome t (IsPlaced p)) placed (λ m other. ty.placed m);
     owned = λ f. by_entry None ts n v (λ m t. is_owned_by m (at idle h.facilities f) ≡ lists_facility f (row_of p t)) (balance.own f (ty.owned f n)) (λ m other. balance.others f m other ∙ ty.owned f m);
     promised = λ e. omega (arith, ty.promised e, balance.units e, sum_by-put None (λ t. promised_units e (row_of p t)) ts n v refl);
     waiting = subst (λ (ws : List (List ℕ)). (e m : ℕ) → 1 ≤ occurrences m (at [] ws e) → WaitsFor p e (at None (put None ts n v) m)) (sym same) (waiting_written n v nowhere);
+    assembling = subst (λ (xs : List Assembly). All IsMissing xs) (sym missing) ty.assembling;
     sized = λ e. balance.sized e ∙ ty.sized e;
   }
 
   -- the lists change alone
-  pub agree-moved : (k : Lists) → EachResidesOnce ts k → ((e n : ℕ) → 1 ≤ occurrences n (at [] k.delay_lists e) → WaitsFor p e (at None ts n)) → Agree p ts k g
-  agree-moved k resides waiting = record {
+  pub agree-moved : (k : Lists) → EachResidesOnce ts k → ((e n : ℕ) → 1 ≤ occurrences n (at [] k.delay_lists e) → WaitsFor p e (at None ts n)) → All IsMissing k.assemblies → Agree p ts k g
+  agree-moved k resides waiting missing = record {
     resides = resides;
     placed = ty.placed;
     owned = ty.owned;
     promised = ty.promised;
     waiting = waiting;
+    assembling = missing;
     sized = ty.sized;
   }
 
   -- and those who reside on a delay list afterwards did so before
-  pub agree-apart : (k : Lists) → EachResidesOnce ts k → k.delay_lists ≡ l.delay_lists → Agree p ts k g
-  agree-apart k resides same =
-      agree-moved k resides (subst (λ (ws : List (List ℕ)). (e n : ℕ) → 1 ≤ occurrences n (at [] ws e) → WaitsFor p e (at None ts n)) (sym same) ty.waiting)
+  pub agree-apart : (k : Lists) → EachResidesOnce ts k → k.delay_lists ≡ l.delay_lists → All IsMissing k.assemblies → Agree p ts k g
+  agree-apart k resides same missing =
+      agree-moved k resides (subst (λ (ws : List (List ℕ)). (e n : ℕ) → 1 ≤ occurrences n (at [] ws e) → WaitsFor p e (at None ts n)) (sym same) ty.waiting) missing

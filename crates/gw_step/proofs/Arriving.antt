@@ -1,6 +1,7 @@
 -- Arrivals: what a GENERATE does, and the state before the first step.
 use Rattle.std.proofs.Common.{◌≡◌, ℕ, zero, suc, ◌+◌, ◌≤◌, List, [], ◌∷◌, length, map, Some, true, false, pos, ◌≤ℤ◌, refl, sym, ap, ◌∙◌, subst, arith}
-use Rattle.std.specs.Prelude.{slice_get, nat_lt, IfSome}
+use Rattle.std.specs.Prelude.{slice_get, nat_le, IfSome}
+use Rattle.std.proofs.lemmas.List.Elements.{All-nil}
 use Rattle.gw_blocks.specs.declared.parts.Generate.{Generate}
 use Rattle.gw_object.specs.declared.parts.Entity.{Entity}
 use Rattle.gw_blocks.specs.declared.parts.Block.{Block}
@@ -21,6 +22,7 @@ use Rattle.gw_entities.specs.declared.contents.Contents.{Contents}
 use Rattle.gw_entities.specs.Contents.{empty}
 use Rattle.gw_entities.specs.Facility.{idle, is_owned_by}
 use Rattle.gw_entities.specs.Storage as storages
+use Rattle.gw_step.specs.Numbers.{made_in}
 use Rattle.gw_step.specs.Outcome.{Outcome, Gives, EndsBy, StopsBy}
 use Rattle.gw_step.specs.State.{State, with_streams}
 use Rattle.gw_step.specs.Times.{environment_of_next, drawn_moment, parameters_of}
@@ -33,6 +35,7 @@ use Rattle.gw_step.proofs.Nothing.{no_transaction, resides-nothing}
 use Rattle.gw_step.specs.Places.{row_of}
 use Rattle.gw_step.specs.Typing.{IsPlaced, lists_facility, WellTyped, AreWithinCapacity}
 use Rattle.gw_step.proofs.Balances.{balanced-nothing}
+use Rattle.gw_step.proofs.Agreeing.{IsMissing}
 use Rattle.gw_step.proofs.Traces.{all_as_known, Goes, Arrives, Draws, Trace, Done, Then, trace_on, present, arrived}
 use Rattle.gw_step.proofs.Unstopped.{Safe, safe_bind, safe_if}
 use Rattle.gw_step.proofs.Drawn.{IsSound, IsDrawn, safe_drawn}
@@ -48,8 +51,8 @@ use Rattle.gw_step.proofs.Attributes.{attributes-past}
 -- the next arrival is scheduled, and the active transaction n, which is t, is as it was
 record Scheduled (p : Parts) (k : ℕ) (s : State) (n : ℕ) (t : Transaction) (after : State) : Type 0 where
   arrivals : ℕ
-  trace : Trace p k k s k arrivals after
-  few : arrivals ≤ suc k
+  trace : Trace p k (made_in k) s k arrivals after
+  few : arrivals ≤ made_in (suc k)
   found : attributes_at n after.transactions ≡ Some t
   active : after.lists.active ≡ s.lists.active
   clock : after.clock ≡ s.clock
@@ -65,10 +68,10 @@ module _ (p : Parts) (sound : IsSound p) (s : State) (n : ℕ) (t : Transaction)
       let env = environment_of_next g.priority s in
       safe_bind (IsDrawn s.clock s.streams) (Scheduled p k s n t) (drawn_moment p env g.interval s.clock s.streams) _ (safe_drawn p sound env g.interval s.clock s.streams (interval_read p sound.entities t.next g row acts.kinds acts.flow empty_row env))
       (λ d drawn.
-      safe_if (Scheduled p k s n t) (nat_lt (live_count s.transactions) 65536) (Gives (arrives t.next g.priority d.0 (with_streams d.1 s))) _
+      safe_if (Scheduled p k s n t) (nat_le (live_count s.transactions + 1) 65536) (Gives (arrives t.next g.priority d.0 (with_streams d.1 s))) _
       (λ few.
       record {
-        arrivals = suc k;
+        arrivals = suc (made_in k);
         trace = Then (Draws d.1 drawn.keeps) (Then (Arrives t.next g row g.priority d.0 acts.is.block_is acts.is.row_is empty_row drawn.later owed few) Done);
         few = omega arith;
         found = attributes-past s.transactions n t _ acts.is.found;
@@ -76,7 +79,7 @@ module _ (p : Parts) (sound : IsSound p) (s : State) (n : ℕ) (t : Transaction)
         clock = refl;
       })
       (λ many. tt)))
-      (λ none. record { arrivals = k; trace = Done; few = omega arith; found = acts.is.found; active = refl; clock = refl })
+      (λ none. record { arrivals = made_in k; trace = Done; few = omega arith; found = acts.is.found; active = refl; clock = refl })
 
   pub safe_generate : Safe (Enters p k s n) (generate p n t g s)
   safe_generate =
@@ -121,6 +124,7 @@ module _ (p : Parts) (count : ℕ) (streams : List ℕ) where
     owned = λ f n. idle_at p.entities f n ∙ sym (ap (λ o. lists_facility f (row_of p o)) (no_transaction n));
     promised = λ e. omega arith;
     waiting = λ e n h. absurd (omega (arith, h, ap (occurrences n) (at-replicate [] (length p.entities) e)));
+    assembling = All-nil IsMissing;
     sized = sized_at p.entities;
   }
 

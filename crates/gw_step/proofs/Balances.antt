@@ -116,6 +116,17 @@ balanced-arrival p n row g h =
       raises = λ w. raises-same g;
     }
 
+-- a copy holds nothing, and owns nothing
+pub balanced-copy : (p : Parts) (n : ℕ) (state row : Row) (g : EntityStates) → state.facilities ≡ [] → state.units ≡ [] → Fits state row → Balanced p n None (Some row) g g
+balanced-copy p n state row g facilities units fits = record {
+  others = λ f m other. refl;
+  own = λ f is. is ∙ ap (λ fs. lists fs f) (sym facilities ∙ fits.facilities);
+  units = λ e. omega (arith, fits.units e, ap (λ us. amount_of us e) units);
+  sized = λ e. refl;
+  filled = λ w. w;
+  raises = λ w. raises-same g;
+}
+
 -- FACILITIES
 
 owner_is : (f : Facility) (n : ℕ) → is_idle f ≡ true → is_owned_by n f ≡ false

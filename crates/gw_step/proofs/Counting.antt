@@ -1,12 +1,14 @@
 -- What a scan leaves of the counts: the steps, the end and the termination count.
-use Rattle.std.proofs.Common.{◌≡◌, ◌⊎◌, ℕ, ◌+◌, ℤ, pos, ◌<ℤ◌, List, [], ◌∷◌, Option, Some, None, Result, Ok, Err, Bool, true, false, not, if◌then◌else◌, nat_lt, refl, sym, ap, ◌∙◌, subst, arith, inl, inr}
+use Rattle.std.proofs.Common.{◌≡◌, ◌⊎◌, ℕ, ◌+◌, ℤ, pos, ◌<ℤ◌, List, [], ◌∷◌, Option, Some, None, Result, Ok, Err, Bool, true, false, not, if◌then◌else◌, nat_le, ◌==◌, zero, suc, refl, sym, ap, ◌∙◌, subst, arith, inl, inr}
 use Rattle.std.specs.Prelude.{int_lt, unwrap_or}
 use Rattle.std.proofs.lemmas.Int.{ints}
 use Rattle.gw_blocks.specs.declared.parts.Generate.{Generate}
+use Rattle.gw_blocks.specs.declared.parts.Split.{Split}
 use Rattle.gw_blocks.specs.declared.parts.Block.{Block}
 use Rattle.gw_blocks.specs.declared.parts.Block.TheVariants as blocks
 use Rattle.gw_object.specs.declared.parts.Parts.{Parts}
 use Rattle.gw_kinds.specs.Kinds.{block_at}
+use Rattle.gw_kinds.specs.Exits.{leads_to, goes_or_falls}
 use Rattle.gw_flow.specs.Values.{answered, operands}
 use Rattle.gw_num.specs.Arithmetic.{difference_of}
 use Rattle.gw_num.specs.Table.{at}
@@ -22,13 +24,13 @@ use Rattle.gw_entities.specs.Tabulation.{tabulating}
 use Rattle.gw_step.specs.declared.ends.End.{End}
 use Rattle.gw_step.specs.declared.ends.End.TheVariants.{Done, Number, Live}
 use Rattle.gw_step.specs.declared.placement.Placement.{Placement}
-use Rattle.gw_step.specs.declared.placement.Placement.TheVariants.{StaysActive, RestsUntil, JoinsDelayList, JoinsRetryList, LeavesModel}
+use Rattle.gw_step.specs.declared.placement.Placement.TheVariants.{StaysActive, RestsUntil, JoinsDelayList, JoinsRetryList, RestsAhead, RestsBehind, AwaitsSet, LeavesModel}
 use Rattle.gw_step.specs.Outcome.{Outcome, Gives, EndsBy, StopsBy, ◌>>=◌, or_stop, granted, evaluated}
-use Rattle.gw_step.specs.State.{FutureEvent, State, may_enter, with_streams, delay_list}
+use Rattle.gw_step.specs.State.{FutureEvent, Assembly, State, may_enter, with_streams, delay_list}
 use Rattle.gw_step.specs.Times.{environment_of, environment_of_next, moment_after, drawn_moment}
-use Rattle.gw_step.specs.Changes.{entered, enters_and_falls, assigned, arrives, woken, facility, storage, queue, switch, savevalue, put_facility, put_storage, put_queue, put_switch, put_savevalue, table, put_table, end_at}
+use Rattle.gw_step.specs.Changes.{copied, copies_made, assembled, come_to, entered, enters_and_falls, assigned, arrives, woken, facility, storage, queue, switch, savevalue, put_facility, put_storage, put_queue, put_switch, put_savevalue, table, put_table, end_at}
 use Rattle.gw_step.specs.Placing.{woken_if_stirred, placed}
-use Rattle.gw_step.specs.Blocks.{refuses, refusal, is_owed, next_arrival, chosen, passes_test, is_so, led_by, block_after, put_by, looped, turned, the_value, plus, effect, then_placed, meets, act}
+use Rattle.gw_step.specs.Blocks.{refuses, refusal, is_owed, next_arrival, chosen, passes_test, is_so, led_by, block_after, put_by, looped, turned, the_value, plus, split, assembly_at, joined_by_one, assemble_in, assemble, is_priority, effect, then_placed, meets, act}
 use Rattle.gw_step.specs.Step.{next_event, next_active, scan}
 use Rattle.gw_step.proofs.Outcomes.{OnGives, on_bind, on_test, on_if, on_both, choose}
 use Rattle.gw_step.proofs.Follows.{Stays, stays-same, stays-hand_over, stays-admission}
@@ -60,6 +62,9 @@ placed_stays n StaysActive s = stays-same s
 placed_stays n (RestsUntil time) s = let h = woken_stays s in record { clock = h.clock; count = h.count; steps = h.steps; ended = h.ended }
 placed_stays n (JoinsDelayList e) s = let h = woken_stays s in record { clock = h.clock; count = h.count; steps = h.steps; ended = h.ended }
 placed_stays n JoinsRetryList s = let h = woken_stays s in record { clock = h.clock; count = h.count; steps = h.steps; ended = h.ended }
+placed_stays n RestsAhead s = let h = woken_stays s in record { clock = h.clock; count = h.count; steps = h.steps; ended = h.ended }
+placed_stays n RestsBehind s = let h = woken_stays s in record { clock = h.clock; count = h.count; steps = h.steps; ended = h.ended }
+placed_stays n (AwaitsSet a) s = let h = woken_stays s in record { clock = h.clock; count = h.count; steps = h.steps; ended = h.ended }
 placed_stays n LeavesModel s = let h = woken_stays s in record { clock = h.clock; count = h.count; steps = h.steps; ended = h.ended }
 
 -- BLOCKS
@@ -73,6 +78,16 @@ on_granted : {A B : Type 0} (P : B → Type 0) (r : Result A Stop) (f : A → Ou
 on_granted P (Ok a) f h = h a
 on_granted P (Err stop) f h = tt
 
+-- copies change nothing of the counts
+copies_stay : (k n : ℕ) (t : Transaction) (target : ℕ) (s : State) → Stays s (copies_made k n t target s)
+unfolding copies_made
+copies_stay zero n t target s = stays-same s
+copies_stay (suc k) n t target s = let h = copies_stay k n t target (copied n t target s) in record { clock = h.clock; count = h.count; steps = h.steps; ended = h.ended }
+
+-- nor does who comes to an assembly
+joined_stays : (a : Assembly) (s : State) → Stays s (joined_by_one a s)
+joined_stays a s = choose (Stays s) (nat_le a.missing 1) (assembled a s) (come_to a s) (λ _. record { clock = refl; count = refl; steps = refl; ended = refl }) (λ _. record { clock = refl; count = refl; steps = refl; ended = refl })
+
 module _ (s : State) where
   abbrev Entered : State × Placement → Type 0
   Entered e = IsCounted s e.0
@@ -85,12 +100,29 @@ module _ (s : State) where
   arrival_stays p b g =
       on_if (Stays s) (is_owed g.limit (at 0 s.scheduled b)) _ (Gives s)
       (on_bind (Stays s) (drawn_moment p (environment_of_next g.priority s) g.interval s.clock s.streams) _
-      (λ d _. on_if (Stays s) (nat_lt (live_count s.transactions) 65536) (Gives (arrives b g.priority d.0 (with_streams d.1 s))) (EndsBy Live) (record { clock = refl; count = refl; steps = refl; ended = refl }) tt))
+      (λ d _. on_if (Stays s) (nat_le (live_count s.transactions + 1) 65536) (Gives (arrives b g.priority d.0 (with_streams d.1 s))) (EndsBy Live) (record { clock = refl; count = refl; steps = refl; ended = refl }) tt))
       (stays-same s)
 
   plus_counted : (p : Parts) (n : ℕ) (t : Transaction) (q : Option ℕ) (value : ℤ) → OnGives Entered (plus p.blocks n t q value s)
   plus_counted p n t None value = on_test Entered (may_enter (block_at p.blocks (t.next + 1))) NoBlock _ (passed (enters_and_falls n t s) refl refl refl)
   plus_counted p n t (Some q) value = on_test Entered (may_enter (block_at p.blocks (t.next + 1))) NoBlock _ (passed (enters_and_falls n t (assigned n q value s)) refl refl refl)
+
+  split_counted : (p : Parts) (n : ℕ) (t : Transaction) (c : Split) → OnGives Entered (split p.blocks n t c s)
+  split_counted p n t c =
+      let target = leads_to t.next (goes_or_falls c.target) in
+      let u = enters_and_falls n t s in
+      let made = counted_on s u (copies_made c.copies n (record t { current = t.next }) target u) (passed u refl refl refl) (copies_stay c.copies n (record t { current = t.next }) target u) in
+      on_if Entered (nat_le (live_count s.transactions + c.copies) 65536) _ (EndsBy Live)
+      (on_test Entered (may_enter (block_at p.blocks (t.next + 1))) NoBlock _ (on_if Entered (c.copies == 0) _ _ made (on_test Entered (may_enter (block_at p.blocks target)) NoBlock _ made)))
+      tt
+
+  joined_counted : (p : Parts) (n : ℕ) (t : Transaction) (size : ℕ) (o : Option Assembly) → OnGives Entered (assemble_in p.blocks n t size o s)
+  joined_counted p n t size None = on_test Entered (may_enter (block_at p.blocks (t.next + 1))) NoBlock _ (passed (enters_and_falls n t s) refl refl refl)
+  joined_counted p n t size (Some a) = let u = entered n t t.next s in on_test Entered (not (owns_any n s.entities.facilities)) OwnsAtEnd _ (counted_on s u (joined_by_one a u) (passed u refl refl refl) (joined_stays a u))
+
+  assemble_counted : (p : Parts) (n : ℕ) (t : Transaction) (size : ℕ) → OnGives Entered (assemble p.blocks n t size s)
+  assemble_counted p n t size =
+      on_if Entered (nat_le size 1) _ _ (on_test Entered (may_enter (block_at p.blocks (t.next + 1))) NoBlock _ (passed (enters_and_falls n t s) refl refl refl)) (joined_counted p n t size (assembly_at t.next t.set s))
 
   effect_counted : (p : Parts) (n : ℕ) (t : Transaction) (block : Block) (values : List ℤ) → OnGives Entered (effect p n t block values s)
   unfolding effect
@@ -143,6 +175,11 @@ module _ (s : State) where
   effect_counted p n t (blocks.Tabulate e) values =
       on_bind Entered (evaluated (answered (tabulating (the_value values) (table e s)))) _
       (λ new _. on_test Entered (may_enter (block_at p.blocks (t.next + 1))) NoBlock _ (passed (put_table e new (enters_and_falls n t s)) refl refl refl))
+  effect_counted p n t (blocks.Split c) values = split_counted p n t c
+  effect_counted p n t (blocks.Assemble size) values = assemble_counted p n t size
+  effect_counted p n t (blocks.Priority a) values =
+      on_if Entered (is_priority (the_value values)) _ (EndsBy Number) (on_test Entered (may_enter (block_at p.blocks (t.next + 1))) NoBlock _ (passed (enters_and_falls n (record t { priority = the_value values }) s) refl refl refl)) tt
+  effect_counted p n t blocks.Buffer values = on_test Entered (may_enter (block_at p.blocks (t.next + 1))) NoBlock _ (passed (enters_and_falls n t s) refl refl refl)
   effect_counted p n t (blocks.Plus a) values = plus_counted p n t a.parameter (the_value values)
   effect_counted p n t (blocks.Mark None) values = on_test Entered (may_enter (block_at p.blocks (t.next + 1))) NoBlock _ (passed (enters_and_falls n (record t { mark = s.clock }) s) refl refl refl)
   effect_counted p n t (blocks.Mark (Some q)) values = on_test Entered (may_enter (block_at p.blocks (t.next + 1))) NoBlock _ (passed (enters_and_falls n t (assigned n q s.clock s)) refl refl refl)

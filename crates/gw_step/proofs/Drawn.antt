@@ -136,6 +136,7 @@ module _ (p : Parts) (sound : IsSound p) (env : Environment) where
   safe_operands b (blocks.Test test) streams kinds read = safe_values test.left test.right streams read
   safe_operands b (blocks.TransferByFraction f) streams kinds read = with_stream_keeps 1 streams (generator.next_after (first_stream streams))
   safe_operands b (blocks.Savevalue a) streams kinds read = safe_value a.value streams read
+  safe_operands b (blocks.Priority a) streams kinds read = safe_value a.value streams read
   safe_operands b (blocks.Plus a) streams kinds read = safe_value a.value streams read
   safe_operands b (blocks.Tabulate t) streams kinds read =
       let table = is_table p.entities t kinds.entities in

@@ -50,6 +50,7 @@ use Rattle.gw_entities.specs.Facility.{idle, seized, seizing, released, releasin
 use Rattle.gw_entities.specs.Storage as storages
 use Rattle.gw_entities.specs.Queue.{joined, departed, departing}
 use Rattle.gw_entities.specs.Tabulation.{Tabulation, tabulating}
+use Rattle.gw_step.specs.Numbers.{made_in}
 use Rattle.gw_step.specs.declared.placement.Placement.{Placement}
 use Rattle.gw_step.specs.declared.placement.Placement.TheVariants.{StaysActive, RestsUntil, JoinsDelayList, JoinsRetryList}
 use Rattle.gw_step.specs.Outcome.{Gives, ◌>>=◌, granted, evaluated}
@@ -82,7 +83,7 @@ not-true true h = absurd (false≢true h)
 not-true false h = refl
 
 -- who owns none of the facilities
-owns_none : (fs : List Facility) (n : ℕ) → ((f : ℕ) → is_owned_by n (at idle fs f) ≡ false) → owns_any n fs ≡ false
+pub owns_none : (fs : List Facility) (n : ℕ) → ((f : ℕ) → is_owned_by n (at idle fs f) ≡ false) → owns_any n fs ≡ false
 owns_none [] n h = refl
 owns_none (f ∷ fs) n h = ap (λ b. b || list_any (is_owned_by n) fs) (h 0) ∙ owns_none fs n (λ k. h (suc k))
 
@@ -186,8 +187,8 @@ module _ (p : Parts) (each_block : (b : ℕ) (block : Block) → block_at p.bloc
       safe_leads p (Enters p k s n) (t.next + 1) _ may
       (record {
         entries = suc k;
-        arrivals = k;
-        trace = Then (goes p s n t (blocks.Advance time) row acts k k t (t.next + 1) row s.entities (unchanged s t) (λ q. refl) (at_first _ []) may (balanced-nothing p n row s.entities)) Done;
+        arrivals = made_in k;
+        trace = Then (goes p s n t (blocks.Advance time) row acts k (made_in k) t (t.next + 1) row s.entities (unchanged s t) (λ q. refl) (at_first _ []) may (balanced-nothing p n row s.entities)) Done;
         may = until_rests s.clock moment (enters_and_falls n t s) acts.active refl later;
         few_entries = omega (arith, until_credits s.clock moment (suc k));
         few_arrivals = omega arith;
@@ -214,10 +215,10 @@ module _ (p : Parts) (each_block : (b : ℕ) (block : Block) → block_at p.bloc
       let below = named_below p.entities (needs needed.Facility f) [] acts.kinds.entities in
       let owned = owner_as p s n t (blocks.Release f) row acts f ∙ the_rule p t.next codes.not_owner (owns row f) (blocks.Release f) row refl acts.flow in
       let u : State = put_facility f (released (facility f s)) (enters_and_falls n t s) in
-      let gone = goes p s n t (blocks.Release f) row acts k k t (t.next + 1) (without_facility f row) u.entities (unchanged s t) (λ q. refl) (at_first _ []) may (balanced-release p n f row s.entities below owned) in
+      let gone = goes p s n t (blocks.Release f) row acts k (made_in k) t (t.next + 1) (without_facility f row) u.entities (unchanged s t) (λ q. refl) (at_first _ []) may (balanced-release p n f row s.entities below owned) in
       safe_leads p (Enters p k s n) (t.next + 1) _ may
       (subst (λ r. Safe (Enters p k s n) (granted r >>= λ x. stays (hand_over p.blocks f (delay_list f s) (put_facility f x.1 (enters_and_falls n t s))))) (sym (released_is n (facility f s) owned))
-      (entered_once p k s n _ (Then gone (handed_over p each_block flow k k u (change-keeps p flow gone acts.typed) f (delay_list f s) below (idle-released f (enters_and_falls n t s)) (λ m. omega arith)))))
+      (entered_once p k s n _ (Then gone (handed_over p each_block flow k (made_in k) u (change-keeps p flow gone acts.typed) f (delay_list f s) below (idle-released f (enters_and_falls n t s)) (λ m. omega arith)))))
 
   -- STORAGES AND QUEUES
 
@@ -248,11 +249,11 @@ module _ (p : Parts) (each_block : (b : ℕ) (block : Block) → block_at p.bloc
       let enough = leb-true u.number (units_of row u.entity) (the_rule p t.next codes.too_few_units (nat_le u.number (units_of row u.entity)) (blocks.Leave u) row refl acts.flow) in
       let within = held u row (kind_at p.entities u.entity) kind.0 kind.1 (inside (blocks.Leave u) row acts u.entity) in
       let v : State = put_storage u.entity (storages.left u.number (storage u.entity s)) (enters_and_falls n t s) in
-      let gone = goes p s n t (blocks.Leave u) row acts k k t (t.next + 1) (with_units u.entity (units_of row u.entity - u.number) row) v.entities (unchanged s t) (λ q. refl) (at_first _ []) may
+      let gone = goes p s n t (blocks.Leave u) row acts k (made_in k) t (t.next + 1) (with_units u.entity (units_of row u.entity - u.number) row) v.entities (unchanged s t) (λ q. refl) (at_first _ []) may
       (balanced-storage p n u.entity (units_of row u.entity - u.number) (storages.left u.number (storage u.entity s)) row s.entities kind.0 kind.1 refl (omega (arith, enough, within)) (λ before. omega (arith, before)) (omega arith)) in
       safe_leads p (Enters p k s n) (t.next + 1) _ may
       (subst (λ r. Safe (Enters p k s n) (granted r >>= λ x. stays (admission p.blocks u.entity (delay_list u.entity s) (put_storage u.entity x.1 (enters_and_falls n t s))))) (sym (left_is u.number (storage u.entity s) (le-leb u.number (storage u.entity s).contents.content (omega (arith, enough, within)))))
-      (entered_once p k s n _ (Then gone (admits p each_block flow k k v (change-keeps p flow gone acts.typed) u.entity (delay_list u.entity s) (λ m. omega arith)))))
+      (entered_once p k s n _ (Then gone (admits p each_block flow k (made_in k) v (change-keeps p flow gone acts.typed) u.entity (delay_list u.entity s) (λ m. omega arith)))))
 
   pub safe_join : (u : Units) (row : Row) → Acts p s n t (blocks.Queue u) row → Safe (Enters p k s n) (join_queue p.blocks n t u s)
   safe_join u row acts =
@@ -330,7 +331,7 @@ module _ (p : Parts) (each_block : (b : ℕ) (block : Block) → block_at p.bloc
   with_assigned : (block : Block) (row state : Row) → Acts p s n t block row → (q : ℕ) (value : ℤ) (to : ℕ) → Contains (edges p (own_table p) t.next block row) (move to state) → MayBeEntered p to
       → IsAsKnown (kind_of state q) (Some value) → ((r : ℕ) → r ≢ q → kind_of state r ≡ kind_of row r) → state.facilities ≡ row.facilities → state.units ≡ row.units → Enters p k s n (entered n t to (assigned n q value s), StaysActive)
   with_assigned block row state acts q value to along may here others facilities units =
-      entered_once p k s n _ (Then (goes_with p s n t block row acts k k to state q value here others along may (balanced-parameters p n row state s.entities facilities units)) Done)
+      entered_once p k s n _ (Then (goes_with p s n t block row acts k (made_in k) to state q value here others along may (balanced-parameters p n row state s.entities facilities units)) Done)
 
   -- and is known to be what it is set to
   sets : (block : Block) (row : Row) → Acts p s n t block row → (q : ℕ) (kind : ParamKind) (value : ℤ) (to : ℕ) → Contains (edges p (own_table p) t.next block row) (move to (with_parameter q kind row)) → MayBeEntered p to
@@ -370,7 +371,7 @@ module _ (p : Parts) (each_block : (b : ℕ) (block : Block) → block_at p.bloc
   safe_mark None row acts =
       let may = first_may_be_entered p t.next _ [] acts.kinds.exits in
       safe_leads p (Enters p k s n) (t.next + 1) _ may
-      (entered_once p k s n _ (Then (goes p s n t (blocks.Mark None) row acts k k (record t { mark = s.clock }) (t.next + 1) row s.entities (record { next = refl; mark = λ clock mark. clock }) (λ q. refl) (at_first _ []) may (balanced-nothing p n row s.entities)) Done))
+      (entered_once p k s n _ (Then (goes p s n t (blocks.Mark None) row acts k (made_in k) (record t { mark = s.clock }) (t.next + 1) row s.entities (record { next = refl; mark = λ clock mark. clock }) (λ q. refl) (at_first _ []) may (balanced-nothing p n row s.entities)) Done))
   safe_mark (Some q) row acts =
       let may = first_may_be_entered p t.next _ [] acts.kinds.exits in
       safe_leads p (Enters p k s n) (t.next + 1) _ may (sets (blocks.Mark (Some q)) row acts q Num s.clock (t.next + 1) (at_first _ []) may tt)
@@ -450,7 +451,7 @@ module _ (p : Parts) (each_block : (b : ℕ) (block : Block) → block_at p.bloc
       (ap not (owns_none s.entities.facilities n (λ f. owner_as p s n t (blocks.Terminate by) row acts f ∙ lists-none row.facilities none f)))
       (record {
         entries = suc k;
-        arrivals = k;
+        arrivals = made_in k;
         trace = Then (EntersLast n t (blocks.Terminate by) row acts.is (present s.lists n acts.active)) (Then (Counts value) Done);
         may = (acts.active, record { t = with_attributes (record t { current = t.next }) bears.0; row = row; found = written_at s.transactions n (record t { current = t.next }) bears.0 bears.1; row_is = acts.is.row_is; none = none });
         few_entries = omega arith;

@@ -28,3 +28,4 @@ pub mod Attributes
 pub mod PlainBlocks
 pub mod Counting
 pub mod Nothing
+pub mod Copying

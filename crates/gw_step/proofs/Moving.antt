@@ -19,6 +19,7 @@ use Rattle.gw_entities.specs.Facility.{idle, is_owned_by}
 use Rattle.gw_step.specs.declared.placement.Placement.{Placement}
 use Rattle.gw_step.specs.declared.placement.Placement.TheVariants.{StaysActive}
 use Rattle.gw_step.specs.Placing.{placed}
+use Rattle.gw_step.specs.Numbers.{made_in}
 use Rattle.gw_step.specs.Outcome.{Outcome, Gives}
 use Rattle.gw_step.specs.State.{EntityStates, State, may_enter}
 use Rattle.gw_step.specs.Changes.{entered, assigned}
@@ -58,26 +59,26 @@ the_rule p b code holds block row is pass =
     let one : Rule = record { code = code; holds = holds } in
     All-head (λ (rule : Rule). rule.holds ≡ true) one [] (subst (All (λ (rule : Rule). rule.holds ≡ true)) is (own_rules_hold p (own_table p) b block row pass))
 
--- what a state comes to in a step, from so many entries and arrivals: at most one more of each
+-- what a state comes to in a step, from as many entries as steps and what they may have made: one entry more at most, and what one step may make
 pub record Reaches (p : Parts) (k : ℕ) (s t : State) : Type 0 where
   pub entries : ℕ
   pub arrivals : ℕ
-  pub trace : Trace p k k s entries arrivals t
+  pub trace : Trace p k (made_in k) s entries arrivals t
   pub few_entries : entries ≤ suc k
-  pub few_arrivals : arrivals ≤ suc k
+  pub few_arrivals : arrivals ≤ made_in (suc k)
 
 -- what entering comes to, and that the active transaction n may then be placed so
 pub record Enters (p : Parts) (k : ℕ) (s : State) (n : ℕ) (e : State × Placement) : Type 0 where
   pub entries : ℕ
   pub arrivals : ℕ
-  pub trace : Trace p k k s entries arrivals e.0
+  pub trace : Trace p k (made_in k) s entries arrivals e.0
   pub may : Rested p n e.1 e.0
   pub few_entries : credited e.1 entries ≤ suc k
-  pub few_arrivals : arrivals ≤ suc k
+  pub few_arrivals : arrivals ≤ made_in (suc k)
 
 -- it entered, and stays active
-pub entered_once : (p : Parts) (k : ℕ) (s : State) (n : ℕ) (t : State) → Trace p k k s (suc k) k t → Enters p k s n (t, StaysActive)
-entered_once p k s n t xs = record { entries = suc k; arrivals = k; trace = xs; may = tt; few_entries = omega arith; few_arrivals = omega arith }
+pub entered_once : (p : Parts) (k : ℕ) (s : State) (n : ℕ) (t : State) → Trace p k (made_in k) s (suc k) (made_in k) t → Enters p k s n (t, StaysActive)
+entered_once p k s n t xs = record { entries = suc k; arrivals = made_in k; trace = xs; may = tt; few_entries = omega arith; few_arrivals = omega arith }
 
 -- then it is placed
 pub safe_placed : (p : Parts) (k : ℕ) (s : State) (n : ℕ) (o : Outcome (State × Placement)) → Safe (Enters p k s n) o → Safe (Reaches p k s) (then_placed n o)
@@ -93,7 +94,7 @@ safe_placed p k s n o h =
 
 -- it was refused
 pub refused : (p : Parts) (k : ℕ) (s : State) (n : ℕ) (placement : Placement) → Rested p n placement s → credited placement k ≤ suc k → Reaches p k s (placed n placement s)
-refused p k s n placement may few = record { entries = credited placement k; arrivals = k; trace = placed_traced p k k n placement s may; few_entries = few; few_arrivals = omega arith }
+refused p k s n placement may few = record { entries = credited placement k; arrivals = made_in k; trace = placed_traced p k (made_in k) n placement s may; few_entries = few; few_arrivals = omega arith }
 
 -- it enters its block as it is
 pub unchanged : (s : State) (t : Transaction) → Becomes s t t
@@ -122,7 +123,7 @@ module _ (p : Parts) (s : State) (n : ℕ) (t : Transaction) (block : Block) (ro
   -- and stays active, and nothing else happens
   pub just_goes : (k : ℕ) (to : ℕ) (state : Row) (h : EntityStates) → Knows row state → Contains (edges p (own_table p) t.next block row) (move to state) → MayBeEntered p to → Balanced p n (Some row) (Some state) s.entities h
       → Enters p k s n (record (entered n t to s) { entities = h }, StaysActive)
-  just_goes k to state h known along may balance = entered_once p k s n _ (Then (goes k k t to state h (unchanged s t) known along may balance) Done)
+  just_goes k to state h known along may balance = entered_once p k s n _ (Then (goes k (made_in k) t to state h (unchanged s t) known along may balance) Done)
 
   -- what its row says of an owner, and what is inside at least
   pub owner_as : (f : ℕ) → is_owned_by n (at idle s.entities.facilities f) ≡ owns row f

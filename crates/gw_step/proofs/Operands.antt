@@ -88,6 +88,7 @@ evaluated_spelled es (blocks.Advance time) each h = two_spelled time.mean time.h
 evaluated_spelled es (blocks.Assign a) each h = one_spelled a.value h.value
 evaluated_spelled es (blocks.Test test) each h = two_spelled test.left test.right h.left h.right
 evaluated_spelled es (blocks.Savevalue a) each h = one_spelled a.value h.value
+evaluated_spelled es (blocks.Priority a) each h = one_spelled a.value h
 evaluated_spelled es (blocks.Plus a) each h = one_spelled a.value h.value
 evaluated_spelled es (blocks.Tabulate t) each h = of_option (operand_at es t) (argument_spelled es t each)
   where

@@ -31,7 +31,7 @@ use Rattle.gw_step.specs.Times.{environment_of_next, drawn_moment}
 use Rattle.gw_step.specs.Changes.{newcomer, arrives}
 use Rattle.gw_step.specs.Step.{scan, stepped, within_budget}
 use Rattle.gw_step.specs.Start.{nothing, first_moment, first_arrival, first_arrivals, started}
-use Rattle.gw_step.specs.Numbers.{IsWithin, AreWithinLimits, AreFewLive}
+use Rattle.gw_step.specs.Numbers.{made_in, IsWithin, AreWithinLimits, AreFewLive}
 use Rattle.gw_step.specs.Operands.{OperandsFit}
 use Rattle.gw_step.specs.Job.{Job, JobFits, IsBounded, IsReached, Step, Alone, after, then_step, start_of}
 use Rattle.gw_step.proofs.Outcomes.{OnGives, on_both}
@@ -55,7 +55,7 @@ one_more j n s t h next = let e : n + 1 ≡ suc n = omega arith in ap (λ k. aft
 
 -- the numbers after a step
 record Numbered (j : Job) (k : ℕ) (t : State) : Type 0 where
-  numbers : IsWithin (length j.parts.blocks) (length j.parts.entities) k k t
+  numbers : IsWithin (length j.parts.blocks) (length j.parts.entities) k (made_in k) t
   limits : AreWithinLimits j.parts.blocks t.scheduled
   live : AreFewLive t.transactions
 
@@ -88,7 +88,7 @@ bounded_ended j s end b runs =
       steps = omega (arith, b.runs runs);
       runs = λ e. absurd (cc);
       counts = λ e. absurd (cc);
-      numbers = within-ended bs es (s.steps + 1) (s.steps + 1) s (within-more bs es s.steps s.steps s b.numbers (s.steps + 1) (s.steps + 1) (omega arith) (omega arith)) (s.steps + 1) (Some end);
+      numbers = within-ended bs es (s.steps + 1) (made_in (s.steps + 1)) s (within-more bs es s.steps (made_in s.steps) s b.numbers (s.steps + 1) (made_in (s.steps + 1)) (omega arith) (omega arith)) (s.steps + 1) (Some end);
       limits = b.limits;
       live = b.live;
     }
@@ -111,7 +111,7 @@ numbered_step : (j : Job) (s t : State) → IsReached (record { job = j; state =
 numbered_step j s t r next =
     let x = reached_in_step j s.steps s t r.fits.checked (reached_states_are_well_typed j s.steps s r.fits.checked r.alone) next in
     record {
-      numbers = within-more (length j.parts.blocks) (length j.parts.entities) x.entries x.arrivals t (trace-within j.parts x.trace r.bounded.numbers) (s.steps + 1) (s.steps + 1) (omega (arith, x.few_entries)) (omega (arith, x.few_arrivals));
+      numbers = within-more (length j.parts.blocks) (length j.parts.entities) x.entries x.arrivals t (trace-within j.parts x.trace r.bounded.numbers) (s.steps + 1) (made_in (s.steps + 1)) (omega (arith, x.few_entries)) (omega (arith, x.few_arrivals));
       limits = trace-limits j.parts x.trace r.bounded.limits;
       live = trace-live j.parts x.trace r.bounded.live;
     }
@@ -274,7 +274,7 @@ begun_bounded j k t end fits few b =
       steps = omega (arith, b.steps);
       runs = λ _. omega (arith, b.steps, fits.budget_least);
       counts = λ _. rw b.counts (omega (arith, ints, fits.count_least));
-      numbers = subst (λ n. IsWithin (length j.parts.blocks) (length j.parts.entities) n n (record t { ended = end })) (sym b.steps)
+      numbers = subst (λ n. IsWithin (length j.parts.blocks) (length j.parts.entities) n (made_in n) (record t { ended = end })) (sym b.steps)
           (record { entries = w.entries; entity_entries = w.entity_entries; made = omega (arith, b.made, few); scheduled = omega (arith, b.scheduled, few); marked = w.marked; whole = w.whole; clock = w.clock; future = w.future });
       limits = record { arrivals = λ c g is. within_limit g.limit (at 0 t.scheduled c) (b.first c) (and_parts (is_none_or g.first (int_le (pos 0))) (is_none_or g.limit (nat_lt 0)) (constants c g is)).1 };
       live = record { live = omega (arith, b.live, few) };

@@ -1,16 +1,20 @@
 -- Each elementary change keeps that each live transaction resides exactly once.
-use Rattle.std.proofs.Common.{◌≡◌, ◌≢◌, ℕ, zero, suc, ◌+◌, ◌≤◌, ℤ, List, [], ◌∷◌, ◌++◌, map, length, Option, Some, None, Bool, true, false, if◌then◌else◌, ◌==◌, is_some, option_map, refl, sym, ap, ◌∙◌, arith, inl, inr}
-use Rattle.std.specs.Prelude.{int_le, sum_by}
+use Rattle.std.proofs.Common.{◌≡◌, ◌≢◌, ℕ, zero, suc, ◌+◌, ◌≤◌, ℤ, List, [], ◌∷◌, ◌++◌, map, length, Option, Some, None, Bool, true, false, if◌then◌else◌, ◌==◌, is_some, option_map, refl, sym, ap, ◌∙◌, subst, arith, inl, inr}
+use Rattle.std.specs.Prelude.{int_le, int_lt, sum_by}
+use Rattle.std.specs.List.{find}
 use Rattle.std.proofs.lemmas.Bool.{cases_eq, eq-eqb, ne_eqb}
-use Rattle.gw_chains.specs.Chain.{behind, all_behind, due}
+use Rattle.gw_chains.specs.Chain.{ahead, behind, all_behind, due}
+use Rattle.gw_chains.specs.Assembling.{without_first, with_first_changed}
 use Rattle.gw_transactions.specs.declared.Transaction.{Transaction}
-use Rattle.gw_transactions.specs.Transactions.{LiveTransaction, with_attributes, with_parameter}
+use Rattle.gw_transactions.specs.Transactions.{LiveTransaction, made_with, with_attributes, with_parameter}
 use Rattle.gw_num.specs.Table.{at, put}
 use Rattle.std.proofs.lemmas.List.Sums.{sum_by-cons}
 use Rattle.gw_num.proofs.Tables.{at-put, at-put_other, at_past, sum_by-put}
-use Rattle.gw_step.specs.State.{FutureEvent, State, priority_of, delay_list, without}
-use Rattle.gw_step.specs.Residence.{occurrences, active_numbers, occurrences_in, ResidesOnce}
-use Rattle.gw_step.specs.Changes.{newcomer, retries, woken, entered, assigned, destroyed, rests_until, arrives, waits_for, called_from, clock_moves, numbers}
+use Rattle.gw_step.specs.declared.placement.Assembling.{Assembling}
+use Rattle.gw_step.specs.Times.{parameters_of}
+use Rattle.gw_step.specs.State.{FutureEvent, Assembly, State, priority_of, delay_list, without}
+use Rattle.gw_step.specs.Residence.{occurrences, active_numbers, awaiting, occurrences_in, ResidesOnce}
+use Rattle.gw_step.specs.Changes.{newcomer, with_copy, copied, rests_ahead, rests_behind, awaits_set, is_of, assembled, one_fewer, come_to, retries, woken, entered, assigned, destroyed, rests_until, arrives, waits_for, called_from, clock_moves, numbers}
 use Rattle.gw_step.proofs.Attributes.{is_some-attributes, is_some-parameter}
 use Rattle.gw_step.proofs.Lists.{occurrences-placed, occurrences-all_behind, occurrences-due}
 
@@ -51,6 +55,7 @@ pub record Alone (n : ℕ) (s : State) : Type 0 where
   pub future_events : occurrences n (map (λ (e : FutureEvent). e.number) s.lists.future_events) ≡ 0
   pub delay_lists : (e : ℕ) → occurrences n (delay_list e s) ≡ 0
   pub retry : occurrences n s.lists.retry ≡ 0
+  pub assemblies : occurrences n (awaiting s.lists.assemblies) ≡ 0
 
 -- who is active resides on no list
 pub alone : (n : ℕ) (s : State) → s.lists.active ≡ Some n → ResidesOnce s → Alone n s
@@ -64,6 +69,7 @@ alone n s active h =
       future_events = omega (arith, a, one, before, most);
       delay_lists = λ e. omega (arith, a, one, before, most, occurrences-one n s.lists.delay_lists e);
       retry = omega (arith, a, one, before, most);
+      assemblies = omega (arith, a, one, before, most);
     }
 
 -- nobody resides twice on a delay list
@@ -211,3 +217,83 @@ pub resides-woken : (s : State) → ResidesOnce s → ResidesOnce (woken s)
 resides-woken s h k =
     let before : occurrences_in s.lists k ≡ one_if (is_some (at None s.transactions k)) = h k in
     omega (arith, before, occurrences-joining k (priority_of s.transactions) s.lists.retry s.lists.current_events)
+
+-- THE CURRENT EVENTS CHAIN
+
+-- a list with one more member, ahead of its peers
+occurrences-ahead : (k : ℕ) (priority : ℕ → ℤ) (n : ℕ) (xs : List ℕ) → occurrences k (ahead priority n xs) ≡ one_if (n == k) + occurrences k xs
+occurrences-ahead k priority n xs =
+    ap (occurrences k) (sym (map-same (ahead priority n xs))) ∙ occurrences-placed k (λ (m : ℕ). m) (λ m. int_lt (priority n) (priority m)) n xs
+    ∙ ap (λ ns. one_if (n == k) + occurrences k ns) (map-same xs)
+
+pub resides-ahead : (n : ℕ) (s : State) → s.lists.active ≡ Some n → ResidesOnce s → ResidesOnce (rests_ahead n s)
+resides-ahead n s active h k =
+    let before : occurrences_in s.lists k ≡ one_if (is_some (at None s.transactions k)) = h k in
+    let a : occurrences k (active_numbers s.lists.active) ≡ one_if (n == k) + 0 = ap (λ o. occurrences k (active_numbers o)) active in
+    omega (arith, before, a, occurrences-ahead k (priority_of s.transactions) n s.lists.current_events)
+
+pub resides-behind : (n : ℕ) (s : State) → s.lists.active ≡ Some n → ResidesOnce s → ResidesOnce (rests_behind n s)
+resides-behind n s active h k =
+    let before : occurrences_in s.lists k ≡ one_if (is_some (at None s.transactions k)) = h k in
+    let a : occurrences k (active_numbers s.lists.active) ≡ one_if (n == k) + 0 = ap (λ o. occurrences k (active_numbers o)) active in
+    omega (arith, before, a, occurrences-joined k (priority_of s.transactions) n s.lists.current_events)
+
+pub resides-copied : (n : ℕ) (t : Transaction) (target : ℕ) (s : State) → ResidesOnce s → ResidesOnce (copied n t target s)
+resides-copied n t target s h k =
+    let m = length s.transactions in
+    let v : Option LiveTransaction = Some (made_with (parameters_of n s) (record t { next = target })) in
+    let before : occurrences_in s.lists k ≡ one_if (is_some (at None s.transactions k)) = h k in
+    let c = occurrences-joined k (priority_of (with_copy n t target s)) m s.lists.current_events in
+    elim (cases_eq k m) [
+      | inl e ↦
+          let none : one_if (is_some (at None s.transactions k)) ≡ 0 = ap (λ o. one_if (is_some o)) (at_past None s.transactions k (omega (arith, e))) in
+          let new = written_here s.transactions m v k e in
+          let here = same_number m k (sym e) in
+          omega (arith, before, c, none, new, here)
+      | inr e ↦
+          let kept = written_other s.transactions m v k e in
+          let other = other_number m k (λ d. e (sym d)) in
+          omega (arith, before, c, kept, other)
+    ]
+
+-- ASSEMBLIES
+
+-- one more waits for its set
+awaiting-append : (k : ℕ) (xs : List Assembly) (a : Assembly) → occurrences k (awaiting (xs ++ a ∷ [])) ≡ occurrences k (awaiting xs) + one_if (a.number == k)
+awaiting-append k [] a = omega arith
+awaiting-append k (x ∷ xs) a = omega (arith, awaiting-append k xs a)
+
+pub resides-awaits : (n : ℕ) (a : Assembling) (s : State) → s.lists.active ≡ Some n → ResidesOnce s → ResidesOnce (awaits_set n a s)
+resides-awaits n a s active h k =
+    let before : occurrences_in s.lists k ≡ one_if (is_some (at None s.transactions k)) = h k in
+    let was : occurrences k (active_numbers s.lists.active) ≡ one_if (n == k) + 0 = ap (λ o. occurrences k (active_numbers o)) active in
+    omega (arith, before, was, awaiting-append k s.lists.assemblies (record { block = a.block; set = a.set; number = n; missing = a.missing }))
+
+-- one of them waits no more
+awaiting-without : (k : ℕ) (passes : Assembly → Bool) (xs : List Assembly) (a : Assembly) → find passes xs ≡ Some a → one_if (a.number == k) + occurrences k (awaiting (without_first passes xs)) ≡ occurrences k (awaiting xs)
+awaiting-without k passes [] a h = absurd cc
+awaiting-without k passes (x ∷ xs) a h = by_test (passes x) h (awaiting-without k passes xs a)
+  where
+    by_test : (b : Bool) → (if b then Some x else find passes xs) ≡ Some a → (find passes xs ≡ Some a → one_if (a.number == k) + occurrences k (awaiting (without_first passes xs)) ≡ occurrences k (awaiting xs))
+        → one_if (a.number == k) + occurrences k (awaiting (if b then xs else x ∷ without_first passes xs)) ≡ occurrences k (awaiting (x ∷ xs))
+    by_test true h rest = let same : x ≡ a = cc in subst (λ (y : Assembly). one_if (y.number == k) + occurrences k (awaiting xs) ≡ occurrences k (awaiting (x ∷ xs))) same refl
+    by_test false h rest = omega (arith, rest h)
+
+pub resides-assembled : (a : Assembly) (s : State) → find (is_of a.block a.set) s.lists.assemblies ≡ Some a → ResidesOnce s → ResidesOnce (assembled a s)
+resides-assembled a s is h k =
+    let before : occurrences_in s.lists k ≡ one_if (is_some (at None s.transactions k)) = h k in
+    omega (arith, before, occurrences-joined k (priority_of s.transactions) a.number s.lists.current_events, awaiting-without k (is_of a.block a.set) s.lists.assemblies a is)
+
+-- those wait who waited, where an assembly waits for one fewer
+awaiting-changed : (k : ℕ) (passes : Assembly → Bool) (xs : List Assembly) → occurrences k (awaiting (with_first_changed passes one_fewer xs)) ≡ occurrences k (awaiting xs)
+awaiting-changed k passes [] = refl
+awaiting-changed k passes (x ∷ xs) = by_test (passes x) (awaiting-changed k passes xs)
+  where
+    by_test : (b : Bool) → occurrences k (awaiting (with_first_changed passes one_fewer xs)) ≡ occurrences k (awaiting xs) → occurrences k (awaiting (if b then one_fewer x ∷ xs else x ∷ with_first_changed passes one_fewer xs)) ≡ occurrences k (awaiting (x ∷ xs))
+    by_test true rest = refl
+    by_test false rest = omega (arith, rest)
+
+pub resides-come : (a : Assembly) (s : State) → ResidesOnce s → ResidesOnce (come_to a s)
+resides-come a s h k =
+    let before : occurrences_in s.lists k ≡ one_if (is_some (at None s.transactions k)) = h k in
+    omega (arith, before, awaiting-changed k (is_of a.block a.set) s.lists.assemblies)

@@ -18,6 +18,7 @@ use Rattle.gw_num.specs.Table.{at}
 use Rattle.gw_transactions.specs.declared.Transaction.{Transaction}
 use Rattle.gw_transactions.specs.Transactions.{LiveTransaction, attributes_at}
 use Rattle.gw_entities.specs.declared.stop.Stop.TheVariants.{NoBlock}
+use Rattle.gw_step.specs.Numbers.{made_in}
 use Rattle.gw_step.specs.declared.ends.End.TheVariants.{Budget}
 use Rattle.gw_step.specs.Outcome.{Outcome, Gives, EndsBy, StopsBy, evaluated}
 use Rattle.gw_step.specs.State.{FutureEvent, State, with_streams}
@@ -40,6 +41,7 @@ use Rattle.gw_step.proofs.Asked.{are_read, acts_at}
 use Rattle.gw_step.proofs.Moving.{Acts, Reaches, safe_placed}
 use Rattle.gw_step.proofs.Calling.{some_of}
 use Rattle.gw_step.proofs.Effects.{safe_call, safe_come_back, safe_comparison, safe_gate, safe_advance, safe_seize, safe_release, safe_enter, safe_leave, safe_join, safe_depart, safe_assign, safe_transfer, safe_fraction, safe_loop, safe_logic, safe_save, safe_mark, safe_plus, safe_tabulate, safe_terminate}
+use Rattle.gw_step.proofs.Copying.{safe_split, safe_assemble, safe_priority, safe_buffer}
 use Rattle.gw_step.proofs.Arriving.{safe_generate, start_typed}
 use Rattle.gw_step.proofs.Attributes.{attributes_of}
 
@@ -73,6 +75,10 @@ module _ (p : Parts) (each_return : All (ReturnsHold p) p.returns) (each_block :
   safe_meets s n t (blocks.Logic l) values row acts = safe_placed p k s n _ (safe_logic p each_block flow s n t k l row acts)
   safe_meets s n t (blocks.Savevalue a) values row acts = safe_placed p k s n _ (safe_save p each_block flow s n t k a (the_value values) row acts)
   safe_meets s n t (blocks.Mark q) values row acts = safe_placed p k s n _ (safe_mark p each_block flow s n t k q row acts)
+  safe_meets s n t (blocks.Split c) values row acts = safe_placed p k s n _ (safe_split p s n t k c row acts)
+  safe_meets s n t (blocks.Assemble size) values row acts = safe_placed p k s n _ (safe_assemble p s n t k size row acts)
+  safe_meets s n t (blocks.Priority a) values row acts = safe_placed p k s n _ (safe_priority p s n t k a (the_value values) row acts)
+  safe_meets s n t blocks.Buffer values row acts = safe_placed p k s n _ (safe_buffer p s n t k row acts)
   safe_meets s n t (blocks.Plus a) values row acts = safe_placed p k s n _ (safe_plus p each_block flow s n t k a (the_value values) row acts)
   safe_meets s n t (blocks.Tabulate e) values row acts = safe_placed p k s n _ (safe_tabulate p each_block flow s n t k e (the_value values) row acts)
 
@@ -100,8 +106,8 @@ module _ (p : Parts) (each_return : All (ReturnsHold p) p.returns) (each_block :
       (safe_found (Reaches p k s) (block_at p.blocks t.next) NoBlock block.0 _ block.1 (safe_act s n t block.0 acts.0 acts.1))
 
   -- a step with no entry and no arrival
-  apart : (s t : State) → Trace p k k s k k t → Reaches p k s t
-  apart s t xs = record { entries = k; arrivals = k; trace = xs; few_entries = omega arith; few_arrivals = omega arith }
+  apart : (s t : State) → Trace p k (made_in k) s k (made_in k) t → Reaches p k s t
+  apart s t xs = record { entries = k; arrivals = made_in k; trace = xs; few_entries = omega arith; few_arrivals = omega arith }
 
   safe_events : (s : State) (events : List FutureEvent) → s.lists.future_events ≡ events → Safe (Reaches p k s) (next_event events s)
   safe_events s [] is = tt

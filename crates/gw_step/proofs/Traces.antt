@@ -1,11 +1,13 @@
 -- A step is a list of elementary changes, and each keeps a state well-typed.
 use Rattle.gw_step.specs.Blocks.{is_owed}
-use Rattle.gw_transactions.specs.Transactions.{LiveTransaction, with_attributes, with_parameter, attributes_at, put_attributes, put_parameter, live_count}
+use Rattle.gw_transactions.specs.Transactions.{LiveTransaction, made_with, with_attributes, with_parameter, attributes_at, put_attributes, put_parameter, live_count}
 use Rattle.std.proofs.Common.{◌≡◌, ℕ, suc, ◌+◌, ◌<◌, ◌≤◌, ◌≤ℤ◌, ℤ, pos, ◌-ℤ◌, List, [], ◌∷◌, length, map, Option, Some, None, Bool, true, false, is_some, if◌then◌else◌, ◌==◌, refl, sym, ap, ◌∙◌, subst, arith, inl, inr, IsSome, option_map}
-use Rattle.std.specs.Prelude.{IsSomeAnd, Contains, unsigned_abs, sum_by, IfSome, IsTrue, nat_lt, ◌&&◌}
+use Rattle.std.specs.Prelude.{IsSomeAnd, Contains, unsigned_abs, sum_by, IfSome, IsTrue, nat_le, ◌&&◌, ◌-◌, ◌++◌, All}
+use Rattle.std.specs.List.{find}
+use Rattle.gw_chains.specs.Assembling.{without_first, with_first_changed}
 use Rattle.std.specs.Option.{option_map_or}
-use Rattle.std.proofs.lemmas.Bool.{cases_eq, ltb-true, eqb-true, false≢true, and_parts}
-use Rattle.std.proofs.lemmas.List.Elements.{All-contains}
+use Rattle.std.proofs.lemmas.Bool.{cases_eq, ltb-true, leb-true, eqb-true, false≢true, and_parts}
+use Rattle.std.proofs.lemmas.List.Elements.{All-contains, All-head, All-tail, All-cons, All-nil}
 use Rattle.gw_blocks.specs.declared.parts.Generate.{Generate}
 use Rattle.gw_object.specs.declared.parts.Kind.{Kind}
 use Rattle.gw_object.specs.declared.parts.Kind.TheVariants as kinds
@@ -33,23 +35,23 @@ use Rattle.gw_entities.specs.Facility.{idle, is_idle, is_owned_by, facility_afte
 use Rattle.gw_entities.specs.Storage as storages
 use Rattle.gw_step.specs.declared.ends.End.{End}
 use Rattle.gw_step.specs.declared.placement.Placement.{Placement}
-use Rattle.gw_step.specs.declared.placement.Placement.TheVariants.{StaysActive, RestsUntil, JoinsDelayList, JoinsRetryList, LeavesModel}
+use Rattle.gw_step.specs.declared.placement.Placement.TheVariants.{StaysActive, RestsUntil, JoinsDelayList, JoinsRetryList, RestsAhead, RestsBehind, AwaitsSet, LeavesModel}
 use Rattle.gw_step.specs.Placing.{placed_at, placed}
 use Rattle.gw_step.specs.Numbers.{IsWithin, AreWithinLimits, AreFewLive}
-use Rattle.gw_step.specs.State.{FutureEvent, Lists, EntityStates, State, with_streams, priority_of, delay_list, without, raised}
-use Rattle.gw_step.specs.Changes.{newcomer, entered, assigned, destroyed, arrives, rests_until, waits_for, retries, called_from, woken, counted, time_passes, clock_moves}
+use Rattle.gw_step.specs.State.{FutureEvent, Assembly, Lists, EntityStates, State, with_streams, priority_of, delay_list, without, raised}
+use Rattle.gw_step.specs.Changes.{newcomer, copied, rests_ahead, rests_behind, awaits_set, is_of, assembled, one_fewer, come_to, entered, assigned, destroyed, arrives, rests_until, waits_for, retries, called_from, woken, counted, time_passes, clock_moves}
 use Rattle.gw_step.specs.Residence.{EachResidesOnce, occurrences, active_numbers, occurrences_in}
-use Rattle.gw_step.proofs.Residence.{one_if, at_most_one, same_number, other_number, occurrences-one, occurrences-joined, occurrences-without, resides-entered, resides-assigned, resides-destroyed, resides-rests, resides-arrives, resides-active, resides-clock, resides-waits, resides-called, resides-retries, resides-woken}
-use Rattle.gw_step.proofs.Within.{raises-same, mark_from, within-entered, within-assigned, within-destroyed, within-retries, within-woken, within-counted, within-arrives, within-rests, within-streams, within-waits, within-called, within-active, within-ended}
+use Rattle.gw_step.proofs.Residence.{one_if, at_most_one, same_number, other_number, occurrences-one, occurrences-joined, occurrences-without, resides-entered, resides-assigned, resides-destroyed, resides-rests, resides-arrives, resides-active, resides-clock, resides-waits, resides-called, resides-retries, resides-woken, resides-ahead, resides-behind, resides-copied, resides-awaits, resides-assembled, resides-come}
+use Rattle.gw_step.proofs.Within.{raises-same, mark_from, within-entered, within-assigned, within-destroyed, within-retries, within-woken, within-counted, within-arrives, within-rests, within-streams, within-waits, within-called, within-active, within-ended, within-ahead, within-behind, within-copied, within-awaits, within-assembled, within-come}
 use Rattle.gw_step.proofs.Follows.{block_below, within-clock, at-map_same, nothing-after}
 use Rattle.gw_step.specs.Places.{place, row_of}
 use Rattle.gw_step.specs.Times.{parameters_of}
 use Rattle.gw_transactions.specs.Parameters.{no_parameters}
 use Rattle.gw_step.specs.Typing.{IsAsKnown, AreAsKnown, IsPlaced, promised_units, content_of, WaitsFor, Agree, WellTyped, AreWithinCapacity}
 use Rattle.gw_step.proofs.Owning.{lists-none}
-use Rattle.gw_step.proofs.Agreeing.{AreWhole, Balanced, agree-written, agree-moved, agree-apart}
+use Rattle.gw_step.proofs.Agreeing.{IsMissing, AreWhole, Balanced, agree-written, agree-moved, agree-apart}
 use Rattle.gw_step.proofs.Attributes.{bearer_at, number_below, attributes-parameter, is_some-attributes, is_some-parameter}
-use Rattle.gw_step.proofs.Balances.{balanced-nothing, balanced-fits, balanced-end, balanced-arrival}
+use Rattle.gw_step.proofs.Balances.{balanced-nothing, balanced-fits, balanced-end, balanced-arrival, balanced-copy}
 
 -- the transaction n, which is t, is at a block, in a row
 pub record IsAt (p : Parts) (transactions : List (Option LiveTransaction)) (n : ℕ) (t : Transaction) (block : Block) (row : Row) : Type 0 where
@@ -87,6 +89,9 @@ MayRest p n StaysActive active clock ts = Unit {0}
 MayRest p n (RestsUntil time) active clock ts = (active ≡ Some n) × (clock ≤ℤ time)
 MayRest p n (JoinsDelayList e) active clock ts = (active ≡ Some n) × WaitsFor p e (at None ts n) × (e < length p.entities)
 MayRest p n JoinsRetryList active clock ts = active ≡ Some n
+MayRest p n RestsAhead active clock ts = active ≡ Some n
+MayRest p n RestsBehind active clock ts = active ≡ Some n
+MayRest p n (AwaitsSet a) active clock ts = (active ≡ Some n) × (1 ≤ a.missing)
 MayRest p n LeavesModel active clock ts = (active ≡ Some n) × OwnsNothing p n ts
 
 -- and so it may in a state
@@ -119,11 +124,18 @@ pub data Change (p : Parts) : ℕ → ℕ → State → ℕ → ℕ → State �
   GoesWith : {en ar : ℕ} {s : State} (n to q : ℕ) (value : ℤ) (t : Transaction) (block : Block) (row state : Row) → IsAt p s.transactions n t block row → IsPresent s.lists n → AreAsKnown (Some state) (put None (parameters_of n s) q (Some value))
       → Contains (edges p (own_table p) t.next block row) (move to state) → MayBeEntered p to → Balanced p n (Some row) (Some state) s.entities s.entities → Change p en ar s (suc en) ar (entered n t to (assigned n q value s))
   -- a transaction is scheduled to arrive at a GENERATE
-  Arrives : {en ar : ℕ} {s : State} (b : ℕ) (g : Generate) (row : Row) (priority time : ℤ) → block_at p.blocks b ≡ Some (blocks.Generate g) → own_row p b ≡ Some row → is_empty row ≡ true → s.clock ≤ℤ time → is_owed g.limit (at 0 s.scheduled b) ≡ true → nat_lt (live_count s.transactions) 65536 ≡ true → Change p en ar s en (suc ar) (arrives b priority time s)
+  Arrives : {en ar : ℕ} {s : State} (b : ℕ) (g : Generate) (row : Row) (priority time : ℤ) → block_at p.blocks b ≡ Some (blocks.Generate g) → own_row p b ≡ Some row → is_empty row ≡ true → s.clock ≤ℤ time → is_owed g.limit (at 0 s.scheduled b) ≡ true → nat_le (live_count s.transactions + 1) 65536 ≡ true → Change p en ar s en (suc ar) (arrives b priority time s)
+  -- a copy of a transaction is made, and goes along an edge of a block
+  Copied : {en ar : ℕ} {s : State} (n target b : ℕ) (t u : Transaction) (block : Block) (row state : Row) → attributes_at n s.transactions ≡ Some u → t.mark ≡ u.mark → AreAsKnown (Some state) (parameters_of n s) → block_at p.blocks b ≡ Some block → own_row p b ≡ Some row
+      → Contains (edges p (own_table p) b block row) (move target state) → MayBeEntered p target → state.facilities ≡ [] → state.units ≡ [] → live_count s.transactions + 1 ≤ 65536 → Change p en ar s en (suc ar) (copied n t target s)
   -- the active transaction is placed
   Rests : {en ar : ℕ} {s : State} (n : ℕ) (placement : Placement) → Rested p n placement s → Change p en ar s (credited placement en) ar (placed_at n placement s)
   -- a waiter is called
   Called : {en ar : ℕ} {s : State} (e n : ℕ) → 1 ≤ occurrences n (delay_list e s) → e < length p.entities → Change p (suc en) ar s en ar (called_from e n s)
+  -- the last of its set has come to an assembly
+  Assembled : {en ar : ℕ} {s : State} (a : Assembly) → find (is_of a.block a.set) s.lists.assemblies ≡ Some a → Change p en ar s en ar (assembled a s)
+  -- another has come to an assembly, and more are to come
+  Comes : {en ar : ℕ} {s : State} (a : Assembly) → find (is_of a.block a.set) s.lists.assemblies ≡ Some a → 2 ≤ a.missing → Change p en ar s en ar (come_to a s)
   -- the retry list is woken
   Woken : {en ar : ℕ} {s : State} → Change p en ar s en ar (woken s)
   -- the first of the current events chain becomes active
@@ -158,6 +170,9 @@ placed_traced p en ar n StaysActive s may = Done
 placed_traced p en ar n (RestsUntil time) s may = stirs_rests s.stir p en ar n (RestsUntil time) s may
 placed_traced p en ar n (JoinsDelayList e) s may = stirs_rests s.stir p en ar n (JoinsDelayList e) s may
 placed_traced p en ar n JoinsRetryList s may = stirs_rests s.stir p en ar n JoinsRetryList s may
+placed_traced p en ar n RestsAhead s may = stirs_rests s.stir p en ar n RestsAhead s may
+placed_traced p en ar n RestsBehind s may = stirs_rests s.stir p en ar n RestsBehind s may
+placed_traced p en ar n (AwaitsSet a) s may = stirs_rests s.stir p en ar n (AwaitsSet a) s may
 placed_traced p en ar n LeavesModel s may = stirs_rests s.stir p en ar n LeavesModel s may
 
 -- WHO IS ON NO DELAY LIST
@@ -205,6 +220,34 @@ none_known row empty q = by_params row.params (and_parts (length row.params == 0
 pub all_as_known : (row : Row) → is_empty row ≡ true → (parameters : List (Option ℤ)) → AreAsKnown (Some row) parameters
 all_as_known row empty parameters q = subst (λ kind. IsAsKnown kind (at None parameters q)) (sym (none_known row empty q)) tt
 
+-- HOW MANY ARE MISSING
+
+-- an assembly begins
+missing-begun : (xs : List Assembly) (a : Assembly) → All IsMissing xs → 1 ≤ a.missing → All IsMissing (xs ++ a ∷ [])
+missing-begun [] a h more = All-cons IsMissing a [] more (All-nil IsMissing)
+missing-begun (x ∷ xs) a h more = All-cons IsMissing x (xs ++ a ∷ []) (All-head IsMissing x xs h) (missing-begun xs a (All-tail IsMissing x xs h) more)
+
+-- an assembly ends
+missing-without : (passes : Assembly → Bool) (xs : List Assembly) → All IsMissing xs → All IsMissing (without_first passes xs)
+missing-without passes [] h = h
+missing-without passes (x ∷ xs) h = by_test (passes x) (missing-without passes xs (All-tail IsMissing x xs h))
+  where
+    by_test : (b : Bool) → All IsMissing (without_first passes xs) → All IsMissing (if b then xs else x ∷ without_first passes xs)
+    by_test true rest = All-tail IsMissing x xs h
+    by_test false rest = All-cons IsMissing x (without_first passes xs) (All-head IsMissing x xs h) rest
+
+-- an assembly waits for one fewer
+missing-changed : (passes : Assembly → Bool) (xs : List Assembly) (a : Assembly) → find passes xs ≡ Some a → 2 ≤ a.missing → All IsMissing xs → All IsMissing (with_first_changed passes one_fewer xs)
+missing-changed passes [] a is more h = h
+missing-changed passes (x ∷ xs) a is more h = by_test (passes x) is (λ found. missing-changed passes xs a found more (All-tail IsMissing x xs h))
+  where
+    by_test : (b : Bool) → (if b then Some x else find passes xs) ≡ Some a → (find passes xs ≡ Some a → All IsMissing (with_first_changed passes one_fewer xs)) → All IsMissing (if b then one_fewer x ∷ xs else x ∷ with_first_changed passes one_fewer xs)
+    by_test true is rest =
+        let same : x ≡ a = cc in
+        let left : 1 ≤ x.missing - 1 = omega (arith, more, ap (λ (y : Assembly). y.missing) same) in
+        All-cons IsMissing (one_fewer x) xs left (All-tail IsMissing x xs h)
+    by_test false is rest = All-cons IsMissing x (with_first_changed passes one_fewer xs) (All-head IsMissing x xs h) (rest is)
+
 -- EACH CHANGE
 
 -- where a move leads there is a block, whose row the move's state fits
@@ -239,7 +282,7 @@ module _ (p : Parts) (flow : FlowHolds p (own_table p)) where
       let now : option_map (with_attributes v) (at None s.transactions n) ≡ Some (with_attributes v bears.0) = ap (option_map (with_attributes v)) bears.1 in
       agree-written p s.transactions s.lists s.entities ty s.lists h n (option_map (with_attributes v) (at None s.transactions n))
       (nowhere p s.transactions s.lists s.entities ty n here)
-      (resides-entered n u to s ty.resides) refl
+      (resides-entered n u to s ty.resides) refl refl
       (subst (λ o. IfSome o (IsPlaced p)) (sym now) (record { block = there; row = ap is_some lands; parameters = subst (λ r. AreAsKnown r bears.0.parameters) (sym lands) (subst (AreAsKnown (Some next)) (ap (λ o. option_map_or (λ (x : LiveTransaction). x.parameters) o no_parameters) bears.1) known) }))
       (subst (λ r. Balanced p n r (row_of p (option_map (with_attributes v) (at None s.transactions n))) s.entities h) (sym (its_row p s.transactions n t block row is))
       (subst (λ r. Balanced p n (Some row) r s.entities h) (sym (ap (row_of p) now ∙ lands)) balance))
@@ -265,7 +308,7 @@ module _ (p : Parts) (flow : FlowHolds p (own_table p)) where
       subst (λ xs. Agree p xs s.lists s.entities) (sym same)
       (agree-written p ts s.lists s.entities ty s.lists s.entities n (Some later)
       (nowhere p ts s.lists s.entities ty n here)
-      (subst (λ xs. EachResidesOnce xs s.lists) same (resides-entered n t to (assigned n q value s) (resides-assigned n q value s ty.resides))) refl
+      (subst (λ xs. EachResidesOnce xs s.lists) same (resides-entered n t to (assigned n q value s) (resides-assigned n q value s ty.resides))) refl refl
       (record { block = there (block_at p.blocks to) may; row = ap is_some lead.is; parameters = subst (λ r. AreAsKnown r later.parameters) (sym lead.is) (known_on state lead.row later.parameters lead.fits set) })
       (subst (λ r. Balanced p n r (own_row p to) s.entities s.entities) (sym (its_row p ts n t block row is))
       (subst (λ r. Balanced p n (Some row) r s.entities s.entities) (sym lead.is) (balanced-fits p n (Some row) state lead.row s.entities s.entities balance lead.fits))))
@@ -274,7 +317,7 @@ module _ (p : Parts) (flow : FlowHolds p (own_table p)) where
   leaves s ty n active is =
       agree-written p s.transactions s.lists s.entities ty (destroyed n s).lists s.entities n None
       (nowhere p s.transactions s.lists s.entities ty n (present s.lists n active))
-      (resides-destroyed n is.t s active is.found ty.resides) refl tt
+      (resides-destroyed n is.t s active is.found ty.resides) refl refl tt
       (subst (λ r. Balanced p n r None s.entities s.entities) (sym (ap (row_of p) is.found ∙ is.row_is)) (balanced-end p n is.row s.entities (lists-none is.row.facilities is.none)))
 
   pub arrived : (s : State) → WellTyped p s → (b : ℕ) (g : Generate) (row : Row) (priority time : ℤ) → block_at p.blocks b ≡ Some (blocks.Generate g) → own_row p b ≡ Some row → is_empty row ≡ true → WellTyped p (arrives b priority time s)
@@ -283,10 +326,24 @@ module _ (p : Parts) (flow : FlowHolds p (own_table p)) where
       let v : LiveTransaction = newcomer b priority s in
       agree-written p s.transactions s.lists s.entities ty (arrives b priority time s).lists s.entities n (Some v)
       (fresh p s.transactions s.lists s.entities ty)
-      (resides-arrives b priority time s ty.resides) refl
+      (resides-arrives b priority time s ty.resides) refl refl
       (record { block = ap is_some block; row = ap is_some is; parameters = subst (λ r. AreAsKnown r no_parameters) (sym is) (all_as_known row none no_parameters) })
       (subst (λ t. Balanced p n (row_of p t) (own_row p b) s.entities s.entities) (sym (at_past None s.transactions n (omega arith)))
       (subst (λ r. Balanced p n None r s.entities s.entities) (sym is) (balanced-arrival p n row s.entities none)))
+
+  -- a copy goes along an edge, and has nothing but parameters
+  copy_made : (s : State) → WellTyped p s → (n target b : ℕ) (t : Transaction) (block : Block) (row state : Row) → AreAsKnown (Some state) (parameters_of n s) → block_at p.blocks b ≡ Some block → own_row p b ≡ Some row
+      → Contains (edges p (own_table p) b block row) (move target state) → MayBeEntered p target → state.facilities ≡ [] → state.units ≡ [] → WellTyped p (copied n t target s)
+  copy_made s ty n target b t block row state known block_is row_is along may facilities units =
+      let m = length s.transactions in
+      let v : LiveTransaction = made_with (parameters_of n s) (record t { next = target }) in
+      let lead = leads p b target block row state (flow.each_row b block row block_is row_is) along in
+      agree-written p s.transactions s.lists s.entities ty (copied n t target s).lists s.entities m (Some v)
+      (fresh p s.transactions s.lists s.entities ty)
+      (resides-copied n t target s ty.resides) refl refl
+      (record { block = there (block_at p.blocks target) may; row = ap is_some lead.is; parameters = subst (λ r. AreAsKnown r (parameters_of n s)) (sym lead.is) (known_on state lead.row (parameters_of n s) lead.fits known) })
+      (subst (λ o. Balanced p m (row_of p o) (own_row p target) s.entities s.entities) (sym (at_past None s.transactions m (omega arith)))
+      (subst (λ r. Balanced p m None r s.entities s.entities) (sym lead.is) (balanced-copy p m state lead.row s.entities facilities units lead.fits)))
 
   waits : (s : State) → WellTyped p s → (e n : ℕ) → s.lists.active ≡ Some n → WaitsFor p e (at None s.transactions n) → WellTyped p (waits_for e n s)
   waits s ty e n active asks =
@@ -300,6 +357,7 @@ module _ (p : Parts) (flow : FlowHolds p (own_table p)) where
         | inr other ↦ ty.waiting e m (omega (arith, waits, occurrences-joined m (priority_of s.transactions) n old, other_number n m (λ same. other (sym same))))
       ])
       (λ d apart. ty.waiting d))
+      ty.assembling
 
   called : (s : State) → WellTyped p s → (e n : ℕ) → 1 ≤ occurrences n (delay_list e s) → WellTyped p (called_from e n s)
   called s ty e n here =
@@ -308,6 +366,7 @@ module _ (p : Parts) (flow : FlowHolds p (own_table p)) where
       (by_entry [] s.lists.delay_lists e (without n old) (λ d ns. (m : ℕ) → 1 ≤ occurrences m ns → WaitsFor p d (at None s.transactions m))
       (λ m waits. ty.waiting e m (omega (arith, waits, occurrences-without m n old here)))
       (λ d apart. ty.waiting d))
+      ty.assembling
 
   -- while time passes owners, contents and capacities stay
   owner_stays : (time n : ℕ) (f : Facility) → is_owned_by n (facility_after time f) ≡ is_owned_by n f
@@ -330,19 +389,24 @@ module _ (p : Parts) (flow : FlowHolds p (own_table p)) where
     owned = λ f n. ap (is_owned_by n) (at-map (facility_after time) idle g.facilities f) ∙ owner_stays time n (at idle g.facilities f) ∙ ty.owned f n;
     promised = λ e. subst (λ k. sum_by (λ t. promised_units e (row_of p t)) ts ≤ k) (sym (contents_stay time e g (kind_at p.entities e))) (ty.promised e);
     waiting = ty.waiting;
+    assembling = ty.assembling;
     sized = λ e. ap (λ (x : Storage). x.capacity) (storages-later time g.storages e) ∙ ty.sized e;
   }
 
   moved_on : (s : State) → WellTyped p s → (time : ℤ) → WellTyped p (clock_moves time s)
   moved_on s ty time =
       agree-later s.transactions (clock_moves time s).lists s.entities (unsigned_abs (time -ℤ s.clock))
-      (agree-apart p s.transactions s.lists s.entities ty (clock_moves time s).lists (resides-clock time s ty.resides) refl)
+      (agree-apart p s.transactions s.lists s.entities ty (clock_moves time s).lists (resides-clock time s ty.resides) refl ty.assembling)
 
   rests : (s : State) → WellTyped p s → (n : ℕ) (placement : Placement) → Rested p n placement s → WellTyped p (placed_at n placement s)
   rests s ty n StaysActive may = ty
-  rests s ty n (RestsUntil time) may = agree-apart p s.transactions s.lists s.entities ty (rests_until n time s).lists (resides-rests n time s may.0 ty.resides) refl
+  rests s ty n (RestsUntil time) may = agree-apart p s.transactions s.lists s.entities ty (rests_until n time s).lists (resides-rests n time s may.0 ty.resides) refl ty.assembling
   rests s ty n (JoinsDelayList e) may = waits s ty e n may.0 may.1
-  rests s ty n JoinsRetryList may = agree-apart p s.transactions s.lists s.entities ty (retries n s).lists (resides-retries n s may ty.resides) refl
+  rests s ty n JoinsRetryList may = agree-apart p s.transactions s.lists s.entities ty (retries n s).lists (resides-retries n s may ty.resides) refl ty.assembling
+  rests s ty n RestsAhead may = agree-apart p s.transactions s.lists s.entities ty (rests_ahead n s).lists (resides-ahead n s may ty.resides) refl ty.assembling
+  rests s ty n RestsBehind may = agree-apart p s.transactions s.lists s.entities ty (rests_behind n s).lists (resides-behind n s may ty.resides) refl ty.assembling
+  rests s ty n (AwaitsSet a) may =
+      agree-apart p s.transactions s.lists s.entities ty (awaits_set n a s).lists (resides-awaits n a s may.0 ty.resides) refl (missing-begun s.lists.assemblies (record { block = a.block; set = a.set; number = n; missing = a.missing }) ty.assembling may.1)
   rests s ty n LeavesModel may = leaves s ty n may.0 may.1
 
   pub change-keeps : {en ar en' ar' : ℕ} {s t : State} → Change p en ar s en' ar' t → WellTyped p s → WellTyped p t
@@ -352,9 +416,12 @@ module _ (p : Parts) (flow : FlowHolds p (own_table p)) where
   change-keeps (Arrives {s = s} b g row priority time block is none later owed few) ty = arrived s ty b g row priority time block is none
   change-keeps (Rests {s = s} n placement may) ty = rests s ty n placement may
   change-keeps (Called {s = s} e n here below) ty = called s ty e n here
-  change-keeps (Woken {s = s}) ty = agree-apart p s.transactions s.lists s.entities ty (woken s).lists (resides-woken s ty.resides) refl
+  change-keeps (Copied {s = s} n target b t u block row state found mark known block_is row_is along may facilities units few) ty = copy_made s ty n target b t block row state known block_is row_is along may facilities units
+  change-keeps (Assembled {s = s} a is) ty = agree-apart p s.transactions s.lists s.entities ty (assembled a s).lists (resides-assembled a s is ty.resides) refl (missing-without (is_of a.block a.set) s.lists.assemblies ty.assembling)
+  change-keeps (Comes {s = s} a is more) ty = agree-apart p s.transactions s.lists s.entities ty (come_to a s).lists (resides-come a s ty.resides) refl (missing-changed (is_of a.block a.set) s.lists.assemblies a is more ty.assembling)
+  change-keeps (Woken {s = s}) ty = agree-apart p s.transactions s.lists s.entities ty (woken s).lists (resides-woken s ty.resides) refl ty.assembling
   change-keeps (Activates {s = s} n ns nobody first) ty =
-      agree-apart p s.transactions s.lists s.entities ty (record s.lists { active = Some n; current_events = ns }) (resides-active n ns s nobody first ty.resides) refl
+      agree-apart p s.transactions s.lists s.entities ty (record s.lists { active = Some n; current_events = ns }) (resides-active n ns s nobody first ty.resides) refl ty.assembling
   change-keeps (ClockMoves {s = s} e es is) ty = moved_on s ty e.time
   change-keeps (Draws streams same) ty = ty
   change-keeps (Counts by) ty = ty
@@ -385,6 +452,9 @@ placed-leaves n StaysActive s = record { entities = refl; scheduled = refl; live
 placed-leaves n (RestsUntil time) s = record { entities = refl; scheduled = refl; live = omega arith }
 placed-leaves n (JoinsDelayList e) s = record { entities = refl; scheduled = refl; live = omega arith }
 placed-leaves n JoinsRetryList s = record { entities = refl; scheduled = refl; live = omega arith }
+placed-leaves n RestsAhead s = record { entities = refl; scheduled = refl; live = omega arith }
+placed-leaves n RestsBehind s = record { entities = refl; scheduled = refl; live = omega arith }
+placed-leaves n (AwaitsSet a) s = record { entities = refl; scheduled = refl; live = omega arith }
 placed-leaves n LeavesModel s = record { entities = refl; scheduled = refl; live = omega (arith, written-live s.transactions n None) }
 
 change-fills : (p : Parts) {en ar en' ar' : ℕ} {s t : State} → Change p en ar s en' ar' t → AreWithinCapacity s.entities → AreWithinCapacity t.entities
@@ -394,6 +464,9 @@ change-fills p (GoesWith n to q value t block row state is here known along may 
 change-fills p (Arrives b g row priority time block is none later owed few) w = w
 change-fills p (Rests {s = s} n placement may) w = subst AreWithinCapacity (sym (placed-leaves n placement s).entities) w
 change-fills p (Called e n here below) w = w
+change-fills p (Copied n target b t u block row state found mark known block_is row_is along may facilities units few) w = w
+change-fills p (Assembled a is) w = w
+change-fills p (Comes a is more) w = w
 change-fills p Woken w = w
 change-fills p (Activates n ns nobody first) w = w
 change-fills p (ClockMoves {s = s} e es is) w = fills-later (unsigned_abs (e.time -ℤ s.clock)) s.entities w
@@ -413,6 +486,9 @@ module _ (p : Parts) where
   rests-within en ar n (RestsUntil time) s may w = within-rests (length p.blocks) (length p.entities) en ar s w n time may.1
   rests-within en ar n (JoinsDelayList e) s may w = within-waits (length p.blocks) (length p.entities) en ar s w e n may.2
   rests-within en ar n JoinsRetryList s may w = within-retries (length p.blocks) (length p.entities) en ar s w n
+  rests-within en ar n RestsAhead s may w = within-ahead (length p.blocks) (length p.entities) en ar s w n
+  rests-within en ar n RestsBehind s may w = within-behind (length p.blocks) (length p.entities) en ar s w n
+  rests-within en ar n (AwaitsSet a) s may w = within-awaits (length p.blocks) (length p.entities) en ar s w n a
   rests-within en ar n LeavesModel s may w = within-destroyed (length p.blocks) (length p.entities) en ar s w n (at_some s.transactions n may.1.t may.1.found)
 
   whole-of : (en ar : ℕ) (s : State) → IsWithin (length p.blocks) (length p.entities) en ar s → AreWhole (length p.entities) s.entities
@@ -430,6 +506,10 @@ module _ (p : Parts) where
       within-arrives (length p.blocks) (length p.entities) en ar s w b priority time (block_below p.blocks b (blocks.Generate g) block) later
   change-within (Rests {en = en} {ar = ar} {s = s} n placement may) w = rests-within en ar n placement s may w
   change-within (Called {en = en} {ar = ar} {s = s} e n here below) w = within-called (length p.blocks) (length p.entities) (suc en) ar s w e n below here en refl
+  change-within (Copied {en = en} {ar = ar} {s = s} n target b t u block row state found mark known block_is row_is along may facilities units few) w =
+      within-copied (length p.blocks) (length p.entities) en ar s w n t target (subst (λ (z : ℤ). pos 0 ≤ℤ z) (sym mark) (mark_from s.transactions n u w.marked found))
+  change-within (Assembled {en = en} {ar = ar} {s = s} a is) w = within-assembled (length p.blocks) (length p.entities) en ar s w a
+  change-within (Comes {en = en} {ar = ar} {s = s} a is more) w = within-come (length p.blocks) (length p.entities) en ar s w a
   change-within (Woken {en = en} {ar = ar} {s = s}) w = within-woken (length p.blocks) (length p.entities) en ar s w
   change-within (Activates {en = en} {ar = ar} {s = s} n ns nobody first) w = within-active (length p.blocks) (length p.entities) en ar s w n ns
   change-within (ClockMoves {en = en} {ar = ar} {s = s} e es is) w = within-clock (length p.blocks) (length p.entities) en ar s w e es is
@@ -444,7 +524,7 @@ module _ (p : Parts) where
 -- ARRIVALS AND THE LIVE
 
 -- an entry changes nothing of how many live
-entered-live : (ts : List (Option LiveTransaction)) (n : ℕ) (a : Transaction) → live_count (put_attributes n a ts) ≡ live_count ts
+pub entered-live : (ts : List (Option LiveTransaction)) (n : ℕ) (a : Transaction) → live_count (put_attributes n a ts) ≡ live_count ts
 entered-live ts n a = omega (arith, written-live ts n (option_map (with_attributes a) (at None ts n)), ap one_if (is_some-attributes a (at None ts n)))
 
 assigned-live : (ts : List (Option LiveTransaction)) (n q : ℕ) (value : ℤ) → live_count (put_parameter n q value ts) ≡ live_count ts
@@ -472,6 +552,9 @@ change-limits p (GoesWith n to q value t block row state is here known along may
 change-limits p (Arrives {s = s} b g row priority time block is none later owed few) l = limits-raised p.blocks s.scheduled b g block owed l
 change-limits p (Rests {s = s} n placement may) l = subst (AreWithinLimits p.blocks) (sym (placed-leaves n placement s).scheduled) l
 change-limits p (Called e n here below) l = l
+change-limits p (Copied n target b t u block row state found mark known block_is row_is along may facilities units few) l = l
+change-limits p (Assembled a is) l = l
+change-limits p (Comes a is more) l = l
 change-limits p Woken l = l
 change-limits p (Activates n ns nobody first) l = l
 change-limits p (ClockMoves e es is) l = l
@@ -489,9 +572,13 @@ change-live p (EntersLast {s = s} n t block row is here) l = record { live = ome
 change-live p (GoesWith {s = s} n to q value t block row state is here known along may balance) l =
     record { live = omega (arith, l.live, assigned-live s.transactions n q value, entered-live (put_parameter n q value s.transactions) n (record t { current = t.next; next = to })) }
 change-live p (Arrives {s = s} b g row priority time block is none later owed few) l =
-    record { live = omega (arith, ltb-true (live_count s.transactions) 65536 few, written-live s.transactions (length s.transactions) (Some (newcomer b priority s))) }
+    record { live = omega (arith, leb-true (live_count s.transactions + 1) 65536 few, written-live s.transactions (length s.transactions) (Some (newcomer b priority s))) }
 change-live p (Rests {s = s} n placement may) l = record { live = omega (arith, l.live, (placed-leaves n placement s).live) }
 change-live p (Called e n here below) l = l
+change-live p (Copied {s = s} n target b t u block row state found mark known block_is row_is along may facilities units few) l =
+    record { live = omega (arith, few, written-live s.transactions (length s.transactions) (Some (made_with (parameters_of n s) (record t { next = target })))) }
+change-live p (Assembled a is) l = l
+change-live p (Comes a is more) l = l
 change-live p Woken l = l
 change-live p (Activates n ns nobody first) l = l
 change-live p (ClockMoves e es is) l = l

@@ -8,13 +8,15 @@ use Rattle.gw_chains.specs.Chain.{placed_behind, behind, in_time, later}
 use Rattle.gw_num.specs.Table.{at, put}
 use Rattle.gw_num.proofs.Tables.{by_entry, length-put, length-put_next, sum_by-put}
 use Rattle.gw_transactions.specs.declared.Transaction.{Transaction}
-use Rattle.gw_transactions.specs.Transactions.{LiveTransaction, with_attributes, with_parameter, attributes_at, put_attributes, put_parameter}
+use Rattle.gw_transactions.specs.Transactions.{LiveTransaction, made_with, with_attributes, with_parameter, attributes_at, put_attributes, put_parameter}
 use Rattle.gw_entities.specs.Contents.{empty}
 use Rattle.gw_entities.specs.Facility.{idle}
 use Rattle.gw_entities.specs.Storage.{vacant}
 use Rattle.gw_entities.specs.Table.{table_at}
-use Rattle.gw_step.specs.State.{FutureEvent, EntityStates, State, priority_of, raised, with_streams, delay_list, without}
-use Rattle.gw_step.specs.Changes.{newcomer, retries, woken, entered, assigned, destroyed, arrives, rests_until, waits_for, called_from, counted}
+use Rattle.gw_step.specs.declared.placement.Assembling.{Assembling}
+use Rattle.gw_step.specs.Times.{parameters_of}
+use Rattle.gw_step.specs.State.{Assembly, FutureEvent, EntityStates, State, priority_of, raised, with_streams, delay_list, without}
+use Rattle.gw_step.specs.Changes.{newcomer, copied, rests_ahead, rests_behind, awaits_set, assembled, come_to, retries, woken, entered, assigned, destroyed, arrives, rests_until, waits_for, called_from, counted}
 use Rattle.gw_step.specs.Residence.{occurrences}
 use Rattle.gw_step.proofs.Residence.{one_if}
 use Rattle.gw_step.specs.Numbers.{IsFrom, waiting, IsWithin, AreEntered, AreMarked}
@@ -165,6 +167,36 @@ module _ (bs es en ar : ℕ) (s : State) (w : IsWithin bs es en ar s) where
 
   pub within-counted : (by : ℤ) → IsWithin bs es en ar (counted by s)
   within-counted by = within-apart (counted by s) refl refl refl refl refl (omega arith) w.whole.streams refl refl
+
+  pub within-ahead : (n : ℕ) → IsWithin bs es en ar (rests_ahead n s)
+  within-ahead n = within-apart (rests_ahead n s) refl refl refl refl refl (omega arith) w.whole.streams refl refl
+
+  pub within-behind : (n : ℕ) → IsWithin bs es en ar (rests_behind n s)
+  within-behind n = within-apart (rests_behind n s) refl refl refl refl refl (omega arith) w.whole.streams refl refl
+
+  pub within-awaits : (n : ℕ) (a : Assembling) → IsWithin bs es en ar (awaits_set n a s)
+  within-awaits n a = within-apart (awaits_set n a s) refl refl refl refl refl (omega arith) w.whole.streams refl refl
+
+  pub within-assembled : (a : Assembly) → IsWithin bs es en ar (assembled a s)
+  within-assembled a = within-apart (assembled a s) refl refl refl refl refl (omega arith) w.whole.streams refl refl
+
+  pub within-come : (a : Assembly) → IsWithin bs es en ar (come_to a s)
+  within-come a = within-apart (come_to a s) refl refl refl refl refl (omega arith) w.whole.streams refl refl
+
+  -- a copy is made
+  pub within-copied : (n : ℕ) (t : Transaction) (target : ℕ) → pos 0 ≤ℤ t.mark → IsWithin bs es en (suc ar) (copied n t target s)
+  within-copied n t target mark =
+      let v : Option LiveTransaction = Some (made_with (parameters_of n s) (record t { next = target })) in
+      record {
+        entries = w.entries;
+        entity_entries = w.entity_entries;
+        made = omega (arith, w.made, length-put_next None s.transactions v);
+        scheduled = omega (arith, w.scheduled);
+        marked = marked-put s.transactions (length s.transactions) v mark w.marked;
+        whole = record { entries = w.whole.entries; scheduled = w.whole.scheduled; delay_lists = w.whole.delay_lists; facilities = w.whole.facilities; storages = w.whole.storages; queues = w.whole.queues; switches = w.whole.switches; savevalues = w.whole.savevalues; tables = w.whole.tables; streams = w.whole.streams };
+        clock = w.clock;
+        future = w.future;
+      }
 
   -- an entry, and what it does to an entity
   pub within-entered : (n : ℕ) (t : Transaction) (next : ℕ) (g : EntityStates) → t.next ≤ bs → n < length s.transactions → pos 0 ≤ℤ t.mark → Raises s.entities g → IsWithin bs es (suc en) ar (record (entered n t next s) { entities = g })

@@ -1,7 +1,8 @@
 -- What each block does to the active transaction: whether it refuses it, and what entering comes to.
-use Rattle.std.specs.Prelude.{ℕ, ◌+◌, ℤ, pos, List, [], ◌∷◌, Option, Some, None, Result, Ok, Err, Bool, true, false, not, nat_lt, nat_le, ◌==◌, if◌then◌else◌, int_lt, int_le, unsigned_abs, unwrap_or, is_none, ◌&&◌}
+use Rattle.std.specs.Prelude.{ℕ, ◌+◌, ◌-◌, ◌^◌, ℤ, pos, negsuc, List, [], ◌∷◌, Option, Some, None, Result, Ok, Err, Bool, true, false, not, nat_lt, nat_le, ◌==◌, if◌then◌else◌, int_lt, int_le, unsigned_abs, unwrap_or, is_none, ◌&&◌}
 use Rattle.std.specs.Ordering.{int_eq}
 use Rattle.std.specs.Option.{option_map_or}
+use Rattle.std.specs.List.{find}
 use Rattle.gw_blocks.specs.declared.parts.Generate.{Generate}
 use Rattle.gw_blocks.specs.declared.parts.Units.{Units}
 use Rattle.gw_blocks.specs.declared.parts.Fraction.{Fraction}
@@ -19,10 +20,12 @@ use Rattle.gw_blocks.specs.declared.parts.SwitchAction.{SwitchAction}
 use Rattle.gw_blocks.specs.declared.parts.SwitchAction.TheVariants as switches
 use Rattle.gw_blocks.specs.declared.parts.Logic.{Logic}
 use Rattle.gw_blocks.specs.declared.parts.Save.{Save}
+use Rattle.gw_blocks.specs.declared.parts.Split.{Split}
 use Rattle.gw_blocks.specs.declared.parts.Block.{Block}
 use Rattle.gw_blocks.specs.declared.parts.Block.TheVariants as blocks
 use Rattle.gw_object.specs.declared.parts.Parts.{Parts}
 use Rattle.gw_kinds.specs.Kinds.{block_at}
+use Rattle.gw_kinds.specs.Exits.{leads_to, goes_or_falls}
 use Rattle.gw_flow.specs.Values.{answered, operands}
 use Rattle.gw_num.specs.declared.arithmetic.NumFault.{NumFault}
 use Rattle.gw_num.specs.Arithmetic.{sum_of, difference_of}
@@ -38,11 +41,11 @@ use Rattle.gw_entities.specs.Queue.{joined, departing}
 use Rattle.gw_entities.specs.Tabulation.{tabulating}
 use Rattle.gw_step.specs.declared.ends.End.TheVariants.{Number, Live}
 use Rattle.gw_step.specs.declared.placement.Placement.{Placement}
-use Rattle.gw_step.specs.declared.placement.Placement.TheVariants.{StaysActive, RestsUntil, JoinsDelayList, JoinsRetryList, LeavesModel}
+use Rattle.gw_step.specs.declared.placement.Placement.TheVariants.{StaysActive, RestsUntil, JoinsDelayList, JoinsRetryList, RestsAhead, RestsBehind, AwaitsSet, LeavesModel}
 use Rattle.gw_step.specs.Outcome.{Outcome, Gives, EndsBy, ◌>>=◌, unless_stopped, or_stop, granted, evaluated}
-use Rattle.gw_step.specs.State.{State, may_enter, with_streams, delay_list}
+use Rattle.gw_step.specs.State.{Assembly, State, may_enter, with_streams, delay_list}
 use Rattle.gw_step.specs.Times.{environment_of, environment_of_next, moment_after, drawn_moment}
-use Rattle.gw_step.specs.Changes.{entered, enters_and_falls, arrives, called_from, assigned, facility, storage, queue, switch, savevalue, table, put_facility, put_storage, put_queue, put_switch, put_savevalue, put_table, counted}
+use Rattle.gw_step.specs.Changes.{entered, enters_and_falls, arrives, copies_made, is_of, assembled, come_to, called_from, assigned, facility, storage, queue, switch, savevalue, table, put_facility, put_storage, put_queue, put_switch, put_savevalue, put_table, counted}
 use Rattle.gw_step.specs.Placing.{placed}
 
 -- REFUSAL
@@ -122,15 +125,15 @@ abbrev pub is_owed : Option ℕ → ℕ → Bool
 is_owed None scheduled = true
 is_owed (Some limit) scheduled = nat_lt scheduled limit
 
--- one more transaction, where fewer than 65,536 live, scheduled arrivals included
-abbrev pub within_live_limit : State → Outcome State → Outcome State
-within_live_limit s outcome = if nat_lt (live_count s.transactions) 65536 then outcome else EndsBy Live
+-- so many more transactions, where with them at most 65,536 live, scheduled arrivals included
+abbrev pub within_live_limit : {A : Type 0} → ℕ → State → Outcome A → Outcome A
+within_live_limit more s outcome = if nat_le (live_count s.transactions + more) 65536 then outcome else EndsBy Live
 
 -- the next arrival of a GENERATE block, b, is scheduled, if one is owed; the interval is evaluated for the coming transaction
 abbrev pub next_arrival : Parts → ℕ → Generate → State → Outcome State
 next_arrival p b g s =
     if is_owed g.limit (at 0 s.scheduled b)
-    then (drawn_moment p (environment_of_next g.priority s) g.interval s.clock s.streams >>= λ d. within_live_limit s (Gives (arrives b g.priority d.0 (with_streams d.1 s))))
+    then (drawn_moment p (environment_of_next g.priority s) g.interval s.clock s.streams >>= λ d. within_live_limit 1 s (Gives (arrives b g.priority d.0 (with_streams d.1 s))))
     else Gives s
 
 -- the effect of GENERATE: the next arrival is scheduled, and the transaction enters with the clock as its mark time
@@ -281,6 +284,63 @@ abbrev pub plus : List Block → ℕ → Transaction → Option ℕ → ℤ → 
 plus bs n t None value s = leads bs (t.next + 1) (stays (enters_and_falls n t s))
 plus bs n t (Some p) value s = leads bs (t.next + 1) (stays (enters_and_falls n t (assigned n p value s)))
 
+-- COPIES
+
+-- where a block makes copies they go on to a block, which has to be there
+abbrev pub copies_lead : {A : Type 0} → List Block → ℕ → ℕ → Outcome A → Outcome A
+copies_lead bs copies target outcome = if copies == 0 then outcome else leads bs target outcome
+
+-- the effect of SPLIT: the transaction enters, and as many copies as the block asks for are made, if so many more may live
+abbrev pub split : List Block → ℕ → Transaction → Split → State → Outcome (State × Placement)
+split bs n t c s =
+    within_live_limit c.copies s (leads bs (t.next + 1) (copies_lead bs c.copies (leads_to t.next (goes_or_falls c.target))
+      (stays (copies_made c.copies n (record t { current = t.next }) (leads_to t.next (goes_or_falls c.target)) (enters_and_falls n t s)))))
+
+-- ASSEMBLY
+
+-- the assembly of a set at a block, if it has begun
+abbrev pub assembly_at : ℕ → ℕ → State → Option Assembly
+assembly_at block set s = find (is_of block set) s.lists.assemblies
+
+-- one more has come to an assembly: where it was the last, who waits goes on
+abbrev pub joined_by_one : Assembly → State → State
+joined_by_one a s = if nat_le a.missing 1 then assembled a s else come_to a s
+
+-- the first of its set enters an ASSEMBLE, and waits for so many more
+abbrev pub assemble_first : List Block → ℕ → Transaction → ℕ → State → Outcome (State × Placement)
+assemble_first bs n t missing s = leads bs (t.next + 1) (Gives (enters_and_falls n t s, AwaitsSet (record { block = t.next; set = t.set; missing = missing })))
+
+-- another of a set enters an ASSEMBLE, where the first waits, and is destroyed; it owns nothing
+abbrev pub assemble_other : ℕ → Transaction → Assembly → State → Outcome (State × Placement)
+assemble_other n t a s = unless_stopped (not (owns_any n s.entities.facilities)) OwnsAtEnd (Gives (joined_by_one a (entered n t t.next s), LeavesModel))
+
+-- one of a set of this size enters an ASSEMBLE: the assembly of its set has begun, or begins now
+abbrev pub assemble_in : List Block → ℕ → Transaction → ℕ → Option Assembly → State → Outcome (State × Placement)
+assemble_in bs n t size None s = assemble_first bs n t (size - 1) s
+assemble_in bs n t size (Some a) s = assemble_other n t a s
+
+-- the effect of ASSEMBLE: where one is the whole set, the transaction passes
+abbrev pub assemble : List Block → ℕ → Transaction → ℕ → State → Outcome (State × Placement)
+assemble bs n t size s = if nat_le size 1 then leads bs (t.next + 1) (stays (enters_and_falls n t s)) else assemble_in bs n t size (assembly_at t.next t.set s) s
+
+-- PRIORITY
+
+-- a priority is a number of 32 bits
+abbrev pub is_priority : ℤ → Bool
+is_priority (pos n) = nat_lt n (2 ^ 31)
+is_priority (negsuc n) = nat_lt n (2 ^ 31)
+
+-- the effect of PRIORITY: the transaction, which has this priority from now on, enters, and goes ahead of its peers on the current events chain, or behind them
+abbrev pub set_priority : List Block → ℕ → Transaction → Bool → ℤ → State → Outcome (State × Placement)
+set_priority bs n t behind value s =
+    if is_priority value
+    then leads bs (t.next + 1) (Gives (enters_and_falls n (record t { priority = value }) s, if behind then RestsBehind else RestsAhead))
+    else EndsBy Number
+
+-- the effect of BUFFER: the transaction enters, and goes behind its peers on the current events chain
+abbrev pub buffer : List Block → ℕ → Transaction → State → Outcome (State × Placement)
+buffer bs n t s = leads bs (t.next + 1) (Gives (enters_and_falls n t s, RestsBehind))
+
 -- LOGIC SWITCHES, SAVEVALUES AND TABLES
 
 -- what becomes of a logic switch
@@ -332,9 +392,13 @@ effect p n t (blocks.TransferByFraction f) values s = transfer p.blocks n t (cho
 effect p n t (blocks.TransferToSubroutine c) values s = call p.blocks n t c s
 effect p n t (blocks.TransferByParameter q) values s = come_back p.blocks n t q s
 effect p n t (blocks.Loop l) values s = loop p.blocks n t l s
+effect p n t (blocks.Split c) values s = split p.blocks n t c s
+effect p n t (blocks.Assemble size) values s = assemble p.blocks n t size s
 effect p n t (blocks.Logic l) values s = logic p.blocks n t l s
 effect p n t (blocks.Savevalue a) values s = save p.blocks n t a (the_value values) s
 effect p n t (blocks.Mark q) values s = mark p.blocks n t q s
+effect p n t (blocks.Priority a) values s = set_priority p.blocks n t a.behind (the_value values) s
+effect p n t blocks.Buffer values s = buffer p.blocks n t s
 effect p n t (blocks.Plus a) values s = plus p.blocks n t a.parameter (the_value values) s
 effect p n t (blocks.Tabulate e) values s = tabulate p.blocks n t e (the_value values) s
 

@@ -1,9 +1,10 @@
 -- The elementary changes of a state.
-use Rattle.std.specs.Prelude.{ℕ, ℤ, pos, ◌-ℤ◌, unsigned_abs, List, [], ◌∷◌, ◌++◌, ◌+◌, map, length, Option, Some, None, Bool, true, false, if◌then◌else◌, int_lt}
-use Rattle.gw_chains.specs.Chain.{behind, in_time, all_behind, due, later}
+use Rattle.std.specs.Prelude.{ℕ, zero, suc, ℤ, pos, ◌-ℤ◌, unsigned_abs, List, [], ◌∷◌, ◌++◌, ◌+◌, ◌-◌, map, length, Option, Some, None, Bool, true, false, if◌then◌else◌, int_lt, ◌==◌, ◌&&◌}
+use Rattle.gw_chains.specs.Chain.{ahead, behind, in_time, all_behind, due, later}
+use Rattle.gw_chains.specs.Assembling.{without_first, with_first_changed}
 use Rattle.gw_num.specs.Table.{at, put}
 use Rattle.gw_transactions.specs.declared.Transaction.{Transaction}
-use Rattle.gw_transactions.specs.Transactions.{LiveTransaction, as_made, put_attributes, put_parameter}
+use Rattle.gw_transactions.specs.Transactions.{LiveTransaction, as_made, made_with, put_attributes, put_parameter}
 use Rattle.gw_entities.specs.declared.facilities.Facility.{Facility}
 use Rattle.gw_entities.specs.declared.storages.Storage.{Storage}
 use Rattle.gw_entities.specs.declared.contents.Contents.{Contents}
@@ -14,7 +15,9 @@ use Rattle.gw_entities.specs.Tabulation.{Tabulation}
 use Rattle.gw_entities.specs.Table.{switch_at, set_switch, savevalue_at, set_savevalue, table_at, set_table}
 use Rattle.gw_step.specs.declared.ends.End.{End}
 use Rattle.gw_step.specs.declared.ends.End.TheVariants.{Done}
-use Rattle.gw_step.specs.State.{FutureEvent, EntityStates, State, priority_of, raised, delay_list, without}
+use Rattle.gw_step.specs.declared.placement.Assembling.{Assembling}
+use Rattle.gw_step.specs.State.{FutureEvent, Assembly, EntityStates, State, priority_of, raised, delay_list, without}
+use Rattle.gw_step.specs.Times.{parameters_of}
 
 -- ENTRIES
 
@@ -48,6 +51,25 @@ arrives b priority time s =
 abbrev pub assigned : ℕ → ℕ → ℤ → State → State
 assigned n p value s = record s { transactions = put_parameter n p value s.transactions }
 
+-- COPIES
+
+-- the transactions, and as a new one, with a fresh number, a copy of n, which is t, that goes to a block next; it has the parameters of n
+abbrev pub with_copy : ℕ → Transaction → ℕ → State → List (Option LiveTransaction)
+with_copy n t target s = put None s.transactions (length s.transactions) (Some (made_with (parameters_of n s) (record t { next = target })))
+
+-- a copy of n, which is t, is made, and joins the current events chain, behind its peers, to go to a block
+abbrev pub copied : ℕ → Transaction → ℕ → State → State
+copied n t target s =
+    record s {
+      transactions = with_copy n t target s;
+      lists = record s.lists { current_events = behind (priority_of (with_copy n t target s)) (length s.transactions) s.lists.current_events };
+    }
+
+-- so many copies of n, which is t, are made, one after the other
+unfoldable pub copies_made : ℕ → ℕ → Transaction → ℕ → State → State
+copies_made zero n t target s = s
+copies_made (suc k) n t target s = copies_made k n t target (copied n t target s)
+
 -- RESTS
 
 -- the active transaction n rests on the future events chain until a time
@@ -67,6 +89,21 @@ waits_for e n s =
 -- the active transaction n rests at the end of the retry list
 abbrev pub retries : ℕ → State → State
 retries n s = record s { lists = record s.lists { active = None; retry = s.lists.retry ++ n ∷ [] } }
+
+-- the active transaction n rests on the current events chain, ahead of its peers
+abbrev pub rests_ahead : ℕ → State → State
+rests_ahead n s = record s { lists = record s.lists { active = None; current_events = ahead (priority_of s.transactions) n s.lists.current_events } }
+
+-- the active transaction n rests on the current events chain, behind its peers
+abbrev pub rests_behind : ℕ → State → State
+rests_behind n s = record s { lists = record s.lists { active = None; current_events = behind (priority_of s.transactions) n s.lists.current_events } }
+
+-- the active transaction n waits for the rest of its assembly set
+abbrev pub awaits_set : ℕ → Assembling → State → State
+awaits_set n a s =
+    record s {
+      lists = record s.lists { active = None; assemblies = s.lists.assemblies ++ record { block = a.block; set = a.set; number = n; missing = a.missing } ∷ [] };
+    }
 
 -- the active transaction n is destroyed
 abbrev pub destroyed : ℕ → State → State
@@ -91,6 +128,30 @@ woken s =
       stir = false;
       lists = record s.lists { current_events = all_behind (priority_of s.transactions) s.lists.retry s.lists.current_events; retry = [] };
     }
+
+-- ASSEMBLIES
+
+-- whether an assembly is the one of a set at a block
+abbrev pub is_of : ℕ → ℕ → Assembly → Bool
+is_of block set a = (a.block == block) && (a.set == set)
+
+-- the last of its set has come to an assembly: who waited joins the current events chain, behind its peers
+abbrev pub assembled : Assembly → State → State
+assembled a s =
+    record s {
+      lists = record s.lists {
+        current_events = behind (priority_of s.transactions) a.number s.lists.current_events;
+        assemblies = without_first (is_of a.block a.set) s.lists.assemblies;
+      };
+    }
+
+-- an assembly that waits for one fewer
+abbrev pub one_fewer : Assembly → Assembly
+one_fewer a = record a { missing = a.missing - 1 }
+
+-- another of its set has come to an assembly, and more are to come
+abbrev pub come_to : Assembly → State → State
+come_to a s = record s { lists = record s.lists { assemblies = with_first_changed (is_of a.block a.set) one_fewer s.lists.assemblies } }
 
 -- ENTITIES
 

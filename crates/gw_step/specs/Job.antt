@@ -9,7 +9,7 @@ use Rattle.gw_step.specs.Outcome.{stop_in}
 use Rattle.gw_step.specs.State.{State}
 use Rattle.gw_step.specs.Step.{step, scan}
 use Rattle.gw_step.specs.Start.{start}
-use Rattle.gw_step.specs.Numbers.{IsWithin, AreWithinLimits, AreFewLive}
+use Rattle.gw_step.specs.Numbers.{IsWithin, made_in, AreWithinLimits, AreFewLive}
 
 -- what a job runs: the parts of its object, the seeds of the 16 streams, the termination count, and at most how many steps
 pub record Job : Type 0 where
@@ -90,8 +90,8 @@ pub record IsBounded (j : Job) (s : State) : Type 0 where
   -- a running job has steps left, and a count above 0
   pub runs : s.ended ≡ None → s.steps < j.budget
   pub counts : s.ended ≡ None → pos 0 <ℤ s.count
-  -- a step makes one entry or one waiter at most, and one arrival
-  pub numbers : IsWithin (length j.parts.blocks) (length j.parts.entities) s.steps s.steps s
+  -- a step makes one entry or one waiter at most
+  pub numbers : IsWithin (length j.parts.blocks) (length j.parts.entities) s.steps (made_in s.steps) s
   pub limits : AreWithinLimits j.parts.blocks s.scheduled
   pub live : AreFewLive s.transactions
 

@@ -46,6 +46,10 @@ pub record AreEntered (entries : ℕ) (g : EntityStates) : Type 0 where
 pub record AreMarked (transactions : List (Option LiveTransaction)) : Type 0 where
   pub marks : (n : ℕ) → IfSome (at None transactions n) (λ t. pos 0 ≤ℤ t.attributes.mark)
 
+-- how many transactions so many steps make at most: one step makes up to 65,535 copies
+abbrev pub made_in : ℕ → ℕ
+made_in steps = steps * 65536
+
 -- the numbers of a state in which so many entries and arrivals were made; each waiter is an entry that is still to come
 pub record IsWithin (blocks entities entered arrived : ℕ) (s : State) : Type 0 where
   pub entries : sum s.entries + waiting s ≤ entered

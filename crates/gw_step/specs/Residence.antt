@@ -1,8 +1,8 @@
--- Where each transaction resides: as the active one, on a chain, on a delay list or on the retry list.
-use Rattle.std.specs.Prelude.{◌≡◌, ℕ, ◌+◌, sum_by, List, [], ◌∷◌, Option, Some, None, is_some, if◌then◌else◌, ◌==◌}
+-- Where each transaction resides: as the active one, on a chain, on a delay list, on the retry list or as one who waits for an assembly set.
+use Rattle.std.specs.Prelude.{◌≡◌, ℕ, ◌+◌, sum_by, List, [], ◌∷◌, map, Option, Some, None, is_some, if◌then◌else◌, ◌==◌}
 use Rattle.gw_num.specs.Table.{at}
 use Rattle.gw_transactions.specs.Transactions.{LiveTransaction}
-use Rattle.gw_step.specs.State.{Lists, State}
+use Rattle.gw_step.specs.State.{Assembly, Lists, State}
 use Rattle.gw_step.specs.Changes.{numbers}
 
 -- how often a number occurs in a list
@@ -15,9 +15,13 @@ abbrev pub active_numbers : Option ℕ → List ℕ
 active_numbers None = []
 active_numbers (Some n) = n ∷ []
 
+-- who waits for the rest of an assembly set
+abbrev pub awaiting : List Assembly → List ℕ
+awaiting assemblies = map (λ (a : Assembly). a.number) assemblies
+
 -- how often a number occurs among all lists
 abbrev pub occurrences_in : Lists → ℕ → ℕ
-occurrences_in l n = occurrences n (active_numbers l.active) + occurrences n l.current_events + occurrences n (numbers l.future_events) + sum_by (occurrences n) l.delay_lists + occurrences n l.retry
+occurrences_in l n = occurrences n (active_numbers l.active) + occurrences n l.current_events + occurrences n (numbers l.future_events) + sum_by (occurrences n) l.delay_lists + occurrences n l.retry + occurrences n (awaiting l.assemblies)
 
 -- each live transaction resides in exactly one place of all lists, and no other number occurs there
 abbrev pub EachResidesOnce : List (Option LiveTransaction) → Lists → Type 0

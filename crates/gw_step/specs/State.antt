@@ -15,6 +15,13 @@ pub record FutureEvent : Type 0 where
   pub time : ℤ
   pub number : ℕ
 
+-- an assembly that has begun: the first transaction of the set, which is given by its number, waits at the block for so many more
+pub record Assembly : Type 0 where
+  pub block : ℕ
+  pub set : ℕ
+  pub number : ℕ
+  pub missing : ℕ
+
 -- which transactions reside where, in order; they are given by their numbers
 pub record Lists : Type 0 where
   -- the active transaction, if there is one
@@ -25,6 +32,8 @@ pub record Lists : Type 0 where
   pub delay_lists : List (List ℕ)
   -- who was refused by a condition, and tries again once something has changed
   pub retry : List ℕ
+  -- who waits for the rest of an assembly set, in the order in which they began to
+  pub assemblies : List Assembly
 
 -- the object's entities as they are now; each table is by the entity's number from 0
 pub record EntityStates : Type 0 where

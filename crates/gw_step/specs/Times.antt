@@ -1,6 +1,5 @@
 -- What operands read, and moments.
-use Rattle.std.specs.Prelude.{ℕ, ℤ, pos, List, length, Option, None, if◌then◌else◌, int_lt}
-use Rattle.std.specs.Option.{option_map_or}
+use Rattle.std.specs.Prelude.{ℕ, ℤ, pos, List, length, Option, if◌then◌else◌, int_lt}
 use Rattle.gw_blocks.specs.declared.parts.Numbered.{Numbered}
 use Rattle.gw_blocks.specs.declared.parts.Spread.{Spread}
 use Rattle.gw_object.specs.declared.parts.Parts.{Parts}
@@ -8,7 +7,7 @@ use Rattle.gw_num.specs.Arithmetic.{sum_of}
 use Rattle.gw_num.specs.Table.{at}
 use Rattle.gw_transactions.specs.declared.Transaction.{Transaction}
 use Rattle.gw_transactions.specs.Parameters.{no_parameters}
-use Rattle.gw_transactions.specs.Transactions.{LiveTransaction, here_count}
+use Rattle.gw_transactions.specs.Transactions.{parameters_at, here_count}
 use Rattle.gw_entities.specs.Attributes.{Readings, attribute_of}
 use Rattle.gw_code_flow.specs.Environment.{Environment}
 use Rattle.gw_flow.specs.Values.{answered, drawn_time}
@@ -32,7 +31,7 @@ readings s = record {
 
 -- the parameters of the transaction of a number
 abbrev pub parameters_of : ℕ → State → List (Option ℤ)
-parameters_of n s = option_map_or (λ (t : LiveTransaction). t.parameters) (at None s.transactions n) no_parameters
+parameters_of n s = parameters_at n s.transactions
 
 -- what operands read in a state, for the transaction of a number, with this priority, mark time and parameters
 abbrev pub environment : ℕ → ℤ → ℤ → List (Option ℤ) → State → Environment

@@ -1,5 +1,5 @@
 -- Well-typed states: who resides where, who owns what, and what is inside the entities is what the state table says of each transaction's place.
-use Rattle.std.specs.Prelude.{◌≡◌, ℕ, ◌≤◌, ℤ, pos, sum_by, List, [], Option, Some, None, IsSome, IfSome, Bool, true, false}
+use Rattle.std.specs.Prelude.{◌≡◌, ℕ, ◌≤◌, ℤ, pos, sum_by, List, [], Option, Some, None, IsSome, IfSome, Bool, true, false, All}
 use Rattle.std.specs.Option.{option_map_or}
 use Rattle.gw_object.specs.declared.parts.Kind.{Kind}
 use Rattle.gw_object.specs.declared.parts.Kind.TheVariants as kinds
@@ -16,7 +16,7 @@ use Rattle.gw_transactions.specs.Transactions.{LiveTransaction}
 use Rattle.gw_entities.specs.Contents.{empty}
 use Rattle.gw_entities.specs.Facility.{idle, is_owned_by}
 use Rattle.gw_entities.specs.Storage.{vacant}
-use Rattle.gw_step.specs.State.{Lists, EntityStates, State}
+use Rattle.gw_step.specs.State.{Assembly, Lists, EntityStates, State}
 use Rattle.gw_step.specs.Residence.{occurrences, EachResidesOnce}
 use Rattle.gw_step.specs.Places.{place, block_of, row_of}
 
@@ -87,6 +87,8 @@ pub record Agree (p : Parts) (transactions : List (Option LiveTransaction)) (lis
   pub promised : (e : ℕ) → sum_by (λ t. promised_units e (row_of p t)) transactions ≤ content_of e entities (kind_at p.entities e)
   -- who resides on the delay list of an entity waits for it
   pub waiting : (e n : ℕ) → 1 ≤ occurrences n (at [] lists.delay_lists e) → WaitsFor p e (at None transactions n)
+  -- each assembly waits for one more at least
+  pub assembling : All (λ (a : Assembly). 1 ≤ a.missing) lists.assemblies
   -- each storage has the capacity that the object gives it
   pub sized : (e : ℕ) → (at (vacant 0) entities.storages e).capacity ≡ capacity_at p.entities e
 

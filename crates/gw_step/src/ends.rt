@@ -7,7 +7,8 @@ pub enum End {
     /// The termination count is 0 or less after a TERMINATE, whose effect stands.
     Done,
     /// A value can't be held by an i64: a drawn time, its least value or its range, the clock and a time, or the sum of a table.
-    /// Also where half the range of a time is below 0, and where a TERMINATE would raise the termination count.
+    /// Also where half the range of a time is below 0, where a TERMINATE would raise the termination count, and where a
+    /// PRIORITY's value can't be held by an i32.
     Number,
     /// A division by 0.
     ZeroDivisor,
@@ -19,6 +20,6 @@ pub enum End {
     NoMoreEvents,
     /// The steps are as many as the budget; the effect of the last stands.
     Budget,
-    /// One more transaction would be more than 65,536 live ones, scheduled arrivals included.
+    /// One more transaction, or all the copies of a SPLIT, would be more than 65,536 live ones, scheduled arrivals included.
     Live,
 }

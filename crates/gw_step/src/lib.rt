@@ -11,4 +11,4 @@ pub use laws::{
     slices_reach_the_same, steps_are_determined, typed_states_never_get_stuck,
     waiters_are_not_forgotten,
 };
-pub use placement::Placement;
+pub use placement::{Assembling, Placement};

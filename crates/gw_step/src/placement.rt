@@ -1,5 +1,16 @@
 //! Where a transaction is placed.
 
+/// An assembly that begins.
+#[derive(Clone, Copy, Debug, PartialEq, Eq)]
+pub struct Assembling {
+    /// The block at which the first of the set waits, by its number from 1.
+    pub block: u16,
+    /// The number of the assembly set.
+    pub set: u64,
+    /// How many are still to come.
+    pub missing: u16,
+}
+
 /// Where the active transaction is placed once it has entered its block, or was refused by it (GPSS World Reference
 /// Manual, "The Transaction Scheduler").
 #[derive(Clone, Copy, Debug, PartialEq, Eq)]
@@ -12,6 +23,12 @@ pub enum Placement {
     JoinsDelayList(u16),
     /// It joins the retry list, at its end.
     JoinsRetryList,
+    /// It rests on the current events chain, ahead of its peers.
+    RestsAhead,
+    /// It rests on the current events chain, behind its peers.
+    RestsBehind,
+    /// It waits for the rest of its assembly set.
+    AwaitsSet(Assembling),
     /// It is destroyed.
     LeavesModel,
 }

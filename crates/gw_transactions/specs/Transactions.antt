@@ -15,9 +15,13 @@ pub record LiveTransaction : Type 0 where
   -- the user chain that it is a member of
   pub chain : Option ℕ
 
--- a transaction as it is made: no parameter is set, and it is a member of no user chain
+-- a transaction as it is made with these parameters: it is a member of no user chain
+abbrev pub made_with : List (Option ℤ) → Transaction → LiveTransaction
+made_with parameters attributes = record { attributes = attributes; parameters = parameters; chain = None }
+
+-- a transaction as it is made: no parameter is set
 abbrev pub as_made : Transaction → LiveTransaction
-as_made attributes = record { attributes = attributes; parameters = no_parameters; chain = None }
+as_made = made_with no_parameters
 
 -- a transaction with other attributes; its parameters and its user chain stay
 abbrev pub with_attributes : Transaction → LiveTransaction → LiveTransaction
@@ -34,6 +38,10 @@ put_attributes n attributes txs = put None txs n (option_map (with_attributes at
 -- the value of a parameter of the transaction of a number, if it is there and the parameter is set
 abbrev pub parameter_at : ℕ → ℕ → List (Option LiveTransaction) → Option ℤ
 parameter_at n p txs = option_flatten (option_map (λ (t : LiveTransaction). at None t.parameters p) (at None txs n))
+
+-- the parameters of the transaction of a number; where it isn't there none is set
+abbrev pub parameters_at : ℕ → List (Option LiveTransaction) → List (Option ℤ)
+parameters_at n txs = option_map_or (λ (t : LiveTransaction). t.parameters) (at None txs n) no_parameters
 
 -- a transaction with this value of a parameter
 abbrev pub with_parameter : ℕ → ℤ → LiveTransaction → LiveTransaction

@@ -1,14 +1,14 @@
 //! The transactions of a job: each is kept under a number of its own, and contracts see tables by number.
 #![tactic(auto)]
 
-ghost use Rattle.std.specs.Prelude.{◌≡◌, ◌≤◌, ℕ, None, ◌<◌, ◌+◌, ◌^◌, ◌∷◌, [], length, IfOk, OnOk, OnErr};
+ghost use Rattle.std.specs.Prelude.{◌≡◌, ◌≤◌, ℕ, None, ◌<◌, ◌+◌, ◌^◌, ◌∷◌, [], length, replicate, IfOk, OnOk, OnErr};
 ghost use Rattle.gw_num.specs.Table.{at, put};
 
 mod block_counts;
 mod parameters;
 
 use crate::block_counts::BlockCounts;
-use crate::parameters::Parameters;
+pub use crate::parameters::Parameters;
 use gw_chains::{Memory, Tx};
 use slab::Slab;
 use std::alloc::Global;
@@ -31,7 +31,7 @@ pub struct Transaction {
     pub set: u64,
 }
 
-/// A transaction as it is kept: its parameters lie beside the attributes, and are never copied.
+/// A transaction as it is kept: its parameters lie beside the attributes, and are copied for copies of it alone.
 #[derive(Debug, Drop)]
 pub(crate) struct Kept {
     /// Its attributes.
@@ -73,7 +73,7 @@ impl Model for Transactions {
 }
 
 impl Transactions {
-    ghost use Rattle.gw_transactions.specs.Transactions.{Holds, KeepsHandles, KeepsOtherHandles, IsSound, as_made, attributes_at, put_attributes, parameter_at, put_parameter, live_count, here_count};
+    ghost use Rattle.gw_transactions.specs.Transactions.{Holds, KeepsHandles, KeepsOtherHandles, IsSound, as_made, made_with, attributes_at, put_attributes, parameter_at, parameters_at, put_parameter, live_count, here_count};
 
     /// None yet: the first number is 1. It takes memory for the counts of `here`, and none for transactions.
     ///
@@ -140,6 +140,21 @@ impl Transactions {
         self.here.as_slice()
     }
 
+    /// The parameters of the transaction of a handle once more, for so many copies of it.
+    ///
+    /// It fails for want of memory.
+    pub fn parameters_for(&self, tx: Tx, copies: u16) -> Result<Vec<Parameters>, Memory>
+        requires { Holds self.now tx }
+        ensures { IfOk result (λ all. all.items ≡ replicate copies (parameters_at tx.number self.now.txs)) }
+    {
+        let parameters = &self.slots[tx.place].1.parameters;
+        let mut all = Vec::with_capacity(self.alloc, copies as usize)?;
+        for _ in 0..copies {
+            all.push_reserved(parameters.copy(self.alloc)?);
+        }
+        Ok(all)
+    }
+
     /// Puts a transaction under the next number, in room that `reserve` made; no parameter of it is set. Its current block
     /// has a number from 0 to 4,096.
     pub fn insert(&mut self, transaction: Transaction) -> Tx
@@ -159,11 +174,34 @@ impl Transactions {
         ensures was_sound { IsSound self.old }
         ensures sound { IsSound self.new }
     {
+        let parameters = Parameters::new(self.alloc);
+        self.insert_with(transaction, parameters)
+    }
+
+    /// Puts a transaction with these parameters under the next number, in room that `reserve` made. Its current block has a
+    /// number from 0 to 4,096.
+    pub fn insert_with(&mut self, transaction: Transaction, parameters: Parameters) -> Tx
+        requires room { 0 < self.old.room }
+        requires block { transaction.current ≤ 4096 }
+        requires few { length self.old.txs < 2 ^ 62 }
+        ensures number { result.number ≡ length self.old.txs }
+        ensures txs { self.new.txs ≡ put None self.old.txs (length self.old.txs) (Some (made_with parameters transaction)) }
+        ensures places { self.new.places ≡ put None self.old.places (length self.old.txs) (Some result.place) }
+        ensures room { self.old.room ≤ self.new.room + 1 }
+
+        // What follows for callers.
+        ensures made { length self.new.txs ≡ length self.old.txs + 1 }
+        ensures live { live_count self.new.txs ≡ live_count self.old.txs + 1 }
+        ensures held { Holds self.new result }
+        ensures handles { KeepsHandles self.old self.new }
+        ensures was_sound { IsSound self.old }
+        ensures sound { IsSound self.new }
+    {
         self.created += 1;
         let number = self.created;
         let kept = Kept {
             attributes: transaction,
-            parameters: Parameters::new(self.alloc),
+            parameters,
         };
         let place = self.slots.insert_reserved((number, kept));
         self.here.add(transaction.current);

@@ -14,7 +14,7 @@ const LAST_PARAMETER: usize = 64;
 /// The parameters of a transaction, each by its number from 1 to 64, as far as they are set. They take memory only once
 /// one of them is set.
 #[derive(Debug, Drop)]
-pub(crate) struct Parameters {
+pub struct Parameters {
     // None, or one for each number from 0 on.
     values: Vec<Option<i64>>,
 }
@@ -32,7 +32,7 @@ impl Model for Parameters {
 
 impl Parameters {
     /// No parameter is set. It takes no memory.
-    pub fn new(alloc: Global) -> Parameters
+    pub(crate) fn new(alloc: Global) -> Parameters
         ensures { result ≡ no_parameters }
     {
         Parameters {
@@ -40,15 +40,25 @@ impl Parameters {
         }
     }
 
+    /// The parameters once more. Where none is set it takes no memory.
+    ///
+    /// It fails for want of memory.
+    pub(crate) fn copy(&self, alloc: Global) -> Result<Parameters, Memory>
+        ensures { IfOk result (λ copy. copy ≡ self.now) }
+    {
+        let values = Vec::from_slice(alloc, self.values.as_slice())?;
+        Ok(Parameters { values })
+    }
+
     /// The value of a parameter, if it is set.
-    pub fn get(&self, number: u8) -> Option<i64>
+    pub(crate) fn get(&self, number: u8) -> Option<i64>
         ensures { result ≡ at None self.now number }
     {
         self.values.get(number as usize).copied().flatten()
     }
 
     /// The parameters by their numbers, as far as they are set; there are none where none was set.
-    pub fn as_slice(&self) -> &[Option<i64>]
+    pub(crate) fn as_slice(&self) -> &[Option<i64>]
         ensures { (number : ℕ) → at None result.now number ≡ at None self.now number }
     {
         self.values.as_slice()
@@ -57,7 +67,7 @@ impl Parameters {
     /// Sets a parameter, by its number from 1 to 64.
     ///
     /// It fails for want of memory, only where none was set before, and then leaves the parameters as they were.
-    pub fn set(&mut self, number: u8, value: i64) -> Result<(), Memory>
+    pub(crate) fn set(&mut self, number: u8, value: i64) -> Result<(), Memory>
         requires { number ≤ 64 }
         ensures ok { OnOk result (self.new ≡ put None self.old number (Some value)) }
         ensures err { OnErr result (self.new ≡ self.old) }

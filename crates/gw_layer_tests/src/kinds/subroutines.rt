@@ -4,7 +4,7 @@ use super::leave_by;
 use super::named::{has_values, wrong_object};
 use crate::models::*;
 use gw_blocks::Block;
-use gw_kinds::{Exit, Way, check_kinds, returns_to};
+use gw_kinds::{Exit, Way, Who, check_kinds, returns_to};
 use gw_object::{Fault, Memory, TableKind, TableState};
 use std::alloc::Global;
 use std::test::Fail;
@@ -172,6 +172,7 @@ fn a_call_leaves_by_its_target_and_a_transfer_by_parameter_by_none(rt: HostRunti
     let back = Exit {
         way: Way::Goes(5),
         passes_time: false,
+        who: Who::Itself,
     };
     let are_right = [
         leave_by(call!(7, 1), &[(Way::Goes(7), false)]),

@@ -68,9 +68,9 @@ fn each_cut_of_blocks_is_truncated_at_the_cut_field(rt: HostRuntime) {
 fn each_fault_of_a_block_is_named_by_its_code_and_place(rt: HostRuntime) -> Result<(), Fail> {
     const FAULTS: &[(usize, usize, &'static [u8], u16, u32)] = &[
         (18, 1, &[0x00], TAG, 18),
-        (18, 1, &[0x12], TAG, 18),
+        (18, 1, &[0x1d], TAG, 18),
         (28, 1, &[0x06], TAG, 28),
-        (56, 1, &[0x13], TAG, 56),
+        (56, 1, &[0x1e], TAG, 56),
         // A SEIZE that is called ENTER takes four bytes more: 05 and ff ff of the RELEASE, and the 06.
         (56, 1, &[0x06], TAG, 63),
         // An ENTER that is called SEIZE takes four bytes less: 00 stands where a tag is due.

@@ -145,9 +145,9 @@ fn each_cut_of_changes_is_truncated_at_the_cut_field(rt: HostRuntime) {
 #[test]
 fn tags_that_stand_for_no_block_are_named(rt: HostRuntime) -> Result<(), Fail> {
     const FAULTS: &[(usize, usize, &'static [u8], u16, u32)] = &[
-        (18, 1, &[0x12], TAG, 18),
-        (40, 1, &[0x15], TAG, 40),
-        (72, 1, &[0x19], TAG, 72),
+        (18, 1, &[0x1d], TAG, 18),
+        (40, 1, &[0xff], TAG, 40),
+        (72, 1, &[0x20], TAG, 72),
     ];
     assert!(rt; wrong_fault(rt.alloc(), &ELEVEN_BLOCKS, FAULTS)?.is_none());
     Ok(())

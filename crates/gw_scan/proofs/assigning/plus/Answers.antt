@@ -1,4 +1,4 @@
-use Rattle.std.proofs.Common.{rules, ◌≡◌, ℕ, Option, Some, IfOk, sym, ap, ◌∙◌, subst}
+use Rattle.std.proofs.Common.{rules, ◌≡◌, ℕ, Option, Some, None, IfOk, sym, ap, ◌∙◌, subst}
 use Rattle.gw_blocks.specs.declared.parts.Block.TheVariants as blocks
 use Rattle.gw_flow.specs.Values.{Value, operand_value}
 use Rattle.gw_step.specs.Outcome.{Outcome}
@@ -25,3 +25,17 @@ returns-in-Some-clause-made c =
     ∙ ap (λ (q : Option ℕ). then_placed n (plus c.args.verified.now.blocks n t q c.in-Ok.value after)) c.in-Some.is in
     let taken : IfOk c.take_value.result (λ made. Makes made (then_placed n (plus c.args.verified.now.blocks n t (Some c.in-Some.p) c.in-Ok.value after)) s (state_of c.take_value.new.machine)) = search rules in
     subst (λ (o : Outcome State). IfOk c.take_value.result (λ made. Makes made o s (state_of c.take_value.new.machine))) (sym made) taken
+
+pub returns-in-None-clause-made : goal.returns-in-None-clause-made
+returns-in-None-clause-made c =
+    let n = c.args.tx.number in
+    let t = c.args.transaction in
+    let s = state_of c.args.machine.now in
+    let after = with_streams c.value.new.streams s in
+    let is : operand_value c.args.verified.now (environment_of n t s) c.args.plus.value s.streams ≡ Value (c.in-Ok.value, c.value.new.streams) =
+    subst (λ (x : Subject). operand_value c.args.verified.now (environment_for x s) c.args.plus.value s.streams ≡ Value (c.in-Ok.value, c.value.new.streams)) c.active_subject-subject.ensures c.in-Ok.ensures in
+    let made : act c.args.verified.now n t (blocks.Plus c.args.plus) s ≡ then_placed n (plus c.args.verified.now.blocks n t None c.in-Ok.value after) =
+    act-plus c.args.verified.now n t s c.args.plus c.in-Ok.value c.value.new.streams is
+    ∙ ap (λ (q : Option ℕ). then_placed n (plus c.args.verified.now.blocks n t q c.in-Ok.value after)) c.in-None.is in
+    let passed : Makes c.pass_with.result (then_placed n (plus c.args.verified.now.blocks n t None c.in-Ok.value after)) s (state_of c.pass_with.new.machine) = search rules in
+    subst (λ (o : Outcome State). Makes c.pass_with.result o s (state_of c.pass_with.new.machine)) (sym made) passed

@@ -28,3 +28,6 @@ plus-requires-clause-operands c = first_may c.args.verified.now _ c.in-Plus.plus
 
 pub save-requires-clause-operands : goal.save-requires-clause-operands
 save-requires-clause-operands c = first_may c.args.verified.now _ c.in-Savevalue.save.value [] (subst (λ (block : Block). MayMeet c.args.verified.now (state_of c.args.machine.now) c.args.tx.number c.args.transaction block) c.in-Savevalue.is c.requires.meet)
+
+pub set_priority-requires-clause-operands : goal.set_priority-requires-clause-operands
+set_priority-requires-clause-operands c = first_may c.args.verified.now _ c.in-Priority.p.value [] (subst (λ (block : Block). MayMeet c.args.verified.now (state_of c.args.machine.now) c.args.tx.number c.args.transaction block) c.in-Priority.is c.requires.meet)

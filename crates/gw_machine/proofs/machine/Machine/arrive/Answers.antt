@@ -34,4 +34,4 @@ returns-clause-carries c = carries-insert c.args.self.now.transactions c.insert-
 
 pub returns-clause-linked : goal.returns-clause-linked
 returns-clause-linked c =
-    linked-arrived c.args.self.now _ c.insert-tx.result _ c.args.block c.args.priority c.args.time c.insert-tx.ensures.txs c.insert-tx.ensures.places c.insert-tx.ensures.number c.insert-tx.ensures.sound refl refl (scheduled c) (record { waits = refl; facilities = refl; storages = refl; queues = refl; clock = refl }) (returns-clause-state c) c.requires.linked
+    linked-arrived c.args.self.now _ c.insert-tx.result _ c.args.block c.args.priority c.args.time c.insert-tx.ensures.txs c.insert-tx.ensures.places c.insert-tx.ensures.number c.insert-tx.ensures.sound refl refl (scheduled c) (record { waits = refl; assemblies = refl; facilities = refl; storages = refl; queues = refl; clock = refl }) (returns-clause-state c) c.requires.linked

@@ -3,7 +3,7 @@ use Rattle.gw_machine.specs.declared.machine.Machine.{Machine}
 use Rattle.gw_machine.proofs.Beginning.{Begins, state-nothing, linked-nothing, readable-nothing}
 use Rattle.gw_machine.proofs.machine.Machine.nothing.Goals as goal
 
-abbrev made : goal.After-new-4 → Machine
+abbrev made : goal.After-new-5 → Machine
 made c = record {
   clock = pos 0;
   count = to_z w64 c.args.count;
@@ -16,6 +16,7 @@ made c = record {
   current_events = c.new-3.result;
   future_events = c.new-4.result;
   waits = c.in_ok-waits.waits;
+  assemblies = c.new-5.result;
   facilities = c.in_ok-tables.tables.facilities;
   storages = c.in_ok-tables.tables.storages;
   queues = c.in_ok-tables.tables.queues;
@@ -26,7 +27,7 @@ made c = record {
   ended = None;
 }
 
-begins : (c : goal.After-new-4) → Begins c.args.object.now c.args.count c.args.streams (made c)
+begins : (c : goal.After-new-5) → Begins c.args.object.now c.args.count c.args.streams (made c)
 begins c = record {
   clock = refl;
   count = search rules;
@@ -40,6 +41,7 @@ begins c = record {
   future_events = c.new-4.ensures;
   lists = search rules;
   retry = c.in_ok-waits.ensures.retry;
+  assemblies = c.new-5.ensures;
   stir = refl;
   facilities = c.in_ok-tables.ensures.facilities;
   storages = c.in_ok-tables.ensures.storages;

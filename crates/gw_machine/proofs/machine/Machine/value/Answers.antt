@@ -1,7 +1,6 @@
-use Rattle.std.proofs.Common.{◌≡◌, ◌∙◌, ap, subst, sym}
+use Rattle.std.proofs.Common.{◌≡◌, ◌∙◌, subst, sym}
 use Rattle.gw_blocks.specs.Grammar.{OperandFits}
 use Rattle.gw_object.specs.Grammar.{HasSpelling}
-use Rattle.gw_object.specs.declared.parts.Parts.{Parts}
 use Rattle.gw_kinds.proofs.Sources.{source_holds}
 use Rattle.gw_kinds.specs.Evaluated.{source_of}
 use Rattle.gw_kinds.specs.Laws.{OperandHolds}

@@ -1,4 +1,4 @@
-use Rattle.std.proofs.Common.{◌≡◌, ◌∙◌, ap, ℤ, List, Option, None}
+use Rattle.std.proofs.Common.{◌∙◌, ap, ℤ, List, Option, None}
 use Rattle.gw_num.specs.Table.{at}
 use Rattle.gw_transactions.proofs.Shown.{at-shown}
 use Rattle.gw_transactions.proofs.parameters.Parameters.as_slice.Goals as goal

@@ -1,13 +1,13 @@
 use Rattle.std.proofs.Common.{refl, subst, sym, length, Some, None, rules, ◌≡◌, ◌<◌, ◌+◌, ◌-◌, ◌^◌, ◌∙◌, ap, arith}
 use Rattle.slab.specs.Slab.{slab_len}
-use Rattle.gw_transactions.specs.Transactions.{Population, as_made, live_count}
+use Rattle.gw_transactions.specs.Transactions.{Population, made_with, live_count}
 use Rattle.gw_transactions.specs.declared.Kept.{Kept}
 use Rattle.gw_transactions.specs.Slots.{live_as, AreCounted}
 use Rattle.gw_transactions.proofs.Here.{counted-few, counted-insert}
 use Rattle.gw_num.specs.Table.{at, put}
 use Rattle.gw_num.proofs.Tables.{at-put, at-put_past}
 use Rattle.gw_transactions.proofs.Populations.{length-txs, next_is, table-next, numbered-next_of, live_count-insert, counted_of, sound_of, sound}
-use Rattle.gw_transactions.proofs.Transactions.insert.Goals as goal
+use Rattle.gw_transactions.proofs.Transactions.insert_with.Goals as goal
 
 pub overflow_add-self : goal.overflow_add-self
 overflow_add-self c =
@@ -20,15 +20,11 @@ add-requires-clause-few c =
     (sound_of c.self.inside c.self.invariant.0 _ c.self.view_is).few c.args.transaction.current
 
 abbrev kept : (c : goal.After-add) → Kept
-kept c = record { attributes = c.args.transaction; parameters = c.new.result }
-
-made : (c : goal.After-add) → live_as (kept c) ≡ as_made c.args.transaction
-made c = ap (λ ps. record { attributes = c.args.transaction; parameters = ps; chain = None }) c.new.ensures
+kept c = record { attributes = c.args.transaction; parameters = c.args.parameters }
 
 pub returns-clause-txs : goal.returns-clause-txs
 returns-clause-txs c =
     table-next c.self.inside c.self.invariant.0 _ c.self.view_is (λ place kept. live_as kept) (λ p. p.txs) refl c.insert_reserved-place.new.self c.insert_reserved-place.result (kept c) c.requires.few c.insert_reserved-place.ensures.was_vacant c.insert_reserved-place.ensures.updates
-    ∙ ap (λ t. put None c.args.self.now.txs (length c.args.self.now.txs) (Some t)) (made c)
 
 pub invariant_of-self : goal.invariant_of-self
 invariant_of-self c =
@@ -36,7 +32,7 @@ invariant_of-self c =
       numbered-next_of c.self.inside c.self.invariant.0 _ c.self.view_is c.insert_reserved-place.new.self c.insert_reserved-place.result (kept c) c.requires.few c.insert_reserved-place.ensures.updates,
       omega (arith, room, c.requires.room, c.insert_reserved-place.ensures.len, c.insert_reserved-place.ensures.capacity),
       subst (AreCounted c.add.new.self) (sym (returns-clause-txs c))
-          (counted-insert c.self.inside.here c.args.self.now.txs (counted_of c.self.inside c.self.invariant.0 _ c.self.view_is c.self.invariant.2) c.add.new.self (as_made c.args.transaction) c.add.ensures),
+          (counted-insert c.self.inside.here c.args.self.now.txs (counted_of c.self.inside c.self.invariant.0 _ c.self.view_is c.self.invariant.2) c.add.new.self (made_with c.args.parameters c.args.transaction) c.add.ensures),
     )
 
 pub returns-clause-number : goal.returns-clause-number
@@ -52,7 +48,7 @@ returns-clause-made c =
 
 pub returns-clause-live : goal.returns-clause-live
 returns-clause-live c =
-    ap live_count (returns-clause-txs c) ∙ live_count-insert c.self.inside c.self.invariant.0 _ c.self.view_is (as_made c.args.transaction)
+    ap live_count (returns-clause-txs c) ∙ live_count-insert c.self.inside c.self.invariant.0 _ c.self.view_is (made_with c.args.parameters c.args.transaction)
 
 pub returns-clause-held : goal.returns-clause-held
 returns-clause-held c =

@@ -1,0 +1,156 @@
+-- What resting on the current events chain, and waiting for an assembly set, make of a machine; and how many are on the retry list.
+use Rattle.std.proofs.Common.{◌⊎◌, inl, inr, ◌≡◌, ℕ, zero, suc, ◌+◌, ◌^◌, ◌≤◌, ℤ, List, [], ◌∷◌, ◌++◌, map, length, Some, None, IfSome, is_some, option_map, refl, sym, ap, ◌∙◌, subst, arith}
+use Rattle.std.specs.Prelude.{int_le, int_lt}
+use Rattle.std.specs.List.{AllByRecursion}
+use Rattle.std.proofs.lemmas.Bool.{cases_eq, eq-eqb, ne_eqb}
+use Rattle.std.proofs.lemmas.List.{length-map}
+use Rattle.gw_num.specs.Table.{at}
+use Rattle.gw_num.proofs.Tables.{at_past}
+use Rattle.gw_chains.specs.Chain.{ahead, behind}
+use Rattle.gw_chains.specs.declared.tx.Tx.{Tx}
+use Rattle.gw_chains.specs.declared.tx.Member.{Member}
+use Rattle.gw_chains.specs.declared.assemblies.Assembly.{Assembly as HeldAssembly}
+use Rattle.gw_machine.specs.declared.machine.Machine.{Machine}
+use Rattle.gw_step.specs.declared.placement.Assembling.{Assembling}
+use Rattle.gw_step.specs.State.{Assembly, priority_of, without}
+use Rattle.gw_step.specs.Residence.{ResidesOnce, occurrences, occurrences_in}
+use Rattle.gw_step.specs.Changes.{rests_ahead, rests_behind, awaits_set}
+use Rattle.gw_machine.specs.View.{state_of, lists_of, member_number, assembly_of}
+use Rattle.gw_machine.specs.Coherence.{Linked, IsRanked, IsHeldBy, CanRest}
+use Rattle.gw_step.proofs.Lists.{all_placed, all_map, map-placed, map-behind}
+use Rattle.gw_step.proofs.Residence.{one_if, at_most_one, same_number, other_number, occurrences-without, resides-ahead, resides-behind, resides-awaits}
+use Rattle.gw_transactions.specs.Transactions.{Holds}
+use Rattle.gw_machine.proofs.Changes.{timed-kept}
+use Rattle.gw_machine.proofs.Due.{agree}
+
+-- OTHER MEMBERS
+
+-- other members of the current events chain, and other assemblies, each of whose handles is held
+pub linked-members : (m new : Machine) → new.transactions ≡ m.transactions → IfSome new.active (Holds m.transactions) → AllByRecursion (IsRanked m.transactions) new.current_events.items → new.future_events ≡ m.future_events → new.waits ≡ m.waits → AllByRecursion (IsHeldBy m.transactions) new.assemblies.items
+    → new.facilities ≡ m.facilities → new.storages ≡ m.storages → new.queues ≡ m.queues → new.clock ≡ m.clock → ResidesOnce (state_of new) → Linked m → Linked new
+linked-members m new ts a cs fs w sets fac sto que clock resides l = record {
+  active = rw ts a;
+  current_events = rw ts cs;
+  future_events = rw (ts, fs) l.future_events;
+  delay_lists = λ e below. rw (ts, w) (l.delay_lists e (rw fac at below));
+  retry = rw (ts, w) l.retry;
+  assemblies = rw ts sets;
+  listed = rw (w, fac) l.listed;
+  sound = rw ts l.sound;
+  resides = resides;
+  timed = timed-kept m new fac sto que clock l.timed;
+}
+
+-- THE CURRENT EVENTS CHAIN
+
+-- the members' priorities are those of their images
+map-ahead : {A B : Type 0} (f : A → B) (priority : A → ℤ) (rank : B → ℤ) (x : A) (xs : List A) → priority x ≡ rank (f x) → AllByRecursion (λ y. priority y ≡ rank (f y)) xs → map f (ahead priority x xs) ≡ ahead rank (f x) (map f xs)
+map-ahead f priority rank x xs e es = map-placed f (λ y. int_lt (priority x) (priority y)) (λ z. int_lt (rank (f x)) (rank z)) x xs (all_map (λ y. priority y ≡ rank (f y)) (λ y. int_lt (priority x) (priority y) ≡ int_lt (rank (f x)) (rank (f y))) xs (λ y h. rw (e, h) refl) es)
+
+module _ (m : Machine) (tx : Tx) (priority : ℤ) (r : CanRest m tx) (rank : priority_of m.transactions.txs tx.number ≡ priority) (cs : List Member) where
+  abbrev newcomer : Member
+  newcomer = record { tx = tx; priority = priority }
+
+  is_active : (state_of m).lists.active ≡ Some tx.number
+  is_active = ap (option_map (λ (x : Tx). x.number)) r.active
+
+  -- ahead of its peers
+  module _ (joined : cs ≡ ahead (λ (x : Member). x.priority) newcomer m.current_events.items) where
+    pub state-ahead : record (state_of m) { lists = record (lists_of m) { active = None; current_events = map member_number cs } } ≡ rests_ahead tx.number (state_of m)
+    state-ahead =
+        ap (λ (ns : List ℕ). record (state_of m) { lists = record (lists_of m) { active = None; current_events = ns } })
+        (ap (map member_number) joined ∙ map-ahead member_number (λ (x : Member). x.priority) (priority_of m.transactions.txs) newcomer m.current_events.items (sym rank) (agree m.transactions m.current_events.items r.linked.current_events))
+
+    pub linked-ahead : (new : Machine) → new.transactions ≡ m.transactions → new.active ≡ None → new.current_events.items ≡ cs → new.future_events ≡ m.future_events → new.waits ≡ m.waits → new.assemblies ≡ m.assemblies
+        → new.facilities ≡ m.facilities → new.storages ≡ m.storages → new.queues ≡ m.queues → new.clock ≡ m.clock → state_of new ≡ rests_ahead tx.number (state_of m) → Linked new
+    linked-ahead new ts a c fs w sets fac sto que clock is =
+        linked-members m new ts (rw a tt)
+        (rw (c, joined) (all_placed (IsRanked m.transactions) (λ (y : Member). int_lt priority y.priority) newcomer m.current_events.items (record { held = r.held; rank = rank }) r.linked.current_events))
+        fs w (rw sets r.linked.assemblies) fac sto que clock (subst ResidesOnce (sym is) (resides-ahead tx.number (state_of m) is_active r.linked.resides)) r.linked
+
+  -- behind its peers
+  module _ (joined : cs ≡ behind (λ (x : Member). x.priority) newcomer m.current_events.items) where
+    pub state-behind : record (state_of m) { lists = record (lists_of m) { active = None; current_events = map member_number cs } } ≡ rests_behind tx.number (state_of m)
+    state-behind =
+        ap (λ (ns : List ℕ). record (state_of m) { lists = record (lists_of m) { active = None; current_events = ns } })
+        (ap (map member_number) joined ∙ map-behind member_number (λ (x : Member). x.priority) (priority_of m.transactions.txs) newcomer m.current_events.items (sym rank) (agree m.transactions m.current_events.items r.linked.current_events))
+
+    pub linked-behind : (new : Machine) → new.transactions ≡ m.transactions → new.active ≡ None → new.current_events.items ≡ cs → new.future_events ≡ m.future_events → new.waits ≡ m.waits → new.assemblies ≡ m.assemblies
+        → new.facilities ≡ m.facilities → new.storages ≡ m.storages → new.queues ≡ m.queues → new.clock ≡ m.clock → state_of new ≡ rests_behind tx.number (state_of m) → Linked new
+    linked-behind new ts a c fs w sets fac sto que clock is =
+        linked-members m new ts (rw a tt)
+        (rw (c, joined) (all_placed (IsRanked m.transactions) (λ (y : Member). int_le priority y.priority) newcomer m.current_events.items (record { held = r.held; rank = rank }) r.linked.current_events))
+        fs w (rw sets r.linked.assemblies) fac sto que clock (subst ResidesOnce (sym is) (resides-behind tx.number (state_of m) is_active r.linked.resides)) r.linked
+
+-- ASSEMBLIES
+
+map-appended : (xs : List HeldAssembly) (x : HeldAssembly) → map assembly_of (xs ++ x ∷ []) ≡ map assembly_of xs ++ assembly_of x ∷ []
+map-appended [] x = refl
+map-appended (y ∷ ys) x = ap (λ sets. assembly_of y ∷ sets) (map-appended ys x)
+
+all-appended : (P : HeldAssembly → Type 0) (xs : List HeldAssembly) (x : HeldAssembly) → AllByRecursion P xs → P x → AllByRecursion P (xs ++ x ∷ [])
+all-appended P [] x h p = (p, tt)
+all-appended P (y ∷ ys) x h p = (h.0, all-appended P ys x h.1 p)
+
+module _ (m : Machine) (tx : Tx) (a : Assembling) (r : CanRest m tx) (sets : List HeldAssembly) (begun : sets ≡ m.assemblies.items ++ record { block = a.block; set = a.set; first = tx; missing = a.missing } ∷ []) where
+  abbrev first : HeldAssembly
+  first = record { block = a.block; set = a.set; first = tx; missing = a.missing }
+
+  pub state-awaits : record (state_of m) { lists = record (lists_of m) { active = None; assemblies = map assembly_of sets } } ≡ awaits_set tx.number a (state_of m)
+  state-awaits =
+      ap (λ (xs : List Assembly). record (state_of m) { lists = record (lists_of m) { active = None; assemblies = xs } }) (ap (map assembly_of) begun ∙ map-appended m.assemblies.items first)
+
+  pub linked-awaits : (new : Machine) → new.transactions ≡ m.transactions → new.active ≡ None → new.current_events ≡ m.current_events → new.future_events ≡ m.future_events → new.waits ≡ m.waits → new.assemblies.items ≡ sets
+      → new.facilities ≡ m.facilities → new.storages ≡ m.storages → new.queues ≡ m.queues → new.clock ≡ m.clock → state_of new ≡ awaits_set tx.number a (state_of m) → Linked new
+  linked-awaits new ts none cs fs w is_sets fac sto que clock is =
+      linked-members m new ts (rw none tt) (rw cs r.linked.current_events) fs w
+      (rw (is_sets, begun) (all-appended (IsHeldBy m.transactions) m.assemblies.items first r.linked.assemblies r.held)) fac sto que clock
+      (subst ResidesOnce (sym is) (resides-awaits tx.number a (state_of m) (ap (option_map (λ (x : Tx). x.number)) r.active) r.linked.resides)) r.linked
+
+-- HOW MANY
+
+length-without : (n : ℕ) (xs : List ℕ) → 1 ≤ occurrences n xs → length (without n xs) + 1 ≡ length xs
+length-without n [] h = absurd (omega (arith, h))
+length-without n (x ∷ xs) h =
+    elim (cases_eq x n) [
+      | inl e ↦ let same : without n (x ∷ xs) ≡ xs = rw (eq-eqb x n e) refl in rw same (omega arith)
+      | inr e ↦
+          let other : without n (x ∷ xs) ≡ x ∷ without n xs = rw (ne_eqb x n e) refl in
+          let rest = length-without n xs (omega (arith, h, other_number x n e)) in
+          rw other (omega (arith, rest))
+    ]
+
+none-or-some : (k : ℕ) → (k ≡ 0) ⊎ (1 ≤ k)
+none-or-some zero = inl refl
+none-or-some (suc k) = inr (omega arith)
+
+-- different numbers below a bound are no more than the bound
+as_few : (k : ℕ) (xs : List ℕ) → ((n : ℕ) → occurrences n xs ≤ 1) → ((n : ℕ) → k ≤ n → occurrences n xs ≡ 0) → length xs ≤ k
+as_few zero [] once below = omega arith
+as_few zero (x ∷ xs) once below = absurd (omega (arith, below x (omega arith), same_number x x refl))
+as_few (suc k) xs once below =
+    elim (none-or-some (occurrences k xs)) [
+      | inl none ↦
+          let rest = as_few k xs once (λ n from. elim (cases_eq n k) [
+            | inl e ↦ ap (λ j. occurrences j xs) e ∙ none
+            | inr e ↦ below n (omega (arith, from, e))
+          ]) in
+          omega (arith, rest)
+      | inr some ↦
+          let left = λ (n : ℕ). occurrences-without n k xs some in
+          let rest = as_few k (without k xs) (λ n. omega (arith, left n, once n)) (λ n from. elim (cases_eq n k) [
+            | inl e ↦ omega (arith, left n, once n, same_number k n (sym e))
+            | inr e ↦ omega (arith, left n, below n (omega (arith, from, e)))
+          ]) in
+          omega (arith, rest, length-without k xs some)
+    ]
+
+-- no more are on the retry list than were ever made
+pub few-retry : (m : Machine) → Linked m → length m.waits.retry ≤ 2 ^ 62
+few-retry m l =
+    let ns = map member_number m.waits.retry in
+    let each : (n : ℕ) → occurrences n ns ≤ one_if (is_some (at None m.transactions.txs n)) = λ n. (let all : occurrences_in (state_of m).lists n ≡ one_if (is_some (at None m.transactions.txs n)) = l.resides n in omega (arith, all)) in
+    let few = as_few (length m.transactions.txs) ns
+    (λ n. omega (arith, each n, at_most_one (is_some (at None m.transactions.txs n))))
+    (λ n from. let none : one_if (is_some (at None m.transactions.txs n)) ≡ 0 = ap (λ o. one_if (is_some o)) (at_past None m.transactions.txs n from) in omega (arith, each n, none)) in
+    omega (arith, few, length-map m.waits.retry member_number, l.sound.few)

@@ -1,0 +1,82 @@
+//! Copies of the active transaction.
+
+ghost use Rattle.std.specs.Prelude.{◌≡◌, ◌≤◌, ◌<◌, ◌+◌, ◌^◌, None, length, replicate, IfOk, OnOk};
+ghost use Rattle.gw_transactions.specs.Transactions.{Holds};
+ghost use Rattle.gw_step.specs.Changes as model;
+ghost use Rattle.gw_step.specs.Times.{parameters_of};
+ghost use Rattle.gw_machine.specs.View.{state_of};
+ghost use Rattle.gw_machine.specs.Coherence.{Linked, Carries, Every};
+
+use crate::machine::Machine;
+use gw_chains::{Memory, Tx};
+use gw_transactions::{Parameters, Transaction};
+
+impl Machine {
+    /// Makes room for so many copies of a transaction, and answers the parameters of each.
+    ///
+    /// It fails for want of memory.
+    pub fn reserve_copies(&mut self, tx: Tx, copies: u16) -> Result<Vec<Parameters>, Memory>
+        requires held { Holds self.old.transactions tx }
+        ensures parameters { IfOk result (λ all. all.items ≡ replicate copies (parameters_of tx.number (state_of self.old))) }
+        ensures state { state_of self.new ≡ state_of self.old }
+        ensures linked { Linked self.old → Linked self.new }
+        ensures room { OnOk result ((copies ≤ self.new.transactions.room) × (copies ≤ self.new.current_events.room)) }
+        ensures carries { Carries Every self.old.transactions self.new.transactions }
+        ensures frame { self.new ≡ record self.old { transactions = self.new.transactions; current_events = self.new.current_events } }
+    {
+        let parameters = self.transactions.parameters_for(tx, copies)?;
+        self.transactions.reserve(copies as usize)?;
+        self.current_events.reserve(copies as usize)?;
+        Ok(parameters)
+    }
+
+    /// A copy of a transaction is made, with these parameters, which are that one's, and joins the current events chain,
+    /// behind its peers, to go to a block.
+    fn copy_once(&mut self, tx: Tx, transaction: Transaction, target: u16, parameters: Parameters)
+        requires linked { Linked self.old }
+        requires held { Holds self.old.transactions tx }
+        requires same { parameters ≡ parameters_of tx.number (state_of self.old) }
+        requires block { transaction.current ≤ 4096 }
+        requires few { length self.old.transactions.txs < 2 ^ 60 }
+        requires room { (0 < self.old.transactions.room) × (0 < self.old.current_events.room) }
+        ensures state { state_of self.new ≡ model.copied tx.number transaction target (state_of self.old) }
+        ensures linked { Linked self.new }
+        ensures held { Holds self.new.transactions tx }
+        ensures same { parameters_of tx.number (state_of self.new) ≡ parameters_of tx.number (state_of self.old) }
+        ensures made { length self.new.transactions.txs ≡ length self.old.transactions.txs + 1 }
+        ensures room { (self.old.transactions.room ≤ self.new.transactions.room + 1) ×
+            (self.old.current_events.room ≤ self.new.current_events.room + 1) }
+        ensures frame { self.new ≡ record self.old { transactions = self.new.transactions; current_events = self.new.current_events } }
+    {
+        let mut copy = transaction;
+        copy.next = target;
+        let made = self.transactions.insert_with(copy, parameters);
+        self.current_events.insert_behind(made, copy.priority);
+    }
+
+    /// Copies of a transaction are made, one for each of these parameters, which are that one's, and join the current
+    /// events chain, one after the other, each behind its peers, to go to a block.
+    pub fn make_copies(
+        &mut self,
+        tx: Tx,
+        transaction: Transaction,
+        target: u16,
+        copies: u16,
+        mut parameters: Vec<Parameters>,
+    )
+        requires linked { Linked self.old }
+        requires held { Holds self.old.transactions tx }
+        requires same { parameters.items ≡ replicate copies (parameters_of tx.number (state_of self.old)) }
+        requires block { transaction.current ≤ 4096 }
+        requires few { length self.old.transactions.txs + copies < 2 ^ 60 }
+        requires room { (copies ≤ self.old.transactions.room) × (copies ≤ self.old.current_events.room) }
+        ensures state { state_of self.new ≡ model.copies_made copies tx.number transaction target (state_of self.old) }
+        ensures linked { Linked self.new }
+        ensures held { Holds self.new.transactions tx }
+        ensures frame { self.new ≡ record self.old { transactions = self.new.transactions; current_events = self.new.current_events } }
+    {
+        while let Some(for_copy) = parameters.pop() {
+            self.copy_once(tx, transaction, target, for_copy);
+        }
+    }
+}

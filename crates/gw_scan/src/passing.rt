@@ -1,0 +1,130 @@
+//! Blocks that let other transactions go first: PRIORITY and BUFFER.
+
+ghost use Rattle.std.specs.Prelude.{◌≡◌, if◌then◌else◌, IfSome, OnOk, OnErr, IfOk, is_some};
+ghost use Rattle.gw_step.specs.State as state;
+ghost use Rattle.gw_step.specs.Changes as change;
+ghost use Rattle.gw_step.specs.Blocks as model;
+ghost use Rattle.gw_step.specs.Placing.{placed};
+ghost use Rattle.gw_step.specs.Operands.{MayEvaluate};
+ghost use Rattle.gw_step.specs.Times.{environment_of};
+ghost use Rattle.gw_machine.specs.View.{state_of};
+ghost use Rattle.gw_machine.specs.Coherence.{Linked, CanBePlaced, IsOf, IsActive};
+ghost use Rattle.gw_scan.specs.Makes.{MakesFrom, Enters};
+
+use crate::blocks::{blocks_of, may_enter, pass_to};
+use gw_blocks::{Block, Priority};
+use gw_chains::{Memory, Tx};
+use gw_entities::Stop;
+use gw_machine::{Machine, Made, active_subject, end_by};
+use gw_num::Stream;
+use gw_step::{End, Placement};
+use gw_transactions::Transaction;
+use gw_verify::Verified;
+
+/// A value as a priority, if it is one: a number of 32 bits.
+fn priority_from(value: i64) -> Option<i32>
+    ensures fits { is_some result ≡ model.is_priority value }
+    ensures same { IfSome result (λ priority. priority ≡ value) }
+{
+    i32::try_from(value).ok()
+}
+
+/// Where a transaction rests that lets others go first: behind its peers, or ahead of them.
+fn rests(behind: bool) -> Placement
+    ensures { result ≡ (if behind then Placement.RestsBehind else Placement.RestsAhead) }
+{
+    if behind {
+        Placement::RestsBehind
+    } else {
+        Placement::RestsAhead
+    }
+}
+
+/// The transaction enters its next block with this priority and with the streams here, and is then placed.
+fn pass_with_priority(
+    machine: &mut Machine,
+    blocks: &[Block],
+    tx: Tx,
+    transaction: Transaction,
+    priority: i32,
+    streams: &[Stream; 16],
+    placement: Placement,
+) -> Result<(), Memory>
+    requires active { IsActive blocks.now machine.old tx transaction }
+    requires there { CanBePlaced placement machine.old }
+    ensures ok { OnOk result (state_of machine.new ≡
+        placed tx.number placement (change.enters_and_falls tx.number (record transaction { priority = priority })
+        (state.with_streams streams.now (state_of machine.old)))) }
+    ensures err { OnErr result (state_of machine.new ≡ state_of machine.old) }
+    ensures linked { Linked machine.new }
+{
+    machine.reserve_rest()?;
+    machine.set_streams(streams);
+    machine.enter_with_priority(tx, transaction, priority);
+    machine.place(tx, priority, placement);
+    Ok(())
+}
+
+/// PRIORITY: the transaction has another priority from now on, and lets others go first. A value that isn't one is a
+/// named end.
+#[tactic(auto, unfolding(gw_step::specs::Blocks::act, gw_step::specs::Blocks::effect))]
+pub(crate) fn set_priority(
+    machine: &mut Machine,
+    verified: &Verified,
+    tx: Tx,
+    transaction: Transaction,
+    change: Priority,
+) -> Result<Made, Memory>
+    requires active { IsActive verified.now.blocks machine.old tx transaction }
+    requires own { IsOf verified.now machine.old }
+    requires operands { MayEvaluate verified.now (environment_of tx.number transaction (state_of machine.old)) change.value }
+    ensures made { IfOk result (λ made. MakesFrom made
+        (model.act verified.now tx.number transaction (Block.Priority change)) machine.old machine.new) }
+    ensures err { OnErr result (state_of machine.new ≡ state_of machine.old) }
+    ensures linked { Linked machine.new }
+{
+    let mut streams = machine.streams;
+    let subject = active_subject(tx, transaction);
+    let value = match machine.value(verified, subject, change.value, &mut streams) {
+        Ok(value) => value,
+        Err(end) => return Ok(Made::Ends(end_by(end))),
+    };
+    let Some(priority) = priority_from(value) else {
+        return Ok(Made::Ends(End::Number));
+    };
+    let blocks = blocks_of(verified);
+    if !may_enter(blocks, transaction.next + 1) {
+        return Ok(Made::Stops(Stop::NoBlock));
+    }
+    let placement = rests(change.behind);
+    pass_with_priority(
+        machine,
+        blocks,
+        tx,
+        transaction,
+        priority,
+        &streams,
+        placement,
+    )?;
+    Ok(Made::Step)
+}
+
+/// BUFFER: the transaction lets the others of its priority go first.
+pub(crate) fn buffer(
+    machine: &mut Machine,
+    blocks: &[Block],
+    tx: Tx,
+    transaction: Transaction,
+) -> Result<Made, Memory>
+    requires { IsActive blocks.now machine.old tx transaction }
+    ensures made { IfOk result (λ made. Enters made tx.number (model.buffer blocks.now tx.number transaction) machine.old machine.new) }
+    ensures err { OnErr result (state_of machine.new ≡ state_of machine.old) }
+    ensures linked { Linked machine.new }
+{
+    if !may_enter(blocks, transaction.next + 1) {
+        return Ok(Made::Stops(Stop::NoBlock));
+    }
+    let streams = machine.streams;
+    pass_to(machine, blocks, tx, transaction, &streams, Placement::RestsBehind)?;
+    Ok(Made::Step)
+}

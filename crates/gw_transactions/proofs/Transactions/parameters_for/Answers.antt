@@ -1,0 +1,17 @@
+use Rattle.std.proofs.Common.{◌≡◌, ◌∙◌, sym, ap, replicate, arith}
+use Rattle.std.specs.Option.{option_map_or}
+use Rattle.std.proofs.lemmas.Grind.{common_steps}
+use Rattle.gw_transactions.specs.Parameters.{no_parameters}
+use Rattle.gw_transactions.specs.Transactions.{LiveTransaction}
+use Rattle.gw_transactions.proofs.Populations.{held, value_of}
+use Rattle.gw_transactions.proofs.Transactions.parameters_for.Goals as goal
+
+pub index-requires : goal.index-requires
+index-requires c = let slot = held c.self.inside c.self.invariant.0 _ c.self.view_is c.args.tx c.requires in grind (arith, common_steps, slot.1)
+
+pub returns : goal.returns
+returns c =
+    let all : c.loop.counter ≡ c.args.copies = omega arith in
+    c.loop.invariant.items
+    ∙ ap (λ n. replicate n c.index.result.now.1.parameters) all
+    ∙ ap (replicate c.args.copies) (sym (ap (λ t. option_map_or (λ (t : LiveTransaction). t.parameters) t no_parameters) (value_of c.self.inside c.self.invariant.0 _ c.self.view_is c.args.tx c.requires _ c.index.ensures)))
