@@ -18,12 +18,14 @@ use std::test::Fail;
 
 mod arrivals;
 mod conditions;
+mod copies;
 mod crowds;
 mod draws;
 mod ends;
 mod entities;
 mod orders;
 mod parameters;
+mod procedures;
 mod reports;
 mod settings;
 mod specs;

@@ -3,7 +3,7 @@
 ghost use Rattle.std.specs.Prelude.{◌≡◌, ◌<◌, length, IfOk};
 
 use crate::models::first_wrong;
-use gw_chains::{Cec, Fec, Memory, Tx, UserChains, Waits};
+use gw_chains::{Assemblies, Assembly, Cec, Fec, Memory, Tx, UserChains, Waits};
 use std::alloc::Global;
 use std::test::Fail;
 use std::time::{Duration, Instant};
@@ -306,6 +306,65 @@ fn user_chains_have_two_ends(rt: HostRuntime) -> Result<(), Fail> {
     link(&mut chains, 2, 3, true)?;
     link(&mut chains, 6, 4, true)?;
     assert!(rt; first_wrong(&two_chains(&mut chains)).is_none());
+    Ok(())
+}
+
+/// The assembly of a set at a block, for which the transaction of that number waits until so many more have come.
+fn assembly(block: u16, set: u64, first: u64, missing: u16) -> Assembly {
+    Assembly {
+        block,
+        set,
+        first: tx(first),
+        missing,
+    }
+}
+
+/// Assemblies that have begun in this order.
+fn begun(alloc: Global, assemblies: &[Assembly]) -> Result<Assemblies, Memory> {
+    let mut all = Assemblies::new(alloc);
+    for assembly in assemblies {
+        all.reserve(1)?;
+        all.begin(*assembly);
+    }
+    Ok(all)
+}
+
+/// One more comes to the assembly of a set at a block; whether it had begun, and the one who comes is the last of it, and the
+/// transaction of that number waits.
+fn is_last(all: &mut Assemblies, block: u16, set: u64, first: u64) -> bool {
+    match all.find(block, set) {
+        Some(found) if found.missing == 1 => all.finish(block, set).first == tx(first),
+        Some(_) => {
+            all.come(block, set);
+            false
+        }
+        None => false,
+    }
+}
+
+/// Which answers are right of assemblies of set 1 at block 3 and at block 5, of which two and one are missing, and of set 2 at
+/// block 3, of which one is missing.
+fn three_assemblies(all: &mut Assemblies) -> [bool; 7] {
+    [
+        all.find(5, 2).is_none(),
+        is_last(all, 3, 2, 9),
+        all.find(3, 2).is_none(),
+        !is_last(all, 3, 1, 7),
+        all.find(5, 1) == Some(assembly(5, 1, 8, 1)),
+        is_last(all, 3, 1, 7),
+        is_last(all, 5, 1, 8),
+    ]
+}
+
+#[test]
+fn assemblies_are_of_a_block_and_a_set(rt: HostRuntime) -> Result<(), Fail> {
+    let assemblies = [
+        assembly(3, 1, 7, 2),
+        assembly(5, 1, 8, 1),
+        assembly(3, 2, 9, 1),
+    ];
+    let mut all = begun(rt.alloc(), &assemblies)?;
+    assert!(rt; first_wrong(&three_assemblies(&mut all)).is_none());
     Ok(())
 }
 

@@ -1,6 +1,7 @@
 //! Kinds: objects of a few blocks, with numbers that name what they must, and that don't.
 
 mod conditions;
+mod copies;
 mod named;
 mod procedures;
 mod subroutines;
@@ -216,6 +217,11 @@ fn constants_out_of_range_are_refused(rt: HostRuntime) -> Result<(), Fail> {
         ),
         (
             &[GENERATE, by_fraction!(1001, None, 3), TERMINATE],
+            None,
+            Some((15, 2)),
+        ),
+        (
+            &[GENERATE, Block::Assemble(0), TERMINATE],
             None,
             Some((15, 2)),
         ),

@@ -11,6 +11,7 @@ use std::test::Fail;
 
 mod blocks;
 mod conditions;
+mod copies;
 mod entities;
 mod procedures;
 mod states;

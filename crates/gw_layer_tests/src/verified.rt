@@ -3,7 +3,7 @@
 use crate::models::*;
 use gw_blocks::{Block, Generate, Operand, Spread};
 use gw_code::Instruction;
-use gw_object::{Fault, Items, Memory, Object, Parts, Place, TableKind, TableState};
+use gw_object::{Fault, Items, Memory, Object, Parts, Place, TableKind, TableState, read};
 use gw_verify::{Verified, verify};
 use std::alloc::Global;
 use std::test::Fail;
@@ -242,5 +242,51 @@ fn procedures_go_before_flow(rt: HostRuntime) -> Result<(), Fail> {
     let found = refusal_with_code(rt.alloc(), BLOCKS, &[false; 3])?;
     let place = Place::Code(0, 0);
     assert!(rt; found == Some(Fault { code: 32, place }));
+    Ok(())
+}
+
+/// S STORAGE 3 / GENERATE 10 / ENTER S / SPLIT 1,OUT / OUT LEAVE S / TERMINATE 1: the copy would leave what it is not in.
+const LEAVING: &[u8] = b"\
+    GPSO\0\x01\0\0\0\0\0\0\0\0\x01\x01\x02\x01S\0\0\0\x03\0\x05\
+    \x01\0\0\0\0\0\0\0\0\x0a\0\0\0\0\0\0\0\0\0\0\0\0\0\0\0\
+    \x06\0\0\0\0\0\x01\
+    \x12\0\x01\x01\0\x04\
+    \x07\0\0\0\0\0\x01\
+    \x02\0\0\0\0\0\0\0\0\x01\
+    \0\x01\0\0\0\
+    \x01\0\0\0\
+    \x01\0\0\x01\0\0\0\0\0\x01\
+    \x01\0\0\0\
+    \x01\0\0\0\
+    \0\0\0\x07\0\0\0\x06\0\0\0\x05\0\0\0\x02\0\0\0\x01";
+
+/// The same, with OUT on the TERMINATE.
+const ENDING: &[u8] = b"\
+    GPSO\0\x01\0\0\0\0\0\0\0\0\x01\x01\x02\x01S\0\0\0\x03\0\x05\
+    \x01\0\0\0\0\0\0\0\0\x0a\0\0\0\0\0\0\0\0\0\0\0\0\0\0\0\
+    \x06\0\0\0\0\0\x01\
+    \x12\0\x01\x01\0\x05\
+    \x07\0\0\0\0\0\x01\
+    \x02\0\0\0\0\0\0\0\0\x01\
+    \0\x01\0\0\0\
+    \x01\0\0\0\
+    \x01\0\0\x01\0\0\0\0\0\x01\
+    \x01\0\0\x01\0\0\0\0\0\x01\
+    \x01\0\0\0\
+    \0\0\0\x06\0\0\0\x05\0\0\0\x04\0\0\0\x02\0\0\0\x01";
+
+/// The fault with which the object of these bytes is refused, if it is.
+fn fault_of(alloc: Global, bytes: &[u8]) -> Result<Option<Fault>, Fail> {
+    let object = read(alloc, bytes).ok().ok_or("an object")?;
+    Ok(match verify(alloc, object) {
+        Ok(_) => None,
+        Err((_, fault)) => Some(fault),
+    })
+}
+
+#[test]
+fn a_copy_holds_nothing(rt: HostRuntime) -> Result<(), Fail> {
+    assert!(rt; fault_of(rt.alloc(), LEAVING)? == at_block(23, 4));
+    assert!(rt; fault_of(rt.alloc(), ENDING)?.is_none());
     Ok(())
 }

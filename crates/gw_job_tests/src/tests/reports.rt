@@ -176,6 +176,12 @@ fn reported_as_stopped(alloc: Global, bytes: &[u8], steps: u64) -> Result<Vec<u8
     Ok(stopped_report_after(alloc, &mut sim, steps)?)
 }
 
+/// Whether the job of an object is reported so at its end.
+pub(super) fn is_reported(alloc: Global, bytes: &[u8], expected: &[u8]) -> Result<bool, Fail> {
+    let text = reported(alloc, bytes, 1_000, 1_000)?;
+    Ok(text.as_slice() == expected)
+}
+
 /// Whether a text begins and ends so.
 fn shows(text: &[u8], first: &str, last: &str) -> bool {
     text.starts_with(first.as_bytes()) && text.ends_with(last.as_bytes())

@@ -15,7 +15,7 @@ const GATE_TAG: u8 = 0x0c;
 
 /// The place, from 0, of the first of these blocks of this tag that isn't read from its operands' bytes, or not built or
 /// written as them.
-fn wrong_spelling(
+pub(super) fn wrong_spelling(
     alloc: Global,
     tag: u8,
     cases: &[(Block, &[u8])],
