@@ -1,24 +1,24 @@
 -- What resting on the current events chain, and waiting for an assembly set, make of a machine; and how many are on the retry list.
 use Rattle.std.proofs.Common.{◌⊎◌, inl, inr, ◌≡◌, ℕ, zero, suc, ◌+◌, ◌^◌, ◌≤◌, ℤ, List, [], ◌∷◌, ◌++◌, map, length, Some, None, IfSome, is_some, option_map, refl, sym, ap, ◌∙◌, subst, arith}
-use Rattle.std.specs.Prelude.{int_le, int_lt}
+use Rattle.std.specs.Prelude.{Bool}
 use Rattle.std.specs.List.{AllByRecursion}
 use Rattle.std.proofs.lemmas.Bool.{cases_eq, eq-eqb, ne_eqb}
 use Rattle.std.proofs.lemmas.List.{length-map}
 use Rattle.gw_num.specs.Table.{at}
 use Rattle.gw_num.proofs.Tables.{at_past}
-use Rattle.gw_chains.specs.Chain.{ahead, behind}
+use Rattle.gw_chains.specs.Chain.{placed_behind}
 use Rattle.gw_chains.specs.declared.tx.Tx.{Tx}
 use Rattle.gw_chains.specs.declared.tx.Member.{Member}
 use Rattle.gw_chains.specs.declared.assemblies.Assembly.{Assembly as HeldAssembly}
 use Rattle.gw_machine.specs.declared.machine.Machine.{Machine}
 use Rattle.gw_step.specs.declared.placement.Assembling.{Assembling}
-use Rattle.gw_step.specs.State.{Assembly, priority_of, without}
+use Rattle.gw_step.specs.State.{State, Assembly, priority_of, without}
 use Rattle.gw_step.specs.Residence.{ResidesOnce, occurrences, occurrences_in}
-use Rattle.gw_step.specs.Changes.{rests_ahead, rests_behind, awaits_set}
+use Rattle.gw_step.specs.Changes.{awaits_set}
 use Rattle.gw_machine.specs.View.{state_of, lists_of, member_number, assembly_of}
 use Rattle.gw_machine.specs.Coherence.{Linked, IsRanked, IsHeldBy, CanRest}
-use Rattle.gw_step.proofs.Lists.{all_placed, all_map, map-placed, map-behind}
-use Rattle.gw_step.proofs.Residence.{one_if, at_most_one, same_number, other_number, occurrences-without, resides-ahead, resides-behind, resides-awaits}
+use Rattle.gw_step.proofs.Lists.{all_placed, all_map, map-placed}
+use Rattle.gw_step.proofs.Residence.{one_if, at_most_one, same_number, other_number, occurrences-without, resides-awaits}
 use Rattle.gw_transactions.specs.Transactions.{Holds}
 use Rattle.gw_machine.proofs.Changes.{timed-kept}
 use Rattle.gw_machine.proofs.Due.{agree}
@@ -43,44 +43,33 @@ linked-members m new ts a cs fs w sets fac sto que clock resides l = record {
 
 -- THE CURRENT EVENTS CHAIN
 
--- the members' priorities are those of their images
-map-ahead : {A B : Type 0} (f : A → B) (priority : A → ℤ) (rank : B → ℤ) (x : A) (xs : List A) → priority x ≡ rank (f x) → AllByRecursion (λ y. priority y ≡ rank (f y)) xs → map f (ahead priority x xs) ≡ ahead rank (f x) (map f xs)
-map-ahead f priority rank x xs e es = map-placed f (λ y. int_lt (priority x) (priority y)) (λ z. int_lt (rank (f x)) (rank z)) x xs (all_map (λ y. priority y ≡ rank (f y)) (λ y. int_lt (priority x) (priority y) ≡ int_lt (rank (f x)) (rank (f y))) xs (λ y h. rw (e, h) refl) es)
+module _ (m : Machine) (tx : Tx) (priority : ℤ) (r : CanRest m tx) (rank : priority_of m.transactions.txs tx.number ≡ priority) (passes : ℤ → ℤ → Bool) (cs : List Member)
+    (joined : cs ≡ placed_behind (λ (y : Member). passes priority y.priority) (record { tx = tx; priority = priority }) m.current_events.items) where
+  abbrev rank_of : ℕ → ℤ
+  rank_of = priority_of m.transactions.txs
 
-module _ (m : Machine) (tx : Tx) (priority : ℤ) (r : CanRest m tx) (rank : priority_of m.transactions.txs tx.number ≡ priority) (cs : List Member) where
   abbrev newcomer : Member
   newcomer = record { tx = tx; priority = priority }
 
-  is_active : (state_of m).lists.active ≡ Some tx.number
-  is_active = ap (option_map (λ (x : Tx). x.number)) r.active
+  -- the members' priorities are those of their numbers
+  same_places : AllByRecursion (λ (y : Member). passes priority y.priority ≡ passes (rank_of tx.number) (rank_of (member_number y))) m.current_events.items
+  same_places = all_map (λ y. y.priority ≡ rank_of (member_number y)) (λ y. passes priority y.priority ≡ passes (rank_of tx.number) (rank_of (member_number y))) m.current_events.items (λ y h. rw (rank, h) refl) (agree m.transactions m.current_events.items r.linked.current_events)
 
-  -- ahead of its peers
-  module _ (joined : cs ≡ ahead (λ (x : Member). x.priority) newcomer m.current_events.items) where
-    pub state-ahead : record (state_of m) { lists = record (lists_of m) { active = None; current_events = map member_number cs } } ≡ rests_ahead tx.number (state_of m)
-    state-ahead =
-        ap (λ (ns : List ℕ). record (state_of m) { lists = record (lists_of m) { active = None; current_events = ns } })
-        (ap (map member_number) joined ∙ map-ahead member_number (λ (x : Member). x.priority) (priority_of m.transactions.txs) newcomer m.current_events.items (sym rank) (agree m.transactions m.current_events.items r.linked.current_events))
+  -- who was active rests at its place
+  abbrev rests_there : State
+  rests_there = record (state_of m) { lists = record (lists_of m) { active = None; current_events = placed_behind (λ k. passes (rank_of tx.number) (rank_of k)) tx.number (lists_of m).current_events } }
 
-    pub linked-ahead : (new : Machine) → new.transactions ≡ m.transactions → new.active ≡ None → new.current_events.items ≡ cs → new.future_events ≡ m.future_events → new.waits ≡ m.waits → new.assemblies ≡ m.assemblies
-        → new.facilities ≡ m.facilities → new.storages ≡ m.storages → new.queues ≡ m.queues → new.clock ≡ m.clock → state_of new ≡ rests_ahead tx.number (state_of m) → Linked new
-    linked-ahead new ts a c fs w sets fac sto que clock is =
-        linked-members m new ts (rw a tt)
-        (rw (c, joined) (all_placed (IsRanked m.transactions) (λ (y : Member). int_lt priority y.priority) newcomer m.current_events.items (record { held = r.held; rank = rank }) r.linked.current_events))
-        fs w (rw sets r.linked.assemblies) fac sto que clock (subst ResidesOnce (sym is) (resides-ahead tx.number (state_of m) is_active r.linked.resides)) r.linked
+  pub state-joined : record (state_of m) { lists = record (lists_of m) { active = None; current_events = map member_number cs } } ≡ rests_there
+  state-joined =
+      ap (λ (ns : List ℕ). record (state_of m) { lists = record (lists_of m) { active = None; current_events = ns } })
+      (ap (map member_number) joined ∙ map-placed member_number (λ (y : Member). passes priority y.priority) (λ k. passes (rank_of tx.number) (rank_of k)) newcomer m.current_events.items same_places)
 
-  -- behind its peers
-  module _ (joined : cs ≡ behind (λ (x : Member). x.priority) newcomer m.current_events.items) where
-    pub state-behind : record (state_of m) { lists = record (lists_of m) { active = None; current_events = map member_number cs } } ≡ rests_behind tx.number (state_of m)
-    state-behind =
-        ap (λ (ns : List ℕ). record (state_of m) { lists = record (lists_of m) { active = None; current_events = ns } })
-        (ap (map member_number) joined ∙ map-behind member_number (λ (x : Member). x.priority) (priority_of m.transactions.txs) newcomer m.current_events.items (sym rank) (agree m.transactions m.current_events.items r.linked.current_events))
-
-    pub linked-behind : (new : Machine) → new.transactions ≡ m.transactions → new.active ≡ None → new.current_events.items ≡ cs → new.future_events ≡ m.future_events → new.waits ≡ m.waits → new.assemblies ≡ m.assemblies
-        → new.facilities ≡ m.facilities → new.storages ≡ m.storages → new.queues ≡ m.queues → new.clock ≡ m.clock → state_of new ≡ rests_behind tx.number (state_of m) → Linked new
-    linked-behind new ts a c fs w sets fac sto que clock is =
-        linked-members m new ts (rw a tt)
-        (rw (c, joined) (all_placed (IsRanked m.transactions) (λ (y : Member). int_le priority y.priority) newcomer m.current_events.items (record { held = r.held; rank = rank }) r.linked.current_events))
-        fs w (rw sets r.linked.assemblies) fac sto que clock (subst ResidesOnce (sym is) (resides-behind tx.number (state_of m) is_active r.linked.resides)) r.linked
+  pub linked-joined : (new : Machine) → new.transactions ≡ m.transactions → new.active ≡ None → new.current_events.items ≡ cs → new.future_events ≡ m.future_events → new.waits ≡ m.waits → new.assemblies ≡ m.assemblies
+      → new.facilities ≡ m.facilities → new.storages ≡ m.storages → new.queues ≡ m.queues → new.clock ≡ m.clock → ResidesOnce (state_of new) → Linked new
+  linked-joined new ts a c fs w sets fac sto que clock resides =
+      linked-members m new ts (rw a tt)
+      (rw (c, joined) (all_placed (IsRanked m.transactions) (λ (y : Member). passes priority y.priority) newcomer m.current_events.items (record { held = r.held; rank = rank }) r.linked.current_events))
+      fs w (rw sets r.linked.assemblies) fac sto que clock resides r.linked
 
 -- ASSEMBLIES
 

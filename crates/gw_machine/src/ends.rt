@@ -4,19 +4,9 @@ ghost use Rattle.std.specs.Prelude.{◌≡◌};
 ghost use Rattle.gw_code_flow.specs.Meaning as code;
 ghost use Rattle.gw_step.specs.Outcome as outcomes;
 
-use gw_code_flow::PlusEnd;
 use gw_num::NumFault;
+use gw_plus::{PlusEnd, ended_by};
 use gw_step::End;
-
-/// How an evaluation ends at a fault of arithmetic.
-pub(crate) fn ended_by(fault: NumFault) -> PlusEnd
-    ensures { result ≡ code.ended_by fault }
-{
-    match fault {
-        NumFault::Number => PlusEnd::Number,
-        NumFault::ZeroDivisor => PlusEnd::ZeroDivisor,
-    }
-}
 
 /// The named end that the end of an evaluation brings.
 pub fn end_by(end: PlusEnd) -> End

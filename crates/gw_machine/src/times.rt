@@ -9,12 +9,12 @@ ghost use Rattle.gw_machine.specs.View.{state_of};
 ghost use Rattle.gw_machine.specs.Coherence.{IsOf};
 ghost use Rattle.gw_machine.specs.Evaluating.{environment_for, CanEvaluate, valued, outcome_of, drawn};
 
-use crate::ends::{end_by, end_by_fault, ended_by};
+use crate::ends::{end_by, end_by_fault};
 use crate::machine::Machine;
 use crate::values::Subject;
 use gw_blocks::Spread;
-use gw_code_flow::PlusEnd;
 use gw_num::{NumFault, Stream, add};
+use gw_plus::{PlusEnd, ended_by};
 use gw_step::End;
 use gw_verify::Verified;
 

@@ -56,8 +56,8 @@ pub(crate) enum Step {
     Ended(PlusEnd),
 }
 
-/// The end that a fault of arithmetic brings.
-fn ended_by(fault: NumFault) -> PlusEnd
+/// The end of an evaluation that a fault of arithmetic brings.
+pub fn ended_by(fault: NumFault) -> PlusEnd
     ensures { result ≡ model.ended_by fault }
 {
     match fault {

@@ -6,6 +6,7 @@ mod activation;
 mod env;
 mod evaluation;
 
+pub use activation::ended_by;
 pub use env::Env;
 pub use evaluation::eval;
 pub use gw_code_flow::PlusEnd;

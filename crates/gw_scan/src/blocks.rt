@@ -138,6 +138,31 @@ fn generate(
     Ok(Made::Step)
 }
 
+/// The transaction enters its next block with this priority and with the streams here, and is then placed.
+pub(crate) fn pass_with_priority(
+    machine: &mut Machine,
+    blocks: &[Block],
+    tx: Tx,
+    transaction: Transaction,
+    priority: i32,
+    streams: &[Stream; 16],
+    placement: Placement,
+) -> Result<(), Memory>
+    requires active { IsActive blocks.now machine.old tx transaction }
+    requires there { CanBePlaced placement machine.old }
+    ensures ok { OnOk result (state_of machine.new ≡
+        placed tx.number placement (change.enters_and_falls tx.number (record transaction { priority = priority })
+        (state.with_streams streams.now (state_of machine.old)))) }
+    ensures err { OnErr result (state_of machine.new ≡ state_of machine.old) }
+    ensures linked { Linked machine.new }
+{
+    machine.reserve_rest()?;
+    machine.set_streams(streams);
+    machine.enter_with_priority(tx, transaction, priority);
+    machine.place(tx, priority, placement);
+    Ok(())
+}
+
 /// The transaction enters its next block with the streams here, and is then placed.
 pub(crate) fn pass_to(
     machine: &mut Machine,
@@ -155,11 +180,8 @@ pub(crate) fn pass_to(
     ensures err { OnErr result (state_of machine.new ≡ state_of machine.old) }
     ensures linked { Linked machine.new }
 {
-    machine.reserve_rest()?;
-    machine.set_streams(streams);
-    machine.enter(tx, transaction, transaction.next + 1);
-    machine.place(tx, transaction.priority, placement);
-    Ok(())
+    let priority = transaction.priority;
+    pass_with_priority(machine, blocks, tx, transaction, priority, streams, placement)
 }
 
 /// ADVANCE: the transaction rests for a drawn time; where that is 0 it stays active.

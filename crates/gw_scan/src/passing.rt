@@ -11,7 +11,7 @@ ghost use Rattle.gw_machine.specs.View.{state_of};
 ghost use Rattle.gw_machine.specs.Coherence.{Linked, CanBePlaced, IsOf, IsActive};
 ghost use Rattle.gw_scan.specs.Makes.{MakesFrom, Enters};
 
-use crate::blocks::{blocks_of, may_enter, pass_to};
+use crate::blocks::{blocks_of, may_enter, pass_to, pass_with_priority};
 use gw_blocks::{Block, Priority};
 use gw_chains::{Memory, Tx};
 use gw_entities::Stop;
@@ -38,31 +38,6 @@ fn rests(behind: bool) -> Placement
     } else {
         Placement::RestsAhead
     }
-}
-
-/// The transaction enters its next block with this priority and with the streams here, and is then placed.
-fn pass_with_priority(
-    machine: &mut Machine,
-    blocks: &[Block],
-    tx: Tx,
-    transaction: Transaction,
-    priority: i32,
-    streams: &[Stream; 16],
-    placement: Placement,
-) -> Result<(), Memory>
-    requires active { IsActive blocks.now machine.old tx transaction }
-    requires there { CanBePlaced placement machine.old }
-    ensures ok { OnOk result (state_of machine.new ≡
-        placed tx.number placement (change.enters_and_falls tx.number (record transaction { priority = priority })
-        (state.with_streams streams.now (state_of machine.old)))) }
-    ensures err { OnErr result (state_of machine.new ≡ state_of machine.old) }
-    ensures linked { Linked machine.new }
-{
-    machine.reserve_rest()?;
-    machine.set_streams(streams);
-    machine.enter_with_priority(tx, transaction, priority);
-    machine.place(tx, priority, placement);
-    Ok(())
 }
 
 /// PRIORITY: the transaction has another priority from now on, and lets others go first. A value that isn't one is a

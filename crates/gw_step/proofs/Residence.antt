@@ -3,7 +3,7 @@ use Rattle.std.proofs.Common.{◌≡◌, ◌≢◌, ℕ, zero, suc, ◌+◌, ◌
 use Rattle.std.specs.Prelude.{int_le, int_lt, sum_by}
 use Rattle.std.specs.List.{find}
 use Rattle.std.proofs.lemmas.Bool.{cases_eq, eq-eqb, ne_eqb}
-use Rattle.gw_chains.specs.Chain.{ahead, behind, all_behind, due}
+use Rattle.gw_chains.specs.Chain.{placed_behind, behind, all_behind, due}
 use Rattle.gw_chains.specs.Assembling.{without_first, with_first_changed}
 use Rattle.gw_transactions.specs.declared.Transaction.{Transaction}
 use Rattle.gw_transactions.specs.Transactions.{LiveTransaction, made_with, with_attributes, with_parameter}
@@ -162,11 +162,15 @@ resides-clock time s h k =
 
 -- DELAY LISTS
 
--- a list with one more member, behind its peers
-pub occurrences-joined : (k : ℕ) (priority : ℕ → ℤ) (n : ℕ) (xs : List ℕ) → occurrences k (behind priority n xs) ≡ one_if (n == k) + occurrences k xs
-occurrences-joined k priority n xs =
-    ap (occurrences k) (sym (map-same (behind priority n xs))) ∙ occurrences-placed k (λ (m : ℕ). m) (λ m. int_le (priority n) (priority m)) n xs
+-- a list with one more member at its place
+occurrences-newcomer : (k : ℕ) (passes : ℕ → Bool) (n : ℕ) (xs : List ℕ) → occurrences k (placed_behind passes n xs) ≡ one_if (n == k) + occurrences k xs
+occurrences-newcomer k passes n xs =
+    ap (occurrences k) (sym (map-same (placed_behind passes n xs))) ∙ occurrences-placed k (λ (m : ℕ). m) passes n xs
     ∙ ap (λ ns. one_if (n == k) + occurrences k ns) (map-same xs)
+
+-- behind its peers
+pub occurrences-joined : (k : ℕ) (priority : ℕ → ℤ) (n : ℕ) (xs : List ℕ) → occurrences k (behind priority n xs) ≡ one_if (n == k) + occurrences k xs
+occurrences-joined k priority n xs = occurrences-newcomer k (λ m. int_le (priority n) (priority m)) n xs
 
 -- a list that one of its members left
 pub occurrences-without : (k n : ℕ) (xs : List ℕ) → 1 ≤ occurrences n xs → one_if (n == k) + occurrences k (without n xs) ≡ occurrences k xs
@@ -220,23 +224,18 @@ resides-woken s h k =
 
 -- THE CURRENT EVENTS CHAIN
 
--- a list with one more member, ahead of its peers
-occurrences-ahead : (k : ℕ) (priority : ℕ → ℤ) (n : ℕ) (xs : List ℕ) → occurrences k (ahead priority n xs) ≡ one_if (n == k) + occurrences k xs
-occurrences-ahead k priority n xs =
-    ap (occurrences k) (sym (map-same (ahead priority n xs))) ∙ occurrences-placed k (λ (m : ℕ). m) (λ m. int_lt (priority n) (priority m)) n xs
-    ∙ ap (λ ns. one_if (n == k) + occurrences k ns) (map-same xs)
+-- who is active rests there, at its place
+resides-joins : (passes : ℕ → Bool) (n : ℕ) (s : State) → s.lists.active ≡ Some n → ResidesOnce s → ResidesOnce (record s { lists = record s.lists { active = None; current_events = placed_behind passes n s.lists.current_events } })
+resides-joins passes n s active h k =
+    let before : occurrences_in s.lists k ≡ one_if (is_some (at None s.transactions k)) = h k in
+    let a : occurrences k (active_numbers s.lists.active) ≡ one_if (n == k) + 0 = ap (λ o. occurrences k (active_numbers o)) active in
+    omega (arith, before, a, occurrences-newcomer k passes n s.lists.current_events)
 
 pub resides-ahead : (n : ℕ) (s : State) → s.lists.active ≡ Some n → ResidesOnce s → ResidesOnce (rests_ahead n s)
-resides-ahead n s active h k =
-    let before : occurrences_in s.lists k ≡ one_if (is_some (at None s.transactions k)) = h k in
-    let a : occurrences k (active_numbers s.lists.active) ≡ one_if (n == k) + 0 = ap (λ o. occurrences k (active_numbers o)) active in
-    omega (arith, before, a, occurrences-ahead k (priority_of s.transactions) n s.lists.current_events)
+resides-ahead n s = resides-joins (λ m. int_lt (priority_of s.transactions n) (priority_of s.transactions m)) n s
 
 pub resides-behind : (n : ℕ) (s : State) → s.lists.active ≡ Some n → ResidesOnce s → ResidesOnce (rests_behind n s)
-resides-behind n s active h k =
-    let before : occurrences_in s.lists k ≡ one_if (is_some (at None s.transactions k)) = h k in
-    let a : occurrences k (active_numbers s.lists.active) ≡ one_if (n == k) + 0 = ap (λ o. occurrences k (active_numbers o)) active in
-    omega (arith, before, a, occurrences-joined k (priority_of s.transactions) n s.lists.current_events)
+resides-behind n s = resides-joins (λ m. int_le (priority_of s.transactions n) (priority_of s.transactions m)) n s
 
 pub resides-copied : (n : ℕ) (t : Transaction) (target : ℕ) (s : State) → ResidesOnce s → ResidesOnce (copied n t target s)
 resides-copied n t target s h k =

@@ -1,6 +1,6 @@
 //! Copies, assembly sets and priorities: the reports of jobs worked out by hand.
 
-use super::reports::is_reported;
+use super::reports::wrong_report;
 use std::test::Fail;
 use std::time::{Duration, Instant};
 
@@ -90,77 +90,72 @@ const TOO_HIGH: &[u8] = b"\
     \0\0\0\x03\0\0\0\x02\0\0\0\x01";
 
 #[test]
-fn an_assembly_set_becomes_one(rt: HostRuntime) -> Result<(), Fail> {
-    const EXPECTED: &[u8] = b"END Done CLOCK 0 STEPS 11 ENTRIES 6 COUNT 0\n\
-        BLOCK 1 GENERATE 1 0\n\
-        BLOCK 2 SPLIT 1 0\n\
-        BLOCK 3 ASSEMBLE 3 0\n\
-        BLOCK 4 TERMINATE 1 0\n";
-    assert!(rt; is_reported(rt.alloc(), ASSEMBLING, EXPECTED)?);
-    Ok(())
-}
-
-#[test]
-fn as_many_copies_as_there_can_be_are_made_within_a_second(rt: HostRuntime) -> Result<(), Fail> {
-    const EXPECTED: &[u8] = b"END Done CLOCK 0 STEPS 5 ENTRIES 3 COUNT 0\n\
-        BLOCK 1 GENERATE 1 0\n\
-        BLOCK 2 SPLIT 1 65535\n\
-        BLOCK 3 TERMINATE 1 0\n";
+fn copies_are_made_and_assembled_within_a_second(rt: HostRuntime) -> Result<(), Fail> {
+    const CASES: &[(&'static [u8], &'static [u8])] = &[
+        (
+            ASSEMBLING,
+            b"END Done CLOCK 0 STEPS 11 ENTRIES 6 COUNT 0\n\
+            BLOCK 1 GENERATE 1 0\n\
+            BLOCK 2 SPLIT 1 0\n\
+            BLOCK 3 ASSEMBLE 3 0\n\
+            BLOCK 4 TERMINATE 1 0\n",
+        ),
+        (
+            MANY_COPIES,
+            b"END Done CLOCK 0 STEPS 5 ENTRIES 3 COUNT 0\n\
+            BLOCK 1 GENERATE 1 0\n\
+            BLOCK 2 SPLIT 1 65535\n\
+            BLOCK 3 TERMINATE 1 0\n",
+        ),
+        (
+            TOO_MANY_COPIES,
+            b"END Live CLOCK 10 STEPS 4 ENTRIES 1 COUNT 1\n\
+            BLOCK 1 GENERATE 1 1\n\
+            BLOCK 2 SPLIT 0 0\n\
+            BLOCK 3 TERMINATE 0 0\n",
+        ),
+    ];
     let start = Instant::now(&rt)?;
-    assert!(rt; is_reported(rt.alloc(), MANY_COPIES, EXPECTED)?);
+    assert!(rt; wrong_report(rt.alloc(), CASES)?.is_none());
     assert!(rt; start.elapsed(&rt)? < Duration::from_secs(1));
     Ok(())
 }
 
 #[test]
-fn copies_that_could_not_all_live_end_the_job(rt: HostRuntime) -> Result<(), Fail> {
-    const EXPECTED: &[u8] = b"END Live CLOCK 10 STEPS 4 ENTRIES 1 COUNT 1\n\
-        BLOCK 1 GENERATE 1 1\n\
-        BLOCK 2 SPLIT 0 0\n\
-        BLOCK 3 TERMINATE 0 0\n";
-    assert!(rt; is_reported(rt.alloc(), TOO_MANY_COPIES, EXPECTED)?);
-    Ok(())
-}
-
-#[test]
-fn a_new_priority_rests_ahead_of_its_peers(rt: HostRuntime) -> Result<(), Fail> {
-    const EXPECTED: &[u8] = b"END Done CLOCK 0 STEPS 7 ENTRIES 4 COUNT 0\n\
-        BLOCK 1 GENERATE 1 0\n\
-        BLOCK 2 SPLIT 1 1\n\
-        BLOCK 3 PRIORITY 1 0\n\
-        BLOCK 4 TERMINATE 1 0\n";
-    assert!(rt; is_reported(rt.alloc(), AHEAD, EXPECTED)?);
-    Ok(())
-}
-
-#[test]
-fn a_new_priority_with_bu_rests_behind_its_peers(rt: HostRuntime) -> Result<(), Fail> {
-    const EXPECTED: &[u8] = b"END Done CLOCK 0 STEPS 9 ENTRIES 5 COUNT 0\n\
-        BLOCK 1 GENERATE 1 0\n\
-        BLOCK 2 SPLIT 1 0\n\
-        BLOCK 3 PRIORITY 2 1\n\
-        BLOCK 4 TERMINATE 1 0\n";
-    assert!(rt; is_reported(rt.alloc(), BEHIND, EXPECTED)?);
-    Ok(())
-}
-
-#[test]
-fn a_buffer_lets_the_peers_go_first(rt: HostRuntime) -> Result<(), Fail> {
-    const EXPECTED: &[u8] = b"END Done CLOCK 0 STEPS 9 ENTRIES 5 COUNT 0\n\
-        BLOCK 1 GENERATE 1 0\n\
-        BLOCK 2 SPLIT 1 0\n\
-        BLOCK 3 BUFFER 2 1\n\
-        BLOCK 4 TERMINATE 1 0\n";
-    assert!(rt; is_reported(rt.alloc(), BUFFERED, EXPECTED)?);
-    Ok(())
-}
-
-#[test]
-fn a_priority_out_of_its_range_ends_the_job(rt: HostRuntime) -> Result<(), Fail> {
-    const EXPECTED: &[u8] = b"END Number CLOCK 0 STEPS 4 ENTRIES 1 COUNT 1\n\
-        BLOCK 1 GENERATE 1 1\n\
-        BLOCK 2 PRIORITY 0 0\n\
-        BLOCK 3 TERMINATE 0 0\n";
-    assert!(rt; is_reported(rt.alloc(), TOO_HIGH, EXPECTED)?);
+fn priorities_and_buffers_let_others_go_first(rt: HostRuntime) -> Result<(), Fail> {
+    const CASES: &[(&'static [u8], &'static [u8])] = &[
+        (
+            AHEAD,
+            b"END Done CLOCK 0 STEPS 7 ENTRIES 4 COUNT 0\n\
+            BLOCK 1 GENERATE 1 0\n\
+            BLOCK 2 SPLIT 1 1\n\
+            BLOCK 3 PRIORITY 1 0\n\
+            BLOCK 4 TERMINATE 1 0\n",
+        ),
+        (
+            BEHIND,
+            b"END Done CLOCK 0 STEPS 9 ENTRIES 5 COUNT 0\n\
+            BLOCK 1 GENERATE 1 0\n\
+            BLOCK 2 SPLIT 1 0\n\
+            BLOCK 3 PRIORITY 2 1\n\
+            BLOCK 4 TERMINATE 1 0\n",
+        ),
+        (
+            BUFFERED,
+            b"END Done CLOCK 0 STEPS 9 ENTRIES 5 COUNT 0\n\
+            BLOCK 1 GENERATE 1 0\n\
+            BLOCK 2 SPLIT 1 0\n\
+            BLOCK 3 BUFFER 2 1\n\
+            BLOCK 4 TERMINATE 1 0\n",
+        ),
+        (
+            TOO_HIGH,
+            b"END Number CLOCK 0 STEPS 4 ENTRIES 1 COUNT 1\n\
+            BLOCK 1 GENERATE 1 1\n\
+            BLOCK 2 PRIORITY 0 0\n\
+            BLOCK 3 TERMINATE 0 0\n",
+        ),
+    ];
+    assert!(rt; wrong_report(rt.alloc(), CASES)?.is_none());
     Ok(())
 }

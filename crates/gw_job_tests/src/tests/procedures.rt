@@ -1,6 +1,6 @@
 //! Variables, tables and PLUS code at work: the reports of jobs worked out by hand.
 
-use super::reports::is_reported;
+use super::reports::wrong_report;
 use std::test::Fail;
 
 /// T TABLE P1,10,5,3 / GENERATE ,,,1 / ASSIGN 1,10 / TABULATE T / ASSIGN 1,11 / TABULATE T / ASSIGN 1,16 / TABULATE T /
@@ -84,55 +84,59 @@ const LOOPING_ON: &[u8] = b"\
     \0\0\0\x05\0\0\0\x04\0\0\0\x03\0\0\0\x02\0\0\0\x01";
 
 #[test]
-fn each_class_has_what_is_above_the_border_below_it(rt: HostRuntime) -> Result<(), Fail> {
-    const EXPECTED: &[u8] = b"END Done CLOCK 0 STEPS 10 ENTRIES 8 COUNT 0\n\
-        BLOCK 1 GENERATE 1 0\n\
-        BLOCK 2 ASSIGN 1 0\n\
-        BLOCK 3 TABULATE 1 0\n\
-        BLOCK 4 ASSIGN 1 0\n\
-        BLOCK 5 TABULATE 1 0\n\
-        BLOCK 6 ASSIGN 1 0\n\
-        BLOCK 7 TABULATE 1 0\n\
-        BLOCK 8 TERMINATE 1 0\n\
-        TABLE T COUNT 3 SUM 37\n\
-        CLASS 0 1\n\
-        CLASS 1 1\n\
-        CLASS 2 1\n";
-    assert!(rt; is_reported(rt.alloc(), TABLED, EXPECTED)?);
+fn procedures_and_tables_work_on_what_they_are_given(rt: HostRuntime) -> Result<(), Fail> {
+    const CASES: &[(&'static [u8], &'static [u8])] = &[
+        (
+            TABLED,
+            b"END Done CLOCK 0 STEPS 10 ENTRIES 8 COUNT 0\n\
+            BLOCK 1 GENERATE 1 0\n\
+            BLOCK 2 ASSIGN 1 0\n\
+            BLOCK 3 TABULATE 1 0\n\
+            BLOCK 4 ASSIGN 1 0\n\
+            BLOCK 5 TABULATE 1 0\n\
+            BLOCK 6 ASSIGN 1 0\n\
+            BLOCK 7 TABULATE 1 0\n\
+            BLOCK 8 TERMINATE 1 0\n\
+            TABLE T COUNT 3 SUM 37\n\
+            CLASS 0 1\n\
+            CLASS 1 1\n\
+            CLASS 2 1\n",
+        ),
+        (
+            SUMMING,
+            b"END Done CLOCK 55 STEPS 9 ENTRIES 5 COUNT 0\n\
+            BLOCK 1 GENERATE 1 0\n\
+            BLOCK 2 ASSIGN 1 0\n\
+            BLOCK 3 PLUS 1 0\n\
+            BLOCK 4 ADVANCE 1 0\n\
+            BLOCK 5 TERMINATE 1 0\n",
+        ),
+    ];
+    assert!(rt; wrong_report(rt.alloc(), CASES)?.is_none());
     Ok(())
 }
 
 #[test]
-fn a_division_by_zero_ends_the_job(rt: HostRuntime) -> Result<(), Fail> {
-    const EXPECTED: &[u8] = b"END ZeroDivisor CLOCK 0 STEPS 4 ENTRIES 1 COUNT 1\n\
-        BLOCK 1 GENERATE 1 1\n\
-        BLOCK 2 SAVEVALUE 0 0\n\
-        BLOCK 3 TERMINATE 0 0\n\
-        SAVEVALUE A 0\n";
-    assert!(rt; is_reported(rt.alloc(), DIVIDING, EXPECTED)?);
-    Ok(())
-}
-
-#[test]
-fn a_procedure_with_a_loop_gives_the_time_to_rest(rt: HostRuntime) -> Result<(), Fail> {
-    const EXPECTED: &[u8] = b"END Done CLOCK 55 STEPS 9 ENTRIES 5 COUNT 0\n\
-        BLOCK 1 GENERATE 1 0\n\
-        BLOCK 2 ASSIGN 1 0\n\
-        BLOCK 3 PLUS 1 0\n\
-        BLOCK 4 ADVANCE 1 0\n\
-        BLOCK 5 TERMINATE 1 0\n";
-    assert!(rt; is_reported(rt.alloc(), SUMMING, EXPECTED)?);
-    Ok(())
-}
-
-#[test]
-fn a_loop_without_an_end_ends_the_job(rt: HostRuntime) -> Result<(), Fail> {
-    const EXPECTED: &[u8] = b"END LoopLimit CLOCK 0 STEPS 5 ENTRIES 2 COUNT 1\n\
-        BLOCK 1 GENERATE 1 0\n\
-        BLOCK 2 ASSIGN 1 1\n\
-        BLOCK 3 PLUS 0 0\n\
-        BLOCK 4 ADVANCE 0 0\n\
-        BLOCK 5 TERMINATE 0 0\n";
-    assert!(rt; is_reported(rt.alloc(), LOOPING_ON, EXPECTED)?);
+fn ends_of_procedures_end_the_job(rt: HostRuntime) -> Result<(), Fail> {
+    const CASES: &[(&'static [u8], &'static [u8])] = &[
+        (
+            DIVIDING,
+            b"END ZeroDivisor CLOCK 0 STEPS 4 ENTRIES 1 COUNT 1\n\
+            BLOCK 1 GENERATE 1 1\n\
+            BLOCK 2 SAVEVALUE 0 0\n\
+            BLOCK 3 TERMINATE 0 0\n\
+            SAVEVALUE A 0\n",
+        ),
+        (
+            LOOPING_ON,
+            b"END LoopLimit CLOCK 0 STEPS 5 ENTRIES 2 COUNT 1\n\
+            BLOCK 1 GENERATE 1 0\n\
+            BLOCK 2 ASSIGN 1 1\n\
+            BLOCK 3 PLUS 0 0\n\
+            BLOCK 4 ADVANCE 0 0\n\
+            BLOCK 5 TERMINATE 0 0\n",
+        ),
+    ];
+    assert!(rt; wrong_report(rt.alloc(), CASES)?.is_none());
     Ok(())
 }

@@ -176,10 +176,16 @@ fn reported_as_stopped(alloc: Global, bytes: &[u8], steps: u64) -> Result<Vec<u8
     Ok(stopped_report_after(alloc, &mut sim, steps)?)
 }
 
-/// Whether the job of an object is reported so at its end.
-pub(super) fn is_reported(alloc: Global, bytes: &[u8], expected: &[u8]) -> Result<bool, Fail> {
-    let text = reported(alloc, bytes, 1_000, 1_000)?;
-    Ok(text.as_slice() == expected)
+/// The place, from 0, of the first of these objects whose job has another report at its end.
+pub(super) fn wrong_report(alloc: Global, cases: &[(&[u8], &[u8])]) -> Result<Option<usize>, Fail> {
+    for i in 0..cases.len() {
+        let (bytes, expected) = cases[i];
+        let text = reported(alloc, bytes, 1_000, 1_000)?;
+        if text.as_slice() != expected {
+            return Ok(Some(i));
+        }
+    }
+    Ok(None)
 }
 
 /// Whether a text begins and ends so.

@@ -1,17 +1,24 @@
-use Rattle.std.proofs.Common.{◌≡◌, refl}
+use Rattle.std.proofs.Common.{◌≡◌, Some, option_map, refl, sym, ap, subst}
+use Rattle.std.specs.Prelude.{int_lt}
 use Rattle.std.proofs.lemmas.Int.{to_z-of_z}
 use Rattle.gw_chains.specs.Chain.{ahead}
+use Rattle.gw_chains.specs.declared.tx.Tx.{Tx}
 use Rattle.gw_chains.specs.declared.tx.Member.{Member}
-use Rattle.gw_machine.proofs.AtRest.{state-ahead, linked-ahead}
+use Rattle.gw_step.specs.Residence.{ResidesOnce}
+use Rattle.gw_step.proofs.Residence.{resides-ahead}
+use Rattle.gw_machine.specs.View.{state_of}
+use Rattle.gw_machine.proofs.AtRest.{state-joined, linked-joined}
 use Rattle.gw_machine.proofs.machine.Machine.rest_ahead.Goals as goal
 
 joined : (c : goal.After-insert_ahead) → c.insert_ahead.new.self.items ≡ ahead (λ (x : Member). x.priority) (record { tx = c.args.tx; priority = c.args.priority }) c.args.self.now.current_events.items
 joined c = let fits = c.ranges.priority in simp to_z-of_z at c.insert_ahead.ensures.items
 
 pub returns-clause-state : goal.returns-clause-state
-returns-clause-state c = state-ahead c.args.self.now c.args.tx c.args.priority c.requires.rests c.requires.rank c.insert_ahead.new.self.items (joined c)
+returns-clause-state c = state-joined c.args.self.now c.args.tx c.args.priority c.requires.rests c.requires.rank int_lt c.insert_ahead.new.self.items (joined c)
 
 pub returns-clause-linked : goal.returns-clause-linked
 returns-clause-linked c =
-    linked-ahead c.args.self.now c.args.tx c.args.priority c.requires.rests c.requires.rank c.insert_ahead.new.self.items (joined c)
-    _ refl refl refl refl refl refl refl refl refl refl (returns-clause-state c)
+    let active = ap (option_map (λ (x : Tx). x.number)) c.requires.rests.active in
+    linked-joined c.args.self.now c.args.tx c.args.priority c.requires.rests c.requires.rank int_lt c.insert_ahead.new.self.items (joined c)
+    _ refl refl refl refl refl refl refl refl refl refl
+    (subst ResidesOnce (sym (returns-clause-state c)) (resides-ahead c.args.tx.number (state_of c.args.self.now) active c.requires.rests.linked.resides))
