@@ -181,7 +181,15 @@ pub(crate) fn pass_to(
     ensures linked { Linked machine.new }
 {
     let priority = transaction.priority;
-    pass_with_priority(machine, blocks, tx, transaction, priority, streams, placement)
+    pass_with_priority(
+        machine,
+        blocks,
+        tx,
+        transaction,
+        priority,
+        streams,
+        placement,
+    )
 }
 
 /// ADVANCE: the transaction rests for a drawn time; where that is 0 it stays active.

@@ -100,6 +100,13 @@ pub(crate) fn buffer(
         return Ok(Made::Stops(Stop::NoBlock));
     }
     let streams = machine.streams;
-    pass_to(machine, blocks, tx, transaction, &streams, Placement::RestsBehind)?;
+    pass_to(
+        machine,
+        blocks,
+        tx,
+        transaction,
+        &streams,
+        Placement::RestsBehind,
+    )?;
     Ok(Made::Step)
 }

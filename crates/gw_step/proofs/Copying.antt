@@ -45,9 +45,9 @@ use Rattle.gw_step.proofs.Effects.{owns_none}
 -- what isn't at most a number is above it
 above : (n most : ℕ) → nat_le n most ≡ false → most < n
 above n most h = elim (cases_lt most n) [
-    | inl lt ↦ lt
-    | inr ge ↦ absurd (false≢true (sym h ∙ le-leb n most ge))
-  ]
+  | inl lt ↦ lt
+  | inr ge ↦ absurd (false≢true (sym h ∙ le-leb n most ge))
+]
 
 -- COPIES
 

@@ -294,7 +294,7 @@ copies_lead bs copies target outcome = if copies == 0 then outcome else leads bs
 abbrev pub split : List Block → ℕ → Transaction → Split → State → Outcome (State × Placement)
 split bs n t c s =
     within_live_limit c.copies s (leads bs (t.next + 1) (copies_lead bs c.copies (leads_to t.next (goes_or_falls c.target))
-      (stays (copies_made c.copies n (record t { current = t.next }) (leads_to t.next (goes_or_falls c.target)) (enters_and_falls n t s)))))
+    (stays (copies_made c.copies n (record t { current = t.next }) (leads_to t.next (goes_or_falls c.target)) (enters_and_falls n t s)))))
 
 -- ASSEMBLY
 
