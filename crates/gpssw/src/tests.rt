@@ -148,6 +148,8 @@ fn places_are_printed_by_kind_and_numbers(rt: HostRuntime) -> Result<(), Fail> {
         (8, Place::Nowhere, "refused 8 Memory"),
         (13, Place::Block(2), "refused 13 EntersGenerate at block 2"),
         (25, Place::Edge(3, 4), "refused 25 EdgeState at edge 3 4"),
+        (26, Place::Edge(2, 2), "refused 26 ChainState at edge 2 2"),
+        (10, Place::Chain(3), "refused 10 WrongKind at chain 3"),
         (
             15,
             Place::Code(0, 64),

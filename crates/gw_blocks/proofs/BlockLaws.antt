@@ -3,17 +3,18 @@ use Rattle.std.proofs.Common.{◌≡◌, ℕ, ◌∷◌, refl, arith}
 use Rattle.std.specs.Int.{w16, w32, w64}
 use Rattle.gw_blocks.specs.Limits.{most_parameters, most_streams}
 use Rattle.gw_blocks.specs.declared.parts.Attribute.TheVariants.{Clock, AbsoluteClock, Priority, TransitTime, TransactionNumber, TerminationCount}
-use Rattle.gw_blocks.specs.declared.parts.EntityAttribute.TheVariants.{FacilityOwned, StorageContent, StorageRemaining, QueueContent, SavevalueValue, SwitchSetting, VariableValue, BooleanValue, FunctionValue, BlockEntries, BlockCount}
+use Rattle.gw_blocks.specs.declared.parts.EntityAttribute.TheVariants.{FacilityOwned, StorageContent, StorageRemaining, QueueContent, SavevalueValue, SwitchSetting, ChainMembers, VariableValue, BooleanValue, FunctionValue, BlockEntries, BlockCount}
 use Rattle.gw_blocks.specs.declared.parts.Operand.{Operand}
 use Rattle.gw_blocks.specs.declared.parts.Operand.TheVariants.{Constant, Parameter, Attribute, OfEntity, Random, Procedure}
 use Rattle.gw_blocks.specs.declared.parts.Mode.TheVariants.{Set, Add, Subtract}
 use Rattle.gw_blocks.specs.declared.parts.Comparison.TheVariants.{Equal, NotEqual, Greater, GreaterOrEqual, Less, LessOrEqual}
 use Rattle.gw_blocks.specs.declared.parts.Condition.TheVariants.{SwitchSet, SwitchReset, FacilityInUse, FacilityNotInUse, StorageFull, StorageEmpty, StorageNotFull, StorageNotEmpty}
+use Rattle.gw_blocks.specs.declared.parts.LinkOrder.TheVariants.{Fifo, Lifo}
 use Rattle.gw_blocks.specs.declared.parts.SwitchAction.TheVariants.{Set as SetSwitch, Reset as ResetSwitch, Invert as InvertSwitch}
 use Rattle.gw_blocks.specs.declared.parts.Block.{Block}
-use Rattle.gw_blocks.specs.declared.parts.Block.TheVariants.{Generate, Terminate, Advance, Seize, Release, Enter, Leave, Queue, Depart, Assign, Test, Gate, Transfer, TransferByFraction, TransferToSubroutine, TransferByParameter, Loop, Split, Assemble, Logic, Savevalue, Mark, Priority as NewPriority, Buffer, Plus, Tabulate}
+use Rattle.gw_blocks.specs.declared.parts.Block.TheVariants.{Generate, Terminate, Advance, Seize, Release, Enter, Leave, Queue, Depart, Assign, Test, Gate, Transfer, TransferByFraction, TransferToSubroutine, TransferByParameter, Loop, Split, Assemble, Link, Unlink, Logic, Savevalue, Mark, Priority as NewPriority, Buffer, Plus, Tabulate}
 use Rattle.gw_fields.specs.Fields.{Field, behind, byte, signed, nothing, optional}
-use Rattle.gw_blocks.specs.Grammar.{parameter_number, stream_number, attribute_byte, attributes, attribute, entity_attribute_byte, entity_attributes, NumberedFits, numbered, OperandFits, operand_spelling, operand_forms, operand_read, operand, mode_byte, modes, mode, AssignFits, assign, comparison_byte, comparisons, TestFits, test_operands, condition_byte, conditions, GateFits, gate, CallFits, call, LoopFits, countdown, SplitFits, split, set_size, action_byte, actions, LogicFits, logic, SaveFits, save, PriorityFits, priority, PlusFits, plus, SpreadFits, spread, GenerateFits, generate, entity_number, procedure_number, UnitsFit, units, block_number, FractionFits, fraction, BlockFits, block_spelling, block_forms, block_read, block}
+use Rattle.gw_blocks.specs.Grammar.{parameter_number, stream_number, attribute_byte, attributes, attribute, entity_attribute_byte, entity_attributes, NumberedFits, numbered, OperandFits, operand_spelling, operand_forms, operand_read, operand, mode_byte, modes, mode, AssignFits, assign, comparison_byte, comparisons, TestFits, test_operands, condition_byte, conditions, GateFits, gate, CallFits, call, LoopFits, countdown, SplitFits, split, set_size, order_byte, orders, LinkFits, link, UnlinkFits, unlink, action_byte, actions, LogicFits, logic, SaveFits, save, PriorityFits, priority, PlusFits, plus, SpreadFits, spread, GenerateFits, generate, entity_number, procedure_number, UnitsFit, units, block_number, FractionFits, fraction, BlockFits, block_spelling, block_forms, block_read, block}
 use Rattle.gw_fields.proofs.OneOf.{AreFound, one_of_exact, flag_exact}
 use Rattle.gw_fields.proofs.Exact.{ReadsBack, ◌also◌, tag_reads_back, IsExactForm, AreExactForms, behind_exact, by_tag_exact, IsExact, byte_exact, wide16, wide32, wide64, number_exact, signed_exact, made_exact, both_exact, fitting_exact, ranged_exact, nothing_exact, optional_exact}
 
@@ -51,6 +52,7 @@ entity_attributes_are_found StorageRemaining = refl
 entity_attributes_are_found QueueContent = refl
 entity_attributes_are_found SavevalueValue = refl
 entity_attributes_are_found SwitchSetting = refl
+entity_attributes_are_found ChainMembers = refl
 entity_attributes_are_found VariableValue = refl
 entity_attributes_are_found BooleanValue = refl
 entity_attributes_are_found FunctionValue = refl
@@ -179,6 +181,20 @@ split_exact = fitting_exact SplitFits _ (λ s h. record { copies = h.0; target =
 set_size_exact : IsExact set_size
 set_size_exact = number_exact w16 wide16
 
+orders_are_found : AreFound order_byte orders
+orders_are_found Fifo = refl
+orders_are_found Lifo = refl
+
+pub link_exact : IsExact link
+unfolding link
+link_exact = fitting_exact LinkFits _ (λ l h. h.0) (λ l h. (h, tt))
+    (made_exact _ _ _ (λ x h. refl) (λ l h. refl) (both_exact _ _ entity_number_exact (one_of_exact order_byte orders orders_are_found)))
+
+pub unlink_exact : IsExact unlink
+unfolding unlink
+unlink_exact = fitting_exact UnlinkFits _ (λ u h. record { chain = h.0; target = h.1.0; most = h.1.1 }) (λ u h. (h.chain, (h.target, h.most)))
+    (made_exact _ _ _ (λ x h. refl) (λ u h. refl) (both_exact _ _ entity_number_exact (both_exact _ _ block_number_exact (optional_exact _ (number_exact w32 wide32)))))
+
 actions_are_found : AreFound action_byte actions
 actions_are_found SetSwitch = refl
 actions_are_found ResetSwitch = refl
@@ -212,7 +228,7 @@ block_form_exact : {A : Type 0} (tag : ℕ) (make : A → Block) (f : Field A) �
 block_form_exact tag make f spelled fit exact = behind_exact block_spelling BlockFits tag make f spelled fit exact
 
 block_forms_exact : AreExactForms block_spelling BlockFits block_forms
-unfolding generate spread units fraction call assign test_operands gate countdown split logic save priority plus
+unfolding generate spread units fraction call assign test_operands gate countdown split link unlink logic save priority plus
 block_forms_exact =
     block_form_exact 1 (λ g. Generate g) generate (λ g. refl) (λ g h. h) generate_exact
     also block_form_exact 2 (λ n. Terminate n) operand (λ n. refl) (λ n h. h) operand_exact
@@ -233,6 +249,8 @@ block_forms_exact =
     also block_form_exact 17 (λ l. Loop l) countdown (λ l. refl) (λ l h. h) countdown_exact
     also block_form_exact 18 (λ s. Split s) split (λ s. refl) (λ s h. h) split_exact
     also block_form_exact 19 (λ n. Assemble n) set_size (λ n. refl) (λ n h. h) set_size_exact
+    also block_form_exact 20 (λ l. Link l) link (λ l. refl) (λ l h. h) link_exact
+    also block_form_exact 21 (λ u. Unlink u) unlink (λ u. refl) (λ u h. h) unlink_exact
     also block_form_exact 22 (λ l. Logic l) logic (λ l. refl) (λ l h. h) logic_exact
     also block_form_exact 23 (λ s. Savevalue s) save (λ s. refl) (λ s h. h) save_exact
     also block_form_exact 24 (λ p. Mark p) (optional parameter_number) (λ p. refl) (λ p h. h) parameter_if_any_exact
@@ -243,7 +261,7 @@ block_forms_exact =
     also tt
 
 block_reads_back : (b : Block) → BlockFits b → ReadsBack block_read (block_spelling b) b
-unfolding block_read generate spread units fraction call assign test_operands gate countdown split logic save priority plus
+unfolding block_read generate spread units fraction call assign test_operands gate countdown split link unlink logic save priority plus
 block_reads_back (Generate g) fits = tag_reads_back block_forms 1 (λ g. Generate g) generate (λ _ _. refl) generate_exact g fits
 block_reads_back (Terminate n) fits = tag_reads_back block_forms 2 (λ n. Terminate n) operand (λ _ _. refl) operand_exact n fits
 block_reads_back (Advance s) fits = tag_reads_back block_forms 3 (λ s. Advance s) spread (λ _ _. refl) spread_exact s fits
@@ -263,6 +281,8 @@ block_reads_back (TransferByParameter p) fits = tag_reads_back block_forms 16 (�
 block_reads_back (Loop l) fits = tag_reads_back block_forms 17 (λ l. Loop l) countdown (λ _ _. refl) countdown_exact l fits
 block_reads_back (Split s) fits = tag_reads_back block_forms 18 (λ s. Split s) split (λ _ _. refl) split_exact s fits
 block_reads_back (Assemble n) fits = tag_reads_back block_forms 19 (λ n. Assemble n) set_size (λ _ _. refl) set_size_exact n fits
+block_reads_back (Link l) fits = tag_reads_back block_forms 20 (λ l. Link l) link (λ _ _. refl) link_exact l fits
+block_reads_back (Unlink u) fits = tag_reads_back block_forms 21 (λ u. Unlink u) unlink (λ _ _. refl) unlink_exact u fits
 block_reads_back (Logic l) fits = tag_reads_back block_forms 22 (λ l. Logic l) logic (λ _ _. refl) logic_exact l fits
 block_reads_back (Savevalue s) fits = tag_reads_back block_forms 23 (λ s. Savevalue s) save (λ _ _. refl) save_exact s fits
 block_reads_back (Mark p) fits = tag_reads_back block_forms 24 (λ p. Mark p) (optional parameter_number) (λ _ _. refl) parameter_if_any_exact p fits

@@ -5,7 +5,7 @@ use Rattle.gw_blocks.specs.Limits.{most_parameters, most_streams}
 use Rattle.gw_blocks.specs.declared.parts.Attribute.{Attribute as OwnAttribute}
 use Rattle.gw_blocks.specs.declared.parts.Attribute.TheVariants.{Clock, AbsoluteClock, Priority, TransitTime, TransactionNumber, TerminationCount}
 use Rattle.gw_blocks.specs.declared.parts.EntityAttribute.{EntityAttribute}
-use Rattle.gw_blocks.specs.declared.parts.EntityAttribute.TheVariants.{FacilityOwned, StorageContent, StorageRemaining, QueueContent, SavevalueValue, SwitchSetting, VariableValue, BooleanValue, FunctionValue, BlockEntries, BlockCount}
+use Rattle.gw_blocks.specs.declared.parts.EntityAttribute.TheVariants.{FacilityOwned, StorageContent, StorageRemaining, QueueContent, SavevalueValue, SwitchSetting, ChainMembers, VariableValue, BooleanValue, FunctionValue, BlockEntries, BlockCount}
 use Rattle.gw_blocks.specs.declared.parts.Numbered.{Numbered}
 use Rattle.gw_blocks.specs.declared.parts.Operand.{Operand}
 use Rattle.gw_blocks.specs.declared.parts.Operand.TheVariants.{Constant, Parameter, Attribute, OfEntity, Random, Procedure}
@@ -26,13 +26,17 @@ use Rattle.gw_blocks.specs.declared.parts.Gate.{Gate as GateOperands}
 use Rattle.gw_blocks.specs.declared.parts.Loop.{Loop as LoopOperands}
 use Rattle.gw_blocks.specs.declared.parts.Call.{Call}
 use Rattle.gw_blocks.specs.declared.parts.Split.{Split as SplitOperands}
+use Rattle.gw_blocks.specs.declared.parts.LinkOrder.{LinkOrder}
+use Rattle.gw_blocks.specs.declared.parts.LinkOrder.TheVariants.{Fifo, Lifo}
+use Rattle.gw_blocks.specs.declared.parts.Link.{Link as LinkOperands}
+use Rattle.gw_blocks.specs.declared.parts.Unlink.{Unlink as UnlinkOperands}
 use Rattle.gw_blocks.specs.declared.parts.SwitchAction.{SwitchAction}
 use Rattle.gw_blocks.specs.declared.parts.SwitchAction.TheVariants.{Set as SetSwitch, Reset as ResetSwitch, Invert as InvertSwitch}
 use Rattle.gw_blocks.specs.declared.parts.Logic.{Logic as LogicOperands}
 use Rattle.gw_blocks.specs.declared.parts.Save.{Save}
 use Rattle.gw_blocks.specs.declared.parts.Priority.{Priority as PriorityOperands}
 use Rattle.gw_blocks.specs.declared.parts.Plus.{Plus as PlusOperands}
-use Rattle.gw_blocks.specs.declared.parts.Block.TheVariants.{Generate, Terminate, Advance, Seize, Release, Enter, Leave, Queue, Depart, Assign, Test, Gate, Transfer, TransferByFraction, TransferToSubroutine, TransferByParameter, Loop, Split, Assemble, Logic, Savevalue, Mark, Priority as NewPriority, Buffer, Plus, Tabulate}
+use Rattle.gw_blocks.specs.declared.parts.Block.TheVariants.{Generate, Terminate, Advance, Seize, Release, Enter, Leave, Queue, Depart, Assign, Test, Gate, Transfer, TransferByFraction, TransferToSubroutine, TransferByParameter, Loop, Split, Assemble, Link, Unlink, Logic, Savevalue, Mark, Priority as NewPriority, Buffer, Plus, Tabulate}
 use Rattle.gw_fields.specs.Fields.{Read, Field, byte, number, signed, flag, nothing, made, both, fitting, ranged, optional, Form, behind, by_tag, one_of}
 
 -- ---- numbers
@@ -84,6 +88,7 @@ entity_attribute_byte StorageRemaining = 2
 entity_attribute_byte QueueContent = 3
 entity_attribute_byte SavevalueValue = 4
 entity_attribute_byte SwitchSetting = 5
+entity_attribute_byte ChainMembers = 6
 entity_attribute_byte VariableValue = 7
 entity_attribute_byte BooleanValue = 8
 entity_attribute_byte FunctionValue = 9
@@ -92,7 +97,7 @@ entity_attribute_byte BlockCount = 11
 
 -- these attributes
 abbrev pub entity_attributes : List EntityAttribute
-entity_attributes = FacilityOwned ∷ StorageContent ∷ StorageRemaining ∷ QueueContent ∷ SavevalueValue ∷ SwitchSetting ∷ VariableValue ∷ BooleanValue ∷ FunctionValue ∷ BlockEntries ∷ BlockCount ∷ []
+entity_attributes = FacilityOwned ∷ StorageContent ∷ StorageRemaining ∷ QueueContent ∷ SavevalueValue ∷ SwitchSetting ∷ ChainMembers ∷ VariableValue ∷ BooleanValue ∷ FunctionValue ∷ BlockEntries ∷ BlockCount ∷ []
 
 -- the number of the entity or the block fits
 abbrev pub NumberedFits : Numbered → Type 0
@@ -299,6 +304,36 @@ split = fitting SplitFits (made (λ (copies, target). record { copies = copies; 
 abbrev pub set_size : Field ℕ
 set_size = number w16
 
+-- the byte that stands for the end of a user chain at which it is joined
+abbrev pub order_byte : LinkOrder → ℕ
+order_byte Fifo = 0
+order_byte Lifo = 1
+
+-- the two ends
+abbrev pub orders : List LinkOrder
+orders = Fifo ∷ Lifo ∷ []
+
+-- the user chain's number fits
+abbrev pub LinkFits : LinkOperands → Type 0
+LinkFits l = entity_number.Fits l.chain
+
+-- the user chain's number, and the end at which it is joined
+unfoldable pub link : Field LinkOperands
+link = fitting LinkFits (made (λ (chain, order). record { chain = chain; order = order }) (λ l. (l.chain, l.order)) (both entity_number (one_of order_byte orders)))
+
+-- each operand fits
+pub record UnlinkFits (u : UnlinkOperands) : Type 0 where
+  pub chain : entity_number.Fits u.chain
+  pub target : block_number.Fits u.target
+  pub most : IfSome u.most (λ n. n < 2 ^ 32)
+
+-- the user chain's number, the block to which its members go, and how many are taken at most
+unfoldable pub unlink : Field UnlinkOperands
+unlink = fitting UnlinkFits (made
+    (λ (chain, (target, most)). record { chain = chain; target = target; most = most })
+    (λ u. (u.chain, (u.target, u.most)))
+    (both entity_number (both block_number (optional (number w32)))))
+
 -- the byte that stands for what is done with a switch
 abbrev pub action_byte : SwitchAction → ℕ
 action_byte SetSwitch = 0
@@ -367,6 +402,8 @@ BlockFits (TransferByParameter parameter) = parameter_number.Fits parameter
 BlockFits (Loop l) = LoopFits l
 BlockFits (Split s) = SplitFits s
 BlockFits (Assemble size) = set_size.Fits size
+BlockFits (Link l) = LinkFits l
+BlockFits (Unlink u) = UnlinkFits u
 BlockFits (Logic l) = LogicFits l
 BlockFits (Savevalue s) = SaveFits s
 BlockFits (Mark parameter) = IfSome parameter parameter_number.Fits
@@ -396,6 +433,8 @@ block_spelling (TransferByParameter parameter) = 16 ∷ parameter_number.spell p
 block_spelling (Loop l) = 17 ∷ countdown.spell l
 block_spelling (Split s) = 18 ∷ split.spell s
 block_spelling (Assemble size) = 19 ∷ set_size.spell size
+block_spelling (Link l) = 20 ∷ link.spell l
+block_spelling (Unlink u) = 21 ∷ unlink.spell u
 block_spelling (Logic l) = 22 ∷ logic.spell l
 block_spelling (Savevalue s) = 23 ∷ save.spell s
 block_spelling (Mark parameter) = 24 ∷ (optional parameter_number).spell parameter
@@ -426,6 +465,8 @@ block_forms =
     ∷ behind 17 (λ l. Loop l) countdown
     ∷ behind 18 (λ s. Split s) split
     ∷ behind 19 (λ size. Assemble size) set_size
+    ∷ behind 20 (λ l. Link l) link
+    ∷ behind 21 (λ u. Unlink u) unlink
     ∷ behind 22 (λ l. Logic l) logic
     ∷ behind 23 (λ s. Savevalue s) save
     ∷ behind 24 (λ parameter. Mark parameter) (optional parameter_number)

@@ -248,6 +248,14 @@ impl Spelled for Block {
                 out.push(19)?;
                 size.put(out)?;
             }
+            Block::Link(link) => {
+                out.push(20)?;
+                link.put(out)?;
+            }
+            Block::Unlink(unlink) => {
+                out.push(21)?;
+                unlink.put(out)?;
+            }
             Block::Logic(logic) => {
                 out.push(22)?;
                 logic.put(out)?;
@@ -300,6 +308,8 @@ impl Spelled for Block {
             Block::Loop(counted) => counted.room_after(room),
             Block::Split(split) => split.room_after(room),
             Block::Assemble(size) => size.room_after(room),
+            Block::Link(link) => link.room_after(room),
+            Block::Unlink(unlink) => unlink.room_after(room),
             Block::Logic(logic) => logic.room_after(room),
             Block::Savevalue(save) => save.room_after(room),
             Block::Mark(parameter) => parameter.room_after(room),
@@ -389,6 +399,14 @@ impl Spelled for Block {
             19 => {
                 let (size, rest) = u16::read(alloc, rest)?;
                 Ok((Block::Assemble(size), rest))
+            }
+            20 => {
+                let (link, rest) = Link::read(alloc, rest)?;
+                Ok((Block::Link(link), rest))
+            }
+            21 => {
+                let (unlink, rest) = Unlink::read(alloc, rest)?;
+                Ok((Block::Unlink(unlink), rest))
             }
             22 => {
                 let (logic, rest) = Logic::read(alloc, rest)?;

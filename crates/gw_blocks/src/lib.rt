@@ -4,6 +4,7 @@
 #![tactic(auto)]
 
 mod blocks;
+mod chains;
 mod changes;
 mod conditions;
 mod limits;
@@ -15,8 +16,8 @@ pub use limits::{MOST_PARAMETERS, MOST_STREAMS};
 pub use operands::{is_parameter, operand_fits, read_parameter_above, read_parameter_number};
 pub use parts::{
     Assign, Attribute, Block, Call, Comparison, Condition, EntityAttribute, Fraction, Gate,
-    Generate, Logic, Loop, Mode, Numbered, Operand, Plus, Priority, Save, Split, Spread,
-    SwitchAction, Test, Units,
+    Generate, Link, LinkOrder, Logic, Loop, Mode, Numbered, Operand, Plus, Priority, Save, Split,
+    Spread, SwitchAction, Test, Units, Unlink,
 };
 /// The answer where there was no memory.
 pub use std::alloc::AllocError as Memory;

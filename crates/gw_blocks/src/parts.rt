@@ -33,6 +33,8 @@ pub enum EntityAttribute {
     SavevalueValue,
     /// LS: 1 where the logic switch is set, else 0.
     SwitchSetting,
+    /// CH: how many transactions are on a user chain.
+    ChainMembers,
     /// V: the value of a variable, which is that of its procedure.
     VariableValue,
     /// BV: 1 where the value of a boolean variable, which is that of its procedure, isn't 0, else 0.
@@ -256,6 +258,35 @@ pub struct Save {
     pub value: Operand,
 }
 
+/// At which end of a user chain a LINK puts transactions; UNLINK takes them from the front.
+#[derive(Clone, Copy, Debug, PartialEq, Eq)]
+pub enum LinkOrder {
+    /// At the back: first in, first out.
+    Fifo,
+    /// At the front: last in, first out.
+    Lifo,
+}
+
+/// The operands of a LINK block.
+#[derive(Clone, Copy, Debug, PartialEq, Eq)]
+pub struct Link {
+    /// The number of the user chain's entity, from 0.
+    pub chain: u16,
+    /// At which end it is joined.
+    pub order: LinkOrder,
+}
+
+/// The operands of an UNLINK block.
+#[derive(Clone, Copy, Debug, PartialEq, Eq)]
+pub struct Unlink {
+    /// The number of the user chain's entity, from 0.
+    pub chain: u16,
+    /// The number of the block to which its members go, from 1.
+    pub target: u16,
+    /// How many members are taken at most; without it all are.
+    pub most: Option<u32>,
+}
+
 /// The operands of a PRIORITY block.
 #[derive(Clone, Copy, Debug, PartialEq, Eq)]
 pub struct Priority {
@@ -317,6 +348,10 @@ pub enum Block {
     Split(Split),
     /// Transactions of one assembly set, as many as this number, become one.
     Assemble(u16),
+    /// Transactions join a user chain.
+    Link(Link),
+    /// Transactions take others from a user chain, which go on.
+    Unlink(Unlink),
     /// Transactions set, reset or invert a logic switch.
     Logic(Logic),
     /// Transactions put a value into a savevalue.

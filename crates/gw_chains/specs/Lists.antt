@@ -39,4 +39,4 @@ LosesRoom n old new = (e : ℕ) → at 0 old e ≤ at 0 new e + n
 
 -- how many more fit on a list that has this room in memory, where all lists have so many members
 abbrev pub room_of : ℕ → ℕ → ℕ
-room_of members room = min room (2 ^ 63 - members)
+room_of members room = min room (2 ^ 62 - members)

@@ -1,7 +1,7 @@
 //! Transactions as chains hold them.
 
-/// The most members that the lists of several entities have together: more than memory can hold.
-pub const MOST: usize = 1 << 63;
+/// The most members that the lists of several entities have together: more than memory can hold, and as many as a value can be.
+pub const MOST: usize = 1 << 62;
 
 /// A transaction.
 #[derive(Clone, Copy, Debug, PartialEq, Eq)]

@@ -1,6 +1,6 @@
 //! The user chains.
 
-ghost use Rattle.std.specs.Prelude.{◌≡◌, ◌≤◌, ◌<◌, ◌+◌, [], ◌∷◌, ◌++◌, length, replicate, EachIndex, SomeIndex, sum_by, IfOk, OnOk, OnErr};
+ghost use Rattle.std.specs.Prelude.{◌≡◌, ◌≤◌, ◌<◌, ◌+◌, ◌^◌, [], ◌∷◌, ◌++◌, length, replicate, EachIndex, SomeIndex, sum_by, IfOk, OnOk, OnErr};
 ghost use Rattle.gw_num.specs.Table.{at};
 ghost use Rattle.gw_chains.specs.Chain.{first, rest};
 ghost use Rattle.gw_chains.specs.Lists.{changed, LosesRoom};
@@ -27,7 +27,7 @@ impl Model for UserChains {
 
     ghost Value = { Linked };
 
-    ghost invariant = { λ c. (c.linked ≤ 2 ^ 63)
+    ghost invariant = { λ c. (c.linked ≤ 2 ^ 62)
         × (c.linked ≡ sum_by length (map deque_items c.chains.items)) };
 
     ghost view = { λ c. record {
@@ -123,10 +123,11 @@ impl UserChains {
         Some(tx)
     }
 
-    /// How many members this chain has.
+    /// How many members this chain has, which a value can always be.
     pub fn members(&self, chain: u16) -> usize
         requires { chain < length self.now.lists }
-        ensures { result ≡ length (at [] self.now.lists chain) }
+        ensures value { result ≡ length (at [] self.now.lists chain) }
+        ensures few { result ≤ 2 ^ 62 }
     {
         self.chains[chain as usize].len()
     }

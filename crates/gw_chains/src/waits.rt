@@ -37,7 +37,7 @@ impl Model for Waits {
 
     ghost Value = { Waiting };
 
-    ghost invariant = { λ w. (w.waiting ≤ 2 ^ 63)
+    ghost invariant = { λ w. (w.waiting ≤ 2 ^ 62)
         × (w.waiting ≡ sum_by length (map (λ (l : Walked). l.members) w.delay_lists.items)) };
 
     ghost view = { λ w. record {

@@ -7,6 +7,8 @@ pub mod Found
 pub mod Rooms
 pub mod Fitting
 pub mod Unfit
+pub mod Carried
+pub mod Chains
 pub mod Own
 pub mod Parameters
 pub mod EachBlock

@@ -1,5 +1,5 @@
 -- A state that fits a row may pass each block that the row may pass.
-use Rattle.std.proofs.Common.{◌≡◌, ◌≢◌, ⊎_elim, ℕ, ◌+◌, ◌-◌, ◌≤◌, List, [], ◌∷◌, length, Option, Some, None, Bool, true, false, not, ◌||◌, if◌then◌else◌, ◌==◌, IsTrue, refl, sym, ap, subst, arith}
+use Rattle.std.proofs.Common.{◌≡◌, ◌≢◌, ⊎_elim, ℕ, ◌+◌, ◌-◌, ◌≤◌, List, [], ◌∷◌, ◌++◌, length, Option, Some, None, Bool, true, false, not, ◌||◌, if◌then◌else◌, ◌==◌, IsTrue, refl, sym, ap, subst, ◌∙◌, arith}
 use Rattle.std.specs.Prelude.{All, IsSomeAnd, is_some, map}
 use Rattle.std.specs.List.{flat_map, list_all}
 use Rattle.std.proofs.lemmas.Bool.{cases_eq, ne_eqb, le-leb, leb-true, and_parts, false≢true, not-false}
@@ -18,8 +18,9 @@ use Rattle.gw_flow.specs.Rows.{Row, ParamKind, Num, Ret, kind_of, is_number, is_
 use Rattle.gw_flow.specs.declared.edges.FlowEdge.{FlowEdge}
 use Rattle.gw_flow.specs.declared.edges.Target.TheVariants as targets
 use Rattle.gw_flow.specs.declared.setting.Setting.{Setting}
-use Rattle.gw_flow.specs.Blocks.{Table, Rule, rule, holds_units, number_rules, return_rules, parameters_read, value_rules, replaces, own_rules, parameter_set, kind_set, with_setting, after, move, is_used, known_of, edge_along, edges_along, edges_from}
+use Rattle.gw_flow.specs.Blocks.{Table, Rule, rule, holds_units, number_rules, return_rules, parameters_read, value_rules, replaces, own_rules, parameter_set, kind_set, with_setting, after, move, is_used, known_of, edge_along, edges_along, edges_from, join, members_edges, chain_edges}
 use Rattle.gw_flow.specs.Laws.{forbids, FittingStatesPass}
+use Rattle.gw_flow.proofs.Chains.{ChainUse, Links, Unlinks, Neither, chain_use}
 use Rattle.gw_flow.proofs.Entries.{entry-with_entry, amount-with_entry}
 use Rattle.gw_flow.proofs.EachBlock.{All-front, All-back}
 use Rattle.gw_flow.proofs.Fitting.{kind_itself, fits_on}
@@ -171,6 +172,8 @@ passes_like p b (blocks.Transfer target) state row h = record { rules_hold = λ 
 passes_like p b (blocks.TransferByFraction f) state row h = record { rules_hold = λ _ hold. hold; after_fits = h }
 passes_like p b (blocks.Split s) state row h = record { rules_hold = λ _ hold. hold; after_fits = h }
 passes_like p b (blocks.Assemble size) state row h = record { rules_hold = λ _ hold. by_facilities codes.owns_at_end (λ fs. length fs == 0) state row h hold; after_fits = h }
+passes_like p b (blocks.Link l) state row h = record { rules_hold = λ _ hold. hold; after_fits = h }
+passes_like p b (blocks.Unlink u) state row h = record { rules_hold = λ _ hold. hold; after_fits = h }
 passes_like p b (blocks.Priority q) state row h = record { rules_hold = λ _ hold. hold; after_fits = h }
 passes_like p b blocks.Buffer state row h = record { rules_hold = λ _ hold. hold; after_fits = h }
 
@@ -244,8 +247,18 @@ module _ (table : Table) where
   block_fits p b (blocks.Tabulate t) state row h later hold arrive = edges_fit b (exits (blocks.Tabulate t)) (after b (blocks.Tabulate t) state) (after b (blocks.Tabulate t) row) later arrive
   block_fits p b (blocks.Split s) state row h later hold arrive = edges_fit b (exits (blocks.Split s)) (after b (blocks.Split s) state) (after b (blocks.Split s) row) later arrive
   block_fits p b (blocks.Assemble size) state row h later hold arrive = edges_fit b (exits (blocks.Assemble size)) (after b (blocks.Assemble size) state) (after b (blocks.Assemble size) row) later arrive
+  block_fits p b (blocks.Link l) state row h later hold arrive = edges_fit b (exits (blocks.Link l)) (after b (blocks.Link l) state) (after b (blocks.Link l) row) later arrive
+  block_fits p b (blocks.Unlink u) state row h later hold arrive = edges_fit b (exits (blocks.Unlink u)) (after b (blocks.Unlink u) state) (after b (blocks.Unlink u) row) later arrive
   block_fits p b (blocks.Priority q) state row h later hold arrive = edges_fit b (exits (blocks.Priority q)) (after b (blocks.Priority q) state) (after b (blocks.Priority q) row) later arrive
   block_fits p b blocks.Buffer state row h later hold arrive = edges_fit b (exits blocks.Buffer) (after b blocks.Buffer state) (after b blocks.Buffer row) later arrive
+
+  -- to a user chain that a block joins; who is sent on from one knows nothing of who enters
+  chains_fit : (block : Block) (state row : Row) → ChainUse block → Fits state row → All Arrives (chain_edges table block row) → All Arrives (chain_edges table block state)
+  chains_fit _ state row (Links l) h arrive =
+      All-cons Arrives (join l.chain state) [] (on (table (targets.Chain l.chain)) state row h (All-head Arrives (join l.chain row) [] arrive)) (All-nil Arrives)
+  chains_fit _ state row (Unlinks u) h arrive = arrive
+  chains_fit block state row (Neither none members own) h arrive =
+      subst (λ es. All Arrives (es ++ members_edges table block)) (none row ∙ sym (none state)) arrive
 
 pub fitting_states_pass : FittingStatesPass
 fitting_states_pass p table b block state row isnt h pass =
@@ -255,5 +268,7 @@ fitting_states_pass p table b block state row isnt h pass =
       each_rule = All-append Holds (value_rules p block state) (own_rules p block state)
           (by_numbers (parameters_read p (evaluated p.entities block)) state row h (All-front Holds (value_rules p block row) (own_rules p block row) pass.each_rule))
           (like.rules_hold isnt own);
-      each_edge = block_fits table p b block state row h like.after_fits own pass.each_edge;
+      each_edge = All-append (Arrives table) (edges_from b block state) (chain_edges table block state)
+          (block_fits table p b block state row h like.after_fits own (All-front (Arrives table) (edges_from b block row) (chain_edges table block row) pass.each_edge))
+          (chains_fit table block state row (chain_use block) h (All-back (Arrives table) (edges_from b block row) (chain_edges table block row) pass.each_edge));
     }

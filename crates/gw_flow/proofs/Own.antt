@@ -1,5 +1,5 @@
 -- The parameters after a block, in the numbers that were given.
-use Rattle.std.proofs.Common.{◌≡◌, ℕ, ◌<◌, List, [], ◌∷◌, Option, Some, None, option_map, Bool, true, false, if◌then◌else◌, refl, sym, ap, ◌∙◌}
+use Rattle.std.proofs.Common.{◌≡◌, ℕ, ◌<◌, List, [], ◌∷◌, ◌++◌, Option, Some, None, option_map, Bool, true, false, if◌then◌else◌, refl, sym, ap, subst, ◌∙◌}
 use Rattle.std.specs.Prelude.{All, AllPairs}
 use Rattle.std.proofs.lemmas.List.Elements.{All-nil, All-cons, All-append}
 use Rattle.gw_blocks.specs.declared.parts.Block.{Block}
@@ -18,7 +18,8 @@ use Rattle.gw_flow.specs.Entries.{with_entry}
 use Rattle.gw_flow.specs.Rows.{ParamKind, Row}
 use Rattle.gw_flow.specs.Seen.{kind_seen, params_of, known}
 use Rattle.gw_flow.specs.Flow.{own_kind, own_setting, parameters_with}
-use Rattle.gw_flow.specs.Blocks.{parameter_set, kind_set, with_setting, after, returns_read, move, is_used, known_of, edge_along, edges_along, edges_from}
+use Rattle.gw_flow.specs.Blocks.{parameter_set, kind_set, with_setting, after, returns_read, move, is_used, known_of, edge_along, edges_along, edges_from, join, joins}
+use Rattle.gw_flow.proofs.Chains.{ChainUse, Links, Unlinks, Neither, chain_use}
 use Rattle.gw_flow.proofs.Entries.{entries-in_place}
 use Rattle.gw_flow.proofs.Parameters.{after_params}
 use Rattle.gw_flow.proofs.Ordered.{in_place_ascends}
@@ -63,11 +64,21 @@ module _ (params : List (ℕ × ParamKind)) where
       (at_edge (is_used e.who) (leads_to b e.way) (known_of e.who passed) (known_params e.who passed ∙ h))
       (at_edges b es passed h)
 
--- and so at each edge of the block
+  -- and at the edge to a user chain, if there is one
+  at_join : (b : ℕ) (block : Block) (state : Row) → ChainUse block → (after b block state).params ≡ params → All Has (joins block state)
+  at_join b _ state (Links l) h = All-cons Has (join l.chain state) [] h (All-nil Has)
+  at_join b _ state (Unlinks u) h = All-nil Has
+  at_join b block state (Neither none members own) h = subst (All Has) (sym (none state)) (All-nil Has)
+
+-- and so at each edge of who enters the block
 pub own_at_edges : (rows : List ReturnRow) (b : ℕ) (block : Block) (s : StateParts) →
-    All (λ (e : FlowEdge). e.state.params ≡ params_of rows (parameters_with (own_setting b block) s.parameters)) (edges_from b block (known rows s))
+    All (λ (e : FlowEdge). e.state.params ≡ params_of rows (parameters_with (own_setting b block) s.parameters)) (edges_from b block (known rows s) ++ joins block (known rows s))
 own_at_edges rows b block s =
-    at_edges (params_of rows (parameters_with (own_setting b block) s.parameters)) b (exits_with (returns_read block (known rows s)) block) (after b block (known rows s)) (own_after rows b block s)
+    let params = params_of rows (parameters_with (own_setting b block) s.parameters) in
+    let state = known rows s in
+    All-append (Has params) (edges_from b block state) (joins block state)
+    (at_edges params b (exits_with (returns_read block state) block) (after b block state) (own_after rows b block s))
+    (at_join params b block state (chain_use block) (own_after rows b block s))
 
 -- parameters ascend once one is set, if one is
 pub with_ascends : (set : Option Parameter) (ps : List Parameter) → AllPairs (λ (a b : Parameter). a.number < b.number) ps → AllPairs (λ (a b : Parameter). a.number < b.number) (parameters_with set ps)

@@ -55,6 +55,8 @@ after_params b (blocks.Plus a) row = refl
 after_params b (blocks.Tabulate t) row = refl
 after_params b (blocks.Split s) row = refl
 after_params b (blocks.Assemble size) row = refl
+after_params b (blocks.Link l) row = refl
+after_params b (blocks.Unlink u) row = refl
 after_params b (blocks.Priority q) row = refl
 after_params b blocks.Buffer row = refl
 

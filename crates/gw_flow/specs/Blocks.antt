@@ -160,10 +160,33 @@ edge_along b passed exit = if is_used exit.who then move (leads_to b exit.way) (
 abbrev pub edges_along : ℕ → List Exit → Row → List FlowEdge
 edges_along b exits passed = flat_map (edge_along b passed) exits
 
--- the flow edges of the block of number b in a state, in order: those of most blocks are the same for every table
+-- the flow edges of the block of number b to blocks in a state, in order, of those who enter it and of their copies
 abbrev pub edges_from : ℕ → Block → Row → List FlowEdge
 edges_from b block state = edges_along b (exits_with (returns_read block state) block) (after b block state)
 
+-- a transaction joins a user chain
+abbrev pub join : ℕ → Row → FlowEdge
+join chain state = record { code = codes.chain_state; target = targets.Chain chain; state = state }
+
+-- the members of a user chain go on to a block, where a table has a row of the chain; where it has none, the chain has no members
+abbrev pub members_move : ℕ → Option Row → List FlowEdge
+members_move b None = []
+members_move b (Some members) = record (move b members) { code = codes.chain_state } ∷ []
+
+-- the flow edge of who enters a block to the user chain that it joins, if it is a LINK
+abbrev pub joins : Block → Row → List FlowEdge
+joins (blocks.Link l) state = join l.chain state ∷ []
+joins block state = []
+
+-- the flow edge of the members whom a block sends on from their user chain, if it is an UNLINK
+abbrev pub members_edges : Table → Block → List FlowEdge
+members_edges table (blocks.Unlink u) = members_move u.target (table (targets.Chain u.chain))
+members_edges table block = []
+
+-- the flow edges of a block in a state to a user chain and from one: a LINK leads to its chain, and an UNLINK sends the chain's members on
+abbrev pub chain_edges : Table → Block → Row → List FlowEdge
+chain_edges table block state = joins block state ++ members_edges table block
+
 -- the flow edges of the block of number b in a state, in order
 abbrev pub edges : Parts → Table → ℕ → Block → Row → List FlowEdge
-edges p table b block state = edges_from b block state
+edges p table b block state = edges_from b block state ++ chain_edges table block state

@@ -25,6 +25,10 @@ owns_at_end = 24
 abbrev pub edge_state : ℕ
 edge_state = 25
 
+-- what is known of a transaction doesn't fit the row of a user chain that it joins, or of the block to which it leaves one
+abbrev pub chain_state : ℕ
+chain_state = 26
+
 -- a block would use a parameter that isn't sure to hold a number
 abbrev pub param_kind : ℕ
 param_kind = 27

@@ -1,5 +1,5 @@
 -- Flow: each block's rules hold in its row of a state table, and what is known of a transaction where it goes on fits the row there.
-use Rattle.std.specs.Prelude.{◌≡◌, ◌⊎◌, ℕ, zero, suc, List, ◌++◌, map, Option, Some, None, Result, Ok, Err, Vec, Bool, false, slice_get, option_map, All}
+use Rattle.std.specs.Prelude.{◌≡◌, ◌⊎◌, ℕ, zero, suc, List, ◌++◌, map, take, Option, Some, None, Result, Ok, Err, Vec, Bool, false, slice_get, option_map, All}
 use Rattle.std.specs.Option.{option_flatten}
 use Rattle.std.specs.Global.{Global}
 use Rattle.gw_object.specs.Reading.{out_of_memory}
@@ -7,9 +7,12 @@ use Rattle.gw_object.specs.declared.fault.Fault.{Fault}
 use Rattle.gw_object.specs.declared.fault.Place.{Place}
 use Rattle.gw_object.specs.declared.fault.Place.TheVariants as places
 use Rattle.gw_blocks.specs.declared.parts.Block.{Block}
+use Rattle.gw_blocks.specs.declared.parts.Block.TheVariants as blocks
+use Rattle.gw_object.specs.declared.parts.Entity.{Entity}
 use Rattle.gw_object.specs.declared.parts.ReturnRow.{ReturnRow}
 use Rattle.gw_object.specs.declared.parts.Parts.{Parts}
 use Rattle.gw_kinds.specs.Checks.{Check, check, first_broken, numbered}
+use Rattle.gw_kinds.specs.Kinds.{for_chain}
 use Rattle.gw_flow.specs.declared.abstract_state.Parameter.{Parameter}
 use Rattle.gw_flow.specs.declared.abstract_state.ParameterKind.{ParameterKind}
 use Rattle.gw_flow.specs.declared.abstract_state.ParameterKind.TheVariants.{Num as OwnNum, RetTo as OwnRetTo}
@@ -32,13 +35,14 @@ abbrev pub row_at : List (Option Row) → ℕ → Option Row
 row_at rows zero = None
 row_at rows (suc i) = option_flatten (slice_get rows i)
 
--- the table with these rows of the blocks
-abbrev pub table_of : List (Option Row) → Table
-table_of rows (targets.Block b) = row_at rows b
+-- the table with these rows of the blocks, and these of those entities that are user chains, in order
+abbrev pub table_of : List (Option Row) → List Entity → List (Option Row) → Table
+table_of rows entities chain_rows (targets.Block b) = row_at rows b
+table_of rows entities chain_rows (targets.Chain e) = for_chain entities chain_rows e
 
 -- an object's own table
 abbrev pub own_table : Parts → Table
-own_table p = table_of (map (option_map (seen p.returns)) p.states)
+own_table p = table_of (map (option_map (seen p.returns)) p.states) p.entities (map (option_map (seen p.returns)) p.chain_states)
 
 -- the row of the block of a number in an object's own table
 abbrev pub own_row : Parts → ℕ → Option Row
@@ -46,9 +50,10 @@ own_row p b = own_table p (targets.Block b)
 
 -- CHECKS
 
--- the place of an edge of the block of number b
+-- the place of an edge of the block of number b; one to a user chain has that of an edge from the block to itself
 abbrev pub edge_place : ℕ → Target → Place
 edge_place b (targets.Block c) = places.Edge b c
+edge_place b (targets.Chain e) = places.Edge b b
 
 -- whether there is a row, and a state fits it
 abbrev pub fits_row : Row → Option Row → Bool
@@ -121,9 +126,14 @@ said_by_flow e = (e.target, e.state)
 abbrev pub SayTheSame : List ReturnRow → List Edge → List FlowEdge → Type 0
 SayTheSame rows out es = map (said rows) out ≡ map said_by_flow es
 
+-- the edges of those who enter the block, and of their copies: all but the one of the members whom an UNLINK takes from a user chain
+abbrev pub own_edges : Block → List Edge → List Edge
+own_edges (blocks.Unlink u) out = take 1 out
+own_edges block out = out
+
 -- the states of edges of the block of number b have the parameters that were given, but the one that the block sets
 abbrev pub HaveOwn : List Edge → ℕ → Block → List Parameter → Type 0
-HaveOwn out b block given = All (λ (e : Edge). e.state.parameters ≡ parameters_with (own_setting b block) given) out
+HaveOwn out b block given = All (λ (e : Edge). e.state.parameters ≡ parameters_with (own_setting b block) given) (own_edges block out)
 
 -- what a call answers for the edges of a block, by these return rows, where these are the checks of its rules: the fault of the first rule that is broken; else where each edge leads and its state, in order, unless memory ran out
 abbrev pub AnswersEdges : List ReturnRow → Result (Vec Edge Global) Fault → List Check → List FlowEdge → Type 0

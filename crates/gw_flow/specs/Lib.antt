@@ -7,5 +7,6 @@ pub mod Viewed
 pub mod Blocks
 pub mod Unfit
 pub mod Flow
+pub mod ViewedTable
 pub mod Laws
 pub mod Values

@@ -60,6 +60,15 @@ kind_said rows (TableRet r) = Ret (row_blocks rows r)
 abbrev pub params_said : List ReturnRow → List TableParameter → List (ℕ × ParamKind)
 params_said rows ps = map (λ (p : TableParameter). (p.number, kind_said rows p.kind)) ps
 
+-- what a row says that a parameter holds, as calls carry it
+abbrev pub kind_carried : TableKind → ParameterKind
+kind_carried TableNum = OwnNum
+kind_carried (TableRet r) = OwnRet r
+
+-- a row's parameter, as calls carry it
+abbrev pub parameter_carried : TableParameter → Parameter
+parameter_carried p = record { number = p.number; kind = kind_carried p.kind }
+
 -- what a row of the state table says, by the return rows
 abbrev pub seen : List ReturnRow → TableState → Row
 seen rows s = record { params = params_said rows s.parameters; facilities = s.facilities; units = units_seen s.units }

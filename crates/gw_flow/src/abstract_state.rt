@@ -1,9 +1,13 @@
 //! Abstract states, as calls carry them: what is known of a transaction, in numbers of the caller's own.
 
-ghost use Rattle.std.specs.Prelude.{◌≡◌, ◌≢◌, ◌↔◌, ◌<◌, IsTrue, Ok, IfOk, IfErr, All, AllPairs};
-ghost use Rattle.gw_flow.specs.Seen.{PartsAscend};
+ghost use Rattle.std.specs.Prelude.{◌≡◌, ◌≢◌, ◌↔◌, ◌<◌, List, map, IsTrue, Ok, IfOk, IfErr, All, AllPairs};
+ghost use Rattle.gw_object.specs.Grammar.{HeldFits, IsAscending};
+ghost use Rattle.gw_object.specs.declared.parts.ReturnRow.{ReturnRow};
+ghost use Rattle.gw_flow.specs.Seen.{PartsAscend, kind_carried, parameter_carried, known, seen};
 
-use gw_object::Items;
+use crate::lists::{amounts_seen, copy_of};
+use gw_object::{Items, Memory, TableKind, TableParameter, TableState};
+use std::alloc::Global;
 use std::marker::Model;
 
 /// What a parameter holds.
@@ -113,6 +117,33 @@ fn is_ordered(parts: &StateParts) -> bool
     numbers_ascend(parts) && amounts_are_ordered(parts.units.as_slice())
 }
 
+/// What a row of the state table says that a parameter holds, in the row's own numbers.
+fn kind_of_row(kind: TableKind) -> ParameterKind
+    ensures { result ≡ kind_carried kind }
+{
+    match kind {
+        TableKind::Num => ParameterKind::Num,
+        TableKind::Ret(row) => ParameterKind::Ret(row),
+    }
+}
+
+/// A parameter of a row of the state table, in the row's own numbers.
+fn parameter_of_row(parameter: &TableParameter) -> Parameter
+    ensures { result ≡ parameter_carried parameter.now }
+{
+    Parameter {
+        number: parameter.number,
+        kind: kind_of_row(parameter.kind),
+    }
+}
+
+/// The parameters of a row of the state table, in the row's own numbers.
+fn parameters_of_row(alloc: Global, parameters: &[TableParameter]) -> Result<Vec<Parameter>, Memory>
+    ensures { IfOk result (λ all. all.items ≡ map parameter_carried parameters.now) }
+{
+    parameters.iter().map(parameter_of_row).collect(alloc)
+}
+
 impl AbsState {
     /// The state of parts that are known to ascend.
     pub(crate) fn of(parts: StateParts) -> AbsState
@@ -120,6 +151,21 @@ impl AbsState {
         ensures { result ≡ parts }
     {
         AbsState { parts }
+    }
+
+    /// What a row of the state table says, in the row's own numbers.
+    pub(crate) fn of_row(alloc: Global, row: &TableState) -> Result<AbsState, Memory>
+        requires ascending { IsAscending row.now }
+        requires amounts { All HeldFits row.now.units }
+        ensures { IfOk result (λ state. (rows : List ReturnRow) → known rows state ≡ seen rows row.now) }
+    {
+        let parameters = parameters_of_row(alloc, row.parameters.as_slice())?;
+        let units = amounts_seen(alloc, row.units.as_slice())?;
+        Ok(AbsState::of(StateParts {
+            parameters: Items::from_vec(parameters),
+            facilities: copy_of(alloc, &row.facilities)?,
+            units: Items::from_vec(units),
+        }))
     }
 
     /// The state of these parts. Parts whose lists don't ascend strictly, or that have an amount 0, are handed back.

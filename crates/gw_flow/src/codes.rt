@@ -22,6 +22,9 @@ pub const OWNS_AT_END: u16 = 24;
 /// What is known of a transaction doesn't fit the row of the state table.
 pub const EDGE_STATE: u16 = 25;
 
+/// What is known of a transaction doesn't fit the row of a user chain that it joins, or of the block to which it leaves one.
+pub const CHAIN_STATE: u16 = 26;
+
 /// A block would use a parameter that isn't sure to hold a number.
 pub const PARAM_KIND: u16 = 27;
 
@@ -39,6 +42,7 @@ pub fn name(code: u16) -> Option<&'static str>
         TOO_FEW_UNITS => Some("TooFewUnits"),
         OWNS_AT_END => Some("OwnsAtEnd"),
         EDGE_STATE => Some("EdgeState"),
+        CHAIN_STATE => Some("ChainState"),
         PARAM_KIND => Some("ParamKind"),
         OVER_CAPACITY => Some("OverCapacity"),
         _ => None,

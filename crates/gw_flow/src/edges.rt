@@ -1,20 +1,23 @@
 //! Flow edges: where a transaction goes on to, and what is known of it there.
 
-ghost use Rattle.std.specs.Prelude.{◌≡◌, ◌≤◌, ◌<◌, List, map, option_map, IfOk, All, AllPairs};
+ghost use Rattle.std.specs.Prelude.{◌≡◌, ◌≤◌, ◌<◌, ◌++◌, List, map, option_map, option_to_list, IfOk, All, AllPairs};
 ghost use Rattle.gw_object.specs.declared.parts.ReturnRow.{ReturnRow};
 ghost use Rattle.gw_kinds.specs.Exits.{returns_to as exit_after};
 ghost use Rattle.gw_flow.specs.declared.abstract_state.Parameter.{Parameter as DeclaredParameter};
 ghost use Rattle.gw_flow.specs.Rows.{HasRoom, return_blocks};
 ghost use Rattle.gw_flow.specs.Viewed.{held_kind};
+ghost use Rattle.gw_flow.specs.ViewedTable.{table_viewed};
 ghost use Rattle.gw_flow.specs.Blocks as model;
 ghost use Rattle.gw_flow.specs.Flow.{said};
 ghost use Rattle.gw_flow.specs.Seen.{params_of};
 
 use crate::abstract_state::{AbsState, Parameter};
-use crate::codes::EDGE_STATE;
+use crate::codes::{CHAIN_STATE, EDGE_STATE};
+use crate::lists::with_last;
 use crate::lookups::Lookups;
 use crate::setting::{Setting, parameter_set};
 use crate::state::{Holds, State};
+use crate::table::StateTable;
 use gw_blocks::Block;
 use gw_kinds::{Exit, Who, exits, leads_to, returns_to};
 use gw_object::{Items, Memory};
@@ -25,6 +28,8 @@ use std::alloc::Global;
 pub enum Target {
     /// To the block of this number, from 1.
     Block(u16),
+    /// To the user chain that is the entity of this number, from 0.
+    Chain(u16),
 }
 
 /// An edge of a block.
@@ -180,8 +185,8 @@ fn exits_of_return(alloc: Global, holds: Option<Holds<'_>>) -> Result<Vec<Exit>,
     }
 }
 
-/// The edges of the block of this number in a state, in order.
-pub(crate) fn edges_of<'a>(
+/// The edges of the block of this number to blocks in a state, in order.
+fn edges_of<'a>(
     alloc: Global,
     number: u16,
     block: &Block,
@@ -199,4 +204,72 @@ pub(crate) fn edges_of<'a>(
         }
         _ => edges_along(alloc, number, &exits(block), &passed),
     }
+}
+
+/// The edge of who enters a block to the user chain that it joins, if it is a LINK.
+fn join<'a>(alloc: Global, block: &Block, state: &State<'a>) -> Result<Option<FlowEdge<'a>>, Memory>
+    ensures { IfOk result (λ edge. option_to_list edge ≡ model.joins block.now state.now) }
+{
+    match block {
+        Block::Link(link) => Ok(Some(FlowEdge {
+            code: CHAIN_STATE,
+            target: Target::Chain(link.chain),
+            state: state.copy(alloc)?,
+        })),
+        _ => Ok(None),
+    }
+}
+
+/// The edge of the members whom a block sends on from their user chain, if it is an UNLINK, and they have a row in the
+/// state table.
+fn members_move<'a>(
+    alloc: Global,
+    table: StateTable<'_, 'a>,
+    block: &Block,
+) -> Result<Option<FlowEdge<'a>>, Memory>
+    ensures { IfOk result (λ edge. option_to_list edge ≡ model.members_edges (table_viewed table.entry) block.now) }
+{
+    let Block::Unlink(unlink) = block else {
+        return Ok(None);
+    };
+    match table.row(Target::Chain(unlink.chain)) {
+        Some(members) => Ok(Some(FlowEdge {
+            code: CHAIN_STATE,
+            target: Target::Block(unlink.target),
+            state: members.copy(alloc)?,
+        })),
+        None => Ok(None),
+    }
+}
+
+/// The edges of the block of this number in a state, in order, of those who enter it and of their copies.
+pub(crate) fn own_edges_of<'a>(
+    alloc: Global,
+    number: u16,
+    block: &Block,
+    state: &State<'a>,
+) -> Result<Vec<FlowEdge<'a>>, Memory>
+    requires number { number ≤ 4096 }
+    requires room { HasRoom state.now }
+    ensures { IfOk result (λ edges. edges.items ≡ model.edges_from number block.now state.now ++ model.joins block.now state.now) }
+{
+    let edges = edges_of(alloc, number, block, state)?;
+    with_last(edges, join(alloc, block, state)?)
+}
+
+/// The edges of the block of this number in a state, in order: also that of the members of a user chain, by the state
+/// table.
+pub(crate) fn all_edges_of<'a>(
+    alloc: Global,
+    table: StateTable<'_, 'a>,
+    number: u16,
+    block: &Block,
+    state: &State<'a>,
+) -> Result<Vec<FlowEdge<'a>>, Memory>
+    requires number { number ≤ 4096 }
+    requires room { HasRoom state.now }
+    ensures { IfOk result (λ edges. edges.items ≡ model.edges_from number block.now state.now ++ model.chain_edges (table_viewed table.entry) block.now state.now) }
+{
+    let edges = own_edges_of(alloc, number, block, state)?;
+    with_last(edges, members_move(alloc, table, block)?)
 }

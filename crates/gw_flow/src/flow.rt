@@ -1,31 +1,32 @@
 //! The checks of flow, in order.
 
-ghost use Rattle.std.specs.Prelude.{◌≡◌, ◌<◌, ◌≤◌, Some, IfOk, IfSome, IsSome, All, AllPairs, List, map, length, option_copied, [], ◌∷◌};
+ghost use Rattle.std.specs.Prelude.{◌≡◌, ◌<◌, ◌≤◌, ◌++◌, Some, IfOk, IfSome, IsSome, All, AllPairs, List, map, length, option_copied, option_to_list, [], ◌∷◌};
 ghost use Rattle.gw_blocks.specs.declared.parts.Block.{Block};
 ghost use Rattle.gw_kinds.specs.Checks.{Finds, first_broken};
-ghost use Rattle.gw_object.specs.Grammar.{AreAscending};
+ghost use Rattle.gw_object.specs.Grammar.{AreAscending, IsAscending, StateFits, HasSpelling};
 ghost use Rattle.gw_object.specs.declared.parts.ReturnRow.{ReturnRow as DeclaredReturnRow};
 ghost use Rattle.gw_kinds.specs.Kinds.{block_at};
 ghost use Rattle.gw_kinds.specs.Pass.{KindsPass};
 ghost use Rattle.gw_flow.specs.declared.abstract_state.Parameter.{Parameter as DeclaredParameter};
 ghost use Rattle.gw_flow.specs.Rows.{HasRoom};
-ghost use Rattle.gw_flow.specs.Blocks.{edges_from, edges};
+ghost use Rattle.gw_flow.specs.Blocks.{edges_from, joins, members_edges, chain_edges, edges};
 ghost use Rattle.gw_flow.specs.Flow as model;
-ghost use Rattle.gw_flow.specs.Flow.{FindsOrLacksMemory, SayTheSame, HaveOwn, AnswersEdges, table_of};
+ghost use Rattle.gw_flow.specs.Flow.{FindsOrLacksMemory, SayTheSame, HaveOwn, AnswersEdges};
 ghost use Rattle.gw_flow.specs.Seen.{known, params_of};
+ghost use Rattle.gw_flow.specs.ViewedTable.{table_viewed};
 ghost use Rattle.gw_flow.specs.declared.edges.Edge.{Edge as DeclaredEdge};
 ghost use Rattle.gw_flow.specs.declared.edges.FlowEdge.{FlowEdge as DeclaredFlowEdge};
 
 use crate::abstract_state::{AbsState, Parameter};
-use crate::edges::{Edge, FlowEdge, Target, edges_of};
-use crate::lists::{copy_of, in_place};
+use crate::edges::{Edge, FlowEdge, Target, all_edges_of, own_edges_of};
+use crate::lists::{copy_of, in_place, with_last};
 use crate::lookups::Carried;
 use crate::rules::{check_rules, check_without_row};
 use crate::setting::own_setting;
 use crate::state::State;
-use crate::table::own_rows;
+use crate::table::{StateTable, rows_of};
 use gw_blocks::Block;
-use gw_kinds::check;
+use gw_kinds::{chain_row, check};
 use gw_object::codes::MEMORY;
 use gw_object::{Fault, Items, Memory, Object, Parts, Place, ReturnRow};
 use std::alloc::{AllocError, Global};
@@ -35,16 +36,6 @@ const OUT_OF_MEMORY: Fault = Fault {
     code: MEMORY,
     place: Place::Nowhere,
 };
-
-/// The row of the block of this number, from 1.
-fn row_at<'r, 'a>(rows: &'r [Option<State<'a>>], number: u16) -> Option<&'r State<'a>>
-    ensures { option_copied result ≡ model.row_at rows.now number }
-{
-    if number == 0 {
-        return None;
-    }
-    rows.get(number as usize - 1)?.as_ref()
-}
 
 /// Whether there is a row, and a state fits it.
 fn fits_row(state: &State<'_>, row: Option<&State<'_>>) -> bool
@@ -56,24 +47,30 @@ fn fits_row(state: &State<'_>, row: Option<&State<'_>>) -> bool
     }
 }
 
-/// Whether where an edge of the block of this number leads there is a row that its state fits; else its fault.
-fn check_edge(rows: &[Option<State<'_>>], number: u16, edge: &FlowEdge<'_>) -> Result<(), Fault>
-    ensures { Finds result (model.edge_check (table_of rows.now) number edge.now ∷ []) }
+/// The place of an edge of the block of this number; one to a user chain has that of an edge from the block to itself.
+fn edge_place(number: u16, target: Target) -> Place
+    ensures { result ≡ model.edge_place number target }
 {
-    let Target::Block(target) = edge.target;
-    check(
-        edge.code,
-        Place::Edge(number, target),
-        fits_row(&edge.state, row_at(rows, target)),
-    )
+    match target {
+        Target::Block(to) => Place::Edge(number, to),
+        Target::Chain(_) => Place::Edge(number, number),
+    }
+}
+
+/// Whether where an edge of the block of this number leads there is a row that its state fits; else its fault.
+fn check_edge(table: StateTable<'_, '_>, number: u16, edge: &FlowEdge<'_>) -> Result<(), Fault>
+    ensures { Finds result (model.edge_check (table_viewed table.entry) number edge.now ∷ []) }
+{
+    let fits = fits_row(&edge.state, table.row(edge.target));
+    check(edge.code, edge_place(number, edge.target), fits)
 }
 
 /// The first of these edges of the block of this number that is at fault, if there is one.
-fn check_edges(rows: &[Option<State<'_>>], number: u16, edges: &[FlowEdge<'_>]) -> Result<(), Fault>
-    ensures { Finds result (map (model.edge_check (table_of rows.now) number) edges.now) }
+fn check_edges(table: StateTable<'_, '_>, number: u16, edges: &[FlowEdge<'_>]) -> Result<(), Fault>
+    ensures { Finds result (map (model.edge_check (table_viewed table.entry) number) edges.now) }
 {
     for edge in edges {
-        check_edge(rows, number, edge)?;
+        check_edge(table, number, edge)?;
     }
     Ok(())
 }
@@ -81,17 +78,17 @@ fn check_edges(rows: &[Option<State<'_>>], number: u16, edges: &[FlowEdge<'_>]) 
 /// The first fault of the edges of the block of this number in a state, if there is one.
 fn check_edges_in(
     alloc: Global,
-    rows: &[Option<State<'_>>],
+    table: StateTable<'_, '_>,
     number: u16,
     block: &Block,
     state: &State<'_>,
 ) -> Result<(), Fault>
     requires number { number ≤ 4096 }
     requires room { HasRoom state.now }
-    ensures { FindsOrLacksMemory result (map (model.edge_check (table_of rows.now) number) (edges_from number block.now state.now)) }
+    ensures { FindsOrLacksMemory result (map (model.edge_check (table_viewed table.entry) number) (edges_from number block.now state.now ++ chain_edges (table_viewed table.entry) block.now state.now)) }
 {
-    match edges_of(alloc, number, block, state) {
-        Ok(edges) => check_edges(rows, number, &edges),
+    match all_edges_of(alloc, table, number, block, state) {
+        Ok(edges) => check_edges(table, number, &edges),
         Err(AllocError) => Err(OUT_OF_MEMORY),
     }
 }
@@ -100,47 +97,47 @@ fn check_edges_in(
 fn check_in(
     alloc: Global,
     parts: &Parts,
-    rows: &[Option<State<'_>>],
+    table: StateTable<'_, '_>,
     number: u16,
     block: &Block,
     state: &State<'_>,
 ) -> Result<(), Fault>
     requires number { number ≤ 4096 }
     requires room { HasRoom state.now }
-    ensures { FindsOrLacksMemory result (model.checks_in parts.now (table_of rows.now) number block.now (Some state.now)) }
+    ensures { FindsOrLacksMemory result (model.checks_in parts.now (table_viewed table.entry) number block.now (Some state.now)) }
 {
     check_rules(parts, number, block, state)?;
-    check_edges_in(alloc, rows, number, block, state)
+    check_edges_in(alloc, table, number, block, state)
 }
 
 /// The first fault of the block of this number in its row of a table, if there is one.
 fn check_block(
     alloc: Global,
     parts: &Parts,
-    rows: &[Option<State<'_>>],
+    table: StateTable<'_, '_>,
     number: u16,
     block: &Block,
 ) -> Result<(), Fault>
     requires number { number ≤ 4096 }
-    requires room { All (λ row. IfSome row HasRoom) rows.now }
-    ensures { FindsOrLacksMemory result (model.checks_at parts.now (table_of rows.now) number block.now) }
+    requires room { All (λ row. IfSome row HasRoom) table.blocks.now }
+    ensures { FindsOrLacksMemory result (model.checks_at parts.now (table_viewed table.entry) number block.now) }
 {
-    match row_at(rows, number) {
-        Some(state) => check_in(alloc, parts, rows, number, block, state),
+    match table.row(Target::Block(number)) {
+        Some(state) => check_in(alloc, parts, table, number, block, state),
         None => check_without_row(parts, number, block),
     }
 }
 
 /// The first fault of the blocks with this table, if there is one.
 #[tactic(auto, unfolding(crate::specs::Flow::flow_checks))]
-fn check_blocks(alloc: Global, parts: &Parts, rows: &[Option<State<'_>>]) -> Result<(), Fault>
+fn check_blocks(alloc: Global, parts: &Parts, table: StateTable<'_, '_>) -> Result<(), Fault>
     requires few { length parts.now.blocks ≤ 4096 }
-    requires room { All (λ row. IfSome row HasRoom) rows.now }
-    ensures { FindsOrLacksMemory result (model.flow_checks parts.now (table_of rows.now)) }
+    requires room { All (λ row. IfSome row HasRoom) table.blocks.now }
+    ensures { FindsOrLacksMemory result (model.flow_checks parts.now (table_viewed table.entry)) }
 {
     let blocks = parts.blocks.as_slice();
     for i in 0..blocks.len() {
-        check_block(alloc, parts, rows, (i + 1) as u16, &blocks[i])?;
+        check_block(alloc, parts, table, (i + 1) as u16, &blocks[i])?;
     }
     Ok(())
 }
@@ -179,7 +176,7 @@ fn in_numbers_of(
     Ok(out)
 }
 
-/// The edges of the block of this number in a state, in its own numbers.
+/// The edges of the block of this number in a state, in its own numbers, of those who enter it and of their copies.
 fn own_edges(
     alloc: Global,
     returns: &[ReturnRow],
@@ -190,14 +187,51 @@ fn own_edges(
     requires number { number ≤ 4096 }
     requires returns { All AreAscending returns.now }
     requires room { HasRoom (known returns.now state.now) }
-    ensures same { IfOk result (λ out. SayTheSame returns.now out.items (edges_from number block.now (known returns.now state.now))) }
-    ensures own { IfOk result (λ out. HaveOwn out.items number block.now state.now.parameters) }
+    ensures same { IfOk result (λ out. SayTheSame returns.now out.items (edges_from number block.now (known returns.now state.now) ++ joins block.now (known returns.now state.now))) }
+    ensures own { IfOk result (λ out. All (λ (e : DeclaredEdge). e.state.parameters ≡ model.parameters_with (model.own_setting number block.now) state.now.parameters) out.items) }
 {
     let seen = State::of(alloc, returns, state)?;
-    let edges = edges_of(alloc, number, block, &seen)?;
+    let edges = own_edges_of(alloc, number, block, &seen)?;
     let set = own_setting(number, block);
     let parameters = parameters_with(alloc, set, &state.parts().parameters)?;
     in_numbers_of(alloc, &edges, &parameters)
+}
+
+/// The edge of the members whom a block sends on from their user chain, in the numbers of their row of the state table, if
+/// it is an UNLINK, and they have a row.
+fn members_move(alloc: Global, parts: &Parts, block: &Block) -> Result<Option<Edge>, Memory>
+    requires limits { All (λ row. IfSome row StateFits) parts.now.chain_states }
+    requires ascending { All (λ row. IfSome row IsAscending) parts.now.chain_states }
+    ensures { IfOk result (λ edge. SayTheSame parts.now.returns (option_to_list edge) (members_edges (model.own_table parts.now) block.now)) }
+{
+    let Block::Unlink(unlink) = block else {
+        return Ok(None);
+    };
+    match chain_row(parts, unlink.chain) {
+        Some(row) => Ok(Some(Edge {
+            target: Target::Block(unlink.target),
+            state: AbsState::of_row(alloc, row)?,
+        })),
+        None => Ok(None),
+    }
+}
+
+/// The edges of the block of this number in a state, in its own numbers: also that of the members of a user chain.
+fn all_edges(
+    alloc: Global,
+    parts: &Parts,
+    number: u16,
+    block: &Block,
+    state: &AbsState,
+) -> Result<Vec<Edge>, Memory>
+    requires number { number ≤ 4096 }
+    requires spelled { HasSpelling parts.now }
+    requires room { HasRoom (known parts.now.returns state.now) }
+    ensures same { IfOk result (λ out. SayTheSame parts.now.returns out.items (edges parts.now (model.own_table parts.now) number block.now (known parts.now.returns state.now))) }
+    ensures own { IfOk result (λ out. HaveOwn out.items number block.now state.now.parameters) }
+{
+    let edges = own_edges(alloc, parts.returns.as_slice(), number, block, state)?;
+    with_last(edges, members_move(alloc, parts, block)?)
 }
 
 /// The fault of the first rule of the block of this number that is broken in a state, if there is one.
@@ -218,13 +252,13 @@ fn edges_or_fault(
     state: &AbsState,
 ) -> Result<Vec<Edge>, Fault>
     requires number { number ≤ 4096 }
-    requires returns { All AreAscending parts.now.returns }
+    requires spelled { HasSpelling parts.now }
     requires room { HasRoom (known parts.now.returns state.now) }
-    ensures edges { AnswersEdges parts.now.returns result (model.rule_checks parts.now number block.now (known parts.now.returns state.now)) (edges_from number block.now (known parts.now.returns state.now)) }
+    ensures edges { AnswersEdges parts.now.returns result (model.rule_checks parts.now number block.now (known parts.now.returns state.now)) (edges parts.now (model.own_table parts.now) number block.now (known parts.now.returns state.now)) }
     ensures own { IfOk result (λ out. HaveOwn out.items number block.now state.now.parameters) }
 {
     check_rules_in(parts, number, block, state)?;
-    match own_edges(alloc, parts.returns.as_slice(), number, block, state) {
+    match all_edges(alloc, parts, number, block, state) {
         Ok(edges) => Ok(edges),
         Err(AllocError) => Err(OUT_OF_MEMORY),
     }
@@ -236,7 +270,11 @@ fn edges_or_fault(
 /// broken in that state: first 20 UnsetParam or 27 ParamKind of a parameter that its values ask for, through procedures,
 /// variables and functions too; then 21 AlreadyOwned, 22 NotOwner, 23 TooFewUnits, 24 OwnsAtEnd, 25 EdgeState for a
 /// GENERATE, 28 OverCapacity, or 20 and 27 of a parameter that it changes or goes by (ours: docs/refusals.md); or 8 Memory
-/// at Nowhere where memory runs out.
+/// at Nowhere where memory runs out. No edge is compared with a row here: 25 EdgeState of an edge and 26 ChainState are
+/// [`check_flow`]'s.
+///
+/// A LINK has one edge, to its user chain. An UNLINK has a second one where the object has a row of its user chain: that of
+/// the chain's members to its target, with the parameters of that row in the object's own numbers.
 pub fn out_edges(
     alloc: Global,
     object: &Object,
@@ -257,15 +295,23 @@ pub fn out_edges(
 /// Accepts an object exactly where flow holds of it and its own state table: each GENERATE has a row, the rules of each
 /// block with a row hold in it, and what is known of a transaction where it goes on to fits the row there. Else the first
 /// fault: the blocks in ascending order, and of one block its rules and then its edges in order: 20 UnsetParam,
-/// 21 AlreadyOwned, 22 NotOwner, 23 TooFewUnits, 24 OwnsAtEnd, 25 EdgeState, 27 ParamKind, 28 OverCapacity (ours:
+/// 21 AlreadyOwned, 22 NotOwner, 23 TooFewUnits, 24 OwnsAtEnd, 25 EdgeState, 26 ChainState of a LINK's edge to its user
+/// chain and of the edge on which an UNLINK sends the chain's members, 27 ParamKind, 28 OverCapacity (ours:
 /// docs/refusals.md); or 8 Memory at Nowhere where memory runs out. Kinds have to pass before.
 pub fn check_flow(alloc: Global, object: &Object) -> Result<(), Fault>
     requires kinds { KindsPass object.now }
     ensures { FindsOrLacksMemory result (model.flow_checks object.now (model.own_table object.now)) }
 {
     let parts = object.parts();
-    match own_rows(alloc, parts.returns.as_slice(), parts.states.as_slice()) {
-        Ok(rows) => check_blocks(alloc, parts, &rows),
+    match rows_of(alloc, parts) {
+        Ok((blocks, chains)) => {
+            let table = StateTable {
+                blocks: &blocks,
+                entities: parts.entities.as_slice(),
+                chains: &chains,
+            };
+            check_blocks(alloc, parts, table)
+        }
         Err(AllocError) => Err(OUT_OF_MEMORY),
     }
 }

@@ -1,6 +1,6 @@
 //! The lists of abstract states.
 
-ghost use Rattle.std.specs.Prelude.{◌≡◌, ◌≤◌, ◌^◌, ℕ, ◌==◌, IfOk, All};
+ghost use Rattle.std.specs.Prelude.{◌≡◌, ◌≤◌, ◌^◌, ℕ, ◌==◌, ◌++◌, option_to_list, IfOk, All};
 ghost use Rattle.std.specs.List.{find};
 ghost use Rattle.gw_flow.specs.Entries as entries;
 ghost use Rattle.gw_flow.specs.Rows as rows;
@@ -17,6 +17,20 @@ pub(crate) fn copy_of<T: Copy>(alloc: Global, items: &Items<T>) -> Result<Items<
 {
     let copy = Vec::from_slice(alloc, items.as_slice())?;
     Ok(Items::from_vec(copy))
+}
+
+/// A list with one more element behind it, if there is one.
+pub(crate) fn with_last<T: Drop>(items: Vec<T>, last: Option<T>) -> Result<Vec<T>, Memory>
+    ensures { IfOk result (λ all. all.items ≡ items.items ++ option_to_list last) }
+{
+    let mut all = items;
+    match last {
+        Some(item) => {
+            all.push(item)?;
+            Ok(all)
+        }
+        None => Ok(all),
+    }
 }
 
 /// The amounts of a row of the state table.

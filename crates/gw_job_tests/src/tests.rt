@@ -17,6 +17,7 @@ use std::process::Abort;
 use std::test::Fail;
 
 mod arrivals;
+mod chains;
 mod conditions;
 mod copies;
 mod crowds;
@@ -362,7 +363,9 @@ fn parts_with(
         blocks: Items::from_vec(Vec::from_slice(alloc, blocks)?),
         returns,
         states,
+        chain_states: Items::from_vec(Vec::new(alloc)),
         weights: Items::from_vec(vec![in alloc; 1u32; blocks.len()]?),
+        chain_weights: Items::from_vec(Vec::new(alloc)),
     })
 }
 

@@ -6,8 +6,7 @@ use Rattle.std.specs.Option.{IsSome}
 use Rattle.std.proofs.lemmas.List.Elements.{All-nil, All-cons, All-head, All-tail}
 use Rattle.gw_blocks.specs.declared.parts.Block.{Block}
 use Rattle.gw_object.specs.declared.parts.Parts.{Parts}
-use Rattle.gw_kinds.specs.declared.ways.Exit.{Exit}
-use Rattle.gw_kinds.specs.Exits.{exits}
+use Rattle.gw_kinds.specs.Exits.{ways}
 use Rattle.gw_kinds.specs.Evaluated.{values}
 use Rattle.gw_kinds.specs.Kinds.{is_none_or, entity_of, own_entity, block_at, number_of, block_of}
 use Rattle.gw_kinds.specs.Laws.{IsEntity, BlockHolds}
@@ -44,4 +43,4 @@ entities_of_values p b block h =
 pub blocks_of_values : (p : Parts) (b : ℕ) (block : Block) → BlockHolds p b block → All (λ value. IfSome (block_of value) (λ named. IsSome (block_at p.blocks named))) (values block)
 blocks_of_values p b block h =
     let IsThere : ℕ → Type 0 = λ named. IsSome (block_at p.blocks named) in
-    each_names IsThere block_of (values block) (later_hold IsThere (filter_map (λ (exit : Exit). number_of exit.way) (exits block)) (filter_map block_of (values block)) h.blocks)
+    each_names IsThere block_of (values block) (later_hold IsThere (filter_map number_of (ways block)) (filter_map block_of (values block)) h.blocks)

@@ -1,13 +1,15 @@
 -- What kinds are where their checks hold.
-use Rattle.std.proofs.Common.{◌≡◌, ℕ, zero, suc, ◌<◌, List, [], ◌∷◌, ◌++◌, map, length, Option, Some, None, Bool, true, false, not, nat_lt, if◌then◌else◌, ◌+◌, refl, sym, ap, ◌∙◌, arith}
-use Rattle.std.specs.Prelude.{◌&&◌, is_some, filter_map, IfSome, IsTrue}
+use Rattle.std.proofs.Common.{◌≡◌, ℕ, zero, suc, ◌<◌, List, [], ◌∷◌, ◌++◌, map, length, Option, Some, None, Bool, true, false, not, nat_lt, if◌then◌else◌, refl, sym, ap, subst, ◌∙◌, arith}
+use Rattle.std.specs.Prelude.{◌&&◌, is_some, filter_map, option_to_list, IfSome, IsTrue}
 use Rattle.std.specs.List.{All, list_all, cons_option}
 use Rattle.std.specs.Option.{IsSome, IsSomeAnd}
 use Rattle.std.proofs.lemmas.Bool.{and_parts, and_from, ltb-true, lt-ltb}
 use Rattle.std.proofs.lemmas.List.Elements.{All-nil, All-cons, All-head, All-tail}
-use Rattle.std.proofs.lemmas.List.Folds.{list_all-append, list_all-map}
+use Rattle.std.proofs.lemmas.List.Folds.{list_all-append}
 use Rattle.std.proofs.lemmas.List.Sums.{AllPass-from_list_all, list_all-from_AllPass}
+use Rattle.gw_object.specs.declared.fault.Place.{Place}
 use Rattle.gw_object.specs.declared.fault.Place.TheVariants as places
+use Rattle.gw_object.specs.Entities.{is_chain}
 use Rattle.gw_code.specs.declared.parts.Instruction.{Instruction}
 use Rattle.gw_code.specs.declared.parts.Procedure.{Procedure}
 use Rattle.gw_object.specs.declared.parts.Entity.{Entity}
@@ -21,11 +23,11 @@ use Rattle.gw_kinds.specs.declared.ways.Way.TheVariants.{Falls, Goes}
 use Rattle.gw_kinds.specs.declared.ways.Exit.{Exit}
 use Rattle.gw_kinds.specs.Checks.{Check, numbered}
 use Rattle.gw_kinds.specs.Evaluated.{operand_of, values}
-use Rattle.gw_kinds.specs.Exits.{leads_to, exits, is_call, comes_back, ways}
-use Rattle.gw_kinds.specs.Kinds.{is_none_or, named_entities, named_procedures, entities_of_row, names_no_other_kind, are_there, is_no_other_kind, is_there, takes_no_arguments, is_procedure, is_block, block_at, is_generate, number_of, block_of, named_blocks, has_named_blocks, leads_to_no_generate, stays_inside, is_call_at, return_rows_of, has_return_rows, names_well, has_plain_argument, has_plain_half, entity_checks, naming_checks, exit_checks, constant_checks, return_checks, row_checks, block_checks}
+use Rattle.gw_kinds.specs.Exits.{leads_to, exits, other_way, ways}
+use Rattle.gw_kinds.specs.Kinds.{is_none_or, named_entities, named_procedures, entities_of_row, names_no_other_kind, are_there, is_no_other_kind, is_there, takes_no_arguments, is_procedure, is_block, block_at, is_generate, number_of, block_of, named_blocks, has_named_blocks, leads_to_no_generate, stays_inside, is_call_at, return_rows_of, has_return_rows, names_well, has_plain_argument, has_plain_half, entity_checks, naming_checks, exit_checks, constant_checks, return_checks, row_checks, chain_row, chain_checks, block_checks}
 use Rattle.gw_kinds.specs.Procedures.{entity_in, procedure_in, block_in, draws_nothing, instruction_checks, procedure_checks}
-use Rattle.gw_kinds.specs.Pass.{row_and_block_checks, return_and_later_checks, procedure_and_later_checks, kinds_checks}
-use Rattle.gw_kinds.specs.Laws.{IsEntity, MayBeEntered, TakesNoArguments, EntityHolds, InstructionHolds, ProcedureHolds, ReturnsHold, RowHolds, BlockHolds, KindsPassAtEachPlace}
+use Rattle.gw_kinds.specs.Pass.{chain_and_block_checks, row_and_later_checks, return_and_later_checks, procedure_and_later_checks, kinds_checks}
+use Rattle.gw_kinds.specs.Laws.{IsEntity, MayBeEntered, TakesNoArguments, EntityHolds, InstructionHolds, ProcedureHolds, ReturnsHold, RowHolds, ChainHolds, BlockHolds, KindsPassAtEachPlace}
 use Rattle.gw_kinds.proofs.Each.{Hold, at_number, first_and_others, first_with_others, parts_hold, hold_together, each_holds, all_hold, each_has, from_each}
 use Rattle.gw_kinds.proofs.NamedHold.{if_any, tests_any, one_is, one_passes, each_is, each_passes, is_entity, from_entity, takes_none, from_takes_none, operand_if, passes_if}
 
@@ -64,16 +66,16 @@ from_rows : (n : ℕ) (rs : List ℕ) → All (λ r. r < n) rs → list_all (λ 
 from_rows n [] h = refl
 from_rows n (r ∷ rs) h = and_from _ _ (lt-ltb r n (All-head (λ r. r < n) r rs h)) (from_rows n rs (All-tail (λ r. r < n) r rs h))
 
-row_from_checks : (p : Parts) (b : ℕ) (row : Option TableState) → Hold (row_checks p (places.Block b) row) → IfSome row (RowHolds p)
-row_from_checks p b None h = tt
-row_from_checks p b (Some row) h =
+row_from_checks : (p : Parts) (place : Place) (row : Option TableState) → Hold (row_checks p place row) → IfSome row (RowHolds p)
+row_from_checks p place None h = tt
+row_from_checks p place (Some row) h =
     let right = first_and_others _ _ _ h in
     let there = and_parts (are_there p.entities (entities_of_row row)) (has_return_rows p.returns row) (first_and_others _ _ _ right.1).0 in
     record { entities = entities p.entities (entities_of_row row) right.0 there.0; returns = rows_there (length p.returns) (return_rows_of row) there.1 }
 
-checks_from_row : (p : Parts) (b : ℕ) (row : Option TableState) → IfSome row (RowHolds p) → Hold (row_checks p (places.Block b) row)
-checks_from_row p b None h = refl
-checks_from_row p b (Some row) h =
+checks_from_row : (p : Parts) (place : Place) (row : Option TableState) → IfSome row (RowHolds p) → Hold (row_checks p place row)
+checks_from_row p place None h = refl
+checks_from_row p place (Some row) h =
     let two = from_entities p.entities (entities_of_row row) h.entities in
     first_with_others _ _ _ two.0 (first_with_others _ _ _ (and_from _ _ two.1 (from_rows (length p.returns) (return_rows_of row) h.returns)) refl)
 
@@ -99,8 +101,11 @@ from_enterable None h = absurd h
 from_enterable (Some block) h = (refl, ap not h)
 
 module _ (p : Parts) (b : ℕ) where
+  abbrev Goes_on : Way → Type 0
+  Goes_on way = MayBeEntered p (leads_to b way)
+
   abbrev Leads : Exit → Type 0
-  Leads exit = MayBeEntered p (leads_to b exit.way)
+  Leads exit = Goes_on exit.way
 
   abbrev are_blocks : List ℕ → Bool
   are_blocks targets = list_all (λ target. is_some (block_at p.blocks target)) targets
@@ -114,53 +119,38 @@ module _ (p : Parts) (b : ℕ) where
   from_way Falls there = there
   from_way (Goes target) there = refl
 
-  -- the tests of exits: the blocks that they name, that none is a GENERATE, and that none falls off
-  abbrev named : List Exit → Bool
-  named es = are_blocks (filter_map (λ (exit : Exit). number_of exit.way) es)
+  -- the tests of ways: that none leads to a GENERATE, and that none falls off
+  abbrev no_generate : List Way → Bool
+  no_generate ws = list_all (leads_to_no_generate p.blocks b) ws
 
-  abbrev no_generate : List Exit → Bool
-  no_generate es = list_all (λ (exit : Exit). not (is_generate (block_at p.blocks (leads_to b exit.way)))) es
+  abbrev inside : List Way → Bool
+  inside ws = list_all (stays_inside p.blocks b) ws
 
-  abbrev inside : List Exit → Bool
-  inside es = list_all (λ (exit : Exit). stays_inside p.blocks b exit.way) es
+  lead_on : (ws : List Way) → are_blocks (filter_map number_of ws) ≡ true → no_generate ws ≡ true → inside ws ≡ true → All Goes_on ws
+  lead_on [] n g i = All-nil Goes_on
+  lead_on (w ∷ ws) n g i =
+      let g' = and_parts (leads_to_no_generate p.blocks b w) (no_generate ws) g in
+      let i' = and_parts (stays_inside p.blocks b w) (inside ws) i in
+      let there = way_there w (filter_map number_of ws) n i'.0 in
+      All-cons Goes_on w ws (enterable (block_at p.blocks (leads_to b w)) there.0 g'.0) (lead_on ws there.1 g'.1 i'.1)
 
-  lead_on : (es : List Exit) → named es ≡ true → no_generate es ≡ true → inside es ≡ true → All Leads es
-  lead_on [] n g i = All-nil Leads
-  lead_on (e ∷ es) n g i =
-      let g' = and_parts _ (no_generate es) g in
-      let i' = and_parts (stays_inside p.blocks b e.way) (inside es) i in
-      let there = way_there e.way (filter_map (λ (exit : Exit). number_of exit.way) es) n i'.0 in
-      All-cons Leads e es (enterable (block_at p.blocks (leads_to b e.way)) there.0 g'.0) (lead_on es there.1 g'.1 i'.1)
-
-  from_leads : (es : List Exit) → All Leads es → (no_generate es ≡ true) × (inside es ≡ true)
+  from_leads : (ws : List Way) → All Goes_on ws → (no_generate ws ≡ true) × (inside ws ≡ true)
   from_leads [] h = (refl, refl)
-  from_leads (e ∷ es) h =
-      let one = from_enterable (block_at p.blocks (leads_to b e.way)) (All-head Leads e es h) in
-      let others = from_leads es (All-tail Leads e es h) in
-      (and_from _ _ one.1 others.0, and_from _ _ (from_way e.way one.0) others.1)
+  from_leads (w ∷ ws) h =
+      let one = from_enterable (block_at p.blocks (leads_to b w)) (All-head Goes_on w ws h) in
+      let others = from_leads ws (All-tail Goes_on w ws h) in
+      (and_from _ _ one.1 others.0, and_from _ _ (from_way w one.0) others.1)
 
-  -- the same of the way on once a subroutine comes back, which is to the next block
-  abbrev Goes_on : Way → Type 0
-  Goes_on way = MayBeEntered p (leads_to b way)
+  -- the ways of exits and other ways, apart
+  apart : (es : List Exit) (others : List Way) → All Goes_on (map (λ (exit : Exit). exit.way) es ++ others) → All Leads es × All Goes_on others
+  apart [] others h = (All-nil Leads, h)
+  apart (e ∷ es) others h =
+      let rest = apart es others (All-tail Goes_on e.way (map (λ (exit : Exit). exit.way) es ++ others) h) in
+      (All-cons Leads e es (All-head Goes_on e.way (map (λ (exit : Exit). exit.way) es ++ others) h) rest.0, rest.1)
 
-  abbrev back_of : Bool → List Way
-  back_of call = if call then Falls ∷ [] else []
-
-  leads_back : (call : Bool) → list_all (leads_to_no_generate p.blocks b) (back_of call) ≡ true → list_all (stays_inside p.blocks b) (back_of call) ≡ true → All Goes_on (back_of call)
-  leads_back false g i = All-nil Goes_on
-  leads_back true g i = All-cons Goes_on Falls [] (enterable (block_at p.blocks (b + 1)) (and_parts _ true i).0 (and_parts _ true g).0) (All-nil Goes_on)
-
-  from_back : (call : Bool) → All Goes_on (back_of call) → (list_all (leads_to_no_generate p.blocks b) (back_of call) ≡ true) × (list_all (stays_inside p.blocks b) (back_of call) ≡ true)
-  from_back false h = (refl, refl)
-  from_back true h =
-      let two = from_enterable (block_at p.blocks (b + 1)) (All-head Goes_on Falls [] h) in
-      (and_from _ true two.1 refl, and_from _ true two.0 refl)
-
--- a test of all ways on from a block: of those of its exits, and of the one once a subroutine comes back
-of_ways : (test : Way → Bool) (block : Block) → list_all test (ways block) ≡ (list_all (λ (exit : Exit). test exit.way) (exits block) && list_all test (comes_back block))
-of_ways test block =
-    let on = λ (exit : Exit). exit.way in
-    list_all-append test (map on (exits block)) (comes_back block) ∙ ap (λ so. so && list_all test (comes_back block)) (list_all-map test on (exits block))
+  together : (es : List Exit) (others : List Way) → All Leads es → All Goes_on others → All Goes_on (map (λ (exit : Exit). exit.way) es ++ others)
+  together [] others h k = k
+  together (e ∷ es) others h k = All-cons Goes_on e.way (map (λ (exit : Exit). exit.way) es ++ others) (All-head Leads e es h) (together es others (All-tail Leads e es h) k)
 
 -- PROCEDURES
 
@@ -193,12 +183,8 @@ checks_from_procedure p n pr h = from_each (instruction_checks p n pr.locals) (I
 
 -- THE BLOCK
 
--- the blocks to which a block sends transactions
-abbrev targets : Block → List ℕ
-targets block = filter_map (λ (exit : Exit). number_of exit.way) (exits block)
-
-targets_there : (p : Parts) (block : Block) → has_named_blocks p.blocks block ≡ true → list_all (is_block p.blocks) (targets block) ≡ true
-targets_there p block h = (and_parts _ _ (sym (list_all-append (is_block p.blocks) (targets block) (filter_map block_of (values block))) ∙ h)).0
+targets_there : (p : Parts) (block : Block) → has_named_blocks p.blocks block ≡ true → list_all (is_block p.blocks) (filter_map number_of (ways block)) ≡ true
+targets_there p block h = (and_parts _ _ (sym (list_all-append (is_block p.blocks) (filter_map number_of (ways block)) (filter_map block_of (values block))) ∙ h)).0
 
 -- the entities and the procedures that a block names, and half the range of its time
 abbrev NamingHolds : Parts → Block → Type 0
@@ -228,26 +214,24 @@ block_from_checks p b block h =
     let naming = naming_from_checks p b block two.0 in
     let named = first_and_others _ _ _ three.0 in
     let enters = first_and_others _ _ _ named.1 in
-    let no_generate = and_parts (no_generate p b (exits block)) (list_all (leads_to_no_generate p.blocks b) (comes_back block)) (sym (of_ways (leads_to_no_generate p.blocks b) block) ∙ enters.0) in
-    let inside = and_parts (inside p b (exits block)) (list_all (stays_inside p.blocks b) (comes_back block)) (sym (of_ways (stays_inside p.blocks b) block) ∙ (first_and_others _ _ _ enters.1).0) in
+    let on = apart p b (exits block) (option_to_list (other_way block)) (lead_on p b (ways block) (targets_there p block named.0) enters.0 (first_and_others _ _ _ enters.1).0) in
     record {
       entities = naming.0;
       procedures = naming.1;
       half = naming.2;
       blocks = AllPass-from_list_all (is_block p.blocks) (named_blocks block) named.0;
-      exits = lead_on p b (exits block) (targets_there p block named.0) no_generate.0 inside.0;
-      back = leads_back p b (is_call block) no_generate.1 inside.1;
+      exits = on.0;
+      others = on.1;
       constants = (first_and_others _ _ _ three.1).0;
     }
 
 checks_from_block : (p : Parts) (b : ℕ) (block : Block) → BlockHolds p b block → Hold (block_checks p b block)
 checks_from_block p b block h =
-    let e = from_leads p b (exits block) h.exits in
-    let back = from_back p b (is_call block) h.back in
+    let on = from_leads p b (ways block) (together p b (exits block) (option_to_list (other_way block)) h.exits h.others) in
     hold_together (naming_checks p b block) (exit_checks p.blocks b block ++ constant_checks b block)
     (checks_from_naming p b block (h.entities, h.procedures, h.half))
     (hold_together (exit_checks p.blocks b block) (constant_checks b block)
-    (first_with_others _ _ _ (list_all-from_AllPass (is_block p.blocks) (named_blocks block) h.blocks) (first_with_others _ _ _ (of_ways (leads_to_no_generate p.blocks b) block ∙ and_from _ _ e.0 back.0) (first_with_others _ _ _ (of_ways (stays_inside p.blocks b) block ∙ and_from _ _ e.1 back.1) refl)))
+    (first_with_others _ _ _ (list_all-from_AllPass (is_block p.blocks) (named_blocks block) h.blocks) (first_with_others _ _ _ on.0 (first_with_others _ _ _ on.1 refl)))
     (first_with_others _ _ _ h.constants refl))
 
 -- THE OBJECT
@@ -257,19 +241,32 @@ block_holds : (p : Parts) (b : ℕ) (block : Block) → Hold (numbered (block_ch
 block_holds p zero block h is = absurd (cc)
 block_holds p (suc i) block h is = block_from_checks p (suc i) block (at_number (block_checks p) block (omega arith) (each_holds (block_checks p) 1 p.blocks i block h is))
 
+-- the checks of an entity's row, where it is a user chain
+chain_from_checks : (p : Parts) (e : ℕ) (entity : Entity) → Hold (chain_checks p e entity) → ChainHolds p e entity
+chain_from_checks p e entity h is = row_from_checks p (places.Chain e) (chain_row p e) (subst (λ so. Hold (if so then row_checks p (places.Chain e) (chain_row p e) else [])) is h)
+
+checks_from_chain : (p : Parts) (e : ℕ) (entity : Entity) → ChainHolds p e entity → Hold (chain_checks p e entity)
+checks_from_chain p e entity h = by_test (is_chain entity.kind) h
+  where
+    by_test : (so : Bool) → (IsTrue so → IfSome (chain_row p e) (RowHolds p)) → Hold (if so then row_checks p (places.Chain e) (chain_row p e) else [])
+    by_test true h = checks_from_row p (places.Chain e) (chain_row p e) (h refl)
+    by_test false h = refl
+
 pub kinds_pass_at_each_place : KindsPassAtEachPlace
 unfolding kinds_checks
 kinds_pass_at_each_place p =
     let of_rows : ℕ → Option TableState → List Check = λ b. row_checks p (places.Block b) in (
       λ h.
-          let five = parts_hold (numbered (entity_checks p) 0 p.entities) (procedure_and_later_checks p) h in
-          let four = parts_hold (numbered (procedure_checks p) 0 p.procedures) (return_and_later_checks p) five.1 in
-          let three = parts_hold (numbered (return_checks p) 0 p.returns) (row_and_block_checks p) four.1 in
-          let two = parts_hold (numbered of_rows 1 p.states) (numbered (block_checks p) 1 p.blocks) three.1 in (
-            each_has (entity_checks p) (EntityHolds p) (entity_from_checks p) 0 p.entities five.0,
-            each_has (procedure_checks p) (ProcedureHolds p) (procedure_from_checks p) 0 p.procedures four.0,
-            each_has (return_checks p) (ReturnsHold p) (returns_from_checks p) 0 p.returns three.0,
-            each_has of_rows (λ row. IfSome row (RowHolds p)) (row_from_checks p) 1 p.states two.0,
+          let six = parts_hold (numbered (entity_checks p) 0 p.entities) (procedure_and_later_checks p) h in
+          let five = parts_hold (numbered (procedure_checks p) 0 p.procedures) (return_and_later_checks p) six.1 in
+          let four = parts_hold (numbered (return_checks p) 0 p.returns) (row_and_later_checks p) five.1 in
+          let three = parts_hold (numbered of_rows 1 p.states) (chain_and_block_checks p) four.1 in
+          let two = parts_hold (numbered (chain_checks p) 0 p.entities) (numbered (block_checks p) 1 p.blocks) three.1 in (
+            each_has (entity_checks p) (EntityHolds p) (entity_from_checks p) 0 p.entities six.0,
+            each_has (procedure_checks p) (ProcedureHolds p) (procedure_from_checks p) 0 p.procedures five.0,
+            each_has (return_checks p) (ReturnsHold p) (returns_from_checks p) 0 p.returns four.0,
+            each_has of_rows (λ row. IfSome row (RowHolds p)) (λ b. row_from_checks p (places.Block b)) 1 p.states three.0,
+            λ e entity is. chain_from_checks p e entity (at_number (chain_checks p) entity (omega arith) (each_holds (chain_checks p) 0 p.entities e entity two.0 is)),
             λ b block is. block_holds p b block two.1 is,
           ),
       λ h.
@@ -277,9 +274,11 @@ kinds_pass_at_each_place p =
           (from_each (entity_checks p) (EntityHolds p) (checks_from_entity p) 0 p.entities h.0)
           (hold_together (numbered (procedure_checks p) 0 p.procedures) (return_and_later_checks p)
           (from_each (procedure_checks p) (ProcedureHolds p) (checks_from_procedure p) 0 p.procedures h.1)
-          (hold_together (numbered (return_checks p) 0 p.returns) (row_and_block_checks p)
+          (hold_together (numbered (return_checks p) 0 p.returns) (row_and_later_checks p)
           (from_each (return_checks p) (ReturnsHold p) (checks_from_returns p) 0 p.returns h.2)
-          (hold_together (numbered of_rows 1 p.states) (numbered (block_checks p) 1 p.blocks)
-          (from_each of_rows (λ row. IfSome row (RowHolds p)) (checks_from_row p) 1 p.states h.3)
-          (all_hold (block_checks p) 1 p.blocks (λ i block is. at_number (block_checks p) block (omega arith) (checks_from_block p (suc i) block (h.4 (suc i) block is))))))),
+          (hold_together (numbered of_rows 1 p.states) (chain_and_block_checks p)
+          (from_each of_rows (λ row. IfSome row (RowHolds p)) (λ b. checks_from_row p (places.Block b)) 1 p.states h.3)
+          (hold_together (numbered (chain_checks p) 0 p.entities) (numbered (block_checks p) 1 p.blocks)
+          (all_hold (chain_checks p) 0 p.entities (λ i entity is. at_number (chain_checks p) entity (omega arith) (checks_from_chain p i entity (h.4 i entity is))))
+          (all_hold (block_checks p) 1 p.blocks (λ i block is. at_number (block_checks p) block (omega arith) (checks_from_block p (suc i) block (h.5 (suc i) block is)))))))),
     )

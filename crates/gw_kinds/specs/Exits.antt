@@ -1,5 +1,5 @@
 -- Exits: where a transaction goes on to from each block.
-use Rattle.std.specs.Prelude.{ℕ, ◌+◌, pos, List, [], ◌∷◌, ◌++◌, map, Option, Some, None, Bool, true, false, if◌then◌else◌, ◌&&◌, int_le, int_lt}
+use Rattle.std.specs.Prelude.{ℕ, ◌+◌, pos, List, [], ◌∷◌, ◌++◌, map, option_to_list, Option, Some, None, Bool, true, false, ◌&&◌, int_le, int_lt}
 use Rattle.gw_blocks.specs.declared.parts.Operand.{Operand}
 use Rattle.gw_blocks.specs.declared.parts.Operand.TheVariants.{Constant}
 use Rattle.gw_blocks.specs.declared.parts.Block.{Block}
@@ -37,7 +37,7 @@ abbrev pub falls_or_goes : Option ℕ → List Exit
 falls_or_goes None = at_once Falls ∷ []
 falls_or_goes (Some target) = at_once Falls ∷ at_once (Goes target) ∷ []
 
--- the exits of a block, in order; most blocks fall to the next one at once. A TRANSFER in parameter mode has those of the returns that its parameter may hold
+-- the exits of a block, in order; most blocks fall to the next one at once. A TRANSFER in parameter mode has those of the returns that its parameter may hold, and a LINK leads to no block
 abbrev pub exits : Block → List Exit
 exits (blocks.Terminate by) = []
 exits (blocks.Advance time) = record { way = Falls; passes_time = takes_time time.mean time.half; who = Itself } ∷ []
@@ -48,6 +48,7 @@ exits (blocks.TransferByFraction f) = at_once (goes_or_falls f.otherwise) ∷ at
 exits (blocks.TransferToSubroutine c) = at_once (Goes c.target) ∷ []
 exits (blocks.TransferByParameter q) = []
 exits (blocks.Loop l) = at_once Falls ∷ at_once (Goes l.target) ∷ []
+exits (blocks.Link l) = []
 exits (blocks.Split s) = at_once Falls ∷ for_copies s.copies (goes_or_falls s.target) ∷ []
 exits block = at_once Falls ∷ []
 
@@ -58,13 +59,15 @@ abbrev pub is_call : Block → Bool
 is_call (blocks.TransferToSubroutine c) = true
 is_call block = false
 
--- the way on from a block that calls a subroutine, once that one comes back
-abbrev pub comes_back : Block → List Way
-comes_back block = if is_call block then Falls ∷ [] else []
+-- the way besides its exits on which a block sends somebody, if there is one: once a subroutine that it calls comes back, or whom it takes from a user chain
+abbrev pub other_way : Block → Option Way
+other_way (blocks.TransferToSubroutine c) = Some Falls
+other_way (blocks.Unlink u) = Some (Goes u.target)
+other_way block = None
 
--- the ways on from a block: those of its exits, and the one once a subroutine comes back
+-- the ways on from a block: those of its exits, and the other one
 abbrev pub ways : Block → List Way
-ways block = map (λ (exit : Exit). exit.way) (exits block) ++ comes_back block
+ways block = map (λ (exit : Exit). exit.way) (exits block) ++ option_to_list (other_way block)
 
 -- the exit to the block after the one of number b, which called the subroutine that ends here
 abbrev pub returns_to : ℕ → Exit

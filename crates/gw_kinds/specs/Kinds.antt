@@ -1,6 +1,6 @@
 -- Kinds: what every number in an object names.
-use Rattle.std.specs.Prelude.{ℕ, zero, suc, ◌+◌, ◌^◌, pos, List, [], ◌∷◌, ◌++◌, length, map, filter_map, Option, Some, None, is_some, Bool, true, false, if◌then◌else◌, not, ◌&&◌, nat_lt, nat_le, ◌==◌, int_le, slice_get}
-use Rattle.std.specs.Option.{option_map, option_map_or}
+use Rattle.std.specs.Prelude.{ℕ, zero, suc, ◌+◌, ◌^◌, pos, List, [], ◌∷◌, ◌++◌, length, map, filter_map, take, Option, Some, None, is_some, Bool, true, false, if◌then◌else◌, not, ◌&&◌, nat_lt, nat_le, ◌==◌, int_le, slice_get}
+use Rattle.std.specs.Option.{option_map, option_map_or, option_flatten}
 use Rattle.std.specs.List.{list_all, cons_option}
 use Rattle.gw_object.specs.declared.fault.Place.{Place}
 use Rattle.gw_object.specs.declared.fault.Place.TheVariants as places
@@ -8,7 +8,7 @@ use Rattle.gw_object.specs.declared.parts.Kind.{Kind}
 use Rattle.gw_object.specs.declared.parts.Kind.TheVariants as kinds
 use Rattle.gw_object.specs.declared.parts.Entity.{Entity}
 use Rattle.gw_blocks.specs.declared.parts.EntityAttribute.{EntityAttribute}
-use Rattle.gw_blocks.specs.declared.parts.EntityAttribute.TheVariants.{FacilityOwned, StorageContent, StorageRemaining, QueueContent, SavevalueValue, SwitchSetting, VariableValue, BooleanValue, FunctionValue, BlockEntries, BlockCount}
+use Rattle.gw_blocks.specs.declared.parts.EntityAttribute.TheVariants.{FacilityOwned, StorageContent, StorageRemaining, QueueContent, SavevalueValue, SwitchSetting, ChainMembers, VariableValue, BooleanValue, FunctionValue, BlockEntries, BlockCount}
 use Rattle.gw_blocks.specs.declared.parts.Numbered.{Numbered}
 use Rattle.gw_blocks.specs.declared.parts.Operand.{Operand}
 use Rattle.gw_blocks.specs.declared.parts.Operand.TheVariants.{OfEntity}
@@ -23,17 +23,17 @@ use Rattle.gw_object.specs.declared.parts.TableParameter.{TableParameter}
 use Rattle.gw_object.specs.declared.parts.TableState.{TableState}
 use Rattle.gw_object.specs.declared.parts.ReturnRow.{ReturnRow}
 use Rattle.gw_object.specs.declared.parts.Parts.{Parts}
+use Rattle.gw_object.specs.Entities.{is_chain, chains_in}
 use Rattle.gw_kinds.specs.declared.entities.EntityKind.{EntityKind}
-use Rattle.gw_kinds.specs.declared.entities.EntityKind.TheVariants.{Facility, Storage, Queue, Switch, Savevalue, Table, Variable, BooleanVariable, Function, StorageOrQueue}
+use Rattle.gw_kinds.specs.declared.entities.EntityKind.TheVariants.{Facility, Storage, Queue, Switch, Savevalue, Table, Chain, Variable, BooleanVariable, Function, StorageOrQueue}
 use Rattle.gw_kinds.specs.declared.entities.Named.{Named}
 use Rattle.gw_kinds.specs.declared.ways.Way.{Way}
 use Rattle.gw_kinds.specs.declared.ways.Way.TheVariants.{Falls, Goes}
-use Rattle.gw_kinds.specs.declared.ways.Exit.{Exit}
 use Rattle.gw_kinds.specs.Checks.{Check, check}
 use Rattle.gw_code.specs.declared.parts.Procedure.{Procedure}
 use Rattle.gw_kinds.specs.Codes as codes
 use Rattle.gw_kinds.specs.Evaluated.{kind_at, operand_of, values, procedure_named, is_function_value}
-use Rattle.gw_kinds.specs.Exits.{leads_to, exits, is_call, ways}
+use Rattle.gw_kinds.specs.Exits.{leads_to, is_call, ways}
 
 -- whether there is none, or one that passes a test
 abbrev pub is_none_or : {A : Type 0} → Option A → (A → Bool) → Bool
@@ -50,6 +50,7 @@ serves_as Queue kinds.Queue = true
 serves_as Switch (kinds.Switch set) = true
 serves_as Savevalue (kinds.Savevalue value) = true
 serves_as Table (kinds.Table t) = true
+serves_as Chain kinds.Chain = true
 serves_as Variable (kinds.Variable q) = true
 serves_as BooleanVariable (kinds.BooleanVariable q) = true
 serves_as Function (kinds.Function f) = true
@@ -69,6 +70,7 @@ needed_for StorageRemaining = Some Storage
 needed_for QueueContent = Some Queue
 needed_for SavevalueValue = Some Savevalue
 needed_for SwitchSetting = Some Switch
+needed_for ChainMembers = Some Chain
 needed_for VariableValue = Some Variable
 needed_for BooleanValue = Some BooleanVariable
 needed_for FunctionValue = Some Function
@@ -104,6 +106,8 @@ own_entity (blocks.Leave u) = Some (needs Storage u.entity)
 own_entity (blocks.Queue u) = Some (needs Queue u.entity)
 own_entity (blocks.Depart u) = Some (needs Queue u.entity)
 own_entity (blocks.Gate g) = Some (needs (needed_by g.condition) g.entity)
+own_entity (blocks.Link l) = Some (needs Chain l.chain)
+own_entity (blocks.Unlink u) = Some (needs Chain u.chain)
 own_entity (blocks.Logic l) = Some (needs Switch l.switch)
 own_entity (blocks.Savevalue s) = Some (needs Savevalue s.savevalue)
 own_entity (blocks.Tabulate t) = Some (needs Table t)
@@ -184,7 +188,7 @@ block_of operand = None
 
 -- the blocks that a block names by their numbers, in order: those to which it sends transactions, and then those of its values
 abbrev pub named_blocks : Block → List ℕ
-named_blocks block = filter_map (λ (exit : Exit). number_of exit.way) (exits block) ++ filter_map block_of (values block)
+named_blocks block = filter_map number_of (ways block) ++ filter_map block_of (values block)
 
 -- a block is there
 abbrev pub is_block : List Block → ℕ → Bool
@@ -256,7 +260,7 @@ has_plain_half block = true
 abbrev pub are_units : ℕ → Bool
 are_units n = nat_le 1 n && nat_le n (2 ^ 20)
 
--- a first arrival isn't before clock 0, a limit of arrivals isn't 0, units are within their range, a fraction is at most the whole, and an assembly set isn't empty
+-- a first arrival isn't before clock 0, a limit of arrivals isn't 0, units are within their range, a fraction is at most the whole, an assembly set isn't empty, and a limit of those who are taken from a user chain isn't 0
 abbrev pub has_good_constants : Block → Bool
 has_good_constants (blocks.Generate g) = is_none_or g.first (int_le (pos 0)) && is_none_or g.limit (nat_lt 0)
 has_good_constants (blocks.Enter u) = are_units u.number
@@ -265,6 +269,7 @@ has_good_constants (blocks.Queue u) = are_units u.number
 has_good_constants (blocks.Depart u) = are_units u.number
 has_good_constants (blocks.TransferByFraction f) = nat_le f.thousandths 1000
 has_good_constants (blocks.Assemble size) = nat_lt 0 size
+has_good_constants (blocks.Unlink u) = is_none_or u.most (nat_lt 0)
 has_good_constants block = true
 
 -- THE CHECKS
@@ -277,6 +282,20 @@ entity_checks p e entity =
     ∷ check codes.no_block (places.Entity e) (is_none_or (operand_of entity.kind) (names_a_block p))
     ∷ []
 
+-- USER CHAINS
+
+-- how many user chains come before the entity of a number: where its row and its weight stand among those of all, if it is one itself
+abbrev pub chain_place : List Entity → ℕ → ℕ
+chain_place es e = chains_in (take e es)
+
+-- what stands for the user chain that is the entity of a number, among what stands for each of them in order
+abbrev pub for_chain : {X : Type 0} → List Entity → List (Option X) → ℕ → Option X
+for_chain es xs e = option_flatten (slice_get xs (chain_place es e))
+
+-- the row of the state table of the user chain that is the entity of a number, if it has one
+abbrev pub chain_row : Parts → ℕ → Option TableState
+chain_row p e = for_chain p.entities p.chain_states e
+
 -- the blocks of the return row of number r are there and call subroutines (10)
 abbrev pub return_checks : Parts → ℕ → ReturnRow → List Check
 return_checks p r row = check codes.wrong_kind (places.Row r) (names_calls p.blocks row) ∷ []
@@ -288,6 +307,10 @@ row_checks p place (Some row) =
     check codes.wrong_kind place (names_no_other_kind p.entities (entities_of_row row))
     ∷ check codes.no_entity place (are_there p.entities (entities_of_row row) && has_return_rows p.returns row)
     ∷ []
+
+-- of the entity of number e, if it is a user chain: its row of the state table
+abbrev pub chain_checks : Parts → ℕ → Entity → List Check
+chain_checks p e entity = if is_chain entity.kind then row_checks p (places.Chain e) (chain_row p e) else []
 
 -- the blocks that the block of number b names are there (12), and it goes on to no GENERATE (13) and not after the last block (14)
 abbrev pub exit_checks : List Block → ℕ → Block → List Check

@@ -1,5 +1,5 @@
 -- What an object keeps at each block and each row where kinds pass, said apart from the order of the checks.
-use Rattle.std.specs.Prelude.{◌≡◌, ◌↔◌, ℕ, ◌<◌, List, length, Some, IfSome, IsTrue, false, slice_get}
+use Rattle.std.specs.Prelude.{◌≡◌, ◌↔◌, ℕ, ◌<◌, List, length, Some, IfSome, IsTrue, false, slice_get, option_to_list}
 use Rattle.std.specs.List.{All}
 use Rattle.std.specs.Option.{IsSome, IsSomeAnd}
 use Rattle.gw_code.specs.declared.parts.Instruction.{Instruction}
@@ -10,12 +10,13 @@ use Rattle.gw_blocks.specs.declared.parts.Operand.{Operand}
 use Rattle.gw_object.specs.declared.parts.TableState.{TableState}
 use Rattle.gw_object.specs.declared.parts.ReturnRow.{ReturnRow}
 use Rattle.gw_object.specs.declared.parts.Parts.{Parts}
+use Rattle.gw_object.specs.Entities.{is_chain}
 use Rattle.gw_kinds.specs.declared.entities.Named.{Named}
 use Rattle.gw_kinds.specs.declared.ways.Exit.{Exit}
-use Rattle.gw_kinds.specs.Exits.{leads_to, exits, comes_back}
+use Rattle.gw_kinds.specs.Exits.{leads_to, exits, other_way}
 use Rattle.gw_kinds.specs.Procedures.{entity_in, procedure_in, block_in, draws_nothing, has_good_numbers}
 use Rattle.gw_kinds.specs.Evaluated.{kind_at, operand_of, procedure_named}
-use Rattle.gw_kinds.specs.Kinds.{serves_as, entity_of, block_of, named_entities, named_procedures, has_plain_argument, has_plain_half, entities_of_row, return_rows_of, block_at, named_blocks, is_generate, is_call_at, has_good_constants}
+use Rattle.gw_kinds.specs.Kinds.{serves_as, entity_of, block_of, named_entities, named_procedures, has_plain_argument, has_plain_half, entities_of_row, return_rows_of, block_at, named_blocks, is_generate, is_call_at, has_good_constants, chain_row}
 use Rattle.gw_kinds.specs.Pass.{KindsPass}
 
 -- an entity that is named is there, and is what it is needed as
@@ -62,17 +63,21 @@ pub record RowHolds (p : Parts) (row : TableState) : Type 0 where
   pub entities : All (IsEntity p.entities) (entities_of_row row)
   pub returns : All (λ r. r < length p.returns) (return_rows_of row)
 
--- kinds, at the block of number b: the entities, the procedures and the blocks that it names, that half the range of a time is no function's value, where it goes on, also once a subroutine comes back, and its constants
+-- kinds, at the block of number b: the entities, the procedures and the blocks that it names, that half the range of a time is no function's value, where it goes on and where it sends others, and its constants
 pub record BlockHolds (p : Parts) (b : ℕ) (block : Block) : Type 0 where
   pub entities : All (IsEntity p.entities) (named_entities block)
   pub procedures : All (TakesNoArguments p) (named_procedures block)
   pub half : IsTrue (has_plain_half block)
   pub blocks : All (λ named. IsSome (block_at p.blocks named)) (named_blocks block)
   pub exits : All (λ (exit : Exit). MayBeEntered p (leads_to b exit.way)) (exits block)
-  pub back : All (λ way. MayBeEntered p (leads_to b way)) (comes_back block)
+  pub others : All (λ way. MayBeEntered p (leads_to b way)) (option_to_list (other_way block))
   pub constants : IsTrue (has_good_constants block)
 
--- kinds pass exactly where they hold at each entity, at each procedure, at each return row, in each row of the state table and at each block
+-- kinds, in the row of the state table of the user chain that is the entity of number e, if it is one
+abbrev pub ChainHolds : Parts → ℕ → Entity → Type 0
+ChainHolds p e entity = IsTrue (is_chain entity.kind) → IfSome (chain_row p e) (RowHolds p)
+
+-- kinds pass exactly where they hold at each entity, at each procedure, at each return row, in each row of the state table, those of user chains too, and at each block
 abbrev pub KindsPassAtEachPlace : Type 0
 KindsPassAtEachPlace =
-    (p : Parts) → KindsPass p ↔ All (EntityHolds p) p.entities × All (ProcedureHolds p) p.procedures × All (ReturnsHold p) p.returns × All (λ row. IfSome row (RowHolds p)) p.states × ((b : ℕ) (block : Block) → block_at p.blocks b ≡ Some block → BlockHolds p b block)
+    (p : Parts) → KindsPass p ↔ All (EntityHolds p) p.entities × All (ProcedureHolds p) p.procedures × All (ReturnsHold p) p.returns × All (λ row. IfSome row (RowHolds p)) p.states × ((e : ℕ) (entity : Entity) → slice_get p.entities e ≡ Some entity → ChainHolds p e entity) × ((b : ℕ) (block : Block) → block_at p.blocks b ≡ Some block → BlockHolds p b block)

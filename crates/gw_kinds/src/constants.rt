@@ -19,7 +19,8 @@ fn are_units(number: u32) -> bool
 }
 
 /// Whether no first arrival comes before clock 0, no limit of arrivals is 0, units are within their range, a
-/// fraction is at most the whole, and an assembly set isn't empty.
+/// fraction is at most the whole, an assembly set isn't empty, and a limit of those who are taken from a user chain isn't
+/// 0.
 pub(crate) fn has_good_constants(block: &Block) -> bool
     ensures { result ≡ model.has_good_constants block.now }
 {
@@ -32,6 +33,7 @@ pub(crate) fn has_good_constants(block: &Block) -> bool
         }
         Block::TransferByFraction(fraction) => fraction.thousandths <= WHOLE,
         Block::Assemble(size) => 0 < *size,
+        Block::Unlink(unlink) => unlink.most.is_none_or(|most| 0 < most),
         _ => true,
     }
 }

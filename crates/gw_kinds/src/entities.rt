@@ -9,8 +9,8 @@ use gw_blocks::{Block, Condition, EntityAttribute, Numbered, Operand};
 use gw_object::{Entity, Kind};
 
 /// What an entity is needed as: SEIZE and RELEASE need a facility, ENTER and LEAVE a storage, QUEUE and DEPART a queue,
-/// GATE what its condition asks of, LOGIC a logic switch, SAVEVALUE a savevalue and TABULATE a table (GPSS World Reference
-/// Manual, chapter 7); an attribute needs what it is of (chapter 3).
+/// GATE what its condition asks of, LOGIC a logic switch, SAVEVALUE a savevalue, TABULATE a table, and LINK and UNLINK a
+/// user chain (GPSS World Reference Manual, chapter 7); an attribute needs what it is of (chapter 3).
 #[derive(Clone, Copy, Debug, PartialEq, Eq)]
 pub enum EntityKind {
     /// A facility.
@@ -25,6 +25,8 @@ pub enum EntityKind {
     Savevalue,
     /// A table.
     Table,
+    /// A user chain.
+    Chain,
     /// A variable.
     Variable,
     /// A boolean variable.
@@ -72,6 +74,7 @@ pub(crate) fn needed_for(attribute: EntityAttribute) -> Option<EntityKind>
         EntityAttribute::QueueContent => Some(EntityKind::Queue),
         EntityAttribute::SavevalueValue => Some(EntityKind::Savevalue),
         EntityAttribute::SwitchSetting => Some(EntityKind::Switch),
+        EntityAttribute::ChainMembers => Some(EntityKind::Chain),
         EntityAttribute::VariableValue => Some(EntityKind::Variable),
         EntityAttribute::BooleanValue => Some(EntityKind::BooleanVariable),
         EntityAttribute::FunctionValue => Some(EntityKind::Function),
@@ -119,6 +122,8 @@ fn own_entity(block: &Block) -> Option<Named>
         Block::Enter(u) | Block::Leave(u) => Some(needs(EntityKind::Storage, u.entity)),
         Block::Queue(u) | Block::Depart(u) => Some(needs(EntityKind::Queue, u.entity)),
         Block::Gate(g) => Some(needs(needed_by(g.condition), g.entity)),
+        Block::Link(l) => Some(needs(EntityKind::Chain, l.chain)),
+        Block::Unlink(u) => Some(needs(EntityKind::Chain, u.chain)),
         Block::Logic(l) => Some(needs(EntityKind::Switch, l.switch)),
         Block::Savevalue(s) => Some(needs(EntityKind::Savevalue, s.savevalue)),
         Block::Tabulate(table) => Some(needs(EntityKind::Table, *table)),
@@ -137,6 +142,7 @@ fn serves_as(needed: EntityKind, kind: &Kind) -> bool
         (EntityKind::Switch, Kind::Switch(_)) => true,
         (EntityKind::Savevalue, Kind::Savevalue(_)) => true,
         (EntityKind::Table, Kind::Table(_)) => true,
+        (EntityKind::Chain, Kind::Chain) => true,
         (EntityKind::Variable, Kind::Variable(_)) => true,
         (EntityKind::BooleanVariable, Kind::BooleanVariable(_)) => true,
         (EntityKind::Function, Kind::Function(_)) => true,

@@ -15,7 +15,7 @@ use crate::checks::check_each;
 use crate::operands::Entities;
 use crate::procedures::Procedures;
 use crate::returns::Returns;
-use crate::rows::Rows;
+use crate::rows::{Chains, Rows};
 use gw_blocks::Block;
 use gw_code::Procedure;
 use gw_object::{Entity, Fault, Object, Parts, ReturnRow, TableState};
@@ -61,31 +61,52 @@ fn check_blocks(parts: &Parts) -> Result<(), Fault>
     check_each::<Block, Blocks>(&Blocks, parts, 1, parts.blocks.as_slice())
 }
 
-/// The first fault of the rows of the state table and of the blocks, if there is one: rows before blocks.
-fn check_rows_and_blocks(parts: &Parts) -> Result<(), Fault>
+/// The first fault of the user chains' rows of the state table, if there is one.
+fn check_chains(parts: &Parts) -> Result<(), Fault>
+    requires { length parts.now.entities ≤ 1024 }
+    ensures { Finds result (numbered (model.chain_checks parts.now) 0 parts.now.entities) }
+{
+    check_each::<Entity, Chains>(&Chains, parts, 0, parts.entities.as_slice())
+}
+
+/// The first fault of the user chains' rows of the state table and of the blocks, if there is one: rows before blocks.
+fn check_chains_and_blocks(parts: &Parts) -> Result<(), Fault>
+    requires entities { length parts.now.entities ≤ 1024 }
+    requires blocks { length parts.now.blocks ≤ 4096 }
+    ensures { Finds result (pass.chain_and_block_checks parts.now) }
+{
+    check_chains(parts)?;
+    check_blocks(parts)
+}
+
+/// The first fault of the blocks' rows of the state table and of what comes after them, if there is one.
+fn check_rows_and_later(parts: &Parts) -> Result<(), Fault>
+    requires entities { length parts.now.entities ≤ 1024 }
     requires states { length parts.now.states ≤ 4096 }
     requires blocks { length parts.now.blocks ≤ 4096 }
-    ensures { Finds result (pass.row_and_block_checks parts.now) }
+    ensures { Finds result (pass.row_and_later_checks parts.now) }
 {
     check_rows(parts)?;
-    check_blocks(parts)
+    check_chains_and_blocks(parts)
 }
 
 /// The first fault of the return rows and of what comes after them, if there is one.
 fn check_returns_and_later(parts: &Parts) -> Result<(), Fault>
+    requires entities { length parts.now.entities ≤ 1024 }
     requires returns { length parts.now.returns ≤ 4096 }
     requires states { length parts.now.states ≤ 4096 }
     requires blocks { length parts.now.blocks ≤ 4096 }
     ensures { Finds result (pass.return_and_later_checks parts.now) }
 {
     check_returns(parts)?;
-    check_rows_and_blocks(parts)
+    check_rows_and_later(parts)
 }
 
 /// The first fault of the procedures and of what comes after them, if there is one.
 fn check_procedures_and_later(parts: &Parts) -> Result<(), Fault>
     requires procedures { length parts.now.procedures ≤ 256 }
     requires each_procedure { All ProcedureFits parts.now.procedures }
+    requires entities { length parts.now.entities ≤ 1024 }
     requires returns { length parts.now.returns ≤ 4096 }
     requires states { length parts.now.states ≤ 4096 }
     requires blocks { length parts.now.blocks ≤ 4096 }
@@ -105,8 +126,8 @@ fn check_parts(parts: &Parts) -> Result<(), Fault>
 }
 
 /// Accepts an object exactly where its numbers name what they must; else the first fault: of the entities, then of the
-/// procedures, then of the return rows, then of the state table's rows, then of the blocks, each in ascending order, and
-/// in one place the lowest code.
+/// procedures, then of the return rows, then of the state table's rows, those of blocks before those of user chains, then
+/// of the blocks, each in ascending order, and in one place the lowest code.
 ///
 /// 10 WrongKind is of an entity of another kind than what names it needs; of a procedure with arguments that an operand
 /// calls; of a function's value as the argument of a function, or as half the range of a time; of an instruction that

@@ -1,8 +1,9 @@
 //! The entities and the return rows that the rows of the state table name.
 
-ghost use Rattle.std.specs.Prelude.{◌≡◌, Some, map};
+ghost use Rattle.std.specs.Prelude.{◌≡◌, Some, map, option_map};
 ghost use Rattle.gw_kinds.specs.Checks.{Finds};
 ghost use Rattle.gw_blocks.specs.declared.parts.Units.{Units};
+ghost use Rattle.gw_object.specs.Entities as kinds;
 ghost use Rattle.gw_kinds.specs.Kinds as model;
 ghost use Rattle.gw_kinds.specs.declared.entities.EntityKind.TheVariants as needed;
 
@@ -10,7 +11,7 @@ use crate::checks::{NumberedChecks, check};
 use crate::codes::{NO_ENTITY, WRONG_KIND};
 use crate::entities::{EntityKind, is_no_other_kind, is_there, needs};
 use gw_blocks::Units;
-use gw_object::{Entity, Fault, Parts, Place, ReturnRow, TableKind, TableState};
+use gw_object::{Entity, Fault, Kind, Parts, Place, ReturnRow, TableKind, TableState};
 
 /// Whether none of the entities of a row is of another kind.
 fn names_no_other_kind(entities: &[Entity], row: &TableState) -> bool
@@ -97,6 +98,47 @@ impl NumberedChecks<Option<TableState>> for Rows {
         match element {
             None => Ok(()),
             Some(row) => check_row(parts, Place::Block(number), row),
+        }
+    }
+}
+
+/// Whether an entity is a user chain.
+fn is_chain(entity: &Entity) -> bool
+    ensures { result ≡ kinds.is_chain entity.now.kind }
+{
+    matches!(entity.kind, Kind::Chain)
+}
+
+/// How many user chains come before the entity of this number, from 0: where its row of the state table and its weight
+/// stand among those of all user chains, if it is one itself.
+pub fn chain_place(entities: &[Entity], entity: u16) -> usize
+    ensures { result ≡ model.chain_place entities.now entity }
+{
+    let before = &entities[..(entity as usize).min(entities.len())];
+    before.iter().filter(|entity| is_chain(entity)).count()
+}
+
+/// The row of the state table of the user chain that is the entity of this number, from 0, if it has one.
+pub fn chain_row(parts: &Parts, entity: u16) -> Option<&TableState>
+    ensures { option_map (λ row. row.now) result ≡ model.chain_row parts.now entity }
+{
+    let place = chain_place(parts.entities.as_slice(), entity);
+    parts.chain_states.as_slice().get(place)?.as_ref()
+}
+
+/// The checks of the user chains' rows of the state table, each at its entity.
+pub(crate) struct Chains;
+
+impl NumberedChecks<Entity> for Chains {
+    ghost checks = { λ _ p e. model.chain_checks p e };
+
+    fn check_one(&self, parts: &Parts, number: u16, element: &Entity) -> Result<(), Fault> {
+        if !is_chain(element) {
+            return Ok(());
+        }
+        match chain_row(parts, number) {
+            None => Ok(()),
+            Some(row) => check_row(parts, Place::Chain(number), row),
         }
     }
 }

@@ -5,7 +5,7 @@ ghost use Rattle.gw_kinds.specs.Kinds as model;
 
 use crate::entities::needed_for;
 use crate::evaluation::values;
-use crate::ways::{Way, comes_back, exits, leads_to};
+use crate::ways::{Way, exits, leads_to, other_way};
 use gw_blocks::{Block, Numbered, Operand};
 
 /// Whether there is a block of this number, from 1.
@@ -65,7 +65,10 @@ pub(crate) fn has_named_blocks(blocks: &[Block], block: &Block) -> bool
 {
     let exits = exits(block);
     let values = values(block);
-    let targets = exits.iter().filter_map(|exit| number_of(exit.way));
+    let other = other_way(block);
+    let on = exits.iter().map(|exit| exit.way);
+    let others = other.as_slice().iter().map(|way| *way);
+    let targets = on.chain(others).filter_map(number_of);
     let read = values.as_slice().iter().filter_map(block_of);
     targets.chain(read).all(|named| is_block(blocks, named))
 }
@@ -84,9 +87,10 @@ pub(crate) fn enters_no_generate(blocks: &[Block], number: u16, block: &Block) -
     ensures { result ≡ model.enters_no_generate blocks.now number block.now }
 {
     let exits = exits(block);
+    let other = other_way(block);
     let on = exits.iter().map(|exit| exit.way);
-    let back = comes_back(block).iter().map(|way| *way);
-    on.chain(back)
+    let others = other.as_slice().iter().map(|way| *way);
+    on.chain(others)
         .all(|way| leads_to_no_generate(blocks, number, way))
 }
 
@@ -107,7 +111,9 @@ pub(crate) fn never_falls_off(blocks: &[Block], number: u16, block: &Block) -> b
     ensures { result ≡ model.never_falls_off blocks.now number block.now }
 {
     let exits = exits(block);
+    let other = other_way(block);
     let on = exits.iter().map(|exit| exit.way);
-    let back = comes_back(block).iter().map(|way| *way);
-    on.chain(back).all(|way| stays_inside(blocks, number, way))
+    let others = other.as_slice().iter().map(|way| *way);
+    on.chain(others)
+        .all(|way| stays_inside(blocks, number, way))
 }

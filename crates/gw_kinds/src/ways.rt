@@ -78,13 +78,14 @@ fn takes_time(time: Spread) -> bool
 }
 
 /// The exits of a block, in order: where it sends transactions, and whether time passes (GPSS World Reference Manual,
-/// chapter 7). A TRANSFER in parameter mode has none of its own: it leads to where the returns in its parameter do.
+/// chapter 7). A TRANSFER in parameter mode has none of its own: it leads to where the returns in its parameter do. A LINK
+/// leads to no block.
 pub fn exits(block: &Block) -> ArrayVec<Exit, 2>
     ensures { result.items ≡ model.exits block.now }
 {
     let mut exits = ArrayVec::new();
     match block {
-        Block::Terminate(_) | Block::TransferByParameter(_) => {}
+        Block::Terminate(_) | Block::TransferByParameter(_) | Block::Link(_) => {}
         Block::Advance(time) => exits.push(Exit {
             way: Way::Falls,
             passes_time: takes_time(*time),
@@ -130,11 +131,16 @@ pub(crate) fn is_call(block: &Block) -> bool
     matches!(block, Block::TransferToSubroutine(_))
 }
 
-/// The way on from a block that calls a subroutine, once that one comes back.
-pub(crate) fn comes_back(block: &Block) -> &'static [Way]
-    ensures { result.now ≡ model.comes_back block.now }
+/// The way besides its exits on which a block sends somebody, if there is one: once a subroutine that it calls comes back,
+/// or whom it takes from a user chain.
+pub(crate) fn other_way(block: &Block) -> Option<Way>
+    ensures { result ≡ model.other_way block.now }
 {
-    if is_call(block) { &[Way::Falls] } else { &[] }
+    match block {
+        Block::TransferToSubroutine(_) => Some(Way::Falls),
+        Block::Unlink(unlink) => Some(Way::Goes(unlink.target)),
+        _ => None,
+    }
 }
 
 /// The exit to the block after the one of this number, which called the subroutine that ends here.

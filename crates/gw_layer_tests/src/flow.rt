@@ -1,5 +1,6 @@
 //! Flow: objects of a few blocks with their state tables, and the names of codes.
 
+mod chains;
 mod edges;
 mod large;
 mod parameters;
@@ -19,13 +20,13 @@ fn each_code_has_its_name(rt: HostRuntime) {
         (23, Some("TooFewUnits")),
         (24, Some("OwnsAtEnd")),
         (25, Some("EdgeState")),
+        (26, Some("ChainState")),
         (27, Some("ParamKind")),
         (28, Some("OverCapacity")),
         (0, None),
         (8, None),
         (10, None),
         (19, None),
-        (26, None),
         (29, None),
     ];
     assert!(rt; NAMES.iter().all(|(code, name)| codes::name(*code) == *name));

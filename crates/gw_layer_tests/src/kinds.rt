@@ -1,5 +1,6 @@
 //! Kinds: objects of a few blocks, with numbers that name what they must, and that don't.
 
+mod chains;
 mod conditions;
 mod copies;
 mod named;

@@ -225,7 +225,33 @@ pub(crate) fn procedure(
     })
 }
 
-/// Parts of these blocks and rows, each of weight 1, with no seeds, termination count 1, no procedures and no return rows.
+/// A LINK to a user chain, at its end or at its front, also in a constant.
+macro_rules! link {
+    ($chain:expr, $order:ident) => {
+        gw_blocks::Block::Link(gw_blocks::Link {
+            chain: $chain,
+            order: gw_blocks::LinkOrder::$order,
+        })
+    };
+}
+
+pub(crate) use link;
+
+/// An UNLINK of so many members of a user chain, or of all, to a block, also in a constant.
+macro_rules! unlink {
+    ($chain:expr, $target:expr, $most:expr) => {
+        gw_blocks::Block::Unlink(gw_blocks::Unlink {
+            chain: $chain,
+            target: $target,
+            most: $most,
+        })
+    };
+}
+
+pub(crate) use unlink;
+
+/// Parts of these blocks and rows, each of weight 1, with no seeds, termination count 1, no procedures, no return rows, and
+/// nothing for user chains, which entities of other kinds don't ask for.
 pub(crate) fn parts(
     alloc: Global,
     entities: Vec<Entity>,
@@ -243,7 +269,9 @@ pub(crate) fn parts(
         blocks: Items::from_vec(blocks),
         returns: Items::from_vec(Vec::new(alloc)),
         states: Items::from_vec(states),
+        chain_states: Items::from_vec(Vec::new(alloc)),
         weights: Items::from_vec(weights),
+        chain_weights: Items::from_vec(Vec::new(alloc)),
     })
 }
 
@@ -286,6 +314,11 @@ pub(crate) fn at_row(code: u16, row: u16) -> Option<Fault> {
 
 pub(crate) fn at_block(code: u16, block: u16) -> Option<Fault> {
     let place = Place::Block(block);
+    Some(Fault { code, place })
+}
+
+pub(crate) fn at_chain(code: u16, entity: u16) -> Option<Fault> {
+    let place = Place::Chain(entity);
     Some(Fault { code, place })
 }
 

@@ -10,6 +10,7 @@ use std::alloc::Global;
 use std::test::Fail;
 
 mod blocks;
+mod chains;
 mod conditions;
 mod copies;
 mod entities;

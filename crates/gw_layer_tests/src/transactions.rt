@@ -79,6 +79,31 @@ fn three_that_move(alloc: Global) -> Result<[bool; 6], Memory> {
     Ok([at_first, all_there, written, one_moved, one_left, is_kept])
 }
 
+/// Which answers are right where of two transactions the first joins a user chain, moves as one of it, and leaves it.
+fn one_on_a_chain(alloc: Global) -> Result<[bool; 5], Memory> {
+    let mut transactions = Transactions::new(alloc)?;
+    transactions.reserve(2)?;
+    let first = transactions.insert(in_block(4, 1));
+    let second = transactions.insert(in_block(5, 2));
+    transactions.assign(first, 3, 8)?;
+    transactions.put_chain(first, Some(7));
+    let is_as_before = *transactions.get(first) == in_block(4, 1);
+    let are_counted = counts(&transactions, 2, [1, 1, 0]);
+    transactions.set(first, in_block(6, 1));
+    transactions.put_chain(first, None);
+    let has_moved = *transactions.get(first) == in_block(6, 1);
+    let is_left = *transactions.get(second) == in_block(5, 2);
+    let is_kept = transactions.parameter(first, 3) == Some(8);
+    Ok([is_as_before, are_counted, has_moved, is_left, is_kept])
+}
+
+#[test]
+fn a_user_chain_changes_no_attribute_and_no_parameter(rt: HostRuntime) -> Result<(), Fail> {
+    let are_right = one_on_a_chain(rt.alloc())?;
+    assert!(rt; first_wrong(&are_right).is_none());
+    Ok(())
+}
+
 #[test]
 fn live_and_here_count_those_that_are_there(rt: HostRuntime) -> Result<(), Fail> {
     let are_right = three_that_move(rt.alloc())?;

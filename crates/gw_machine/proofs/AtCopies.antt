@@ -1,5 +1,5 @@
 -- What a copy of a transaction, and another priority of one that is on no chain, make of a machine.
-use Rattle.std.proofs.Common.{◌≡◌, ℕ, suc, ◌<◌, List, [], ◌∷◌, ◌++◌, map, length, replicate, Option, Some, None, option_map, refl, sym, ap, ◌∙◌, subst, arith}
+use Rattle.std.proofs.Common.{◌≡◌, ℕ, suc, ◌≤◌, ◌<◌, List, [], ◌∷◌, ◌++◌, map, length, replicate, Option, Some, None, option_map, refl, sym, ap, ◌∙◌, subst, arith}
 use Rattle.std.specs.Prelude.{int_le}
 use Rattle.std.specs.List.{AllByRecursion}
 use Rattle.std.specs.Option.{option_map_or}
@@ -21,10 +21,10 @@ use Rattle.gw_step.specs.Changes.{entered, with_copy, copied, copies_made}
 use Rattle.gw_step.proofs.Attributes.{bearer_at, written_at}
 use Rattle.gw_step.proofs.Lists.{all_placed, map-behind, map-map}
 use Rattle.gw_step.proofs.Residence.{alone, resides-entered, resides-copied}
-use Rattle.gw_machine.specs.View.{state_of, lists_of, member_number, event_of, assembly_of}
+use Rattle.gw_machine.specs.View.{state_of, lists_of, handle_number, member_number, event_of, assembly_of}
 use Rattle.gw_machine.specs.Coherence.{Linked, IsRanked, Carries, Every, Others}
-use Rattle.gw_machine.proofs.Handles.{active_carried, members_carried, events_carried, assemblies_carried, every, others, carries-insert, carries-ranked}
-use Rattle.gw_machine.proofs.Changes.{Keeps, timed-kept, delay_list-at}
+use Rattle.gw_machine.proofs.Handles.{active_carried, members_carried, events_carried, assemblies_carried, handles_carried, every, others, carries-insert, carries-ranked}
+use Rattle.gw_machine.proofs.Changes.{Keeps, timed-kept, delay_list-at, user_chain-at}
 use Rattle.gw_machine.proofs.Due.{agree}
 
 abbrev number_of : Member → ℕ
@@ -32,7 +32,7 @@ number_of x = x.tx.number
 
 -- A COPY
 
-module _ (m : Machine) (l : Linked m) (n : ℕ) (t : Transaction) (target : ℕ) (tx : Tx) (q : Population)
+module _ (m : Machine) (l : Linked m) (n : ℕ) (t : Transaction) (block : t.current ≤ 4096) (target : ℕ) (tx : Tx) (q : Population)
     (ts : q.txs ≡ with_copy n t target (state_of m)) (ps : q.places ≡ put None m.transactions.places (length m.transactions.txs) (Some tx.place)) (ns : tx.number ≡ length m.transactions.txs)
     (cs : List Member) (joined : cs ≡ behind (λ (x : Member). x.priority) (record { tx = tx; priority = t.priority }) m.current_events.items) where
   abbrev newcomer : Member
@@ -42,7 +42,7 @@ module _ (m : Machine) (l : Linked m) (n : ℕ) (t : Transaction) (target : ℕ)
   made = made_with (parameters_of n (state_of m)) (record t { next = target })
 
   carries : Carries Every m.transactions q
-  carries = carries-insert m.transactions q made tx.place l.sound ts ps
+  carries = carries-insert m.transactions q made tx.place l.sound block ts ps
 
   newcomer-held : Holds q tx
   newcomer-held = ap (λ xs. at None xs tx.number) ps ∙ ap (λ k. at None (put None m.transactions.places k (Some tx.place)) tx.number) (sym ns) ∙ at-put None m.transactions.places tx.number (Some tx.place)
@@ -70,8 +70,11 @@ module _ (m : Machine) (l : Linked m) (n : ℕ) (t : Transaction) (target : ℕ)
         delay_lists = λ e below. rw (is_q, k.waits) (carried (at [] m.waits.lists e) (l.delay_lists e (rw k.facilities at below)));
         retry = rw (is_q, k.waits) (carried m.waits.retry l.retry);
         assemblies = rw (is_q, k.assemblies) (assemblies_carried Every p q carries m.assemblies.items (every (λ (x : HeldAssembly). x.first.number) m.assemblies.items) l.assemblies);
+        user_chains = λ e below. rw (is_q, k.chains) (handles_carried Every p q carries (at [] m.chains.lists e) (every handle_number (at [] m.chains.lists e)) (l.user_chains e (rw k.facilities at below)));
         listed = rw (k.waits, k.facilities) l.listed;
+        chained = rw (k.chains, k.facilities) l.chained;
         sound = rw is_q sound;
+        blocks = rw is_q (carries.blocks l.blocks);
         resides = subst ResidesOnce (sym is) (resides-copied n t target (state_of m) l.resides);
         timed = timed-kept m new k.facilities k.storages k.queues k.clock l.timed;
       }
@@ -120,13 +123,13 @@ popped-length (y ∷ ys) last = ap suc (popped-length ys last)
 pub linked-ranked : (m new : Machine) (tx : Tx) (t : Transaction) (next : ℕ)
     → new.transactions.txs ≡ put_attributes tx.number (record t { current = t.next; next = next }) m.transactions.txs → new.transactions.places ≡ m.transactions.places → IsSound new.transactions
     → m.active ≡ Some tx → Holds m.transactions tx → new.active ≡ m.active → new.current_events.items ≡ m.current_events.items → new.future_events.items ≡ m.future_events.items → Keeps m new
-    → state_of new ≡ entered tx.number t next (state_of m) → Linked m → Linked new
-linked-ranked m new tx t next ts ps sound is_active held a cs fs k is l =
+    → state_of new ≡ entered tx.number t next (state_of m) → t.next ≤ 4096 → Linked m → Linked new
+linked-ranked m new tx t next ts ps sound is_active held a cs fs k is block l =
     let n = tx.number in
     let p = m.transactions in
     let q = new.transactions in
     let active : (state_of m).lists.active ≡ Some n = ap (option_map (λ (x : Tx). x.number)) is_active in
-    let c = carries-ranked p q n (record t { current = t.next; next = next }) ts ps in
+    let c = carries-ranked p q n (record t { current = t.next; next = next }) ts ps block in
     let none = alone n (state_of m) active l.resides in
     let carried = λ (xs : List Member) (gone : occurrences n (map number_of xs) ≡ 0). members_carried (Others n) p q c xs (others number_of n xs gone) in
     let still : Holds q tx = ap (λ xs. at None xs n) ps ∙ held in
@@ -140,8 +143,13 @@ linked-ranked m new tx t next ts ps sound is_active held a cs fs k is l =
       retry = rw k.waits (carried m.waits.retry none.retry l.retry);
       assemblies = rw k.assemblies (assemblies_carried (Others n) p q c m.assemblies.items
           (others (λ (x : HeldAssembly). x.first.number) n m.assemblies.items (sym (ap (occurrences n) (map-map (λ (x : Assembly). x.number) assembly_of m.assemblies.items)) ∙ none.assemblies)) l.assemblies);
+      user_chains = λ e below.
+          let within : e < length m.facilities.facilities = rw k.facilities at below in
+          rw k.chains (handles_carried (Others n) p q c (at [] m.chains.lists e) (others handle_number n (at [] m.chains.lists e) (sym (ap (occurrences n) (user_chain-at m e)) ∙ none.user_chains e)) (l.user_chains e within));
       listed = rw (k.waits, k.facilities) l.listed;
+      chained = rw (k.chains, k.facilities) l.chained;
       sound = sound;
+      blocks = c.blocks l.blocks;
       resides = subst ResidesOnce (sym is) (resides-entered n t next (state_of m) l.resides);
       timed = timed-kept m new k.facilities k.storages k.queues k.clock l.timed;
     }

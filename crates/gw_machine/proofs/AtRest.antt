@@ -1,5 +1,5 @@
 -- What resting on the current events chain, and waiting for an assembly set, make of a machine; and how many are on the retry list.
-use Rattle.std.proofs.Common.{◌⊎◌, inl, inr, ◌≡◌, ℕ, zero, suc, ◌+◌, ◌^◌, ◌≤◌, ℤ, List, [], ◌∷◌, ◌++◌, map, length, Some, None, IfSome, is_some, option_map, refl, sym, ap, ◌∙◌, subst, arith}
+use Rattle.std.proofs.Common.{◌⊎◌, inl, inr, ◌≡◌, ℕ, zero, suc, ◌+◌, ◌^◌, ◌≤◌, ℤ, List, [], ◌∷◌, ◌++◌, map, length, None, IfSome, is_some, option_map, refl, sym, ap, ◌∙◌, subst, arith}
 use Rattle.std.specs.Prelude.{Bool}
 use Rattle.std.specs.List.{AllByRecursion}
 use Rattle.std.proofs.lemmas.Bool.{cases_eq, eq-eqb, ne_eqb}
@@ -26,17 +26,20 @@ use Rattle.gw_machine.proofs.Due.{agree}
 -- OTHER MEMBERS
 
 -- other members of the current events chain, and other assemblies, each of whose handles is held
-pub linked-members : (m new : Machine) → new.transactions ≡ m.transactions → IfSome new.active (Holds m.transactions) → AllByRecursion (IsRanked m.transactions) new.current_events.items → new.future_events ≡ m.future_events → new.waits ≡ m.waits → AllByRecursion (IsHeldBy m.transactions) new.assemblies.items
+pub linked-members : (m new : Machine) → new.transactions ≡ m.transactions → IfSome new.active (Holds m.transactions) → AllByRecursion (IsRanked m.transactions) new.current_events.items → new.future_events ≡ m.future_events → new.waits ≡ m.waits → AllByRecursion (IsHeldBy m.transactions) new.assemblies.items → new.chains ≡ m.chains
     → new.facilities ≡ m.facilities → new.storages ≡ m.storages → new.queues ≡ m.queues → new.clock ≡ m.clock → ResidesOnce (state_of new) → Linked m → Linked new
-linked-members m new ts a cs fs w sets fac sto que clock resides l = record {
+linked-members m new ts a cs fs w sets chs fac sto que clock resides l = record {
   active = rw ts a;
   current_events = rw ts cs;
   future_events = rw (ts, fs) l.future_events;
   delay_lists = λ e below. rw (ts, w) (l.delay_lists e (rw fac at below));
   retry = rw (ts, w) l.retry;
   assemblies = rw ts sets;
+  user_chains = λ c below. rw (ts, chs) (l.user_chains c (rw fac at below));
   listed = rw (w, fac) l.listed;
+  chained = rw (chs, fac) l.chained;
   sound = rw ts l.sound;
+  blocks = rw ts l.blocks;
   resides = resides;
   timed = timed-kept m new fac sto que clock l.timed;
 }
@@ -64,12 +67,12 @@ module _ (m : Machine) (tx : Tx) (priority : ℤ) (r : CanRest m tx) (rank : pri
       ap (λ (ns : List ℕ). record (state_of m) { lists = record (lists_of m) { active = None; current_events = ns } })
       (ap (map member_number) joined ∙ map-placed member_number (λ (y : Member). passes priority y.priority) (λ k. passes (rank_of tx.number) (rank_of k)) newcomer m.current_events.items same_places)
 
-  pub linked-joined : (new : Machine) → new.transactions ≡ m.transactions → new.active ≡ None → new.current_events.items ≡ cs → new.future_events ≡ m.future_events → new.waits ≡ m.waits → new.assemblies ≡ m.assemblies
+  pub linked-joined : (new : Machine) → new.transactions ≡ m.transactions → new.active ≡ None → new.current_events.items ≡ cs → new.future_events ≡ m.future_events → new.waits ≡ m.waits → new.assemblies ≡ m.assemblies → new.chains ≡ m.chains
       → new.facilities ≡ m.facilities → new.storages ≡ m.storages → new.queues ≡ m.queues → new.clock ≡ m.clock → ResidesOnce (state_of new) → Linked new
-  linked-joined new ts a c fs w sets fac sto que clock resides =
+  linked-joined new ts a c fs w sets chs fac sto que clock resides =
       linked-members m new ts (rw a tt)
       (rw (c, joined) (all_placed (IsRanked m.transactions) (λ (y : Member). passes priority y.priority) newcomer m.current_events.items (record { held = r.held; rank = rank }) r.linked.current_events))
-      fs w (rw sets r.linked.assemblies) fac sto que clock resides r.linked
+      fs w (rw sets r.linked.assemblies) chs fac sto que clock resides r.linked
 
 -- ASSEMBLIES
 
@@ -89,11 +92,11 @@ module _ (m : Machine) (tx : Tx) (a : Assembling) (r : CanRest m tx) (sets : Lis
   state-awaits =
       ap (λ (xs : List Assembly). record (state_of m) { lists = record (lists_of m) { active = None; assemblies = xs } }) (ap (map assembly_of) begun ∙ map-appended m.assemblies.items first)
 
-  pub linked-awaits : (new : Machine) → new.transactions ≡ m.transactions → new.active ≡ None → new.current_events ≡ m.current_events → new.future_events ≡ m.future_events → new.waits ≡ m.waits → new.assemblies.items ≡ sets
+  pub linked-awaits : (new : Machine) → new.transactions ≡ m.transactions → new.active ≡ None → new.current_events ≡ m.current_events → new.future_events ≡ m.future_events → new.waits ≡ m.waits → new.assemblies.items ≡ sets → new.chains ≡ m.chains
       → new.facilities ≡ m.facilities → new.storages ≡ m.storages → new.queues ≡ m.queues → new.clock ≡ m.clock → state_of new ≡ awaits_set tx.number a (state_of m) → Linked new
-  linked-awaits new ts none cs fs w is_sets fac sto que clock is =
+  linked-awaits new ts none cs fs w is_sets chs fac sto que clock is =
       linked-members m new ts (rw none tt) (rw cs r.linked.current_events) fs w
-      (rw (is_sets, begun) (all-appended (IsHeldBy m.transactions) m.assemblies.items first r.linked.assemblies r.held)) fac sto que clock
+      (rw (is_sets, begun) (all-appended (IsHeldBy m.transactions) m.assemblies.items first r.linked.assemblies r.held)) chs fac sto que clock
       (subst ResidesOnce (sym is) (resides-awaits tx.number a (state_of m) (ap (option_map (λ (x : Tx). x.number)) r.active) r.linked.resides)) r.linked
 
 -- HOW MANY

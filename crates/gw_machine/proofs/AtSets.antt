@@ -149,12 +149,12 @@ module _ (m : Machine) (l : Linked m) (a : HeldAssembly) (there : assembly_at a.
         ∙ ap (λ (xs : List Assembly). record (assembled (assembly_of a) (state_of m)) { lists = record (assembled (assembly_of a) (state_of m)).lists { assemblies = xs } })
         (ap (map assembly_of) left ∙ map-without_first assembly_of (is_of a.block a.set) m.assemblies.items)
 
-    pub linked-assembled : (new : Machine) → new.transactions ≡ m.transactions → new.active ≡ m.active → new.current_events.items ≡ cs → new.future_events ≡ m.future_events → new.waits ≡ m.waits → new.assemblies.items ≡ sets
+    pub linked-assembled : (new : Machine) → new.transactions ≡ m.transactions → new.active ≡ m.active → new.current_events.items ≡ cs → new.future_events ≡ m.future_events → new.waits ≡ m.waits → new.assemblies.items ≡ sets → new.chains ≡ m.chains
         → new.facilities ≡ m.facilities → new.storages ≡ m.storages → new.queues ≡ m.queues → new.clock ≡ m.clock → state_of new ≡ assembled (assembly_of a) (state_of m) → Linked new
-    linked-assembled new ts active c fs w s fac sto que clock now =
+    linked-assembled new ts active c fs w s chs fac sto que clock now =
         linked-members m new ts (rw active l.active)
         (rw (c, joined) (all_placed (IsRanked m.transactions) (λ (y : Member). int_le priority y.priority) newcomer m.current_events.items (record { held = waiter-held b is; rank = rank }) l.current_events))
-        fs w (rw (s, left) (all-without_first (IsHeldBy m.transactions) (is_held_of a.block a.set) m.assemblies.items l.assemblies)) fac sto que clock
+        fs w (rw (s, left) (all-without_first (IsHeldBy m.transactions) (is_held_of a.block a.set) m.assemblies.items l.assemblies)) chs fac sto que clock
         (subst ResidesOnce (sym now) (resides-assembled (assembly_of a) (state_of m) there l.resides)) l
 
   -- more are to come
@@ -167,9 +167,9 @@ module _ (m : Machine) (l : Linked m) (a : HeldAssembly) (there : assembly_at a.
         ap (λ (xs : List Assembly). record (state_of m) { lists = record (lists_of m) { assemblies = xs } })
         (ap (map assembly_of) changed ∙ map-with_first_changed assembly_of (is_of a.block a.set) fewer one_fewer (λ x. refl) m.assemblies.items)
 
-    pub linked-come : (new : Machine) → new.transactions ≡ m.transactions → new.active ≡ m.active → new.current_events ≡ m.current_events → new.future_events ≡ m.future_events → new.waits ≡ m.waits → new.assemblies.items ≡ sets
+    pub linked-come : (new : Machine) → new.transactions ≡ m.transactions → new.active ≡ m.active → new.current_events ≡ m.current_events → new.future_events ≡ m.future_events → new.waits ≡ m.waits → new.assemblies.items ≡ sets → new.chains ≡ m.chains
         → new.facilities ≡ m.facilities → new.storages ≡ m.storages → new.queues ≡ m.queues → new.clock ≡ m.clock → state_of new ≡ come_to (assembly_of a) (state_of m) → Linked new
-    linked-come new ts active cs fs w s fac sto que clock now =
+    linked-come new ts active cs fs w s chs fac sto que clock now =
         linked-members m new ts (rw active l.active) (rw cs l.current_events) fs w
-        (rw (s, changed) (all-with_first_changed (IsHeldBy m.transactions) (is_held_of a.block a.set) fewer (λ x h. h) m.assemblies.items l.assemblies)) fac sto que clock
+        (rw (s, changed) (all-with_first_changed (IsHeldBy m.transactions) (is_held_of a.block a.set) fewer (λ x h. h) m.assemblies.items l.assemblies)) chs fac sto que clock
         (subst ResidesOnce (sym now) (resides-come (assembly_of a) (state_of m) l.resides)) l

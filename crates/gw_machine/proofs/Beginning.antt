@@ -3,6 +3,7 @@ use Rattle.std.proofs.Common.{◌≡◌, ℕ, zero, suc, ◌+◌, ◌^◌, ◌<�
 use Rattle.std.specs.Prelude.{sum, Bool, ℤ}
 use Rattle.std.proofs.lemmas.Int.{ints}
 use Rattle.std.proofs.lemmas.List.{length-map, length-replicate}
+use Rattle.gw_chains.specs.declared.tx.Tx.{Tx}
 use Rattle.gw_chains.specs.declared.tx.Member.{Member}
 use Rattle.gw_object.specs.declared.parts.Entity.{Entity}
 use Rattle.gw_object.specs.declared.parts.Parts.{Parts}
@@ -14,13 +15,13 @@ use Rattle.gw_object.specs.Entities.{capacity_of}
 use Rattle.gw_entities.specs.Storage.{vacant}
 use Rattle.gw_entities.specs.Table.{FacilityTable, StorageTable, QueueTable, switches_of, savevalues_of, tables_of, initial_setting, initial_value, nothing_entered}
 use Rattle.gw_entities.specs.Tabulation.{Tabulation}
-use Rattle.gw_step.proofs.Nothing.{resides-nothing}
+use Rattle.gw_step.proofs.Nothing.{no_transaction, resides-nothing}
 use Rattle.gw_machine.specs.declared.machine.Machine.{Machine}
 use Rattle.gw_step.specs.Start.{nothing}
 use Rattle.gw_step.specs.State.{State}
 use Rattle.gw_step.specs.Residence.{ResidesOnce}
-use Rattle.gw_machine.specs.View.{state_of, member_number}
-use Rattle.gw_machine.specs.Coherence.{Linked, IsOf}
+use Rattle.gw_machine.specs.View.{state_of, handle_number, member_number}
+use Rattle.gw_machine.specs.Coherence.{AreInBlocks, Linked, IsOf}
 use Rattle.gw_machine.specs.Evaluating.{IsReadable}
 
 -- what the parts of such a machine are
@@ -38,6 +39,7 @@ pub record Begins (p : Parts) (n : ℕ) (ss : List ℕ) (m : Machine) : Type 0 w
   pub lists : m.waits.lists ≡ replicate (length p.entities) []
   pub retry : m.waits.retry ≡ []
   pub assemblies : m.assemblies.items ≡ []
+  pub chains : m.chains.lists ≡ replicate (length p.entities) []
   pub stir : m.stir ≡ false
   pub facilities : m.facilities ≡ record { facilities = map (λ _. idle) p.entities; passed = 0 }
   pub storages : m.storages ≡ record { storages = map (λ (e : Entity). vacant (capacity_of e.kind)) p.entities; passed = 0 }
@@ -49,23 +51,30 @@ pub record Begins (p : Parts) (n : ℕ) (ss : List ℕ) (m : Machine) : Type 0 w
   pub ended : m.ended ≡ None
 
 -- lists with no member
-empties : (n : ℕ) → map (map member_number) (replicate n []) ≡ replicate n []
-empties zero = refl
-empties (suc n) = ap (λ xs. [] ∷ xs) (empties n)
+empties : {T : Type 0} (number : T → ℕ) (n : ℕ) → map (map number) (replicate n []) ≡ replicate n []
+empties number zero = refl
+empties number (suc n) = ap (λ xs. [] ∷ xs) (empties number n)
+
+-- nobody is anywhere
+nobody_in : AreInBlocks (None ∷ [])
+nobody_in n = rw (no_transaction n) tt
 
 module _ (p : Parts) (count : ℕ) (streams : List ℕ) (m : Machine) (b : Begins p count streams m) where
   entities : length m.facilities.facilities ≡ length p.entities
   entities = ap (λ (f : FacilityTable). length f.facilities) b.facilities ∙ length-map p.entities (λ _. idle)
 
   delay_lists : (state_of m).lists.delay_lists ≡ replicate (length p.entities) []
-  delay_lists = rw b.lists (empties (length p.entities))
+  delay_lists = rw b.lists (empties member_number (length p.entities))
+
+  user_chains : (state_of m).lists.user_chains ≡ replicate (length p.entities) []
+  user_chains = rw b.chains (empties handle_number (length p.entities))
 
   pub state-nothing : state_of m ≡ nothing p count streams
   state-nothing =
       let f = ap (λ (x : FacilityTable). x.facilities) b.facilities in
       let s = ap (λ (x : StorageTable). x.storages) b.storages in
       let q = ap (λ (x : QueueTable). x.queues) b.queues in
-      rw (delay_lists, f, s, q, b.switches, b.savevalues, b.tables, b.clock, b.count, b.steps, b.streams, b.scheduled, b.transactions, b.active, b.current_events, b.future_events, b.retry, b.assemblies, b.stir, b.entries, b.ended) refl
+      rw (delay_lists, user_chains, f, s, q, b.switches, b.savevalues, b.tables, b.clock, b.count, b.steps, b.streams, b.scheduled, b.transactions, b.active, b.current_events, b.future_events, b.retry, b.assemblies, b.stir, b.entries, b.ended) refl
 
   pub linked-nothing : Linked m
   linked-nothing = record {
@@ -76,7 +85,10 @@ module _ (p : Parts) (count : ℕ) (streams : List ℕ) (m : Machine) (b : Begin
     listed = rw b.lists (length-replicate (length p.entities) [] ∙ sym entities);
     retry = rw b.retry tt;
     assemblies = rw b.assemblies tt;
+    user_chains = λ c below. rw (b.chains, at-replicate {X = List Tx} [] (length p.entities) c) tt;
+    chained = rw b.chains (length-replicate (length p.entities) [] ∙ sym entities);
     sound = b.sound;
+    blocks = rw b.transactions nobody_in;
     resides = subst ResidesOnce (sym state-nothing) (resides-nothing p count streams);
     timed = record { facilities = rw (b.facilities, b.clock) refl; storages = rw (b.storages, b.clock) refl; queues = rw (b.queues, b.clock) refl };
   }
@@ -88,6 +100,7 @@ module _ (p : Parts) (count : ℕ) (streams : List ℕ) (m : Machine) (b : Begin
     switches = ap (λ (xs : List Bool). length xs) b.switches ∙ length-map p.entities (λ (e : Entity). initial_setting e.kind) ∙ sym entities;
     savevalues = ap (λ (xs : List ℤ). length xs) b.savevalues ∙ length-map p.entities (λ (e : Entity). initial_value e.kind) ∙ sym entities;
     tables = ap (λ (xs : List Tabulation). length xs) b.tables ∙ length-map p.entities (λ (e : Entity). nothing_entered e.kind) ∙ sym entities;
+    chains = linked-nothing.chained;
     entries = omega (arith, ap sum b.entries, sum_by-replicate 0 (λ (x : ℕ). x) (length p.blocks + 1) refl);
     clock = rw b.clock (grind (arith, ints));
     sound = b.sound;

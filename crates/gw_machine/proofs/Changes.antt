@@ -1,25 +1,25 @@
 -- What the elementary changes make of a machine.
-use Rattle.std.proofs.Common.{◌≡◌, ℕ, ◌+◌, ◌<◌, ℤ, List, [], map, length, Some, None, option_map, sym, ap, ◌∙◌, subst, get_or}
+use Rattle.std.proofs.Common.{◌≡◌, ℕ, ◌+◌, ◌≤◌, ◌<◌, ℤ, List, [], map, length, Option, Some, None, option_map, refl, sym, ap, ◌∙◌, subst, get_or}
 use Rattle.std.specs.Prelude.{int_le, slice_set}
-use Rattle.gw_chains.specs.Chain.{in_time}
+use Rattle.gw_chains.specs.Chain.{Chain, in_time}
 use Rattle.gw_num.specs.Table.{at, put}
 use Rattle.gw_chains.specs.declared.tx.Tx.{Tx}
 use Rattle.gw_chains.specs.declared.tx.Member.{Member}
 use Rattle.gw_chains.specs.declared.tx.Event.{Event}
 use Rattle.gw_chains.specs.declared.assemblies.Assembly.{Assembly as HeldAssembly}
 use Rattle.gw_transactions.specs.declared.Transaction.{Transaction}
-use Rattle.gw_transactions.specs.Transactions.{LiveTransaction, put_attributes, put_parameter, Holds, IsSound}
+use Rattle.gw_transactions.specs.Transactions.{LiveTransaction, Population, put_attributes, put_parameter, Holds, IsSound}
 use Rattle.gw_num.proofs.Tables.{at-put, set-put, at-get_or_any, at-map}
 use Rattle.gw_transactions.proofs.Populations.{transaction_of}
 use Rattle.gw_machine.specs.declared.machine.Machine.{Machine}
-use Rattle.gw_step.specs.State.{FutureEvent, Assembly, priority_of, raised, delay_list}
+use Rattle.gw_step.specs.State.{FutureEvent, Assembly, priority_of, raised, delay_list, user_chain}
 use Rattle.gw_step.specs.Residence.{ResidesOnce, occurrences}
 use Rattle.gw_step.specs.Changes.{entered, assigned, destroyed, rests_until, arrives}
-use Rattle.gw_machine.specs.View.{state_of, event_of, member_number, assembly_of}
+use Rattle.gw_machine.specs.View.{state_of, lists_of, event_of, handle_number, member_number, assembly_of}
 use Rattle.gw_machine.specs.Coherence.{Linked, IsTimed, IsHeld, CanRest, Carries, Every, Others}
 use Rattle.gw_step.proofs.Lists.{all_placed, map-placed, all_same, map-map}
 use Rattle.gw_step.proofs.Residence.{resides-entered, resides-assigned, resides-destroyed, resides-rests, resides-arrives, alone}
-use Rattle.gw_machine.proofs.Handles.{active_carried, members_carried, events_carried, assemblies_carried, every, others, carries-set, carries-assign, carries-same, carries-insert, carries-remove}
+use Rattle.gw_machine.proofs.Handles.{active_carried, members_carried, events_carried, assemblies_carried, handles_carried, every, others, carries-set, carries-assign, carries-same, carries-insert, carries-remove}
 
 -- one more at a place, as the code writes it
 pub raised_is : (counts : List ℕ) (place was : ℕ) → place < length counts → was ≡ get_or counts place was → slice_set counts place (was + 1) ≡ raised place counts
@@ -31,14 +31,19 @@ raised_is counts place was within is =
 pub delay_list-at : (m : Machine) (e : ℕ) → delay_list e (state_of m) ≡ map member_number (at [] m.waits.lists e)
 delay_list-at m e = at-map (map member_number) [] m.waits.lists e
 
+-- and a user chain
+pub user_chain-at : (m : Machine) (c : ℕ) → user_chain c (state_of m) ≡ map handle_number (at [] m.chains.lists c)
+user_chain-at m c = at-map (map handle_number) [] m.chains.lists c
+
 -- the future events chain with one more member
 pub events-in_time : (tx : Tx) (time : ℤ) (xs : List Event) → map event_of (in_time (λ (e : Event). e.time) (record { tx = tx; time = time }) xs) ≡ in_time (λ (e : FutureEvent). e.time) (record { time = time; number = tx.number }) (map event_of xs)
 events-in_time tx time xs = map-placed event_of (λ (y : Event). int_le y.time time) (λ (y : FutureEvent). int_le y.time time) (record { tx = tx; time = time }) xs (all_same (λ (y : Event). int_le y.time time) xs)
 
--- what these changes leave as it was: who waits, the entities and the clock
+-- what these changes leave as it was: who waits, who is on a user chain, the entities and the clock
 pub record Keeps (m new : Machine) : Type 0 where
   pub waits : new.waits ≡ m.waits
   pub assemblies : new.assemblies.items ≡ m.assemblies.items
+  pub chains : new.chains ≡ m.chains
   pub facilities : new.facilities ≡ m.facilities
   pub storages : new.storages ≡ m.storages
   pub queues : new.queues ≡ m.queues
@@ -62,8 +67,11 @@ linked-carried m new c sound a cs fs k resides l =
       delay_lists = λ e below. rw k.waits (carried (at [] m.waits.lists e) (l.delay_lists e (rw k.facilities at below)));
       retry = rw k.waits (carried m.waits.retry l.retry);
       assemblies = rw k.assemblies (assemblies_carried Every m.transactions new.transactions c m.assemblies.items (every (λ (x : HeldAssembly). x.first.number) m.assemblies.items) l.assemblies);
+      user_chains = λ e below. rw k.chains (handles_carried Every m.transactions new.transactions c (at [] m.chains.lists e) (every handle_number (at [] m.chains.lists e)) (l.user_chains e (rw k.facilities at below)));
       listed = rw (k.waits, k.facilities) l.listed;
+      chained = rw (k.chains, k.facilities) l.chained;
       sound = sound;
+      blocks = c.blocks l.blocks;
       resides = resides;
       timed = timed-kept m new k.facilities k.storages k.queues k.clock l.timed;
     }
@@ -71,9 +79,9 @@ linked-carried m new c sound a cs fs k resides l =
 pub linked-entered : (m new : Machine) (tx : Tx) (t : Transaction) (next : ℕ)
     → new.transactions.txs ≡ put_attributes tx.number (record t { current = t.next; next = next }) m.transactions.txs → new.transactions.places ≡ m.transactions.places → IsSound new.transactions
     → new.active ≡ m.active → new.current_events.items ≡ m.current_events.items → new.future_events.items ≡ m.future_events.items → Keeps m new
-    → state_of new ≡ entered tx.number t next (state_of m) → priority_of m.transactions.txs tx.number ≡ t.priority → Linked m → Linked new
-linked-entered m new tx t next ts ps sound a cs fs k is pr l =
-    linked-carried m new (carries-set m.transactions new.transactions tx.number (record t { current = t.next; next = next }) ts ps pr) sound a cs fs k
+    → state_of new ≡ entered tx.number t next (state_of m) → t.next ≤ 4096 → priority_of m.transactions.txs tx.number ≡ t.priority → Linked m → Linked new
+linked-entered m new tx t next ts ps sound a cs fs k is block pr l =
+    linked-carried m new (carries-set m.transactions new.transactions tx.number (record t { current = t.next; next = next }) ts ps block pr) sound a cs fs k
     (subst ResidesOnce (sym is) (resides-entered tx.number t next (state_of m) l.resides)) l
 
 pub linked-assigned : (m new : Machine) (tx : Tx) (k : ℕ) (value : ℤ)
@@ -89,6 +97,13 @@ pub linked-same : (m new : Machine)
     → new.active ≡ m.active → new.current_events.items ≡ m.current_events.items → new.future_events.items ≡ m.future_events.items → Keeps m new
     → state_of new ≡ state_of m → Linked m → Linked new
 linked-same m new ts ps sound a cs fs keeps is l = linked-carried m new (carries-same m.transactions new.transactions ts ps) sound a cs fs keeps (subst ResidesOnce (sym is) l.resides) l
+
+-- room for more transactions, and on the current events chain, leaves a machine as it was
+pub linked-reserved : (m : Machine) (q : Population) (cs : Chain Member) → q.txs ≡ m.transactions.txs → q.places ≡ m.transactions.places → IsSound q → cs.items ≡ m.current_events.items → Linked m → Linked (record m { transactions = q; current_events = cs })
+linked-reserved m q cs ts ps sound items l =
+    linked-same m (record m { transactions = q; current_events = cs }) ts ps sound refl items refl (record { waits = refl; assemblies = refl; chains = refl; facilities = refl; storages = refl; queues = refl; clock = refl })
+    (ap (λ (xs : List (Option LiveTransaction)). record (state_of m) { transactions = xs; lists = record (lists_of m) { current_events = map member_number cs.items } }) ts
+    ∙ ap (λ (xs : List Member). record (state_of m) { lists = record (lists_of m) { current_events = map member_number xs } }) items) l
 
 pub linked-destroyed : (m new : Machine) (tx : Tx)
     → new.transactions.txs ≡ put None m.transactions.txs tx.number None → new.transactions.places ≡ put None m.transactions.places tx.number None → IsSound new.transactions
@@ -112,8 +127,13 @@ linked-destroyed m new tx ts ps sound r a cs fs k is =
       retry = rw k.waits (carried m.waits.retry none.retry l.retry);
       assemblies = rw k.assemblies (assemblies_carried (Others n) m.transactions new.transactions c m.assemblies.items
           (others (λ (x : HeldAssembly). x.first.number) n m.assemblies.items (sym (ap (occurrences n) (map-map (λ (a : Assembly). a.number) assembly_of m.assemblies.items)) ∙ none.assemblies)) l.assemblies);
+      user_chains = λ e below.
+          let within : e < length m.facilities.facilities = rw k.facilities at below in
+          rw k.chains (handles_carried (Others n) m.transactions new.transactions c (at [] m.chains.lists e) (others handle_number n (at [] m.chains.lists e) (sym (ap (occurrences n) (user_chain-at m e)) ∙ none.user_chains e)) (l.user_chains e within));
       listed = rw (k.waits, k.facilities) l.listed;
+      chained = rw (k.chains, k.facilities) l.chained;
       sound = sound;
+      blocks = c.blocks l.blocks;
       resides = subst ResidesOnce (sym is) (resides-destroyed n u.0 (state_of m) active u.1 l.resides);
       timed = timed-kept m new k.facilities k.storages k.queues k.clock l.timed;
     }
@@ -131,8 +151,11 @@ linked-rested m new tx time ps r a cs fs k is =
       delay_lists = λ e below. rw (ps, k.waits) (l.delay_lists e (rw k.facilities at below));
       retry = rw (ps, k.waits) l.retry;
       assemblies = rw (ps, k.assemblies) l.assemblies;
+      user_chains = λ e below. rw (ps, k.chains) (l.user_chains e (rw k.facilities at below));
       listed = rw (k.waits, k.facilities) l.listed;
+      chained = rw (k.chains, k.facilities) l.chained;
       sound = rw ps l.sound;
+      blocks = rw ps l.blocks;
       resides = subst ResidesOnce (sym is) (resides-rests tx.number time (state_of m) active l.resides);
       timed = timed-kept m new k.facilities k.storages k.queues k.clock l.timed;
     }
@@ -140,11 +163,11 @@ linked-rested m new tx time ps r a cs fs k is =
 pub linked-arrived : (m new : Machine) (tx : Tx) (t : LiveTransaction) (b : ℕ) (priority time : ℤ)
     → new.transactions.txs ≡ put None m.transactions.txs (length m.transactions.txs) (Some t) → new.transactions.places ≡ put None m.transactions.places (length m.transactions.txs) (Some tx.place) → tx.number ≡ length m.transactions.txs → IsSound new.transactions
     → new.active ≡ m.active → new.current_events.items ≡ m.current_events.items → new.future_events.items ≡ in_time (λ (e : Event). e.time) (record { tx = tx; time = time }) m.future_events.items → Keeps m new
-    → state_of new ≡ arrives b priority time (state_of m) → Linked m → Linked new
-linked-arrived m new tx t b priority time ts ps ns sound a cs fs k is l =
+    → state_of new ≡ arrives b priority time (state_of m) → t.attributes.current ≤ 4096 → Linked m → Linked new
+linked-arrived m new tx t b priority time ts ps ns sound a cs fs k is block l =
     let p = m.transactions in
     let q = new.transactions in
-    let c = carries-insert p q t tx.place l.sound ts ps in
+    let c = carries-insert p q t tx.place l.sound block ts ps in
     let held : Holds q tx = ap (λ xs. at None xs tx.number) ps ∙ ap (λ k. at None (put None p.places k (Some tx.place)) tx.number) (sym ns) ∙ at-put None p.places tx.number (Some tx.place) in
     let carried = λ (xs : List Member). members_carried Every p q c xs (every number_of xs) in
     record {
@@ -155,8 +178,11 @@ linked-arrived m new tx t b priority time ts ps ns sound a cs fs k is l =
       delay_lists = λ e below. rw k.waits (carried (at [] m.waits.lists e) (l.delay_lists e (rw k.facilities at below)));
       retry = rw k.waits (carried m.waits.retry l.retry);
       assemblies = rw k.assemblies (assemblies_carried Every p q c m.assemblies.items (every (λ (x : HeldAssembly). x.first.number) m.assemblies.items) l.assemblies);
+      user_chains = λ e below. rw k.chains (handles_carried Every p q c (at [] m.chains.lists e) (every handle_number (at [] m.chains.lists e)) (l.user_chains e (rw k.facilities at below)));
       listed = rw (k.waits, k.facilities) l.listed;
+      chained = rw (k.chains, k.facilities) l.chained;
       sound = sound;
+      blocks = c.blocks l.blocks;
       resides = subst ResidesOnce (sym is) (resides-arrives b priority time (state_of m) l.resides);
       timed = timed-kept m new k.facilities k.storages k.queues k.clock l.timed;
     }

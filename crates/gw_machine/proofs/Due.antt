@@ -65,14 +65,17 @@ module _ (m : Machine) (time : ℤ) (cs : List Member) (fs : List Event) (g : En
       (ap (map event_of) left ∙ map-later event_of (λ (e : Event). e.time) (λ (e : FutureEvent). e.time) time m.future_events.items (λ x. refl))
       ∙ ap (λ (h : EntityStates). record (clock_moves time (state_of m)) { entities = h }) passed
 
-  pub linked-moved : (new : Machine) → new.transactions ≡ m.transactions → new.active ≡ m.active → new.current_events.items ≡ cs → new.future_events.items ≡ fs → new.waits ≡ m.waits → new.assemblies ≡ m.assemblies → length new.facilities.facilities ≡ length m.facilities.facilities → IsTimed new → state_of new ≡ clock_moves time (state_of m) → Linked new
-  linked-moved new ts a c f ws assemblies count timed is = record {
+  pub linked-moved : (new : Machine) → new.transactions ≡ m.transactions → new.active ≡ m.active → new.current_events.items ≡ cs → new.future_events.items ≡ fs → new.waits ≡ m.waits → new.assemblies ≡ m.assemblies → new.chains ≡ m.chains → length new.facilities.facilities ≡ length m.facilities.facilities → IsTimed new → state_of new ≡ clock_moves time (state_of m) → Linked new
+  linked-moved new ts a c f ws assemblies chs count timed is = record {
     active = rw (ts, a) l.active;
     current_events = rw (ts, c, joined) (ranked-joined m.transactions time m.future_events.items m.current_events.items l.future_events l.current_events);
     future_events = rw (ts, f, left) (all_later (IsHeld m.transactions) (λ (e : Event). e.time) time m.future_events.items l.future_events);
     delay_lists = λ e below. rw (ts, ws) (l.delay_lists e (rw count at below));
     retry = rw (ts, ws) l.retry;
     assemblies = rw (ts, assemblies) l.assemblies;
+    user_chains = λ k below. rw (ts, chs) (l.user_chains k (rw count at below));
+    chained = rw (chs, count) l.chained;
+    blocks = rw ts l.blocks;
     listed = rw (ws, count) l.listed;
     sound = rw ts l.sound;
     resides = subst ResidesOnce (sym is) (resides-clock time (state_of m) l.resides);

@@ -1,5 +1,5 @@
 -- The handles of a machine through a change of its transactions.
-use Rattle.std.proofs.Common.{◌≡◌, ℕ, ℤ, List, [], ◌∷◌, map, length, Option, Some, None, IfSome, option_map, refl, sym, ap, ◌∙◌, arith, inl, inr}
+use Rattle.std.proofs.Common.{◌≡◌, ℕ, ◌≤◌, ℤ, List, [], ◌∷◌, map, length, Option, Some, None, IfSome, option_map, refl, sym, ap, ◌∙◌, subst, arith, inl, inr}
 use Rattle.std.specs.List.{AllByRecursion}
 use Rattle.std.proofs.lemmas.Bool.{cases_eq}
 use Rattle.gw_chains.specs.declared.tx.Tx.{Tx}
@@ -8,11 +8,11 @@ use Rattle.gw_chains.specs.declared.tx.Event.{Event}
 use Rattle.gw_chains.specs.declared.assemblies.Assembly.{Assembly}
 use Rattle.gw_transactions.specs.declared.Transaction.{Transaction}
 use Rattle.gw_num.specs.Table.{at, put}
-use Rattle.gw_transactions.specs.Transactions.{LiveTransaction, Population, put_attributes, put_parameter, with_parameter, Holds, IsSound}
-use Rattle.gw_num.proofs.Tables.{at-put, at-put_other}
+use Rattle.gw_transactions.specs.Transactions.{LiveTransaction, Population, put_attributes, put_parameter, put_chain, with_attributes, with_parameter, with_chain, Holds, IsSound}
+use Rattle.gw_num.proofs.Tables.{at-put, at-put_other, by_entry}
 use Rattle.gw_step.specs.State.{priority_in, priority_of}
 use Rattle.gw_step.specs.Residence.{occurrences}
-use Rattle.gw_machine.specs.Coherence.{IsRanked, IsHeld, IsHeldBy, Carries, Every, Others}
+use Rattle.gw_machine.specs.Coherence.{AreInBlocks, IsRanked, IsHeld, IsHeldBy, Carries, Every, Others}
 use Rattle.gw_step.proofs.Residence.{same_number}
 use Rattle.gw_step.proofs.Attributes.{priority-attributes}
 
@@ -34,6 +34,10 @@ events_carried these p q c (x ∷ xs) ts h = (c.held x.tx ts.0 h.0, events_carri
 pub assemblies_carried : (these : ℕ → Type 0) (p q : Population) → Carries these p q → (xs : List Assembly) → AllByRecursion (λ (x : Assembly). these x.first.number) xs → AllByRecursion (IsHeldBy p) xs → AllByRecursion (IsHeldBy q) xs
 assemblies_carried these p q c [] ts h = tt
 assemblies_carried these p q c (x ∷ xs) ts h = (c.held x.first ts.0 h.0, assemblies_carried these p q c xs ts.1 h.1)
+
+pub handles_carried : (these : ℕ → Type 0) (p q : Population) → Carries these p q → (xs : List Tx) → AllByRecursion (λ (x : Tx). these x.number) xs → AllByRecursion (Holds p) xs → AllByRecursion (Holds q) xs
+handles_carried these p q c [] ts h = tt
+handles_carried these p q c (x ∷ xs) ts h = (c.held x ts.0 h.0, handles_carried these p q c xs ts.1 h.1)
 
 pub every : {A : Type 0} (f : A → ℕ) (xs : List A) → AllByRecursion (λ x. Every (f x)) xs
 every f [] = tt
@@ -58,41 +62,90 @@ priority-assigned n k value ts m = elim (cases_eq m n) [
   | inr e ↦ ap priority_in (at-put_other None ts n m _ e)
 ]
 
+-- another user chain, or none, changes no priority
+priority-chain : (chain : Option ℕ) (o : Option LiveTransaction) → priority_in (option_map (with_chain chain) o) ≡ priority_in o
+priority-chain chain None = refl
+priority-chain chain (Some t) = refl
+
+priority-chained : (n : ℕ) (chain : Option ℕ) (ts : List (Option LiveTransaction)) (m : ℕ) → priority_of (put_chain n chain ts) m ≡ priority_of ts m
+priority-chained n chain ts m = elim (cases_eq m n) [
+  | inl e ↦ ap (priority_of (put_chain n chain ts)) e ∙ ap priority_in (at-put None ts n _) ∙ priority-chain chain (at None ts n) ∙ sym (ap (priority_of ts) e)
+  | inr e ↦ ap priority_in (at-put_other None ts n m _ e)
+]
+
+-- CURRENT BLOCKS
+
+-- who is there is in a block of an object, or was in none yet
+abbrev InBlocks : Option LiveTransaction → Type 0
+InBlocks o = IfSome o (λ (t : LiveTransaction). t.attributes.current ≤ 4096)
+
+-- one transaction is now another, or gone
+in_blocks-put : (ts : List (Option LiveTransaction)) (n : ℕ) (o : Option LiveTransaction) → InBlocks o → AreInBlocks ts → AreInBlocks (put None ts n o)
+in_blocks-put ts n o here h = by_entry None ts n o (λ k v. InBlocks v) here (λ k other. h k)
+
+with_attributes_in : (t : Transaction) (o : Option LiveTransaction) → t.current ≤ 4096 → InBlocks (option_map (with_attributes t) o)
+with_attributes_in t None h = tt
+with_attributes_in t (Some u) h = h
+
+with_parameter_in : (k : ℕ) (value : ℤ) (o : Option LiveTransaction) → InBlocks o → InBlocks (option_map (with_parameter k value) o)
+with_parameter_in k value None h = tt
+with_parameter_in k value (Some u) h = h
+
+with_chain_in : (chain : Option ℕ) (o : Option LiveTransaction) → InBlocks o → InBlocks (option_map (with_chain chain) o)
+with_chain_in chain None h = tt
+with_chain_in chain (Some u) h = h
+
+-- the current block of one who is there
+pub current_in : (ts : List (Option LiveTransaction)) (n : ℕ) (t : LiveTransaction) → AreInBlocks ts → at None ts n ≡ Some t → t.attributes.current ≤ 4096
+current_in ts n t h there = subst InBlocks there (h n)
+
 -- WHAT EACH CALL CARRIES
 
 -- one transaction was written, with the priority that it had
-pub carries-set : (p q : Population) (n : ℕ) (t : Transaction) → q.txs ≡ put_attributes n t p.txs → q.places ≡ p.places → priority_of p.txs n ≡ t.priority → Carries Every p q
-carries-set p q n t ts ps pr = record {
+pub carries-set : (p q : Population) (n : ℕ) (t : Transaction) → q.txs ≡ put_attributes n t p.txs → q.places ≡ p.places → t.current ≤ 4096 → priority_of p.txs n ≡ t.priority → Carries Every p q
+carries-set p q n t ts ps block pr = record {
   held = λ h _ is. ap (λ xs. at None xs h.number) ps ∙ is;
   rank = λ h _ is. elim (cases_eq h.number n) [
     | inl e ↦ ap (λ xs. priority_of xs h.number) ts ∙ ap (priority_of (put_attributes n t p.txs)) e ∙ ap priority_in (at-put None p.txs n _) ∙ priority-attributes t (at None p.txs n) pr ∙ sym (ap (priority_of p.txs) e)
     | inr e ↦ ap (λ xs. priority_of xs h.number) ts ∙ ap priority_in (at-put_other None p.txs n h.number _ e)
   ];
+  blocks = λ h. subst AreInBlocks (sym ts) (in_blocks-put p.txs n _ (with_attributes_in t (at None p.txs n) block) h);
 }
 
 -- one transaction was written, with another priority
-pub carries-ranked : (p q : Population) (n : ℕ) (t : Transaction) → q.txs ≡ put_attributes n t p.txs → q.places ≡ p.places → Carries (Others n) p q
-carries-ranked p q n t ts ps = record {
+pub carries-ranked : (p q : Population) (n : ℕ) (t : Transaction) → q.txs ≡ put_attributes n t p.txs → q.places ≡ p.places → t.current ≤ 4096 → Carries (Others n) p q
+carries-ranked p q n t ts ps block = record {
   held = λ h other is. ap (λ xs. at None xs h.number) ps ∙ is;
   rank = λ h other is. ap (λ xs. priority_of xs h.number) ts ∙ ap priority_in (at-put_other None p.txs n h.number _ other);
+  blocks = λ h. subst AreInBlocks (sym ts) (in_blocks-put p.txs n _ (with_attributes_in t (at None p.txs n) block) h);
 }
 
 -- nothing changed
 pub carries-same : (p q : Population) → q.txs ≡ p.txs → q.places ≡ p.places → Carries Every p q
-carries-same p q ts ps = record { held = λ h _ is. ap (λ xs. at None xs h.number) ps ∙ is; rank = λ h _ is. ap (λ xs. priority_of xs h.number) ts }
+carries-same p q ts ps = record { held = λ h _ is. ap (λ xs. at None xs h.number) ps ∙ is; rank = λ h _ is. ap (λ xs. priority_of xs h.number) ts; blocks = λ h. subst AreInBlocks (sym ts) h }
 
 -- a parameter of one was set
 pub carries-assign : (p q : Population) (n k : ℕ) (value : ℤ) → q.txs ≡ put_parameter n k value p.txs → q.places ≡ p.places → Carries Every p q
 carries-assign p q n k value ts ps = record {
   held = λ h _ is. ap (λ xs. at None xs h.number) ps ∙ is;
   rank = λ h _ is. ap (λ xs. priority_of xs h.number) ts ∙ priority-assigned n k value p.txs h.number;
+  blocks = λ h. subst AreInBlocks (sym ts) (in_blocks-put p.txs n _ (with_parameter_in k value (at None p.txs n) (h n)) h);
+}
+
+-- one is a member of another user chain, or of none
+pub carries-chain : (p q : Population) (n : ℕ) (chain : Option ℕ) → q.txs ≡ put_chain n chain p.txs → q.places ≡ p.places → Carries Every p q
+carries-chain p q n chain ts ps = record {
+  held = λ h _ is. ap (λ xs. at None xs h.number) ps ∙ is;
+  rank = λ h _ is. ap (λ xs. priority_of xs h.number) ts ∙ priority-chained n chain p.txs h.number;
+  blocks = λ h. subst AreInBlocks (sym ts) (in_blocks-put p.txs n _ (with_chain_in chain (at None p.txs n) (h n)) h);
 }
 
 -- one was made
-pub carries-insert : (p q : Population) (t : LiveTransaction) (place : ℕ) → IsSound p → q.txs ≡ put None p.txs (length p.txs) (Some t) → q.places ≡ put None p.places (length p.txs) (Some place) → Carries Every p q
-carries-insert p q t place sound ts ps = record {
+pub carries-insert : (p q : Population) (t : LiveTransaction) (place : ℕ) → IsSound p → t.attributes.current ≤ 4096 → q.txs ≡ put None p.txs (length p.txs) (Some t) → q.places ≡ put None p.places (length p.txs) (Some place) → Carries Every p q
+carries-insert p q t place sound block ts ps = record {
   held = λ h _ is. ap (λ xs. at None xs h.number) ps ∙ at-put_other None p.places (length p.txs) h.number (Some place) (λ e. absurd (omega (arith, sound.below h.number h.place is, e))) ∙ is;
   rank = λ h _ is. ap (λ xs. priority_of xs h.number) ts ∙ ap priority_in (at-put_other None p.txs (length p.txs) h.number (Some t) (λ e. absurd (omega (arith, sound.below h.number h.place is, e))));
+  blocks = λ h. subst AreInBlocks (sym ts) (in_blocks-put p.txs (length p.txs) (Some t) block h);
 }
 
 -- one was taken out
@@ -100,4 +153,13 @@ pub carries-remove : (p q : Population) (n : ℕ) → q.txs ≡ put None p.txs n
 carries-remove p q n ts ps = record {
   held = λ h other is. ap (λ xs. at None xs h.number) ps ∙ at-put_other None p.places n h.number None other ∙ is;
   rank = λ h other is. ap (λ xs. priority_of xs h.number) ts ∙ ap priority_in (at-put_other None p.txs n h.number None other);
+  blocks = λ h. subst AreInBlocks (sym ts) (in_blocks-put p.txs n None tt h);
+}
+
+-- two changes, one after the other
+pub carries-then : (p q r : Population) → Carries Every p q → Carries Every q r → Carries Every p r
+carries-then p q r a b = record {
+  held = λ h _ is. b.held h tt (a.held h tt is);
+  rank = λ h _ is. b.rank h tt (a.held h tt is) ∙ a.rank h tt is;
+  blocks = λ h. b.blocks (a.blocks h);
 }

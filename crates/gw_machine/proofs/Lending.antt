@@ -1,17 +1,19 @@
 -- What a machine lends to those who evaluate for a subject, and what may be read of it.
-use Rattle.std.proofs.Common.{◌≡◌, ℕ, ◌≤◌, ◌==◌, List, length, Some, None, false, refl, ap, ◌∙◌, arith}
+use Rattle.std.proofs.Common.{◌≡◌, ℕ, ◌≤◌, ◌==◌, List, [], length, pos, Some, None, false, refl, sym, ap, ◌∙◌, arith}
 use Rattle.std.specs.Prelude.{sum}
 use Rattle.std.specs.Option.{option_map_or}
+use Rattle.std.proofs.lemmas.List.{length-map}
 use Rattle.std.proofs.lemmas.List.Sums.{count_by-le-length}
 use Rattle.gw_num.specs.Table.{at}
 use Rattle.gw_blocks.specs.declared.parts.EntityAttribute.{EntityAttribute}
-use Rattle.gw_blocks.specs.declared.parts.EntityAttribute.TheVariants.{BlockCount}
+use Rattle.gw_blocks.specs.declared.parts.EntityAttribute.TheVariants.{ChainMembers, BlockCount}
 use Rattle.gw_blocks.specs.declared.parts.Operand.{Operand}
 use Rattle.gw_blocks.specs.declared.parts.Operand.TheVariants.{Parameter, OfEntity}
 use Rattle.gw_object.specs.declared.parts.Parts.{Parts}
 use Rattle.gw_entities.specs.Attributes.{attribute_of}
 use Rattle.gw_entities.specs.Table.{FacilityTable, StorageTable, QueueTable}
 use Rattle.gw_code_flow.specs.Environment.{kept_value, ReadTheSame}
+use Rattle.gw_chains.specs.Lists as chain_lists
 use Rattle.gw_transactions.specs.Transactions.{LiveTransaction, here_count}
 use Rattle.gw_plus.specs.declared.env.Env.{Env}
 use Rattle.gw_plus.specs.Reading as lent
@@ -19,9 +21,10 @@ use Rattle.gw_step.proofs.Residence.{at-le-sum}
 use Rattle.gw_step.specs.Times.{readings}
 use Rattle.gw_machine.specs.declared.machine.Machine.{Machine}
 use Rattle.gw_machine.specs.declared.values.Subject.{Subject}
-use Rattle.gw_machine.specs.View.{state_of}
+use Rattle.gw_machine.specs.View.{state_of, handle_number}
 use Rattle.gw_machine.specs.Coherence.{IsOf}
 use Rattle.gw_machine.specs.Evaluating.{parameters_for, environment_for, CanEvaluate}
+use Rattle.gw_machine.proofs.Changes.{user_chain-at}
 
 -- what is lent is the machine's own
 pub record Lends (m : Machine) (subject : Subject) (env : Env) : Type 0 where
@@ -37,11 +40,18 @@ pub record Lends (m : Machine) (subject : Subject) (env : Env) : Type 0 where
   pub switches : env.switches.now ≡ m.switches
   pub savevalues : env.savevalues.now ≡ m.savevalues
   pub tables : env.tables.now ≡ m.tables
+  pub chains : env.chains.now ≡ m.chains
   pub entries : env.entries.now ≡ m.entries.items
   pub here : (b : ℕ) → at 0 env.here.now b ≡ here_count b m.transactions.txs
 
 module _ (m : Machine) (subject : Subject) (env : Env) (l : Lends m subject env) where
+  members_same : (c : ℕ) → (lent.readings_of env).members c ≡ (readings (state_of m)).members c
+  members_same c =
+      ap (λ (chains : chain_lists.Linked). length (at [] chains.lists c)) l.chains
+      ∙ sym (ap length (user_chain-at m c) ∙ length-map (at [] m.chains.lists c) handle_number)
+
   of_entity_same : (attribute : EntityAttribute) (n : ℕ) → attribute_of (lent.readings_of env) attribute n ≡ attribute_of (readings (state_of m)) attribute n
+  of_entity_same ChainMembers c = ap pos (members_same c)
   of_entity_same BlockCount b = let same = l.here b in cc
   of_entity_same attribute n = cc
 
@@ -50,10 +60,10 @@ module _ (m : Machine) (subject : Subject) (env : Env) (l : Lends m subject env)
   kept_same (OfEntity a) = ap Some (of_entity_same a.attribute a.number)
   kept_same o = cc
 
-  pub reads_the_same : ReadTheSame (lent.environment_of env) (environment_for subject (state_of m))
+  reads_the_same : ReadTheSame (lent.environment_of env) (environment_for subject (state_of m))
   reads_the_same = record { kept = kept_same }
 
-  pub lends_of : CanEvaluate m subject → (p : Parts) → IsOf p m → lent.IsOf p env
+  lends_of : CanEvaluate m subject → (p : Parts) → IsOf p m → lent.IsOf p env
   lends_of can p own =
       let r = can.readable in
       record {
@@ -63,6 +73,7 @@ module _ (m : Machine) (subject : Subject) (env : Env) (l : Lends m subject env)
         switches = ap length l.switches ∙ r.switches ∙ own;
         savevalues = ap length l.savevalues ∙ r.savevalues ∙ own;
         tables = ap length l.tables ∙ r.tables ∙ own;
+        chains = ap (λ (chains : chain_lists.Linked). length chains.lists) l.chains ∙ r.chains ∙ own;
         entries = λ b.
             let fewer : at 0 m.entries.items b ≤ sum m.entries.items = at-le-sum 0 (λ x. x) m.entries.items b refl in
             omega (arith, ap (λ (xs : List ℕ). at 0 xs b) l.entries, fewer, r.entries);
@@ -73,3 +84,7 @@ module _ (m : Machine) (subject : Subject) (env : Env) (l : Lends m subject env)
         clock = rw l.clock r.clock;
         mark = rw l.mark can.mark;
       }
+
+  -- who evaluates for the subject reads the same as in the state, and of the same object
+  pub lends : CanEvaluate m subject → ReadTheSame (lent.environment_of env) (environment_for subject (state_of m)) × ((p : Parts) → IsOf p m → lent.IsOf p env)
+  lends can = (reads_the_same, lends_of can)

@@ -13,3 +13,4 @@ pub mod Retrying
 pub mod AtRest
 pub mod AtSets
 pub mod AtCopies
+pub mod AtChains

@@ -35,9 +35,9 @@ module _ (m : Machine) (tx : Tx) (priority : ℤ) where
       ∙ ap (λ (xs : List (List Member)). record (state_of m) { lists = record (lists_of m) { active = None; delay_lists = map (map member_number) xs; retry = map member_number m.waits.retry ++ tx.number ∷ [] } }) same
 
   pub linked-retries : CanRest m tx → priority_of m.transactions.txs tx.number ≡ priority → (ws : Waiting) → ws.retry ≡ m.waits.retry ++ newcomer ∷ [] → ws.lists ≡ m.waits.lists
-      → (new : Machine) → new.transactions ≡ m.transactions → new.active ≡ None → new.current_events ≡ m.current_events → new.future_events ≡ m.future_events → new.waits ≡ ws → new.assemblies ≡ m.assemblies
+      → (new : Machine) → new.transactions ≡ m.transactions → new.active ≡ None → new.current_events ≡ m.current_events → new.future_events ≡ m.future_events → new.waits ≡ ws → new.assemblies ≡ m.assemblies → new.chains ≡ m.chains
       → new.facilities ≡ m.facilities → new.storages ≡ m.storages → new.queues ≡ m.queues → new.clock ≡ m.clock → state_of new ≡ retries tx.number (state_of m) → Linked new
-  linked-retries r rank ws joined same new ts a cs fs w assemblies fac sto que clock is =
+  linked-retries r rank ws joined same new ts a cs fs w assemblies chs fac sto que clock is =
       let l = r.linked in
       record {
         active = rw a tt;
@@ -46,6 +46,9 @@ module _ (m : Machine) (tx : Tx) (priority : ℤ) where
         delay_lists = λ e below. rw (ts, w, same) (l.delay_lists e (rw fac at below));
         retry = rw (ts, w, joined) (all-joined (IsRanked m.transactions) m.waits.retry newcomer l.retry (record { held = r.held; rank = rank }));
         assemblies = rw (ts, assemblies) l.assemblies;
+        user_chains = λ c below. rw (ts, chs) (l.user_chains c (rw fac at below));
+        chained = rw (chs, fac) l.chained;
+        blocks = rw ts l.blocks;
         listed = rw (w, same, fac) l.listed;
         sound = rw ts l.sound;
         resides = subst ResidesOnce (sym is) (resides-retries tx.number (state_of m) (ap (option_map (λ (x : Tx). x.number)) r.active) l.resides);
@@ -64,15 +67,18 @@ module _ (m : Machine) (l : Linked m) (cs : List Member) (ws : Waiting) (joined 
       ∙ ap (λ (xs : List (List Member)). record (woken (state_of m)) { lists = record (woken (state_of m)).lists { delay_lists = map (map member_number) xs; retry = map member_number ws.retry } }) same
       ∙ ap (λ (xs : List Member). record (woken (state_of m)) { lists = record (woken (state_of m)).lists { retry = map member_number xs } }) none
 
-  pub linked-woken : (new : Machine) → new.transactions ≡ m.transactions → new.active ≡ m.active → new.current_events.items ≡ cs → new.future_events ≡ m.future_events → new.waits ≡ ws → new.assemblies ≡ m.assemblies
+  pub linked-woken : (new : Machine) → new.transactions ≡ m.transactions → new.active ≡ m.active → new.current_events.items ≡ cs → new.future_events ≡ m.future_events → new.waits ≡ ws → new.assemblies ≡ m.assemblies → new.chains ≡ m.chains
       → new.facilities ≡ m.facilities → new.storages ≡ m.storages → new.queues ≡ m.queues → new.clock ≡ m.clock → state_of new ≡ woken (state_of m) → Linked new
-  linked-woken new ts a c fs w assemblies fac sto que clock is = record {
+  linked-woken new ts a c fs w assemblies chs fac sto que clock is = record {
     active = rw (ts, a) l.active;
     current_events = rw (ts, c, joined) (all_all_behind (IsRanked m.transactions) (λ (x : Member). x.priority) m.waits.retry m.current_events.items l.retry l.current_events);
     future_events = rw (ts, fs) l.future_events;
     delay_lists = λ e below. rw (ts, w, same) (l.delay_lists e (rw fac at below));
     retry = rw (w, none) tt;
     assemblies = rw (ts, assemblies) l.assemblies;
+    user_chains = λ c below. rw (ts, chs) (l.user_chains c (rw fac at below));
+    chained = rw (chs, fac) l.chained;
+    blocks = rw ts l.blocks;
     listed = rw (w, same, fac) l.listed;
     sound = rw ts l.sound;
     resides = subst ResidesOnce (sym is) (resides-woken (state_of m) l.resides);

@@ -21,21 +21,26 @@ use Rattle.gw_step.proofs.Residence.{same_number, waits-once, resides-waits, res
 use Rattle.gw_machine.proofs.Changes.{delay_list-at, timed-kept}
 use Rattle.gw_machine.proofs.Due.{agree}
 
--- a change of one delay list
-delays-put : (old new : List (List Member)) (e : ℕ) (f : List Member → List Member) → new ≡ changed e f old → map (map member_number) new ≡ put [] (map (map member_number) old) e (map member_number (f (at [] old e)))
-delays-put old new e f changes = ap (map (map member_number)) changes ∙ map-put (map member_number) [] old e (f (at [] old e))
+-- LISTS OF SEVERAL ENTITIES
 
--- what holds of the members of one list and of those of each other
-all_changed : (P : Member → Type 0) (old new : List (List Member)) (e : ℕ) (f : List Member → List Member) → new ≡ changed e f old → AllByRecursion P (f (at [] old e)) → (k : ℕ) → AllByRecursion P (at [] old k) → AllByRecursion P (at [] new k)
-all_changed P old new e f changes here k other =
-    elim (cases_eq k e) [
-      | inl same ↦ rw (changes, same, at-put [] old e (f (at [] old e))) here
-      | inr apart ↦ rw (changes, at-put_other [] old e k (f (at [] old e)) apart) other
-    ]
+module _ {T : Type 0} where
+  -- a change of one list
+  pub lists-put : (number : T → ℕ) (old new : List (List T)) (e : ℕ) (f : List T → List T) → new ≡ changed e f old → map (map number) new ≡ put [] (map (map number) old) e (map number (f (at [] old e)))
+  lists-put number old new e f changes = ap (map (map number)) changes ∙ map-put (map number) [] old e (f (at [] old e))
 
--- there are as many lists
-as_many : (old new : List (List Member)) (e : ℕ) (f : List Member → List Member) → e < length old → new ≡ changed e f old → length new ≡ length old
-as_many old new e f there changes = ap length changes ∙ length-put [] old e (f (at [] old e)) there
+  -- what holds of the members of one list and of those of each other
+  pub all_changed : (P : T → Type 0) (old new : List (List T)) (e : ℕ) (f : List T → List T) → new ≡ changed e f old → AllByRecursion P (f (at [] old e)) → (k : ℕ) → AllByRecursion P (at [] old k) → AllByRecursion P (at [] new k)
+  all_changed P old new e f changes here k other =
+      elim (cases_eq k e) [
+        | inl same ↦ rw (changes, same, at-put [] old e (f (at [] old e))) here
+        | inr apart ↦ rw (changes, at-put_other [] old e k (f (at [] old e)) apart) other
+      ]
+
+  -- there are as many lists
+  pub as_many : (old new : List (List T)) (e : ℕ) (f : List T → List T) → e < length old → new ≡ changed e f old → length new ≡ length old
+  as_many old new e f there changes = ap length changes ∙ length-put [] old e (f (at [] old e)) there
+
+-- DELAY LISTS
 
 all_without : (P : Member → Type 0) (xs : List Member) (i : ℕ) → AllByRecursion P xs → AllByRecursion P (remove xs i)
 all_without P [] zero h = tt
@@ -88,13 +93,13 @@ module _ (m : Machine) (l : Linked m) (e : ℕ) (below : e < length m.facilities
     state-waits =
         ap (λ (xs : List Member). record (state_of m) { lists = record (lists_of m) { active = None; delay_lists = map (map member_number) ws; retry = map member_number xs } }) kept
         ∙ ap (λ (ds : List (List ℕ)). record (state_of m) { lists = record (lists_of m) { active = None; delay_lists = ds } })
-        (delays-put m.waits.lists ws e (behind (λ (x : Member). x.priority) newcomer) changes
+        (lists-put member_number m.waits.lists ws e (behind (λ (x : Member). x.priority) newcomer) changes
         ∙ ap (put [] (map (map member_number) m.waits.lists) e)
         (joined-numbers (at [] m.waits.lists e) (l.delay_lists e below) ∙ ap (behind (priority_of m.transactions.txs) tx.number) (sym (delay_list-at m e))))
 
-    pub linked-waits : (new : Machine) → new.transactions ≡ m.transactions → new.active ≡ None → new.current_events ≡ m.current_events → new.future_events ≡ m.future_events → new.waits.lists ≡ ws → new.waits.retry ≡ rs → new.assemblies ≡ m.assemblies
+    pub linked-waits : (new : Machine) → new.transactions ≡ m.transactions → new.active ≡ None → new.current_events ≡ m.current_events → new.future_events ≡ m.future_events → new.waits.lists ≡ ws → new.waits.retry ≡ rs → new.assemblies ≡ m.assemblies → new.chains ≡ m.chains
         → new.facilities ≡ m.facilities → new.storages ≡ m.storages → new.queues ≡ m.queues → new.clock ≡ m.clock → state_of new ≡ waits_for e tx.number (state_of m) → Linked new
-    linked-waits new ts a cs fs w r assemblies fac sto que clock is = record {
+    linked-waits new ts a cs fs w r assemblies chs fac sto que clock is = record {
       active = rw a tt;
       current_events = rw (ts, cs) l.current_events;
       future_events = rw (ts, fs) l.future_events;
@@ -102,6 +107,9 @@ module _ (m : Machine) (l : Linked m) (e : ℕ) (below : e < length m.facilities
       delay_lists = λ k within. rw (ts, w) (all_changed (IsRanked m.transactions) m.waits.lists ws e (behind (λ (x : Member). x.priority) newcomer) changes
           (joined-ranked (at [] m.waits.lists e) held (l.delay_lists e below)) k (l.delay_lists k (rw fac at within)));
       assemblies = rw (ts, assemblies) l.assemblies;
+      user_chains = λ c within. rw (ts, chs) (l.user_chains c (rw fac at within));
+      chained = rw (chs, fac) l.chained;
+      blocks = rw ts l.blocks;
       listed = rw (w, fac) (as_many m.waits.lists ws e (behind (λ (x : Member). x.priority) newcomer) (rw l.listed below) changes ∙ l.listed);
       sound = rw ts l.sound;
       resides = subst ResidesOnce (sym is) (resides-waits e tx.number (state_of m) (ap (option_map (λ (x : Tx). x.number)) active) l.resides);
@@ -130,13 +138,13 @@ module _ (m : Machine) (l : Linked m) (e : ℕ) (below : e < length m.facilities
         ∙ ap (λ (ns : List ℕ). record (state_of m) { lists = record (lists_of m) { current_events = ns; delay_lists = map (map member_number) ws } })
         (ap (map member_number) joined ∙ joined-numbers m.current_events.items l.current_events)
         ∙ ap (λ (ds : List (List ℕ)). record (called_from e tx.number (state_of m)) { lists = record (called_from e tx.number (state_of m)).lists { delay_lists = ds } })
-        (delays-put m.waits.lists ws e (λ xs. remove xs i) changes
+        (lists-put member_number m.waits.lists ws e (λ xs. remove xs i) changes
         ∙ ap (put [] (map (map member_number) m.waits.lists) e)
         (numbers-without tx.number (at [] m.waits.lists e) i number-there once ∙ ap (without tx.number) (sym (delay_list-at m e))))
 
-    pub linked-called : (new : Machine) → Holds m.transactions tx → new.transactions ≡ m.transactions → new.active ≡ m.active → new.current_events.items ≡ behind (λ (x : Member). x.priority) newcomer m.current_events.items → new.future_events ≡ m.future_events → new.waits.lists ≡ ws → new.waits.retry ≡ rs → new.assemblies ≡ m.assemblies
+    pub linked-called : (new : Machine) → Holds m.transactions tx → new.transactions ≡ m.transactions → new.active ≡ m.active → new.current_events.items ≡ behind (λ (x : Member). x.priority) newcomer m.current_events.items → new.future_events ≡ m.future_events → new.waits.lists ≡ ws → new.waits.retry ≡ rs → new.assemblies ≡ m.assemblies → new.chains ≡ m.chains
         → new.facilities ≡ m.facilities → new.storages ≡ m.storages → new.queues ≡ m.queues → new.clock ≡ m.clock → state_of new ≡ called_from e tx.number (state_of m) → Linked new
-    linked-called new held ts a cs fs w r assemblies fac sto que clock is = record {
+    linked-called new held ts a cs fs w r assemblies chs fac sto que clock is = record {
       active = rw (ts, a) l.active;
       current_events = rw (ts, cs) (joined-ranked m.current_events.items held l.current_events);
       future_events = rw (ts, fs) l.future_events;
@@ -144,6 +152,9 @@ module _ (m : Machine) (l : Linked m) (e : ℕ) (below : e < length m.facilities
       delay_lists = λ k within. rw (ts, w) (all_changed (IsRanked m.transactions) m.waits.lists ws e (λ xs. remove xs i) changes
           (all_without (IsRanked m.transactions) (at [] m.waits.lists e) i (l.delay_lists e below)) k (l.delay_lists k (rw fac at within)));
       assemblies = rw (ts, assemblies) l.assemblies;
+      user_chains = λ c within. rw (ts, chs) (l.user_chains c (rw fac at within));
+      chained = rw (chs, fac) l.chained;
+      blocks = rw ts l.blocks;
       listed = rw (w, fac) (as_many m.waits.lists ws e (λ xs. remove xs i) (rw l.listed below) changes ∙ l.listed);
       sound = rw ts l.sound;
       resides = subst ResidesOnce (sym is) (resides-called e tx.number (state_of m) occurs-there l.resides);
@@ -164,7 +175,10 @@ linked-walked m l ws lists retry = record {
   delay_lists = λ e below. rw lists (l.delay_lists e below);
   retry = rw retry l.retry;
   assemblies = l.assemblies;
+  user_chains = l.user_chains;
   listed = rw lists l.listed;
+  chained = l.chained;
+  blocks = l.blocks;
   sound = l.sound;
   resides = subst ResidesOnce (sym (state-walked m ws lists retry)) l.resides;
   timed = record { facilities = l.timed.facilities; storages = l.timed.storages; queues = l.timed.queues };

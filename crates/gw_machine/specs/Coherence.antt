@@ -1,5 +1,5 @@
 -- What a machine keeps beside the state that it is in: its handles lead to the transactions of their numbers.
-use Rattle.std.specs.Prelude.{◌≡◌, ◌≢◌, ℕ, ◌<◌, ◌≤◌, ◌^◌, pos, ◌<ℤ◌, length, List, [], ◌∷◌, IfSome, Some}
+use Rattle.std.specs.Prelude.{◌≡◌, ◌≢◌, ℕ, ◌<◌, ◌≤◌, ◌^◌, pos, ◌<ℤ◌, length, List, [], ◌∷◌, Option, IfSome, Some, None}
 use Rattle.std.specs.List.{AllByRecursion}
 use Rattle.gw_blocks.specs.declared.parts.Block.{Block}
 use Rattle.gw_object.specs.declared.parts.Parts.{Parts}
@@ -9,10 +9,10 @@ use Rattle.gw_chains.specs.declared.tx.Event.{Event}
 use Rattle.gw_chains.specs.declared.assemblies.Assembly.{Assembly}
 use Rattle.gw_num.specs.Table.{at}
 use Rattle.gw_transactions.specs.declared.Transaction.{Transaction}
-use Rattle.gw_transactions.specs.Transactions.{Population, attributes_at, Holds, IsSound}
+use Rattle.gw_transactions.specs.Transactions.{LiveTransaction, Population, attributes_at, Holds, IsSound}
 use Rattle.gw_machine.specs.declared.machine.Machine.{Machine}
 use Rattle.gw_step.specs.declared.placement.Placement.{Placement}
-use Rattle.gw_step.specs.declared.placement.Placement.TheVariants.{JoinsDelayList, JoinsRetryList, AwaitsSet}
+use Rattle.gw_step.specs.declared.placement.Placement.TheVariants.{JoinsDelayList, JoinsRetryList, AwaitsSet, JoinsChain}
 use Rattle.gw_step.specs.State.{priority_of}
 use Rattle.gw_step.specs.Residence.{ResidesOnce}
 use Rattle.gw_step.specs.Numbers.{IsWithin, made_in}
@@ -40,6 +40,10 @@ pub record IsTimed (m : Machine) : Type 0 where
   pub storages : pos m.storages.passed ≡ m.clock
   pub queues : pos m.queues.passed ≡ m.clock
 
+-- each transaction is in a block of an object, which has at most 4,096, or was in none yet, and has 0 there
+abbrev pub AreInBlocks : List (Option LiveTransaction) → Type 0
+AreInBlocks txs = (n : ℕ) → IfSome (at None txs n) (λ (t : LiveTransaction). t.attributes.current ≤ 4096)
+
 -- each handle of a machine leads to its transaction, each live transaction resides exactly once, and the time is one
 pub record Linked (m : Machine) : Type 0 where
   pub active : IfSome m.active (Holds m.transactions)
@@ -48,16 +52,21 @@ pub record Linked (m : Machine) : Type 0 where
   pub delay_lists : (e : ℕ) → e < length m.facilities.facilities → AllByRecursion (IsRanked m.transactions) (at [] m.waits.lists e)
   pub retry : AllByRecursion (IsRanked m.transactions) m.waits.retry
   pub assemblies : AllByRecursion (IsHeldBy m.transactions) m.assemblies.items
+  pub user_chains : (c : ℕ) → c < length m.facilities.facilities → AllByRecursion (Holds m.transactions) (at [] m.chains.lists c)
   -- there is a delay list for each entity
   pub listed : length m.waits.lists ≡ length m.facilities.facilities
+  -- and a user chain
+  pub chained : length m.chains.lists ≡ length m.facilities.facilities
+  pub blocks : AreInBlocks m.transactions.txs
   pub sound : IsSound m.transactions
   pub resides : ResidesOnce (state_of m)
   pub timed : IsTimed m
 
--- from p to q these handles stay held, and their transactions keep their priorities
+-- from p to q these handles stay held, and their transactions keep their priorities; and no transaction comes past the blocks
 pub record Carries (these : ℕ → Type 0) (p q : Population) : Type 0 where
   pub held : (h : Tx) → these h.number → Holds p h → Holds q h
   pub rank : (h : Tx) → these h.number → Holds p h → priority_of q.txs h.number ≡ priority_of p.txs h.number
+  pub blocks : AreInBlocks p.txs → AreInBlocks q.txs
 
 -- every handle
 abbrev pub Every : ℕ → Type 0
@@ -85,11 +94,12 @@ pub record CanRest (m : Machine) (tx : Tx) : Type 0 where
   pub active : m.active ≡ Some tx
   pub held : Holds m.transactions tx
 
--- a delay list or the retry list that a transaction joins is there, and has room; so have the assemblies where it begins one
+-- a delay list, a user chain or the retry list that a transaction joins is there, and has room; so have the assemblies where it begins one
 abbrev pub CanBePlaced : Placement → Machine → Type 0
 CanBePlaced (JoinsDelayList e) m = (e < length m.facilities.facilities) × (0 < at 0 m.waits.rooms e)
 CanBePlaced JoinsRetryList m = 0 < m.waits.retry_room
 CanBePlaced (AwaitsSet a) m = 0 < m.assemblies.room
+CanBePlaced (JoinsChain l) m = (l.chain < length m.facilities.facilities) × (0 < at 0 m.chains.rooms l.chain)
 CanBePlaced placement m = Unit {0}
 
 -- A RUNNING MACHINE

@@ -38,6 +38,7 @@ pub record IsReadable (m : Machine) : Type 0 where
   pub switches : length m.switches ≡ length m.facilities.facilities
   pub savevalues : length m.savevalues ≡ length m.facilities.facilities
   pub tables : length m.tables ≡ length m.facilities.facilities
+  pub chains : length m.chains.lists ≡ length m.facilities.facilities
   pub entries : sum m.entries.items ≤ 2 ^ 60
   pub clock : pos 0 ≤ℤ m.clock
   pub sound : IsSound m.transactions

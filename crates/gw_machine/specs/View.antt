@@ -7,6 +7,10 @@ use Rattle.gw_chains.specs.declared.assemblies.Assembly.{Assembly as HeldAssembl
 use Rattle.gw_machine.specs.declared.machine.Machine.{Machine}
 use Rattle.gw_step.specs.State.{FutureEvent, Assembly, Lists, EntityStates, State}
 
+-- the number of a transaction, by its handle
+abbrev pub handle_number : Tx → ℕ
+handle_number tx = tx.number
+
 -- the number of a member of a list by priority
 abbrev pub member_number : Member → ℕ
 member_number m = m.tx.number
@@ -28,6 +32,7 @@ lists_of m = record {
   delay_lists = map (map member_number) m.waits.lists;
   retry = map member_number m.waits.retry;
   assemblies = map assembly_of m.assemblies.items;
+  user_chains = map (map handle_number) m.chains.lists;
 }
 
 -- the entities as they are now

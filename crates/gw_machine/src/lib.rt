@@ -7,6 +7,7 @@ mod copies;
 mod delays;
 mod ends;
 mod entities;
+mod linking;
 mod machine;
 mod resting;
 mod start;

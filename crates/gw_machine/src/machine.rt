@@ -10,7 +10,7 @@ ghost use Rattle.gw_step.specs.Times.{parameters_of};
 ghost use Rattle.gw_machine.specs.View.{state_of};
 ghost use Rattle.gw_machine.specs.Coherence.{Linked, Carries, Every};
 
-use gw_chains::{Assemblies, Cec, Fec, Memory, Tx, Waits};
+use gw_chains::{Assemblies, Cec, Fec, Memory, Tx, UserChains, Waits};
 use gw_entities::{Facilities, Queues, Savevalues, Stop, Storages, Switches, Tables};
 use gw_num::Stream;
 use gw_step::End;
@@ -58,6 +58,8 @@ pub struct Machine {
     pub waits: Waits,
     /// Who waits for the rest of an assembly set.
     pub assemblies: Assemblies,
+    /// Who is on a user chain, each chain by its number as an entity.
+    pub chains: UserChains,
     /// The facilities, each by its number as an entity.
     pub facilities: Facilities,
     /// The storages, each by its number as an entity.

@@ -10,6 +10,7 @@ ghost use Rattle.gw_machine.specs.View.{state_of};
 ghost use Rattle.gw_machine.specs.Coherence.{Linked, HasRoom, CanRest, CanBePlaced};
 
 use crate::machine::Machine;
+use gw_blocks::{Link, LinkOrder};
 use gw_chains::{Assembly, Memory, Tx};
 use gw_step::{Assembling, Placement};
 
@@ -175,6 +176,22 @@ impl Machine {
         });
     }
 
+    /// The active transaction joins a user chain, at its end or at its front.
+    fn join_chain(&mut self, tx: Tx, link: Link)
+        requires rests { CanRest self.old tx }
+        requires chain { link.chain < length self.old.facilities.facilities }
+        requires room { 0 < at 0 self.old.chains.rooms link.chain }
+        ensures state { state_of self.new ≡ model.joins_chain tx.number link (state_of self.old) }
+        ensures linked { Linked self.new }
+    {
+        self.active = None;
+        self.transactions.put_chain(tx, Some(link.chain));
+        match link.order {
+            LinkOrder::Fifo => self.chains.push_back(link.chain, tx),
+            LinkOrder::Lifo => self.chains.push_front(link.chain, tx),
+        }
+    }
+
     /// The active transaction is destroyed.
     fn leave_model(&mut self, tx: Tx)
         requires rests { CanRest self.old tx }
@@ -222,6 +239,10 @@ impl Machine {
             Placement::AwaitsSet(begins) => {
                 self.wake_if_stirred();
                 self.await_set(tx, begins);
+            }
+            Placement::JoinsChain(link) => {
+                self.wake_if_stirred();
+                self.join_chain(tx, link);
             }
             Placement::LeavesModel => {
                 self.wake_if_stirred();

@@ -15,7 +15,7 @@ ghost use Rattle.gw_machine.specs.Leaving.{Schedules};
 
 use crate::machine::Machine;
 use gw_blocks::{Block, Generate};
-use gw_chains::{Assemblies, Cec, Fec, Memory, Waits};
+use gw_chains::{Assemblies, Cec, Fec, Memory, UserChains, Waits};
 use gw_entities::{Facilities, Queues, Savevalues, Storages, Switches, Tables};
 use gw_num::Stream;
 use gw_object::Object;
@@ -79,7 +79,9 @@ impl Machine {
         let entries = zeros(alloc, blocks + 1)?;
         let tables = entity_tables(alloc, object)?;
         let transactions = Transactions::new(alloc)?;
-        let waits = Waits::new(alloc, object.parts().entities.as_slice().len())?;
+        let entities = object.parts().entities.as_slice().len();
+        let waits = Waits::new(alloc, entities)?;
+        let chains = UserChains::new(alloc, entities)?;
         Ok(Machine {
             clock: 0,
             count: count as i64,
@@ -93,6 +95,7 @@ impl Machine {
             future_events: Fec::new(alloc),
             waits,
             assemblies: Assemblies::new(alloc),
+            chains,
             facilities: tables.facilities,
             storages: tables.storages,
             queues: tables.queues,

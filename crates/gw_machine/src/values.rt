@@ -151,6 +151,7 @@ impl Machine {
             switches: &self.switches,
             savevalues: &self.savevalues,
             tables: &self.tables,
+            chains: &self.chains,
             entries: &self.entries,
             here: self.transactions.here_by_block(),
         }

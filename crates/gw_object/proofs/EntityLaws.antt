@@ -12,7 +12,7 @@ use Rattle.std.proofs.lemmas.Slice.Eq.{bytes_eq-Decides}
 use Rattle.gw_object.specs.Codes as codes
 use Rattle.gw_object.specs.Limits.{most_letters}
 use Rattle.gw_object.specs.declared.parts.Kind.{Kind}
-use Rattle.gw_object.specs.declared.parts.Kind.TheVariants.{Facility, Storage, Queue, Switch, Savevalue, Table, Variable, BooleanVariable, Function}
+use Rattle.gw_object.specs.declared.parts.Kind.TheVariants.{Facility, Storage, Queue, Switch, Savevalue, Table, Chain, Variable, BooleanVariable, Function}
 use Rattle.gw_object.specs.declared.parts.Entity.{Entity}
 use Rattle.gw_fields.specs.Fields.{Field, byte, flag, tested, both, nothing, form_read, by_tag, plain, ElementsFit}
 use Rattle.gw_blocks.specs.Grammar.{procedure_number}
@@ -82,6 +82,7 @@ kind_forms_exact front =
     also kind_form_exact front 4 (λ set. Switch set) flag (λ x. refl) (λ x. refl) (λ x h. (tt, tt)) flag_exact
     also kind_form_exact front 5 (λ n. Savevalue n) initial_value (λ x. refl) (λ x. refl) (λ x h. (h, tt)) initial_value_exact
     also kind_form_exact front 6 (λ t. Table t) table (λ x. refl) (λ x. refl) (λ x h. (h, tt)) table_exact
+    also kind_form_exact front 7 (λ _. Chain) nothing (λ x. refl) (λ x. refl) (λ x h. (tt, tt)) nothing_exact
     also kind_form_exact front 8 (λ q. Variable q) procedure_number (λ x. refl) (λ x. refl) (λ x h. (h, tt)) procedure_number_exact
     also kind_form_exact front 9 (λ q. BooleanVariable q) procedure_number (λ x. refl) (λ x. refl) (λ x h. (h, tt)) procedure_number_exact
     also kind_form_exact front 10 (λ f. Function f) function (λ x. refl) (λ x. refl) (λ x h. h) function_exact
@@ -110,6 +111,7 @@ kind_reads_back front n Queue h = form_reads_back front 3 (λ _. Queue) nothing 
 kind_reads_back front n (Switch set) h = form_reads_back front 4 (λ set. Switch set) flag (λ _ _. refl) flag_exact n set (name_is_new front _ h) tt
 kind_reads_back front n (Savevalue z) h = form_reads_back front 5 (λ z. Savevalue z) initial_value (λ _ _. refl) initial_value_exact n z (name_is_new front _ h) h.limits.kind
 kind_reads_back front n (Table t) h = form_reads_back front 6 (λ t. Table t) table (λ _ _. refl) table_exact n t (name_is_new front _ h) h.limits.kind
+kind_reads_back front n Chain h = form_reads_back front 7 (λ _. Chain) nothing (λ _ _. refl) nothing_exact n tt (name_is_new front _ h) tt
 kind_reads_back front n (Variable q) h = form_reads_back front 8 (λ q. Variable q) procedure_number (λ _ _. refl) procedure_number_exact n q (name_is_new front _ h) h.limits.kind
 kind_reads_back front n (BooleanVariable q) h = form_reads_back front 9 (λ q. BooleanVariable q) procedure_number (λ _ _. refl) procedure_number_exact n q (name_is_new front _ h) h.limits.kind
 kind_reads_back front n (Function f) h = form_reads_back front 10 (λ f. Function f) function (λ _ _. refl) function_exact n f (name_is_new front _ h) (h.limits.kind, h.ascends)

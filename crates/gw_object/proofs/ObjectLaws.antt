@@ -11,12 +11,12 @@ use Rattle.gw_object.specs.Limits.{most_bytes, most_seeds, greatest_seed, greate
 use Rattle.gw_object.specs.declared.parts.Parts.{Parts}
 use Rattle.gw_fields.specs.declared.error.Bad.{Bad}
 use Rattle.gw_fields.specs.Fields.{IsProperFront, bad, number, count, plain, ElementsFit}
-use Rattle.gw_object.specs.Grammar.{weight, tables, head, seed, start_count, object, spelling, HasSpelling, Spells}
+use Rattle.gw_object.specs.Grammar.{weight, rows, certificate, tables, head, seed, start_count, object, spelling, HasSpelling, Spells}
 use Rattle.gw_blocks.specs.Grammar.{BlockFits, block}
 use Rattle.gw_code.specs.declared.parts.Procedure.{Procedure}
 use Rattle.gw_code.specs.Grammar.{ProcedureFits, NeedsAscend, procedure}
 use Rattle.gw_code.proofs.CodeLaws.{procedure_exact}
-use Rattle.gw_object.specs.Entities.{entity}
+use Rattle.gw_object.specs.Entities.{entity, chains_in}
 use Rattle.gw_object.specs.Reading.{whole_read, with_place, first_fault, out_of_memory, fault_at, IsRefused}
 use Rattle.gw_object.proofs.EntityLaws.{entity_exact, entities_fit, entities_are}
 use Rattle.gw_object.proofs.StateLaws.{return_rows_exact, return_rows_fit, return_rows_keep, state_exact, rows_fit, rows_keep}
@@ -28,9 +28,15 @@ use Rattle.gw_fields.proofs.Exact.{IsCut, CutsFronts, cuts_still, front_shorter,
 weight_exact : IsExact weight
 weight_exact = ranged_exact 1 greatest_weight (number w32) (λ n h. omega arith) (number_exact w32 wide32)
 
-pub tables_exact : (n : ℕ) → IsExact (tables n)
+rows_exact : (n : ℕ) → IsExact (rows n)
+rows_exact n = elements_exact _ n (plain_exact _ (optional_exact _ state_exact))
+
+certificate_exact : (n : ℕ) → IsExact (certificate n)
+certificate_exact n = elements_exact _ n (plain_exact _ weight_exact)
+
+pub tables_exact : (blocks chains : ℕ) → IsExact (tables blocks chains)
 unfolding tables
-tables_exact n = both_exact _ _ return_rows_exact (both_exact _ _ (elements_exact _ n (plain_exact _ (optional_exact _ state_exact))) (elements_exact _ n (plain_exact _ weight_exact)))
+tables_exact blocks chains = both_exact _ _ return_rows_exact (both_exact _ _ (rows_exact blocks) (both_exact _ _ (rows_exact chains) (both_exact _ _ (certificate_exact blocks) (certificate_exact chains))))
 
 -- ---- the object
 
@@ -48,8 +54,8 @@ pub object_exact : IsExact object
 unfolding object
 object_exact =
     made_exact _ _ _ (λ x h. refl) (λ p h. refl)
-    (both_exact _ _ head_exact (both_exact _ _ (listed_exact 0 most_seeds seed (omega arith) seed_exact) (both_exact _ _ start_count_exact (both_exact _ _ (listed_exact 0 most_entities entity (omega arith) entity_exact) (both_exact _ _ (listed_exact 0 most_procedures (plain procedure) (omega arith) (plain_exact procedure procedure_exact))
-    (and_then_exact _ _ (listed_exact 0 most_blocks (plain block) (omega arith) (plain_exact block block_exact)) (λ blocks. tables_exact (length blocks))))))))
+    (both_exact _ _ head_exact (both_exact _ _ (listed_exact 0 most_seeds seed (omega arith) seed_exact) (both_exact _ _ start_count_exact (and_then_exact _ _ (listed_exact 0 most_entities entity (omega arith) entity_exact) (λ entities. both_exact _ _ (listed_exact 0 most_procedures (plain procedure) (omega arith) (plain_exact procedure procedure_exact))
+    (and_then_exact _ _ (listed_exact 0 most_blocks (plain block) (omega arith) (plain_exact block block_exact)) (λ blocks. tables_exact (length blocks) (chains_in entities))))))))
 
 -- ---- procedures
 
@@ -106,7 +112,16 @@ spelled_fits p h =
               (omega arith, limits.procedures, procedures_fit p.procedures limits.each_procedure h.canonical.each_procedure),
               (
                 (omega arith, limits.blocks, fit-from_All BlockFits p.blocks [] limits.each_block),
-                ((omega arith, limits.returns, return_rows_fit p.returns limits.each_return h.canonical.each_return), ((limits.states, rows_fit p.states limits.each_state h.canonical.each_state), (limits.weights, fit-from_All weight.Fits p.weights [] limits.each_weight))),
+                (
+                  (omega arith, limits.returns, return_rows_fit p.returns limits.each_return h.canonical.each_return),
+                  (
+                    (limits.states, rows_fit p.states limits.each_state h.canonical.each_state),
+                    (
+                      (limits.chain_states, rows_fit p.chain_states limits.each_chain_state h.canonical.each_chain_state),
+                      ((limits.weights, fit-from_All weight.Fits p.weights [] limits.each_weight), (limits.chain_weights, fit-from_All weight.Fits p.chain_weights [] limits.each_chain_weight)),
+                    ),
+                  ),
+                ),
               ),
             ),
           ),
@@ -116,11 +131,12 @@ spelled_fits p h =
 
 pub fits_spelled : (p : Parts) → object.Fits p → length (spelling p) ≤ most_bytes → HasSpelling p
 unfolding object head tables
-fits_spelled p (h, (seeds, (count, (entities, (procedures, (blocks, (returns, (states, weights)))))))) size =
+fits_spelled p (h, (seeds, (count, (entities, (procedures, (blocks, (returns, (states, (chain_states, (weights, chain_weights)))))))))) size =
     let each_entity = entities_are p.entities entities.2 in
     let each_procedure = procedures_keep p.procedures procedures.2 in
     let each_return = return_rows_keep p.returns returns.2 in
-    let each_row = rows_keep p.states states.1 in record {
+    let each_row = rows_keep p.states states.1 in
+    let each_chain_row = rows_keep p.chain_states chain_states.1 in record {
       letters = record { names = each_entity.letters };
       limits = record {
         seeds = seeds.1;
@@ -137,11 +153,15 @@ fits_spelled p (h, (seeds, (count, (entities, (procedures, (blocks, (returns, (s
         each_return = λ k d lt. (each_return k d lt).0;
         states = states.0;
         each_state = λ k d lt. (each_row k d lt).0;
+        chain_states = chain_states.0;
+        each_chain_state = λ k d lt. (each_chain_row k d lt).0;
         weights = weights.0;
         each_weight = All-from_fit (λ front left. weight.Fits) weight.Fits (λ front left w h. h) p.weights [] weights.1;
+        chain_weights = chain_weights.0;
+        each_chain_weight = All-from_fit (λ front left. weight.Fits) weight.Fits (λ front left w h. h) p.chain_weights [] chain_weights.1;
         size = size;
       };
-      canonical = record { last_seed = last_seed_is p.seeds [] seeds.2; own_names = each_entity.own; each_entity = each_entity.ascend; each_procedure = λ k d lt. (each_procedure k d lt).1; each_return = λ k d lt. (each_return k d lt).1; each_state = λ k d lt. (each_row k d lt).1 };
+      canonical = record { last_seed = last_seed_is p.seeds [] seeds.2; own_names = each_entity.own; each_entity = each_entity.ascend; each_procedure = λ k d lt. (each_procedure k d lt).1; each_return = λ k d lt. (each_return k d lt).1; each_state = λ k d lt. (each_row k d lt).1; each_chain_state = λ k d lt. (each_chain_row k d lt).1 };
     }
 
 -- ---- reading as a whole

@@ -1,12 +1,12 @@
 -- Entities: their kinds and names, and how they stand in the bytes.
-use Rattle.std.specs.Prelude.{◌≡◌, ℕ, ◌≤◌, ◌<ℤ◌, FitsSigned, int_lt, ℤ, Bool, IsTrue, not, ◌==◌, ◌&&◌, ◌||◌, List, [], ◌∷◌, ◌++◌, length, bytes_eq}
-use Rattle.std.specs.List.{All, AllPairs, list_any}
+use Rattle.std.specs.Prelude.{◌≡◌, ℕ, ◌≤◌, ◌<ℤ◌, FitsSigned, int_lt, ℤ, Bool, true, false, IsTrue, not, ◌==◌, ◌&&◌, ◌||◌, List, [], ◌∷◌, ◌++◌, length, bytes_eq}
+use Rattle.std.specs.List.{All, AllPairs, list_any, count_by}
 use Rattle.std.specs.Char.{is_ascii_uppercase, is_ascii_digit}
 use Rattle.std.specs.Int.{w16, w32, w64}
 use Rattle.gw_object.specs.Codes as codes
 use Rattle.gw_object.specs.Limits.{most_letters, greatest_capacity, greatest_width, least_classes, most_classes, most_points}
 use Rattle.gw_object.specs.declared.parts.Kind.{Kind}
-use Rattle.gw_object.specs.declared.parts.Kind.TheVariants.{Facility, Storage, Queue, Switch, Savevalue, Table, Variable, BooleanVariable, Function}
+use Rattle.gw_object.specs.declared.parts.Kind.TheVariants.{Facility, Storage, Queue, Switch, Savevalue, Table, Chain, Variable, BooleanVariable, Function}
 use Rattle.gw_object.specs.declared.parts.Table.{Table as TableOperands}
 use Rattle.gw_object.specs.declared.parts.Point.{Point}
 use Rattle.gw_object.specs.declared.parts.Function.{Function as FunctionOperands}
@@ -38,6 +38,7 @@ kind_tag Queue = 3
 kind_tag (Switch set) = 4
 kind_tag (Savevalue n) = 5
 kind_tag (Table t) = 6
+kind_tag Chain = 7
 kind_tag (Variable q) = 8
 kind_tag (BooleanVariable q) = 9
 kind_tag (Function f) = 10
@@ -95,6 +96,15 @@ abbrev pub capacity_of : Kind → ℕ
 capacity_of (Storage n) = n
 capacity_of other = 0
 
+-- whether a kind is that of user chains
+abbrev pub is_chain : Kind → Bool
+is_chain Chain = true
+is_chain other = false
+
+-- how many of these entities are user chains
+abbrev pub chains_in : List Entity → ℕ
+chains_in entities = count_by (λ (e : Entity). is_chain e.kind) entities
+
 -- the fields of a kind
 abbrev pub kind_fields : Kind → List ℕ
 kind_fields Facility = []
@@ -103,6 +113,7 @@ kind_fields Queue = []
 kind_fields (Switch set) = flag.spell set
 kind_fields (Savevalue n) = initial_value.spell n
 kind_fields (Table t) = table.spell t
+kind_fields Chain = []
 kind_fields (Variable q) = procedure_number.spell q
 kind_fields (BooleanVariable q) = procedure_number.spell q
 kind_fields (Function f) = function.spell f
@@ -115,6 +126,7 @@ KindFits Queue = Unit {0}
 KindFits (Switch set) = Unit {0}
 KindFits (Savevalue n) = initial_value.Fits n
 KindFits (Table t) = TableFits t
+KindFits Chain = Unit {0}
 KindFits (Variable q) = procedure_number.Fits q
 KindFits (BooleanVariable q) = procedure_number.Fits q
 KindFits (Function f) = FunctionFits f
@@ -173,6 +185,7 @@ kind_forms front =
     ∷ kind_form front 4 (λ set. Switch set) flag
     ∷ kind_form front 5 (λ n. Savevalue n) initial_value
     ∷ kind_form front 6 (λ t. Table t) table
+    ∷ kind_form front 7 (λ _. Chain) nothing
     ∷ kind_form front 8 (λ q. Variable q) procedure_number
     ∷ kind_form front 9 (λ q. BooleanVariable q) procedure_number
     ∷ kind_form front 10 (λ f. Function f) function

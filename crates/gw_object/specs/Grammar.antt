@@ -14,7 +14,7 @@ use Rattle.gw_object.specs.declared.parts.ReturnRow.{ReturnRow}
 use Rattle.gw_object.specs.declared.parts.Parts.{Parts}
 use Rattle.gw_fields.specs.Fields.{Read, Field, number, made, both, and_then, constant, fitting, ranged, optional, Form, behind, by_tag, nothing, Element, plain, last_tested, ascending, above_last, elements, listed}
 use Rattle.gw_code.specs.Grammar.{ProcedureFits, NeedsAscend, procedure}
-use Rattle.gw_object.specs.Entities.{entity, EntityFits, EntityAscends, IsLettered, AreNamesakes}
+use Rattle.gw_object.specs.Entities.{entity, EntityFits, EntityAscends, IsLettered, AreNamesakes, chains_in}
 use Rattle.gw_blocks.specs.Grammar.{entity_number, block_number, parameter_number, BlockFits, block}
 
 -- ---- what stands for each block
@@ -112,9 +112,17 @@ state = fitting (λ s. StateFits s × IsAscending s) (made
 abbrev pub weight : Field ℕ
 weight = ranged 1 greatest_weight (number w32)
 
--- the return rows, and for each of so many blocks its row of the state table and its weight
-unfoldable pub tables : ℕ → Field (List ReturnRow × (List (Option TableState) × List ℕ))
-tables n = both (listed 0 most_return_rows (plain return_row)) (both (elements (plain (optional state)) n) (elements (plain weight) n))
+-- so many rows of the state table
+abbrev pub rows : ℕ → Field (List (Option TableState))
+rows n = elements (plain (optional state)) n
+
+-- so many weights
+abbrev pub certificate : ℕ → Field (List ℕ)
+certificate n = elements (plain weight) n
+
+-- the return rows, for each of so many blocks and each of so many user chains its row of the state table, and for each its weight
+unfoldable pub tables : ℕ → ℕ → Field (List ReturnRow × (List (Option TableState) × (List (Option TableState) × (List ℕ × List ℕ))))
+tables blocks chains = both (listed 0 most_return_rows (plain return_row)) (both (rows blocks) (both (rows chains) (both (certificate blocks) (certificate chains))))
 
 -- ---- the object
 
@@ -130,13 +138,13 @@ seed = last_tested (nat_lt 0) codes.not_canonical (ranged 0 greatest_seed (numbe
 abbrev pub start_count : Field ℕ
 start_count = ranged 1 greatest_count (number w64)
 
--- the head, seeds, termination count, entities, procedures, blocks, and what stands for each block
+-- the head, seeds, termination count, entities, procedures, blocks, and what stands for each block and each user chain
 unfoldable pub object : Field Parts
 object = made
-    (λ (_, (seeds, (count, (entities, (procedures, (blocks, (returns, (states, weights)))))))). record { seeds = seeds; count = count; entities = entities; procedures = procedures; blocks = blocks; returns = returns; states = states; weights = weights })
-    (λ p. ((tt, tt), (p.seeds, (p.count, (p.entities, (p.procedures, (p.blocks, (p.returns, (p.states, p.weights)))))))))
-    (both head (both (listed 0 most_seeds seed) (both start_count (both (listed 0 most_entities entity) (both (listed 0 most_procedures (plain procedure))
-    (and_then (listed 0 most_blocks (plain block)) (λ blocks. tables (length blocks))))))))
+    (λ (_, (seeds, (count, (entities, (procedures, (blocks, (returns, (states, (chain_states, (weights, chain_weights)))))))))). record { seeds = seeds; count = count; entities = entities; procedures = procedures; blocks = blocks; returns = returns; states = states; chain_states = chain_states; weights = weights; chain_weights = chain_weights })
+    (λ p. ((tt, tt), (p.seeds, (p.count, (p.entities, (p.procedures, (p.blocks, (p.returns, (p.states, (p.chain_states, (p.weights, p.chain_weights)))))))))))
+    (both head (both (listed 0 most_seeds seed) (both start_count (and_then (listed 0 most_entities entity) (λ entities. both (listed 0 most_procedures (plain procedure))
+    (and_then (listed 0 most_blocks (plain block)) (λ blocks. tables (length blocks) (chains_in entities))))))))
 
 -- the bytes that spell parts
 unfoldable pub spelling : Parts → List ℕ
@@ -164,8 +172,12 @@ pub record IsWithinLimits (p : Parts) : Type 0 where
   pub each_return : All ReturnRowFits p.returns
   pub states : length p.states ≡ length p.blocks
   pub each_state : All (λ row. IfSome row StateFits) p.states
+  pub chain_states : length p.chain_states ≡ chains_in p.entities
+  pub each_chain_state : All (λ row. IfSome row StateFits) p.chain_states
   pub weights : length p.weights ≡ length p.blocks
   pub each_weight : All (λ weight. (1 ≤ weight) × (weight ≤ greatest_weight)) p.weights
+  pub chain_weights : length p.chain_weights ≡ chains_in p.entities
+  pub each_chain_weight : All (λ weight. (1 ≤ weight) × (weight ≤ greatest_weight)) p.chain_weights
   pub size : length (spelling p) ≤ most_bytes
 
 -- 6: parts are the one form of what they say
@@ -176,6 +188,7 @@ pub record IsCanonical (p : Parts) : Type 0 where
   pub each_procedure : All NeedsAscend p.procedures
   pub each_return : All AreAscending p.returns
   pub each_state : All (λ row. IfSome row IsAscending) p.states
+  pub each_chain_state : All (λ row. IfSome row IsAscending) p.chain_states
 
 -- parts have a spelling
 pub record HasSpelling (p : Parts) : Type 0 where

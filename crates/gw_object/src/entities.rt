@@ -4,6 +4,7 @@ ghost use Rattle.std.specs.Prelude.{◌≡◌, ◌↔◌, IsTrue};
 ghost use Rattle.std.specs.List.{All, AllPairs, list_any};
 ghost use Rattle.gw_fields.specs.Fields.{plain};
 ghost use Rattle.gw_object.specs.Entities.{is_letter, letter, IsLettered, EntityFits, EntityAscends, AreNamesakes, is_named, new_name, entity};
+ghost use Rattle.gw_object.specs.Entities as model;
 ghost use Rattle.gw_fields.specs.Answers.{Gives};
 
 use crate::Memory;
@@ -153,6 +154,11 @@ impl Elements for Entities {
                 let kind = Kind::Table(table);
                 Ok((Entity { name, kind }, rest))
             }
+            7 => {
+                let (name, rest) = read_new_name(alloc, front, tag, rest)?;
+                let kind = Kind::Chain;
+                Ok((Entity { name, kind }, rest))
+            }
             8 => {
                 let (name, rest) = read_new_name(alloc, front, tag, rest)?;
                 let (procedure, rest) = u16::read(alloc, rest)?;
@@ -174,6 +180,16 @@ impl Elements for Entities {
             _ => Err(fault(TAG, bytes)),
         }
     }
+}
+
+/// How many of these entities are user chains.
+pub fn chains_in(entities: &[Entity]) -> usize
+    ensures { result ≡ model.chains_in entities.now }
+{
+    entities
+        .iter()
+        .filter(|entity| entity.kind.is_chain())
+        .count()
 }
 
 /// Whether each byte of the entity's name is a letter of a name.

@@ -7,6 +7,7 @@ ghost use Rattle.gw_object.specs.Codes.{not_canonical};
 ghost use Rattle.gw_fields.specs.Fields.{Leaves, is_above, signed, tested};
 ghost use Rattle.gw_object.specs.Entities.{table, TableFits, point, PointFits, function, FunctionFits, PointsAscend};
 ghost use Rattle.gw_object.specs.Entities.{kind_tag, kind_fields, KindFits, KindAscends};
+ghost use Rattle.gw_object.specs.Entities as model;
 ghost use Rattle.gw_fields.specs.Answers.{Gives};
 
 use crate::Memory;
@@ -31,9 +32,19 @@ pub fn tag_of(kind: &Kind) -> u8
         Kind::Switch(_) => 4,
         Kind::Savevalue(_) => 5,
         Kind::Table(_) => 6,
+        Kind::Chain => 7,
         Kind::Variable(_) => 8,
         Kind::BooleanVariable(_) => 9,
         Kind::Function(_) => 10,
+    }
+}
+
+impl Kind {
+    /// Whether it is that of user chains.
+    pub(crate) fn is_chain(&self) -> bool
+        ensures { result ≡ model.is_chain self.now }
+    {
+        matches!(self, Kind::Chain)
     }
 }
 
@@ -152,7 +163,7 @@ pub fn put_fields(out: &mut Vec<u8>, kind: &Kind) -> Result<(), Memory>
     ensures { OnOk result (out.new.items ≡ out.old.items ++ kind_fields kind.now) }
 {
     match kind {
-        Kind::Facility | Kind::Queue => Ok(()),
+        Kind::Facility | Kind::Queue | Kind::Chain => Ok(()),
         Kind::Storage(capacity) => capacity.put(out),
         Kind::Switch(set) => Ok(out.push(set.byte())?),
         Kind::Savevalue(value) => value.put(out),
@@ -167,7 +178,7 @@ pub fn room_after_fields(kind: &Kind, room: usize) -> Option<usize>
     ensures { Leaves (kind_fields kind.now) room result }
 {
     match kind {
-        Kind::Facility | Kind::Queue => Some(room),
+        Kind::Facility | Kind::Queue | Kind::Chain => Some(room),
         Kind::Storage(capacity) => capacity.room_after(room),
         Kind::Switch(_) => room.checked_sub(1),
         Kind::Savevalue(value) => value.room_after(room),
@@ -210,7 +221,7 @@ pub fn kind_fits(kind: &Kind) -> bool
     ensures { IsTrue result ↔ KindFits kind.now }
 {
     match *kind {
-        Kind::Facility | Kind::Queue | Kind::Switch(_) => true,
+        Kind::Facility | Kind::Queue | Kind::Switch(_) | Kind::Chain => true,
         // What these hold keeps its limits by its type.
         Kind::Savevalue(_value) => true,
         Kind::Variable(_procedure) | Kind::BooleanVariable(_procedure) => true,

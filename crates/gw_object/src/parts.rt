@@ -51,6 +51,8 @@ pub enum Kind {
     Savevalue(i64),
     /// Counts values by classes.
     Table(Table),
+    /// A user chain.
+    Chain,
     /// A variable: its value is that of a procedure without arguments, which is given by its number from 0.
     Variable(u16),
     /// A boolean variable: whether the value of a procedure without arguments isn't 0; it is given by its number from 0.
@@ -59,7 +61,7 @@ pub enum Kind {
     Function(Function),
 }
 
-/// An entity: a facility, a storage, a queue, a logic switch, a savevalue, a table, a variable or a function.
+/// An entity: a facility, a storage, a queue, a logic switch, a savevalue, a table, a user chain, a variable or a function.
 #[derive(Debug, Drop, PartialEq, Eq)]
 pub struct Entity {
     /// Its name: 1 to 32 letters `A` to `Z`, digits and `_`. No two entities of a kind have one name.
@@ -125,6 +127,11 @@ pub struct Parts {
     pub returns: Items<ReturnRow>,
     /// For each block its row of the state table, if it has one.
     pub states: Items<Option<TableState>>,
+    /// For each user chain, in the order of the entities, its row of the state table, if it has one: what is known of its
+    /// members.
+    pub chain_states: Items<Option<TableState>>,
     /// For each block its certified weight, from 1 to 1,000,000,000.
     pub weights: Items<u32>,
+    /// For each user chain, in the order of the entities, its certified weight, from 1 to 1,000,000,000.
+    pub chain_weights: Items<u32>,
 }

@@ -8,7 +8,7 @@ ghost use Rattle.gw_object.specs.Limits.{most_bytes};
 ghost use Rattle.gw_object.specs.Reading.{whole_read, placed, too_long, first_fault, out_of_memory};
 
 use crate::codes::*;
-use crate::entities::Entities;
+use crate::entities::{Entities, chains_in};
 use crate::fault::{Fault, Place};
 use crate::limits::*;
 use crate::lists::{Seeds, Weights};
@@ -40,19 +40,36 @@ fn read_head(alloc: Global, bytes: &[u8]) -> Result<&[u8], ReadError>
     Ok(after)
 }
 
-/// The return rows, and what stands for each of so many blocks: its row of the state table, and its weight.
+/// What stands for each block, or for each user chain, of an object.
+type Rows = Vec<Option<TableState>>;
+
+/// The return rows, and what stands for each of so many blocks and each of so many user chains: its row of the state table,
+/// and its weight.
 #[tactic(auto, unfolding(crate::specs::Grammar::tables))]
 fn read_tables(
     alloc: Global,
-    count: usize,
+    blocks: usize,
+    chains: usize,
     bytes: &[u8],
-) -> Result<((Vec<ReturnRow>, (Vec<Option<TableState>>, Vec<u32>)), &[u8]), ReadError>
-    ensures { Gives (λ x. ((x.0.0.items, (x.0.1.0.items, x.0.1.1.items)), x.1.now)) result ((tables count).read bytes.now) }
+) -> Result<
+    (
+        (Vec<ReturnRow>, (Rows, (Rows, (Vec<u32>, Vec<u32>)))),
+        &[u8],
+    ),
+    ReadError,
+>
+    ensures { Gives (λ x. ((x.0.0.items, (x.0.1.0.items, (x.0.1.1.0.items, (x.0.1.1.1.0.items, x.0.1.1.1.1.items)))), x.1.now))
+        result ((tables blocks chains).read bytes.now) }
 {
     let (returns, rest) = read_listed::<Plain<ReturnRow>>(alloc, bytes, 0, MOST_RETURN_ROWS)?;
-    let (states, rest) = read_elements::<Plain<Option<TableState>>>(alloc, count, rest)?;
-    let (weights, rest) = read_elements::<Weights>(alloc, count, rest)?;
-    Ok(((returns, (states, weights)), rest))
+    let (states, rest) = read_elements::<Plain<Option<TableState>>>(alloc, blocks, rest)?;
+    let (chain_states, rest) = read_elements::<Plain<Option<TableState>>>(alloc, chains, rest)?;
+    let (weights, rest) = read_elements::<Weights>(alloc, blocks, rest)?;
+    let (chain_weights, rest) = read_elements::<Weights>(alloc, chains, rest)?;
+    Ok((
+        (returns, (states, (chain_states, (weights, chain_weights)))),
+        rest,
+    ))
 }
 
 /// The parts of an object, and the bytes after it.
@@ -66,7 +83,9 @@ fn read_parts(alloc: Global, bytes: &[u8]) -> Result<(Parts, &[u8]), ReadError>
     let (entities, rest) = read_listed::<Entities>(alloc, rest, 0, MOST_ENTITIES)?;
     let (procedures, rest) = read_listed::<Plain<Procedure>>(alloc, rest, 0, MOST_PROCEDURES)?;
     let (blocks, rest) = read_listed::<Plain<Block>>(alloc, rest, 0, MOST_BLOCKS)?;
-    let ((returns, (states, weights)), rest) = read_tables(alloc, blocks.len(), rest)?;
+    let chains = chains_in(&entities);
+    let (tables, rest) = read_tables(alloc, blocks.len(), chains, rest)?;
+    let (returns, (states, (chain_states, (weights, chain_weights)))) = tables;
     let parts = Parts {
         seeds: Items::from_vec(seeds),
         count,
@@ -75,7 +94,9 @@ fn read_parts(alloc: Global, bytes: &[u8]) -> Result<(Parts, &[u8]), ReadError>
         blocks: Items::from_vec(blocks),
         returns: Items::from_vec(returns),
         states: Items::from_vec(states),
+        chain_states: Items::from_vec(chain_states),
         weights: Items::from_vec(weights),
+        chain_weights: Items::from_vec(chain_weights),
     };
     Ok((parts, rest))
 }

@@ -6,7 +6,7 @@ ghost use Rattle.gw_object.specs.Limits.{most_bytes, greatest_seed, greatest_wei
 ghost use Rattle.gw_object.specs.Grammar.{HasLetters, IsWithinLimits, IsCanonical, HasSpelling, Refuses, spelling};
 
 use crate::codes::*;
-use crate::entities::{are_lettered, entities_ascend, entities_fit, names_are_own};
+use crate::entities::{are_lettered, chains_in, entities_ascend, entities_fit, names_are_own};
 use crate::limits::*;
 use crate::parts::*;
 use crate::returns::{return_rows_ascend, return_rows_fit};
@@ -55,7 +55,9 @@ fn is_within_limits(parts: &Parts) -> bool
     let blocks = parts.blocks.as_slice();
     let returns = parts.returns.as_slice();
     let states = parts.states.as_slice();
+    let chain_states = parts.chain_states.as_slice();
     let weights = parts.weights.as_slice();
+    let chain_weights = parts.chain_weights.as_slice();
     if seeds.len() > MOST_SEEDS || entities.len() > MOST_ENTITIES || blocks.len() > MOST_BLOCKS {
         return false;
     }
@@ -63,6 +65,10 @@ fn is_within_limits(parts: &Parts) -> bool
         return false;
     }
     if states.len() != blocks.len() || weights.len() != blocks.len() {
+        return false;
+    }
+    let chains = chains_in(entities);
+    if chain_states.len() != chains || chain_weights.len() != chains {
         return false;
     }
     if parts.count < 1 || parts.count > GREATEST_COUNT {
@@ -74,7 +80,9 @@ fn is_within_limits(parts: &Parts) -> bool
         && blocks_fit(blocks)
         && return_rows_fit(returns)
         && states_fit(states)
+        && states_fit(chain_states)
         && weights_fit(weights)
+        && weights_fit(chain_weights)
         && size_fits(parts)
 }
 
@@ -89,6 +97,9 @@ fn is_canonical(parts: &Parts) -> bool
         return false;
     }
     if !return_rows_ascend(returns) || !states_ascend(parts.states.as_slice()) {
+        return false;
+    }
+    if !states_ascend(parts.chain_states.as_slice()) {
         return false;
     }
     parts.seeds.as_slice().last() != Some(&0) && names_are_own(entities)

@@ -1,9 +1,9 @@
 //! Writing an object: each function puts bytes at the end.
 
-ghost use Rattle.std.specs.Prelude.{◌≡◌, ◌<◌, ◌^◌, ◌++◌, OnOk, IfOk, IfSome, length};
-ghost use Rattle.std.specs.List.{All};
+ghost use Rattle.std.specs.Prelude.{◌≡◌, ◌++◌, OnOk, IfOk, length};
 ghost use Rattle.gw_fields.specs.Fields.{Leaves};
-ghost use Rattle.gw_object.specs.Grammar.{HasSpelling, ReturnRowFits, StateFits, head, tables, spelling};
+ghost use Rattle.gw_object.specs.Entities.{chains_in};
+ghost use Rattle.gw_object.specs.Grammar.{HasSpelling, head, tables, spelling};
 
 use crate::Memory;
 use crate::entities::Entities;
@@ -25,22 +25,18 @@ fn put_head(out: &mut Vec<u8>) -> Result<(), Memory>
     Ok(())
 }
 
-/// The return rows, and what stands for each block: its row of the state table, and its weight.
+/// The return rows, and what stands for each block and each user chain: its row of the state table, and its weight.
 #[tactic(auto, unfolding(crate::specs::Grammar::tables))]
-fn put_tables(
-    out: &mut Vec<u8>,
-    returns: &[ReturnRow],
-    states: &[Option<TableState>],
-    weights: &[u32],
-) -> Result<(), Memory>
-    requires few { length returns.now < 2 ^ 32 }
-    requires returns { All ReturnRowFits returns.now }
-    requires states { All (λ row. IfSome row StateFits) states.now }
-    ensures { OnOk result (out.new.items ≡ out.old.items ++ (tables (length states.now)).spell (returns.now, (states.now, weights.now))) }
+fn put_tables(out: &mut Vec<u8>, parts: &Parts) -> Result<(), Memory>
+    requires { HasSpelling parts.now }
+    ensures { OnOk result (out.new.items ≡ out.old.items ++ (tables (length parts.now.blocks) (chains_in parts.now.entities)).spell
+        (parts.now.returns, (parts.now.states, (parts.now.chain_states, (parts.now.weights, parts.now.chain_weights))))) }
 {
-    put_listed::<Plain<ReturnRow>>(out, returns)?;
-    put_elements::<Plain<Option<TableState>>>(out, states)?;
-    put_elements::<Weights>(out, weights)?;
+    put_listed::<Plain<ReturnRow>>(out, parts.returns.as_slice())?;
+    put_elements::<Plain<Option<TableState>>>(out, parts.states.as_slice())?;
+    put_elements::<Plain<Option<TableState>>>(out, parts.chain_states.as_slice())?;
+    put_elements::<Weights>(out, parts.weights.as_slice())?;
+    put_elements::<Weights>(out, parts.chain_weights.as_slice())?;
     Ok(())
 }
 
@@ -56,10 +52,7 @@ fn put_parts(out: &mut Vec<u8>, parts: &Parts) -> Result<(), Memory>
     put_listed::<Entities>(out, parts.entities.as_slice())?;
     put_listed::<Plain<Procedure>>(out, parts.procedures.as_slice())?;
     put_listed::<Plain<Block>>(out, parts.blocks.as_slice())?;
-    let returns = parts.returns.as_slice();
-    let states = parts.states.as_slice();
-    put_tables(out, returns, states, parts.weights.as_slice())?;
-    Ok(())
+    put_tables(out, parts)
 }
 
 /// How many bytes of a room are left behind those that spell parts; `None` where they don't fit into it.
@@ -77,7 +70,10 @@ pub fn room_after_parts(parts: &Parts, room: usize) -> Option<usize>
     let room = room_after_listed::<Plain<ReturnRow>>(parts.returns.as_slice(), room)?;
     let states = parts.states.as_slice();
     let room = room_after_elements::<Plain<Option<TableState>>>(states, room)?;
-    room_after_elements::<Weights>(parts.weights.as_slice(), room)
+    let states = parts.chain_states.as_slice();
+    let room = room_after_elements::<Plain<Option<TableState>>>(states, room)?;
+    let room = room_after_elements::<Weights>(parts.weights.as_slice(), room)?;
+    room_after_elements::<Weights>(parts.chain_weights.as_slice(), room)
 }
 
 /// The one spelling of an object.

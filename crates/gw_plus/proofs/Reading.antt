@@ -5,7 +5,7 @@ use Rattle.std.specs.Option.{IsSome, IsSomeAnd}
 use Rattle.gw_num.specs.Table.{at}
 use Rattle.gw_num.proofs.Tables.{at_some}
 use Rattle.gw_blocks.specs.declared.parts.EntityAttribute.{EntityAttribute}
-use Rattle.gw_blocks.specs.declared.parts.EntityAttribute.TheVariants.{FacilityOwned, StorageContent, StorageRemaining, QueueContent, SavevalueValue, SwitchSetting, VariableValue, BooleanValue, FunctionValue, BlockEntries, BlockCount}
+use Rattle.gw_blocks.specs.declared.parts.EntityAttribute.TheVariants.{FacilityOwned, StorageContent, StorageRemaining, QueueContent, SavevalueValue, SwitchSetting, ChainMembers, VariableValue, BooleanValue, FunctionValue, BlockEntries, BlockCount}
 use Rattle.gw_blocks.specs.declared.parts.Operand.{Operand}
 use Rattle.gw_blocks.specs.declared.parts.Operand.TheVariants.{Constant, Parameter, Attribute, OfEntity, Random, Procedure}
 use Rattle.gw_object.specs.declared.parts.Entity.{Entity}
@@ -52,6 +52,7 @@ module _ (p : Parts) (env : Env) (of : IsOf p env) where
   may_read QueueContent q is = let within = entity_within _ p.entities q is in omega (arith, within, of.queues)
   may_read SavevalueValue x is = let within = entity_within _ p.entities x is in omega (arith, within, of.savevalues)
   may_read SwitchSetting l is = let within = entity_within _ p.entities l is in omega (arith, within, of.switches)
+  may_read ChainMembers c is = let within = entity_within _ p.entities c is in omega (arith, within, of.chains)
   may_read VariableValue v is = tt
   may_read BooleanValue v is = tt
   may_read FunctionValue f is = tt

@@ -1,9 +1,9 @@
 -- What procedures read of an environment that is lent, and which environments an object's procedures may be evaluated in.
-use Rattle.std.specs.Prelude.{◌≡◌, ℕ, ◌≤◌, ◌<◌, ◌^◌, pos, ◌≤ℤ◌, length, Some, None}
+use Rattle.std.specs.Prelude.{◌≡◌, ℕ, ◌≤◌, ◌<◌, ◌^◌, pos, ◌≤ℤ◌, [], length, Some, None}
 use Rattle.std.specs.Option.{IsSome}
 use Rattle.gw_num.specs.Table.{at}
 use Rattle.gw_blocks.specs.declared.parts.EntityAttribute.{EntityAttribute}
-use Rattle.gw_blocks.specs.declared.parts.EntityAttribute.TheVariants.{FacilityOwned, StorageContent, StorageRemaining, QueueContent, SavevalueValue, SwitchSetting, VariableValue, BooleanValue, FunctionValue, BlockEntries, BlockCount}
+use Rattle.gw_blocks.specs.declared.parts.EntityAttribute.TheVariants.{FacilityOwned, StorageContent, StorageRemaining, QueueContent, SavevalueValue, SwitchSetting, ChainMembers, VariableValue, BooleanValue, FunctionValue, BlockEntries, BlockCount}
 use Rattle.gw_blocks.specs.declared.parts.Numbered.{Numbered}
 use Rattle.gw_blocks.specs.declared.parts.Operand.{Operand}
 use Rattle.gw_blocks.specs.declared.parts.Operand.TheVariants as operands
@@ -23,6 +23,7 @@ readings_of env = record {
   queues = env.queues.now.queues;
   savevalues = env.savevalues.now;
   switches = env.switches.now;
+  members = λ c. length (at [] env.chains.now.lists c);
   entries = at 0 env.entries.now;
   here = at 0 env.here.now;
 }
@@ -47,6 +48,7 @@ pub record IsOf (p : Parts) (env : Env) : Type 0 where
   pub switches : length env.switches.now ≡ length p.entities
   pub savevalues : length env.savevalues.now ≡ length p.entities
   pub tables : length env.tables.now ≡ length p.entities
+  pub chains : length env.chains.now.lists ≡ length p.entities
   pub entries : (b : ℕ) → at 0 env.entries.now b ≤ 2 ^ 62
   pub here : (b : ℕ) → at 0 env.here.now b ≤ 2 ^ 62
   pub number : env.number ≤ 2 ^ 62
@@ -71,6 +73,7 @@ MayRead env StorageRemaining s = s < length env.storages.now.storages
 MayRead env QueueContent q = q < length env.queues.now.queues
 MayRead env SavevalueValue x = x < length env.savevalues.now
 MayRead env SwitchSetting l = l < length env.switches.now
+MayRead env ChainMembers c = c < length env.chains.now.lists
 MayRead env VariableValue v = Unit {0}
 MayRead env BooleanValue v = Unit {0}
 MayRead env FunctionValue f = Unit {0}

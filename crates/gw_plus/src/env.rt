@@ -9,6 +9,7 @@ ghost use Rattle.gw_code_flow.specs.Environment.{attribute_value, kept_value};
 ghost use Rattle.gw_plus.specs.Reading.{readings_of, environment_of, AttributesFit, MayRead, MayReadKept};
 
 use gw_blocks::{Attribute, EntityAttribute, Operand};
+use gw_chains::UserChains;
 use gw_entities::{Facilities, Facility, Queues, Savevalues, Storage, Storages, Switches, Tables};
 use gw_num::truth_value;
 
@@ -39,6 +40,8 @@ pub struct Env<'a> {
     pub savevalues: &'a Savevalues,
     /// The tables, each by its number as an entity.
     pub tables: &'a Tables,
+    /// The user chains, each by its number as an entity.
+    pub chains: &'a UserChains,
     /// The entries of each block so far, by the blocks' numbers, which begin with 1.
     pub entries: &'a [u64],
     /// How many transactions have each block as their current one, by the blocks' numbers, which begin with 1.
@@ -111,6 +114,7 @@ impl Env<'_> {
             EntityAttribute::QueueContent => value_of(self.queues.get(number).content),
             EntityAttribute::SavevalueValue => self.savevalues.get(number),
             EntityAttribute::SwitchSetting => truth_value(self.switches.get(number)),
+            EntityAttribute::ChainMembers => value_of(self.chains.members(number) as u64),
             EntityAttribute::VariableValue
             | EntityAttribute::BooleanValue
             | EntityAttribute::FunctionValue => 0,

@@ -64,8 +64,8 @@ fn five_entities(alloc: Global) -> Result<Vec<Entity>, Memory> {
 }
 
 /// Behind those five a variable and a boolean variable of the procedure 1, a boolean variable of the procedure 2, a
-/// function of the parameter 1, and a function of the variable.
-fn ten_entities(alloc: Global) -> Result<Vec<Entity>, Memory> {
+/// function of the parameter 1, a function of the variable, and a user chain.
+fn eleven_entities(alloc: Global) -> Result<Vec<Entity>, Memory> {
     let mut entities = five_entities(alloc)?;
     entities.push(entity(alloc, Kind::Variable(1), b"V")?)?;
     entities.push(entity(alloc, Kind::BooleanVariable(1), b"A")?)?;
@@ -74,10 +74,11 @@ fn ten_entities(alloc: Global) -> Result<Vec<Entity>, Memory> {
     entities.push(entity(alloc, of_parameter, b"OFP")?)?;
     let of_variable = function(alloc, Operand::OfEntity(VARIABLE))?;
     entities.push(entity(alloc, of_variable, b"OFV")?)?;
+    entities.push(entity(alloc, Kind::Chain, b"C")?)?;
     Ok(entities)
 }
 
-/// Parts of these procedures, with ten entities and two blocks that nobody enters.
+/// Parts of these procedures, with eleven entities, and two blocks and a user chain to which nobody comes.
 fn parts_of(alloc: Global, procedures: Vec<Procedure>) -> Result<Parts, Memory>
     ensures procedures { IfOk result (λ p. p.procedures ≡ procedures.items) }
 {
@@ -85,19 +86,23 @@ fn parts_of(alloc: Global, procedures: Vec<Procedure>) -> Result<Parts, Memory>
     let mut states = Vec::new(alloc);
     states.push(None)?;
     states.push(None)?;
+    let mut chain_states = Vec::new(alloc);
+    chain_states.push(None)?;
     Ok(Parts {
         seeds: Items::from_vec(Vec::new(alloc)),
         count: 1,
-        entities: Items::from_vec(ten_entities(alloc)?),
+        entities: Items::from_vec(eleven_entities(alloc)?),
         procedures: Items::from_vec(procedures),
         blocks: Items::from_vec(Vec::from_slice(alloc, &[terminate, terminate])?),
         returns: Items::from_vec(Vec::new(alloc)),
         states: Items::from_vec(states),
+        chain_states: Items::from_vec(chain_states),
         weights: Items::from_vec(Vec::from_slice(alloc, &[1, 1])?),
+        chain_weights: Items::from_vec(Vec::from_slice(alloc, &[1])?),
     })
 }
 
-/// An object of these procedures, with ten entities and two blocks that nobody enters.
+/// An object of these procedures, with eleven entities, and two blocks and a user chain to which nobody comes.
 pub(crate) fn object_of(alloc: Global, procedures: Vec<Procedure>) -> Result<Object, Fail>
     ensures { IfOk result (λ o. o.procedures ≡ procedures.items) }
 {

@@ -1,9 +1,10 @@
 //! What procedures come to: each instruction, by a value worked out by hand.
 
-ghost use Rattle.std.specs.Prelude.{◌≡◌, length, IfOk, slice_get, Some, [], ◌∷◌};
+ghost use Rattle.std.specs.Prelude.{◌≡◌, ◌<◌, length, IfOk, slice_get, Some, [], ◌∷◌};
 
 use crate::models::*;
 use gw_blocks::Attribute;
+use gw_chains::{Tx, UserChains};
 use gw_code::{Back, Instruction, Procedure, Sna};
 use gw_entities::{Facilities, Queues, Savevalues, Storages, Switches, Tables};
 use gw_num::{Binary, Unary};
@@ -73,7 +74,7 @@ fn accepted(alloc: Global, object: Object) -> Result<Verified, Fail>
     }
 }
 
-/// The entities of an object, as they are at first.
+/// The entities of an object.
 #[derive(Drop)]
 struct Entities {
     facilities: Facilities,
@@ -82,16 +83,42 @@ struct Entities {
     switches: Switches,
     savevalues: Savevalues,
     tables: Tables,
+    chains: UserChains,
 }
 
-/// The entities of this object.
-fn entities_of(alloc: Global, object: &Object) -> Result<Entities, Memory>
+/// Puts a transaction onto the user chain that is the entity 10.
+fn link(chains: &mut UserChains, number: u64) -> Result<(), Memory>
+    requires { 10 < length chains.old.lists }
+    ensures { length chains.new.lists ≡ length chains.old.lists }
+{
+    chains.reserve_link(10, 1)?;
+    chains.push_back(10, Tx { place: 0, number });
+    Ok(())
+}
+
+/// The user chains of this object, with two members of the one that is the entity 10.
+fn two_linked(alloc: Global, object: &Object) -> Result<UserChains, Fail>
+    ensures { IfOk result (λ c. length c.lists ≡ length object.now.entities) }
+{
+    let entities = object.parts().entities.as_slice();
+    let mut chains = UserChains::new(alloc, entities.len())?;
+    if entities.len() <= 10 {
+        return Err(Fail::from("the entity 10 is there"));
+    }
+    link(&mut chains, 1)?;
+    link(&mut chains, 2)?;
+    Ok(chains)
+}
+
+/// The entities of this object, as they are at first but for its user chain, which has two members.
+fn entities_of(alloc: Global, object: &Object) -> Result<Entities, Fail>
     ensures facilities { IfOk result (λ e. length e.facilities.facilities ≡ length object.now.entities) }
     ensures storages { IfOk result (λ e. length e.storages.storages ≡ length object.now.entities) }
     ensures queues { IfOk result (λ e. length e.queues.queues ≡ length object.now.entities) }
     ensures switches { IfOk result (λ e. length e.switches ≡ length object.now.entities) }
     ensures savevalues { IfOk result (λ e. length e.savevalues ≡ length object.now.entities) }
     ensures tables { IfOk result (λ e. length e.tables ≡ length object.now.entities) }
+    ensures chains { IfOk result (λ e. length e.chains.lists ≡ length object.now.entities) }
 {
     Ok(Entities {
         facilities: Facilities::new(alloc, object)?,
@@ -100,11 +127,13 @@ fn entities_of(alloc: Global, object: &Object) -> Result<Entities, Memory>
         switches: Switches::new(alloc, object)?,
         savevalues: Savevalues::new(alloc, object)?,
         tables: Tables::new(alloc, object)?,
+        chains: two_linked(alloc, object)?,
     })
 }
 
 /// What a procedure of this code, with two locals, comes to at clock 100 for the transaction 12 of priority -3, which has
-/// marked 40, where TG1 is 7 and P1 is this. The second block has 6 entries so far, and 2 transactions are in it.
+/// marked 40, where TG1 is 7 and P1 is this. The second block has 6 entries so far, 2 transactions are in it, and 2 are on
+/// the user chain.
 fn outcome_with(alloc: Global, first: i64, code: &[Instruction]) -> Result<Outcome, Fail> {
     let object = object_of(alloc, four_procedures(alloc, code)?)?;
     let entities = entities_of(alloc, &object)?;
@@ -122,6 +151,7 @@ fn outcome_with(alloc: Global, first: i64, code: &[Instruction]) -> Result<Outco
         switches: &entities.switches,
         savevalues: &entities.savevalues,
         tables: &entities.tables,
+        chains: &entities.chains,
         entries: &[0, 4, 6],
         here: &[0, 1, 2],
     };
@@ -212,6 +242,13 @@ fn attributes_are_read(rt: HostRuntime) -> Result<(), Fail> {
         (&[value_of!(BlockCount, 2), RET], Ok(2)),
     ];
     assert!(rt; wrong_outcome(rt.alloc(), CASES)?.is_none());
+    Ok(())
+}
+
+#[test]
+fn members_of_a_user_chain_are_read(rt: HostRuntime) -> Result<(), Fail> {
+    const CODE: &[Instruction] = &[value_of!(ChainMembers, 10), RET];
+    assert!(rt; outcome_of(rt.alloc(), CODE)? == Ok(2));
     Ok(())
 }
 

@@ -4,7 +4,7 @@ use Rattle.std.specs.Fmt.{decimal, signed_decimal}
 use Rattle.std.specs.Int.{from_bool}
 use Rattle.std.specs.Option.{unwrap_or}
 use Rattle.gw_blocks.specs.declared.parts.Block.{Block}
-use Rattle.gw_blocks.specs.declared.parts.Block.TheVariants.{Generate, Terminate, Advance, Seize, Release, Enter, Leave, Queue, Depart, Assign, Test, Gate, Transfer, TransferByFraction, TransferToSubroutine, TransferByParameter, Loop, Split, Assemble, Logic, Savevalue, Mark, Priority, Buffer, Plus, Tabulate}
+use Rattle.gw_blocks.specs.declared.parts.Block.TheVariants.{Generate, Terminate, Advance, Seize, Release, Enter, Leave, Queue, Depart, Assign, Test, Gate, Transfer, TransferByFraction, TransferToSubroutine, TransferByParameter, Loop, Split, Assemble, Link, Unlink, Logic, Savevalue, Mark, Priority, Buffer, Plus, Tabulate}
 use Rattle.gw_object.specs.declared.parts.Entity.{Entity}
 use Rattle.gw_object.specs.declared.parts.Kind.{Kind}
 use Rattle.gw_object.specs.declared.parts.Kind.TheVariants as kinds
@@ -20,7 +20,7 @@ use Rattle.gw_entities.specs.Facility.{idle}
 use Rattle.gw_entities.specs.Storage.{vacant}
 use Rattle.gw_entities.specs.Table.{table_at}
 use Rattle.gw_step.specs.declared.ends.End.TheVariants.{Done, Number, ZeroDivisor, NegativeTime, LoopLimit, NoMoreEvents, Budget, Live}
-use Rattle.gw_step.specs.State.{State, delay_list}
+use Rattle.gw_step.specs.State.{State, delay_list, user_chain}
 use Rattle.gw_scan.specs.declared.sim.Status.{Status}
 use Rattle.gw_scan.specs.declared.sim.Status.TheVariants.{Running, Ended, Stopped}
 use Rattle.gw_scan.specs.Answers.{status_at}
@@ -60,6 +60,8 @@ block_word (TransferByParameter parameter) = codes "TRANSFER"
 block_word (Loop l) = codes "LOOP"
 block_word (Split s) = codes "SPLIT"
 block_word (Assemble size) = codes "ASSEMBLE"
+block_word (Link l) = codes "LINK"
+block_word (Unlink u) = codes "UNLINK"
 block_word (Priority p) = codes "PRIORITY"
 block_word Buffer = codes "BUFFER"
 block_word (Logic l) = codes "LOGIC"
@@ -156,6 +158,10 @@ table_lines s e name =
     codes "TABLE " ++ name ++ codes " COUNT " ++ decimal table.count ++ codes " SUM " ++ signed_decimal table.sum ++ codes "\n"
     ++ class_lines 0 table.classes
 
+-- the user chain of a number and a name: how many members it has
+abbrev pub chain_line : State → ℕ → List ℕ → List ℕ
+chain_line s e name = codes "CHAIN " ++ name ++ codes " CONTENT " ++ decimal (length (user_chain e s)) ++ codes "\n"
+
 -- a variable or a function has no line
 abbrev pub no_line : State → ℕ → List ℕ → List ℕ
 no_line s e name = []
@@ -168,6 +174,7 @@ lines_of_kind kinds.Queue = queue_line
 lines_of_kind (kinds.Switch set) = switch_line
 lines_of_kind (kinds.Savevalue value) = savevalue_line
 lines_of_kind (kinds.Table operands) = table_lines
+lines_of_kind kinds.Chain = chain_line
 lines_of_kind (kinds.Variable procedure) = no_line
 lines_of_kind (kinds.BooleanVariable procedure) = no_line
 lines_of_kind (kinds.Function operands) = no_line

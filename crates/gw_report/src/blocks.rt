@@ -32,6 +32,8 @@ fn block_word(block: &Block) -> &'static str
         Block::Loop(_) => "LOOP",
         Block::Split(_) => "SPLIT",
         Block::Assemble(_) => "ASSEMBLE",
+        Block::Link(_) => "LINK",
+        Block::Unlink(_) => "UNLINK",
         Block::Priority(_) => "PRIORITY",
         Block::Buffer => "BUFFER",
         Block::Logic(_) => "LOGIC",

@@ -10,6 +10,7 @@ ghost use Rattle.gw_report.specs.Report.{
   queue_line,
   switch_line,
   savevalue_line,
+  chain_line,
   lines_of,
   entity_lines,
 };
@@ -103,6 +104,16 @@ fn put_savevalue_line(out: &mut Vec<u8>, sim: &Sim, number: u16, name: &[u8]) ->
     put(out, "\n")
 }
 
+fn put_chain_line(out: &mut Vec<u8>, sim: &Sim, number: u16, name: &[u8]) -> Result<(), Memory>
+    requires { number < length sim.now.job.parts.entities }
+    ensures { OnOk result (out.new.items ≡ out.old.items ++ chain_line sim.now.state number name.now) }
+{
+    put(out, "CHAIN ")?;
+    out.extend_from_slice(name)?;
+    put_number(out, " CONTENT ", sim.members(number))?;
+    put(out, "\n")
+}
+
 /// The lines of an entity: variables and functions have none.
 fn put_lines_of(out: &mut Vec<u8>, sim: &Sim, number: u16, entity: &Entity) -> Result<(), Memory>
     requires { number < length sim.now.job.parts.entities }
@@ -116,6 +127,7 @@ fn put_lines_of(out: &mut Vec<u8>, sim: &Sim, number: u16, entity: &Entity) -> R
         Kind::Switch(_) => put_switch_line(out, sim, number, name),
         Kind::Savevalue(_) => put_savevalue_line(out, sim, number, name),
         Kind::Table(_) => put_table_lines(out, sim, number, name),
+        Kind::Chain => put_chain_line(out, sim, number, name),
         Kind::Variable(_) | Kind::BooleanVariable(_) | Kind::Function(_) => Ok(()),
     }
 }

@@ -17,6 +17,7 @@ ghost use Rattle.gw_scan.specs.Makes.{MakesFrom, Enters};
 use crate::assigning::{self, assign_parameter, loop_back, mark, mark_parameter, tabulate};
 use crate::conditions;
 use crate::copying::{assemble, split};
+use crate::linking::{link, unlink};
 use crate::passing::{buffer, set_priority};
 use crate::subroutines::{call_subroutine, come_back};
 use gw_blocks::{Block, Fraction, Generate, Operand, Spread, Units};
@@ -571,6 +572,8 @@ pub(crate) fn act(
         Block::Loop(l) => loop_back(machine, blocks, tx, transaction, l),
         Block::Split(s) => split(machine, blocks, tx, transaction, s),
         Block::Assemble(size) => assemble(machine, blocks, tx, transaction, size),
+        Block::Link(l) => link(machine, blocks, tx, transaction, l),
+        Block::Unlink(u) => unlink(machine, blocks, tx, transaction, u),
         Block::Priority(p) => set_priority(machine, verified, tx, transaction, p),
         Block::Buffer => buffer(machine, blocks, tx, transaction),
         Block::Logic(logic) => Ok(assigning::logic(machine, blocks, tx, transaction, logic)),

@@ -5,6 +5,7 @@ mod assigning;
 mod blocks;
 mod conditions;
 mod copying;
+mod linking;
 mod passing;
 mod scan;
 mod sim;

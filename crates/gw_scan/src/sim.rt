@@ -3,7 +3,7 @@
 ghost use Rattle.std.specs.Prelude.{◌≡◌, ◌<◌, pos, length, sum, IfOk, IfErr, IsOk, OnErr};
 ghost use Rattle.gw_num.specs.Table.{at};
 ghost use Rattle.gw_transactions.specs.Transactions.{here_count};
-ghost use Rattle.gw_step.specs.State.{delay_list};
+ghost use Rattle.gw_step.specs.State.{delay_list, user_chain};
 ghost use Rattle.gw_step.specs.Job.{Alone, IsFinal, start_of};
 
 use crate::scan::step;
@@ -194,6 +194,14 @@ impl Sim {
         ensures { result ≡ length (delay_list entity self.now.state) }
     {
         self.machine.waiting(entity)
+    }
+
+    /// How many members a user chain has, by its number from 0 as an entity.
+    pub fn members(&self, chain: u16) -> usize
+        requires { chain < length self.now.job.parts.entities }
+        ensures { result ≡ length (user_chain chain self.now.state) }
+    {
+        self.machine.members(chain)
     }
 
     /// What it runs, as it was started.

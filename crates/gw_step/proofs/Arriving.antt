@@ -1,5 +1,5 @@
 -- Arrivals: what a GENERATE does, and the state before the first step.
-use Rattle.std.proofs.Common.{◌≡◌, ℕ, zero, suc, ◌+◌, ◌≤◌, List, [], ◌∷◌, length, map, Some, true, false, pos, ◌≤ℤ◌, refl, sym, ap, ◌∙◌, subst, arith}
+use Rattle.std.proofs.Common.{◌≡◌, ℕ, zero, suc, ◌+◌, ◌≤◌, List, [], ◌∷◌, length, map, Some, None, true, false, pos, ◌≤ℤ◌, refl, sym, ap, ◌∙◌, subst, arith}
 use Rattle.std.specs.Prelude.{slice_get, nat_le, IfSome}
 use Rattle.std.proofs.lemmas.List.Elements.{All-nil}
 use Rattle.gw_blocks.specs.declared.parts.Generate.{Generate}
@@ -17,7 +17,7 @@ use Rattle.gw_flow.specs.Laws.{FlowHolds}
 use Rattle.gw_num.specs.Table.{at}
 use Rattle.gw_num.proofs.Tables.{at-replicate}
 use Rattle.gw_transactions.specs.declared.Transaction.{Transaction}
-use Rattle.gw_transactions.specs.Transactions.{live_count, attributes_at}
+use Rattle.gw_transactions.specs.Transactions.{live_count, attributes_at, chain_of}
 use Rattle.gw_entities.specs.declared.contents.Contents.{Contents}
 use Rattle.gw_entities.specs.Contents.{empty}
 use Rattle.gw_entities.specs.Facility.{idle, is_owned_by}
@@ -33,8 +33,9 @@ use Rattle.gw_step.specs.Residence.{occurrences}
 use Rattle.gw_step.proofs.Outcomes.{OnGives, on_bind, on_both}
 use Rattle.gw_step.proofs.Nothing.{no_transaction, resides-nothing}
 use Rattle.gw_step.specs.Places.{row_of}
-use Rattle.gw_step.specs.Typing.{IsPlaced, lists_facility, WellTyped, AreWithinCapacity}
+use Rattle.gw_step.specs.Typing.{IsPlaced, lists_facility, is_member, WellTyped, AreWithinCapacity}
 use Rattle.gw_step.proofs.Balances.{balanced-nothing}
+use Rattle.gw_step.proofs.Residence.{one_if}
 use Rattle.gw_step.proofs.Agreeing.{IsMissing}
 use Rattle.gw_step.proofs.Traces.{all_as_known, Goes, Arrives, Draws, Trace, Done, Then, trace_on, present, arrived}
 use Rattle.gw_step.proofs.Unstopped.{Safe, safe_bind, safe_if}
@@ -44,7 +45,7 @@ use Rattle.gw_step.proofs.AtBlock.{first_may_be_entered}
 use Rattle.gw_step.proofs.Moving.{Acts, Enters, safe_leads, at_first, the_rule}
 use Rattle.gw_step.proofs.Calling.{some_of}
 use Rattle.gw_step.proofs.PlainBlocks.{by_arrival}
-use Rattle.gw_step.proofs.Attributes.{attributes-past}
+use Rattle.gw_step.proofs.Attributes.{attributes-past, chain-past}
 
 -- THE NEXT ARRIVAL
 
@@ -54,6 +55,7 @@ record Scheduled (p : Parts) (k : ℕ) (s : State) (n : ℕ) (t : Transaction) (
   trace : Trace p k (made_in k) s k arrivals after
   few : arrivals ≤ made_in (suc k)
   found : attributes_at n after.transactions ≡ Some t
+  free : chain_of (at None after.transactions n) ≡ None
   active : after.lists.active ≡ s.lists.active
   clock : after.clock ≡ s.clock
 
@@ -75,11 +77,12 @@ module _ (p : Parts) (sound : IsSound p) (s : State) (n : ℕ) (t : Transaction)
         trace = Then (Draws d.1 drawn.keeps) (Then (Arrives t.next g row g.priority d.0 acts.is.block_is acts.is.row_is empty_row drawn.later owed few) Done);
         few = omega arith;
         found = attributes-past s.transactions n t _ acts.is.found;
+        free = chain-past s.transactions n t _ acts.is.found ∙ acts.is.free;
         active = refl;
         clock = refl;
       })
       (λ many. tt)))
-      (λ none. record { arrivals = made_in k; trace = Done; few = omega arith; found = acts.is.found; active = refl; clock = refl })
+      (λ none. record { arrivals = made_in k; trace = Done; few = omega arith; found = acts.is.found; free = acts.is.free; active = refl; clock = refl })
 
   pub safe_generate : Safe (Enters p k s n) (generate p n t g s)
   safe_generate =
@@ -92,7 +95,7 @@ module _ (p : Parts) (sound : IsSound p) (s : State) (n : ℕ) (t : Transaction)
         arrivals = h.arrivals;
         trace = trace_on p h.trace
             (Then (Goes n (t.next + 1) t (record t { mark = s.clock }) (blocks.Generate g) row row after.entities
-            (record { found = h.found; block_is = acts.is.block_is; row_is = acts.is.row_is }) (record { next = refl; mark = λ clock mark. subst (λ z. pos 0 ≤ℤ z) h.clock clock })
+            (record { found = h.found; block_is = acts.is.block_is; row_is = acts.is.row_is; free = h.free }) (record { next = refl; mark = λ clock mark. subst (λ z. pos 0 ≤ℤ z) h.clock clock })
             (present after.lists n (h.active ∙ acts.active)) (all_as_known row empty_row (parameters_of n after)) (at_first _ []) may (balanced-nothing p n row after.entities)) Done);
         may = tt;
         few_entries = omega arith;
@@ -124,6 +127,7 @@ module _ (p : Parts) (count : ℕ) (streams : List ℕ) where
     owned = λ f n. idle_at p.entities f n ∙ sym (ap (λ o. lists_facility f (row_of p o)) (no_transaction n));
     promised = λ e. omega arith;
     waiting = λ e n h. absurd (omega (arith, h, ap (occurrences n) (at-replicate [] (length p.entities) e)));
+    linked = λ c n. omega (arith, ap (occurrences n) (at-replicate [] (length p.entities) c), ap (λ o. one_if (is_member c (chain_of o))) (no_transaction n));
     assembling = All-nil IsMissing;
     sized = sized_at p.entities;
   }

@@ -22,7 +22,7 @@ use Rattle.gw_step.specs.State.{State}
 use Rattle.gw_step.specs.Times.{environment_of, environment_of_next, parameters_of}
 use Rattle.gw_step.specs.Operands.{environment_at}
 use Rattle.gw_step.specs.Typing.{IsAsKnown, WellTyped}
-use Rattle.gw_step.proofs.Traces.{none_known, its_parameters}
+use Rattle.gw_step.proofs.Traces.{none_known, its_parameters, present, present_free}
 use Rattle.gw_step.proofs.Moving.{Acts, the_rule}
 use Rattle.gw_step.proofs.Calling.{some_of, is_at}
 use Rattle.gw_step.proofs.Effects.{value_is_set}
@@ -68,5 +68,5 @@ module _ (p : Parts) (entities : All (EntityHolds p) p.entities) where
     -- the active transaction of a well-typed state at its block
     pub acts_at : (s : State) → WellTyped p s → (n : ℕ) (t : Transaction) (block : Block) → s.lists.active ≡ Some n → attributes_at n s.transactions ≡ Some t → block_at p.blocks t.next ≡ Some block → (row : Row) × Acts p s n t block row
     acts_at s ty n t block active found there =
-        let row = is_at p each_block flow s ty n t block found there in
+        let row = is_at p each_block flow s ty n t block found (present_free p s.transactions s.lists s.entities ty n (present s.lists n active)) there in
         (row.0, record { typed = ty; active = active; is = row.1; kinds = each_block t.next block there; flow = flow.each_row t.next block row.0 there row.1.row_is })

@@ -13,6 +13,7 @@ use Rattle.gw_kinds.specs.Laws.{BlockHolds}
 use Rattle.gw_flow.specs.Rows.{Row, units_of, with_facility, with_units}
 use Rattle.gw_flow.specs.Flow.{own_table, own_row}
 use Rattle.gw_flow.specs.Laws.{FlowHolds}
+use Rattle.gw_num.specs.Table.{at}
 use Rattle.gw_num.proofs.Tables.{at-put}
 use Rattle.gw_transactions.specs.declared.Transaction.{Transaction}
 use Rattle.gw_entities.specs.Facility.{seized, is_idle}
@@ -26,11 +27,11 @@ use Rattle.gw_step.proofs.Residence.{one_if, same_number, occurrences-joined, oc
 use Rattle.gw_step.proofs.Follows.{asked-enter}
 use Rattle.gw_step.specs.Typing.{IsPlaced, WellTyped}
 use Rattle.gw_step.proofs.Balances.{balanced-seize, balanced-storage}
-use Rattle.gw_step.proofs.Traces.{IsAt, its_parameters, IsPresent, Goes, Called, Trace, Done, Then, trace_on, trace-keeps}
+use Rattle.gw_step.proofs.Traces.{IsAt, place-free, its_chain, its_parameters, waiting_free, IsPresent, Goes, Called, Trace, Done, Then, trace_on, trace-keeps}
 use Rattle.gw_step.proofs.AtBlock.{first_may_be_entered, is_storage, kind_below}
 use Rattle.gw_step.proofs.Operands.{good_units}
 use Rattle.gw_step.proofs.Moving.{at_first, unchanged}
-use Rattle.gw_transactions.specs.Transactions.{attributes_at}
+use Rattle.gw_transactions.specs.Transactions.{attributes_at, chain_of}
 use Rattle.gw_step.proofs.Attributes.{bearer_at}
 use Rattle.gw_step.proofs.PlainBlocks.{by_block}
 
@@ -53,19 +54,19 @@ called_is_present e n s = omega (arith, occurrences-joined n (priority_of s.tran
 
 module _ (p : Parts) (each_block : (b : ℕ) (block : Block) → block_at p.blocks b ≡ Some block → BlockHolds p b block) (flow : FlowHolds p (own_table p)) where
   -- a live transaction at a block is at its row
-  pub is_at : (s : State) → WellTyped p s → (n : ℕ) (t : Transaction) (block : Block) → attributes_at n s.transactions ≡ Some t → block_at p.blocks t.next ≡ Some block → (row : Row) × IsAt p s.transactions n t block row
-  is_at s ty n t block live there =
+  pub is_at : (s : State) → WellTyped p s → (n : ℕ) (t : Transaction) (block : Block) → attributes_at n s.transactions ≡ Some t → chain_of (at None s.transactions n) ≡ None → block_at p.blocks t.next ≡ Some block → (row : Row) × IsAt p s.transactions n t block row
+  is_at s ty n t block live free there =
       let bears = bearer_at s.transactions n t live in
-      let place : IsPlaced p bears.0 = subst (λ o. IfSome o (IsPlaced p)) bears.1 (ty.placed n) in
-      let row = some_of (own_row p t.next) (subst (λ (a : Transaction). IsSome (own_row p a.next)) bears.2 place.row) in
-      (row.0, record { found = live; block_is = there; row_is = row.1 })
+      let placed : IsPlaced p bears.0 = subst (λ o. IfSome o (IsPlaced p)) bears.1 (ty.placed n) in
+      let row = some_of (own_row p t.next) (subst (λ at. IsSome (own_table p at)) (place-free bears.0 t (its_chain (at None s.transactions n) bears.0 None bears.1 free) bears.2) placed.row) in
+      (row.0, record { found = live; block_is = there; row_is = row.1; free = free })
 
   -- HAND-OVER
 
   taken_over : (k ar : ℕ) (s : State) → WellTyped p s → (f w : ℕ) (t : Transaction) → f < length p.entities → is_idle (facility f s) ≡ true → 1 ≤ occurrences w (delay_list f s) → attributes_at w s.transactions ≡ Some t → block_at p.blocks t.next ≡ Some (blocks.Seize f)
       → Trace p (suc k) ar s (suc k) ar (put_facility f (seized w (facility f s)) (enters_and_falls w t (called_from f w s)))
   taken_over k ar s ty f w t below idle waits live there =
-      let found = is_at s ty w t (blocks.Seize f) live there in
+      let found = is_at s ty w t (blocks.Seize f) live (waiting_free p s.transactions s.lists s.entities ty f w waits) there in
       Then (Called f w waits below)
       (Then (Goes w (t.next + 1) t t (blocks.Seize f) found.0 (with_facility f found.0) (put_facility f (seized w (facility f s)) s).entities found.1 (unchanged (called_from f w s) t) (called_is_present f w s) (its_parameters p s ty w t (blocks.Seize f) found.0 found.1) (at_first _ []) (first_may_be_entered p t.next _ [] (each_block t.next (blocks.Seize f) there).exits) (balanced-seize p w f found.0 s.entities below idle)) Done)
 
@@ -92,7 +93,7 @@ module _ (p : Parts) (each_block : (b : ℕ) (block : Block) → block_at p.bloc
   entered_free : (k ar : ℕ) (s : State) → WellTyped p s → (w : ℕ) (t : Transaction) (u : Units) → 1 ≤ occurrences w (delay_list u.entity s) → attributes_at w s.transactions ≡ Some t → block_at p.blocks t.next ≡ Some (blocks.Enter u) → storages.has_room u.number (storage u.entity s) ≡ true
       → Looked k ar u.entity w s (put_storage u.entity (storages.entered u.number (storage u.entity s)) (enters_and_falls w t (called_from u.entity w s)))
   entered_free k ar s ty w t u waits live there free =
-      let found = is_at s ty w t (blocks.Enter u) live there in
+      let found = is_at s ty w t (blocks.Enter u) live (waiting_free p s.transactions s.lists s.entities ty u.entity w waits) there in
       let holds = each_block t.next (blocks.Enter u) there in
       let kind = is_storage p.entities u.entity holds.entities in
       let old = delay_list u.entity s in

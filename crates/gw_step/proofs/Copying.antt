@@ -1,6 +1,6 @@
 -- Copies, assembly and priority: what SPLIT, ASSEMBLE, PRIORITY and BUFFER do to a well-typed state is a list of elementary changes, and never an error stop.
 use Rattle.std.proofs.Common.{◌≡◌, ℕ, zero, suc, ◌+◌, ◌-◌, ◌≤◌, ℤ, List, [], ◌∷◌, ◌++◌, length, Option, Some, None, Bool, true, false, not, if◌then◌else◌, ◌==◌, option_map, refl, sym, ap, ◌∙◌, subst, arith, inl, inr, ◌<◌}
-use Rattle.std.specs.Prelude.{nat_le, Contains, ◌&&◌}
+use Rattle.std.specs.Prelude.{nat_le, Contains}
 use Rattle.std.specs.Option.{option_map_or}
 use Rattle.std.specs.List.{find}
 use Rattle.std.proofs.lemmas.Bool.{cases_lt, eqb-true, leb-true, le-leb, false≢true, and_parts}
@@ -17,11 +17,10 @@ use Rattle.gw_flow.specs.declared.edges.FlowEdge.{FlowEdge}
 use Rattle.gw_flow.specs.Rows.{Row, parameters_alone}
 use Rattle.gw_flow.specs.Blocks.{move, edges}
 use Rattle.gw_flow.specs.Flow.{own_table, own_row}
-use Rattle.gw_num.specs.Table.{at, put}
 use Rattle.gw_num.proofs.Tables.{at-put_other}
 use Rattle.gw_transactions.specs.declared.Transaction.{Transaction}
 use Rattle.gw_transactions.specs.Parameters.{no_parameters}
-use Rattle.gw_transactions.specs.Transactions.{LiveTransaction, made_with, attributes_at, with_attributes, live_count}
+use Rattle.gw_transactions.specs.Transactions.{LiveTransaction, made_with, attributes_at, live_count}
 use Rattle.gw_entities.specs.Facility.{owns_any}
 use Rattle.gw_entities.specs.declared.stop.Stop.TheVariants.{OwnsAtEnd}
 use Rattle.gw_step.specs.declared.placement.Placement.{Placement}
@@ -34,12 +33,12 @@ use Rattle.gw_step.specs.Blocks.{split, assembly_at, joined_by_one, assemble_in,
 use Rattle.gw_step.specs.Typing.{AreAsKnown}
 use Rattle.gw_step.proofs.Outcomes.{choose}
 use Rattle.gw_step.proofs.Owning.{lists-none}
-use Rattle.gw_step.proofs.Attributes.{bearer_at, attributes_of, number_below, attributes-past, written_at}
+use Rattle.gw_step.proofs.Attributes.{bearer_at, number_below, attributes-past, written_at}
 use Rattle.gw_step.proofs.Balances.{balanced-nothing}
 use Rattle.gw_step.proofs.Traces.{Becomes, Rested, credited, its_parameters, present, EntersLast, Copied, Assembled, Comes, Trace, Done, Then, entered-live, written-live}
 use Rattle.gw_step.proofs.Unstopped.{Safe, safe_test, safe_if}
 use Rattle.gw_step.proofs.AtBlock.{first_may_be_entered, second_may_be_entered}
-use Rattle.gw_step.proofs.Moving.{Acts, unchanged, Enters, safe_leads, at_first, at_second, the_rule, goes, owner_as}
+use Rattle.gw_step.proofs.Moving.{Acts, has_entered, unchanged, Enters, safe_leads, at_first, at_second, the_rule, goes, owner_as}
 use Rattle.gw_step.proofs.Effects.{owns_none}
 
 -- what isn't at most a number is above it
@@ -87,8 +86,8 @@ unfolding copies_made
 none_made n t target s = refl
 
 -- where there are copies, there is an edge for them
-for_them : (copies : ℕ) (x m : FlowEdge) → (copies == 0) ≡ false → Contains (x ∷ ((if not (copies == 0) then m ∷ [] else []) ++ [])) m
-for_them copies x m some = subst (λ b. Contains (x ∷ ((if not b then m ∷ [] else []) ++ [])) m) (sym some) (at_second x m [])
+for_them : (copies : ℕ) (x m : FlowEdge) → (copies == 0) ≡ false → Contains (x ∷ (((if not (copies == 0) then m ∷ [] else []) ++ []) ++ [])) m
+for_them copies x m some = subst (λ b. Contains (x ∷ (((if not b then m ∷ [] else []) ++ []) ++ [])) m) (sym some) (at_second x m [])
 
 -- what is found passes
 found-passes : (passes : Assembly → Bool) (xs : List Assembly) (a : Assembly) → find passes xs ≡ Some a → passes a ≡ true
@@ -181,10 +180,10 @@ module _ (p : Parts) (s : State) (n : ℕ) (t : Transaction) (k : ℕ) where
   -- another has come to an assembly, and leaves
   joins : (size : ℕ) (row : Row) → Acts p s n t (blocks.Assemble size) row → (length row.facilities == 0) ≡ true → (a : Assembly) → assembly_at t.next t.set s ≡ Some a → Enters p k s n (joined_by_one a (entered n t t.next s), LeavesModel)
   joins size row acts none a is =
-      let bears = bearer_at s.transactions n t acts.is.found in
+      let last = has_entered p s n t (blocks.Assemble size) row acts in
       let found = found-own t.next t.set s.lists.assemblies a is in
       let v = entered n t t.next s in
-      let may : Rested p n LeavesModel v = (acts.active, record { t = with_attributes (record t { current = t.next }) bears.0; row = row; found = written_at s.transactions n (record t { current = t.next }) bears.0 bears.1; row_is = acts.is.row_is; none = none }) in
+      let may : Rested p n LeavesModel v = (acts.active, record { t = last.its; row = row; found = last.found; row_is = last.row_is; none = none }) in
       choose (λ w. Enters p k s n (w, LeavesModel)) (nat_le a.missing 1) (assembled a v) (come_to a v)
       (λ last. record { entries = suc k; arrivals = made_in k; trace = Then (EntersLast n t (blocks.Assemble size) row acts.is (present s.lists n acts.active)) (Then (Assembled a found) Done); may = may; few_entries = omega arith; few_arrivals = omega arith })
       (λ more. record { entries = suc k; arrivals = made_in k; trace = Then (EntersLast n t (blocks.Assemble size) row acts.is (present s.lists n acts.active)) (Then (Comes a found (above a.missing 1 more)) Done); may = may; few_entries = omega arith; few_arrivals = omega arith })

@@ -4,6 +4,7 @@ use Rattle.std.specs.Prelude.{int_lt, unwrap_or}
 use Rattle.std.proofs.lemmas.Int.{ints}
 use Rattle.gw_blocks.specs.declared.parts.Generate.{Generate}
 use Rattle.gw_blocks.specs.declared.parts.Split.{Split}
+use Rattle.gw_blocks.specs.declared.parts.Unlink.{Unlink}
 use Rattle.gw_blocks.specs.declared.parts.Block.{Block}
 use Rattle.gw_blocks.specs.declared.parts.Block.TheVariants as blocks
 use Rattle.gw_object.specs.declared.parts.Parts.{Parts}
@@ -24,16 +25,16 @@ use Rattle.gw_entities.specs.Tabulation.{tabulating}
 use Rattle.gw_step.specs.declared.ends.End.{End}
 use Rattle.gw_step.specs.declared.ends.End.TheVariants.{Done, Number, Live}
 use Rattle.gw_step.specs.declared.placement.Placement.{Placement}
-use Rattle.gw_step.specs.declared.placement.Placement.TheVariants.{StaysActive, RestsUntil, JoinsDelayList, JoinsRetryList, RestsAhead, RestsBehind, AwaitsSet, LeavesModel}
+use Rattle.gw_step.specs.declared.placement.Placement.TheVariants.{StaysActive, RestsUntil, JoinsDelayList, JoinsRetryList, RestsAhead, RestsBehind, AwaitsSet, JoinsChain, LeavesModel}
 use Rattle.gw_step.specs.Outcome.{Outcome, Gives, EndsBy, StopsBy, ◌>>=◌, or_stop, granted, evaluated}
-use Rattle.gw_step.specs.State.{FutureEvent, Assembly, State, may_enter, with_streams, delay_list}
+use Rattle.gw_step.specs.State.{FutureEvent, Assembly, State, may_enter, with_streams, delay_list, user_chain}
 use Rattle.gw_step.specs.Times.{environment_of, environment_of_next, moment_after, drawn_moment}
-use Rattle.gw_step.specs.Changes.{copied, copies_made, assembled, come_to, entered, enters_and_falls, assigned, arrives, woken, facility, storage, queue, switch, savevalue, put_facility, put_storage, put_queue, put_switch, put_savevalue, table, put_table, end_at}
+use Rattle.gw_step.specs.Changes.{copied, copies_made, assembled, come_to, leaves_chain, entered, enters_and_falls, assigned, arrives, woken, facility, storage, queue, switch, savevalue, put_facility, put_storage, put_queue, put_switch, put_savevalue, table, put_table, end_at}
 use Rattle.gw_step.specs.Placing.{woken_if_stirred, placed}
-use Rattle.gw_step.specs.Blocks.{refuses, refusal, is_owed, next_arrival, chosen, passes_test, is_so, led_by, block_after, put_by, looped, turned, the_value, plus, split, assembly_at, joined_by_one, assemble_in, assemble, is_priority, effect, then_placed, meets, act}
+use Rattle.gw_step.specs.Blocks.{refuses, refusal, is_owed, next_arrival, chosen, passes_test, is_so, led_by, block_after, put_by, looped, turned, the_value, plus, split, assembly_at, joined_by_one, first_unlinked, unlinked, taken_by, unlink, assemble_in, assemble, is_priority, effect, then_placed, meets, act}
 use Rattle.gw_step.specs.Step.{next_event, next_active, scan}
-use Rattle.gw_step.proofs.Outcomes.{OnGives, on_bind, on_test, on_if, on_both, choose}
-use Rattle.gw_step.proofs.Follows.{Stays, stays-same, stays-hand_over, stays-admission}
+use Rattle.gw_step.proofs.Outcomes.{OnGives, on_bind, on_test, on_if, on_both, choose, by_option}
+use Rattle.gw_step.proofs.Follows.{Stays, stays-same, stays-then, stays-hand_over, stays-admission}
 
 -- from s to t the steps stay, and so do the end and the termination count, or the count brings the end
 pub record IsCounted (s t : State) : Type 0 where
@@ -65,6 +66,7 @@ placed_stays n JoinsRetryList s = let h = woken_stays s in record { clock = h.cl
 placed_stays n RestsAhead s = let h = woken_stays s in record { clock = h.clock; count = h.count; steps = h.steps; ended = h.ended }
 placed_stays n RestsBehind s = let h = woken_stays s in record { clock = h.clock; count = h.count; steps = h.steps; ended = h.ended }
 placed_stays n (AwaitsSet a) s = let h = woken_stays s in record { clock = h.clock; count = h.count; steps = h.steps; ended = h.ended }
+placed_stays n (JoinsChain l) s = let h = woken_stays s in record { clock = h.clock; count = h.count; steps = h.steps; ended = h.ended }
 placed_stays n LeavesModel s = let h = woken_stays s in record { clock = h.clock; count = h.count; steps = h.steps; ended = h.ended }
 
 -- BLOCKS
@@ -87,6 +89,18 @@ copies_stay (suc k) n t target s = let h = copies_stay k n t target (copied n t 
 -- nor does who comes to an assembly
 joined_stays : (a : Assembly) (s : State) → Stays s (joined_by_one a s)
 joined_stays a s = choose (Stays s) (nat_le a.missing 1) (assembled a s) (come_to a s) (λ _. record { clock = refl; count = refl; steps = refl; ended = refl }) (λ _. record { clock = refl; count = refl; steps = refl; ended = refl })
+
+-- nor do members that leave a user chain
+unlinked_stay : (k c target : ℕ) (s : State) → Stays s (unlinked k c target s)
+unfolding unlinked
+unlinked_stay zero c target s = stays-same s
+unlinked_stay (suc k) c target s =
+    let first = first_unlinked c target (user_chain c s) s in
+    stays-then s first (unlinked k c target first) (first_stays (user_chain c s)) (unlinked_stay k c target first)
+  where
+    first_stays : (ms : List ℕ) → Stays s (first_unlinked c target ms s)
+    first_stays [] = stays-same s
+    first_stays (n ∷ ns) = by_option (Stays s) (attributes_at n s.transactions) (λ t. leaves_chain c target n t s) s (λ t there. record { clock = refl; count = refl; steps = refl; ended = refl }) (λ none. stays-same s)
 
 module _ (s : State) where
   abbrev Entered : State × Placement → Type 0
@@ -123,6 +137,12 @@ module _ (s : State) where
   assemble_counted : (p : Parts) (n : ℕ) (t : Transaction) (size : ℕ) → OnGives Entered (assemble p.blocks n t size s)
   assemble_counted p n t size =
       on_if Entered (nat_le size 1) _ _ (on_test Entered (may_enter (block_at p.blocks (t.next + 1))) NoBlock _ (passed (enters_and_falls n t s) refl refl refl)) (joined_counted p n t size (assembly_at t.next t.set s))
+
+  unlink_counted : (p : Parts) (n : ℕ) (t : Transaction) (u : Unlink) → OnGives Entered (unlink p.blocks n t u s)
+  unlink_counted p n t u =
+      let v = enters_and_falls n t s in
+      let made = counted_on s v (unlinked (taken_by u s) u.chain u.target v) (passed v refl refl refl) (unlinked_stay (taken_by u s) u.chain u.target v) in
+      on_test Entered (may_enter (block_at p.blocks (t.next + 1))) NoBlock _ (on_if Entered (taken_by u s == 0) _ _ made (on_test Entered (may_enter (block_at p.blocks u.target)) NoBlock _ made))
 
   effect_counted : (p : Parts) (n : ℕ) (t : Transaction) (block : Block) (values : List ℤ) → OnGives Entered (effect p n t block values s)
   unfolding effect
@@ -177,6 +197,8 @@ module _ (s : State) where
       (λ new _. on_test Entered (may_enter (block_at p.blocks (t.next + 1))) NoBlock _ (passed (put_table e new (enters_and_falls n t s)) refl refl refl))
   effect_counted p n t (blocks.Split c) values = split_counted p n t c
   effect_counted p n t (blocks.Assemble size) values = assemble_counted p n t size
+  effect_counted p n t (blocks.Link l) values = passed (entered n t t.next s) refl refl refl
+  effect_counted p n t (blocks.Unlink u) values = unlink_counted p n t u
   effect_counted p n t (blocks.Priority a) values =
       on_if Entered (is_priority (the_value values)) _ (EndsBy Number) (on_test Entered (may_enter (block_at p.blocks (t.next + 1))) NoBlock _ (passed (enters_and_falls n (record t { priority = the_value values }) s) refl refl refl)) tt
   effect_counted p n t blocks.Buffer values = on_test Entered (may_enter (block_at p.blocks (t.next + 1))) NoBlock _ (passed (enters_and_falls n t s) refl refl refl)

@@ -5,6 +5,7 @@ use Rattle.std.specs.Option.{option_map_or, option_flatten}
 use Rattle.std.specs.List.{list_any}
 use Rattle.std.proofs.lemmas.Bool.{cases_eq, eq-eqb, ne_eqb, or_left, leb-true, le-leb, false≢true}
 use Rattle.std.proofs.lemmas.Int.{ints}
+use Rattle.std.proofs.lemmas.List.Elements.{Contains-append_left}
 use Rattle.gw_blocks.specs.declared.parts.Operand.{Operand}
 use Rattle.gw_blocks.specs.declared.parts.Spread.{Spread}
 use Rattle.gw_blocks.specs.declared.parts.Units.{Units}
@@ -35,7 +36,7 @@ use Rattle.gw_flow.specs.Rows.{ParamKind, Num, Ret, Row, kind_of, return_blocks,
 use Rattle.gw_flow.specs.Values.{answered}
 use Rattle.gw_flow.proofs.Parameters.{loop_is_number, return_is, kind_of_set, kind_of_other}
 use Rattle.gw_num.specs.Arithmetic.{fits_i64, difference_of}
-use Rattle.gw_flow.specs.Blocks.{capacity_at, move, edges, edges_along, returns_read, after}
+use Rattle.gw_flow.specs.Blocks.{capacity_at, move, edges, edges_from, chain_edges, edges_along, returns_read, after}
 use Rattle.gw_flow.specs.Flow.{own_table}
 use Rattle.gw_flow.specs.Laws.{FlowHolds}
 use Rattle.gw_num.specs.Table.{at}
@@ -63,20 +64,20 @@ use Rattle.gw_step.proofs.Outcomes.{choose}
 use Rattle.gw_step.proofs.Residence.{at-le-sum}
 use Rattle.gw_step.proofs.Owning.{idle-released}
 use Rattle.gw_step.proofs.Drawn.{safe_later}
-use Rattle.gw_step.specs.Places.{row_of}
+use Rattle.gw_step.specs.Places.{block_of, row_of}
 use Rattle.gw_step.specs.Typing.{IsAsKnown, promised_units, content_of, awaited, WaitsFor}
 use Rattle.gw_step.proofs.Owning.{lists-none}
 use Rattle.gw_step.proofs.Operands.{good_units}
 use Rattle.gw_step.proofs.Balances.{balanced-nothing, balanced-parameters, balanced-switch, balanced-savevalue, balanced-table, balanced-seize, balanced-release, balanced-storage, balanced-queue}
-use Rattle.gw_step.proofs.Traces.{its_parameters, EntersLast, Counts, Done, Then, change-keeps, present, Rested, credited, its_row}
+use Rattle.gw_step.proofs.Traces.{its_place, its_parameters, EntersLast, Counts, Done, Then, change-keeps, present, Rested, credited, its_row}
 use Rattle.gw_step.proofs.Unstopped.{Safe, Any, safe_bind, safe_test, safe_if, safe_found, safe_answered}
 use Rattle.gw_step.proofs.AtBlock.{first_may_be_entered, second_may_be_entered, led_to, named_below, is_storage, is_queue}
-use Rattle.gw_step.proofs.Moving.{Acts, unchanged, Reaches, Enters, entered_once, safe_placed, refused, safe_leads, at_first, at_second, the_rule, goes, goes_with, just_goes, owner_as}
+use Rattle.gw_step.proofs.Moving.{Acts, has_entered, unchanged, Reaches, Enters, entered_once, safe_placed, refused, safe_leads, at_first, at_second, the_rule, goes, goes_with, just_goes, owner_as}
 use Rattle.gw_step.proofs.Returns.{may_come_back}
 use Rattle.gw_step.proofs.Calling.{some_of, handed_over, admits}
-use Rattle.gw_step.proofs.Attributes.{bearer_at, written_at}
+use Rattle.gw_step.proofs.Attributes.{bearer_at}
 use Rattle.gw_transactions.specs.Parameters.{no_parameters}
-use Rattle.gw_transactions.specs.Transactions.{LiveTransaction, parameter_at, with_attributes}
+use Rattle.gw_transactions.specs.Transactions.{LiveTransaction, parameter_at}
 
 not-true : (b : Bool) → not b ≡ true → b ≡ false
 not-true true h = absurd (false≢true h)
@@ -169,7 +170,7 @@ module _ (p : Parts) (each_block : (b : ℕ) (block : Block) → block_at p.bloc
   asks : (block : Block) (row : Row) → Acts p s n t block row → (e : ℕ) → awaited block ≡ Some e → WaitsFor p e (at None s.transactions n)
   asks block row acts e h =
       let bears = bearer_at s.transactions n t acts.is.found in
-      subst (WaitsFor p e) (sym bears.1) (ap (λ (a : Transaction). option_map_or awaited (block_at p.blocks a.next) None) bears.2 ∙ ap (λ b. option_map_or awaited b None) acts.is.block_is ∙ h)
+      subst (WaitsFor p e) (sym bears.1) (ap (λ at. option_map_or awaited (block_of p at) None) (its_place p s.transactions n t block row acts.is) ∙ ap (λ b. option_map_or awaited b None) acts.is.block_is ∙ h)
 
   -- ADVANCE AND THE FACILITIES
 
@@ -300,7 +301,9 @@ module _ (p : Parts) (each_block : (b : ℕ) (block : Block) → block_at p.bloc
   led block row acts same otherwise ways is so passes = by_case otherwise so ways is passes
     where
       along : (es : List Exit) (to : ℕ) → exits_with (returns_read block row) block ≡ es → Contains (edges_along t.next es row) (move to row) → Contains (edges p (own_table p) t.next block row) (move to row)
-      along es to ways there = subst (λ r. Contains (edges_along t.next (exits_with (returns_read block row) block) r) (move to row)) (sym same) (subst (λ xs. Contains (edges_along t.next xs row) (move to row)) (sym ways) there)
+      along es to ways there =
+          Contains-append_left (edges_from t.next block row) (chain_edges (own_table p) block row) (move to row)
+          (subst (λ r. Contains (edges_along t.next (exits_with (returns_read block row) block) r) (move to row)) (sym same) (subst (λ xs. Contains (edges_along t.next xs row) (move to row)) (sym ways) there))
 
       exits_hold : (es : List Exit) → exits block ≡ es → All (λ (exit : Exit). MayBeEntered p (leads_to t.next exit.way)) es
       exits_hold es is = subst (All (λ (exit : Exit). MayBeEntered p (leads_to t.next exit.way))) is acts.kinds.exits
@@ -405,7 +408,9 @@ module _ (p : Parts) (each_block : (b : ℕ) (block : Block) → block_at p.bloc
       let block : Block = blocks.TransferByParameter q in
       let kind = return_is p (own_table p) t.next q row acts.flow in
       let held = value_returns kind.0 (parameter_at n q s.transactions) (known_value block row acts q (Ret kind.0) kind.1) in
-      let along : Contains (edges p (own_table p) t.next block row) (move (held.0 + 1) row) = subst (λ (o : Option ParamKind). Contains (edges_along t.next (map returns_to (return_blocks o)) row) (move (held.0 + 1) row)) (sym kind.1) (returns_along held.0 t.next row kind.0 held.1) in
+      let along : Contains (edges p (own_table p) t.next block row) (move (held.0 + 1) row) =
+      Contains-append_left (edges_from t.next block row) [] (move (held.0 + 1) row)
+      (subst (λ (o : Option ParamKind). Contains (edges_along t.next (map returns_to (return_blocks o)) row) (move (held.0 + 1) row)) (sym kind.1) (returns_along held.0 t.next row kind.0 held.1)) in
       safe_found (Enters p k s n) (parameter_at n q s.transactions) UnsetParam (pos held.0) _ held.2
       (subst (λ to. Safe (Enters p k s n) (transfer p.blocks n t to s)) (sym (after_it held.0))
       (goes_to block row acts (held.0 + 1) along (may_come_back p each_block each_return t.next q held.0 row kind.0 acts.is.row_is kind.1 held.1)))
@@ -442,7 +447,7 @@ module _ (p : Parts) (each_block : (b : ℕ) (block : Block) → block_at p.bloc
 
   pub safe_terminate : (by : Operand) (value : ℤ) (row : Row) → Acts p s n t (blocks.Terminate by) row → Safe (Enters p k s n) (terminate n t value s)
   safe_terminate by value row acts =
-      let bears = bearer_at s.transactions n t acts.is.found in
+      let last = has_entered p s n t (blocks.Terminate by) row acts in
       let none = the_rule p t.next codes.owns_at_end (length row.facilities == 0) (blocks.Terminate by) row refl acts.flow in
       safe_if (Enters p k s n) (int_lt value (pos 0)) _ _
       (λ below. tt)
@@ -453,7 +458,7 @@ module _ (p : Parts) (each_block : (b : ℕ) (block : Block) → block_at p.bloc
         entries = suc k;
         arrivals = made_in k;
         trace = Then (EntersLast n t (blocks.Terminate by) row acts.is (present s.lists n acts.active)) (Then (Counts value) Done);
-        may = (acts.active, record { t = with_attributes (record t { current = t.next }) bears.0; row = row; found = written_at s.transactions n (record t { current = t.next }) bears.0 bears.1; row_is = acts.is.row_is; none = none });
+        may = (acts.active, record { t = last.its; row = row; found = last.found; row_is = last.row_is; none = none });
         few_entries = omega arith;
         few_arrivals = omega arith;
       }))

@@ -194,6 +194,7 @@ module _ (bs es en ar : ℕ) (s : State) (w : IsWithin bs es en ar s) where
       entries = w.whole.entries;
       scheduled = w.whole.scheduled;
       delay_lists = w.whole.delay_lists;
+      user_chains = w.whole.user_chains;
       facilities = fac ∙ w.whole.facilities;
       storages = sto ∙ w.whole.storages;
       queues = ap length que ∙ w.whole.queues;
@@ -338,6 +339,7 @@ within-clock bs es en ar s w e rest is =
         entries = w.whole.entries;
         scheduled = w.whole.scheduled;
         delay_lists = w.whole.delay_lists;
+        user_chains = w.whole.user_chains;
         facilities = length-map s.entities.facilities (facility_after time) ∙ w.whole.facilities;
         storages = length-map s.entities.storages (storages.storage_after time) ∙ w.whole.storages;
         queues = length-map s.entities.queues (contents_after time) ∙ w.whole.queues;

@@ -29,3 +29,4 @@ pub mod PlainBlocks
 pub mod Counting
 pub mod Nothing
 pub mod Copying
+pub mod Linking

@@ -26,8 +26,11 @@ use Rattle.gw_step.specs.Changes.{entered, assigned}
 use Rattle.gw_step.specs.Times.{parameters_of}
 use Rattle.gw_step.specs.Blocks.{leads, then_placed}
 use Rattle.gw_step.specs.Typing.{IsAsKnown, lists_facility, WellTyped}
+use Rattle.gw_transactions.specs.Transactions.{LiveTransaction, with_attributes}
+use Rattle.gw_step.specs.Places.{place}
+use Rattle.gw_step.proofs.Attributes.{bearer_at, written_at}
 use Rattle.gw_step.proofs.Agreeing.{Balanced}
-use Rattle.gw_step.proofs.Traces.{IsAt, Becomes, its_parameters, present, Rested, credited, Change, Goes, GoesWith, Trace, Done, Then, trace_on, placed_traced, its_row}
+use Rattle.gw_step.proofs.Traces.{IsAt, place-free, its_chain, Becomes, its_parameters, present, Rested, credited, Change, Goes, GoesWith, Trace, Done, Then, trace_on, placed_traced, its_row}
 use Rattle.gw_step.proofs.Unstopped.{Safe, safe_bind, safe_test}
 
 -- the active transaction of a well-typed state is at a block, in a row, and what kinds and flow say of the two
@@ -100,6 +103,12 @@ refused p k s n placement may few = record { entries = credited placement k; arr
 pub unchanged : (s : State) (t : Transaction) → Becomes s t t
 unchanged s t = record { next = refl; mark = λ clock mark. mark }
 
+-- the transaction n, which was t, entered its block for the last time, and is at a row
+pub record HasEntered (p : Parts) (s : State) (n : ℕ) (t : Transaction) (row : Row) : Type 0 where
+  pub its : LiveTransaction
+  pub found : at None (entered n t t.next s).transactions n ≡ Some its
+  pub row_is : own_table p (place its) ≡ Some row
+
 -- a state knows of each parameter what a row knows of it
 abbrev pub Knows : Row → Row → Type 0
 Knows row state = (q : ℕ) → kind_of state q ≡ kind_of row q
@@ -128,3 +137,14 @@ module _ (p : Parts) (s : State) (n : ℕ) (t : Transaction) (block : Block) (ro
   -- what its row says of an owner, and what is inside at least
   pub owner_as : (f : ℕ) → is_owned_by n (at idle s.entities.facilities f) ≡ owns row f
   owner_as f = acts.typed.owned f n ∙ ap (lists_facility f) (its_row p s.transactions n t block row acts.is)
+
+  -- it enters its block to go nowhere from there: it is there, and at its row still
+  pub has_entered : HasEntered p s n t row
+  has_entered =
+      let bears = bearer_at s.transactions n t acts.is.found in
+      let last : Transaction = record t { current = t.next } in
+      record {
+        its = with_attributes last bears.0;
+        found = written_at s.transactions n last bears.0 bears.1;
+        row_is = ap (own_table p) (place-free (with_attributes last bears.0) last (its_chain (at None s.transactions n) bears.0 None bears.1 acts.is.free) refl) ∙ acts.is.row_is;
+      }

@@ -18,7 +18,7 @@ use Rattle.gw_object.specs.Entities.{KindFits, EntityFits}
 use Rattle.gw_object.specs.Grammar.{HasSpelling}
 use Rattle.gw_kinds.specs.Evaluated.{operand_of, operand_at, evaluated}
 use Rattle.gw_kinds.specs.declared.entities.EntityKind.{EntityKind}
-use Rattle.gw_kinds.specs.declared.entities.EntityKind.TheVariants.{Facility, Storage, Queue, Switch, Savevalue, Table}
+use Rattle.gw_kinds.specs.declared.entities.EntityKind.TheVariants.{Facility, Storage, Queue, Switch, Savevalue, Table, Chain}
 use Rattle.gw_kinds.specs.Kinds.{block_at, is_none_or, needs, needed_by, entity_of, are_units}
 use Rattle.gw_kinds.specs.Laws.{IsEntity, BlockHolds}
 use Rattle.gw_kinds.proofs.KindsHold.{kinds_pass_at_each_place}
@@ -53,6 +53,8 @@ operands_fit p b (blocks.Gate gate) h spelled = named_below p.entities (needs (n
 operands_fit p b (blocks.TransferToSubroutine c) h spelled = spelled.parameter
 operands_fit p b (blocks.TransferByParameter q) h spelled = spelled
 operands_fit p b (blocks.Loop l) h spelled = spelled.parameter
+operands_fit p b (blocks.Link l) h spelled = named_below p.entities (needs Chain l.chain) [] h.entities
+operands_fit p b (blocks.Unlink u) h spelled = named_below p.entities (needs Chain u.chain) [] h.entities
 operands_fit p b (blocks.Logic l) h spelled = named_below p.entities (needs Switch l.switch) [] h.entities
 operands_fit p b (blocks.Savevalue a) h spelled = named_below p.entities (needs Savevalue a.savevalue) (cons_option (entity_of a.value) []) h.entities
 operands_fit p b (blocks.Mark q) h spelled = spelled
@@ -110,7 +112,7 @@ block_spelled bs (suc i) block is h = at_place bs i is h
 pub blocks_fit : (p : Parts) → Checked p → HasSpelling p → BlocksFit (length p.entities) p.blocks
 blocks_fit p checked spelled = record {
   few = spelled.limits.blocks;
-  operands = λ b block is. operands_fit p b block (((kinds_pass_at_each_place p).0 (kinds_pass p checked)).4 b block is) (block_spelled p.blocks b block is spelled.limits.each_block);
+  operands = λ b block is. operands_fit p b block (((kinds_pass_at_each_place p).0 (kinds_pass p checked)).5 b block is) (block_spelled p.blocks b block is spelled.limits.each_block);
 }
 
 -- what holds of the block at each place holds of each block

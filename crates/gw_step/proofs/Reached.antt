@@ -240,6 +240,7 @@ nothing_begun j fits =
           entries = table;
           scheduled = table;
           delay_lists = length-replicate (length es) [];
+          user_chains = length-replicate (length es) [];
           facilities = length-map es (λ _. idle);
           storages = length-map es (λ (e : Entity). vacant (capacity_of e.kind));
           queues = length-map es (λ _. empty);

@@ -1,21 +1,24 @@
 -- Each elementary change keeps that each live transaction resides exactly once.
-use Rattle.std.proofs.Common.{◌≡◌, ◌≢◌, ℕ, zero, suc, ◌+◌, ◌≤◌, ℤ, List, [], ◌∷◌, ◌++◌, map, length, Option, Some, None, Bool, true, false, if◌then◌else◌, ◌==◌, is_some, option_map, refl, sym, ap, ◌∙◌, subst, arith, inl, inr}
+use Rattle.std.proofs.Common.{◌≡◌, ◌≢◌, ℕ, zero, suc, ◌+◌, ◌≤◌, ℤ, List, [], ◌∷◌, ◌++◌, map, length, Option, Some, None, Bool, true, false, if◌then◌else◌, ◌==◌, is_some, refl, sym, ap, ◌∙◌, subst, arith, inl, inr}
 use Rattle.std.specs.Prelude.{int_le, int_lt, sum_by}
 use Rattle.std.specs.List.{find}
 use Rattle.std.proofs.lemmas.Bool.{cases_eq, eq-eqb, ne_eqb}
-use Rattle.gw_chains.specs.Chain.{placed_behind, behind, all_behind, due}
+use Rattle.gw_blocks.specs.declared.parts.LinkOrder.{LinkOrder}
+use Rattle.gw_blocks.specs.declared.parts.LinkOrder.TheVariants.{Fifo, Lifo}
+use Rattle.gw_blocks.specs.declared.parts.Link.{Link}
+use Rattle.gw_chains.specs.Chain.{placed_behind, behind, all_behind, due, rest}
 use Rattle.gw_chains.specs.Assembling.{without_first, with_first_changed}
 use Rattle.gw_transactions.specs.declared.Transaction.{Transaction}
-use Rattle.gw_transactions.specs.Transactions.{LiveTransaction, made_with, with_attributes, with_parameter}
+use Rattle.gw_transactions.specs.Transactions.{LiveTransaction, made_with, put_attributes}
 use Rattle.gw_num.specs.Table.{at, put}
 use Rattle.std.proofs.lemmas.List.Sums.{sum_by-cons}
 use Rattle.gw_num.proofs.Tables.{at-put, at-put_other, at_past, sum_by-put}
 use Rattle.gw_step.specs.declared.placement.Assembling.{Assembling}
 use Rattle.gw_step.specs.Times.{parameters_of}
-use Rattle.gw_step.specs.State.{FutureEvent, Assembly, State, priority_of, delay_list, without}
+use Rattle.gw_step.specs.State.{FutureEvent, Assembly, State, priority_of, delay_list, user_chain, without}
 use Rattle.gw_step.specs.Residence.{occurrences, active_numbers, awaiting, occurrences_in, ResidesOnce}
-use Rattle.gw_step.specs.Changes.{newcomer, with_copy, copied, rests_ahead, rests_behind, awaits_set, is_of, assembled, one_fewer, come_to, retries, woken, entered, assigned, destroyed, rests_until, arrives, waits_for, called_from, clock_moves, numbers}
-use Rattle.gw_step.proofs.Attributes.{is_some-attributes, is_some-parameter}
+use Rattle.gw_step.specs.Changes.{newcomer, with_copy, copied, rests_ahead, rests_behind, awaits_set, is_of, assembled, one_fewer, come_to, linked, joins_chain, leaves_chain, retries, woken, entered, assigned, destroyed, rests_until, arrives, waits_for, called_from, clock_moves, numbers}
+use Rattle.gw_step.proofs.Attributes.{is_some-attributes, is_some-parameter, is_some-chain}
 use Rattle.gw_step.proofs.Lists.{occurrences-placed, occurrences-all_behind, occurrences-due}
 
 -- 1 where it is there
@@ -39,6 +42,14 @@ written_here xs n v k e = ap (λ j. one_if (is_some (at None (put None xs n v) j
 written_other : (xs : List (Option LiveTransaction)) (n : ℕ) (v : Option LiveTransaction) (k : ℕ) → k ≢ n → one_if (is_some (at None (put None xs n v) k)) ≡ one_if (is_some (at None xs k))
 written_other xs n v k e = ap (λ o. one_if (is_some o)) (at-put_other None xs n k v e)
 
+-- who is written is there where somebody was: the same are there
+same_there : (xs : List (Option LiveTransaction)) (n : ℕ) (v : Option LiveTransaction) → is_some v ≡ is_some (at None xs n) → (k : ℕ) → one_if (is_some (at None (put None xs n v) k)) ≡ one_if (is_some (at None xs k))
+same_there xs n v same k =
+    elim (cases_eq k n) [
+      | inl e ↦ written_here xs n v k e ∙ ap one_if same ∙ sym (ap (λ j. one_if (is_some (at None xs j))) e)
+      | inr e ↦ written_other xs n v k e
+    ]
+
 -- one entry of a table has no more than all of them
 pub at-le-sum : {X : Type 0} (d : X) (f : X → ℕ) (xs : List X) (k : ℕ) → f d ≡ 0 → f (at d xs k) ≤ sum_by f xs
 at-le-sum d f [] k none = omega (arith, none)
@@ -56,6 +67,7 @@ pub record Alone (n : ℕ) (s : State) : Type 0 where
   pub delay_lists : (e : ℕ) → occurrences n (delay_list e s) ≡ 0
   pub retry : occurrences n s.lists.retry ≡ 0
   pub assemblies : occurrences n (awaiting s.lists.assemblies) ≡ 0
+  pub user_chains : (c : ℕ) → occurrences n (user_chain c s) ≡ 0
 
 -- who is active resides on no list
 pub alone : (n : ℕ) (s : State) → s.lists.active ≡ Some n → ResidesOnce s → Alone n s
@@ -70,6 +82,7 @@ alone n s active h =
       delay_lists = λ e. omega (arith, a, one, before, most, occurrences-one n s.lists.delay_lists e);
       retry = omega (arith, a, one, before, most);
       assemblies = omega (arith, a, one, before, most);
+      user_chains = λ c. omega (arith, a, one, before, most, occurrences-one n s.lists.user_chains c);
     }
 
 -- nobody resides twice on a delay list
@@ -81,20 +94,11 @@ waits-once n s h e =
 
 pub resides-entered : (n : ℕ) (t : Transaction) (next : ℕ) (s : State) → ResidesOnce s → ResidesOnce (entered n t next s)
 resides-entered n t next s h k =
-    let u : Transaction = record t { current = t.next; next = next } in
-    let was = at None s.transactions n in
-    elim (cases_eq k n) [
-      | inl e ↦ h k ∙ ap (λ j. one_if (is_some (at None s.transactions j))) e ∙ ap one_if (sym (is_some-attributes u was)) ∙ sym (written_here s.transactions n (option_map (with_attributes u) was) k e)
-      | inr e ↦ h k ∙ sym (written_other s.transactions n (option_map (with_attributes u) was) k e)
-    ]
+    h k ∙ sym (same_there s.transactions n _ (is_some-attributes (record t { current = t.next; next = next }) (at None s.transactions n)) k)
 
 pub resides-assigned : (n q : ℕ) (value : ℤ) (s : State) → ResidesOnce s → ResidesOnce (assigned n q value s)
 resides-assigned n q value s h k =
-    let was = at None s.transactions n in
-    elim (cases_eq k n) [
-      | inl e ↦ h k ∙ ap (λ j. one_if (is_some (at None s.transactions j))) e ∙ ap one_if (sym (is_some-parameter q value was)) ∙ sym (written_here s.transactions n (option_map (with_parameter q value) was) k e)
-      | inr e ↦ h k ∙ sym (written_other s.transactions n (option_map (with_parameter q value) was) k e)
-    ]
+    h k ∙ sym (same_there s.transactions n _ (is_some-parameter q value (at None s.transactions n)) k)
 
 pub resides-destroyed : (n : ℕ) (u : LiveTransaction) (s : State) → s.lists.active ≡ Some n → at None s.transactions n ≡ Some u → ResidesOnce s → ResidesOnce (destroyed n s)
 resides-destroyed n u s active there h k =
@@ -296,3 +300,31 @@ pub resides-come : (a : Assembly) (s : State) → ResidesOnce s → ResidesOnce 
 resides-come a s h k =
     let before : occurrences_in s.lists k ≡ one_if (is_some (at None s.transactions k)) = h k in
     omega (arith, before, awaiting-changed k (is_of a.block a.set) s.lists.assemblies)
+
+-- USER CHAINS
+
+-- a user chain with one more member
+pub occurrences-linked : (k : ℕ) (order : LinkOrder) (n : ℕ) (members : List ℕ) → occurrences k (linked order n members) ≡ one_if (n == k) + occurrences k members
+occurrences-linked k Fifo n members = omega (arith, occurrences-append k members (n ∷ []))
+occurrences-linked k Lifo n members = refl
+
+pub resides-linked : (n : ℕ) (l : Link) (s : State) → s.lists.active ≡ Some n → ResidesOnce s → ResidesOnce (joins_chain n l s)
+resides-linked n l s active h k =
+    let before : occurrences_in s.lists k ≡ one_if (is_some (at None s.transactions k)) = h k in
+    let a : occurrences k (active_numbers s.lists.active) ≡ one_if (n == k) + 0 = ap (λ o. occurrences k (active_numbers o)) active in
+    let joined = occurrences-linked k l.order n (user_chain l.chain s) in
+    let total = sum_by-put [] (occurrences k) s.lists.user_chains l.chain (linked l.order n (user_chain l.chain s)) refl in
+    let same = same_there s.transactions n _ (is_some-chain (Some l.chain) (at None s.transactions n)) k in
+    omega (arith, before, a, joined, total, same)
+
+pub resides-unlinked : (c target n : ℕ) (t : Transaction) (ns : List ℕ) (s : State) → user_chain c s ≡ n ∷ ns → ResidesOnce s → ResidesOnce (leaves_chain c target n t s)
+resides-unlinked c target n t ns s is h k =
+    let a : Transaction = record t { next = target } in
+    let before : occurrences_in s.lists k ≡ one_if (is_some (at None s.transactions k)) = h k in
+    let joined = occurrences-joined k (priority_of s.transactions) n s.lists.current_events in
+    let was : occurrences k (user_chain c s) ≡ one_if (n == k) + occurrences k ns = ap (occurrences k) is in
+    let left : occurrences k (rest (user_chain c s)) ≡ occurrences k ns = ap (λ ms. occurrences k (rest ms)) is in
+    let total = sum_by-put [] (occurrences k) s.lists.user_chains c (rest (user_chain c s)) refl in
+    let written = same_there s.transactions n _ (is_some-attributes a (at None s.transactions n)) k in
+    let same = same_there (put_attributes n a s.transactions) n _ (is_some-chain None (at None (put_attributes n a s.transactions) n)) k in
+    omega (arith, before, joined, was, left, total, written, same)

@@ -1,10 +1,11 @@
 -- What kinds say of the returns that a row of the state table knows: each is the number of a block that calls a subroutine, and after which a transaction may go on.
 use Rattle.std.proofs.Common.{◌≡◌, ℕ, zero, suc, ◌+◌, List, [], ◌∷◌, map, Option, Some, None, Bool, true, false, if◌then◌else◌, ◌==◌, ◌||◌, refl, sym, subst, inl, inr}
-use Rattle.std.specs.Prelude.{All, IsTrue, option_map}
+use Rattle.std.specs.Prelude.{All, IsTrue, option_map, option_to_list}
 use Rattle.std.specs.Option.{option_map_or}
 use Rattle.std.proofs.lemmas.Bool.{cases_eq, ne_eqb, false≢true}
 use Rattle.std.proofs.lemmas.List.Elements.{All-head, All-tail}
 use Rattle.gw_blocks.specs.declared.parts.Block.{Block}
+use Rattle.gw_blocks.specs.declared.parts.Block.TheVariants as blocks
 use Rattle.gw_object.specs.declared.parts.TableKind.{TableKind}
 use Rattle.gw_object.specs.declared.parts.TableKind.TheVariants.{Num as TableNum, Ret as TableRet}
 use Rattle.gw_object.specs.declared.parts.TableParameter.{TableParameter}
@@ -13,7 +14,7 @@ use Rattle.gw_object.specs.declared.parts.ReturnRow.{ReturnRow}
 use Rattle.gw_object.specs.declared.parts.Parts.{Parts}
 use Rattle.gw_kinds.specs.declared.ways.Way.{Way}
 use Rattle.gw_kinds.specs.declared.ways.Way.TheVariants.{Falls}
-use Rattle.gw_kinds.specs.Exits.{leads_to, is_call}
+use Rattle.gw_kinds.specs.Exits.{leads_to, is_call, other_way}
 use Rattle.gw_kinds.specs.Kinds.{block_at, is_call_at}
 use Rattle.gw_kinds.specs.Laws.{MayBeEntered, ReturnsHold, BlockHolds}
 use Rattle.gw_flow.specs.Entries.{lists, entry}
@@ -52,6 +53,11 @@ the_call : (o : Option Block) → option_map_or is_call o false ≡ true → (bl
 the_call None h = absurd (false≢true h)
 the_call (Some block) h = (block, refl, h)
 
+-- the way besides its exits of a block that calls a subroutine is the one to the next block
+comes_back : (block : Block) → is_call block ≡ true → other_way block ≡ Some Falls
+comes_back (blocks.TransferToSubroutine c) h = refl
+comes_back block h = absurd (false≢true h)
+
 module _ (p : Parts) (each_block : (b : ℕ) (block : Block) → block_at p.blocks b ≡ Some block → BlockHolds p b block) (each_return : All (ReturnsHold p) p.returns) where
   -- each block of a return row calls a subroutine
   calls : (rows : List ReturnRow) (r b : ℕ) → All (ReturnsHold p) rows → lists (row_blocks rows r) b ≡ true → is_call_at p.blocks b ≡ true
@@ -69,7 +75,7 @@ module _ (p : Parts) (each_block : (b : ℕ) (block : Block) → block_at p.bloc
   back_from b calls =
       let found = the_call (block_at p.blocks b) calls in
       let goes_on = λ (way : Way). MayBeEntered p (leads_to b way) in
-      All-head goes_on Falls [] (subst (λ so. All goes_on (if so then Falls ∷ [] else [])) found.2 (each_block b found.0 found.1).back)
+      All-head goes_on Falls [] (subst (λ way. All goes_on (option_to_list way)) (comes_back found.0 found.2) (each_block b found.0 found.1).others)
 
   -- so it may after each block to which a parameter is known to return
   pub may_come_back : (place q b : ℕ) (row : Row) (bs : List ℕ) → own_row p place ≡ Some row → kind_of row q ≡ Some (Ret bs) → lists bs b ≡ true → MayBeEntered p (b + 1)

@@ -25,16 +25,17 @@ use Rattle.gw_step.specs.State.{FutureEvent, State, with_streams}
 use Rattle.gw_flow.specs.Values.{operands}
 use Rattle.gw_step.specs.Times.{environment_of}
 use Rattle.gw_step.specs.Changes.{woken, clock_moves}
-use Rattle.gw_step.specs.Blocks.{the_value, effect, meets, act}
+use Rattle.gw_step.specs.Blocks.{the_value, link, effect, meets, act}
 use Rattle.gw_step.specs.Step.{next_event, next_active, scan, within_budget, stepped, step}
 use Rattle.gw_step.specs.Residence.{occurrences, active_numbers}
 use Rattle.gw_step.specs.Job.{Job, Step, then_step, after, start_of}
 use Rattle.gw_step.proofs.Outcomes.{choose}
 use Rattle.gw_step.proofs.Rests.{all_come_to_rest}
 use Rattle.gw_step.proofs.Residence.{one_if, at_most_one, same_number}
+use Rattle.gw_step.specs.Places.{IsThere}
 use Rattle.gw_step.specs.Typing.{IsPlaced, WellTyped, AreWithinCapacity}
 use Rattle.gw_step.specs.Safety.{RetryingResideOnce, StartIsWellTyped, StepsKeepTypes, WellTypedStatesStep, ReachedStatesAreWellTyped, NoJobIsStuck, AllJobsEnd, StoragesKeepTheirCapacity}
-use Rattle.gw_step.proofs.Traces.{Activates, ClockMoves, Woken, Draws, Marks, Change, Trace, Done, Then, trace_on, trace-keeps, trace-fills}
+use Rattle.gw_step.proofs.Traces.{place-free, its_chain, present, present_free, Activates, ClockMoves, Woken, Draws, Marks, Change, Trace, Done, Then, trace_on, trace-keeps, trace-fills}
 use Rattle.gw_step.proofs.Unstopped.{Safe, safe_bind, safe_then, safe_found}
 use Rattle.gw_step.proofs.Drawn.{IsSound, Read, safe_operands}
 use Rattle.gw_step.proofs.Asked.{are_read, acts_at}
@@ -42,6 +43,7 @@ use Rattle.gw_step.proofs.Moving.{Acts, Reaches, safe_placed}
 use Rattle.gw_step.proofs.Calling.{some_of}
 use Rattle.gw_step.proofs.Effects.{safe_call, safe_come_back, safe_comparison, safe_gate, safe_advance, safe_seize, safe_release, safe_enter, safe_leave, safe_join, safe_depart, safe_assign, safe_transfer, safe_fraction, safe_loop, safe_logic, safe_save, safe_mark, safe_plus, safe_tabulate, safe_terminate}
 use Rattle.gw_step.proofs.Copying.{safe_split, safe_assemble, safe_priority, safe_buffer}
+use Rattle.gw_step.proofs.Linking.{safe_link, safe_unlink}
 use Rattle.gw_step.proofs.Arriving.{safe_generate, start_typed}
 use Rattle.gw_step.proofs.Attributes.{attributes_of}
 
@@ -77,6 +79,8 @@ module _ (p : Parts) (each_return : All (ReturnsHold p) p.returns) (each_block :
   safe_meets s n t (blocks.Mark q) values row acts = safe_placed p k s n _ (safe_mark p each_block flow s n t k q row acts)
   safe_meets s n t (blocks.Split c) values row acts = safe_placed p k s n _ (safe_split p s n t k c row acts)
   safe_meets s n t (blocks.Assemble size) values row acts = safe_placed p k s n _ (safe_assemble p s n t k size row acts)
+  safe_meets s n t (blocks.Link l) values row acts = safe_placed p k s n (link n t l s) (safe_link p s n t k l row acts)
+  safe_meets s n t (blocks.Unlink u) values row acts = safe_placed p k s n _ (safe_unlink p s n t k flow u row acts)
   safe_meets s n t (blocks.Priority a) values row acts = safe_placed p k s n _ (safe_priority p s n t k a (the_value values) row acts)
   safe_meets s n t blocks.Buffer values row acts = safe_placed p k s n _ (safe_buffer p s n t k row acts)
   safe_meets s n t (blocks.Plus a) values row acts = safe_placed p k s n _ (safe_plus p each_block flow s n t k a (the_value values) row acts)
@@ -99,8 +103,10 @@ module _ (p : Parts) (each_return : All (ReturnsHold p) p.returns) (each_block :
       let bears = some_of (at None s.transactions n) here in
       let t = bears.0.attributes in
       let found : attributes_at n s.transactions ≡ Some t = attributes_of (at None s.transactions n) bears.0 bears.1 in
-      let place : IsPlaced p bears.0 = subst (λ o. IfSome o (IsPlaced p)) bears.1 (ty.placed n) in
-      let block = some_of (block_at p.blocks t.next) place.block in
+      let placed : IsPlaced p bears.0 = subst (λ o. IfSome o (IsPlaced p)) bears.1 (ty.placed n) in
+      let free = present_free p s.transactions s.lists s.entities ty n (present s.lists n active) in
+      let at_block = place-free bears.0 t (its_chain (at None s.transactions n) bears.0 None bears.1 free) refl in
+      let block = some_of (block_at p.blocks t.next) (subst (IsThere p) at_block placed.there) in
       let acts = acts_at p sound.entities each_block flow s ty n t block.0 active found block.1 in
       safe_found (Reaches p k s) (attributes_at n s.transactions) NoBlock t _ found
       (safe_found (Reaches p k s) (block_at p.blocks t.next) NoBlock block.0 _ block.1 (safe_act s n t block.0 acts.0 acts.1))
@@ -162,7 +168,7 @@ module _ (p : Parts) (each_return : All (ReturnsHold p) p.returns) (each_block :
 -- THE LAWS
 
 pub kinds_of : (p : Parts) → Checked p → (b : ℕ) (block : Block) → block_at p.blocks b ≡ Some block → BlockHolds p b block
-kinds_of p checked = ((kinds_pass_at_each_place p).0 (kinds_pass p checked)).4
+kinds_of p checked = ((kinds_pass_at_each_place p).0 (kinds_pass p checked)).5
 
 pub returns_of : (p : Parts) → Checked p → All (ReturnsHold p) p.returns
 returns_of p checked = ((kinds_pass_at_each_place p).0 (kinds_pass p checked)).2

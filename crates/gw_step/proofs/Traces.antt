@@ -1,6 +1,6 @@
 -- A step is a list of elementary changes, and each keeps a state well-typed.
 use Rattle.gw_step.specs.Blocks.{is_owed}
-use Rattle.gw_transactions.specs.Transactions.{LiveTransaction, made_with, with_attributes, with_parameter, attributes_at, put_attributes, put_parameter, live_count}
+use Rattle.gw_transactions.specs.Transactions.{LiveTransaction, made_with, with_attributes, with_parameter, with_chain, chain_of, attributes_at, put_attributes, put_parameter, put_chain, live_count}
 use Rattle.std.proofs.Common.{◌≡◌, ℕ, suc, ◌+◌, ◌<◌, ◌≤◌, ◌≤ℤ◌, ℤ, pos, ◌-ℤ◌, List, [], ◌∷◌, length, map, Option, Some, None, Bool, true, false, is_some, if◌then◌else◌, ◌==◌, refl, sym, ap, ◌∙◌, subst, arith, inl, inr, IsSome, option_map}
 use Rattle.std.specs.Prelude.{IsSomeAnd, Contains, unsigned_abs, sum_by, IfSome, IsTrue, nat_le, ◌&&◌, ◌-◌, ◌++◌, All}
 use Rattle.std.specs.List.{find}
@@ -24,8 +24,10 @@ use Rattle.gw_flow.specs.Flow.{own_table, own_row}
 use Rattle.gw_flow.specs.Laws.{MayPass, FlowHolds}
 use Rattle.gw_flow.proofs.Fitting.{included}
 use Rattle.gw_num.specs.Table.{at, put}
-use Rattle.gw_num.proofs.Tables.{at-map, at_some, at-put, put-put, by_entry, at_past, count_by-put}
-use Rattle.gw_chains.specs.Chain.{behind}
+use Rattle.gw_num.proofs.Tables.{at-map, at_some, at-put, at-put_other, put-put, by_entry, at_past, count_by-put}
+use Rattle.gw_chains.specs.Chain.{behind, rest}
+use Rattle.gw_blocks.specs.declared.parts.Link.{Link}
+use Rattle.gw_flow.specs.declared.edges.Target.TheVariants as targets
 use Rattle.gw_transactions.specs.declared.Transaction.{Transaction}
 use Rattle.gw_entities.specs.declared.facilities.Facility.{Facility}
 use Rattle.gw_entities.specs.declared.storages.Storage.{Storage}
@@ -35,22 +37,22 @@ use Rattle.gw_entities.specs.Facility.{idle, is_idle, is_owned_by, facility_afte
 use Rattle.gw_entities.specs.Storage as storages
 use Rattle.gw_step.specs.declared.ends.End.{End}
 use Rattle.gw_step.specs.declared.placement.Placement.{Placement}
-use Rattle.gw_step.specs.declared.placement.Placement.TheVariants.{StaysActive, RestsUntil, JoinsDelayList, JoinsRetryList, RestsAhead, RestsBehind, AwaitsSet, LeavesModel}
+use Rattle.gw_step.specs.declared.placement.Placement.TheVariants.{StaysActive, RestsUntil, JoinsDelayList, JoinsRetryList, RestsAhead, RestsBehind, AwaitsSet, JoinsChain, LeavesModel}
 use Rattle.gw_step.specs.Placing.{placed_at, placed}
 use Rattle.gw_step.specs.Numbers.{IsWithin, AreWithinLimits, AreFewLive}
-use Rattle.gw_step.specs.State.{FutureEvent, Assembly, Lists, EntityStates, State, with_streams, priority_of, delay_list, without, raised}
-use Rattle.gw_step.specs.Changes.{newcomer, copied, rests_ahead, rests_behind, awaits_set, is_of, assembled, one_fewer, come_to, entered, assigned, destroyed, arrives, rests_until, waits_for, retries, called_from, woken, counted, time_passes, clock_moves}
+use Rattle.gw_step.specs.State.{FutureEvent, Assembly, Lists, EntityStates, State, with_streams, priority_of, delay_list, user_chain, without, raised}
+use Rattle.gw_step.specs.Changes.{newcomer, copied, rests_ahead, rests_behind, awaits_set, is_of, assembled, one_fewer, come_to, joins_chain, leaves_chain, entered, assigned, destroyed, arrives, rests_until, waits_for, retries, called_from, woken, counted, time_passes, clock_moves}
 use Rattle.gw_step.specs.Residence.{EachResidesOnce, occurrences, active_numbers, occurrences_in}
-use Rattle.gw_step.proofs.Residence.{one_if, at_most_one, same_number, other_number, occurrences-one, occurrences-joined, occurrences-without, resides-entered, resides-assigned, resides-destroyed, resides-rests, resides-arrives, resides-active, resides-clock, resides-waits, resides-called, resides-retries, resides-woken, resides-ahead, resides-behind, resides-copied, resides-awaits, resides-assembled, resides-come}
-use Rattle.gw_step.proofs.Within.{raises-same, mark_from, within-entered, within-assigned, within-destroyed, within-retries, within-woken, within-counted, within-arrives, within-rests, within-streams, within-waits, within-called, within-active, within-ended, within-ahead, within-behind, within-copied, within-awaits, within-assembled, within-come}
+use Rattle.gw_step.proofs.Residence.{one_if, at_most_one, same_number, other_number, alone, occurrences-one, occurrences-joined, occurrences-without, occurrences-linked, resides-linked, resides-unlinked, resides-entered, resides-assigned, resides-destroyed, resides-rests, resides-arrives, resides-active, resides-clock, resides-waits, resides-called, resides-retries, resides-woken, resides-ahead, resides-behind, resides-copied, resides-awaits, resides-assembled, resides-come}
+use Rattle.gw_step.proofs.Within.{raises-same, mark_from, within-entered, within-assigned, within-destroyed, within-retries, within-woken, within-counted, within-arrives, within-rests, within-streams, within-waits, within-called, within-active, within-ended, within-ahead, within-behind, within-copied, within-awaits, within-assembled, within-come, within-linked, within-unlinked}
 use Rattle.gw_step.proofs.Follows.{block_below, within-clock, at-map_same, nothing-after}
-use Rattle.gw_step.specs.Places.{place, row_of}
+use Rattle.gw_step.specs.Places.{place, place_of, IsThere, row_of}
 use Rattle.gw_step.specs.Times.{parameters_of}
 use Rattle.gw_transactions.specs.Parameters.{no_parameters}
-use Rattle.gw_step.specs.Typing.{IsAsKnown, AreAsKnown, IsPlaced, promised_units, content_of, WaitsFor, Agree, WellTyped, AreWithinCapacity}
+use Rattle.gw_step.specs.Typing.{IsAsKnown, AreAsKnown, IsPlaced, promised_units, content_of, WaitsFor, is_member, Agree, WellTyped, AreWithinCapacity}
 use Rattle.gw_step.proofs.Owning.{lists-none}
-use Rattle.gw_step.proofs.Agreeing.{IsMissing, AreWhole, Balanced, agree-written, agree-moved, agree-apart}
-use Rattle.gw_step.proofs.Attributes.{bearer_at, number_below, attributes-parameter, is_some-attributes, is_some-parameter}
+use Rattle.gw_step.proofs.Agreeing.{IsMissing, AreWhole, Balanced, linked-written, agree-written, agree-moved, agree-apart}
+use Rattle.gw_step.proofs.Attributes.{bearer_at, number_below, attributes-parameter, is_some-attributes, is_some-parameter, is_some-chain, chain-attributes, written_both}
 use Rattle.gw_step.proofs.Balances.{balanced-nothing, balanced-fits, balanced-end, balanced-arrival, balanced-copy}
 
 -- the transaction n, which is t, is at a block, in a row
@@ -58,17 +60,31 @@ pub record IsAt (p : Parts) (transactions : List (Option LiveTransaction)) (n : 
   pub found : attributes_at n transactions ≡ Some t
   pub block_is : block_at p.blocks t.next ≡ Some block
   pub row_is : own_row p t.next ≡ Some row
+  -- it is a member of no user chain
+  pub free : chain_of (at None transactions n) ≡ None
+
+-- the place of who is a member of no user chain is a block
+pub place-free : (u : LiveTransaction) (t : Transaction) → u.chain ≡ None → u.attributes ≡ t → place u ≡ targets.Block t.next
+place-free u t free is = ap (λ c. place_of c u.attributes.next) free ∙ ap (λ (a : Transaction). targets.Block a.next) is
+
+-- the user chain of who is there
+pub its_chain : (o : Option LiveTransaction) (u : LiveTransaction) (chain : Option ℕ) → o ≡ Some u → chain_of o ≡ chain → u.chain ≡ chain
+its_chain o u chain there is = sym (ap chain_of there) ∙ is
+
+-- so is the place of the transaction that is at one
+pub its_place : (p : Parts) (ts : List (Option LiveTransaction)) (n : ℕ) (t : Transaction) (block : Block) (row : Row) (is : IsAt p ts n t block row) → place (bearer_at ts n t is.found).0 ≡ targets.Block t.next
+its_place p ts n t block row is = let bears = bearer_at ts n t is.found in place-free bears.0 t (its_chain (at None ts n) bears.0 None bears.1 is.free) bears.2
 
 -- the row of its place
 pub its_row : (p : Parts) (ts : List (Option LiveTransaction)) (n : ℕ) (t : Transaction) (block : Block) (row : Row) → IsAt p ts n t block row → row_of p (at None ts n) ≡ Some row
-its_row p ts n t block row is = let bears = bearer_at ts n t is.found in ap (row_of p) bears.1 ∙ ap (λ (a : Transaction). own_row p a.next) bears.2 ∙ is.row_is
+its_row p ts n t block row is = let bears = bearer_at ts n t is.found in ap (row_of p) bears.1 ∙ ap (own_table p) (its_place p ts n t block row is) ∙ is.row_is
 
 -- its parameters are what its row knows them to be
 pub its_parameters : (p : Parts) (s : State) → WellTyped p s → (n : ℕ) (t : Transaction) (block : Block) (row : Row) → IsAt p s.transactions n t block row → AreAsKnown (Some row) (parameters_of n s)
 its_parameters p s ty n t block row is =
     let bears = bearer_at s.transactions n t is.found in
     let placed : IsPlaced p bears.0 = subst (λ o. IfSome o (IsPlaced p)) bears.1 (ty.placed n) in
-    let row_is : own_table p (place bears.0) ≡ Some row = ap (λ (a : Transaction). own_row p a.next) bears.2 ∙ is.row_is in
+    let row_is : own_table p (place bears.0) ≡ Some row = ap (own_table p) (its_place p s.transactions n t block row is) ∙ is.row_is in
     subst (AreAsKnown (Some row)) (sym (ap (λ o. option_map_or (λ (x : LiveTransaction). x.parameters) o no_parameters) bears.1)) (subst (λ r. AreAsKnown r bears.0.parameters) row_is placed.parameters)
 
 -- n is active, or on the current events chain
@@ -83,6 +99,17 @@ pub record OwnsNothing (p : Parts) (n : ℕ) (transactions : List (Option LiveTr
   pub row_is : own_table p (place t) ≡ Some row
   pub none : (length row.facilities == 0) ≡ true
 
+-- who may join a user chain: what its row knows of it fits the row of the chain
+pub record MayLink (p : Parts) (n c : ℕ) (transactions : List (Option LiveTransaction)) : Type 0 where
+  pub t : LiveTransaction
+  pub row : Row
+  pub members : Row
+  pub found : at None transactions n ≡ Some t
+  pub row_is : own_table p (place t) ≡ Some row
+  pub members_is : own_table p (targets.Chain c) ≡ Some members
+  pub fits : Fits row members
+  pub below : c < length p.entities
+
 -- the transaction n may be placed so: where it doesn't stay active, it is the active one
 abbrev pub MayRest : Parts → ℕ → Placement → Option ℕ → ℤ → List (Option LiveTransaction) → Type 0
 MayRest p n StaysActive active clock ts = Unit {0}
@@ -92,6 +119,7 @@ MayRest p n JoinsRetryList active clock ts = active ≡ Some n
 MayRest p n RestsAhead active clock ts = active ≡ Some n
 MayRest p n RestsBehind active clock ts = active ≡ Some n
 MayRest p n (AwaitsSet a) active clock ts = (active ≡ Some n) × (1 ≤ a.missing)
+MayRest p n (JoinsChain l) active clock ts = (active ≡ Some n) × MayLink p n l.chain ts
 MayRest p n LeavesModel active clock ts = (active ≡ Some n) × OwnsNothing p n ts
 
 -- and so it may in a state
@@ -136,6 +164,9 @@ pub data Change (p : Parts) : ℕ → ℕ → State → ℕ → ℕ → State �
   Assembled : {en ar : ℕ} {s : State} (a : Assembly) → find (is_of a.block a.set) s.lists.assemblies ≡ Some a → Change p en ar s en ar (assembled a s)
   -- another has come to an assembly, and more are to come
   Comes : {en ar : ℕ} {s : State} (a : Assembly) → find (is_of a.block a.set) s.lists.assemblies ≡ Some a → 2 ≤ a.missing → Change p en ar s en ar (come_to a s)
+  -- the first member of a user chain leaves it for a block, whose row the row of the chain fits
+  Unlinked : {en ar : ℕ} {s : State} (c target n : ℕ) (t : Transaction) (ns : List ℕ) (members row : Row) → user_chain c s ≡ n ∷ ns → attributes_at n s.transactions ≡ Some t → own_table p (targets.Chain c) ≡ Some members → own_row p target ≡ Some row → Fits members row
+      → MayBeEntered p target → c < length p.entities → Change p en ar s en ar (leaves_chain c target n t s)
   -- the retry list is woken
   Woken : {en ar : ℕ} {s : State} → Change p en ar s en ar (woken s)
   -- the first of the current events chain becomes active
@@ -173,6 +204,7 @@ placed_traced p en ar n JoinsRetryList s may = stirs_rests s.stir p en ar n Join
 placed_traced p en ar n RestsAhead s may = stirs_rests s.stir p en ar n RestsAhead s may
 placed_traced p en ar n RestsBehind s may = stirs_rests s.stir p en ar n RestsBehind s may
 placed_traced p en ar n (AwaitsSet a) s may = stirs_rests s.stir p en ar n (AwaitsSet a) s may
+placed_traced p en ar n (JoinsChain l) s may = stirs_rests s.stir p en ar n (JoinsChain l) s may
 placed_traced p en ar n LeavesModel s may = stirs_rests s.stir p en ar n LeavesModel s may
 
 -- WHO IS ON NO DELAY LIST
@@ -187,6 +219,38 @@ nowhere p ts l g ty n here e = omega (arith, most p ts l g ty n, occurrences-one
 -- who is active is present
 pub present : (l : Lists) (n : ℕ) → l.active ≡ Some n → IsPresent l n
 present l n is = omega (arith, ap (λ a. occurrences n (active_numbers a)) is, same_number n n refl)
+
+-- who resides on no user chain is a member of none
+pub free : (p : Parts) (ts : List (Option LiveTransaction)) (l : Lists) (g : EntityStates) → Agree p ts l g → (n : ℕ) → sum_by (occurrences n) l.user_chains ≡ 0 → chain_of (at None ts n) ≡ None
+free p ts l g ty n none = by_chain (chain_of (at None ts n)) (λ c. ty.linked c n)
+  where
+    by_chain : (o : Option ℕ) → ((c : ℕ) → occurrences n (at [] l.user_chains c) ≡ one_if (is_member c o)) → o ≡ None
+    by_chain None h = refl
+    by_chain (Some c) h = absurd (omega (arith, none, h c, occurrences-one n l.user_chains c, same_number c c refl))
+
+-- so is who is present
+pub present_free : (p : Parts) (ts : List (Option LiveTransaction)) (l : Lists) (g : EntityStates) → Agree p ts l g → (n : ℕ) → IsPresent l n → chain_of (at None ts n) ≡ None
+present_free p ts l g ty n here = free p ts l g ty n (omega (arith, most p ts l g ty n, here))
+
+-- and who waits for an entity
+pub waiting_free : (p : Parts) (ts : List (Option LiveTransaction)) (l : Lists) (g : EntityStates) → Agree p ts l g → (e n : ℕ) → 1 ≤ occurrences n (at [] l.delay_lists e) → chain_of (at None ts n) ≡ None
+waiting_free p ts l g ty e n waits = free p ts l g ty n (omega (arith, most p ts l g ty n, waits, occurrences-one n l.delay_lists e))
+
+-- who resides on a user chain is a member of it
+member_of : (p : Parts) (ts : List (Option LiveTransaction)) (l : Lists) (g : EntityStates) → Agree p ts l g → (c n : ℕ) → 1 ≤ occurrences n (at [] l.user_chains c) → chain_of (at None ts n) ≡ Some c
+member_of p ts l g ty c n here = by_chain (chain_of (at None ts n)) (ty.linked c n)
+  where
+    by_chain : (o : Option ℕ) → occurrences n (at [] l.user_chains c) ≡ one_if (is_member c o) → o ≡ Some c
+    by_chain None h = absurd (omega (arith, here, h))
+    by_chain (Some d) h =
+        elim (cases_eq d c) [
+          | inl same ↦ ap Some same
+          | inr other ↦ absurd (omega (arith, here, h, other_number d c other))
+        ]
+
+-- so the chain is its place
+pub member_at : (p : Parts) (s : State) → WellTyped p s → (c n : ℕ) → 1 ≤ occurrences n (user_chain c s) → (u : LiveTransaction) → at None s.transactions n ≡ Some u → place u ≡ targets.Chain c
+member_at p s ty c n here u there = ap (λ d. place_of d u.attributes.next) (its_chain (at None s.transactions n) u (Some c) there (member_of p s.transactions s.lists s.entities ty c n here))
 
 -- a fresh number waits for nothing
 fresh : (p : Parts) (ts : List (Option LiveTransaction)) (l : Lists) (g : EntityStates) → Agree p ts l g → (e : ℕ) → occurrences (length ts) (at [] l.delay_lists e) ≡ 0
@@ -256,7 +320,8 @@ pub record Leads (p : Parts) (to : ℕ) (state : Row) : Type 0 where
   pub is : own_row p to ≡ Some row
   pub fits : Fits state row
 
-the_row : (r : Option Row) (state : Row) → IsSomeAnd r (Fits state) → (row : Row) × (r ≡ Some row) × Fits state row
+-- the row that there is, which the state fits
+pub the_row : (r : Option Row) (state : Row) → IsSomeAnd r (Fits state) → (row : Row) × (r ≡ Some row) × Fits state row
 the_row None state h = absurd h
 the_row (Some row) state h = (row, refl, h)
 
@@ -280,12 +345,15 @@ module _ (p : Parts) (flow : FlowHolds p (own_table p)) where
       let v : Transaction = record u { current = u.next; next = to } in
       let bears = bearer_at s.transactions n t is.found in
       let now : option_map (with_attributes v) (at None s.transactions n) ≡ Some (with_attributes v bears.0) = ap (option_map (with_attributes v)) bears.1 in
+      let goes_to : place (with_attributes v bears.0) ≡ targets.Block to = place-free (with_attributes v bears.0) v (its_chain (at None s.transactions n) bears.0 None bears.1 is.free) refl in
+      let its : own_table p (place (with_attributes v bears.0)) ≡ Some next = ap (own_table p) goes_to ∙ lands in
       agree-written p s.transactions s.lists s.entities ty s.lists h n (option_map (with_attributes v) (at None s.transactions n))
       (nowhere p s.transactions s.lists s.entities ty n here)
       (resides-entered n u to s ty.resides) refl refl
-      (subst (λ o. IfSome o (IsPlaced p)) (sym now) (record { block = there; row = ap is_some lands; parameters = subst (λ r. AreAsKnown r bears.0.parameters) (sym lands) (subst (AreAsKnown (Some next)) (ap (λ o. option_map_or (λ (x : LiveTransaction). x.parameters) o no_parameters) bears.1) known) }))
+      (linked-written p s.transactions s.lists s.entities ty s.lists n (option_map (with_attributes v) (at None s.transactions n)) refl (chain-attributes v (at None s.transactions n)))
+      (subst (λ o. IfSome o (IsPlaced p)) (sym now) (record { there = subst (IsThere p) (sym goes_to) there; row = ap is_some its; parameters = subst (λ r. AreAsKnown r bears.0.parameters) (sym its) (subst (AreAsKnown (Some next)) (ap (λ o. option_map_or (λ (x : LiveTransaction). x.parameters) o no_parameters) bears.1) known) }))
       (subst (λ r. Balanced p n r (row_of p (option_map (with_attributes v) (at None s.transactions n))) s.entities h) (sym (its_row p s.transactions n t block row is))
-      (subst (λ r. Balanced p n (Some row) r s.entities h) (sym (ap (row_of p) now ∙ lands)) balance))
+      (subst (λ r. Balanced p n (Some row) r s.entities h) (sym (ap (row_of p) now ∙ its)) balance))
 
   goes : (s : State) → WellTyped p s → (n to : ℕ) (t u : Transaction) (block : Block) (row state : Row) (h : EntityStates) → IsAt p s.transactions n t block row → IsPresent s.lists n → AreAsKnown (Some state) (parameters_of n s)
       → Contains (edges p (own_table p) t.next block row) (move to state) → MayBeEntered p to → Balanced p n (Some row) (Some state) s.entities h → WellTyped p (record (entered n u to s) { entities = h })
@@ -304,20 +372,24 @@ module _ (p : Parts) (flow : FlowHolds p (own_table p)) where
       let later : LiveTransaction = with_attributes a (with_parameter q value bears.0) in
       let now : option_map (with_attributes a) (at None (put_parameter n q value ts) n) ≡ Some later = ap (option_map (with_attributes a)) (at-put None ts n (option_map (with_parameter q value) (at None ts n)) ∙ ap (option_map (with_parameter q value)) bears.1) in
       let same : put_attributes n a (put_parameter n q value ts) ≡ put None ts n (Some later) = ap (put None (put_parameter n q value ts) n) now ∙ put-put None ts n (option_map (with_parameter q value) (at None ts n)) (Some later) in
+      let goes_to : place later ≡ targets.Block to = place-free later a (its_chain (at None ts n) bears.0 None bears.1 is.free) refl in
+      let its : own_table p (place later) ≡ Some lead.row = ap (own_table p) goes_to ∙ lead.is in
       let set : AreAsKnown (Some state) later.parameters = subst (λ o. AreAsKnown (Some state) (put None (option_map_or (λ (x : LiveTransaction). x.parameters) o no_parameters) q (Some value))) bears.1 known in
       subst (λ xs. Agree p xs s.lists s.entities) (sym same)
       (agree-written p ts s.lists s.entities ty s.lists s.entities n (Some later)
       (nowhere p ts s.lists s.entities ty n here)
       (subst (λ xs. EachResidesOnce xs s.lists) same (resides-entered n t to (assigned n q value s) (resides-assigned n q value s ty.resides))) refl refl
-      (record { block = there (block_at p.blocks to) may; row = ap is_some lead.is; parameters = subst (λ r. AreAsKnown r later.parameters) (sym lead.is) (known_on state lead.row later.parameters lead.fits set) })
-      (subst (λ r. Balanced p n r (own_row p to) s.entities s.entities) (sym (its_row p ts n t block row is))
-      (subst (λ r. Balanced p n (Some row) r s.entities s.entities) (sym lead.is) (balanced-fits p n (Some row) state lead.row s.entities s.entities balance lead.fits))))
+      (linked-written p ts s.lists s.entities ty s.lists n (Some later) refl (its_chain (at None ts n) bears.0 None bears.1 is.free ∙ sym is.free))
+      (record { there = subst (IsThere p) (sym goes_to) (there (block_at p.blocks to) may); row = ap is_some its; parameters = subst (λ r. AreAsKnown r later.parameters) (sym its) (known_on state lead.row later.parameters lead.fits set) })
+      (subst (λ r. Balanced p n r (own_table p (place later)) s.entities s.entities) (sym (its_row p ts n t block row is))
+      (subst (λ r. Balanced p n (Some row) r s.entities s.entities) (sym its) (balanced-fits p n (Some row) state lead.row s.entities s.entities balance lead.fits))))
 
   leaves : (s : State) → WellTyped p s → (n : ℕ) → s.lists.active ≡ Some n → OwnsNothing p n s.transactions → WellTyped p (destroyed n s)
   leaves s ty n active is =
       agree-written p s.transactions s.lists s.entities ty (destroyed n s).lists s.entities n None
       (nowhere p s.transactions s.lists s.entities ty n (present s.lists n active))
-      (resides-destroyed n is.t s active is.found ty.resides) refl refl tt
+      (resides-destroyed n is.t s active is.found ty.resides) refl refl
+      (linked-written p s.transactions s.lists s.entities ty (destroyed n s).lists n None refl (sym (present_free p s.transactions s.lists s.entities ty n (present s.lists n active)))) tt
       (subst (λ r. Balanced p n r None s.entities s.entities) (sym (ap (row_of p) is.found ∙ is.row_is)) (balanced-end p n is.row s.entities (lists-none is.row.facilities is.none)))
 
   pub arrived : (s : State) → WellTyped p s → (b : ℕ) (g : Generate) (row : Row) (priority time : ℤ) → block_at p.blocks b ≡ Some (blocks.Generate g) → own_row p b ≡ Some row → is_empty row ≡ true → WellTyped p (arrives b priority time s)
@@ -327,7 +399,8 @@ module _ (p : Parts) (flow : FlowHolds p (own_table p)) where
       agree-written p s.transactions s.lists s.entities ty (arrives b priority time s).lists s.entities n (Some v)
       (fresh p s.transactions s.lists s.entities ty)
       (resides-arrives b priority time s ty.resides) refl refl
-      (record { block = ap is_some block; row = ap is_some is; parameters = subst (λ r. AreAsKnown r no_parameters) (sym is) (all_as_known row none no_parameters) })
+      (linked-written p s.transactions s.lists s.entities ty (arrives b priority time s).lists n (Some v) refl (sym (ap chain_of (at_past None s.transactions n (omega arith)))))
+      (record { there = ap is_some block; row = ap is_some is; parameters = subst (λ r. AreAsKnown r no_parameters) (sym is) (all_as_known row none no_parameters) })
       (subst (λ t. Balanced p n (row_of p t) (own_row p b) s.entities s.entities) (sym (at_past None s.transactions n (omega arith)))
       (subst (λ r. Balanced p n None r s.entities s.entities) (sym is) (balanced-arrival p n row s.entities none)))
 
@@ -341,7 +414,8 @@ module _ (p : Parts) (flow : FlowHolds p (own_table p)) where
       agree-written p s.transactions s.lists s.entities ty (copied n t target s).lists s.entities m (Some v)
       (fresh p s.transactions s.lists s.entities ty)
       (resides-copied n t target s ty.resides) refl refl
-      (record { block = there (block_at p.blocks target) may; row = ap is_some lead.is; parameters = subst (λ r. AreAsKnown r (parameters_of n s)) (sym lead.is) (known_on state lead.row (parameters_of n s) lead.fits known) })
+      (linked-written p s.transactions s.lists s.entities ty (copied n t target s).lists m (Some v) refl (sym (ap chain_of (at_past None s.transactions m (omega arith)))))
+      (record { there = there (block_at p.blocks target) may; row = ap is_some lead.is; parameters = subst (λ r. AreAsKnown r (parameters_of n s)) (sym lead.is) (known_on state lead.row (parameters_of n s) lead.fits known) })
       (subst (λ o. Balanced p m (row_of p o) (own_row p target) s.entities s.entities) (sym (at_past None s.transactions m (omega arith)))
       (subst (λ r. Balanced p m None r s.entities s.entities) (sym lead.is) (balanced-copy p m state lead.row s.entities facilities units lead.fits)))
 
@@ -357,7 +431,7 @@ module _ (p : Parts) (flow : FlowHolds p (own_table p)) where
         | inr other ↦ ty.waiting e m (omega (arith, waits, occurrences-joined m (priority_of s.transactions) n old, other_number n m (λ same. other (sym same))))
       ])
       (λ d apart. ty.waiting d))
-      ty.assembling
+      refl ty.assembling
 
   called : (s : State) → WellTyped p s → (e n : ℕ) → 1 ≤ occurrences n (delay_list e s) → WellTyped p (called_from e n s)
   called s ty e n here =
@@ -366,7 +440,7 @@ module _ (p : Parts) (flow : FlowHolds p (own_table p)) where
       (by_entry [] s.lists.delay_lists e (without n old) (λ d ns. (m : ℕ) → 1 ≤ occurrences m ns → WaitsFor p d (at None s.transactions m))
       (λ m waits. ty.waiting e m (omega (arith, waits, occurrences-without m n old here)))
       (λ d apart. ty.waiting d))
-      ty.assembling
+      refl ty.assembling
 
   -- while time passes owners, contents and capacities stay
   owner_stays : (time n : ℕ) (f : Facility) → is_owned_by n (facility_after time f) ≡ is_owned_by n f
@@ -389,6 +463,7 @@ module _ (p : Parts) (flow : FlowHolds p (own_table p)) where
     owned = λ f n. ap (is_owned_by n) (at-map (facility_after time) idle g.facilities f) ∙ owner_stays time n (at idle g.facilities f) ∙ ty.owned f n;
     promised = λ e. subst (λ k. sum_by (λ t. promised_units e (row_of p t)) ts ≤ k) (sym (contents_stay time e g (kind_at p.entities e))) (ty.promised e);
     waiting = ty.waiting;
+    linked = ty.linked;
     assembling = ty.assembling;
     sized = λ e. ap (λ (x : Storage). x.capacity) (storages-later time g.storages e) ∙ ty.sized e;
   }
@@ -396,17 +471,103 @@ module _ (p : Parts) (flow : FlowHolds p (own_table p)) where
   moved_on : (s : State) → WellTyped p s → (time : ℤ) → WellTyped p (clock_moves time s)
   moved_on s ty time =
       agree-later s.transactions (clock_moves time s).lists s.entities (unsigned_abs (time -ℤ s.clock))
-      (agree-apart p s.transactions s.lists s.entities ty (clock_moves time s).lists (resides-clock time s ty.resides) refl ty.assembling)
+      (agree-apart p s.transactions s.lists s.entities ty (clock_moves time s).lists (resides-clock time s ty.resides) refl refl ty.assembling)
+
+  -- who is active joins a user chain: its place is the chain from then on
+  links : (s : State) → WellTyped p s → (n : ℕ) (l : Link) → s.lists.active ≡ Some n → MayLink p n l.chain s.transactions → WellTyped p (joins_chain n l s)
+  links s ty n l active may =
+      let ts = s.transactions in
+      let v : LiveTransaction = with_chain (Some l.chain) may.t in
+      let now : option_map (with_chain (Some l.chain)) (at None ts n) ≡ Some v = ap (option_map (with_chain (Some l.chain))) may.found in
+      let same : put_chain n (Some l.chain) ts ≡ put None ts n (Some v) = ap (put None ts n) now in
+      let here = present s.lists n active in
+      let apart = alone n s active ty.resides in
+      let was : row_of p (at None ts n) ≡ Some may.row = ap (row_of p) may.found ∙ may.row_is in
+      let placed : IsPlaced p may.t = subst (λ o. IfSome o (IsPlaced p)) may.found (ty.placed n) in
+      let known : AreAsKnown (Some may.row) may.t.parameters = subst (λ r. AreAsKnown r may.t.parameters) may.row_is placed.parameters in
+      subst (λ xs. Agree p xs (joins_chain n l s).lists s.entities) (sym same)
+      (agree-written p ts s.lists s.entities ty (joins_chain n l s).lists s.entities n (Some v)
+      (nowhere p ts s.lists s.entities ty n here)
+      (subst (λ xs. EachResidesOnce xs (joins_chain n l s).lists) same (resides-linked n l s active ty.resides)) refl refl
+      (by_entry [] s.lists.user_chains l.chain _ (λ c ms. (m : ℕ) → occurrences m ms ≡ one_if (is_member c (chain_of (at None (put None ts n (Some v)) m))))
+      (λ m.
+      elim (cases_eq m n) [
+        | inl e ↦
+            let joined = occurrences-linked m l.order n (user_chain l.chain s) in
+            let none : occurrences m (user_chain l.chain s) ≡ 0 = ap (λ k. occurrences k (user_chain l.chain s)) e ∙ apart.user_chains l.chain in
+            let one : one_if (is_member l.chain (chain_of (at None (put None ts n (Some v)) m))) ≡ 1 = ap (λ k. one_if (is_member l.chain (chain_of (at None (put None ts n (Some v)) k)))) e ∙ ap (λ o. one_if (is_member l.chain (chain_of o))) (at-put None ts n (Some v)) ∙ same_number l.chain l.chain refl in
+            omega (arith, joined, none, one, same_number n m (sym e))
+        | inr e ↦
+            let joined = occurrences-linked m l.order n (user_chain l.chain s) in
+            let kept : one_if (is_member l.chain (chain_of (at None (put None ts n (Some v)) m))) ≡ one_if (is_member l.chain (chain_of (at None ts m))) = ap (λ o. one_if (is_member l.chain (chain_of o))) (at-put_other None ts n m (Some v) e) in
+            omega (arith, joined, kept, ty.linked l.chain m, other_number n m (λ d. e (sym d)))
+      ])
+      (λ c other m.
+      elim (cases_eq m n) [
+        | inl e ↦
+            let none : occurrences m (user_chain c s) ≡ 0 = ap (λ k. occurrences k (user_chain c s)) e ∙ apart.user_chains c in
+            let one : one_if (is_member c (chain_of (at None (put None ts n (Some v)) m))) ≡ 0 = ap (λ k. one_if (is_member c (chain_of (at None (put None ts n (Some v)) k)))) e ∙ ap (λ o. one_if (is_member c (chain_of o))) (at-put None ts n (Some v)) ∙ other_number l.chain c (λ d. other (sym d)) in
+            none ∙ sym one
+        | inr e ↦ ty.linked c m ∙ sym (ap (λ o. one_if (is_member c (chain_of o))) (at-put_other None ts n m (Some v) e))
+      ]))
+      (record { there = tt; row = ap is_some may.members_is; parameters = subst (λ r. AreAsKnown r may.t.parameters) (sym may.members_is) (known_on may.row may.members may.t.parameters may.fits known) })
+      (subst (λ r. Balanced p n r (own_table p (targets.Chain l.chain)) s.entities s.entities) (sym was)
+      (subst (λ r. Balanced p n (Some may.row) r s.entities s.entities) (sym may.members_is) (balanced-fits p n (Some may.row) may.row may.members s.entities s.entities (balanced-nothing p n may.row s.entities) may.fits))))
+
+  -- the first member of a user chain leaves it: its place is a block from then on
+  unlinks : (s : State) → WellTyped p s → (c target n : ℕ) (t : Transaction) (ns : List ℕ) (members row : Row) → user_chain c s ≡ n ∷ ns → attributes_at n s.transactions ≡ Some t → own_table p (targets.Chain c) ≡ Some members → own_row p target ≡ Some row → Fits members row → MayBeEntered p target
+      → WellTyped p (leaves_chain c target n t s)
+  unlinks s ty c target n t ns members row is found members_is row_is fits may =
+      let ts = s.transactions in
+      let bears = bearer_at ts n t found in
+      let v : LiveTransaction = with_chain None (with_attributes (record t { next = target }) bears.0) in
+      let same : put_chain n None (put_attributes n (record t { next = target }) ts) ≡ put None ts n (Some v) = written_both ts n (record t { next = target }) None bears.0 bears.1 in
+      let one : occurrences n (user_chain c s) ≡ one_if (n == n) + occurrences n ns = ap (occurrences n) is in
+      let here : 1 ≤ occurrences n (user_chain c s) = omega (arith, one, same_number n n refl) in
+      let only = most p ts s.lists s.entities ty n in
+      let member : chain_of (at None ts n) ≡ Some c = member_of p ts s.lists s.entities ty c n here in
+      let was : own_table p (place bears.0) ≡ Some members = ap (own_table p) (member_at p s ty c n here bears.0 bears.1) ∙ members_is in
+      let placed : IsPlaced p bears.0 = subst (λ o. IfSome o (IsPlaced p)) bears.1 (ty.placed n) in
+      let known : AreAsKnown (Some members) bears.0.parameters = subst (λ r. AreAsKnown r bears.0.parameters) was placed.parameters in
+      let left : (m : ℕ) → occurrences m (rest (user_chain c s)) ≡ occurrences m ns = λ m. ap (λ ms. occurrences m (rest ms)) is in
+      subst (λ xs. Agree p xs (leaves_chain c target n t s).lists s.entities) (sym same)
+      (agree-written p ts s.lists s.entities ty (leaves_chain c target n t s).lists s.entities n (Some v)
+      (λ e. omega (arith, only, here, occurrences-one n s.lists.delay_lists e, occurrences-one n s.lists.user_chains c))
+      (subst (λ xs. EachResidesOnce xs (leaves_chain c target n t s).lists) same (resides-unlinked c target n t ns s is ty.resides)) refl refl
+      (by_entry [] s.lists.user_chains c (rest (user_chain c s)) (λ d ms. (m : ℕ) → occurrences m ms ≡ one_if (is_member d (chain_of (at None (put None ts n (Some v)) m))))
+      (λ m.
+      elim (cases_eq m n) [
+        | inl e ↦
+            let none : one_if (is_member c (chain_of (at None (put None ts n (Some v)) m))) ≡ 0 = ap (λ k. one_if (is_member c (chain_of (at None (put None ts n (Some v)) k)))) e ∙ ap (λ o. one_if (is_member c (chain_of o))) (at-put None ts n (Some v)) in
+            let others : occurrences m (rest (user_chain c s)) ≡ occurrences n ns = left m ∙ ap (λ k. occurrences k ns) e in
+            omega (arith, none, others, one, same_number n n refl, only, occurrences-one n s.lists.user_chains c)
+        | inr e ↦
+            let kept : one_if (is_member c (chain_of (at None (put None ts n (Some v)) m))) ≡ one_if (is_member c (chain_of (at None ts m))) = ap (λ o. one_if (is_member c (chain_of o))) (at-put_other None ts n m (Some v) e) in
+            let before : occurrences m (user_chain c s) ≡ one_if (n == m) + occurrences m ns = ap (occurrences m) is in
+            omega (arith, kept, before, left m, ty.linked c m, other_number n m (λ d. e (sym d)))
+      ])
+      (λ d other m.
+      elim (cases_eq m n) [
+        | inl e ↦
+            let none : one_if (is_member d (chain_of (at None (put None ts n (Some v)) m))) ≡ 0 = ap (λ k. one_if (is_member d (chain_of (at None (put None ts n (Some v)) k)))) e ∙ ap (λ o. one_if (is_member d (chain_of o))) (at-put None ts n (Some v)) in
+            let before : occurrences m (user_chain d s) ≡ 0 = ap (λ k. occurrences k (user_chain d s)) e ∙ ty.linked d n ∙ ap (λ o. one_if (is_member d o)) member ∙ other_number c d (λ g. other (sym g)) in
+            before ∙ sym none
+        | inr e ↦ ty.linked d m ∙ sym (ap (λ o. one_if (is_member d (chain_of o))) (at-put_other None ts n m (Some v) e))
+      ]))
+      (record { there = there (block_at p.blocks target) may; row = ap is_some row_is; parameters = subst (λ r. AreAsKnown r bears.0.parameters) (sym row_is) (known_on members row bears.0.parameters fits known) })
+      (subst (λ r. Balanced p n r (own_row p target) s.entities s.entities) (sym (ap (row_of p) bears.1 ∙ was))
+      (subst (λ r. Balanced p n (Some members) r s.entities s.entities) (sym row_is) (balanced-fits p n (Some members) members row s.entities s.entities (balanced-nothing p n members s.entities) fits))))
 
   rests : (s : State) → WellTyped p s → (n : ℕ) (placement : Placement) → Rested p n placement s → WellTyped p (placed_at n placement s)
   rests s ty n StaysActive may = ty
-  rests s ty n (RestsUntil time) may = agree-apart p s.transactions s.lists s.entities ty (rests_until n time s).lists (resides-rests n time s may.0 ty.resides) refl ty.assembling
+  rests s ty n (RestsUntil time) may = agree-apart p s.transactions s.lists s.entities ty (rests_until n time s).lists (resides-rests n time s may.0 ty.resides) refl refl ty.assembling
   rests s ty n (JoinsDelayList e) may = waits s ty e n may.0 may.1
-  rests s ty n JoinsRetryList may = agree-apart p s.transactions s.lists s.entities ty (retries n s).lists (resides-retries n s may ty.resides) refl ty.assembling
-  rests s ty n RestsAhead may = agree-apart p s.transactions s.lists s.entities ty (rests_ahead n s).lists (resides-ahead n s may ty.resides) refl ty.assembling
-  rests s ty n RestsBehind may = agree-apart p s.transactions s.lists s.entities ty (rests_behind n s).lists (resides-behind n s may ty.resides) refl ty.assembling
+  rests s ty n JoinsRetryList may = agree-apart p s.transactions s.lists s.entities ty (retries n s).lists (resides-retries n s may ty.resides) refl refl ty.assembling
+  rests s ty n RestsAhead may = agree-apart p s.transactions s.lists s.entities ty (rests_ahead n s).lists (resides-ahead n s may ty.resides) refl refl ty.assembling
+  rests s ty n RestsBehind may = agree-apart p s.transactions s.lists s.entities ty (rests_behind n s).lists (resides-behind n s may ty.resides) refl refl ty.assembling
   rests s ty n (AwaitsSet a) may =
-      agree-apart p s.transactions s.lists s.entities ty (awaits_set n a s).lists (resides-awaits n a s may.0 ty.resides) refl (missing-begun s.lists.assemblies (record { block = a.block; set = a.set; number = n; missing = a.missing }) ty.assembling may.1)
+      agree-apart p s.transactions s.lists s.entities ty (awaits_set n a s).lists (resides-awaits n a s may.0 ty.resides) refl refl (missing-begun s.lists.assemblies (record { block = a.block; set = a.set; number = n; missing = a.missing }) ty.assembling may.1)
+  rests s ty n (JoinsChain l) may = links s ty n l may.0 may.1
   rests s ty n LeavesModel may = leaves s ty n may.0 may.1
 
   pub change-keeps : {en ar en' ar' : ℕ} {s t : State} → Change p en ar s en' ar' t → WellTyped p s → WellTyped p t
@@ -417,11 +578,12 @@ module _ (p : Parts) (flow : FlowHolds p (own_table p)) where
   change-keeps (Rests {s = s} n placement may) ty = rests s ty n placement may
   change-keeps (Called {s = s} e n here below) ty = called s ty e n here
   change-keeps (Copied {s = s} n target b t u block row state found mark known block_is row_is along may facilities units few) ty = copy_made s ty n target b t block row state known block_is row_is along may facilities units
-  change-keeps (Assembled {s = s} a is) ty = agree-apart p s.transactions s.lists s.entities ty (assembled a s).lists (resides-assembled a s is ty.resides) refl (missing-without (is_of a.block a.set) s.lists.assemblies ty.assembling)
-  change-keeps (Comes {s = s} a is more) ty = agree-apart p s.transactions s.lists s.entities ty (come_to a s).lists (resides-come a s ty.resides) refl (missing-changed (is_of a.block a.set) s.lists.assemblies a is more ty.assembling)
-  change-keeps (Woken {s = s}) ty = agree-apart p s.transactions s.lists s.entities ty (woken s).lists (resides-woken s ty.resides) refl ty.assembling
+  change-keeps (Assembled {s = s} a is) ty = agree-apart p s.transactions s.lists s.entities ty (assembled a s).lists (resides-assembled a s is ty.resides) refl refl (missing-without (is_of a.block a.set) s.lists.assemblies ty.assembling)
+  change-keeps (Comes {s = s} a is more) ty = agree-apart p s.transactions s.lists s.entities ty (come_to a s).lists (resides-come a s ty.resides) refl refl (missing-changed (is_of a.block a.set) s.lists.assemblies a is more ty.assembling)
+  change-keeps (Unlinked {s = s} c target n t ns members row is found members_is row_is fits may below) ty = unlinks s ty c target n t ns members row is found members_is row_is fits may
+  change-keeps (Woken {s = s}) ty = agree-apart p s.transactions s.lists s.entities ty (woken s).lists (resides-woken s ty.resides) refl refl ty.assembling
   change-keeps (Activates {s = s} n ns nobody first) ty =
-      agree-apart p s.transactions s.lists s.entities ty (record s.lists { active = Some n; current_events = ns }) (resides-active n ns s nobody first ty.resides) refl ty.assembling
+      agree-apart p s.transactions s.lists s.entities ty (record s.lists { active = Some n; current_events = ns }) (resides-active n ns s nobody first ty.resides) refl refl ty.assembling
   change-keeps (ClockMoves {s = s} e es is) ty = moved_on s ty e.time
   change-keeps (Draws streams same) ty = ty
   change-keeps (Counts by) ty = ty
@@ -447,6 +609,10 @@ record Leaves (s t : State) : Type 0 where
 pub written-live : (ts : List (Option LiveTransaction)) (n : ℕ) (v : Option LiveTransaction) → live_count (put None ts n v) + one_if (is_some (at None ts n)) ≡ live_count ts + one_if (is_some v)
 written-live ts n v = count_by-put None is_some ts n v refl
 
+-- who joins a user chain or leaves one lives as before
+chained-live : (ts : List (Option LiveTransaction)) (n : ℕ) (chain : Option ℕ) → live_count (put_chain n chain ts) ≡ live_count ts
+chained-live ts n chain = omega (arith, written-live ts n (option_map (with_chain chain) (at None ts n)), ap one_if (is_some-chain chain (at None ts n)))
+
 placed-leaves : (n : ℕ) (placement : Placement) (s : State) → Leaves s (placed_at n placement s)
 placed-leaves n StaysActive s = record { entities = refl; scheduled = refl; live = omega arith }
 placed-leaves n (RestsUntil time) s = record { entities = refl; scheduled = refl; live = omega arith }
@@ -455,6 +621,7 @@ placed-leaves n JoinsRetryList s = record { entities = refl; scheduled = refl; l
 placed-leaves n RestsAhead s = record { entities = refl; scheduled = refl; live = omega arith }
 placed-leaves n RestsBehind s = record { entities = refl; scheduled = refl; live = omega arith }
 placed-leaves n (AwaitsSet a) s = record { entities = refl; scheduled = refl; live = omega arith }
+placed-leaves n (JoinsChain l) s = record { entities = refl; scheduled = refl; live = omega (arith, chained-live s.transactions n (Some l.chain)) }
 placed-leaves n LeavesModel s = record { entities = refl; scheduled = refl; live = omega (arith, written-live s.transactions n None) }
 
 change-fills : (p : Parts) {en ar en' ar' : ℕ} {s t : State} → Change p en ar s en' ar' t → AreWithinCapacity s.entities → AreWithinCapacity t.entities
@@ -467,6 +634,7 @@ change-fills p (Called e n here below) w = w
 change-fills p (Copied n target b t u block row state found mark known block_is row_is along may facilities units few) w = w
 change-fills p (Assembled a is) w = w
 change-fills p (Comes a is more) w = w
+change-fills p (Unlinked c target n t ns members row is found members_is row_is fits may below) w = w
 change-fills p Woken w = w
 change-fills p (Activates n ns nobody first) w = w
 change-fills p (ClockMoves {s = s} e es is) w = fills-later (unsigned_abs (e.time -ℤ s.clock)) s.entities w
@@ -489,6 +657,7 @@ module _ (p : Parts) where
   rests-within en ar n RestsAhead s may w = within-ahead (length p.blocks) (length p.entities) en ar s w n
   rests-within en ar n RestsBehind s may w = within-behind (length p.blocks) (length p.entities) en ar s w n
   rests-within en ar n (AwaitsSet a) s may w = within-awaits (length p.blocks) (length p.entities) en ar s w n a
+  rests-within en ar n (JoinsChain l) s may w = within-linked (length p.blocks) (length p.entities) en ar s w n l may.1.below (at_some s.transactions n may.1.t may.1.found)
   rests-within en ar n LeavesModel s may w = within-destroyed (length p.blocks) (length p.entities) en ar s w n (at_some s.transactions n may.1.t may.1.found)
 
   whole-of : (en ar : ℕ) (s : State) → IsWithin (length p.blocks) (length p.entities) en ar s → AreWhole (length p.entities) s.entities
@@ -510,6 +679,8 @@ module _ (p : Parts) where
       within-copied (length p.blocks) (length p.entities) en ar s w n t target (subst (λ (z : ℤ). pos 0 ≤ℤ z) (sym mark) (mark_from s.transactions n u w.marked found))
   change-within (Assembled {en = en} {ar = ar} {s = s} a is) w = within-assembled (length p.blocks) (length p.entities) en ar s w a
   change-within (Comes {en = en} {ar = ar} {s = s} a is more) w = within-come (length p.blocks) (length p.entities) en ar s w a
+  change-within (Unlinked {en = en} {ar = ar} {s = s} c target n t ns members row is found members_is row_is fits may below) w =
+      within-unlinked (length p.blocks) (length p.entities) en ar s w c target n t below (number_below s.transactions n t found) (mark_from s.transactions n t w.marked found)
   change-within (Woken {en = en} {ar = ar} {s = s}) w = within-woken (length p.blocks) (length p.entities) en ar s w
   change-within (Activates {en = en} {ar = ar} {s = s} n ns nobody first) w = within-active (length p.blocks) (length p.entities) en ar s w n ns
   change-within (ClockMoves {en = en} {ar = ar} {s = s} e es is) w = within-clock (length p.blocks) (length p.entities) en ar s w e es is
@@ -555,6 +726,7 @@ change-limits p (Called e n here below) l = l
 change-limits p (Copied n target b t u block row state found mark known block_is row_is along may facilities units few) l = l
 change-limits p (Assembled a is) l = l
 change-limits p (Comes a is more) l = l
+change-limits p (Unlinked c target n t ns members row is found members_is row_is fits may below) l = l
 change-limits p Woken l = l
 change-limits p (Activates n ns nobody first) l = l
 change-limits p (ClockMoves e es is) l = l
@@ -579,6 +751,8 @@ change-live p (Copied {s = s} n target b t u block row state found mark known bl
     record { live = omega (arith, few, written-live s.transactions (length s.transactions) (Some (made_with (parameters_of n s) (record t { next = target })))) }
 change-live p (Assembled a is) l = l
 change-live p (Comes a is more) l = l
+change-live p (Unlinked {s = s} c target n t ns members row is found members_is row_is fits may below) l =
+    record { live = omega (arith, l.live, entered-live s.transactions n (record t { next = target }), chained-live (put_attributes n (record t { next = target }) s.transactions) n None) }
 change-live p Woken l = l
 change-live p (Activates n ns nobody first) l = l
 change-live p (ClockMoves e es is) l = l

@@ -4,11 +4,12 @@ use Rattle.std.proofs.Common.{◌≡◌, ℕ, suc, ◌+◌, ◌^◌, ◌≤◌, 
 use Rattle.std.proofs.lemmas.Int.{ints}
 use Rattle.std.specs.Prelude.{sum, int_le, IfSome}
 use Rattle.std.proofs.lemmas.Bool.{cases_eq, eq-eqb, ne_eqb}
+use Rattle.gw_blocks.specs.declared.parts.Link.{Link}
 use Rattle.gw_chains.specs.Chain.{placed_behind, behind, in_time, later}
 use Rattle.gw_num.specs.Table.{at, put}
 use Rattle.gw_num.proofs.Tables.{by_entry, length-put, length-put_next, sum_by-put}
 use Rattle.gw_transactions.specs.declared.Transaction.{Transaction}
-use Rattle.gw_transactions.specs.Transactions.{LiveTransaction, made_with, with_attributes, with_parameter, attributes_at, put_attributes, put_parameter}
+use Rattle.gw_transactions.specs.Transactions.{LiveTransaction, made_with, with_attributes, with_parameter, with_chain, attributes_at, put_attributes, put_parameter, put_chain}
 use Rattle.gw_entities.specs.Contents.{empty}
 use Rattle.gw_entities.specs.Facility.{idle}
 use Rattle.gw_entities.specs.Storage.{vacant}
@@ -16,7 +17,7 @@ use Rattle.gw_entities.specs.Table.{table_at}
 use Rattle.gw_step.specs.declared.placement.Assembling.{Assembling}
 use Rattle.gw_step.specs.Times.{parameters_of}
 use Rattle.gw_step.specs.State.{Assembly, FutureEvent, EntityStates, State, priority_of, raised, with_streams, delay_list, without}
-use Rattle.gw_step.specs.Changes.{newcomer, copied, rests_ahead, rests_behind, awaits_set, assembled, come_to, retries, woken, entered, assigned, destroyed, arrives, rests_until, waits_for, called_from, counted}
+use Rattle.gw_step.specs.Changes.{newcomer, copied, rests_ahead, rests_behind, awaits_set, assembled, come_to, joins_chain, leaves_chain, retries, woken, entered, assigned, destroyed, arrives, rests_until, waits_for, called_from, counted}
 use Rattle.gw_step.specs.Residence.{occurrences}
 use Rattle.gw_step.proofs.Residence.{one_if}
 use Rattle.gw_step.specs.Numbers.{IsFrom, waiting, IsWithin, AreEntered, AreMarked}
@@ -125,13 +126,21 @@ mark_from ts n t m found = by_option (at None ts n) (m.marks n) found
     by_option None h is = absurd cc
     by_option (Some u) h is = let same : u.attributes ≡ t = cc in subst (λ (a : Transaction). pos 0 ≤ℤ a.mark) same h
 
+if_chained : (chain : Option ℕ) (o : Option LiveTransaction) → IfSome o (λ (t : LiveTransaction). pos 0 ≤ℤ t.attributes.mark) → IfSome (option_map (with_chain chain) o) (λ (t : LiveTransaction). pos 0 ≤ℤ t.attributes.mark)
+if_chained chain None h = tt
+if_chained chain (Some t) h = h
+
+-- one is a member of another user chain, or of none
+pub marked-chained : (ts : List (Option LiveTransaction)) (n : ℕ) (chain : Option ℕ) → AreMarked ts → AreMarked (put_chain n chain ts)
+marked-chained ts n chain m = marked-put ts n (option_map (with_chain chain) (at None ts n)) (if_chained chain (at None ts n) (m.marks n)) m
+
 -- CHANGES
 
 module _ (bs es en ar : ℕ) (s : State) (w : IsWithin bs es en ar s) where
   -- the numbers stay as they were, or fewer wait
-  within-apart : (t : State) → t.entries ≡ s.entries → t.scheduled ≡ s.scheduled → t.transactions ≡ s.transactions → t.entities ≡ s.entities → length t.lists.delay_lists ≡ length s.lists.delay_lists → waiting t ≤ waiting s
+  within-apart : (t : State) → t.entries ≡ s.entries → t.scheduled ≡ s.scheduled → t.transactions ≡ s.transactions → t.entities ≡ s.entities → length t.lists.delay_lists ≡ length s.lists.delay_lists → length t.lists.user_chains ≡ length s.lists.user_chains → waiting t ≤ waiting s
       → length t.streams ≡ 16 → t.clock ≡ s.clock → t.lists.future_events ≡ s.lists.future_events → IsWithin bs es en ar t
-  within-apart t entries scheduled ts entities lists wait streams clock future = record {
+  within-apart t entries scheduled ts entities lists chains wait streams clock future = record {
     entries = omega (arith, w.entries, wait, ap sum entries);
     entity_entries = subst (λ (g : EntityStates). AreEntered (sum t.entries) g) (sym entities) (subst (λ (xs : List ℕ). AreEntered (sum xs) s.entities) (sym entries) w.entity_entries);
     made = omega (arith, w.made, ap (λ (xs : List (Option LiveTransaction)). length xs) ts);
@@ -141,6 +150,7 @@ module _ (bs es en ar : ℕ) (s : State) (w : IsWithin bs es en ar s) where
       entries = ap length entries ∙ w.whole.entries;
       scheduled = ap length scheduled ∙ w.whole.scheduled;
       delay_lists = lists ∙ w.whole.delay_lists;
+      user_chains = chains ∙ w.whole.user_chains;
       facilities = ap (λ (g : EntityStates). length g.facilities) entities ∙ w.whole.facilities;
       storages = ap (λ (g : EntityStates). length g.storages) entities ∙ w.whole.storages;
       queues = ap (λ (g : EntityStates). length g.queues) entities ∙ w.whole.queues;
@@ -154,34 +164,34 @@ module _ (bs es en ar : ℕ) (s : State) (w : IsWithin bs es en ar s) where
   }
 
   pub within-woken : IsWithin bs es en ar (woken s)
-  within-woken = within-apart (woken s) refl refl refl refl refl (omega arith) w.whole.streams refl refl
+  within-woken = within-apart (woken s) refl refl refl refl refl refl (omega arith) w.whole.streams refl refl
 
   pub within-streams : (streams : List ℕ) → length streams ≡ 16 → IsWithin bs es en ar (with_streams streams s)
-  within-streams streams same = within-apart (with_streams streams s) refl refl refl refl refl (omega arith) same refl refl
+  within-streams streams same = within-apart (with_streams streams s) refl refl refl refl refl refl (omega arith) same refl refl
 
   pub within-active : (n : ℕ) (ns : List ℕ) → IsWithin bs es en ar (record s { lists = record s.lists { active = Some n; current_events = ns } })
-  within-active n ns = within-apart (record s { lists = record s.lists { active = Some n; current_events = ns } }) refl refl refl refl refl (omega arith) w.whole.streams refl refl
+  within-active n ns = within-apart (record s { lists = record s.lists { active = Some n; current_events = ns } }) refl refl refl refl refl refl (omega arith) w.whole.streams refl refl
 
   pub within-ended : (steps : ℕ) (ended : Option End) → IsWithin bs es en ar (record s { steps = steps; ended = ended })
-  within-ended steps ended = within-apart (record s { steps = steps; ended = ended }) refl refl refl refl refl (omega arith) w.whole.streams refl refl
+  within-ended steps ended = within-apart (record s { steps = steps; ended = ended }) refl refl refl refl refl refl (omega arith) w.whole.streams refl refl
 
   pub within-counted : (by : ℤ) → IsWithin bs es en ar (counted by s)
-  within-counted by = within-apart (counted by s) refl refl refl refl refl (omega arith) w.whole.streams refl refl
+  within-counted by = within-apart (counted by s) refl refl refl refl refl refl (omega arith) w.whole.streams refl refl
 
   pub within-ahead : (n : ℕ) → IsWithin bs es en ar (rests_ahead n s)
-  within-ahead n = within-apart (rests_ahead n s) refl refl refl refl refl (omega arith) w.whole.streams refl refl
+  within-ahead n = within-apart (rests_ahead n s) refl refl refl refl refl refl (omega arith) w.whole.streams refl refl
 
   pub within-behind : (n : ℕ) → IsWithin bs es en ar (rests_behind n s)
-  within-behind n = within-apart (rests_behind n s) refl refl refl refl refl (omega arith) w.whole.streams refl refl
+  within-behind n = within-apart (rests_behind n s) refl refl refl refl refl refl (omega arith) w.whole.streams refl refl
 
   pub within-awaits : (n : ℕ) (a : Assembling) → IsWithin bs es en ar (awaits_set n a s)
-  within-awaits n a = within-apart (awaits_set n a s) refl refl refl refl refl (omega arith) w.whole.streams refl refl
+  within-awaits n a = within-apart (awaits_set n a s) refl refl refl refl refl refl (omega arith) w.whole.streams refl refl
 
   pub within-assembled : (a : Assembly) → IsWithin bs es en ar (assembled a s)
-  within-assembled a = within-apart (assembled a s) refl refl refl refl refl (omega arith) w.whole.streams refl refl
+  within-assembled a = within-apart (assembled a s) refl refl refl refl refl refl (omega arith) w.whole.streams refl refl
 
   pub within-come : (a : Assembly) → IsWithin bs es en ar (come_to a s)
-  within-come a = within-apart (come_to a s) refl refl refl refl refl (omega arith) w.whole.streams refl refl
+  within-come a = within-apart (come_to a s) refl refl refl refl refl refl (omega arith) w.whole.streams refl refl
 
   -- a copy is made
   pub within-copied : (n : ℕ) (t : Transaction) (target : ℕ) → pos 0 ≤ℤ t.mark → IsWithin bs es en (suc ar) (copied n t target s)
@@ -193,7 +203,7 @@ module _ (bs es en ar : ℕ) (s : State) (w : IsWithin bs es en ar s) where
         made = omega (arith, w.made, length-put_next None s.transactions v);
         scheduled = omega (arith, w.scheduled);
         marked = marked-put s.transactions (length s.transactions) v mark w.marked;
-        whole = record { entries = w.whole.entries; scheduled = w.whole.scheduled; delay_lists = w.whole.delay_lists; facilities = w.whole.facilities; storages = w.whole.storages; queues = w.whole.queues; switches = w.whole.switches; savevalues = w.whole.savevalues; tables = w.whole.tables; streams = w.whole.streams };
+        whole = record { entries = w.whole.entries; scheduled = w.whole.scheduled; delay_lists = w.whole.delay_lists; user_chains = w.whole.user_chains; facilities = w.whole.facilities; storages = w.whole.storages; queues = w.whole.queues; switches = w.whole.switches; savevalues = w.whole.savevalues; tables = w.whole.tables; streams = w.whole.streams };
         clock = w.clock;
         future = w.future;
       }
@@ -220,6 +230,7 @@ module _ (bs es en ar : ℕ) (s : State) (w : IsWithin bs es en ar s) where
           entries = length-raised t.next s.entries (omega (arith, table, block)) ∙ table;
           scheduled = w.whole.scheduled;
           delay_lists = w.whole.delay_lists;
+          user_chains = w.whole.user_chains;
           facilities = r.facility_table ∙ w.whole.facilities;
           storages = r.storage_table ∙ w.whole.storages;
           queues = r.queue_table ∙ w.whole.queues;
@@ -239,7 +250,7 @@ module _ (bs es en ar : ℕ) (s : State) (w : IsWithin bs es en ar s) where
     made = omega (arith, w.made, length-put None s.transactions n None there);
     scheduled = w.scheduled;
     marked = marked-put s.transactions n None tt w.marked;
-    whole = record { entries = w.whole.entries; scheduled = w.whole.scheduled; delay_lists = w.whole.delay_lists; facilities = w.whole.facilities; storages = w.whole.storages; queues = w.whole.queues; switches = w.whole.switches; savevalues = w.whole.savevalues; tables = w.whole.tables; streams = w.whole.streams };
+    whole = record { entries = w.whole.entries; scheduled = w.whole.scheduled; delay_lists = w.whole.delay_lists; user_chains = w.whole.user_chains; facilities = w.whole.facilities; storages = w.whole.storages; queues = w.whole.queues; switches = w.whole.switches; savevalues = w.whole.savevalues; tables = w.whole.tables; streams = w.whole.streams };
     clock = w.clock;
     future = w.future;
   }
@@ -252,7 +263,7 @@ module _ (bs es en ar : ℕ) (s : State) (w : IsWithin bs es en ar s) where
     made = omega (arith, w.made, length-put None s.transactions n (option_map (with_parameter p value) (at None s.transactions n)) there);
     scheduled = w.scheduled;
     marked = marked-assigned s.transactions n p value w.marked;
-    whole = record { entries = w.whole.entries; scheduled = w.whole.scheduled; delay_lists = w.whole.delay_lists; facilities = w.whole.facilities; storages = w.whole.storages; queues = w.whole.queues; switches = w.whole.switches; savevalues = w.whole.savevalues; tables = w.whole.tables; streams = w.whole.streams };
+    whole = record { entries = w.whole.entries; scheduled = w.whole.scheduled; delay_lists = w.whole.delay_lists; user_chains = w.whole.user_chains; facilities = w.whole.facilities; storages = w.whole.storages; queues = w.whole.queues; switches = w.whole.switches; savevalues = w.whole.savevalues; tables = w.whole.tables; streams = w.whole.streams };
     clock = w.clock;
     future = w.future;
   }
@@ -264,7 +275,7 @@ module _ (bs es en ar : ℕ) (s : State) (w : IsWithin bs es en ar s) where
     made = w.made;
     scheduled = w.scheduled;
     marked = w.marked;
-    whole = record { entries = w.whole.entries; scheduled = w.whole.scheduled; delay_lists = w.whole.delay_lists; facilities = w.whole.facilities; storages = w.whole.storages; queues = w.whole.queues; switches = w.whole.switches; savevalues = w.whole.savevalues; tables = w.whole.tables; streams = w.whole.streams };
+    whole = record { entries = w.whole.entries; scheduled = w.whole.scheduled; delay_lists = w.whole.delay_lists; user_chains = w.whole.user_chains; facilities = w.whole.facilities; storages = w.whole.storages; queues = w.whole.queues; switches = w.whole.switches; savevalues = w.whole.savevalues; tables = w.whole.tables; streams = w.whole.streams };
     clock = w.clock;
     future = w.future;
   }
@@ -282,6 +293,7 @@ module _ (bs es en ar : ℕ) (s : State) (w : IsWithin bs es en ar s) where
           entries = w.whole.entries;
           scheduled = length-raised b s.scheduled (omega (arith, table, block)) ∙ table;
           delay_lists = w.whole.delay_lists;
+          user_chains = w.whole.user_chains;
           facilities = w.whole.facilities;
           storages = w.whole.storages;
           queues = w.whole.queues;
@@ -301,7 +313,7 @@ module _ (bs es en ar : ℕ) (s : State) (w : IsWithin bs es en ar s) where
     made = w.made;
     scheduled = w.scheduled;
     marked = w.marked;
-    whole = record { entries = w.whole.entries; scheduled = w.whole.scheduled; delay_lists = w.whole.delay_lists; facilities = w.whole.facilities; storages = w.whole.storages; queues = w.whole.queues; switches = w.whole.switches; savevalues = w.whole.savevalues; tables = w.whole.tables; streams = w.whole.streams };
+    whole = record { entries = w.whole.entries; scheduled = w.whole.scheduled; delay_lists = w.whole.delay_lists; user_chains = w.whole.user_chains; facilities = w.whole.facilities; storages = w.whole.storages; queues = w.whole.queues; switches = w.whole.switches; savevalues = w.whole.savevalues; tables = w.whole.tables; streams = w.whole.streams };
     clock = w.clock;
     future = from-in_time s.clock (record { time = time; number = n }) s.lists.future_events later w.future;
   }
@@ -323,6 +335,7 @@ module _ (bs es en ar : ℕ) (s : State) (w : IsWithin bs es en ar s) where
           entries = w.whole.entries;
           scheduled = w.whole.scheduled;
           delay_lists = length-put [] s.lists.delay_lists e joined (omega (arith, there, table)) ∙ table;
+          user_chains = w.whole.user_chains;
           facilities = w.whole.facilities;
           storages = w.whole.storages;
           queues = w.whole.queues;
@@ -356,6 +369,7 @@ module _ (bs es en ar : ℕ) (s : State) (w : IsWithin bs es en ar s) where
           entries = w.whole.entries;
           scheduled = w.whole.scheduled;
           delay_lists = length-put [] s.lists.delay_lists e (without n (delay_list e s)) (omega (arith, there, table)) ∙ table;
+          user_chains = w.whole.user_chains;
           facilities = w.whole.facilities;
           storages = w.whole.storages;
           queues = w.whole.queues;
@@ -367,6 +381,37 @@ module _ (bs es en ar : ℕ) (s : State) (w : IsWithin bs es en ar s) where
         clock = w.clock;
         future = w.future;
       }
+
+  -- user chains and transactions change, and no entry is made
+  within-chained : (t : State) → t.entries ≡ s.entries → t.scheduled ≡ s.scheduled → length t.transactions ≡ length s.transactions → AreMarked t.transactions → t.entities ≡ s.entities → t.lists.delay_lists ≡ s.lists.delay_lists → t.lists.retry ≡ s.lists.retry
+      → length t.lists.user_chains ≡ length s.lists.user_chains → t.streams ≡ s.streams → t.clock ≡ s.clock → t.lists.future_events ≡ s.lists.future_events → IsWithin bs es en ar t
+  within-chained t entries scheduled made marked entities delayed retrying chains streams clock future =
+      let before = within-apart (record t { transactions = s.transactions }) entries scheduled refl entities (ap length delayed) chains (rw (delayed, retrying) (omega arith)) (ap length streams ∙ w.whole.streams) clock future in
+      record {
+        entries = before.entries;
+        entity_entries = before.entity_entries;
+        made = omega (arith, w.made, made);
+        scheduled = before.scheduled;
+        marked = marked;
+        whole = record { entries = before.whole.entries; scheduled = before.whole.scheduled; delay_lists = before.whole.delay_lists; user_chains = before.whole.user_chains; facilities = before.whole.facilities; storages = before.whole.storages; queues = before.whole.queues; switches = before.whole.switches; savevalues = before.whole.savevalues; tables = before.whole.tables; streams = before.whole.streams };
+        clock = before.clock;
+        future = before.future;
+      }
+
+  pub within-linked : (n : ℕ) (l : Link) → l.chain < es → n < length s.transactions → IsWithin bs es en ar (joins_chain n l s)
+  within-linked n l below there =
+      let table = w.whole.user_chains in
+      within-chained (joins_chain n l s) refl refl (length-put None s.transactions n _ there) (marked-chained s.transactions n (Some l.chain) w.marked) refl refl refl
+      (length-put [] s.lists.user_chains l.chain _ (omega (arith, below, table))) refl refl refl
+
+  pub within-unlinked : (c target n : ℕ) (t : Transaction) → c < es → n < length s.transactions → pos 0 ≤ℤ t.mark → IsWithin bs es en ar (leaves_chain c target n t s)
+  within-unlinked c target n t below there mark =
+      let table = w.whole.user_chains in
+      let a : Transaction = record t { next = target } in
+      let one = length-put None s.transactions n (option_map (with_attributes a) (at None s.transactions n)) there in
+      within-chained (leaves_chain c target n t s) refl refl (length-put None (put_attributes n a s.transactions) n _ (omega (arith, there, one)) ∙ one)
+      (marked-chained (put_attributes n a s.transactions) n None (marked-written s.transactions n a mark w.marked)) refl refl refl
+      (length-put [] s.lists.user_chains c _ (omega (arith, below, table))) refl refl refl
 
   pub within-more : (en_more ar_more : ℕ) → en ≤ en_more → ar ≤ ar_more → IsWithin bs es en_more ar_more s
   within-more en_more ar_more le le' = record {

@@ -1,5 +1,5 @@
 -- What each block does to the active transaction: whether it refuses it, and what entering comes to.
-use Rattle.std.specs.Prelude.{ℕ, ◌+◌, ◌-◌, ◌^◌, ℤ, pos, negsuc, List, [], ◌∷◌, Option, Some, None, Result, Ok, Err, Bool, true, false, not, nat_lt, nat_le, ◌==◌, if◌then◌else◌, int_lt, int_le, unsigned_abs, unwrap_or, is_none, ◌&&◌}
+use Rattle.std.specs.Prelude.{ℕ, zero, suc, min, length, ◌+◌, ◌-◌, ◌^◌, ℤ, pos, negsuc, List, [], ◌∷◌, Option, Some, None, Result, Ok, Err, Bool, true, false, not, nat_lt, nat_le, ◌==◌, if◌then◌else◌, int_lt, int_le, unsigned_abs, unwrap_or, is_none, ◌&&◌}
 use Rattle.std.specs.Ordering.{int_eq}
 use Rattle.std.specs.Option.{option_map_or}
 use Rattle.std.specs.List.{find}
@@ -21,6 +21,8 @@ use Rattle.gw_blocks.specs.declared.parts.SwitchAction.TheVariants as switches
 use Rattle.gw_blocks.specs.declared.parts.Logic.{Logic}
 use Rattle.gw_blocks.specs.declared.parts.Save.{Save}
 use Rattle.gw_blocks.specs.declared.parts.Split.{Split}
+use Rattle.gw_blocks.specs.declared.parts.Link.{Link}
+use Rattle.gw_blocks.specs.declared.parts.Unlink.{Unlink}
 use Rattle.gw_blocks.specs.declared.parts.Block.{Block}
 use Rattle.gw_blocks.specs.declared.parts.Block.TheVariants as blocks
 use Rattle.gw_object.specs.declared.parts.Parts.{Parts}
@@ -41,11 +43,11 @@ use Rattle.gw_entities.specs.Queue.{joined, departing}
 use Rattle.gw_entities.specs.Tabulation.{tabulating}
 use Rattle.gw_step.specs.declared.ends.End.TheVariants.{Number, Live}
 use Rattle.gw_step.specs.declared.placement.Placement.{Placement}
-use Rattle.gw_step.specs.declared.placement.Placement.TheVariants.{StaysActive, RestsUntil, JoinsDelayList, JoinsRetryList, RestsAhead, RestsBehind, AwaitsSet, LeavesModel}
+use Rattle.gw_step.specs.declared.placement.Placement.TheVariants.{StaysActive, RestsUntil, JoinsDelayList, JoinsRetryList, RestsAhead, RestsBehind, AwaitsSet, JoinsChain, LeavesModel}
 use Rattle.gw_step.specs.Outcome.{Outcome, Gives, EndsBy, ◌>>=◌, unless_stopped, or_stop, granted, evaluated}
-use Rattle.gw_step.specs.State.{Assembly, State, may_enter, with_streams, delay_list}
+use Rattle.gw_step.specs.State.{Assembly, State, may_enter, with_streams, delay_list, user_chain}
 use Rattle.gw_step.specs.Times.{environment_of, environment_of_next, moment_after, drawn_moment}
-use Rattle.gw_step.specs.Changes.{entered, enters_and_falls, arrives, copies_made, is_of, assembled, come_to, called_from, assigned, facility, storage, queue, switch, savevalue, table, put_facility, put_storage, put_queue, put_switch, put_savevalue, put_table, counted}
+use Rattle.gw_step.specs.Changes.{entered, enters_and_falls, arrives, copies_made, is_of, assembled, come_to, leaves_chain, called_from, assigned, facility, storage, queue, switch, savevalue, table, put_facility, put_storage, put_queue, put_switch, put_savevalue, put_table, counted}
 use Rattle.gw_step.specs.Placing.{placed}
 
 -- REFUSAL
@@ -286,14 +288,14 @@ plus bs n t (Some p) value s = leads bs (t.next + 1) (stays (enters_and_falls n 
 
 -- COPIES
 
--- where a block makes copies they go on to a block, which has to be there
-abbrev pub copies_lead : {A : Type 0} → List Block → ℕ → ℕ → Outcome A → Outcome A
-copies_lead bs copies target outcome = if copies == 0 then outcome else leads bs target outcome
+-- where a block sends others on, as many as these, it is to a block that has to be there
+abbrev pub others_lead : {A : Type 0} → List Block → ℕ → ℕ → Outcome A → Outcome A
+others_lead bs others target outcome = if others == 0 then outcome else leads bs target outcome
 
 -- the effect of SPLIT: the transaction enters, and as many copies as the block asks for are made, if so many more may live
 abbrev pub split : List Block → ℕ → Transaction → Split → State → Outcome (State × Placement)
 split bs n t c s =
-    within_live_limit c.copies s (leads bs (t.next + 1) (copies_lead bs c.copies (leads_to t.next (goes_or_falls c.target))
+    within_live_limit c.copies s (leads bs (t.next + 1) (others_lead bs c.copies (leads_to t.next (goes_or_falls c.target))
     (stays (copies_made c.copies n (record t { current = t.next }) (leads_to t.next (goes_or_falls c.target)) (enters_and_falls n t s)))))
 
 -- ASSEMBLY
@@ -322,6 +324,30 @@ assemble_in bs n t size (Some a) s = assemble_other n t a s
 -- the effect of ASSEMBLE: where one is the whole set, the transaction passes
 abbrev pub assemble : List Block → ℕ → Transaction → ℕ → State → Outcome (State × Placement)
 assemble bs n t size s = if nat_le size 1 then leads bs (t.next + 1) (stays (enters_and_falls n t s)) else assemble_in bs n t size (assembly_at t.next t.set s) s
+
+-- USER CHAINS
+
+-- the effect of LINK: the transaction enters, and joins a user chain
+abbrev pub link : ℕ → Transaction → Link → State → Outcome (State × Placement)
+link n t l s = Gives (entered n t t.next s, JoinsChain l)
+
+-- the first of these, who are the members of a user chain, c, leaves it for a block, if there is one
+abbrev pub first_unlinked : ℕ → ℕ → List ℕ → State → State
+first_unlinked c target [] s = s
+first_unlinked c target (n ∷ ns) s = option_map_or (λ t. leaves_chain c target n t s) (attributes_at n s.transactions) s
+
+-- so many members leave a user chain, c, for a block, one after the other from the front
+unfoldable pub unlinked : ℕ → ℕ → ℕ → State → State
+unlinked zero c target s = s
+unlinked (suc k) c target s = unlinked k c target (first_unlinked c target (user_chain c s) s)
+
+-- how many members an UNLINK takes from its user chain: as many as it asks for at most, or all
+abbrev pub taken_by : Unlink → State → ℕ
+taken_by u s = option_map_or (λ most. min most (length (user_chain u.chain s))) u.most (length (user_chain u.chain s))
+
+-- the effect of UNLINK: the transaction enters, and members of a user chain leave it for a block
+abbrev pub unlink : List Block → ℕ → Transaction → Unlink → State → Outcome (State × Placement)
+unlink bs n t u s = leads bs (t.next + 1) (others_lead bs (taken_by u s) u.target (stays (unlinked (taken_by u s) u.chain u.target (enters_and_falls n t s))))
 
 -- PRIORITY
 
@@ -394,6 +420,8 @@ effect p n t (blocks.TransferByParameter q) values s = come_back p.blocks n t q 
 effect p n t (blocks.Loop l) values s = loop p.blocks n t l s
 effect p n t (blocks.Split c) values s = split p.blocks n t c s
 effect p n t (blocks.Assemble size) values s = assemble p.blocks n t size s
+effect p n t (blocks.Link l) values s = link n t l s
+effect p n t (blocks.Unlink u) values s = unlink p.blocks n t u s
 effect p n t (blocks.Logic l) values s = logic p.blocks n t l s
 effect p n t (blocks.Savevalue a) values s = save p.blocks n t a (the_value values) s
 effect p n t (blocks.Mark q) values s = mark p.blocks n t q s

@@ -26,6 +26,7 @@ pub record IsWhole (blocks entities : ℕ) (s : State) : Type 0 where
   pub entries : length s.entries ≡ blocks + 1
   pub scheduled : length s.scheduled ≡ blocks + 1
   pub delay_lists : length s.lists.delay_lists ≡ entities
+  pub user_chains : length s.lists.user_chains ≡ entities
   pub facilities : length s.entities.facilities ≡ entities
   pub storages : length s.entities.storages ≡ entities
   pub queues : length s.entities.queues ≡ entities

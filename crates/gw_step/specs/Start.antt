@@ -38,7 +38,7 @@ nothing parts count streams =
       stir = false;
       scheduled = replicate (length parts.blocks + 1) 0;
       transactions = None ∷ [];
-      lists = record { active = None; current_events = []; future_events = []; delay_lists = replicate (length parts.entities) []; retry = []; assemblies = [] };
+      lists = record { active = None; current_events = []; future_events = []; delay_lists = replicate (length parts.entities) []; retry = []; assemblies = []; user_chains = replicate (length parts.entities) [] };
       entities = untouched parts.entities;
       entries = replicate (length parts.blocks + 1) 0;
       ended = None;

@@ -1,5 +1,5 @@
 -- What operands read, and moments.
-use Rattle.std.specs.Prelude.{ℕ, ℤ, pos, List, length, Option, if◌then◌else◌, int_lt}
+use Rattle.std.specs.Prelude.{ℕ, ℤ, pos, List, [], length, Option, if◌then◌else◌, int_lt}
 use Rattle.gw_blocks.specs.declared.parts.Numbered.{Numbered}
 use Rattle.gw_blocks.specs.declared.parts.Spread.{Spread}
 use Rattle.gw_object.specs.declared.parts.Parts.{Parts}
@@ -25,6 +25,7 @@ readings s = record {
   queues = s.entities.queues;
   savevalues = s.entities.savevalues;
   switches = s.entities.switches;
+  members = λ c. length (at [] s.lists.user_chains c);
   entries = at 0 s.entries;
   here = λ b. here_count b s.transactions;
 }

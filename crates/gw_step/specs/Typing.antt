@@ -1,5 +1,5 @@
 -- Well-typed states: who resides where, who owns what, and what is inside the entities is what the state table says of each transaction's place.
-use Rattle.std.specs.Prelude.{◌≡◌, ℕ, ◌≤◌, ℤ, pos, sum_by, List, [], Option, Some, None, IsSome, IfSome, Bool, true, false, All}
+use Rattle.std.specs.Prelude.{◌≡◌, ℕ, ◌≤◌, ℤ, pos, sum_by, List, [], Option, Some, None, IsSome, IfSome, Bool, true, false, if◌then◌else◌, ◌==◌, All}
 use Rattle.std.specs.Option.{option_map_or}
 use Rattle.gw_object.specs.declared.parts.Kind.{Kind}
 use Rattle.gw_object.specs.declared.parts.Kind.TheVariants as kinds
@@ -12,13 +12,13 @@ use Rattle.gw_flow.specs.Rows.{ParamKind, Num, Ret, Row, kind_of, owns, units_of
 use Rattle.gw_flow.specs.Blocks.{capacity_at}
 use Rattle.gw_flow.specs.Flow.{own_table}
 use Rattle.gw_num.specs.Table.{at}
-use Rattle.gw_transactions.specs.Transactions.{LiveTransaction}
+use Rattle.gw_transactions.specs.Transactions.{LiveTransaction, chain_of}
 use Rattle.gw_entities.specs.Contents.{empty}
 use Rattle.gw_entities.specs.Facility.{idle, is_owned_by}
 use Rattle.gw_entities.specs.Storage.{vacant}
 use Rattle.gw_step.specs.State.{Assembly, Lists, EntityStates, State}
 use Rattle.gw_step.specs.Residence.{occurrences, EachResidesOnce}
-use Rattle.gw_step.specs.Places.{place, block_of, row_of}
+use Rattle.gw_step.specs.Places.{place, block_of, IsThere, row_of}
 
 -- PLACES
 
@@ -37,9 +37,9 @@ IsAsKnown (Some (Ret bs)) (Some value) = (b : ℕ) × (lists bs b ≡ true) × (
 abbrev pub AreAsKnown : Option Row → List (Option ℤ) → Type 0
 AreAsKnown row parameters = (q : ℕ) → IsAsKnown (known_kind q row) (at None parameters q)
 
--- the place of a transaction is a block of the object, and has a row in its state table, and its parameters are what the row knows them to be
+-- the place of a transaction is there, and has a row in the object's state table, and its parameters are what the row knows them to be
 pub record IsPlaced (p : Parts) (t : LiveTransaction) : Type 0 where
-  pub block : IsSome (block_of p (place t))
+  pub there : IsThere p (place t)
   pub row : IsSome (own_table p (place t))
   pub parameters : AreAsKnown (own_table p (place t)) t.parameters
 
@@ -73,6 +73,13 @@ abbrev pub WaitsFor : Parts → ℕ → Option LiveTransaction → Type 0
 WaitsFor p e None = ⊥
 WaitsFor p e (Some t) = option_map_or awaited (block_of p (place t)) None ≡ Some e
 
+-- USER CHAINS
+
+-- the user chain that a transaction is a member of, if it is of one, is this one
+abbrev pub is_member : ℕ → Option ℕ → Bool
+is_member c None = false
+is_member c (Some d) = d == c
+
 -- WELL-TYPED STATES
 
 -- transactions, lists and entities that agree with an object's state table
@@ -87,6 +94,8 @@ pub record Agree (p : Parts) (transactions : List (Option LiveTransaction)) (lis
   pub promised : (e : ℕ) → sum_by (λ t. promised_units e (row_of p t)) transactions ≤ content_of e entities (kind_at p.entities e)
   -- who resides on the delay list of an entity waits for it
   pub waiting : (e n : ℕ) → 1 ≤ occurrences n (at [] lists.delay_lists e) → WaitsFor p e (at None transactions n)
+  -- exactly those transactions reside on a user chain whose place it is
+  pub linked : (c n : ℕ) → occurrences n (at [] lists.user_chains c) ≡ (if is_member c (chain_of (at None transactions n)) then 1 else 0)
   -- each assembly waits for one more at least
   pub assembling : All (λ (a : Assembly). 1 ≤ a.missing) lists.assemblies
   -- each storage has the capacity that the object gives it

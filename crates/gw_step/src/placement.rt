@@ -1,5 +1,7 @@
 //! Where a transaction is placed.
 
+use gw_blocks::Link;
+
 /// An assembly that begins.
 #[derive(Clone, Copy, Debug, PartialEq, Eq)]
 pub struct Assembling {
@@ -29,6 +31,8 @@ pub enum Placement {
     RestsBehind,
     /// It waits for the rest of its assembly set.
     AwaitsSet(Assembling),
+    /// It joins a user chain.
+    JoinsChain(Link),
     /// It is destroyed.
     LeavesModel,
 }

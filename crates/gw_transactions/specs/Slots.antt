@@ -13,9 +13,9 @@ module _ {X Y : Type 0} (entry : ℕ → X → Y) (next : ℕ) where
   by_number place (None ∷ slots) = by_number (suc place) slots
   by_number place (Some slot ∷ slots) = put None (by_number (suc place) slots) slot.0 (Some (entry place slot.1))
 
--- a transaction that is kept; it is a member of no user chain
+-- a transaction that is kept
 abbrev pub live_as : Kept → LiveTransaction
-live_as kept = record { attributes = kept.attributes; parameters = kept.parameters; chain = None }
+live_as kept = record { attributes = kept.attributes; parameters = kept.parameters; chain = kept.chain }
 
 -- what the slots and the next number show
 abbrev pub population_of : Slab (ℕ × Kept) → ℕ → Population

@@ -35,6 +35,18 @@ attributes_at n txs = option_map (λ (t : LiveTransaction). t.attributes) (at No
 abbrev pub put_attributes : ℕ → Transaction → List (Option LiveTransaction) → List (Option LiveTransaction)
 put_attributes n attributes txs = put None txs n (option_map (with_attributes attributes) (at None txs n))
 
+-- a transaction that is a member of this user chain, or of none; all else stays
+abbrev pub with_chain : Option ℕ → LiveTransaction → LiveTransaction
+with_chain chain t = record t { chain = chain }
+
+-- the user chain that a transaction is a member of, if it is there and is a member of one
+abbrev pub chain_of : Option LiveTransaction → Option ℕ
+chain_of t = option_flatten (option_map (λ (t : LiveTransaction). t.chain) t)
+
+-- the table in which the transaction of a number, if it is there, is a member of this user chain, or of none
+abbrev pub put_chain : ℕ → Option ℕ → List (Option LiveTransaction) → List (Option LiveTransaction)
+put_chain n chain txs = put None txs n (option_map (with_chain chain) (at None txs n))
+
 -- the value of a parameter of the transaction of a number, if it is there and the parameter is set
 abbrev pub parameter_at : ℕ → ℕ → List (Option LiveTransaction) → Option ℤ
 parameter_at n p txs = option_flatten (option_map (λ (t : LiveTransaction). at None t.parameters p) (at None txs n))

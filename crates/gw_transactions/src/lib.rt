@@ -15,8 +15,7 @@ use std::alloc::Global;
 use std::marker::Model;
 
 /// A transaction: what moves through the blocks of a model, with the attributes that the GPSS World Reference Manual
-/// lists for it in its chapter on entities, but for its parameters, which lie beside it, and its user chain, of which
-/// definitions speak beside.
+/// lists for it in its chapter on entities, but for its parameters and its user chain, which lie beside it.
 #[derive(Clone, Copy, Debug, PartialEq, Eq)]
 pub struct Transaction {
     /// The number of the block that it is in, from 1, or 0 before its first.
@@ -31,13 +30,16 @@ pub struct Transaction {
     pub set: u64,
 }
 
-/// A transaction as it is kept: its parameters lie beside the attributes, and are copied for copies of it alone.
+/// A transaction as it is kept: its parameters and its user chain lie beside the attributes, and parameters are copied for
+/// copies of it alone.
 #[derive(Debug, Drop)]
 pub(crate) struct Kept {
     /// Its attributes.
     pub attributes: Transaction,
     /// Its parameters.
     pub parameters: Parameters,
+    /// The entity, by its number from 0, that is the user chain of which it is a member.
+    pub chain: Option<u16>,
 }
 
 /// The live transactions of a job, each under a number of its own: 1 for the first, then 2, and no number twice.
@@ -73,7 +75,7 @@ impl Model for Transactions {
 }
 
 impl Transactions {
-    ghost use Rattle.gw_transactions.specs.Transactions.{Holds, KeepsHandles, KeepsOtherHandles, IsSound, as_made, made_with, attributes_at, put_attributes, parameter_at, parameters_at, put_parameter, live_count, here_count};
+    ghost use Rattle.gw_transactions.specs.Transactions.{Holds, KeepsHandles, KeepsOtherHandles, IsSound, as_made, made_with, attributes_at, put_attributes, put_chain, parameter_at, parameters_at, put_parameter, live_count, here_count};
 
     /// None yet: the first number is 1. It takes memory for the counts of `here`, and none for transactions.
     ///
@@ -155,8 +157,8 @@ impl Transactions {
         Ok(all)
     }
 
-    /// Puts a transaction under the next number, in room that `reserve` made; no parameter of it is set. Its current block
-    /// has a number from 0 to 4,096.
+    /// Puts a transaction under the next number, in room that `reserve` made; no parameter of it is set, and it is a member of
+    /// no user chain. Its current block has a number from 0 to 4,096.
     pub fn insert(&mut self, transaction: Transaction) -> Tx
         requires room { 0 < self.old.room }
         requires block { transaction.current ≤ 4096 }
@@ -178,8 +180,8 @@ impl Transactions {
         self.insert_with(transaction, parameters)
     }
 
-    /// Puts a transaction with these parameters under the next number, in room that `reserve` made. Its current block has a
-    /// number from 0 to 4,096.
+    /// Puts a transaction with these parameters under the next number, in room that `reserve` made; it is a member of no user
+    /// chain. Its current block has a number from 0 to 4,096.
     pub fn insert_with(&mut self, transaction: Transaction, parameters: Parameters) -> Tx
         requires room { 0 < self.old.room }
         requires block { transaction.current ≤ 4096 }
@@ -202,6 +204,7 @@ impl Transactions {
         let kept = Kept {
             attributes: transaction,
             parameters,
+            chain: None,
         };
         let place = self.slots.insert_reserved((number, kept));
         self.here.add(transaction.current);
@@ -235,6 +238,23 @@ impl Transactions {
         self.slots[tx.place].1.attributes = transaction;
         self.here.take(was);
         self.here.add(transaction.current);
+    }
+
+    /// Writes of which user chain, an entity by its number from 0, the transaction of a handle is a member: of none is `None`,
+    /// as it is made (GPSS World Reference Manual, "LINK" and "UNLINK").
+    pub fn put_chain(&mut self, tx: Tx, chain: Option<u16>)
+        requires { Holds self.old tx }
+        ensures txs { self.new.txs ≡ put_chain tx.number chain self.old.txs }
+        ensures places { self.new.places ≡ self.old.places }
+        ensures room { self.old.room ≤ self.new.room }
+
+        // What follows for callers.
+        ensures made { length self.new.txs ≡ length self.old.txs }
+        ensures live { live_count self.new.txs ≡ live_count self.old.txs }
+        ensures handles { KeepsHandles self.old self.new }
+        ensures sound { IsSound self.new }
+    {
+        self.slots[tx.place].1.chain = chain;
     }
 
     /// The value of a parameter of the transaction of a handle, if it is set.

@@ -139,13 +139,13 @@ const FALLING: &[u8] = b"\
     \0\0\0\x01\0\0\0\x01\0\0\0\x01";
 
 /// The job of the object of these bytes before its first step, with a budget of so many steps.
-fn job(alloc: Global, bytes: &[u8], budget: u64) -> Result<Sim, Fail> {
+pub(super) fn job(alloc: Global, bytes: &[u8], budget: u64) -> Result<Sim, Fail> {
     let object = read(alloc, bytes).ok().ok_or("an object")?;
     job_of(alloc, accepted(alloc, object)?, budget)
 }
 
 /// So many steps, past its end too.
-fn step_on(sim: &mut Sim, steps: u64) -> Result<(), Memory> {
+pub(super) fn step_on(sim: &mut Sim, steps: u64) -> Result<(), Memory> {
     for _ in 0..steps {
         sim.step()?;
     }

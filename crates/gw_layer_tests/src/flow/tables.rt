@@ -49,7 +49,7 @@ pub(crate) fn first_fault(alloc: Global, object: &Object) -> Option<Fault> {
 }
 
 /// The blocks of these.
-fn blocks_of(alloc: Global, table: Table) -> Result<Vec<Block>, Memory> {
+pub(crate) fn blocks_of(alloc: Global, table: Table) -> Result<Vec<Block>, Memory> {
     let mut blocks = Vec::new(alloc);
     for (block, _) in table {
         blocks.push(*block)?;
@@ -58,7 +58,7 @@ fn blocks_of(alloc: Global, table: Table) -> Result<Vec<Block>, Memory> {
 }
 
 /// A row, if there is one, as an object has it.
-fn row_if(alloc: Global, row: Option<Row>) -> Result<Option<TableState>, Memory> {
+pub(crate) fn row_if(alloc: Global, row: Option<Row>) -> Result<Option<TableState>, Memory> {
     match row {
         Some(row) => Ok(Some(state(alloc, row)?)),
         None => Ok(None),
@@ -66,7 +66,7 @@ fn row_if(alloc: Global, row: Option<Row>) -> Result<Option<TableState>, Memory>
 }
 
 /// The rows of these.
-fn states_of(alloc: Global, table: Table) -> Result<Vec<Option<TableState>>, Memory> {
+pub(crate) fn states_of(alloc: Global, table: Table) -> Result<Vec<Option<TableState>>, Memory> {
     let mut states = Vec::new(alloc);
     for (_, row) in table {
         states.push(row_if(alloc, *row)?)?;

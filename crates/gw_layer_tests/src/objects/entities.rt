@@ -84,8 +84,9 @@ fn each_cut_of_entities_is_truncated_at_the_cut_field(rt: HostRuntime) {
 fn each_fault_of_an_entity_is_named_by_its_code_and_place(rt: HostRuntime) -> Result<(), Fail> {
     const FAULTS: &[(usize, usize, &'static [u8], u16, u32)] = &[
         (16, 1, &[0x00], TAG, 16),
-        (16, 1, &[0x07], TAG, 16),
         (16, 1, &[0x0b], TAG, 16),
+        // A user chain S has no fields: the capacity's first byte stands where a kind is due.
+        (16, 1, &[0x07], TAG, 19),
         (17, 1, &[0x00], LIMIT, 17),
         (17, 1, &[0x21], LIMIT, 17),
         (17, 1, &[0xff, 0x00, 0x00, 0x00, 0x00], LIMIT, 17),

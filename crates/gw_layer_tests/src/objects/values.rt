@@ -42,10 +42,10 @@ fn each_cut_of_settings_is_truncated_at_the_cut_field(rt: HostRuntime) {
 #[test]
 fn each_fault_of_a_setting_is_named_by_its_code_and_place(rt: HostRuntime) -> Result<(), Fail> {
     const FAULTS: &[(usize, usize, &'static [u8], u16, u32)] = &[
-        (16, 1, &[0x07], TAG, 16),
+        (16, 1, &[0x0b], TAG, 16),
         (19, 1, &[0x02], TAG, 19),
         (23, 1, &[0xff], TAG, 23),
-        (24, 1, &[0x07], TAG, 24),
+        (24, 1, &[0x0b], TAG, 24),
         // A second switch L, and a second savevalue X in place of the switch M.
         (22, 1, b"L", NOT_CANONICAL, 21),
         (
@@ -170,7 +170,7 @@ fn each_fault_of_a_change_is_named_by_its_code_and_place(rt: HostRuntime) -> Res
         (45, 1, &[0x03], TAG, 45),
         // SAVEVALUE: its mode and its value.
         (59, 1, &[0x03], TAG, 59),
-        (61, 1, &[0x06], TAG, 61),
+        (61, 1, &[0x0c], TAG, 61),
         (69, 1, &[0x11], LIMIT, 69),
         // MARK: its flag and its parameter.
         (71, 1, &[0x02], TAG, 71),
@@ -226,7 +226,7 @@ fn operands_are_read_built_and_written(rt: HostRuntime) -> Result<(), Fail> {
 
 #[test]
 fn operands_of_entities_and_blocks_are_read_built_and_written(rt: HostRuntime) -> Result<(), Fail> {
-    let cases: [(Operand, &[u8]); 8] = [
+    let cases: [(Operand, &[u8]); 9] = [
         (
             of(EntityAttribute::FacilityOwned, 0),
             &[0x03, 0x00, 0x00, 0x00],
@@ -250,6 +250,10 @@ fn operands_of_entities_and_blocks_are_read_built_and_written(rt: HostRuntime) -
         (
             of(EntityAttribute::SwitchSetting, 3),
             &[0x03, 0x05, 0x00, 0x03],
+        ),
+        (
+            of(EntityAttribute::ChainMembers, 258),
+            &[0x03, 0x06, 0x01, 0x02],
         ),
         (
             of(EntityAttribute::BlockEntries, 1),
@@ -283,7 +287,6 @@ fn each_fault_of_an_operand_is_named_by_its_code_and_place(rt: HostRuntime) -> R
         (&[0x01, 0x00], LIMIT, 20),
         (&[0x01, 0x41], LIMIT, 20),
         (&[0x02, 0x06], TAG, 20),
-        (&[0x03, 0x06, 0x00, 0x00], TAG, 20),
         (&[0x03, 0x0c, 0x00, 0x00], TAG, 20),
         (&[0x03, 0xff, 0x00, 0x00], TAG, 20),
         (&[0x04, 0x00], LIMIT, 20),

@@ -1,7 +1,7 @@
 use Rattle.std.proofs.lemmas.Result.{err_from_is_err_and}
 use Rattle.gw_kinds.specs.Checks.{numbered}
 use Rattle.gw_kinds.specs.Kinds.{return_checks}
-use Rattle.gw_kinds.specs.Pass.{row_and_block_checks}
+use Rattle.gw_kinds.specs.Pass.{row_and_later_checks}
 use Rattle.gw_kinds.proofs.Broken.{stops_first, joined}
 use Rattle.gw_kinds.proofs.pass.check_returns_and_later.Goals as goal
 
@@ -12,5 +12,5 @@ returns-in_err-check_returns c =
 
 pub returns : goal.returns
 returns c =
-    joined c.check_rows_and_blocks.result (numbered (return_checks c.args.parts.now) 0 c.args.parts.now.returns) (row_and_block_checks c.args.parts.now)
-    c.in_ok-check_returns.ensures c.check_rows_and_blocks.ensures
+    joined c.check_rows_and_later.result (numbered (return_checks c.args.parts.now) 0 c.args.parts.now.returns) (row_and_later_checks c.args.parts.now)
+    c.in_ok-check_returns.ensures c.check_rows_and_later.ensures

@@ -1,4 +1,4 @@
-use Rattle.std.proofs.Common.{◌≡◌, Option, Some, sym, ap, ◌∙◌}
+use Rattle.std.proofs.Common.{ap, ◌∙◌}
 use Rattle.gw_step.specs.State.{State}
 use Rattle.gw_step.specs.Blocks.{assembly_at}
 use Rattle.gw_step.proofs.Copying.{found-own}

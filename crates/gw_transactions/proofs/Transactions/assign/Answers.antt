@@ -18,7 +18,7 @@ index_mut-requires c = let slot = held c.self.inside c.self.invariant.0 _ c.self
 
 -- what is kept of the transaction now
 abbrev kept : (c : goal.After-self-1) → Kept
-kept c = record { attributes = c.index_mut.result.now.1.attributes; parameters = c.set.new.self }
+kept c = record { attributes = c.index_mut.result.now.1.attributes; parameters = c.set.new.self; chain = c.index_mut.result.now.1.chain }
 
 there : (c : goal.After-self-1) → at None c.args.self.now.txs c.args.tx.number ≡ Some (live_as c.index_mut.result.now.1)
 there c = value_of c.self.inside c.self.invariant.0 _ c.self.view_is c.args.tx c.requires.held _ c.index_mut.ensures.value
@@ -35,14 +35,14 @@ pub returns-clause-ok : goal.returns-clause-ok
 returns-clause-ok c =
     on_ok c.set.result c.set.ensures.ok
     (λ is. written-by c.self.inside c.self.invariant.0 _ c.self.view_is c.args.tx c.requires.held c.index_mut.result.now c.index_mut.ensures.value (kept c) (with_parameter c.args.number c.args.value)
-    (ap (λ (ps : List (Option ℤ)). record { attributes = c.index_mut.result.now.1.attributes; parameters = ps; chain = None })
+    (ap (λ (ps : List (Option ℤ)). record { attributes = c.index_mut.result.now.1.attributes; parameters = ps; chain = c.index_mut.result.now.1.chain })
     (is ∙ ap (λ (v : ℤ). put None c.index_mut.result.now.1.parameters c.args.number (Some v)) (to_z-of_z w64 c.args.value c.ranges.value))))
 
 pub returns-clause-err : goal.returns-clause-err
 returns-clause-err c =
     on_err c.set.result c.set.ensures.err
     (λ is. written-txs c.self.inside c.self.invariant.0 _ c.self.view_is c.args.tx c.requires.held c.index_mut.result.now c.index_mut.ensures.value (kept c)
-    ∙ ap (λ t. put None c.args.self.now.txs c.args.tx.number t) (ap (λ (ps : List (Option ℤ)). Some (record { attributes = c.index_mut.result.now.1.attributes; parameters = ps; chain = None })) is ∙ sym (there c))
+    ∙ ap (λ t. put None c.args.self.now.txs c.args.tx.number t) (ap (λ (ps : List (Option ℤ)). Some (record { attributes = c.index_mut.result.now.1.attributes; parameters = ps; chain = c.index_mut.result.now.1.chain })) is ∙ sym (there c))
     ∙ put-at None c.args.self.now.txs c.args.tx.number (at_some c.args.self.now.txs c.args.tx.number (live_as c.index_mut.result.now.1) (there c)))
 
 pub returns-clause-places : goal.returns-clause-places

@@ -20,7 +20,7 @@ add-requires-clause-few c =
     (sound_of c.self.inside c.self.invariant.0 _ c.self.view_is).few c.args.transaction.current
 
 abbrev kept : (c : goal.After-add) → Kept
-kept c = record { attributes = c.args.transaction; parameters = c.args.parameters }
+kept c = record { attributes = c.args.transaction; parameters = c.args.parameters; chain = None }
 
 pub returns-clause-txs : goal.returns-clause-txs
 returns-clause-txs c =

@@ -28,7 +28,7 @@ index_mut-requires c = let slot = held c.self.inside c.self.invariant.0 _ c.self
 
 -- what is kept of the transaction now
 abbrev kept : (c : goal.After-add) → Kept
-kept c = record { attributes = c.args.transaction; parameters = c.index_mut.result.now.1.parameters }
+kept c = record { attributes = c.args.transaction; parameters = c.index_mut.result.now.1.parameters; chain = c.index_mut.result.now.1.chain }
 
 pub returns-clause-txs : goal.returns-clause-txs
 returns-clause-txs c =

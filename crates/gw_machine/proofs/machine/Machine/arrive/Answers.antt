@@ -1,4 +1,4 @@
-use Rattle.std.proofs.Common.{refl, ap, ◌∙◌, List, map, None, Some, length, Option, ℕ, ◌≡◌, rules}
+use Rattle.std.proofs.Common.{refl, ap, ◌∙◌, List, map, None, Some, length, Option, ℕ, ◌≡◌, rules, arith}
 use Rattle.std.proofs.lemmas.Int.{to_z-of_z}
 use Rattle.gw_chains.specs.Chain.{in_time}
 use Rattle.gw_chains.specs.declared.tx.Event.{Event}
@@ -30,8 +30,8 @@ returns-clause-state c =
     ∙ ap (λ (ts : List (Option LiveTransaction)). after (raised c.args.block m.scheduled.items) ts events) (made c)
 
 pub returns-clause-carries : goal.returns-clause-carries
-returns-clause-carries c = carries-insert c.args.self.now.transactions c.insert-tx.new.self _ c.insert-tx.result.place c.requires.linked.sound c.insert-tx.ensures.txs c.insert-tx.ensures.places
+returns-clause-carries c = carries-insert c.args.self.now.transactions c.insert-tx.new.self _ c.insert-tx.result.place c.requires.linked.sound (omega arith) c.insert-tx.ensures.txs c.insert-tx.ensures.places
 
 pub returns-clause-linked : goal.returns-clause-linked
 returns-clause-linked c =
-    linked-arrived c.args.self.now _ c.insert-tx.result _ c.args.block c.args.priority c.args.time c.insert-tx.ensures.txs c.insert-tx.ensures.places c.insert-tx.ensures.number c.insert-tx.ensures.sound refl refl (scheduled c) (record { waits = refl; assemblies = refl; facilities = refl; storages = refl; queues = refl; clock = refl }) (returns-clause-state c) c.requires.linked
+    linked-arrived c.args.self.now _ c.insert-tx.result _ c.args.block c.args.priority c.args.time c.insert-tx.ensures.txs c.insert-tx.ensures.places c.insert-tx.ensures.number c.insert-tx.ensures.sound refl refl (scheduled c) (record { waits = refl; assemblies = refl; chains = refl; facilities = refl; storages = refl; queues = refl; clock = refl }) (returns-clause-state c) (omega arith) c.requires.linked

@@ -25,4 +25,4 @@ returns-clause-state c =
 pub returns-clause-linked : goal.returns-clause-linked
 returns-clause-linked c =
     linked-assembled c.args.self.now c.requires.linked c.args.assembly c.requires.there c.finish.result c.finish.ensures.value c.get.result.now.priority (rank c) c.insert_behind.new.self.items (joined c) c.finish.new.self.items c.finish.ensures.items
-    _ refl refl refl refl refl refl refl refl refl refl (returns-clause-state c)
+    _ refl refl refl refl refl refl refl refl refl refl refl (returns-clause-state c)

@@ -27,7 +27,7 @@ returns-clause-rank c =
 
 pub returns-clause-linked : goal.returns-clause-linked
 returns-clause-linked c = λ l.
-    let keeps : Keeps c.args.self.now _ = record { waits = refl; assemblies = refl; facilities = refl; storages = refl; queues = refl; clock = refl } in
+    let keeps : Keeps c.args.self.now _ = record { waits = refl; assemblies = refl; chains = refl; facilities = refl; storages = refl; queues = refl; clock = refl } in
     elim (set_or_same c) [
       | inl is ↦ linked-assigned c.args.self.now _ c.args.tx c.args.parameter c.args.value is c.assign.ensures.places c.assign.ensures.sound refl refl refl keeps (ap (λ ts. record (state_of c.args.self.now) { transactions = ts }) is) l
       | inr is ↦ linked-same c.args.self.now _ is c.assign.ensures.places c.assign.ensures.sound refl refl refl keeps (ap (λ ts. record (state_of c.args.self.now) { transactions = ts }) is) l

@@ -8,4 +8,4 @@ returns-clause-state c = state-awaits c.args.self.now c.args.tx c.args.begins c.
 pub returns-clause-linked : goal.returns-clause-linked
 returns-clause-linked c =
     linked-awaits c.args.self.now c.args.tx c.args.begins c.requires.rests c.begin.new.self.items c.begin.ensures.items
-    _ refl refl refl refl refl refl refl refl refl refl (returns-clause-state c)
+    _ refl refl refl refl refl refl refl refl refl refl refl (returns-clause-state c)

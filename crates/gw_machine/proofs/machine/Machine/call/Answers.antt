@@ -18,7 +18,7 @@ pub returns-clause-linked : goal.returns-clause-linked
 returns-clause-linked c =
     linked-called c.args.self.now c.requires.linked c.args.entity c.requires.entity c.args.tx c.args.priority c.requires.rank c.args.place c.requires.there c.remove.new.self.lists c.remove.new.self.retry c.remove.ensures.retry c.remove.ensures.lists _
     (ranked-at c.args.self.now.transactions c.args.tx (at [] c.args.self.now.waits.lists c.args.entity) c.args.place (c.requires.linked.delay_lists c.args.entity c.requires.entity) c.requires.there)
-    refl refl (joined c) refl refl refl refl refl refl refl refl (returns-clause-state c)
+    refl refl (joined c) refl refl refl refl refl refl refl refl refl (returns-clause-state c)
 
 pub returns-clause-left : goal.returns-clause-left
 returns-clause-left c = changed-here c.args.entity (λ xs. remove xs c.args.place) c.args.self.now.waits.lists c.remove.new.self.lists c.remove.ensures.lists

@@ -18,7 +18,7 @@ pub returns-clause-linked : goal.returns-clause-linked
 returns-clause-linked c =
     linked-called c.args.self.now c.requires.linked c.args.entity c.requires.entity c.args.tx c.args.priority c.requires.rank (at 0 c.args.self.now.waits.places c.args.entity) c.requires.there c.take.new.self.lists c.take.new.self.retry c.take.ensures.retry c.take.ensures.lists _
     (ranked-at c.args.self.now.transactions c.args.tx (at [] c.args.self.now.waits.lists c.args.entity) (at 0 c.args.self.now.waits.places c.args.entity) (c.requires.linked.delay_lists c.args.entity c.requires.entity) c.requires.there)
-    refl refl (joined c) refl refl refl refl refl refl refl refl (returns-clause-state c)
+    refl refl (joined c) refl refl refl refl refl refl refl refl refl (returns-clause-state c)
 
 pub returns-clause-left : goal.returns-clause-left
 returns-clause-left c = changed-here c.args.entity (λ xs. remove xs (at 0 c.args.self.now.waits.places c.args.entity)) c.args.self.now.waits.lists c.take.new.self.lists c.take.ensures.lists

@@ -18,13 +18,13 @@ made c = search (rules, c.requires.same)
 pub returns-clause-state : goal.returns-clause-state
 returns-clause-state c =
     let e = c.insert_with-made.ensures in
-    state-copied c.args.self.now c.requires.linked c.args.tx.number c.args.transaction c.args.target c.insert_with-made.result c.insert_with-made.new.self (made c) e.places e.number c.insert_behind.new.self.items (joined c)
+    state-copied c.args.self.now c.requires.linked c.args.tx.number c.args.transaction c.requires.block c.args.target c.insert_with-made.result c.insert_with-made.new.self (made c) e.places e.number c.insert_behind.new.self.items (joined c)
 
 pub returns-clause-linked : goal.returns-clause-linked
 returns-clause-linked c =
     let e = c.insert_with-made.ensures in
-    linked-copied c.args.self.now c.requires.linked c.args.tx.number c.args.transaction c.args.target c.insert_with-made.result c.insert_with-made.new.self (made c) e.places e.number c.insert_behind.new.self.items (joined c)
-    _ refl e.sound refl refl refl (record { waits = refl; assemblies = refl; facilities = refl; storages = refl; queues = refl; clock = refl }) (returns-clause-state c)
+    linked-copied c.args.self.now c.requires.linked c.args.tx.number c.args.transaction c.requires.block c.args.target c.insert_with-made.result c.insert_with-made.new.self (made c) e.places e.number c.insert_behind.new.self.items (joined c)
+    _ refl e.sound refl refl refl (record { waits = refl; assemblies = refl; chains = refl; facilities = refl; storages = refl; queues = refl; clock = refl }) (returns-clause-state c)
 
 pub returns-clause-same : goal.returns-clause-same
 returns-clause-same c =

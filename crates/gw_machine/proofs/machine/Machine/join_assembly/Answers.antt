@@ -14,4 +14,4 @@ returns-else-assembly-le1-clause-state c =
 pub returns-else-assembly-le1-clause-linked : goal.returns-else-assembly-le1-clause-linked
 returns-else-assembly-le1-clause-linked c =
     linked-come c.args.self.now c.requires.linked c.args.assembly c.requires.there c.come.new.self.items c.come.ensures.items
-    _ refl refl refl refl refl refl refl refl refl refl (state-come c.args.self.now c.requires.linked c.args.assembly c.requires.there c.come.new.self.items c.come.ensures.items)
+    _ refl refl refl refl refl refl refl refl refl refl refl (state-come c.args.self.now c.requires.linked c.args.assembly c.requires.there c.come.new.self.items c.come.ensures.items)

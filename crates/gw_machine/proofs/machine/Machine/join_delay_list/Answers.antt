@@ -18,4 +18,4 @@ pub returns-clause-linked : goal.returns-clause-linked
 returns-clause-linked c =
     let r = c.requires.rests in
     linked-waits c.args.self.now r.linked c.args.entity c.requires.entity c.args.tx c.args.priority c.requires.rank r.held r.active c.push_wait.new.self.lists c.push_wait.new.self.retry c.push_wait.ensures.retry (joined c)
-    _ refl refl refl refl refl refl refl refl refl refl refl (returns-clause-state c)
+    _ refl refl refl refl refl refl refl refl refl refl refl refl (returns-clause-state c)

@@ -12,4 +12,4 @@ returns-clause-state c = state-retries c.args.self.now c.args.tx c.args.priority
 pub returns-clause-linked : goal.returns-clause-linked
 returns-clause-linked c =
     linked-retries c.args.self.now c.args.tx c.args.priority c.requires.rests c.requires.rank c.push_retry.new.self (joined c) c.push_retry.ensures.lists
-    _ refl refl refl refl refl refl refl refl refl refl (returns-clause-state c)
+    _ refl refl refl refl refl refl refl refl refl refl refl (returns-clause-state c)

@@ -37,7 +37,7 @@ returns-clause-linked c =
     let fits = c.ranges.time in
     let timed = c.requires.linked.timed in
     let dt : pos c.abs_diff-passed.result ≡ c.args.time -ℤ c.args.self.now.clock = omega (arith, ints, time_is c, c.requires.later.1) in
-    linked-moved c.args.self.now c.args.time c.move_due.new.current_events.items c.move_due.new.future_events.items _ c.requires.linked (joined c) (left c) (entities c) _ refl refl refl refl refl refl
+    linked-moved c.args.self.now c.args.time c.move_due.new.current_events.items c.move_due.new.future_events.items _ c.requires.linked (joined c) (left c) (entities c) _ refl refl refl refl refl refl refl
     (count-passed c.args.self.now c.abs_diff-passed.result c.pass_time.new.self c.pass_time.ensures)
     (record {
       facilities = simp to_z-of_z (omega (arith, ints, timed.facilities, ap (λ (f : FacilityTable). f.passed) c.pass_time.ensures, dt));

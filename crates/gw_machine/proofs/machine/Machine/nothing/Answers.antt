@@ -3,7 +3,7 @@ use Rattle.gw_machine.specs.declared.machine.Machine.{Machine}
 use Rattle.gw_machine.proofs.Beginning.{Begins, state-nothing, linked-nothing, readable-nothing}
 use Rattle.gw_machine.proofs.machine.Machine.nothing.Goals as goal
 
-abbrev made : goal.After-new-5 → Machine
+abbrev made : goal.After-new-6 → Machine
 made c = record {
   clock = pos 0;
   count = to_z w64 c.args.count;
@@ -13,10 +13,11 @@ made c = record {
   scheduled = c.in_ok-scheduled.scheduled;
   transactions = c.in_ok-transactions.transactions;
   active = None;
-  current_events = c.new-3.result;
-  future_events = c.new-4.result;
+  current_events = c.new-4.result;
+  future_events = c.new-5.result;
   waits = c.in_ok-waits.waits;
-  assemblies = c.new-5.result;
+  assemblies = c.new-6.result;
+  chains = c.in_ok-chains.chains;
   facilities = c.in_ok-tables.tables.facilities;
   storages = c.in_ok-tables.tables.storages;
   queues = c.in_ok-tables.tables.queues;
@@ -27,7 +28,7 @@ made c = record {
   ended = None;
 }
 
-begins : (c : goal.After-new-5) → Begins c.args.object.now c.args.count c.args.streams (made c)
+begins : (c : goal.After-new-6) → Begins c.args.object.now c.args.count c.args.streams (made c)
 begins c = record {
   clock = refl;
   count = search rules;
@@ -37,11 +38,12 @@ begins c = record {
   transactions = c.in_ok-transactions.ensures.txs;
   sound = c.in_ok-transactions.ensures.sound;
   active = refl;
-  current_events = c.new-3.ensures;
-  future_events = c.new-4.ensures;
+  current_events = c.new-4.ensures;
+  future_events = c.new-5.ensures;
   lists = search rules;
   retry = c.in_ok-waits.ensures.retry;
-  assemblies = c.new-5.ensures;
+  assemblies = c.new-6.ensures;
+  chains = search rules;
   stir = refl;
   facilities = c.in_ok-tables.ensures.facilities;
   storages = c.in_ok-tables.ensures.storages;

@@ -1,4 +1,4 @@
-use Rattle.std.proofs.Common.{◌≡◌, Some, option_map, refl, sym, ap, subst}
+use Rattle.std.proofs.Common.{◌≡◌, option_map, refl, sym, ap, subst}
 use Rattle.std.specs.Prelude.{int_lt}
 use Rattle.std.proofs.lemmas.Int.{to_z-of_z}
 use Rattle.gw_chains.specs.Chain.{ahead}
@@ -20,5 +20,5 @@ pub returns-clause-linked : goal.returns-clause-linked
 returns-clause-linked c =
     let active = ap (option_map (λ (x : Tx). x.number)) c.requires.rests.active in
     linked-joined c.args.self.now c.args.tx c.args.priority c.requires.rests c.requires.rank int_lt c.insert_ahead.new.self.items (joined c)
-    _ refl refl refl refl refl refl refl refl refl refl
+    _ refl refl refl refl refl refl refl refl refl refl refl
     (subst ResidesOnce (sym (returns-clause-state c)) (resides-ahead c.args.tx.number (state_of c.args.self.now) active c.requires.rests.linked.resides))

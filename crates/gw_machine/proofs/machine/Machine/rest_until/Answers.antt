@@ -16,4 +16,4 @@ returns-clause-state c =
     (ap (map event_of) (scheduled c) ∙ events-in_time c.args.tx c.args.time c.args.self.now.future_events.items)
 
 pub returns-clause-linked : goal.returns-clause-linked
-returns-clause-linked c = linked-rested c.args.self.now _ c.args.tx c.args.time refl c.requires.rests refl refl (scheduled c) (record { waits = refl; assemblies = refl; facilities = refl; storages = refl; queues = refl; clock = refl }) (returns-clause-state c)
+returns-clause-linked c = linked-rested c.args.self.now _ c.args.tx c.args.time refl c.requires.rests refl refl (scheduled c) (record { waits = refl; assemblies = refl; chains = refl; facilities = refl; storages = refl; queues = refl; clock = refl }) (returns-clause-state c)

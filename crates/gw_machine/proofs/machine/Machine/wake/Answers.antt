@@ -8,4 +8,4 @@ returns-clause-state c = state-woken c.args.self.now c.requires.linked c.wake_al
 pub returns-clause-linked : goal.returns-clause-linked
 returns-clause-linked c =
     linked-woken c.args.self.now c.requires.linked c.wake_all.new.cec.items c.wake_all.new.self c.wake_all.ensures.woken c.wake_all.ensures.retry c.wake_all.ensures.lists
-    _ refl refl refl refl refl refl refl refl refl refl (returns-clause-state c)
+    _ refl refl refl refl refl refl refl refl refl refl refl (returns-clause-state c)

@@ -1,0 +1,13 @@
+use Rattle.std.proofs.Common.{arith, ◌≡◌, ◌<◌, ◌∙◌, sym, ap, subst, length}
+use Rattle.gw_step.specs.State.{user_chain}
+use Rattle.gw_step.specs.Job.{Progress}
+use Rattle.gw_scan.proofs.sim.Sim.members.Goals as goal
+
+pub members-requires-clause-chain : goal.members-requires-clause-chain
+members-requires-clause-chain c =
+    let below = subst (λ (p : Progress). c.args.chain < length p.job.parts.entities) (sym c.self.view_is) c.requires in
+    let entities : length c.self.inside.machine.facilities.facilities ≡ length c.self.inside.spec.parts.entities = c.self.invariant.reached.bounded.numbers.whole.facilities in
+    omega (arith, below, entities)
+
+pub returns : goal.returns
+returns c = c.members.ensures.value ∙ ap (λ (p : Progress). length (user_chain c.args.chain p.state)) c.self.view_is
