@@ -25,34 +25,9 @@ pub data ChainUse : Block → Type 0 where
 
 -- what each block does with one
 pub chain_use : (block : Block) → ChainUse block
-chain_use (blocks.Generate g) = Neither (λ state. refl) (λ table. refl) (λ out. refl)
-chain_use (blocks.Terminate by) = Neither (λ state. refl) (λ table. refl) (λ out. refl)
-chain_use (blocks.Advance time) = Neither (λ state. refl) (λ table. refl) (λ out. refl)
-chain_use (blocks.Seize f) = Neither (λ state. refl) (λ table. refl) (λ out. refl)
-chain_use (blocks.Release f) = Neither (λ state. refl) (λ table. refl) (λ out. refl)
-chain_use (blocks.Enter u) = Neither (λ state. refl) (λ table. refl) (λ out. refl)
-chain_use (blocks.Leave u) = Neither (λ state. refl) (λ table. refl) (λ out. refl)
-chain_use (blocks.Queue u) = Neither (λ state. refl) (λ table. refl) (λ out. refl)
-chain_use (blocks.Depart u) = Neither (λ state. refl) (λ table. refl) (λ out. refl)
-chain_use (blocks.Assign a) = Neither (λ state. refl) (λ table. refl) (λ out. refl)
-chain_use (blocks.Test t) = Neither (λ state. refl) (λ table. refl) (λ out. refl)
-chain_use (blocks.Gate g) = Neither (λ state. refl) (λ table. refl) (λ out. refl)
-chain_use (blocks.Transfer target) = Neither (λ state. refl) (λ table. refl) (λ out. refl)
-chain_use (blocks.TransferByFraction f) = Neither (λ state. refl) (λ table. refl) (λ out. refl)
-chain_use (blocks.TransferToSubroutine c) = Neither (λ state. refl) (λ table. refl) (λ out. refl)
-chain_use (blocks.TransferByParameter q) = Neither (λ state. refl) (λ table. refl) (λ out. refl)
-chain_use (blocks.Loop l) = Neither (λ state. refl) (λ table. refl) (λ out. refl)
-chain_use (blocks.Logic l) = Neither (λ state. refl) (λ table. refl) (λ out. refl)
-chain_use (blocks.Savevalue s) = Neither (λ state. refl) (λ table. refl) (λ out. refl)
-chain_use (blocks.Mark p) = Neither (λ state. refl) (λ table. refl) (λ out. refl)
-chain_use (blocks.Plus a) = Neither (λ state. refl) (λ table. refl) (λ out. refl)
-chain_use (blocks.Tabulate t) = Neither (λ state. refl) (λ table. refl) (λ out. refl)
-chain_use (blocks.Split s) = Neither (λ state. refl) (λ table. refl) (λ out. refl)
-chain_use (blocks.Assemble size) = Neither (λ state. refl) (λ table. refl) (λ out. refl)
-chain_use (blocks.Priority q) = Neither (λ state. refl) (λ table. refl) (λ out. refl)
 chain_use (blocks.Link l) = Links l
 chain_use (blocks.Unlink u) = Unlinks u
-chain_use blocks.Buffer = Neither (λ state. refl) (λ table. refl) (λ out. refl)
+chain_use block = Neither (λ state. refl) (λ table. refl) (λ out. refl)
 
 -- EDGES
 

@@ -3,7 +3,6 @@
 ghost use Rattle.std.specs.Prelude.{◌≡◌, Some, map, option_map};
 ghost use Rattle.gw_kinds.specs.Checks.{Finds};
 ghost use Rattle.gw_blocks.specs.declared.parts.Units.{Units};
-ghost use Rattle.gw_object.specs.Entities as kinds;
 ghost use Rattle.gw_kinds.specs.Kinds as model;
 ghost use Rattle.gw_kinds.specs.declared.entities.EntityKind.TheVariants as needed;
 
@@ -11,7 +10,7 @@ use crate::checks::{NumberedChecks, check};
 use crate::codes::{NO_ENTITY, WRONG_KIND};
 use crate::entities::{EntityKind, is_no_other_kind, is_there, needs};
 use gw_blocks::Units;
-use gw_object::{Entity, Fault, Kind, Parts, Place, ReturnRow, TableKind, TableState};
+use gw_object::{Entity, Fault, Parts, Place, ReturnRow, TableKind, TableState, chains_in};
 
 /// Whether none of the entities of a row is of another kind.
 fn names_no_other_kind(entities: &[Entity], row: &TableState) -> bool
@@ -102,20 +101,12 @@ impl NumberedChecks<Option<TableState>> for Rows {
     }
 }
 
-/// Whether an entity is a user chain.
-fn is_chain(entity: &Entity) -> bool
-    ensures { result ≡ kinds.is_chain entity.now.kind }
-{
-    matches!(entity.kind, Kind::Chain)
-}
-
 /// How many user chains come before the entity of this number, from 0: where its row of the state table and its weight
 /// stand among those of all user chains, if it is one itself.
 pub fn chain_place(entities: &[Entity], entity: u16) -> usize
     ensures { result ≡ model.chain_place entities.now entity }
 {
-    let before = &entities[..(entity as usize).min(entities.len())];
-    before.iter().filter(|entity| is_chain(entity)).count()
+    chains_in(&entities[..(entity as usize).min(entities.len())])
 }
 
 /// The row of the state table of the user chain that is the entity of this number, from 0, if it has one.
@@ -133,7 +124,7 @@ impl NumberedChecks<Entity> for Chains {
     ghost checks = { λ _ p e. model.chain_checks p e };
 
     fn check_one(&self, parts: &Parts, number: u16, element: &Entity) -> Result<(), Fault> {
-        if !is_chain(element) {
+        if !element.kind.is_chain() {
             return Ok(());
         }
         match chain_row(parts, number) {

@@ -182,7 +182,8 @@ impl Elements for Entities {
     }
 }
 
-/// How many of these entities are user chains.
+/// How many of these entities are user chains: as many rows of the state table and weights an object has for them
+/// (docs/object-format.md).
 pub fn chains_in(entities: &[Entity]) -> usize
     ensures { result ≡ model.chains_in entities.now }
 {

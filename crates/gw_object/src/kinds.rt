@@ -41,7 +41,7 @@ pub fn tag_of(kind: &Kind) -> u8
 
 impl Kind {
     /// Whether it is that of user chains.
-    pub(crate) fn is_chain(&self) -> bool
+    pub fn is_chain(&self) -> bool
         ensures { result ≡ model.is_chain self.now }
     {
         matches!(self, Kind::Chain)

@@ -16,6 +16,7 @@ mod rules;
 mod states;
 mod writing;
 
+pub use entities::chains_in;
 pub use fault::{Fault, Place};
 pub use gw_fields::Items;
 pub use limits::{
