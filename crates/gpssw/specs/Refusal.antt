@@ -8,6 +8,7 @@ use Rattle.gw_object.specs.Names as object
 use Rattle.gw_kinds.specs.Names as kinds
 use Rattle.gw_code_flow.specs.Names as plus
 use Rattle.gw_flow.specs.Names as flow
+use Rattle.gw_weights.specs.Names as weights
 use Rattle.gw_scan.specs.declared.spec.StartFault.{StartFault}
 use Rattle.gw_scan.specs.declared.spec.StartFault.TheVariants.{Seed, Count, Budget, Memory}
 
@@ -20,9 +21,10 @@ making_name code =
     else if code == 53 then codes "Memory"
     else codes "Unknown"
 
--- the name of a code: of an object, of kinds, of PLUS code, of flow, or of a job's making
+-- the name of a code: of an object, of kinds, of PLUS code, of flow, of weights, or of a job's making
 abbrev pub code_name : ℕ → List ℕ
-code_name code = unwrap_or (object.name_of code) (unwrap_or (kinds.name_of code) (unwrap_or (plus.name_of code) (unwrap_or (flow.name_of code) (making_name code))))
+code_name code =
+    unwrap_or (object.name_of code) (unwrap_or (kinds.name_of code) (unwrap_or (plus.name_of code) (unwrap_or (flow.name_of code) (unwrap_or (weights.name_of code) (making_name code)))))
 
 -- what stands before the numbers of a place: its kind in lower case
 abbrev pub place_front : Place → List ℕ

@@ -8,6 +8,7 @@ use gw_flow::codes as flow_codes;
 use gw_kinds::codes as kinds_codes;
 use gw_object::{Fault, Place, codes as object_codes};
 use gw_scan::StartFault;
+use gw_weights::codes as weights_codes;
 use std::fmt;
 
 /// A refusal, which prints as `refused CODE NAME at PLACE`, without a place where it has none (docs/refusals.md).
@@ -45,6 +46,9 @@ fn name(code: u16) -> &'static str
         return name;
     }
     if let Some(name) = flow_codes::name(code) {
+        return name;
+    }
+    if let Some(name) = weights_codes::name(code) {
         return name;
     }
     making_name(code)

@@ -141,6 +141,29 @@ fn refusals_are_one_line_and_status_1(rt: HostRuntime) -> Result<(), Fail> {
     Ok(())
 }
 
+/// The first object, whose GENERATE weighs 1, and not 2: as much as the ADVANCE that it leads to at once.
+fn too_light(alloc: Global) -> Result<Vec<u8>, AllocError> {
+    let mut bytes = Vec::from_slice(alloc, FIRST)?;
+    if let Some(weight) = bytes.get_mut(88) {
+        *weight = 1;
+    }
+    Ok(bytes)
+}
+
+#[test]
+fn weights_that_are_no_certificate_are_refused(rt: HostRuntime) -> Result<(), Fail> {
+    let bytes = too_light(rt.alloc())?;
+    let mut writer = Output::new(Vec::new(rt.alloc()));
+    let mut reader = Input::new(bytes.as_slice());
+    let status = run(rt.alloc(), 0, 0, &mut reader, &mut writer);
+    assert_eq!(rt;
+        writer.into_inner().as_slice(),
+        b"refused 40 WeightEdge at edge 1 2\n".as_slice()
+    );
+    assert_eq!(rt; status, 1);
+    Ok(())
+}
+
 #[test]
 fn places_are_printed_by_kind_and_numbers(rt: HostRuntime) -> Result<(), Fail> {
     let cases = [
@@ -156,6 +179,9 @@ fn places_are_printed_by_kind_and_numbers(rt: HostRuntime) -> Result<(), Fail> {
             "refused 15 BadConstant at code 0 64",
         ),
         (4, Place::Line(7), "refused 4 Tag at line 7"),
+        (40, Place::Edge(2, 3), "refused 40 WeightEdge at edge 2 3"),
+        (41, Place::Block(4), "refused 41 ChainWeight at block 4"),
+        (42, Place::Block(1), "refused 42 ArrivalWeight at block 1"),
     ];
     for (code, place, text) in cases {
         let refusal = Refusal(Fault { code, place });

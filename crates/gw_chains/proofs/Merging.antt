@@ -1,10 +1,11 @@
 -- A chain that is kept in two runs, by time: those that were settled, and those that came later.
 use Rattle.std.proofs.Common.{◌≡◌, suc, List, [], ◌∷◌, ◌++◌, ◌+◌, ◌-◌, ◌≤◌, ℕ, take, drop, subst, if◌then◌else◌, Bool, true, false, true≢false, append_assoc, refl, ap, sym, ◌∙◌, arith, ◌<◌, length, get_or, ℤ, ◌≤ℤ◌, ◌<ℤ◌}
-use Rattle.std.specs.Prelude.{All, AllPairs, int_le}
+use Rattle.std.specs.Prelude.{All, AllPairs, IsPermutation, int_le}
 use Rattle.std.proofs.lemmas.Int.{ints}
-use Rattle.std.proofs.lemmas.List.{take-append-drop, drop-drop, length-take-le, length-drop, get_or-take, get_or-drop}
+use Rattle.std.proofs.lemmas.List.{append-nil, take-append-drop, drop-drop, length-take-le, length-drop, get_or-take, get_or-drop}
 use Rattle.std.proofs.Math.Seq.{take-add, take-append_seam, drop-append_seam}
 use Rattle.std.proofs.lemmas.List.Elements.{All-head, All-tail, All-cons}
+use Rattle.std.proofs.lemmas.List.Sorted.{IsPermutation-refl, IsPermutation-sym, IsPermutation-trans, IsPermutation-cons, IsPermutation-insert, IsPermutation-append_left, IsPermutation-to_front}
 use Rattle.gw_chains.specs.Chain.{in_time, merged, begins_recent, first, rest}
 
 module _ {A : Type 0} (time : A → ℤ) where
@@ -140,6 +141,24 @@ module _ {A : Type 0} (time : A → ℤ) where
   pub merged_length : (settled recent : List A) → length (merged time settled recent) ≡ length settled + length recent
   merged_length settled [] = omega (arith)
   merged_length settled (r ∷ rs) = let same = merged_length (in_time time r settled) rs in let one = in_time_length r settled in omega (arith)
+
+  -- MEMBERS
+
+  in_time_members : (x : A) (xs : List A) → IsPermutation (in_time time x xs) (x ∷ xs)
+  in_time_members x [] = IsPermutation-refl _
+  in_time_members x (y ∷ ys) = case (int_le (time y) (time x)) (in_time_members x ys)
+    where
+      case : (b : Bool) → IsPermutation (in_time time x ys) (x ∷ ys) → IsPermutation (if b then y ∷ in_time time x ys else x ∷ y ∷ ys) (x ∷ y ∷ ys)
+      case true same = IsPermutation-trans _ _ _ (IsPermutation-cons y _ _ same) (IsPermutation-insert (x ∷ ys) 1 y)
+      case false same = IsPermutation-refl _
+
+  -- both runs together have the members of the chain
+  pub merged_members : (settled recent : List A) → IsPermutation (merged time settled recent) (settled ++ recent)
+  merged_members settled [] = subst (λ all. IsPermutation settled all) (sym (append-nil settled)) (IsPermutation-refl settled)
+  merged_members settled (r ∷ rs) =
+      IsPermutation-trans _ _ _ (merged_members (in_time time r settled) rs)
+      (subst (λ all. IsPermutation (in_time time r settled ++ rs) all) (append_assoc settled (r ∷ []) rs)
+      (IsPermutation-append_left rs _ _ (IsPermutation-trans _ _ _ (in_time_members r settled) (IsPermutation-sym _ _ (IsPermutation-to_front settled r)))))
 
   -- SETTLING
 

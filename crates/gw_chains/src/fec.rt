@@ -1,13 +1,14 @@
 //! The future events chain.
 
-ghost use Rattle.std.specs.Prelude.{◌≡◌, ◌≤◌, ◌<◌, ◌+◌, [], length, if◌then◌else◌, option_map, is_some, OnOk, OnErr};
+ghost use Rattle.std.specs.Prelude.{◌≡◌, ◌≤◌, ◌<◌, ◌+◌, [], length, if◌then◌else◌, option_map, is_some, OnOk, OnErr, IsPermutation};
+ghost use Rattle.std.specs.Iterator.{YieldsFirstRef, item_count};
 ghost use Rattle.gw_chains.specs.Chain.{in_time, due, first, rest};
 ghost use Rattle.gw_chains.specs.declared.tx.Event.{Event};
 
 use crate::runs::{front, insert, pop_first, reserve};
 use crate::{Event, Memory, Tx};
 use std::alloc::Global;
-use std::collections::VecDeque;
+use std::collections::{VecDeque, vec_deque};
 use std::marker::Model;
 
 /// The future events chain: the transactions that wait for a clock time, by that time, and those
@@ -95,11 +96,53 @@ impl Fec {
         Some(event.tx)
     }
 
+    /// The members, in no particular order.
+    pub fn iter(&self) -> Events<'_>
+        ensures { IsPermutation self.now.items result }
+    {
+        Events {
+            settled: self.settled.iter(),
+            recent: self.recent.iter(),
+        }
+    }
+
     /// How many members there are.
     #[tactic(auto, using(crate::proofs::Merging::merged_length))]
     pub fn len(&self) -> usize
         ensures { result ≡ length self.now.items }
     {
         self.settled.len() + self.recent.len()
+    }
+}
+
+/// The members of a future events chain, in no particular order. Contracts see those that are still to come.
+#[derive(Drop)]
+pub struct Events<'a> {
+    settled: vec_deque::Iter<'a, Event>,
+    recent: vec_deque::Iter<'a, Event>,
+}
+
+impl<'a> Model for Events<'a> {
+    ghost use Rattle.std.specs.Prelude.{List, ◌++◌};
+    ghost use Rattle.std.specs.VecDeque.Iter.{deque_iter_rest};
+    ghost use Rattle.gw_chains.specs.declared.tx.Event.{Event};
+
+    ghost Value = { List Event };
+
+    ghost view = { λ it. deque_iter_rest it.settled ++ deque_iter_rest it.recent };
+}
+
+impl<'a> Iterator for Events<'a> {
+    type Item = &'a Event;
+
+    ghost next_gives = { YieldsFirstRef (λ rest. rest) };
+
+    ghost remaining = { item_count (λ rest. rest) };
+
+    fn next(&mut self) -> Option<&'a Event> {
+        match self.settled.next() {
+            Some(event) => Some(event),
+            None => self.recent.next(),
+        }
     }
 }

@@ -16,7 +16,7 @@ mod waits;
 
 pub use assemblies::{Assemblies, Assembly};
 pub use cec::Cec;
-pub use fec::Fec;
+pub use fec::{Events, Fec};
 /// The answer where there was no memory.
 pub use std::alloc::AllocError as Memory;
 pub use tx::{Event, Member, Tx};

@@ -15,6 +15,7 @@ use gw_verify::{Verified, verify};
 use std::alloc::Global;
 use std::process::Abort;
 use std::test::Fail;
+use weights::weights_of;
 
 mod arrivals;
 mod chains;
@@ -24,6 +25,7 @@ mod crowds;
 mod draws;
 mod ends;
 mod entities;
+mod moments;
 mod orders;
 mod parameters;
 mod procedures;
@@ -34,6 +36,7 @@ mod subroutines;
 mod times;
 mod transfers;
 mod values;
+mod weights;
 
 /// The budget of jobs that end by something else.
 const AMPLE: u64 = 1_000_000_000;
@@ -345,8 +348,8 @@ fn six_entities(alloc: Global) -> Result<Items<Entity>, Memory> {
     ]?))
 }
 
-/// The parts of an object of these blocks, with these return rows and this state table, and with seeds and a termination count
-/// of its own.
+/// The parts of an object of these blocks, with these return rows, this state table and these weights, and with seeds and a
+/// termination count of its own.
 fn parts_with(
     alloc: Global,
     seeds: &[u32],
@@ -354,6 +357,7 @@ fn parts_with(
     blocks: &[Block],
     returns: Items<ReturnRow>,
     states: Items<Option<TableState>>,
+    weights: Items<u32>,
 ) -> Result<Parts, Memory> {
     Ok(Parts {
         seeds: Items::from_vec(Vec::from_slice(alloc, seeds)?),
@@ -364,7 +368,7 @@ fn parts_with(
         returns,
         states,
         chain_states: Items::from_vec(Vec::new(alloc)),
-        weights: Items::from_vec(vec![in alloc; 1u32; blocks.len()]?),
+        weights,
         chain_weights: Items::from_vec(Vec::new(alloc)),
     })
 }
@@ -373,7 +377,8 @@ fn parts_with(
 fn parts(alloc: Global, seeds: &[u32], count: u64, blocks: &[Block]) -> Result<Parts, Memory> {
     let no_returns = Items::from_vec(Vec::new(alloc));
     let states = straight_table(alloc, blocks)?;
-    parts_with(alloc, seeds, count, blocks, no_returns, states)
+    let weights = weights_of(alloc, blocks)?;
+    parts_with(alloc, seeds, count, blocks, no_returns, states, weights)
 }
 
 /// An object, accepted.

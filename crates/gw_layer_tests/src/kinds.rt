@@ -8,7 +8,7 @@ mod procedures;
 mod subroutines;
 
 use crate::models::*;
-use gw_blocks::{Block, Generate, Operand, Spread};
+use gw_blocks::{Block, Generate};
 use gw_kinds::{Way, check, check_kinds, codes, exits, leads_to};
 use gw_object::{Fault, Memory, Place, TableState};
 use std::alloc::Global;
@@ -296,16 +296,6 @@ pub(super) fn leave_by(block: Block, expected: &[(Way, bool)]) -> bool {
     let found = exits.as_slice();
     found.len() == expected.len()
         && (0..found.len()).all(|i| (found[i].way, found[i].passes_time) == expected[i])
-}
-
-/// An ADVANCE of this mean and half the range.
-macro_rules! advance {
-    ($mean:expr, $half:expr) => {
-        Block::Advance(Spread {
-            mean: Operand::Constant($mean),
-            half: Operand::Constant($half),
-        })
-    };
 }
 
 #[test]

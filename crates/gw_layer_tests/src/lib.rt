@@ -1,5 +1,5 @@
-//! Tests of the layers below the machine: what no contract says of numbers, fields, readers and writers, objects, kinds, flow, entities, the verifier,
-//! chains and transactions, on values worked out by hand.
+//! Tests of the layers below the machine: what no contract says of numbers, fields, readers and writers, objects, kinds, flow,
+//! weights, the verifier, entities, chains and transactions, on values worked out by hand.
 #![tactic(auto)]
 
 #[cfg(test)]
@@ -28,3 +28,5 @@ mod streams;
 mod transactions;
 #[cfg(test)]
 mod verified;
+#[cfg(test)]
+mod weights;

@@ -43,6 +43,28 @@ pub(crate) const GENERATE: Block = Block::Generate(Generate {
     priority: 0,
 });
 
+/// A GENERATE of one transaction, at clock 0.
+pub(crate) const LIMITED_TO_1: Block = Block::Generate(Generate {
+    interval: Spread {
+        mean: Operand::Constant(0),
+        half: Operand::Constant(0),
+    },
+    first: None,
+    limit: Some(1),
+    priority: 0,
+});
+
+/// A GENERATE of any number of transactions, all at clock 0.
+pub(crate) const UNBOUNDED: Block = Block::Generate(Generate {
+    interval: Spread {
+        mean: Operand::Constant(0),
+        half: Operand::Constant(0),
+    },
+    first: None,
+    limit: None,
+    priority: 0,
+});
+
 /// A time of this mean and half range.
 pub(crate) fn constant_time(mean: i64, half: i64) -> Spread {
     Spread {
@@ -224,6 +246,30 @@ pub(crate) fn procedure(
         code: Items::from_vec(Vec::from_slice(alloc, code)?),
     })
 }
+
+/// An ADVANCE of this mean and half the range, also in a constant.
+macro_rules! advance {
+    ($mean:expr, $half:expr) => {
+        gw_blocks::Block::Advance(gw_blocks::Spread {
+            mean: gw_blocks::Operand::Constant($mean),
+            half: gw_blocks::Operand::Constant($half),
+        })
+    };
+}
+
+pub(crate) use advance;
+
+/// A SPLIT of so many copies that go to a block, or to the next one, also in a constant.
+macro_rules! split {
+    ($copies:expr, $target:expr) => {
+        gw_blocks::Block::Split(gw_blocks::Split {
+            copies: $copies,
+            target: $target,
+        })
+    };
+}
+
+pub(crate) use split;
 
 /// A LINK to a user chain, at its end or at its front, also in a constant.
 macro_rules! link {

@@ -1,7 +1,7 @@
 //! The verifier: objects of a few blocks, accepted and refused.
 
 use crate::models::*;
-use gw_blocks::{Block, Generate, Operand, Spread};
+use gw_blocks::{Block, Operand, Spread};
 use gw_code::Instruction;
 use gw_object::{Fault, Items, Memory, Object, Parts, Place, TableKind, TableState, read};
 use gw_verify::{Verified, verify};
@@ -18,71 +18,84 @@ fn rows(alloc: Global, owned: &[bool]) -> Result<Vec<Option<TableState>>, Memory
     Ok(states)
 }
 
-/// The weights 1, 2, 3 .. of so many blocks.
-fn weights(alloc: Global, count: usize) -> Result<Vec<u32>, Memory> {
-    let mut weights = Vec::new(alloc);
-    for i in 0..count {
-        weights.push(i.min(8) as u32 + 1)?;
-    }
-    Ok(weights)
-}
-
-/// The parts of these blocks, whose rows own the facility F where `owned` says so, with weights 1, 2, 3 ..
-fn weighted(alloc: Global, blocks: &[Block], owned: &[bool]) -> Result<Parts, Memory> {
+/// The parts of these blocks, whose rows own the facility F where `owned` says so, with each block's weight 1.
+fn owning(alloc: Global, blocks: &[Block], owned: &[bool]) -> Result<Parts, Memory> {
     let states = rows(alloc, owned)?;
     let entities = three_entities(alloc, 3)?;
     let blocks = Vec::from_slice(alloc, blocks)?;
-    let mut parts = parts(alloc, entities, blocks, states)?;
-    parts.weights = Items::from_vec(weights(alloc, owned.len())?);
-    Ok(parts)
+    parts(alloc, entities, blocks, states)
 }
 
-/// The object of these parts.
-fn object(alloc: Global, blocks: &[Block], owned: &[bool]) -> Result<Object, Fail> {
-    built(weighted(alloc, blocks, owned)?)
-}
-
-/// An object of these blocks, accepted.
-fn accepted(alloc: Global, blocks: &[Block], owned: &[bool]) -> Result<Verified, Fail> {
-    let object = object(alloc, blocks, owned)?;
-    match verify(alloc, object) {
+/// An object of these blocks, with these weights, accepted.
+fn accepted(
+    alloc: Global,
+    blocks: &[Block],
+    owned: &[bool],
+    weights: &[u32],
+) -> Result<Verified, Fail> {
+    let mut parts = owning(alloc, blocks, owned)?;
+    parts.weights = Items::from_vec(Vec::from_slice(alloc, weights)?);
+    match verify(alloc, built(parts)?) {
         Ok(verified) => Ok(verified),
         Err(_) => Err(Fail::from("it is accepted")),
     }
 }
 
-/// The fault with which an object of these blocks is refused, where all of its blocks came back.
+/// The fault with which an object of these blocks, each of weight 1, is refused, where all of its blocks came back.
 fn refusal(alloc: Global, blocks: &[Block], owned: &[bool]) -> Result<Option<Fault>, Fail> {
-    let object = object(alloc, blocks, owned)?;
+    let object = built(owning(alloc, blocks, owned)?)?;
     let (back, fault) = verify(alloc, object).err().ok_or("it is refused")?;
     let is_back = back.parts().blocks.as_slice() == blocks;
     Ok(if is_back { Some(fault) } else { None })
 }
 
-/// Which of what an object of four blocks tells is right.
+/// Which of what an object of five blocks tells is right.
 fn tells(verified: Verified) -> [bool; 5] {
     [
-        verified.blocks() == 4,
+        verified.blocks() == 5,
         verified.procedures() == 0,
-        verified.heaviest() == 4,
-        verified.object().parts().blocks.as_slice().len() == 4,
-        verified.into_object().into_parts().blocks.as_slice().len() == 4,
+        verified.heaviest() == 3,
+        verified.object().parts().blocks.as_slice().len() == 5,
+        verified.into_object().into_parts().blocks.as_slice().len() == 5,
     ]
 }
 
 #[test]
 fn an_accepted_object_tells_what_it_has(rt: HostRuntime) -> Result<(), Fail> {
-    const BLOCKS: &[Block] = &[GENERATE, Block::Seize(F), Block::Release(F), TERMINATE];
-    let verified = accepted(rt.alloc(), BLOCKS, &[false, false, true, false])?;
+    const BLOCKS: &[Block] = &[
+        GENERATE,
+        ADVANCE,
+        Block::Seize(F),
+        Block::Release(F),
+        TERMINATE,
+    ];
+    const OWNED: &[bool] = &[false, false, false, true, false];
+    let verified = accepted(rt.alloc(), BLOCKS, OWNED, &[2, 1, 3, 2, 1])?;
     assert!(rt; first_wrong(&tells(verified)).is_none());
     Ok(())
 }
 
 #[test]
 fn no_block_is_accepted_and_weighs_nothing(rt: HostRuntime) -> Result<(), Fail> {
-    let verified = accepted(rt.alloc(), &[], &[])?;
+    let verified = accepted(rt.alloc(), &[], &[], &[])?;
     let are_right = [verified.blocks() == 0, verified.heaviest() == 0];
     assert!(rt; first_wrong(&are_right).is_none());
+    Ok(())
+}
+
+#[test]
+fn weights_that_are_no_certificate_are_refused_and_come_back(rt: HostRuntime) -> Result<(), Fail> {
+    const BLOCKS: &[Block] = &[LIMITED_TO_1, TERMINATE];
+    let found = refusal(rt.alloc(), BLOCKS, &[false; 2])?;
+    assert!(rt; found == at_edge(40, 1, 2));
+    Ok(())
+}
+
+#[test]
+fn flow_of_all_blocks_goes_before_weights(rt: HostRuntime) -> Result<(), Fail> {
+    const BLOCKS: &[Block] = &[UNBOUNDED, Block::Release(F), TERMINATE];
+    let found = refusal(rt.alloc(), BLOCKS, &[false; 3])?;
+    assert!(rt; found == at_block(22, 2));
     Ok(())
 }
 
@@ -118,27 +131,6 @@ fn more_than_a_storage_holds_is_refused(rt: HostRuntime) -> Result<(), Fail> {
     Ok(())
 }
 
-/// A GENERATE of one transaction.
-const LIMITED_TO_1: Block = Block::Generate(Generate {
-    interval: Spread {
-        mean: Operand::Constant(0),
-        half: Operand::Constant(0),
-    },
-    first: None,
-    limit: Some(1),
-    priority: 0,
-});
-
-/// ADVANCE of a time, also in a constant.
-macro_rules! advance {
-    ($mean:expr) => {
-        Block::Advance(Spread {
-            mean: $mean,
-            half: Operand::Constant(0),
-        })
-    };
-}
-
 /// Parameter 1 returns to the blocks of the first return row.
 const RETURNS: Option<Known<'static>> = Some(&[(1, TableKind::Ret(0))]);
 
@@ -151,7 +143,10 @@ macro_rules! called_twice {
             call!(5, 1),
             call!(5, 1),
             TERMINATE,
-            advance!($time),
+            Block::Advance(Spread {
+                mean: $time,
+                half: Operand::Constant(0),
+            }),
             Block::TransferByParameter(1),
         ]
     };
@@ -167,18 +162,23 @@ const CALLED_TWICE: &[Option<Known<'static>>] = &[
     RETURNS,
 ];
 
-/// The fault of an object of these blocks, with rows that know these parameters and with these return rows, if it is
-/// refused.
+/// The weights of two calls: each block pays for the next one on the way of a transaction, until it rests.
+const PAYING: &[u32] = &[3, 2, 2, 1, 1, 3];
+
+/// The fault of an object of these blocks, with rows that know these parameters, with these return rows and with these
+/// weights, if it is refused.
 fn fault_with(
     alloc: Global,
     blocks: &[Block],
     rows: &[Option<Known>],
     returns: Returns,
+    weights: &[u32],
 ) -> Result<Option<Fault>, Fail> {
     let states = states_knowing(alloc, rows)?;
     let blocks = Vec::from_slice(alloc, blocks)?;
     let mut parts = parts(alloc, Vec::new(alloc), blocks, states)?;
     parts.returns = return_rows(alloc, returns)?;
+    parts.weights = Items::from_vec(Vec::from_slice(alloc, weights)?);
     match verify(alloc, built(parts)?) {
         Ok(_) => Ok(None),
         Err((_, fault)) => Ok(Some(fault)),
@@ -188,7 +188,7 @@ fn fault_with(
 #[test]
 fn two_calls_of_a_subroutine_are_accepted(rt: HostRuntime) -> Result<(), Fail> {
     const BLOCKS: &[Block] = called_twice!(Operand::Constant(5));
-    let fault = fault_with(rt.alloc(), BLOCKS, CALLED_TWICE, &[&[2, 3]])?;
+    let fault = fault_with(rt.alloc(), BLOCKS, CALLED_TWICE, &[&[2, 3]], PAYING)?;
     assert!(rt; fault.is_none());
     Ok(())
 }
@@ -196,7 +196,7 @@ fn two_calls_of_a_subroutine_are_accepted(rt: HostRuntime) -> Result<(), Fail> {
 #[test]
 fn a_time_that_is_a_return_is_refused(rt: HostRuntime) -> Result<(), Fail> {
     const BLOCKS: &[Block] = called_twice!(Operand::Parameter(1));
-    let fault = fault_with(rt.alloc(), BLOCKS, CALLED_TWICE, &[&[2, 3]])?;
+    let fault = fault_with(rt.alloc(), BLOCKS, CALLED_TWICE, &[&[2, 3]], PAYING)?;
     assert!(rt; fault == at_block(27, 5));
     Ok(())
 }
@@ -204,7 +204,7 @@ fn a_time_that_is_a_return_is_refused(rt: HostRuntime) -> Result<(), Fail> {
 #[test]
 fn who_was_never_called_may_not_return(rt: HostRuntime) -> Result<(), Fail> {
     const BLOCKS: &[Block] = &[LIMITED_TO_1, Block::TransferByParameter(1)];
-    let fault = fault_with(rt.alloc(), BLOCKS, &[Some(&[]), Some(&[])], &[])?;
+    let fault = fault_with(rt.alloc(), BLOCKS, &[Some(&[]), Some(&[])], &[], &[2, 1])?;
     assert!(rt; fault == at_block(20, 2));
     Ok(())
 }
@@ -213,7 +213,7 @@ fn who_was_never_called_may_not_return(rt: HostRuntime) -> Result<(), Fail> {
 /// without a RET.
 fn parts_with_code(alloc: Global, blocks: &[Block], owned: &[bool]) -> Result<Parts, Memory> {
     let endless = procedure(alloc, (0, 0), &[], &[Instruction::Push(1)])?;
-    let mut parts = weighted(alloc, blocks, owned)?;
+    let mut parts = owning(alloc, blocks, owned)?;
     parts.procedures = Items::from_vec(vec![in alloc; endless]?);
     Ok(parts)
 }

@@ -63,11 +63,14 @@ state_few s h =
     (λ n. omega (arith, h n, at_most_one (is_some (at None s.transactions n))))
     (λ n above. omega (arith, h n, ap (λ o. one_if (is_some o)) (at_past None s.transactions n above)))
 
+-- so in memory
+pub few_reside : (m : Machine) → ResidesOnce (state_of m) → length m.future_events.items + length m.waits.retry ≤ length m.transactions.txs
+few_reside m resides =
+    let events = length-map (map event_of m.future_events.items) (λ e. e.number) ∙ length-map m.future_events.items event_of in
+    omega (arith, state_few (state_of m) resides, events, length-map m.waits.retry member_number)
+
 pub few_move : (bs : List Block) (k : ℕ) (m : Machine) → IsSteady bs k m → length m.future_events.items + length m.waits.retry < 2 ^ 60
 few_move bs k m s =
-    let all = state_few (state_of m) s.linked.resides in
-    let events = length-map (map event_of m.future_events.items) (λ e. e.number) ∙ length-map m.future_events.items event_of in
-    let retry = length-map m.waits.retry member_number in
     let made = s.within.made in
     let few = s.few in
-    omega (arith, all, events, retry, made, few)
+    omega (arith, few_reside m s.linked.resides, made, few)

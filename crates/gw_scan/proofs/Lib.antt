@@ -4,3 +4,4 @@ pub mod Meeting
 pub mod Running
 pub mod FewReside
 pub mod Nowhere
+pub mod Weighing

@@ -6,3 +6,5 @@ pub mod Makes
 -- WHAT A JOB AND A SIM STAND FOR
 pub mod JobView
 pub mod SimView
+-- WHAT A STATE WEIGHS
+pub mod Weighing

@@ -5,9 +5,11 @@ ghost use Rattle.gw_num.specs.Table.{at};
 ghost use Rattle.gw_transactions.specs.Transactions.{here_count};
 ghost use Rattle.gw_step.specs.State.{delay_list, user_chain};
 ghost use Rattle.gw_step.specs.Job.{Alone, IsFinal, start_of};
+ghost use Rattle.gw_step.specs.Weight.{weight};
 
 use crate::scan::step;
 use crate::spec::{Spec, StartFault};
+use crate::weight::certified_weight;
 use gw_chains::Memory;
 use gw_entities::{Facilities, Queues, Savevalues, Stop, Storages, Switches, Tables};
 use gw_machine::Machine;
@@ -99,6 +101,20 @@ impl Sim {
         ensures { result ≡ self.now.state.clock }
     {
         self.machine.clock
+    }
+
+    /// The certified weight of its state: at most so many block entries are still made in this clock moment, by those that
+    /// are live and by the arrivals that GENERATE blocks whose interval may be 0 still owe. It is the sum of the weights of
+    /// the places of all live transactions, but those that are scheduled for later, and of what is owed
+    /// (ours: docs/weights.md). It takes no memory.
+    ///
+    /// It is below 2^74: at most 65,536 are live, at places of 10^9 at most, and each of at most 4,096 blocks owes fewer
+    /// than 2^32 arrivals of 10^9 at most.
+    pub fn weight(&self) -> u128
+        ensures { result ≡ weight self.now.job.parts self.now.state }
+    {
+        let parts = self.spec.verified().object().parts();
+        certified_weight(parts, &self.machine)
     }
 
     /// The steps made, at most the budget.

@@ -1,6 +1,6 @@
 -- Arrivals: what a GENERATE does, and the state before the first step.
 use Rattle.std.proofs.Common.{◌≡◌, ℕ, zero, suc, ◌+◌, ◌≤◌, List, [], ◌∷◌, length, map, Some, None, true, false, pos, ◌≤ℤ◌, refl, sym, ap, ◌∙◌, subst, arith}
-use Rattle.std.specs.Prelude.{slice_get, nat_le, IfSome}
+use Rattle.std.specs.Prelude.{◌<ℤ◌, sum, slice_get, nat_le, IfSome}
 use Rattle.std.proofs.lemmas.List.Elements.{All-nil}
 use Rattle.gw_blocks.specs.declared.parts.Generate.{Generate}
 use Rattle.gw_object.specs.declared.parts.Entity.{Entity}
@@ -38,11 +38,15 @@ use Rattle.gw_step.proofs.Balances.{balanced-nothing}
 use Rattle.gw_step.proofs.Residence.{one_if}
 use Rattle.gw_step.proofs.Agreeing.{IsMissing}
 use Rattle.gw_step.proofs.Traces.{all_as_known, Goes, Arrives, Draws, Trace, Done, Then, trace_on, present, arrived}
-use Rattle.gw_step.proofs.Unstopped.{Safe, safe_bind, safe_if}
+use Rattle.gw_step.proofs.Unstopped.{Safe, safe_bind, safe_if, safe_given}
+use Rattle.gw_step.proofs.Timed.{moment_passes}
+use Rattle.gw_step.proofs.Within.{sum-raised}
+use Rattle.gw_kinds.specs.Exits.{takes_time}
+use Rattle.gw_kinds.specs.declared.ways.Way.TheVariants.{Falls}
 use Rattle.gw_step.proofs.Drawn.{IsSound, IsDrawn, safe_drawn}
 use Rattle.gw_step.proofs.Asked.{interval_read}
 use Rattle.gw_step.proofs.AtBlock.{first_may_be_entered}
-use Rattle.gw_step.proofs.Moving.{Acts, Enters, safe_leads, at_first, the_rule}
+use Rattle.gw_step.proofs.Moving.{Acts, Enters, safe_leads, at_first, the_rule, falls_paid}
 use Rattle.gw_step.proofs.Calling.{some_of}
 use Rattle.gw_step.proofs.PlainBlocks.{by_arrival}
 use Rattle.gw_step.proofs.Attributes.{attributes-past, chain-past}
@@ -52,12 +56,13 @@ use Rattle.gw_step.proofs.Attributes.{attributes-past, chain-past}
 -- the next arrival is scheduled, and the active transaction n, which is t, is as it was
 record Scheduled (p : Parts) (k : ℕ) (s : State) (n : ℕ) (t : Transaction) (after : State) : Type 0 where
   arrivals : ℕ
-  trace : Trace p k (made_in k) s k arrivals after
+  trace : Trace p k (made_in k) 0 s k arrivals 0 after
   few : arrivals ≤ made_in (suc k)
   found : attributes_at n after.transactions ≡ Some t
   free : chain_of (at None after.transactions n) ≡ None
   active : after.lists.active ≡ s.lists.active
   clock : after.clock ≡ s.clock
+  entries : after.entries ≡ s.entries
 
 module _ (p : Parts) (sound : IsSound p) (s : State) (n : ℕ) (t : Transaction) (k : ℕ) (g : Generate) (row : Row) (acts : Acts p s n t (blocks.Generate g) row) where
   empty_row : is_empty row ≡ true
@@ -68,21 +73,23 @@ module _ (p : Parts) (sound : IsSound p) (s : State) (n : ℕ) (t : Transaction)
       safe_if (Scheduled p k s n t) (is_owed g.limit (at 0 s.scheduled t.next)) _ (Gives s)
       (λ owed.
       let env = environment_of_next g.priority s in
-      safe_bind (IsDrawn s.clock s.streams) (Scheduled p k s n t) (drawn_moment p env g.interval s.clock s.streams) _ (safe_drawn p sound env g.interval s.clock s.streams (interval_read p sound.entities t.next g row acts.kinds acts.flow empty_row env))
+      safe_bind (λ d. IsDrawn s.clock s.streams d × (takes_time g.interval.mean g.interval.half ≡ true → s.clock <ℤ d.0)) (Scheduled p k s n t) (drawn_moment p env g.interval s.clock s.streams) _
+      (safe_given (IsDrawn s.clock s.streams) (λ d. takes_time g.interval.mean g.interval.half ≡ true → s.clock <ℤ d.0) (drawn_moment p env g.interval s.clock s.streams) (safe_drawn p sound env g.interval s.clock s.streams (interval_read p sound.entities t.next g row acts.kinds acts.flow empty_row env)) (moment_passes p env g.interval s.clock s.streams))
       (λ d drawn.
       safe_if (Scheduled p k s n t) (nat_le (live_count s.transactions + 1) 65536) (Gives (arrives t.next g.priority d.0 (with_streams d.1 s))) _
       (λ few.
       record {
         arrivals = suc (made_in k);
-        trace = Then (Draws d.1 drawn.keeps) (Then (Arrives t.next g row g.priority d.0 acts.is.block_is acts.is.row_is empty_row drawn.later owed few) Done);
+        trace = Then (Draws d.1 drawn.0.keeps) (Then (Arrives t.next g row g.priority d.0 acts.is.block_is acts.is.row_is empty_row drawn.0.later drawn.1 owed few) Done);
         few = omega arith;
         found = attributes-past s.transactions n t _ acts.is.found;
         free = chain-past s.transactions n t _ acts.is.found ∙ acts.is.free;
         active = refl;
         clock = refl;
+        entries = refl;
       })
       (λ many. tt)))
-      (λ none. record { arrivals = made_in k; trace = Done; few = omega arith; found = acts.is.found; free = acts.is.free; active = refl; clock = refl })
+      (λ none. record { arrivals = made_in k; trace = Done; few = omega arith; found = acts.is.found; free = acts.is.free; active = refl; clock = refl; entries = refl })
 
   pub safe_generate : Safe (Enters p k s n) (generate p n t g s)
   safe_generate =
@@ -93,13 +100,17 @@ module _ (p : Parts) (sound : IsSound p) (s : State) (n : ℕ) (t : Transaction)
       (record {
         entries = suc k;
         arrivals = h.arrivals;
+        borrowed = 0;
+        left = 0;
         trace = trace_on p h.trace
             (Then (Goes n (t.next + 1) t (record t { mark = s.clock }) (blocks.Generate g) row row after.entities
             (record { found = h.found; block_is = acts.is.block_is; row_is = acts.is.row_is; free = h.free }) (record { next = refl; mark = λ clock mark. subst (λ z. pos 0 ≤ℤ z) h.clock clock })
-            (present after.lists n (h.active ∙ acts.active)) (all_as_known row empty_row (parameters_of n after)) (at_first _ []) may (balanced-nothing p n row after.entities)) Done);
+            (present after.lists n (h.active ∙ acts.active)) (all_as_known row empty_row (parameters_of n after)) (at_first _ []) may (balanced-nothing p n row after.entities) (falls_paid p s n t (blocks.Generate g) row acts Falls [] refl 0)) Done);
         may = tt;
+        settles = refl;
         few_entries = omega arith;
         few_arrivals = h.few;
+        grows = omega (arith, sum-raised t.next after.entries, ap (λ (xs : List ℕ). sum xs) h.entries);
       }))
 
 -- THE START

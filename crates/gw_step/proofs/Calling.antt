@@ -31,6 +31,8 @@ use Rattle.gw_step.proofs.Traces.{IsAt, place-free, its_chain, its_parameters, w
 use Rattle.gw_step.proofs.AtBlock.{first_may_be_entered, is_storage, kind_below}
 use Rattle.gw_step.proofs.Operands.{good_units}
 use Rattle.gw_step.proofs.Moving.{at_first, unchanged}
+use Rattle.gw_step.proofs.Paying.{first_paid}
+use Rattle.gw_kinds.specs.declared.ways.Way.TheVariants.{Falls}
 use Rattle.gw_transactions.specs.Transactions.{attributes_at, chain_of}
 use Rattle.gw_step.proofs.Attributes.{bearer_at}
 use Rattle.gw_step.proofs.PlainBlocks.{by_block}
@@ -64,18 +66,18 @@ module _ (p : Parts) (each_block : (b : ℕ) (block : Block) → block_at p.bloc
   -- HAND-OVER
 
   taken_over : (k ar : ℕ) (s : State) → WellTyped p s → (f w : ℕ) (t : Transaction) → f < length p.entities → is_idle (facility f s) ≡ true → 1 ≤ occurrences w (delay_list f s) → attributes_at w s.transactions ≡ Some t → block_at p.blocks t.next ≡ Some (blocks.Seize f)
-      → Trace p (suc k) ar s (suc k) ar (put_facility f (seized w (facility f s)) (enters_and_falls w t (called_from f w s)))
+      → Trace p (suc k) ar 0 s (suc k) ar 0 (put_facility f (seized w (facility f s)) (enters_and_falls w t (called_from f w s)))
   taken_over k ar s ty f w t below idle waits live there =
       let found = is_at s ty w t (blocks.Seize f) live (waiting_free p s.transactions s.lists s.entities ty f w waits) there in
       Then (Called f w waits below)
-      (Then (Goes w (t.next + 1) t t (blocks.Seize f) found.0 (with_facility f found.0) (put_facility f (seized w (facility f s)) s).entities found.1 (unchanged (called_from f w s) t) (called_is_present f w s) (its_parameters p s ty w t (blocks.Seize f) found.0 found.1) (at_first _ []) (first_may_be_entered p t.next _ [] (each_block t.next (blocks.Seize f) there).exits) (balanced-seize p w f found.0 s.entities below idle)) Done)
+      (Then (Goes w (t.next + 1) t t (blocks.Seize f) found.0 (with_facility f found.0) (put_facility f (seized w (facility f s)) s).entities found.1 (unchanged (called_from f w s) t) (called_is_present f w s) (its_parameters p s ty w t (blocks.Seize f) found.0 found.1) (at_first _ []) (first_may_be_entered p t.next _ [] (each_block t.next (blocks.Seize f) there).exits) (balanced-seize p w f found.0 s.entities below idle) (first_paid p t.next (blocks.Seize f) found.0 there found.1.row_is Falls [] refl 0)) Done)
 
-  pub handed_over : (k ar : ℕ) (s : State) → WellTyped p s → (f : ℕ) (ws : List ℕ) → f < length p.entities → is_idle (facility f s) ≡ true → ((m : ℕ) → occurrences m ws ≤ occurrences m (delay_list f s)) → Trace p (suc k) ar s (suc k) ar (hand_over p.blocks f ws s)
+  pub handed_over : (k ar : ℕ) (s : State) → WellTyped p s → (f : ℕ) (ws : List ℕ) → f < length p.entities → is_idle (facility f s) ≡ true → ((m : ℕ) → occurrences m ws ≤ occurrences m (delay_list f s)) → Trace p (suc k) ar 0 s (suc k) ar 0 (hand_over p.blocks f ws s)
   handed_over k ar s ty f [] below idle among = Done
   handed_over k ar s ty f (w ∷ ws) below idle among =
-      by_option (Trace p (suc k) ar s (suc k) ar) (attributes_at w s.transactions) (takes_over p.blocks f w s) s
+      by_option (Trace p (suc k) ar 0 s (suc k) ar 0) (attributes_at w s.transactions) (takes_over p.blocks f w s) s
       (λ t live.
-      choose (Trace p (suc k) ar s (suc k) ar) (is_seize f (block_at p.blocks t.next)) (put_facility f (seized w (facility f s)) (enters_and_falls w t (called_from f w s))) s
+      choose (Trace p (suc k) ar 0 s (suc k) ar 0) (is_seize f (block_at p.blocks t.next)) (put_facility f (seized w (facility f s)) (enters_and_falls w t (called_from f w s))) s
       (λ is. taken_over k ar s ty f w t below idle (omega (arith, among w, same_number w w refl)) live (seize-is f (block_at p.blocks t.next) is))
       (λ not. Done))
       (λ none. Done)
@@ -84,7 +86,7 @@ module _ (p : Parts) (each_block : (b : ℕ) (block : Block) → block_at p.bloc
 
   -- what the walk comes to at the waiter w: nobody else left the delay list
   record Looked (k ar e w : ℕ) (s t : State) : Type 0 where
-    trace : Trace p (suc k) ar s (suc k) ar t
+    trace : Trace p (suc k) ar 0 s (suc k) ar 0 t
     left : (m : ℕ) → occurrences m (delay_list e s) ≤ occurrences m (delay_list e t) + one_if (w == m)
 
   unmoved : (k ar e w : ℕ) (s : State) → Looked k ar e w s s
@@ -100,7 +102,7 @@ module _ (p : Parts) (each_block : (b : ℕ) (block : Block) → block_at p.bloc
       record {
         trace = Then (Called u.entity w waits (kind_below p.entities u.entity (kinds.Storage kind.0) kind.1))
             (Then (Goes w (t.next + 1) t t (blocks.Enter u) found.0 (with_units u.entity (units_of found.0 u.entity + u.number) found.0) (put_storage u.entity (storages.entered u.number (storage u.entity s)) s).entities found.1 (unchanged (called_from u.entity w s) t) (called_is_present u.entity w s) (its_parameters p s ty w t (blocks.Enter u) found.0 found.1) (at_first _ []) (first_may_be_entered p t.next _ [] holds.exits)
-            (balanced-storage p w u.entity (units_of found.0 u.entity + u.number) (storages.entered u.number (storage u.entity s)) found.0 s.entities kind.0 kind.1 refl (omega arith) (λ _. leb-true _ _ free) (omega (arith, (good_units p needed.Storage u holds.entities holds.constants).number)))) Done);
+            (balanced-storage p w u.entity (units_of found.0 u.entity + u.number) (storages.entered u.number (storage u.entity s)) found.0 s.entities kind.0 kind.1 refl (omega arith) (λ _. leb-true _ _ free) (omega (arith, (good_units p needed.Storage u holds.entities holds.constants).number))) (first_paid p t.next (blocks.Enter u) found.0 there found.1.row_is Falls [] refl 0)) Done);
         left = λ m. omega (arith, occurrences-without m w old waits, ap (occurrences m) (at-put [] s.lists.delay_lists u.entity (without w old)));
       }
 
@@ -117,7 +119,7 @@ module _ (p : Parts) (each_block : (b : ℕ) (block : Block) → block_at p.bloc
   looked : (k ar : ℕ) (s : State) → WellTyped p s → (e w : ℕ) → 1 ≤ occurrences w (delay_list e s) → Looked k ar e w s (looked_at p.blocks e w s)
   looked k ar s ty e w waits = by_option (Looked k ar e w s) (attributes_at w s.transactions) (admitted p.blocks e w s) s (λ t live. looked_at_asking k ar s ty e w t waits live) (λ none. unmoved k ar e w s)
 
-  pub admits : (k ar : ℕ) (s : State) → WellTyped p s → (e : ℕ) (ws : List ℕ) → ((m : ℕ) → occurrences m ws ≤ occurrences m (delay_list e s)) → Trace p (suc k) ar s (suc k) ar (admission p.blocks e ws s)
+  pub admits : (k ar : ℕ) (s : State) → WellTyped p s → (e : ℕ) (ws : List ℕ) → ((m : ℕ) → occurrences m ws ≤ occurrences m (delay_list e s)) → Trace p (suc k) ar 0 s (suc k) ar 0 (admission p.blocks e ws s)
   unfolding admission
   admits k ar s ty e [] among = Done
   admits k ar s ty e (w ∷ ws) among =

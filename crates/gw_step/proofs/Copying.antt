@@ -1,6 +1,7 @@
 -- Copies, assembly and priority: what SPLIT, ASSEMBLE, PRIORITY and BUFFER do to a well-typed state is a list of elementary changes, and never an error stop.
 use Rattle.std.proofs.Common.{◌≡◌, ℕ, zero, suc, ◌+◌, ◌-◌, ◌≤◌, ℤ, List, [], ◌∷◌, ◌++◌, length, Option, Some, None, Bool, true, false, not, if◌then◌else◌, ◌==◌, option_map, refl, sym, ap, ◌∙◌, subst, arith, inl, inr, ◌<◌}
-use Rattle.std.specs.Prelude.{nat_le, Contains}
+use Rattle.std.specs.Prelude.{◌*◌, ◌&&◌, nat_le, Contains}
+use Rattle.std.proofs.lemmas.List.Elements.{All-head, All-tail}
 use Rattle.std.specs.Option.{option_map_or}
 use Rattle.std.specs.List.{find}
 use Rattle.std.proofs.lemmas.Bool.{cases_lt, eqb-true, leb-true, le-leb, false≢true, and_parts}
@@ -35,10 +36,17 @@ use Rattle.gw_step.proofs.Outcomes.{choose}
 use Rattle.gw_step.proofs.Owning.{lists-none}
 use Rattle.gw_step.proofs.Attributes.{bearer_at, number_below, attributes-past, written_at}
 use Rattle.gw_step.proofs.Balances.{balanced-nothing}
-use Rattle.gw_step.proofs.Traces.{Becomes, Rested, credited, its_parameters, present, EntersLast, Copied, Assembled, Comes, Trace, Done, Then, entered-live, written-live}
+use Rattle.gw_step.proofs.Traces.{Becomes, Rested, Paid, Settles, credited, its_parameters, present, EntersLast, Copied, Assembled, Comes, Trace, Done, Then}
+use Rattle.gw_step.proofs.Bounds.{entered-live, written-live}
+use Rattle.gw_step.proofs.Paying.{exits_paid}
+use Rattle.gw_step.proofs.Within.{sum-raised}
+use Rattle.gw_step.proofs.Calm.{trace-grows}
+use Rattle.gw_weights.specs.Weights.{weight_at}
+use Rattle.gw_weights.specs.Laws.{PaysExit}
+use Rattle.gw_kinds.specs.declared.ways.Way.TheVariants.{Falls}
 use Rattle.gw_step.proofs.Unstopped.{Safe, safe_test, safe_if}
 use Rattle.gw_step.proofs.AtBlock.{first_may_be_entered, second_may_be_entered}
-use Rattle.gw_step.proofs.Moving.{Acts, has_entered, unchanged, Enters, safe_leads, at_first, at_second, the_rule, goes, owner_as}
+use Rattle.gw_step.proofs.Moving.{Acts, has_entered, unchanged, Enters, safe_leads, at_first, at_second, the_rule, goes, owner_as, falls_paid, last_paid}
 use Rattle.gw_step.proofs.Effects.{owns_none}
 
 -- what isn't at most a number is above it
@@ -71,13 +79,16 @@ copied-live n t target s = omega (arith, written-live s.transactions (length s.t
 
 module _ (p : Parts) (n target b : ℕ) (t u : Transaction) (block : Block) (row state : Row) (mark : t.mark ≡ u.mark) (block_is : block_at p.blocks b ≡ Some block) (row_is : own_row p b ≡ Some row) (along : Contains (edges p (own_table p) b block row) (move target state)) (may : MayBeEntered p target) (facilities : state.facilities ≡ []) (units : state.units ≡ []) where
   -- copies are made one after the other
-  copies_traced : (k en ar : ℕ) (s : State) → IsThere n u state s → live_count s.transactions + k ≤ 65536 → Trace p en ar s en (ar + k) (copies_made k n t target s)
+  copies_traced : (k en ar : ℕ) (s : State) → IsThere n u state s → live_count s.transactions + k ≤ 65536 → Trace p en ar (k * weight_at p.weights target) s en (ar + k) 0 (copies_made k n t target s)
   unfolding copies_made
-  copies_traced zero en ar s is few = let none : ar ≡ ar + 0 = omega arith in subst (λ m. Trace p en ar s en m s) none Done
+  copies_traced zero en ar s is few =
+      let none : ar ≡ ar + 0 = omega arith in
+      let free : 0 ≡ 0 * weight_at p.weights target = omega arith in
+      subst (λ m. Trace p en ar (0 * weight_at p.weights target) s en m 0 s) none (subst (λ c. Trace p en ar c s en ar 0 s) free Done)
   copies_traced (suc k) en ar s is few =
       let one : suc ar + k ≡ ar + suc k = omega arith in
-      subst (λ m. Trace p en ar s en m (copies_made k n t target (copied n t target s))) one
-      (Then (Copied n target b t u block row state is.found mark is.known block_is row_is along may facilities units (omega (arith, few)))
+      subst (λ m. Trace p en ar (suc k * weight_at p.weights target) s en m 0 (copies_made k n t target (copied n t target s))) one
+      (Then (Copied n target b t u block row state is.found mark is.known block_is row_is along may facilities units (omega (arith, few)) (λ weighted. omega arith))
       (copies_traced k en (suc ar) (copied n t target s) (there-still n u t target state s is) (omega (arith, few, copied-live n t target s))))
 
 -- no copies are none
@@ -109,14 +120,18 @@ found-own block set xs a h =
 module _ (p : Parts) (s : State) (n : ℕ) (t : Transaction) (k : ℕ) where
   -- it falls to the next block as u, and is then placed so
   falls_and_rests : (block : Block) (row : Row) → Acts p s n t block row → (u : Transaction) (placement : Placement) → Becomes s t u → Contains (edges p (own_table p) t.next block row) (move (t.next + 1) row) → MayBeEntered p (t.next + 1)
-      → Rested p n placement (entered n u (t.next + 1) s) → credited placement (suc k) ≡ suc k → Enters p k s n (entered n u (t.next + 1) s, placement)
-  falls_and_rests block row acts u placement same along may rested none = record {
+      → Rested p n placement (entered n u (t.next + 1) s) → credited placement (suc k) ≡ suc k → Settles p n placement (entered n u (t.next + 1) s) 0 0 → Paid p (1 + weight_at p.weights (t.next + 1) + 0) (weight_at p.weights t.next + 0) → Enters p k s n (entered n u (t.next + 1) s, placement)
+  falls_and_rests block row acts u placement same along may rested none settles pays = record {
     entries = suc k;
     arrivals = made_in k;
-    trace = Then (goes p s n t block row acts k (made_in k) u (t.next + 1) row s.entities same (λ q. refl) along may (balanced-nothing p n row s.entities)) Done;
+    borrowed = 0;
+    left = 0;
+    trace = Then (goes p s n t block row acts k (made_in k) 0 0 u (t.next + 1) row s.entities same (λ q. refl) along may (balanced-nothing p n row s.entities) pays) Done;
     may = rested;
+    settles = settles;
     few_entries = omega (arith, none);
     few_arrivals = omega arith;
+    grows = omega (arith, sum-raised u.next s.entries);
   }
 
   -- SPLIT
@@ -133,13 +148,20 @@ module _ (p : Parts) (s : State) (n : ℕ) (t : Transaction) (k : ℕ) where
         known = subst (λ o. AreAsKnown (Some (parameters_alone row)) (option_map_or (λ (x : LiveTransaction). x.parameters) o no_parameters)) (sym now) before;
       }
 
+  -- where there are copies, a SPLIT pays for each of them besides
+  copies_paid : (c : Split) (row : Row) → Acts p s n t (blocks.Split c) row → (c.copies == 0) ≡ false → Paid p (1 + weight_at p.weights (t.next + 1) + c.copies * weight_at p.weights (leads_to t.next (goes_or_falls c.target))) (weight_at p.weights t.next + 0)
+  copies_paid c row acts some weighted =
+      let exits = exits_paid p t.next (blocks.Split c) row acts.is.block_is acts.is.row_is weighted in
+      let copies = All-head (PaysExit p t.next) (for_copies c.copies (goes_or_falls c.target)) [] (All-tail (PaysExit p t.next) _ (for_copies c.copies (goes_or_falls c.target) ∷ []) exits) (ap (λ none. not none && true) some) in
+      omega (arith, copies)
+
   splits : (c : Split) (row : Row) (acts : Acts p s n t (blocks.Split c) row) → live_count s.transactions + c.copies ≤ 65536 → MayBeEntered p (t.next + 1) → MayBeEntered p (leads_to t.next (goes_or_falls c.target))
       → Enters p k s n (copies_made c.copies n (record t { current = t.next }) (leads_to t.next (goes_or_falls c.target)) (enters_and_falls n t s), StaysActive)
   splits c row acts few may others =
       let target = leads_to t.next (goes_or_falls c.target) in
       let copy : Transaction = record t { current = t.next } in
       let u = enters_and_falls n t s in
-      let here = falls_and_rests (blocks.Split c) row acts t StaysActive (unchanged s t) (at_first _ _) may tt refl in
+      let here = falls_and_rests (blocks.Split c) row acts t StaysActive (unchanged s t) (at_first _ _) may tt refl refl (falls_paid p s n t (blocks.Split c) row acts Falls _ refl 0) in
       by_number (c.copies == 0) refl here
     where
       by_number : (b : Bool) → (c.copies == 0) ≡ b → Enters p k s n (enters_and_falls n t s, StaysActive) → Enters p k s n (copies_made c.copies n (record t { current = t.next }) (leads_to t.next (goes_or_falls c.target)) (enters_and_falls n t s), StaysActive)
@@ -152,15 +174,20 @@ module _ (p : Parts) (s : State) (n : ℕ) (t : Transaction) (k : ℕ) where
           let target = leads_to t.next (goes_or_falls c.target) in
           let copy : Transaction = record t { current = t.next } in
           let live = entered-live s.transactions n (record t { current = t.next; next = t.next + 1 }) in
+          let gone = goes p s n t (blocks.Split c) row acts k (made_in k) 0 (c.copies * weight_at p.weights target) t (t.next + 1) row s.entities (unchanged s t) (λ q. refl) (at_first _ _) may (balanced-nothing p n row s.entities) (copies_paid c row acts is) in
+          let made = copies_traced p n target t.next copy (record t { current = t.next; next = t.next + 1 }) (blocks.Split c) row (parameters_alone row) refl acts.is.block_is acts.is.row_is
+          (for_them c.copies (move (t.next + 1) row) (move target (parameters_alone row)) is) others refl refl c.copies (suc k) (made_in k) (enters_and_falls n t s) (there-entered (blocks.Split c) row acts) (omega (arith, few, live)) in
           record {
             entries = suc k;
             arrivals = made_in k + c.copies;
-            trace = Then (goes p s n t (blocks.Split c) row acts k (made_in k) t (t.next + 1) row s.entities (unchanged s t) (λ q. refl) (at_first _ _) may (balanced-nothing p n row s.entities))
-                (copies_traced p n target t.next copy (record t { current = t.next; next = t.next + 1 }) (blocks.Split c) row (parameters_alone row) refl acts.is.block_is acts.is.row_is
-                (for_them c.copies (move (t.next + 1) row) (move target (parameters_alone row)) is) others refl refl c.copies (suc k) (made_in k) (enters_and_falls n t s) (there-entered (blocks.Split c) row acts) (omega (arith, few, live)));
+            borrowed = 0;
+            left = 0;
+            trace = Then gone made;
             may = tt;
+            settles = refl;
             few_entries = omega arith;
             few_arrivals = omega (arith, few);
+            grows = omega (arith, sum-raised t.next s.entries, trace-grows p made);
           }
 
   pub safe_split : (c : Split) (row : Row) → Acts p s n t (blocks.Split c) row → Safe (Enters p k s n) (split p.blocks n t c s)
@@ -185,14 +212,14 @@ module _ (p : Parts) (s : State) (n : ℕ) (t : Transaction) (k : ℕ) where
       let v = entered n t t.next s in
       let may : Rested p n LeavesModel v = (acts.active, record { t = last.its; row = row; found = last.found; row_is = last.row_is; none = none }) in
       choose (λ w. Enters p k s n (w, LeavesModel)) (nat_le a.missing 1) (assembled a v) (come_to a v)
-      (λ last. record { entries = suc k; arrivals = made_in k; trace = Then (EntersLast n t (blocks.Assemble size) row acts.is (present s.lists n acts.active)) (Then (Assembled a found) Done); may = may; few_entries = omega arith; few_arrivals = omega arith })
-      (λ more. record { entries = suc k; arrivals = made_in k; trace = Then (EntersLast n t (blocks.Assemble size) row acts.is (present s.lists n acts.active)) (Then (Comes a found (above a.missing 1 more)) Done); may = may; few_entries = omega arith; few_arrivals = omega arith })
+      (λ last. record { entries = suc k; arrivals = made_in k; borrowed = 1; left = 0; settles = last_paid p s n t (blocks.Assemble size) row acts; trace = Then (EntersLast n t (blocks.Assemble size) row acts.is (present s.lists n acts.active) (λ weighted. omega arith)) (Then (Assembled a found) Done); may = may; few_entries = omega arith; few_arrivals = omega arith; grows = omega (arith, sum-raised t.next s.entries) })
+      (λ more. record { entries = suc k; arrivals = made_in k; borrowed = 1; left = 0; settles = last_paid p s n t (blocks.Assemble size) row acts; trace = Then (EntersLast n t (blocks.Assemble size) row acts.is (present s.lists n acts.active) (λ weighted. omega arith)) (Then (Comes a found (above a.missing 1 more)) Done); may = may; few_entries = omega arith; few_arrivals = omega arith; grows = omega (arith, sum-raised t.next s.entries) })
 
   assembles : (size : ℕ) (row : Row) → Acts p s n t (blocks.Assemble size) row → nat_le size 1 ≡ false → (o : Option Assembly) → assembly_at t.next t.set s ≡ o → Safe (Enters p k s n) (assemble_in p.blocks n t size o s)
   assembles size row acts more None is =
       let may = first_may_be_entered p t.next _ [] acts.kinds.exits in
       let some : 1 ≤ size - 1 = omega (arith, above size 1 more) in
-      safe_leads p (Enters p k s n) (t.next + 1) _ may (falls_and_rests (blocks.Assemble size) row acts t (AwaitsSet (record { block = t.next; set = t.set; missing = size - 1 })) (unchanged s t) (at_first _ []) may (acts.active, some) refl)
+      safe_leads p (Enters p k s n) (t.next + 1) _ may (falls_and_rests (blocks.Assemble size) row acts t (AwaitsSet (record { block = t.next; set = t.set; missing = size - 1 })) (unchanged s t) (at_first _ []) may (acts.active, some) refl refl (falls_paid p s n t (blocks.Assemble size) row acts Falls [] refl 0))
   assembles size row acts more (Some a) is =
       let none = the_rule p t.next codes.owns_at_end (length row.facilities == 0) (blocks.Assemble size) row refl acts.flow in
       safe_test (Enters p k s n) (not (owns_any n s.entities.facilities)) OwnsAtEnd _
@@ -203,7 +230,7 @@ module _ (p : Parts) (s : State) (n : ℕ) (t : Transaction) (k : ℕ) where
   safe_assemble size row acts =
       let may = first_may_be_entered p t.next _ [] acts.kinds.exits in
       safe_if (Enters p k s n) (nat_le size 1) _ _
-      (λ alone. safe_leads p (Enters p k s n) (t.next + 1) _ may (falls_and_rests (blocks.Assemble size) row acts t StaysActive (unchanged s t) (at_first _ []) may tt refl))
+      (λ alone. safe_leads p (Enters p k s n) (t.next + 1) _ may (falls_and_rests (blocks.Assemble size) row acts t StaysActive (unchanged s t) (at_first _ []) may tt refl refl (falls_paid p s n t (blocks.Assemble size) row acts Falls [] refl 0)))
       (λ more. assembles size row acts more (assembly_at t.next t.set s) refl)
 
   -- PRIORITY AND BUFFER
@@ -216,11 +243,11 @@ module _ (p : Parts) (s : State) (n : ℕ) (t : Transaction) (k : ℕ) where
       safe_if (Enters p k s n) (is_priority value) _ _
       (λ fits. safe_leads p (Enters p k s n) (t.next + 1) _ may
       (choose (λ placement. Enters p k s n (entered n u (t.next + 1) s, placement)) a.behind RestsBehind RestsAhead
-      (λ behind. falls_and_rests (blocks.Priority a) row acts u RestsBehind same (at_first _ []) may acts.active refl)
-      (λ ahead. falls_and_rests (blocks.Priority a) row acts u RestsAhead same (at_first _ []) may acts.active refl)))
+      (λ behind. falls_and_rests (blocks.Priority a) row acts u RestsBehind same (at_first _ []) may acts.active refl refl (falls_paid p s n t (blocks.Priority a) row acts Falls [] refl 0))
+      (λ ahead. falls_and_rests (blocks.Priority a) row acts u RestsAhead same (at_first _ []) may acts.active refl refl (falls_paid p s n t (blocks.Priority a) row acts Falls [] refl 0))))
       (λ unfit. tt)
 
   pub safe_buffer : (row : Row) → Acts p s n t blocks.Buffer row → Safe (Enters p k s n) (buffer p.blocks n t s)
   safe_buffer row acts =
       let may = first_may_be_entered p t.next _ [] acts.kinds.exits in
-      safe_leads p (Enters p k s n) (t.next + 1) _ may (falls_and_rests blocks.Buffer row acts t RestsBehind (unchanged s t) (at_first _ []) may acts.active refl)
+      safe_leads p (Enters p k s n) (t.next + 1) _ may (falls_and_rests blocks.Buffer row acts t RestsBehind (unchanged s t) (at_first _ []) may acts.active refl refl (falls_paid p s n t blocks.Buffer row acts Falls [] refl 0))

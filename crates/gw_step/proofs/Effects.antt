@@ -1,11 +1,11 @@
 -- What each block does to a well-typed state is a list of elementary changes, and never an error stop.
 use Rattle.std.proofs.Common.{◌≡◌, ◌≢◌, ℕ, suc, ◌+◌, ◌-◌, ◌≤◌, ℤ, pos, ◌+ℤ◌, ◌≤ℤ◌, List, [], ◌∷◌, length, map, Option, Some, None, Result, Ok, Err, Bool, true, false, not, if◌then◌else◌, ◌==◌, ◌||◌, option_map, IsSome, inl, inr, refl, sym, ap, ◌∙◌, subst, arith}
-use Rattle.std.specs.Prelude.{int_lt, nat_le, unwrap_or, is_none, ◌&&◌, All, Contains}
+use Rattle.std.specs.Prelude.{◌<ℤ◌, int_lt, nat_le, unwrap_or, is_none, ◌&&◌, All, Contains}
 use Rattle.std.specs.Option.{option_map_or, option_flatten}
 use Rattle.std.specs.List.{list_any}
 use Rattle.std.proofs.lemmas.Bool.{cases_eq, eq-eqb, ne_eqb, or_left, leb-true, le-leb, false≢true}
 use Rattle.std.proofs.lemmas.Int.{ints}
-use Rattle.std.proofs.lemmas.List.Elements.{Contains-append_left}
+use Rattle.std.proofs.lemmas.List.Elements.{All-head, Contains-append_left}
 use Rattle.gw_blocks.specs.declared.parts.Operand.{Operand}
 use Rattle.gw_blocks.specs.declared.parts.Spread.{Spread}
 use Rattle.gw_blocks.specs.declared.parts.Units.{Units}
@@ -24,9 +24,9 @@ use Rattle.gw_blocks.specs.declared.parts.Block.{Block}
 use Rattle.gw_blocks.specs.declared.parts.Block.TheVariants as blocks
 use Rattle.gw_object.specs.declared.parts.Parts.{Parts}
 use Rattle.gw_kinds.specs.declared.entities.EntityKind.TheVariants as needed
-use Rattle.gw_kinds.specs.declared.ways.Way.TheVariants.{Goes}
+use Rattle.gw_kinds.specs.declared.ways.Way.TheVariants.{Falls, Goes}
 use Rattle.gw_kinds.specs.declared.ways.Exit.{Exit}
-use Rattle.gw_kinds.specs.Exits.{leads_to, at_once, goes_or_falls, falls_or_goes, exits, returns_to, exits_with}
+use Rattle.gw_kinds.specs.Exits.{takes_time, leads_to, at_once, goes_or_falls, falls_or_goes, exits, returns_to, exits_with}
 use Rattle.gw_kinds.specs.Evaluated.{kind_at}
 use Rattle.gw_kinds.specs.Kinds.{block_at, needs}
 use Rattle.gw_kinds.specs.Laws.{MayBeEntered, ReturnsHold, BlockHolds}
@@ -60,7 +60,7 @@ use Rattle.gw_step.specs.Times.{moment_after, parameters_of}
 use Rattle.gw_step.specs.Changes.{entered, assigned, enters_and_falls, facility, storage, queue, switch, savevalue, table, put_facility, put_storage, put_queue, put_switch, put_savevalue, put_table}
 use Rattle.gw_step.specs.Placing.{placed}
 use Rattle.gw_step.specs.Blocks.{has_to_wait, leads, stays, until, advance, hand_over, release, admission, leave, join_queue, depart, transfer, chosen, passes_test, is_so, led_by, put_by, assign, loop, call, block_after, come_back, plus, mark, turned, logic, save, tabulate, terminate, effect, then_placed, meets}
-use Rattle.gw_step.proofs.Outcomes.{choose}
+use Rattle.gw_step.proofs.Outcomes.{choose, on_when}
 use Rattle.gw_step.proofs.Residence.{at-le-sum}
 use Rattle.gw_step.proofs.Owning.{idle-released}
 use Rattle.gw_step.proofs.Drawn.{safe_later}
@@ -69,11 +69,17 @@ use Rattle.gw_step.specs.Typing.{IsAsKnown, promised_units, content_of, awaited,
 use Rattle.gw_step.proofs.Owning.{lists-none}
 use Rattle.gw_step.proofs.Operands.{good_units}
 use Rattle.gw_step.proofs.Balances.{balanced-nothing, balanced-parameters, balanced-switch, balanced-savevalue, balanced-table, balanced-seize, balanced-release, balanced-storage, balanced-queue}
-use Rattle.gw_step.proofs.Traces.{its_place, its_parameters, EntersLast, Counts, Done, Then, change-keeps, present, Rested, credited, its_row}
-use Rattle.gw_step.proofs.Unstopped.{Safe, Any, safe_bind, safe_test, safe_if, safe_found, safe_answered}
+use Rattle.gw_step.proofs.Traces.{its_place, its_parameters, EntersLast, Counts, Done, Then, change-keeps, present, Rested, credited, Paid, Settles, its_row}
+use Rattle.gw_step.proofs.Unstopped.{Safe, Any, safe_bind, safe_test, safe_if, safe_found, safe_answered, safe_given}
 use Rattle.gw_step.proofs.AtBlock.{first_may_be_entered, second_may_be_entered, led_to, named_below, is_storage, is_queue}
-use Rattle.gw_step.proofs.Moving.{Acts, has_entered, unchanged, Reaches, Enters, entered_once, safe_placed, refused, safe_leads, at_first, at_second, the_rule, goes, goes_with, just_goes, owner_as}
+use Rattle.gw_step.proofs.Moving.{Acts, has_entered, unchanged, Reaches, Enters, entered_once, safe_placed, refused, safe_leads, at_first, at_second, the_rule, goes, goes_with, just_goes, owner_as, weighs_next, falls_paid, other_paid, last_paid}
 use Rattle.gw_step.proofs.Returns.{may_come_back}
+use Rattle.gw_step.proofs.Paying.{exits_paid, return_paid}
+use Rattle.gw_step.proofs.Timed.{after_clock}
+use Rattle.gw_step.proofs.Within.{sum-raised}
+use Rattle.gw_step.proofs.Calm.{trace-grows}
+use Rattle.gw_weights.specs.Weights.{weight_at}
+use Rattle.gw_weights.specs.Laws.{PaysExit}
 use Rattle.gw_step.proofs.Calling.{some_of, handed_over, admits}
 use Rattle.gw_step.proofs.Attributes.{bearer_at}
 use Rattle.gw_transactions.specs.Parameters.{no_parameters}
@@ -146,6 +152,17 @@ returns_along b from row (c ∷ bs) there =
           (suc later.0, omega (arith, later.1), later.2)
     ]
 
+-- so does one of its exits
+returns_among : (b : ℕ) (bs : List ℕ) → lists bs b ≡ true → Contains (map returns_to bs) (returns_to b)
+returns_among b [] there = absurd (false≢true there)
+returns_among b (c ∷ bs) there =
+    elim (cases_eq c b) [
+      | inl same ↦ subst (λ k. Contains (map returns_to (c ∷ bs)) (returns_to k)) same (at_first (returns_to c) (map returns_to bs))
+      | inr other ↦
+          let later = returns_among b bs (subst (λ so. (so || lists bs b) ≡ true) (ne_eqb c b other) there) in
+          (suc later.0, omega (arith, later.1), later.2)
+    ]
+
 -- the value of a parameter is read of who is there
 parameter_read : (s : State) (n q : ℕ) (b : LiveTransaction) → at None s.transactions n ≡ Some b → at None (parameters_of n s) q ≡ parameter_at n q s.transactions
 parameter_read s n q b found =
@@ -174,26 +191,50 @@ module _ (p : Parts) (each_block : (b : ℕ) (block : Block) → block_at p.bloc
 
   -- ADVANCE AND THE FACILITIES
 
-  until_rests : (clock moment : ℤ) (m : State) → m.lists.active ≡ Some n → m.clock ≡ clock → clock ≤ℤ moment → Rested p n (until clock moment) m
-  until_rests clock moment m active is later = choose (λ (x : Placement). Rested p n x m) (int_lt clock moment) (RestsUntil moment) StaysActive (λ _. (active, rw is later)) (λ _. tt)
+  until_rests : (clock moment : ℤ) (m : State) → m.lists.active ≡ Some n → m.clock ≡ clock → Rested p n (until clock moment) m
+  until_rests clock moment m active is = choose (λ (x : Placement). Rested p n x m) (int_lt clock moment) (RestsUntil moment) StaysActive (λ later. (active, subst (λ c. c <ℤ moment) (sym is) (omega (arith, ints, later)))) (λ _. tt)
 
   until_credits : (clock moment : ℤ) (en : ℕ) → credited (until clock moment) en ≡ en
   until_credits clock moment en = choose (λ (x : Placement). credited x en ≡ en) (int_lt clock moment) (RestsUntil moment) StaysActive (λ _. refl) (λ _. refl)
 
-  pub safe_advance : (time : Spread) (value : ℤ) (row : Row) → Acts p s n t (blocks.Advance time) row → Safe (Enters p k s n) (advance p.blocks n t value s)
-  safe_advance time value row acts =
-      let may = first_may_be_entered p t.next _ [] acts.kinds.exits in
-      safe_bind (λ moment. s.clock ≤ℤ moment) (Enters p k s n) (moment_after s.clock value) _ (safe_later s.clock value)
-      (λ moment later.
-      safe_leads p (Enters p k s n) (t.next + 1) _ may
-      (record {
-        entries = suc k;
-        arrivals = made_in k;
-        trace = Then (goes p s n t (blocks.Advance time) row acts k (made_in k) t (t.next + 1) row s.entities (unchanged s t) (λ q. refl) (at_first _ []) may (balanced-nothing p n row s.entities)) Done;
-        may = until_rests s.clock moment (enters_and_falls n t s) acts.active refl later;
-        few_entries = omega (arith, until_credits s.clock moment (suc k));
-        few_arrivals = omega arith;
-      }))
+  -- an ADVANCE on which no time has to pass pays for the next block
+  advance_paid : (time : Spread) (row : Row) → Acts p s n t (blocks.Advance time) row → takes_time time.mean time.half ≡ false → Paid p (1 + weight_at p.weights (t.next + 1)) (weight_at p.weights t.next)
+  advance_paid time row acts none weighted = All-head (PaysExit p t.next) _ [] (exits_paid p t.next (blocks.Advance time) row acts.is.block_is acts.is.row_is weighted) (ap not none)
+
+  -- where it stays active or rests until later the transaction gives back what it borrowed
+  advances : (time : Spread) (row : Row) → Acts p s n t (blocks.Advance time) row → (moment : ℤ) → s.clock ≤ℤ moment → (borrowed left : ℕ) → Paid p (1 + weight_at p.weights (t.next + 1) + left) (weight_at p.weights t.next + borrowed)
+      → Settles p n (until s.clock moment) (enters_and_falls n t s) left borrowed → Enters p k s n (enters_and_falls n t s, until s.clock moment)
+  advances time row acts moment later borrowed left pays settles = record {
+    entries = suc k;
+    arrivals = made_in k;
+    borrowed = borrowed;
+    left = left;
+    trace = Then (goes p s n t (blocks.Advance time) row acts k (made_in k) borrowed left t (t.next + 1) row s.entities (unchanged s t) (λ q. refl) (at_first _ []) (first_may_be_entered p t.next _ [] acts.kinds.exits) (balanced-nothing p n row s.entities) pays) Done;
+    may = until_rests s.clock moment (enters_and_falls n t s) acts.active refl;
+    settles = settles;
+    few_entries = omega (arith, until_credits s.clock moment (suc k));
+    few_arrivals = omega arith;
+    grows = omega (arith, sum-raised t.next s.entries);
+  }
+
+  -- a time that is known to pass is paid for by the weight that rests
+  advances_by : (time : Spread) (row : Row) → Acts p s n t (blocks.Advance time) row → (moment : ℤ) → s.clock ≤ℤ moment → (passes : Bool) → takes_time time.mean time.half ≡ passes → (passes ≡ true → s.clock <ℤ moment) → Enters p k s n (enters_and_falls n t s, until s.clock moment)
+  advances_by time row acts moment later false none after =
+      advances time row acts moment later 0 0 (λ weighted. omega (arith, advance_paid time row acts none weighted))
+      (choose (λ (x : Placement). Settles p n x (enters_and_falls n t s) 0 0) (int_lt s.clock moment) (RestsUntil moment) StaysActive (λ _ weighted. omega arith) (λ _. refl))
+  advances_by time row acts moment later true is after =
+      let next = weight_at p.weights (t.next + 1) in
+      let own = weight_at p.weights t.next in
+      advances time row acts moment later (1 + next) own (λ weighted. omega arith)
+      (choose (λ (x : Placement). Settles p n x (enters_and_falls n t s) own (1 + next)) (int_lt s.clock moment) (RestsUntil moment) StaysActive
+      (λ _ weighted. omega (arith, weighs_next p s n t (blocks.Advance time) row acts t (t.next + 1), weighted.least t.next (blocks.Advance time) acts.is.block_is))
+      (λ early. absurd (omega (arith, ints, after refl, early))))
+
+  pub safe_advance : (time : Spread) (value : ℤ) (row : Row) → Acts p s n t (blocks.Advance time) row → (takes_time time.mean time.half ≡ true → pos 0 <ℤ value) → Safe (Enters p k s n) (advance p.blocks n t value s)
+  safe_advance time value row acts tells =
+      safe_bind (λ moment. (s.clock ≤ℤ moment) × (takes_time time.mean time.half ≡ true → s.clock <ℤ moment)) (Enters p k s n) (moment_after s.clock value) _
+      (safe_given (λ moment. s.clock ≤ℤ moment) (λ moment. takes_time time.mean time.half ≡ true → s.clock <ℤ moment) (moment_after s.clock value) (safe_later s.clock value) (on_when (λ moment. s.clock <ℤ moment) (takes_time time.mean time.half) (moment_after s.clock value) (λ known. after_clock s.clock value (tells known))))
+      (λ moment later. safe_leads p (Enters p k s n) (t.next + 1) _ (first_may_be_entered p t.next _ [] acts.kinds.exits) (advances_by time row acts moment later.0 (takes_time time.mean time.half) refl later.1))
 
   pub safe_seize : (f : ℕ) (values : List ℤ) (row : Row) → Acts p s n t (blocks.Seize f) row → Safe (Reaches p k s) (meets p n t (blocks.Seize f) values s)
   unfolding effect
@@ -207,8 +248,8 @@ module _ (p : Parts) (each_block : (b : ℕ) (block : Block) → block_at p.bloc
       n (facility f s) mine
       (λ free.
       safe_placed p k s n _ (safe_leads p (Enters p k s n) (t.next + 1) _ may
-      (just_goes p s n t (blocks.Seize f) row acts k (t.next + 1) (with_facility f row) (put_facility f (seized n (facility f s)) s).entities (λ q. refl) (at_first _ []) may (balanced-seize p n f row s.entities below free))))
-      (refused p k s n (JoinsDelayList f) (acts.active, asks (blocks.Seize f) row acts f refl, below) (omega arith))
+      (just_goes p s n t (blocks.Seize f) row acts k (t.next + 1) (with_facility f row) (put_facility f (seized n (facility f s)) s).entities (λ q. refl) (at_first _ []) may (balanced-seize p n f row s.entities below free) (falls_paid p s n t (blocks.Seize f) row acts Falls [] refl 0))))
+      (refused p k s n (JoinsDelayList f) acts.active tt (acts.active, asks (blocks.Seize f) row acts f refl, below) refl (omega arith))
 
   pub safe_release : (f : ℕ) (row : Row) → Acts p s n t (blocks.Release f) row → Safe (Enters p k s n) (release p.blocks n t f s)
   safe_release f row acts =
@@ -216,10 +257,10 @@ module _ (p : Parts) (each_block : (b : ℕ) (block : Block) → block_at p.bloc
       let below = named_below p.entities (needs needed.Facility f) [] acts.kinds.entities in
       let owned = owner_as p s n t (blocks.Release f) row acts f ∙ the_rule p t.next codes.not_owner (owns row f) (blocks.Release f) row refl acts.flow in
       let u : State = put_facility f (released (facility f s)) (enters_and_falls n t s) in
-      let gone = goes p s n t (blocks.Release f) row acts k (made_in k) t (t.next + 1) (without_facility f row) u.entities (unchanged s t) (λ q. refl) (at_first _ []) may (balanced-release p n f row s.entities below owned) in
+      let gone = goes p s n t (blocks.Release f) row acts k (made_in k) 0 0 t (t.next + 1) (without_facility f row) u.entities (unchanged s t) (λ q. refl) (at_first _ []) may (balanced-release p n f row s.entities below owned) (falls_paid p s n t (blocks.Release f) row acts Falls [] refl 0) in
       safe_leads p (Enters p k s n) (t.next + 1) _ may
       (subst (λ r. Safe (Enters p k s n) (granted r >>= λ x. stays (hand_over p.blocks f (delay_list f s) (put_facility f x.1 (enters_and_falls n t s))))) (sym (released_is n (facility f s) owned))
-      (entered_once p k s n _ (Then gone (handed_over p each_block flow k (made_in k) u (change-keeps p flow gone acts.typed) f (delay_list f s) below (idle-released f (enters_and_falls n t s)) (λ m. omega arith)))))
+      (let handed = handed_over p each_block flow k (made_in k) u (change-keeps p flow gone acts.typed) f (delay_list f s) below (idle-released f (enters_and_falls n t s)) (λ m. omega arith) in entered_once p k s n _ (Then gone handed) (omega (arith, sum-raised t.next s.entries, trace-grows p handed))))
 
   -- STORAGES AND QUEUES
 
@@ -236,8 +277,8 @@ module _ (p : Parts) (each_block : (b : ℕ) (block : Block) → block_at p.bloc
       (λ free.
       safe_placed p k s n _ (safe_leads p (Enters p k s n) (t.next + 1) _ may
       (just_goes p s n t (blocks.Enter u) row acts k (t.next + 1) (with_units u.entity (units_of row u.entity + u.number) row) (put_storage u.entity (storages.entered u.number (storage u.entity s)) s).entities (λ q. refl) (at_first _ []) may
-      (balanced-storage p n u.entity (units_of row u.entity + u.number) (storages.entered u.number (storage u.entity s)) row s.entities kind.0 kind.1 refl (omega arith) (λ _. leb-true _ _ free) (omega (arith, fit.number))))))
-      (refused p k s n (JoinsDelayList u.entity) (acts.active, asks (blocks.Enter u) row acts u.entity refl, fit.entity) (omega arith))
+      (balanced-storage p n u.entity (units_of row u.entity + u.number) (storages.entered u.number (storage u.entity s)) row s.entities kind.0 kind.1 refl (omega arith) (λ _. leb-true _ _ free) (omega (arith, fit.number))) (falls_paid p s n t (blocks.Enter u) row acts Falls [] refl 0))))
+      (refused p k s n (JoinsDelayList u.entity) acts.active tt (acts.active, asks (blocks.Enter u) row acts u.entity refl, fit.entity) refl (omega arith))
 
   -- what a storage holds of the units that a row promises
   held : (u : Units) (row : Row) (kind : Option Kind) (capacity : ℕ) → kind ≡ Some (kinds.Storage capacity) → units_of row u.entity ≤ content_of u.entity s.entities kind → units_of row u.entity ≤ (storage u.entity s).contents.content
@@ -250,11 +291,11 @@ module _ (p : Parts) (each_block : (b : ℕ) (block : Block) → block_at p.bloc
       let enough = leb-true u.number (units_of row u.entity) (the_rule p t.next codes.too_few_units (nat_le u.number (units_of row u.entity)) (blocks.Leave u) row refl acts.flow) in
       let within = held u row (kind_at p.entities u.entity) kind.0 kind.1 (inside (blocks.Leave u) row acts u.entity) in
       let v : State = put_storage u.entity (storages.left u.number (storage u.entity s)) (enters_and_falls n t s) in
-      let gone = goes p s n t (blocks.Leave u) row acts k (made_in k) t (t.next + 1) (with_units u.entity (units_of row u.entity - u.number) row) v.entities (unchanged s t) (λ q. refl) (at_first _ []) may
-      (balanced-storage p n u.entity (units_of row u.entity - u.number) (storages.left u.number (storage u.entity s)) row s.entities kind.0 kind.1 refl (omega (arith, enough, within)) (λ before. omega (arith, before)) (omega arith)) in
+      let gone = goes p s n t (blocks.Leave u) row acts k (made_in k) 0 0 t (t.next + 1) (with_units u.entity (units_of row u.entity - u.number) row) v.entities (unchanged s t) (λ q. refl) (at_first _ []) may
+      (balanced-storage p n u.entity (units_of row u.entity - u.number) (storages.left u.number (storage u.entity s)) row s.entities kind.0 kind.1 refl (omega (arith, enough, within)) (λ before. omega (arith, before)) (omega arith)) (falls_paid p s n t (blocks.Leave u) row acts Falls [] refl 0) in
       safe_leads p (Enters p k s n) (t.next + 1) _ may
       (subst (λ r. Safe (Enters p k s n) (granted r >>= λ x. stays (admission p.blocks u.entity (delay_list u.entity s) (put_storage u.entity x.1 (enters_and_falls n t s))))) (sym (left_is u.number (storage u.entity s) (le-leb u.number (storage u.entity s).contents.content (omega (arith, enough, within)))))
-      (entered_once p k s n _ (Then gone (admits p each_block flow k (made_in k) v (change-keeps p flow gone acts.typed) u.entity (delay_list u.entity s) (λ m. omega arith)))))
+      (let admitted = admits p each_block flow k (made_in k) v (change-keeps p flow gone acts.typed) u.entity (delay_list u.entity s) (λ m. omega arith) in entered_once p k s n _ (Then gone admitted) (omega (arith, sum-raised t.next s.entries, trace-grows p admitted))))
 
   pub safe_join : (u : Units) (row : Row) → Acts p s n t (blocks.Queue u) row → Safe (Enters p k s n) (join_queue p.blocks n t u s)
   safe_join u row acts =
@@ -263,7 +304,7 @@ module _ (p : Parts) (each_block : (b : ℕ) (block : Block) → block_at p.bloc
       let fit = good_units p needed.Queue u acts.kinds.entities acts.kinds.constants in
       safe_leads p (Enters p k s n) (t.next + 1) _ may
       (just_goes p s n t (blocks.Queue u) row acts k (t.next + 1) (with_units u.entity (units_of row u.entity + u.number) row) (put_queue u.entity (joined u.number (queue u.entity s)) s).entities (λ q. refl) (at_first _ []) may
-      (balanced-queue p n u.entity (units_of row u.entity + u.number) (joined u.number (queue u.entity s)) row s.entities kind (omega arith) (omega (arith, fit.number)) (λ h. omega (arith, h))))
+      (balanced-queue p n u.entity (units_of row u.entity + u.number) (joined u.number (queue u.entity s)) row s.entities kind (omega arith) (omega (arith, fit.number)) (λ h. omega (arith, h))) (falls_paid p s n t (blocks.Queue u) row acts Falls [] refl 0))
 
   pub safe_depart : (u : Units) (row : Row) → Acts p s n t (blocks.Depart u) row → Safe (Enters p k s n) (depart p.blocks n t u s)
   safe_depart u row acts =
@@ -274,25 +315,25 @@ module _ (p : Parts) (each_block : (b : ℕ) (block : Block) → block_at p.bloc
       safe_leads p (Enters p k s n) (t.next + 1) _ may
       (subst (λ r. Safe (Enters p k s n) (granted r >>= λ x. stays (put_queue u.entity x.1 (enters_and_falls n t s)))) (sym (departed_is u.number (queue u.entity s) (le-leb u.number (queue u.entity s).content (omega (arith, enough, within)))))
       (just_goes p s n t (blocks.Depart u) row acts k (t.next + 1) (with_units u.entity (units_of row u.entity - u.number) row) (put_queue u.entity (departed u.number (queue u.entity s)) s).entities (λ q. refl) (at_first _ []) may
-      (balanced-queue p n u.entity (units_of row u.entity - u.number) (departed u.number (queue u.entity s)) row s.entities kind (omega (arith, enough, within)) (omega arith) (λ h. omega (arith, h)))))
+      (balanced-queue p n u.entity (units_of row u.entity - u.number) (departed u.number (queue u.entity s)) row s.entities kind (omega (arith, enough, within)) (omega arith) (λ h. omega (arith, h))) (falls_paid p s n t (blocks.Depart u) row acts Falls [] refl 0)))
 
   -- TRANSFERS
 
   -- it goes along one of its edges
-  goes_to : (block : Block) (row : Row) → Acts p s n t block row → (to : ℕ) → Contains (edges p (own_table p) t.next block row) (move to row) → MayBeEntered p to → Safe (Enters p k s n) (transfer p.blocks n t to s)
-  goes_to block row acts to along may = safe_leads p (Enters p k s n) to _ may (just_goes p s n t block row acts k to row s.entities (λ q. refl) along may (balanced-nothing p n row s.entities))
+  goes_to : (block : Block) (row : Row) → Acts p s n t block row → (to : ℕ) → Contains (edges p (own_table p) t.next block row) (move to row) → MayBeEntered p to → Paid p (1 + weight_at p.weights to + 0) (weight_at p.weights t.next + 0) → Safe (Enters p k s n) (transfer p.blocks n t to s)
+  goes_to block row acts to along may pays = safe_leads p (Enters p k s n) to _ may (just_goes p s n t block row acts k to row s.entities (λ q. refl) along may (balanced-nothing p n row s.entities) pays)
 
   pub safe_transfer : (to : ℕ) (row : Row) → Acts p s n t (blocks.Transfer to) row → Safe (Enters p k s n) (transfer p.blocks n t to s)
-  safe_transfer to row acts = goes_to (blocks.Transfer to) row acts to (at_first _ []) (first_may_be_entered p t.next _ [] acts.kinds.exits)
+  safe_transfer to row acts = goes_to (blocks.Transfer to) row acts to (at_first _ []) (first_may_be_entered p t.next _ [] acts.kinds.exits) (falls_paid p s n t (blocks.Transfer to) row acts (Goes to) [] refl 0)
 
   pub safe_fraction : (f : Fraction) (drawn : ℤ) (row : Row) → Acts p s n t (blocks.TransferByFraction f) row → Safe (Enters p k s n) (transfer p.blocks n t (chosen t.next f drawn) s)
   safe_fraction f drawn row acts =
       let others : ℕ = leads_to t.next (goes_or_falls f.otherwise) in
       choose (λ to. Safe (Enters p k s n) (transfer p.blocks n t to s)) (int_lt drawn (pos f.thousandths)) f.target (unwrap_or f.otherwise (t.next + 1))
-      (λ is. goes_to (blocks.TransferByFraction f) row acts f.target (at_second (move others row) _ []) (second_may_be_entered p t.next _ _ [] acts.kinds.exits))
+      (λ is. goes_to (blocks.TransferByFraction f) row acts f.target (at_second (move others row) _ []) (second_may_be_entered p t.next _ _ [] acts.kinds.exits) (other_paid p s n t (blocks.TransferByFraction f) row acts _ (Goes f.target) [] refl 0))
       (λ other.
       subst (λ to. Safe (Enters p k s n) (transfer p.blocks n t to s)) (led_to t.next f.otherwise)
-      (goes_to (blocks.TransferByFraction f) row acts others (at_first _ (move f.target row ∷ [])) (first_may_be_entered p t.next _ (at_once (Goes f.target) ∷ []) acts.kinds.exits)))
+      (goes_to (blocks.TransferByFraction f) row acts others (at_first _ (move f.target row ∷ [])) (first_may_be_entered p t.next _ (at_once (Goes f.target) ∷ []) acts.kinds.exits) (falls_paid p s n t (blocks.TransferByFraction f) row acts (goes_or_falls f.otherwise) _ refl 0)))
 
   -- CONDITIONS
 
@@ -309,38 +350,38 @@ module _ (p : Parts) (each_block : (b : ℕ) (block : Block) → block_at p.bloc
       exits_hold es is = subst (All (λ (exit : Exit). MayBeEntered p (leads_to t.next exit.way))) is acts.kinds.exits
 
       by_case : (o : Option ℕ) (b : Bool) → exits_with (returns_read block row) block ≡ falls_or_goes o → exits block ≡ falls_or_goes o → (is_none o && not b) ≡ false → Safe (Enters p k s n) (transfer p.blocks n t (led_by t.next o b) s)
-      by_case None true ways is passes = goes_to block row acts (t.next + 1) (along _ (t.next + 1) ways (at_first _ [])) (first_may_be_entered p t.next _ [] (exits_hold _ is))
+      by_case None true ways is passes = goes_to block row acts (t.next + 1) (along _ (t.next + 1) ways (at_first _ [])) (first_may_be_entered p t.next _ [] (exits_hold _ is)) (falls_paid p s n t block row acts Falls [] ways 0)
       by_case None false ways is passes = absurd (false≢true (sym passes))
-      by_case (Some c) true ways is passes = goes_to block row acts (t.next + 1) (along _ (t.next + 1) ways (at_first _ (move c row ∷ []))) (first_may_be_entered p t.next _ (at_once (Goes c) ∷ []) (exits_hold _ is))
-      by_case (Some c) false ways is passes = goes_to block row acts c (along _ c ways (at_second (move (t.next + 1) row) _ [])) (second_may_be_entered p t.next _ _ [] (exits_hold _ is))
+      by_case (Some c) true ways is passes = goes_to block row acts (t.next + 1) (along _ (t.next + 1) ways (at_first _ (move c row ∷ []))) (first_may_be_entered p t.next _ (at_once (Goes c) ∷ []) (exits_hold _ is)) (falls_paid p s n t block row acts Falls (at_once (Goes c) ∷ []) ways 0)
+      by_case (Some c) false ways is passes = goes_to block row acts c (along _ c ways (at_second (move (t.next + 1) row) _ [])) (second_may_be_entered p t.next _ _ [] (exits_hold _ is)) (other_paid p s n t block row acts (at_once Falls) (Goes c) [] ways 0)
 
   pub safe_comparison : (test : Test) (values : List ℤ) (row : Row) → Acts p s n t (blocks.Test test) row → Safe (Reaches p k s) (meets p n t (blocks.Test test) values s)
   unfolding effect
   safe_comparison test values row acts =
       safe_if (Reaches p k s) (is_none test.otherwise && not (passes_test test values)) _ _
-      (λ false. refused p k s n JoinsRetryList acts.active (omega arith))
+      (λ false. refused p k s n JoinsRetryList acts.active tt acts.active refl (omega arith))
       (λ passes. safe_placed p k s n _ (led (blocks.Test test) row acts refl test.otherwise refl refl (passes_test test values) passes))
 
   pub safe_gate : (gate : Gate) (values : List ℤ) (row : Row) → Acts p s n t (blocks.Gate gate) row → Safe (Reaches p k s) (meets p n t (blocks.Gate gate) values s)
   unfolding effect
   safe_gate gate values row acts =
       safe_if (Reaches p k s) (is_none gate.otherwise && not (is_so gate.condition gate.entity s)) _ _
-      (λ false. refused p k s n JoinsRetryList acts.active (omega arith))
+      (λ false. refused p k s n JoinsRetryList acts.active tt acts.active refl (omega arith))
       (λ passes. safe_placed p k s n _ (led (blocks.Gate gate) row acts refl gate.otherwise refl refl (is_so gate.condition gate.entity s) passes))
 
   -- PARAMETERS
 
   -- a parameter of it is set, and it goes along an edge of its block, where all other parameters are what they were
   with_assigned : (block : Block) (row state : Row) → Acts p s n t block row → (q : ℕ) (value : ℤ) (to : ℕ) → Contains (edges p (own_table p) t.next block row) (move to state) → MayBeEntered p to
-      → IsAsKnown (kind_of state q) (Some value) → ((r : ℕ) → r ≢ q → kind_of state r ≡ kind_of row r) → state.facilities ≡ row.facilities → state.units ≡ row.units → Enters p k s n (entered n t to (assigned n q value s), StaysActive)
-  with_assigned block row state acts q value to along may here others facilities units =
-      entered_once p k s n _ (Then (goes_with p s n t block row acts k (made_in k) to state q value here others along may (balanced-parameters p n row state s.entities facilities units)) Done)
+      → IsAsKnown (kind_of state q) (Some value) → ((r : ℕ) → r ≢ q → kind_of state r ≡ kind_of row r) → state.facilities ≡ row.facilities → state.units ≡ row.units → Paid p (1 + weight_at p.weights to + 0) (weight_at p.weights t.next + 0) → Enters p k s n (entered n t to (assigned n q value s), StaysActive)
+  with_assigned block row state acts q value to along may here others facilities units pays =
+      entered_once p k s n _ (Then (goes_with p s n t block row acts k (made_in k) to state q value here others along may (balanced-parameters p n row state s.entities facilities units) pays) Done) (omega (arith, sum-raised t.next s.entries))
 
   -- and is known to be what it is set to
   sets : (block : Block) (row : Row) → Acts p s n t block row → (q : ℕ) (kind : ParamKind) (value : ℤ) (to : ℕ) → Contains (edges p (own_table p) t.next block row) (move to (with_parameter q kind row)) → MayBeEntered p to
-      → IsAsKnown (Some kind) (Some value) → Enters p k s n (entered n t to (assigned n q value s), StaysActive)
-  sets block row acts q kind value to along may is =
-      with_assigned block row (with_parameter q kind row) acts q value to along may (value_as (Some value) (Some kind) _ (kind_of_set q kind row) is) (λ r other. kind_of_other q r kind row (λ same. other (sym same))) refl refl
+      → IsAsKnown (Some kind) (Some value) → Paid p (1 + weight_at p.weights to + 0) (weight_at p.weights t.next + 0) → Enters p k s n (entered n t to (assigned n q value s), StaysActive)
+  sets block row acts q kind value to along may is pays =
+      with_assigned block row (with_parameter q kind row) acts q value to along may (value_as (Some value) (Some kind) _ (kind_of_set q kind row) is) (λ r other. kind_of_other q r kind row (λ same. other (sym same))) refl refl pays
 
   -- the value of a parameter that its row knows something of
   known_value : (block : Block) (row : Row) → Acts p s n t block row → (q : ℕ) (kind : ParamKind) → kind_of row q ≡ Some kind → IsAsKnown (Some kind) (parameter_at n q s.transactions)
@@ -352,7 +393,7 @@ module _ (p : Parts) (each_block : (b : ℕ) (block : Block) → block_at p.bloc
   safe_assign a value row acts =
       let may = first_may_be_entered p t.next _ [] acts.kinds.exits in
       safe_bind Any (Enters p k s n) (evaluated (answered (put_by a.mode (unwrap_or (parameter_at n a.parameter s.transactions) (pos 0)) value))) _ (safe_answered _)
-      (λ new _. safe_leads p (Enters p k s n) (t.next + 1) _ may (sets (blocks.Assign a) row acts a.parameter Num new (t.next + 1) (at_first _ []) may tt))
+      (λ new _. safe_leads p (Enters p k s n) (t.next + 1) _ may (sets (blocks.Assign a) row acts a.parameter Num new (t.next + 1) (at_first _ []) may tt (falls_paid p s n t (blocks.Assign a) row acts Falls [] refl 0)))
 
   pub safe_loop : (l : Loop) (row : Row) → Acts p s n t (blocks.Loop l) row → Safe (Enters p k s n) (loop p.blocks n t l s)
   safe_loop l row acts =
@@ -365,19 +406,19 @@ module _ (p : Parts) (each_block : (b : ℕ) (block : Block) → block_at p.bloc
       choose (λ to. Safe (Enters p k s n) (leads p.blocks to (stays (entered n t to (assigned n l.parameter left s))))) (int_lt (pos 0) left) l.target (t.next + 1)
       (λ above.
       let may = second_may_be_entered p t.next _ _ [] acts.kinds.exits in
-      safe_leads p (Enters p k s n) l.target _ may (with_assigned (blocks.Loop l) row row acts l.parameter left l.target (at_second (move (t.next + 1) row) _ []) may here (λ r other. refl) refl refl))
+      safe_leads p (Enters p k s n) l.target _ may (with_assigned (blocks.Loop l) row row acts l.parameter left l.target (at_second (move (t.next + 1) row) _ []) may here (λ r other. refl) refl refl (other_paid p s n t (blocks.Loop l) row acts _ (Goes l.target) [] refl 0)))
       (λ falls.
       let may = first_may_be_entered p t.next _ (at_once (Goes l.target) ∷ []) acts.kinds.exits in
-      safe_leads p (Enters p k s n) (t.next + 1) _ may (with_assigned (blocks.Loop l) row row acts l.parameter left (t.next + 1) (at_first _ (move l.target row ∷ [])) may here (λ r other. refl) refl refl))))
+      safe_leads p (Enters p k s n) (t.next + 1) _ may (with_assigned (blocks.Loop l) row row acts l.parameter left (t.next + 1) (at_first _ (move l.target row ∷ [])) may here (λ r other. refl) refl refl (falls_paid p s n t (blocks.Loop l) row acts Falls _ refl 0)))))
 
   pub safe_mark : (o : Option ℕ) (row : Row) → Acts p s n t (blocks.Mark o) row → Safe (Enters p k s n) (mark p.blocks n t o s)
   safe_mark None row acts =
       let may = first_may_be_entered p t.next _ [] acts.kinds.exits in
       safe_leads p (Enters p k s n) (t.next + 1) _ may
-      (entered_once p k s n _ (Then (goes p s n t (blocks.Mark None) row acts k (made_in k) (record t { mark = s.clock }) (t.next + 1) row s.entities (record { next = refl; mark = λ clock mark. clock }) (λ q. refl) (at_first _ []) may (balanced-nothing p n row s.entities)) Done))
+      (entered_once p k s n _ (Then (goes p s n t (blocks.Mark None) row acts k (made_in k) 0 0 (record t { mark = s.clock }) (t.next + 1) row s.entities (record { next = refl; mark = λ clock mark. clock }) (λ q. refl) (at_first _ []) may (balanced-nothing p n row s.entities) (falls_paid p s n t (blocks.Mark None) row acts Falls [] refl 0)) Done) (omega (arith, sum-raised t.next s.entries)))
   safe_mark (Some q) row acts =
       let may = first_may_be_entered p t.next _ [] acts.kinds.exits in
-      safe_leads p (Enters p k s n) (t.next + 1) _ may (sets (blocks.Mark (Some q)) row acts q Num s.clock (t.next + 1) (at_first _ []) may tt)
+      safe_leads p (Enters p k s n) (t.next + 1) _ may (sets (blocks.Mark (Some q)) row acts q Num s.clock (t.next + 1) (at_first _ []) may tt (falls_paid p s n t (blocks.Mark (Some q)) row acts Falls [] refl 0))
 
   -- the block PLUS, by the operand that it evaluates and the parameter that it sets, if it sets one
   abbrev plus_block : Operand → Option ℕ → Block
@@ -386,10 +427,10 @@ module _ (p : Parts) (each_block : (b : ℕ) (block : Block) → block_at p.bloc
   safe_plus_by : (operand : Operand) (o : Option ℕ) (value : ℤ) (row : Row) → Acts p s n t (plus_block operand o) row → Safe (Enters p k s n) (plus p.blocks n t o value s)
   safe_plus_by operand None value row acts =
       let may = first_may_be_entered p t.next _ [] acts.kinds.exits in
-      safe_leads p (Enters p k s n) (t.next + 1) _ may (just_goes p s n t (plus_block operand None) row acts k (t.next + 1) row s.entities (λ q. refl) (at_first _ []) may (balanced-nothing p n row s.entities))
+      safe_leads p (Enters p k s n) (t.next + 1) _ may (just_goes p s n t (plus_block operand None) row acts k (t.next + 1) row s.entities (λ q. refl) (at_first _ []) may (balanced-nothing p n row s.entities) (falls_paid p s n t (plus_block operand None) row acts Falls [] refl 0))
   safe_plus_by operand (Some q) value row acts =
       let may = first_may_be_entered p t.next _ [] acts.kinds.exits in
-      safe_leads p (Enters p k s n) (t.next + 1) _ may (sets (plus_block operand (Some q)) row acts q Num value (t.next + 1) (at_first _ []) may tt)
+      safe_leads p (Enters p k s n) (t.next + 1) _ may (sets (plus_block operand (Some q)) row acts q Num value (t.next + 1) (at_first _ []) may tt (falls_paid p s n t (plus_block operand (Some q)) row acts Falls [] refl 0))
 
   pub safe_plus : (a : Plus) (value : ℤ) (row : Row) → Acts p s n t (blocks.Plus a) row → Safe (Enters p k s n) (plus p.blocks n t a.parameter value s)
   safe_plus a value row acts = safe_plus_by a.value a.parameter value row acts
@@ -400,7 +441,7 @@ module _ (p : Parts) (each_block : (b : ℕ) (block : Block) → block_at p.bloc
   safe_call c row acts =
       let may = first_may_be_entered p t.next _ [] acts.kinds.exits in
       safe_leads p (Enters p k s n) c.target _ may
-      (sets (blocks.TransferToSubroutine c) row acts c.parameter (Ret (t.next ∷ [])) (pos t.next) c.target (at_first _ []) may (t.next, or_left (t.next == t.next) false (eq-eqb t.next t.next refl), refl))
+      (sets (blocks.TransferToSubroutine c) row acts c.parameter (Ret (t.next ∷ [])) (pos t.next) c.target (at_first _ []) may (t.next, or_left (t.next == t.next) false (eq-eqb t.next t.next refl), refl) (falls_paid p s n t (blocks.TransferToSubroutine c) row acts (Goes c.target) [] refl 0))
 
   -- its parameter holds a return, and it goes along the edge of that one
   pub safe_come_back : All (ReturnsHold p) p.returns → (q : ℕ) (row : Row) → Acts p s n t (blocks.TransferByParameter q) row → Safe (Enters p k s n) (come_back p.blocks n t q s)
@@ -413,7 +454,8 @@ module _ (p : Parts) (each_block : (b : ℕ) (block : Block) → block_at p.bloc
       (subst (λ (o : Option ParamKind). Contains (edges_along t.next (map returns_to (return_blocks o)) row) (move (held.0 + 1) row)) (sym kind.1) (returns_along held.0 t.next row kind.0 held.1)) in
       safe_found (Enters p k s n) (parameter_at n q s.transactions) UnsetParam (pos held.0) _ held.2
       (subst (λ to. Safe (Enters p k s n) (transfer p.blocks n t to s)) (sym (after_it held.0))
-      (goes_to block row acts (held.0 + 1) along (may_come_back p each_block each_return t.next q held.0 row kind.0 acts.is.row_is kind.1 held.1)))
+      (goes_to block row acts (held.0 + 1) along (may_come_back p each_block each_return t.next q held.0 row kind.0 acts.is.row_is kind.1 held.1)
+      (return_paid p t.next block row acts.is.block_is acts.is.row_is held.0 (subst (λ (o : Option ParamKind). Contains (map returns_to (return_blocks o)) (returns_to held.0)) (sym kind.1) (returns_among held.0 kind.0 held.1)) 0)))
 
   -- LOGIC SWITCHES, SAVEVALUES AND TABLES
 
@@ -423,7 +465,7 @@ module _ (p : Parts) (each_block : (b : ℕ) (block : Block) → block_at p.bloc
       let below = named_below p.entities (needs needed.Switch l.switch) [] acts.kinds.entities in
       safe_leads p (Enters p k s n) (t.next + 1) _ may
       (just_goes p s n t (blocks.Logic l) row acts k (t.next + 1) row (put_switch l.switch (turned l.action (switch l.switch s)) s).entities (λ q. refl) (at_first _ []) may
-      (balanced-switch p n l.switch (turned l.action (switch l.switch s)) row s.entities below))
+      (balanced-switch p n l.switch (turned l.action (switch l.switch s)) row s.entities below) (falls_paid p s n t (blocks.Logic l) row acts Falls [] refl 0))
 
   pub safe_save : (a : Save) (value : ℤ) (row : Row) → Acts p s n t (blocks.Savevalue a) row → Safe (Enters p k s n) (save p.blocks n t a value s)
   safe_save a value row acts =
@@ -432,7 +474,7 @@ module _ (p : Parts) (each_block : (b : ℕ) (block : Block) → block_at p.bloc
       safe_bind Any (Enters p k s n) (evaluated (answered (put_by a.mode (savevalue a.savevalue s) value))) _ (safe_answered _)
       (λ new _.
       safe_leads p (Enters p k s n) (t.next + 1) _ may
-      (just_goes p s n t (blocks.Savevalue a) row acts k (t.next + 1) row (put_savevalue a.savevalue new s).entities (λ q. refl) (at_first _ []) may (balanced-savevalue p n a.savevalue new row s.entities below)))
+      (just_goes p s n t (blocks.Savevalue a) row acts k (t.next + 1) row (put_savevalue a.savevalue new s).entities (λ q. refl) (at_first _ []) may (balanced-savevalue p n a.savevalue new row s.entities below) (falls_paid p s n t (blocks.Savevalue a) row acts Falls [] refl 0)))
 
   pub safe_tabulate : (e : ℕ) (value : ℤ) (row : Row) → Acts p s n t (blocks.Tabulate e) row → Safe (Enters p k s n) (tabulate p.blocks n t e value s)
   safe_tabulate e value row acts =
@@ -441,7 +483,7 @@ module _ (p : Parts) (each_block : (b : ℕ) (block : Block) → block_at p.bloc
       safe_bind (λ (new : Tabulation). new.count ≤ (table e s).count + 1) (Enters p k s n) (evaluated (answered (tabulating value (table e s)))) _ (counts_once value (table e s))
       (λ new more.
       safe_leads p (Enters p k s n) (t.next + 1) _ may
-      (just_goes p s n t (blocks.Tabulate e) row acts k (t.next + 1) row (put_table e new s).entities (λ q. refl) (at_first _ []) may (balanced-table p n e new row s.entities below more)))
+      (just_goes p s n t (blocks.Tabulate e) row acts k (t.next + 1) row (put_table e new s).entities (λ q. refl) (at_first _ []) may (balanced-table p n e new row s.entities below more) (falls_paid p s n t (blocks.Tabulate e) row acts Falls [] refl 0)))
 
   -- TERMINATE
 
@@ -457,8 +499,12 @@ module _ (p : Parts) (each_block : (b : ℕ) (block : Block) → block_at p.bloc
       (record {
         entries = suc k;
         arrivals = made_in k;
-        trace = Then (EntersLast n t (blocks.Terminate by) row acts.is (present s.lists n acts.active)) (Then (Counts value) Done);
+        borrowed = 1;
+        left = 0;
+        trace = Then (EntersLast n t (blocks.Terminate by) row acts.is (present s.lists n acts.active) (λ weighted. omega arith)) (Then (Counts value) Done);
         may = (acts.active, record { t = last.its; row = row; found = last.found; row_is = last.row_is; none = none });
+        settles = last_paid p s n t (blocks.Terminate by) row acts;
         few_entries = omega arith;
         few_arrivals = omega arith;
+        grows = omega (arith, sum-raised t.next s.entries);
       }))

@@ -1,6 +1,6 @@
 -- The active transaction at its block, and where it goes.
-use Rattle.std.proofs.Common.{◌≡◌, ◌≢◌, ℕ, suc, ◌≤◌, ℤ, List, [], ◌∷◌, Option, Some, None, Bool, true, false, not, refl, sym, ap, ◌∙◌, subst, arith}
-use Rattle.std.specs.Prelude.{IsSomeAnd, Contains, All}
+use Rattle.std.proofs.Common.{◌≡◌, ◌≢◌, ℕ, suc, ◌+◌, ◌≤◌, ℤ, List, [], ◌∷◌, Option, Some, None, Bool, true, false, not, refl, sym, ap, ◌∙◌, subst, arith}
+use Rattle.std.specs.Prelude.{sum, IsSomeAnd, Contains, All}
 use Rattle.std.proofs.lemmas.List.Elements.{All-head}
 use Rattle.gw_blocks.specs.declared.parts.Block.{Block}
 use Rattle.gw_object.specs.declared.parts.Parts.{Parts}
@@ -30,8 +30,18 @@ use Rattle.gw_transactions.specs.Transactions.{LiveTransaction, with_attributes}
 use Rattle.gw_step.specs.Places.{place}
 use Rattle.gw_step.proofs.Attributes.{bearer_at, written_at}
 use Rattle.gw_step.proofs.Agreeing.{Balanced}
-use Rattle.gw_step.proofs.Traces.{IsAt, place-free, its_chain, Becomes, its_parameters, present, Rested, credited, Change, Goes, GoesWith, Trace, Done, Then, trace_on, placed_traced, its_row}
+use Rattle.gw_step.proofs.Traces.{IsAt, place-free, its_chain, Becomes, its_parameters, present, Rested, Paid, Settles, credited, Change, Goes, GoesWith, Trace, Done, Then, trace_on, placed_traced, its_row}
+use Rattle.gw_step.proofs.Within.{sum-raised}
+use Rattle.gw_step.proofs.Calm.{Moves, MakesEntry, Calms, Refuses, refused_calms, placed_grows}
 use Rattle.gw_step.proofs.Unstopped.{Safe, safe_bind, safe_test}
+use Rattle.gw_step.proofs.Paying.{weight_there, first_paid, second_paid}
+use Rattle.gw_step.specs.Weight.{weight_in}
+use Rattle.gw_weights.specs.Weights.{weight_at}
+use Rattle.gw_kinds.specs.declared.ways.Way.{Way}
+use Rattle.gw_kinds.specs.declared.ways.Exit.{Exit}
+use Rattle.gw_kinds.specs.Exits.{leads_to, at_once, exits_with}
+use Rattle.gw_flow.specs.Blocks.{returns_read}
+use Rattle.gw_flow.specs.declared.edges.Target.TheVariants as targets
 
 -- the active transaction of a well-typed state is at a block, in a row, and what kinds and flow say of the two
 pub record Acts (p : Parts) (s : State) (n : ℕ) (t : Transaction) (block : Block) (row : Row) : Type 0 where
@@ -66,22 +76,30 @@ the_rule p b code holds block row is pass =
 pub record Reaches (p : Parts) (k : ℕ) (s t : State) : Type 0 where
   pub entries : ℕ
   pub arrivals : ℕ
-  pub trace : Trace p k (made_in k) s entries arrivals t
+  -- a credit that is given back
+  pub borrowed : ℕ
+  pub trace : Trace p k (made_in k) borrowed s entries arrivals borrowed t
   pub few_entries : entries ≤ suc k
   pub few_arrivals : arrivals ≤ made_in (suc k)
+  pub moves : Moves s t
 
 -- what entering comes to, and that the active transaction n may then be placed so
 pub record Enters (p : Parts) (k : ℕ) (s : State) (n : ℕ) (e : State × Placement) : Type 0 where
   pub entries : ℕ
   pub arrivals : ℕ
-  pub trace : Trace p k (made_in k) s entries arrivals e.0
+  -- a credit, and what is left of it; with the placement it is given back
+  pub borrowed : ℕ
+  pub left : ℕ
+  pub trace : Trace p k (made_in k) borrowed s entries arrivals left e.0
   pub may : Rested p n e.1 e.0
+  pub settles : Settles p n e.1 e.0 left borrowed
   pub few_entries : credited e.1 entries ≤ suc k
   pub few_arrivals : arrivals ≤ made_in (suc k)
+  pub grows : sum s.entries + 1 ≤ sum e.0.entries
 
 -- it entered, and stays active
-pub entered_once : (p : Parts) (k : ℕ) (s : State) (n : ℕ) (t : State) → Trace p k (made_in k) s (suc k) (made_in k) t → Enters p k s n (t, StaysActive)
-entered_once p k s n t xs = record { entries = suc k; arrivals = made_in k; trace = xs; may = tt; few_entries = omega arith; few_arrivals = omega arith }
+pub entered_once : (p : Parts) (k : ℕ) (s : State) (n : ℕ) (t : State) → Trace p k (made_in k) 0 s (suc k) (made_in k) 0 t → sum s.entries + 1 ≤ sum t.entries → Enters p k s n (t, StaysActive)
+entered_once p k s n t xs grows = record { entries = suc k; arrivals = made_in k; borrowed = 0; left = 0; trace = xs; may = tt; settles = refl; few_entries = omega arith; few_arrivals = omega arith; grows = grows }
 
 -- then it is placed
 pub safe_placed : (p : Parts) (k : ℕ) (s : State) (n : ℕ) (o : Outcome (State × Placement)) → Safe (Enters p k s n) o → Safe (Reaches p k s) (then_placed n o)
@@ -90,14 +108,16 @@ safe_placed p k s n o h =
     (λ e x. record {
       entries = credited e.1 x.entries;
       arrivals = x.arrivals;
-      trace = trace_on p x.trace (placed_traced p x.entries x.arrivals n e.1 e.0 x.may);
+      borrowed = x.borrowed;
+      trace = trace_on p x.trace (placed_traced p x.entries x.arrivals x.left x.borrowed n e.1 e.0 x.may x.settles);
       few_entries = x.few_entries;
       few_arrivals = x.few_arrivals;
+      moves = MakesEntry (placed_grows n e.1 s e.0 x.grows);
     })
 
 -- it was refused
-pub refused : (p : Parts) (k : ℕ) (s : State) (n : ℕ) (placement : Placement) → Rested p n placement s → credited placement k ≤ suc k → Reaches p k s (placed n placement s)
-refused p k s n placement may few = record { entries = credited placement k; arrivals = made_in k; trace = placed_traced p k (made_in k) n placement s may; few_entries = few; few_arrivals = omega arith }
+pub refused : (p : Parts) (k : ℕ) (s : State) (n : ℕ) (placement : Placement) → s.lists.active ≡ Some n → Refuses placement → Rested p n placement s → Settles p n placement s 0 0 → credited placement k ≤ suc k → Reaches p k s (placed n placement s)
+refused p k s n placement active refuses may settles few = record { entries = credited placement k; arrivals = made_in k; borrowed = 0; trace = placed_traced p k (made_in k) 0 0 n placement s may settles; few_entries = few; few_arrivals = omega arith; moves = Calms (λ same few. refused_calms n s active placement refuses) }
 
 -- it enters its block as it is
 pub unchanged : (s : State) (t : Transaction) → Becomes s t t
@@ -107,6 +127,7 @@ unchanged s t = record { next = refl; mark = λ clock mark. mark }
 pub record HasEntered (p : Parts) (s : State) (n : ℕ) (t : Transaction) (row : Row) : Type 0 where
   pub its : LiveTransaction
   pub found : at None (entered n t t.next s).transactions n ≡ Some its
+  pub place_is : place its ≡ targets.Block t.next
   pub row_is : own_table p (place its) ≡ Some row
 
 -- a state knows of each parameter what a row knows of it
@@ -119,20 +140,20 @@ module _ (p : Parts) (s : State) (n : ℕ) (t : Transaction) (block : Block) (ro
   as_before state q same = subst (λ kind. IsAsKnown kind (at None (parameters_of n s) q)) (sym same) (its_parameters p s acts.typed n t block row acts.is q)
 
   -- it goes along an edge
-  pub goes : (en ar : ℕ) (u : Transaction) (to : ℕ) (state : Row) (h : EntityStates) → Becomes s t u → Knows row state → Contains (edges p (own_table p) t.next block row) (move to state) → MayBeEntered p to → Balanced p n (Some row) (Some state) s.entities h
-      → Change p en ar s (suc en) ar (record (entered n u to s) { entities = h })
-  goes en ar u to state h same known along may balance = Goes n to t u block row state h acts.is same (present s.lists n acts.active) (λ q. as_before state q (known q)) along may balance
+  pub goes : (en ar c d : ℕ) (u : Transaction) (to : ℕ) (state : Row) (h : EntityStates) → Becomes s t u → Knows row state → Contains (edges p (own_table p) t.next block row) (move to state) → MayBeEntered p to → Balanced p n (Some row) (Some state) s.entities h
+      → Paid p (1 + weight_at p.weights to + d) (weight_at p.weights t.next + c) → Change p en ar c s (suc en) ar d (record (entered n u to s) { entities = h })
+  goes en ar c d u to state h same known along may balance pays = Goes n to t u block row state h acts.is same (present s.lists n acts.active) (λ q. as_before state q (known q)) along may balance pays
 
   -- it goes along an edge with a parameter that is set: of this one the edge's state knows what it is set to, and of each other one what the row knows of it
   pub goes_with : (en ar : ℕ) (to : ℕ) (state : Row) (q : ℕ) (value : ℤ) → IsAsKnown (kind_of state q) (Some value) → ((r : ℕ) → r ≢ q → kind_of state r ≡ kind_of row r) → Contains (edges p (own_table p) t.next block row) (move to state) → MayBeEntered p to
-      → Balanced p n (Some row) (Some state) s.entities s.entities → Change p en ar s (suc en) ar (entered n t to (assigned n q value s))
-  goes_with en ar to state q value here others along may balance =
-      GoesWith n to q value t block row state acts.is (present s.lists n acts.active) (by_entry None (parameters_of n s) q (Some value) (λ r v. IsAsKnown (kind_of state r) v) here (λ r other. as_before state r (others r other))) along may balance
+      → Balanced p n (Some row) (Some state) s.entities s.entities → Paid p (1 + weight_at p.weights to + 0) (weight_at p.weights t.next + 0) → Change p en ar 0 s (suc en) ar 0 (entered n t to (assigned n q value s))
+  goes_with en ar to state q value here others along may balance pays =
+      GoesWith n to q value t block row state acts.is (present s.lists n acts.active) (by_entry None (parameters_of n s) q (Some value) (λ r v. IsAsKnown (kind_of state r) v) here (λ r other. as_before state r (others r other))) along may balance pays
 
   -- and stays active, and nothing else happens
   pub just_goes : (k : ℕ) (to : ℕ) (state : Row) (h : EntityStates) → Knows row state → Contains (edges p (own_table p) t.next block row) (move to state) → MayBeEntered p to → Balanced p n (Some row) (Some state) s.entities h
-      → Enters p k s n (record (entered n t to s) { entities = h }, StaysActive)
-  just_goes k to state h known along may balance = entered_once p k s n _ (Then (goes k (made_in k) t to state h (unchanged s t) known along may balance) Done)
+      → Paid p (1 + weight_at p.weights to + 0) (weight_at p.weights t.next + 0) → Enters p k s n (record (entered n t to s) { entities = h }, StaysActive)
+  just_goes k to state h known along may balance pays = entered_once p k s n _ (Then (goes k (made_in k) 0 0 t to state h (unchanged s t) known along may balance pays) Done) (omega (arith, sum-raised t.next s.entries))
 
   -- what its row says of an owner, and what is inside at least
   pub owner_as : (f : ℕ) → is_owned_by n (at idle s.entities.facilities f) ≡ owns row f
@@ -146,5 +167,25 @@ module _ (p : Parts) (s : State) (n : ℕ) (t : Transaction) (block : Block) (ro
       record {
         its = with_attributes last bears.0;
         found = written_at s.transactions n last bears.0 bears.1;
+        place_is = place-free (with_attributes last bears.0) last (its_chain (at None s.transactions n) bears.0 None bears.1 acts.is.free) refl;
         row_is = ap (own_table p) (place-free (with_attributes last bears.0) last (its_chain (at None s.transactions n) bears.0 None bears.1 acts.is.free) refl) ∙ acts.is.row_is;
       }
+
+  -- it enters its block and goes on to another as u: it is there then, and weighs what that weighs
+  pub weighs_next : (u : Transaction) (to : ℕ) → weight_in p (at None (entered n u to s).transactions n) ≡ weight_at p.weights to
+  weighs_next u to =
+      let bears = bearer_at s.transactions n t acts.is.found in
+      let next : Transaction = record u { current = u.next; next = to } in
+      weight_there p (entered n u to s).transactions n to (with_attributes next bears.0) (written_at s.transactions n next bears.0 bears.1) (place-free (with_attributes next bears.0) next (its_chain (at None s.transactions n) bears.0 None bears.1 acts.is.free) refl)
+
+  -- the first of its ways is paid for
+  pub falls_paid : (way : Way) (es : List Exit) → exits_with (returns_read block row) block ≡ at_once way ∷ es → (c : ℕ) → Paid p (1 + weight_at p.weights (leads_to t.next way) + c) (weight_at p.weights t.next + c)
+  falls_paid = first_paid p t.next block row acts.is.block_is acts.is.row_is
+
+  -- and the second
+  pub other_paid : (e : Exit) (way : Way) (es : List Exit) → exits_with (returns_read block row) block ≡ e ∷ at_once way ∷ es → (c : ℕ) → Paid p (1 + weight_at p.weights (leads_to t.next way) + c) (weight_at p.weights t.next + c)
+  other_paid = second_paid p t.next block row acts.is.block_is acts.is.row_is
+
+  -- who enters its block for the last time pays the entry by the weight of its place
+  pub last_paid : Paid p 1 (weight_in p (at None (entered n t t.next s).transactions n) + 0)
+  last_paid weighted = omega (arith, weighs_next t t.next, weighted.least t.next block acts.is.block_is)

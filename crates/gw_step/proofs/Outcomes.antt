@@ -41,3 +41,15 @@ choose P false x y f g = g refl
 pub by_option : {A B : Type 0} (P : B → Type 0) (o : Option A) (f : A → B) (d : B) → ((a : A) → o ≡ Some a → P (f a)) → (o ≡ None → P d) → P (option_map_or f o d)
 by_option P None f d h k = k refl
 by_option P (Some a) f d h k = h a refl
+
+-- where a test holds, what it gives is so
+pub on_when : {A : Type 0} (P : A → Type 0) (b : Bool) (o : Outcome A) → (b ≡ true → OnGives P o) → OnGives (λ a. b ≡ true → P a) o
+on_when P b (Gives a) h = h
+on_when P b (EndsBy end) h = tt
+on_when P b (StopsBy stop) h = tt
+
+-- nothing is said of what it gives
+pub on_any : {A : Type 0} (o : Outcome A) → OnGives (λ a. Unit {0}) o
+on_any (Gives a) = tt
+on_any (EndsBy end) = tt
+on_any (StopsBy stop) = tt

@@ -37,7 +37,8 @@ use Rattle.gw_step.specs.Job.{Job, JobFits, IsBounded, IsReached, Step, Alone, a
 use Rattle.gw_step.proofs.Outcomes.{OnGives, on_both}
 use Rattle.gw_step.proofs.Within.{sum-raised, within-arrives, within-streams, within-more, within-ended}
 use Rattle.gw_step.proofs.Counting.{IsCounted, is_counted, runs_still}
-use Rattle.gw_step.proofs.Traces.{KeepStreams, trace-within, trace-limits, trace-live, written-live}
+use Rattle.gw_step.proofs.Traces.{KeepStreams}
+use Rattle.gw_step.proofs.Bounds.{trace-within, trace-limits, trace-live, written-live}
 use Rattle.gw_step.proofs.Unstopped.{given}
 use Rattle.gw_step.proofs.Drawn.{IsSound, IsDrawn, AreRead, safe_drawn}
 use Rattle.gw_step.proofs.Asked.{arrival_read}

@@ -53,7 +53,7 @@ started_steps s (Gives t) h = h
 started_steps s (EndsBy end) h = refl
 started_steps s (StopsBy stop) h = refl
 
-start_steps : (j : Job) → (start_of j).steps ≡ 0
+pub start_steps : (j : Job) → (start_of j).steps ≡ 0
 start_steps j =
     let empty : State = nothing j.parts j.count j.streams in
     started_steps empty (first_arrivals j.parts 1 j.parts.blocks empty) (all_arrivals j.parts 1 j.parts.blocks empty)

@@ -1,6 +1,6 @@
 -- Typed states never get stuck.
 use Rattle.std.proofs.Common.{◌≡◌, ℕ, zero, suc, ◌+◌, ◌≤◌, ℤ, List, [], ◌∷◌, Option, Some, None, Bool, true, false, is_some, is_none, if◌then◌else◌, ◌==◌, ◌&&◌, refl, sym, ap, ◌∙◌, subst, arith, ⊎_elim}
-use Rattle.std.specs.Prelude.{All, IfSome}
+use Rattle.std.specs.Prelude.{All, IfSome, IsSome}
 use Rattle.gw_blocks.specs.declared.parts.Block.{Block}
 use Rattle.gw_blocks.specs.declared.parts.Block.TheVariants as blocks
 use Rattle.gw_object.specs.declared.parts.Parts.{Parts}
@@ -35,8 +35,12 @@ use Rattle.gw_step.proofs.Residence.{one_if, at_most_one, same_number}
 use Rattle.gw_step.specs.Places.{IsThere}
 use Rattle.gw_step.specs.Typing.{IsPlaced, WellTyped, AreWithinCapacity}
 use Rattle.gw_step.specs.Safety.{RetryingResideOnce, StartIsWellTyped, StepsKeepTypes, WellTypedStatesStep, ReachedStatesAreWellTyped, NoJobIsStuck, AllJobsEnd, StoragesKeepTheirCapacity}
-use Rattle.gw_step.proofs.Traces.{place-free, its_chain, present, present_free, Activates, ClockMoves, Woken, Draws, Marks, Change, Trace, Done, Then, trace_on, trace-keeps, trace-fills}
-use Rattle.gw_step.proofs.Unstopped.{Safe, safe_bind, safe_then, safe_found}
+use Rattle.gw_step.proofs.Traces.{place-free, its_chain, present, present_free, Activates, ClockMoves, Woken, Draws, Marks, Change, Trace, Done, Then, trace_on, trace-keeps}
+use Rattle.gw_step.proofs.Bounds.{trace-fills}
+use Rattle.gw_step.proofs.Timed.{TellsTime, values_tell}
+use Rattle.gw_step.proofs.Calm.{Moves, MakesEntry, Calms, Ends, activates_calms, clock_calms}
+use Rattle.gw_step.specs.declared.ends.End.{End}
+use Rattle.gw_step.proofs.Unstopped.{Safe, safe_bind, safe_then, safe_found, safe_given}
 use Rattle.gw_step.proofs.Drawn.{IsSound, Read, safe_operands}
 use Rattle.gw_step.proofs.Asked.{are_read, acts_at}
 use Rattle.gw_step.proofs.Moving.{Acts, Reaches, safe_placed}
@@ -47,6 +51,20 @@ use Rattle.gw_step.proofs.Linking.{safe_link, safe_unlink}
 use Rattle.gw_step.proofs.Arriving.{safe_generate, start_typed}
 use Rattle.gw_step.proofs.Attributes.{attributes_of}
 
+-- WHAT IS TO BE MOVED
+
+-- draws change nothing of it
+moves_after : (s : State) (streams : List ℕ) (t : State) → Moves (with_streams streams s) t → Moves s t
+moves_after s streams t (MakesEntry grows) = MakesEntry grows
+moves_after s streams t (Calms less) = Calms less
+moves_after s streams t (Ends ended less) = Ends ended less
+
+-- nor do the count of steps and the end
+moves_marked : (s t : State) (steps : ℕ) (ended : Option End) → (IsSome t.ended → IsSome ended) → Moves s t → Moves s (record t { steps = steps; ended = ended })
+moves_marked s t steps ended brings (MakesEntry grows) = MakesEntry grows
+moves_marked s t steps ended brings (Calms less) = Calms (λ same few. less same (record { few = few.few }))
+moves_marked s t steps ended brings (Ends some less) = Ends (brings some) less
+
 -- THE SCAN
 
 live : (o : Option LiveTransaction) → 1 ≤ one_if (is_some o) → is_some o ≡ true
@@ -55,47 +73,48 @@ live (Some t) h = refl
 
 module _ (p : Parts) (each_return : All (ReturnsHold p) p.returns) (each_block : (b : ℕ) (block : Block) → block_at p.blocks b ≡ Some block → BlockHolds p b block) (flow : FlowHolds p (own_table p)) (sound : IsSound p) (k : ℕ) where
   -- the one walk over the blocks
-  safe_meets : (s : State) (n : ℕ) (t : Transaction) (block : Block) (values : List ℤ) (row : Row) → Acts p s n t block row → Safe (Reaches p k s) (meets p n t block values s)
+  safe_meets : (s : State) (n : ℕ) (t : Transaction) (block : Block) (values : List ℤ) (row : Row) → Acts p s n t block row → TellsTime block values → Safe (Reaches p k s) (meets p n t block values s)
   unfolding effect
-  safe_meets s n t (blocks.Generate g) values row acts = safe_placed p k s n _ (safe_generate p sound s n t k g row acts)
-  safe_meets s n t (blocks.Terminate by) values row acts = safe_placed p k s n _ (safe_terminate p each_block flow s n t k by (the_value values) row acts)
-  safe_meets s n t (blocks.Advance time) values row acts = safe_placed p k s n _ (safe_advance p each_block flow s n t k time (the_value values) row acts)
-  safe_meets s n t (blocks.Seize f) values row acts = safe_seize p each_block flow s n t k f values row acts
-  safe_meets s n t (blocks.Release f) values row acts = safe_placed p k s n _ (safe_release p each_block flow s n t k f row acts)
-  safe_meets s n t (blocks.Enter u) values row acts = safe_enter p each_block flow s n t k u values row acts
-  safe_meets s n t (blocks.Leave u) values row acts = safe_placed p k s n _ (safe_leave p each_block flow s n t k u row acts)
-  safe_meets s n t (blocks.Queue u) values row acts = safe_placed p k s n _ (safe_join p each_block flow s n t k u row acts)
-  safe_meets s n t (blocks.Depart u) values row acts = safe_placed p k s n _ (safe_depart p each_block flow s n t k u row acts)
-  safe_meets s n t (blocks.Test test) values row acts = safe_comparison p each_block flow s n t k test values row acts
-  safe_meets s n t (blocks.Gate gate) values row acts = safe_gate p each_block flow s n t k gate values row acts
-  safe_meets s n t (blocks.Assign a) values row acts = safe_placed p k s n _ (safe_assign p each_block flow s n t k a (the_value values) row acts)
-  safe_meets s n t (blocks.Transfer target) values row acts = safe_placed p k s n _ (safe_transfer p each_block flow s n t k target row acts)
-  safe_meets s n t (blocks.TransferByFraction f) values row acts = safe_placed p k s n _ (safe_fraction p each_block flow s n t k f (the_value values) row acts)
-  safe_meets s n t (blocks.TransferToSubroutine c) values row acts = safe_placed p k s n _ (safe_call p each_block flow s n t k c row acts)
-  safe_meets s n t (blocks.TransferByParameter q) values row acts = safe_placed p k s n _ (safe_come_back p each_block flow s n t k each_return q row acts)
-  safe_meets s n t (blocks.Loop l) values row acts = safe_placed p k s n _ (safe_loop p each_block flow s n t k l row acts)
-  safe_meets s n t (blocks.Logic l) values row acts = safe_placed p k s n _ (safe_logic p each_block flow s n t k l row acts)
-  safe_meets s n t (blocks.Savevalue a) values row acts = safe_placed p k s n _ (safe_save p each_block flow s n t k a (the_value values) row acts)
-  safe_meets s n t (blocks.Mark q) values row acts = safe_placed p k s n _ (safe_mark p each_block flow s n t k q row acts)
-  safe_meets s n t (blocks.Split c) values row acts = safe_placed p k s n _ (safe_split p s n t k c row acts)
-  safe_meets s n t (blocks.Assemble size) values row acts = safe_placed p k s n _ (safe_assemble p s n t k size row acts)
-  safe_meets s n t (blocks.Link l) values row acts = safe_placed p k s n (link n t l s) (safe_link p s n t k l row acts)
-  safe_meets s n t (blocks.Unlink u) values row acts = safe_placed p k s n _ (safe_unlink p s n t k flow u row acts)
-  safe_meets s n t (blocks.Priority a) values row acts = safe_placed p k s n _ (safe_priority p s n t k a (the_value values) row acts)
-  safe_meets s n t blocks.Buffer values row acts = safe_placed p k s n _ (safe_buffer p s n t k row acts)
-  safe_meets s n t (blocks.Plus a) values row acts = safe_placed p k s n _ (safe_plus p each_block flow s n t k a (the_value values) row acts)
-  safe_meets s n t (blocks.Tabulate e) values row acts = safe_placed p k s n _ (safe_tabulate p each_block flow s n t k e (the_value values) row acts)
+  safe_meets s n t (blocks.Generate g) values row acts tells = safe_placed p k s n _ (safe_generate p sound s n t k g row acts)
+  safe_meets s n t (blocks.Terminate by) values row acts tells = safe_placed p k s n _ (safe_terminate p each_block flow s n t k by (the_value values) row acts)
+  safe_meets s n t (blocks.Advance time) values row acts tells = safe_placed p k s n _ (safe_advance p each_block flow s n t k time (the_value values) row acts tells)
+  safe_meets s n t (blocks.Seize f) values row acts tells = safe_seize p each_block flow s n t k f values row acts
+  safe_meets s n t (blocks.Release f) values row acts tells = safe_placed p k s n _ (safe_release p each_block flow s n t k f row acts)
+  safe_meets s n t (blocks.Enter u) values row acts tells = safe_enter p each_block flow s n t k u values row acts
+  safe_meets s n t (blocks.Leave u) values row acts tells = safe_placed p k s n _ (safe_leave p each_block flow s n t k u row acts)
+  safe_meets s n t (blocks.Queue u) values row acts tells = safe_placed p k s n _ (safe_join p each_block flow s n t k u row acts)
+  safe_meets s n t (blocks.Depart u) values row acts tells = safe_placed p k s n _ (safe_depart p each_block flow s n t k u row acts)
+  safe_meets s n t (blocks.Test test) values row acts tells = safe_comparison p each_block flow s n t k test values row acts
+  safe_meets s n t (blocks.Gate gate) values row acts tells = safe_gate p each_block flow s n t k gate values row acts
+  safe_meets s n t (blocks.Assign a) values row acts tells = safe_placed p k s n _ (safe_assign p each_block flow s n t k a (the_value values) row acts)
+  safe_meets s n t (blocks.Transfer target) values row acts tells = safe_placed p k s n _ (safe_transfer p each_block flow s n t k target row acts)
+  safe_meets s n t (blocks.TransferByFraction f) values row acts tells = safe_placed p k s n _ (safe_fraction p each_block flow s n t k f (the_value values) row acts)
+  safe_meets s n t (blocks.TransferToSubroutine c) values row acts tells = safe_placed p k s n _ (safe_call p each_block flow s n t k c row acts)
+  safe_meets s n t (blocks.TransferByParameter q) values row acts tells = safe_placed p k s n _ (safe_come_back p each_block flow s n t k each_return q row acts)
+  safe_meets s n t (blocks.Loop l) values row acts tells = safe_placed p k s n _ (safe_loop p each_block flow s n t k l row acts)
+  safe_meets s n t (blocks.Logic l) values row acts tells = safe_placed p k s n _ (safe_logic p each_block flow s n t k l row acts)
+  safe_meets s n t (blocks.Savevalue a) values row acts tells = safe_placed p k s n _ (safe_save p each_block flow s n t k a (the_value values) row acts)
+  safe_meets s n t (blocks.Mark q) values row acts tells = safe_placed p k s n _ (safe_mark p each_block flow s n t k q row acts)
+  safe_meets s n t (blocks.Split c) values row acts tells = safe_placed p k s n _ (safe_split p s n t k c row acts)
+  safe_meets s n t (blocks.Assemble size) values row acts tells = safe_placed p k s n _ (safe_assemble p s n t k size row acts)
+  safe_meets s n t (blocks.Link l) values row acts tells = safe_placed p k s n (link n t l s) (safe_link p s n t k l row acts)
+  safe_meets s n t (blocks.Unlink u) values row acts tells = safe_placed p k s n _ (safe_unlink p s n t k flow u row acts)
+  safe_meets s n t (blocks.Priority a) values row acts tells = safe_placed p k s n _ (safe_priority p s n t k a (the_value values) row acts)
+  safe_meets s n t blocks.Buffer values row acts tells = safe_placed p k s n _ (safe_buffer p s n t k row acts)
+  safe_meets s n t (blocks.Plus a) values row acts tells = safe_placed p k s n _ (safe_plus p each_block flow s n t k a (the_value values) row acts)
+  safe_meets s n t (blocks.Tabulate e) values row acts tells = safe_placed p k s n _ (safe_tabulate p each_block flow s n t k e (the_value values) row acts)
 
   safe_act : (s : State) (n : ℕ) (t : Transaction) (block : Block) (row : Row) → Acts p s n t block row → Safe (Reaches p k s) (act p n t block s)
   unfolding act
   safe_act s n t block row acts =
       let env = environment_of n t s in
-      safe_bind (Read s.streams) (Reaches p k s) (evaluated (operands p env block s.streams)) _ (safe_operands p sound env t.next block s.streams acts.kinds (are_read p sound.entities s n t block row acts))
+      safe_bind (λ read. Read s.streams read × TellsTime block read.0) (Reaches p k s) (evaluated (operands p env block s.streams)) _
+      (safe_given (Read s.streams) (λ read. TellsTime block read.0) (evaluated (operands p env block s.streams)) (safe_operands p sound env t.next block s.streams acts.kinds (are_read p sound.entities s n t block row acts)) (values_tell p env block s.streams))
       (λ read keeps.
       let u : State = with_streams read.1 s in
       safe_then (Reaches p k u) (Reaches p k s) (meets p n t block read.0 u)
-      (safe_meets u n t block read.0 row (record { typed = acts.typed; active = acts.active; is = acts.is; kinds = acts.kinds; flow = acts.flow }))
-      (λ v x. record { entries = x.entries; arrivals = x.arrivals; trace = Then (Draws read.1 keeps) x.trace; few_entries = x.few_entries; few_arrivals = x.few_arrivals }))
+      (safe_meets u n t block read.0 row (record { typed = acts.typed; active = acts.active; is = acts.is; kinds = acts.kinds; flow = acts.flow }) keeps.1)
+      (λ v x. record { entries = x.entries; arrivals = x.arrivals; borrowed = x.borrowed; trace = Then (Draws read.1 keeps.0) x.trace; few_entries = x.few_entries; few_arrivals = x.few_arrivals; moves = moves_after s read.1 v x.moves }))
 
   safe_active : (s : State) → WellTyped p s → (n : ℕ) → s.lists.active ≡ Some n → Safe (Reaches p k s) (scan p (Some n) s)
   safe_active s ty n active =
@@ -112,16 +131,16 @@ module _ (p : Parts) (each_return : All (ReturnsHold p) p.returns) (each_block :
       (safe_found (Reaches p k s) (block_at p.blocks t.next) NoBlock block.0 _ block.1 (safe_act s n t block.0 acts.0 acts.1))
 
   -- a step with no entry and no arrival
-  apart : (s t : State) → Trace p k (made_in k) s k (made_in k) t → Reaches p k s t
-  apart s t xs = record { entries = k; arrivals = made_in k; trace = xs; few_entries = omega arith; few_arrivals = omega arith }
+  apart : (s t : State) → Trace p k (made_in k) 0 s k (made_in k) 0 t → Moves s t → Reaches p k s t
+  apart s t xs moves = record { entries = k; arrivals = made_in k; borrowed = 0; trace = xs; few_entries = omega arith; few_arrivals = omega arith; moves = moves }
 
-  safe_events : (s : State) (events : List FutureEvent) → s.lists.future_events ≡ events → Safe (Reaches p k s) (next_event events s)
-  safe_events s [] is = tt
-  safe_events s (e ∷ es) is = apart s (woken (clock_moves e.time s)) (Then (ClockMoves e es is) (Then Woken Done))
+  safe_events : (s : State) → s.lists.active ≡ None → (events : List FutureEvent) → s.lists.future_events ≡ events → Safe (Reaches p k s) (next_event events s)
+  safe_events s nobody [] is = tt
+  safe_events s nobody (e ∷ es) is = apart s (woken (clock_moves e.time s)) (Then (ClockMoves e es is) (Then Woken Done)) (Calms (λ same few. clock_calms s e es nobody is same few))
 
   safe_chain : (s : State) → s.lists.active ≡ None → (ns : List ℕ) → s.lists.current_events ≡ ns → Safe (Reaches p k s) (next_active ns s)
-  safe_chain s nobody [] is = safe_events s s.lists.future_events refl
-  safe_chain s nobody (n ∷ ns) is = apart s (record s { lists = record s.lists { active = Some n; current_events = ns } }) (Then (Activates n ns nobody is) Done)
+  safe_chain s nobody [] is = safe_events s nobody s.lists.future_events refl
+  safe_chain s nobody (n ∷ ns) is = apart s (record s { lists = record s.lists { active = Some n; current_events = ns } }) (Then (Activates n ns nobody is) Done) (Calms (λ same few. activates_calms n ns s nobody is))
 
   safe_scan : (s : State) → WellTyped p s → (active : Option ℕ) → s.lists.active ≡ active → Safe (Reaches p k s) (scan p active s)
   safe_scan s ty None is = safe_chain s is s.lists.current_events refl
@@ -129,20 +148,20 @@ module _ (p : Parts) (each_return : All (ReturnsHold p) p.returns) (each_block :
 
   -- THE STEP
 
-  reaches_on : (s t u : State) (x : Reaches p k s t) → Change p x.entries x.arrivals t x.entries x.arrivals u → Reaches p k s u
-  reaches_on s t u x c = record { entries = x.entries; arrivals = x.arrivals; trace = trace_on p x.trace (Then c Done); few_entries = x.few_entries; few_arrivals = x.few_arrivals }
+  reaches_on : (s t u : State) (x : Reaches p k s t) → Change p x.entries x.arrivals x.borrowed t x.entries x.arrivals x.borrowed u → Moves s u → Reaches p k s u
+  reaches_on s t u x c moves = record { entries = x.entries; arrivals = x.arrivals; borrowed = x.borrowed; trace = trace_on p x.trace (Then c Done); few_entries = x.few_entries; few_arrivals = x.few_arrivals; moves = moves }
 
   within_traced : (budget : ℕ) (s t : State) → Reaches p k s t → Reaches p k s (within_budget budget t)
   within_traced budget s t x =
-      choose (Reaches p k s) (is_none t.ended && (t.steps == budget)) (record t { ended = Some Budget }) t (λ spent. reaches_on s t (record t { ended = Some Budget }) x (Marks t.steps (Some Budget))) (λ left. x)
+      choose (Reaches p k s) (is_none t.ended && (t.steps == budget)) (record t { ended = Some Budget }) t (λ spent. reaches_on s t (record t { ended = Some Budget }) x (Marks t.steps (Some Budget)) (moves_marked s t t.steps (Some Budget) (λ some. refl) x.moves)) (λ left. x)
 
   stepped_traced : (budget : ℕ) (s t : State) (o : Outcome State) → Safe (Reaches p k s) o → stepped budget s o ≡ Some t → Reaches p k s t
   stepped_traced budget s t (Gives u) h is =
       let same : within_budget budget (record u { steps = s.steps + 1 }) ≡ t = cc in
-      subst (Reaches p k s) same (within_traced budget s (record u { steps = s.steps + 1 }) (reaches_on s u (record u { steps = s.steps + 1 }) h (Marks (s.steps + 1) u.ended)))
+      subst (Reaches p k s) same (within_traced budget s (record u { steps = s.steps + 1 }) (reaches_on s u (record u { steps = s.steps + 1 }) h (Marks (s.steps + 1) u.ended) (moves_marked s u (s.steps + 1) u.ended (λ some. some) h.moves)))
   stepped_traced budget s t (EndsBy end) h is =
       let same : record s { steps = s.steps + 1; ended = Some end } ≡ t = cc in
-      subst (Reaches p k s) same (apart s (record s { steps = s.steps + 1; ended = Some end }) (Then (Marks (s.steps + 1) (Some end)) Done))
+      subst (Reaches p k s) same (apart s (record s { steps = s.steps + 1; ended = Some end }) (Then (Marks (s.steps + 1) (Some end)) Done) (Ends refl (omega arith)))
   stepped_traced budget s t (StopsBy stop) h is = absurd h
 
   stepped_leads : (budget : ℕ) (s : State) (o : Outcome State) → Safe (Reaches p k s) o → (t : State) × (stepped budget s o ≡ Some t)

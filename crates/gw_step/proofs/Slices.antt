@@ -44,7 +44,7 @@ unfolding slice slices
 slices_same j [] s = refl
 slices_same j (n ∷ ns) s = slices_same j ns (slice j n s) ∙ slice-add j n (sum ns) s ∙ ap (λ k. slice j k s) (sym (sum_by-cons (λ (x : ℕ). x) n ns))
 
-one_more : (j : Job) (o : Option State) (t : State) → then_step j o ≡ Some t → (s : State) × (o ≡ Some s) × (step j.parts j.budget s ≡ Some t)
+pub one_more : (j : Job) (o : Option State) (t : State) → then_step j o ≡ Some t → (s : State) × (o ≡ Some s) × (step j.parts j.budget s ≡ Some t)
 one_more j None t h = absurd cc
 one_more j (Some s) t h = (s, refl, h)
 

@@ -1,12 +1,16 @@
 -- A step is a list of elementary changes, and each keeps a state well-typed.
 use Rattle.gw_step.specs.Blocks.{is_owed}
+use Rattle.gw_kinds.specs.Exits.{takes_time}
+use Rattle.gw_weights.specs.Weights.{weight_at, chain_weight}
+use Rattle.gw_weights.specs.Laws.{Weighted}
+use Rattle.gw_step.specs.Weight.{weight_in}
 use Rattle.gw_transactions.specs.Transactions.{LiveTransaction, made_with, with_attributes, with_parameter, with_chain, chain_of, attributes_at, put_attributes, put_parameter, put_chain, live_count}
 use Rattle.std.proofs.Common.{◌≡◌, ℕ, suc, ◌+◌, ◌<◌, ◌≤◌, ◌≤ℤ◌, ℤ, pos, ◌-ℤ◌, List, [], ◌∷◌, length, map, Option, Some, None, Bool, true, false, is_some, if◌then◌else◌, ◌==◌, refl, sym, ap, ◌∙◌, subst, arith, inl, inr, IsSome, option_map}
-use Rattle.std.specs.Prelude.{IsSomeAnd, Contains, unsigned_abs, sum_by, IfSome, IsTrue, nat_le, ◌&&◌, ◌-◌, ◌++◌, All}
+use Rattle.std.specs.Prelude.{◌<ℤ◌, IsSomeAnd, Contains, unsigned_abs, sum_by, IfSome, IsTrue, nat_le, ◌&&◌, ◌-◌, ◌++◌, All}
 use Rattle.std.specs.List.{find}
 use Rattle.gw_chains.specs.Assembling.{without_first, with_first_changed}
 use Rattle.std.specs.Option.{option_map_or}
-use Rattle.std.proofs.lemmas.Bool.{cases_eq, ltb-true, leb-true, eqb-true, false≢true, and_parts}
+use Rattle.std.proofs.lemmas.Bool.{cases_eq, eqb-true, false≢true, and_parts}
 use Rattle.std.proofs.lemmas.List.Elements.{All-contains, All-head, All-tail, All-cons, All-nil}
 use Rattle.gw_blocks.specs.declared.parts.Generate.{Generate}
 use Rattle.gw_object.specs.declared.parts.Kind.{Kind}
@@ -24,7 +28,7 @@ use Rattle.gw_flow.specs.Flow.{own_table, own_row}
 use Rattle.gw_flow.specs.Laws.{MayPass, FlowHolds}
 use Rattle.gw_flow.proofs.Fitting.{included}
 use Rattle.gw_num.specs.Table.{at, put}
-use Rattle.gw_num.proofs.Tables.{at-map, at_some, at-put, at-put_other, put-put, by_entry, at_past, count_by-put}
+use Rattle.gw_num.proofs.Tables.{at-map, at-put, at-put_other, put-put, by_entry, at_past}
 use Rattle.gw_chains.specs.Chain.{behind, rest}
 use Rattle.gw_blocks.specs.declared.parts.Link.{Link}
 use Rattle.gw_flow.specs.declared.edges.Target.TheVariants as targets
@@ -39,20 +43,18 @@ use Rattle.gw_step.specs.declared.ends.End.{End}
 use Rattle.gw_step.specs.declared.placement.Placement.{Placement}
 use Rattle.gw_step.specs.declared.placement.Placement.TheVariants.{StaysActive, RestsUntil, JoinsDelayList, JoinsRetryList, RestsAhead, RestsBehind, AwaitsSet, JoinsChain, LeavesModel}
 use Rattle.gw_step.specs.Placing.{placed_at, placed}
-use Rattle.gw_step.specs.Numbers.{IsWithin, AreWithinLimits, AreFewLive}
-use Rattle.gw_step.specs.State.{FutureEvent, Assembly, Lists, EntityStates, State, with_streams, priority_of, delay_list, user_chain, without, raised}
+use Rattle.gw_step.specs.State.{FutureEvent, Assembly, Lists, EntityStates, State, with_streams, priority_of, delay_list, user_chain, without}
 use Rattle.gw_step.specs.Changes.{newcomer, copied, rests_ahead, rests_behind, awaits_set, is_of, assembled, one_fewer, come_to, joins_chain, leaves_chain, entered, assigned, destroyed, arrives, rests_until, waits_for, retries, called_from, woken, counted, time_passes, clock_moves}
 use Rattle.gw_step.specs.Residence.{EachResidesOnce, occurrences, active_numbers, occurrences_in}
 use Rattle.gw_step.proofs.Residence.{one_if, at_most_one, same_number, other_number, alone, occurrences-one, occurrences-joined, occurrences-without, occurrences-linked, resides-linked, resides-unlinked, resides-entered, resides-assigned, resides-destroyed, resides-rests, resides-arrives, resides-active, resides-clock, resides-waits, resides-called, resides-retries, resides-woken, resides-ahead, resides-behind, resides-copied, resides-awaits, resides-assembled, resides-come}
-use Rattle.gw_step.proofs.Within.{raises-same, mark_from, within-entered, within-assigned, within-destroyed, within-retries, within-woken, within-counted, within-arrives, within-rests, within-streams, within-waits, within-called, within-active, within-ended, within-ahead, within-behind, within-copied, within-awaits, within-assembled, within-come, within-linked, within-unlinked}
-use Rattle.gw_step.proofs.Follows.{block_below, within-clock, at-map_same, nothing-after}
+use Rattle.gw_step.proofs.Follows.{at-map_same, nothing-after}
 use Rattle.gw_step.specs.Places.{place, place_of, IsThere, row_of}
 use Rattle.gw_step.specs.Times.{parameters_of}
 use Rattle.gw_transactions.specs.Parameters.{no_parameters}
-use Rattle.gw_step.specs.Typing.{IsAsKnown, AreAsKnown, IsPlaced, promised_units, content_of, WaitsFor, is_member, Agree, WellTyped, AreWithinCapacity}
+use Rattle.gw_step.specs.Typing.{IsAsKnown, AreAsKnown, IsPlaced, promised_units, content_of, WaitsFor, is_member, Agree, WellTyped}
 use Rattle.gw_step.proofs.Owning.{lists-none}
-use Rattle.gw_step.proofs.Agreeing.{IsMissing, AreWhole, Balanced, linked-written, agree-written, agree-moved, agree-apart}
-use Rattle.gw_step.proofs.Attributes.{bearer_at, number_below, attributes-parameter, is_some-attributes, is_some-parameter, is_some-chain, chain-attributes, written_both}
+use Rattle.gw_step.proofs.Agreeing.{IsMissing, Balanced, linked-written, agree-written, agree-moved, agree-apart}
+use Rattle.gw_step.proofs.Attributes.{bearer_at, chain-attributes, written_both}
 use Rattle.gw_step.proofs.Balances.{balanced-nothing, balanced-fits, balanced-end, balanced-arrival, balanced-copy}
 
 -- the transaction n, which is t, is at a block, in a row
@@ -113,7 +115,7 @@ pub record MayLink (p : Parts) (n c : ℕ) (transactions : List (Option LiveTran
 -- the transaction n may be placed so: where it doesn't stay active, it is the active one
 abbrev pub MayRest : Parts → ℕ → Placement → Option ℕ → ℤ → List (Option LiveTransaction) → Type 0
 MayRest p n StaysActive active clock ts = Unit {0}
-MayRest p n (RestsUntil time) active clock ts = (active ≡ Some n) × (clock ≤ℤ time)
+MayRest p n (RestsUntil time) active clock ts = (active ≡ Some n) × (clock <ℤ time)
 MayRest p n (JoinsDelayList e) active clock ts = (active ≡ Some n) × WaitsFor p e (at None ts n) × (e < length p.entities)
 MayRest p n JoinsRetryList active clock ts = active ≡ Some n
 MayRest p n RestsAhead active clock ts = active ≡ Some n
@@ -141,71 +143,83 @@ pub record Becomes (s : State) (t u : Transaction) : Type 0 where
   pub next : u.next ≡ t.next
   pub mark : pos 0 ≤ℤ s.clock → pos 0 ≤ℤ t.mark → pos 0 ≤ℤ u.mark
 
--- the elementary changes. From so many entries, made or to come, and arrivals at most, to so many: an entry is one more, and a waiter has one to come
-pub data Change (p : Parts) : ℕ → ℕ → State → ℕ → ℕ → State → Type 0 where
+-- where the object is weighted, so much is paid by so much
+abbrev pub Paid : Parts → ℕ → ℕ → Type 0
+Paid p cost credit = Weighted p → cost ≤ credit
+
+-- what a placement of the transaction n makes of a credit: who rests until later, joins a user chain or leaves gives the weight of its place
+abbrev pub Settles : Parts → ℕ → Placement → State → ℕ → ℕ → Type 0
+Settles p n (RestsUntil time) s c d = Paid p d (weight_in p (at None s.transactions n) + c)
+Settles p n (JoinsChain l) s c d = Paid p (chain_weight p l.chain + d) (weight_in p (at None s.transactions n) + c)
+Settles p n LeavesModel s c d = Paid p d (weight_in p (at None s.transactions n) + c)
+Settles p n placement s c d = c ≡ d
+
+-- the elementary changes. From so many entries, made or to come, and arrivals at most, to so many: an entry is one more, and a waiter has one to come. And from a credit to a credit: it grows by the weight that a state loses, and pays for entries and for what a state weighs more
+pub data Change (p : Parts) : ℕ → ℕ → ℕ → State → ℕ → ℕ → ℕ → State → Type 0 where
   -- a transaction enters its block and goes along one of its edges, and what the entities hold is in balance with that
-  Goes : {en ar : ℕ} {s : State} (n to : ℕ) (t u : Transaction) (block : Block) (row state : Row) (h : EntityStates) → IsAt p s.transactions n t block row → Becomes s t u → IsPresent s.lists n → AreAsKnown (Some state) (parameters_of n s)
-      → Contains (edges p (own_table p) t.next block row) (move to state) → MayBeEntered p to → Balanced p n (Some row) (Some state) s.entities h → Change p en ar s (suc en) ar (record (entered n u to s) { entities = h })
+  Goes : {en ar c d : ℕ} {s : State} (n to : ℕ) (t u : Transaction) (block : Block) (row state : Row) (h : EntityStates) → IsAt p s.transactions n t block row → Becomes s t u → IsPresent s.lists n → AreAsKnown (Some state) (parameters_of n s)
+      → Contains (edges p (own_table p) t.next block row) (move to state) → MayBeEntered p to → Balanced p n (Some row) (Some state) s.entities h → Paid p (1 + weight_at p.weights to + d) (weight_at p.weights t.next + c) → Change p en ar c s (suc en) ar d (record (entered n u to s) { entities = h })
   -- a transaction enters its block, and goes nowhere from there
-  EntersLast : {en ar : ℕ} {s : State} (n : ℕ) (t : Transaction) (block : Block) (row : Row) → IsAt p s.transactions n t block row → IsPresent s.lists n → Change p en ar s (suc en) ar (entered n t t.next s)
+  EntersLast : {en ar c d : ℕ} {s : State} (n : ℕ) (t : Transaction) (block : Block) (row : Row) → IsAt p s.transactions n t block row → IsPresent s.lists n → Paid p (1 + d) c → Change p en ar c s (suc en) ar d (entered n t t.next s)
   -- a parameter of a transaction is set, and it enters its block and goes along one of its edges, where the parameter is known to be what it is set to
-  GoesWith : {en ar : ℕ} {s : State} (n to q : ℕ) (value : ℤ) (t : Transaction) (block : Block) (row state : Row) → IsAt p s.transactions n t block row → IsPresent s.lists n → AreAsKnown (Some state) (put None (parameters_of n s) q (Some value))
-      → Contains (edges p (own_table p) t.next block row) (move to state) → MayBeEntered p to → Balanced p n (Some row) (Some state) s.entities s.entities → Change p en ar s (suc en) ar (entered n t to (assigned n q value s))
+  GoesWith : {en ar c d : ℕ} {s : State} (n to q : ℕ) (value : ℤ) (t : Transaction) (block : Block) (row state : Row) → IsAt p s.transactions n t block row → IsPresent s.lists n → AreAsKnown (Some state) (put None (parameters_of n s) q (Some value))
+      → Contains (edges p (own_table p) t.next block row) (move to state) → MayBeEntered p to → Balanced p n (Some row) (Some state) s.entities s.entities → Paid p (1 + weight_at p.weights to + d) (weight_at p.weights t.next + c) → Change p en ar c s (suc en) ar d (entered n t to (assigned n q value s))
   -- a transaction is scheduled to arrive at a GENERATE
-  Arrives : {en ar : ℕ} {s : State} (b : ℕ) (g : Generate) (row : Row) (priority time : ℤ) → block_at p.blocks b ≡ Some (blocks.Generate g) → own_row p b ≡ Some row → is_empty row ≡ true → s.clock ≤ℤ time → is_owed g.limit (at 0 s.scheduled b) ≡ true → nat_le (live_count s.transactions + 1) 65536 ≡ true → Change p en ar s en (suc ar) (arrives b priority time s)
+  Arrives : {en ar c : ℕ} {s : State} (b : ℕ) (g : Generate) (row : Row) (priority time : ℤ) → block_at p.blocks b ≡ Some (blocks.Generate g) → own_row p b ≡ Some row → is_empty row ≡ true → s.clock ≤ℤ time → (takes_time g.interval.mean g.interval.half ≡ true → s.clock <ℤ time) → is_owed g.limit (at 0 s.scheduled b) ≡ true → nat_le (live_count s.transactions + 1) 65536 ≡ true → Change p en ar c s en (suc ar) c (arrives b priority time s)
   -- a copy of a transaction is made, and goes along an edge of a block
-  Copied : {en ar : ℕ} {s : State} (n target b : ℕ) (t u : Transaction) (block : Block) (row state : Row) → attributes_at n s.transactions ≡ Some u → t.mark ≡ u.mark → AreAsKnown (Some state) (parameters_of n s) → block_at p.blocks b ≡ Some block → own_row p b ≡ Some row
-      → Contains (edges p (own_table p) b block row) (move target state) → MayBeEntered p target → state.facilities ≡ [] → state.units ≡ [] → live_count s.transactions + 1 ≤ 65536 → Change p en ar s en (suc ar) (copied n t target s)
+  Copied : {en ar c d : ℕ} {s : State} (n target b : ℕ) (t u : Transaction) (block : Block) (row state : Row) → attributes_at n s.transactions ≡ Some u → t.mark ≡ u.mark → AreAsKnown (Some state) (parameters_of n s) → block_at p.blocks b ≡ Some block → own_row p b ≡ Some row
+      → Contains (edges p (own_table p) b block row) (move target state) → MayBeEntered p target → state.facilities ≡ [] → state.units ≡ [] → live_count s.transactions + 1 ≤ 65536 → Paid p (weight_at p.weights target + d) c → Change p en ar c s en (suc ar) d (copied n t target s)
   -- the active transaction is placed
-  Rests : {en ar : ℕ} {s : State} (n : ℕ) (placement : Placement) → Rested p n placement s → Change p en ar s (credited placement en) ar (placed_at n placement s)
+  Rests : {en ar c d : ℕ} {s : State} (n : ℕ) (placement : Placement) → Rested p n placement s → Settles p n placement s c d → Change p en ar c s (credited placement en) ar d (placed_at n placement s)
   -- a waiter is called
-  Called : {en ar : ℕ} {s : State} (e n : ℕ) → 1 ≤ occurrences n (delay_list e s) → e < length p.entities → Change p (suc en) ar s en ar (called_from e n s)
+  Called : {en ar c : ℕ} {s : State} (e n : ℕ) → 1 ≤ occurrences n (delay_list e s) → e < length p.entities → Change p (suc en) ar c s en ar c (called_from e n s)
   -- the last of its set has come to an assembly
-  Assembled : {en ar : ℕ} {s : State} (a : Assembly) → find (is_of a.block a.set) s.lists.assemblies ≡ Some a → Change p en ar s en ar (assembled a s)
+  Assembled : {en ar c : ℕ} {s : State} (a : Assembly) → find (is_of a.block a.set) s.lists.assemblies ≡ Some a → Change p en ar c s en ar c (assembled a s)
   -- another has come to an assembly, and more are to come
-  Comes : {en ar : ℕ} {s : State} (a : Assembly) → find (is_of a.block a.set) s.lists.assemblies ≡ Some a → 2 ≤ a.missing → Change p en ar s en ar (come_to a s)
+  Comes : {en ar c : ℕ} {s : State} (a : Assembly) → find (is_of a.block a.set) s.lists.assemblies ≡ Some a → 2 ≤ a.missing → Change p en ar c s en ar c (come_to a s)
   -- the first member of a user chain leaves it for a block, whose row the row of the chain fits
-  Unlinked : {en ar : ℕ} {s : State} (c target n : ℕ) (t : Transaction) (ns : List ℕ) (members row : Row) → user_chain c s ≡ n ∷ ns → attributes_at n s.transactions ≡ Some t → own_table p (targets.Chain c) ≡ Some members → own_row p target ≡ Some row → Fits members row
-      → MayBeEntered p target → c < length p.entities → Change p en ar s en ar (leaves_chain c target n t s)
+  Unlinked : {en ar d : ℕ} {s : State} (c target n : ℕ) (t : Transaction) (ns : List ℕ) (members row : Row) → user_chain c s ≡ n ∷ ns → attributes_at n s.transactions ≡ Some t → own_table p (targets.Chain c) ≡ Some members → own_row p target ≡ Some row → Fits members row
+      → MayBeEntered p target → c < length p.entities → Paid p (weight_at p.weights target) (chain_weight p c) → Change p en ar d s en ar d (leaves_chain c target n t s)
   -- the retry list is woken
-  Woken : {en ar : ℕ} {s : State} → Change p en ar s en ar (woken s)
+  Woken : {en ar c : ℕ} {s : State} → Change p en ar c s en ar c (woken s)
   -- the first of the current events chain becomes active
-  Activates : {en ar : ℕ} {s : State} (n : ℕ) (ns : List ℕ) → s.lists.active ≡ None → s.lists.current_events ≡ n ∷ ns → Change p en ar s en ar (record s { lists = record s.lists { active = Some n; current_events = ns } })
+  Activates : {en ar c : ℕ} {s : State} (n : ℕ) (ns : List ℕ) → s.lists.active ≡ None → s.lists.current_events ≡ n ∷ ns → Change p en ar c s en ar c (record s { lists = record s.lists { active = Some n; current_events = ns } })
   -- the clock moves to the first future event
-  ClockMoves : {en ar : ℕ} {s : State} (e : FutureEvent) (es : List FutureEvent) → s.lists.future_events ≡ e ∷ es → Change p en ar s en ar (clock_moves e.time s)
+  ClockMoves : {en ar c : ℕ} {s : State} (e : FutureEvent) (es : List FutureEvent) → s.lists.future_events ≡ e ∷ es → Change p en ar c s en ar c (clock_moves e.time s)
   -- draws
-  Draws : {en ar : ℕ} {s : State} (streams : List ℕ) → KeepStreams s.streams streams → Change p en ar s en ar (with_streams streams s)
+  Draws : {en ar c : ℕ} {s : State} (streams : List ℕ) → KeepStreams s.streams streams → Change p en ar c s en ar c (with_streams streams s)
   -- the termination count falls
-  Counts : {en ar : ℕ} {s : State} (by : ℤ) → Change p en ar s en ar (counted by s)
+  Counts : {en ar c : ℕ} {s : State} (by : ℤ) → Change p en ar c s en ar c (counted by s)
   -- a step is counted, and an end may stand
-  Marks : {en ar : ℕ} {s : State} (steps : ℕ) (ended : Option End) → Change p en ar s en ar (record s { steps = steps; ended = ended })
+  Marks : {en ar c : ℕ} {s : State} (steps : ℕ) (ended : Option End) → Change p en ar c s en ar c (record s { steps = steps; ended = ended })
 
 -- some changes, one after the other
-pub data Trace (p : Parts) : ℕ → ℕ → State → ℕ → ℕ → State → Type 0 where
-  Done : {en ar : ℕ} {s : State} → Trace p en ar s en ar s
-  Then : {en ar en' ar' en2 ar2 : ℕ} {s t u : State} → Change p en ar s en' ar' t → Trace p en' ar' t en2 ar2 u → Trace p en ar s en2 ar2 u
+pub data Trace (p : Parts) : ℕ → ℕ → ℕ → State → ℕ → ℕ → ℕ → State → Type 0 where
+  Done : {en ar c : ℕ} {s : State} → Trace p en ar c s en ar c s
+  Then : {en ar c en' ar' c' en2 ar2 c2 : ℕ} {s t u : State} → Change p en ar c s en' ar' c' t → Trace p en' ar' c' t en2 ar2 c2 u → Trace p en ar c s en2 ar2 c2 u
 
-pub trace_on : (p : Parts) {en ar en' ar' en2 ar2 : ℕ} {s t u : State} → Trace p en ar s en' ar' t → Trace p en' ar' t en2 ar2 u → Trace p en ar s en2 ar2 u
+pub trace_on : (p : Parts) {en ar c en' ar' c' en2 ar2 c2 : ℕ} {s t u : State} → Trace p en ar c s en' ar' c' t → Trace p en' ar' c' t en2 ar2 c2 u → Trace p en ar c s en2 ar2 c2 u
 trace_on p Done ys = ys
 trace_on p (Then x xs) ys = Then x (trace_on p xs ys)
 
 -- PLACED
 
-stirs_rests : (b : Bool) (p : Parts) (en ar n : ℕ) (placement : Placement) (s : State) → Rested p n placement s → Trace p en ar s (credited placement en) ar (placed_at n placement (if b then woken s else s))
-stirs_rests true p en ar n placement s may = Then Woken (Then (Rests n placement may) Done)
-stirs_rests false p en ar n placement s may = Then (Rests n placement may) Done
+-- the transaction rests, where something stirred once the retry list was woken
+stirs_rests : (b : Bool) (p : Parts) (en ar c d n : ℕ) (placement : Placement) (s : State) → Rested p n placement s → Settles p n placement s c d → Settles p n placement (woken s) c d → Trace p en ar c s (credited placement en) ar d (placed_at n placement (if b then woken s else s))
+stirs_rests true p en ar c d n placement s may settles later = Then Woken (Then (Rests n placement may later) Done)
+stirs_rests false p en ar c d n placement s may settles later = Then (Rests n placement may settles) Done
 
 -- the one lemma on placements, for each block and each refusal
-pub placed_traced : (p : Parts) (en ar n : ℕ) (placement : Placement) (s : State) → Rested p n placement s → Trace p en ar s (credited placement en) ar (placed n placement s)
-placed_traced p en ar n StaysActive s may = Done
-placed_traced p en ar n (RestsUntil time) s may = stirs_rests s.stir p en ar n (RestsUntil time) s may
-placed_traced p en ar n (JoinsDelayList e) s may = stirs_rests s.stir p en ar n (JoinsDelayList e) s may
-placed_traced p en ar n JoinsRetryList s may = stirs_rests s.stir p en ar n JoinsRetryList s may
-placed_traced p en ar n RestsAhead s may = stirs_rests s.stir p en ar n RestsAhead s may
-placed_traced p en ar n RestsBehind s may = stirs_rests s.stir p en ar n RestsBehind s may
-placed_traced p en ar n (AwaitsSet a) s may = stirs_rests s.stir p en ar n (AwaitsSet a) s may
-placed_traced p en ar n (JoinsChain l) s may = stirs_rests s.stir p en ar n (JoinsChain l) s may
-placed_traced p en ar n LeavesModel s may = stirs_rests s.stir p en ar n LeavesModel s may
+pub placed_traced : (p : Parts) (en ar c d n : ℕ) (placement : Placement) (s : State) → Rested p n placement s → Settles p n placement s c d → Trace p en ar c s (credited placement en) ar d (placed n placement s)
+placed_traced p en ar c d n StaysActive s may settles = subst (λ e. Trace p en ar c s en ar e s) settles Done
+placed_traced p en ar c d n (RestsUntil time) s may settles = stirs_rests s.stir p en ar c d n (RestsUntil time) s may settles settles
+placed_traced p en ar c d n (JoinsDelayList e) s may settles = stirs_rests s.stir p en ar c d n (JoinsDelayList e) s may settles settles
+placed_traced p en ar c d n JoinsRetryList s may settles = stirs_rests s.stir p en ar c d n JoinsRetryList s may settles settles
+placed_traced p en ar c d n RestsAhead s may settles = stirs_rests s.stir p en ar c d n RestsAhead s may settles settles
+placed_traced p en ar c d n RestsBehind s may settles = stirs_rests s.stir p en ar c d n RestsBehind s may settles settles
+placed_traced p en ar c d n (AwaitsSet a) s may settles = stirs_rests s.stir p en ar c d n (AwaitsSet a) s may settles settles
+placed_traced p en ar c d n (JoinsChain l) s may settles = stirs_rests s.stir p en ar c d n (JoinsChain l) s may settles settles
+placed_traced p en ar c d n LeavesModel s may settles = stirs_rests s.stir p en ar c d n LeavesModel s may settles settles
 
 -- WHO IS ON NO DELAY LIST
 
@@ -334,7 +348,7 @@ there : (o : Option Block) → IsSomeAnd o (λ block. is_generate (Some block) �
 there None h = absurd h
 there (Some block) h = refl
 
-storages-later : (time : ℕ) (xs : List Storage) (e : ℕ) → at (storages.vacant 0) (map (storages.storage_after time) xs) e ≡ storages.storage_after time (at (storages.vacant 0) xs e)
+pub storages-later : (time : ℕ) (xs : List Storage) (e : ℕ) → at (storages.vacant 0) (map (storages.storage_after time) xs) e ≡ storages.storage_after time (at (storages.vacant 0) xs e)
 storages-later time xs e = at-map_same (storages.storage_after time) (storages.vacant 0) xs e (ap (λ c. record (storages.vacant 0) { contents = c }) (nothing-after time))
 
 module _ (p : Parts) (flow : FlowHolds p (own_table p)) where
@@ -570,17 +584,17 @@ module _ (p : Parts) (flow : FlowHolds p (own_table p)) where
   rests s ty n (JoinsChain l) may = links s ty n l may.0 may.1
   rests s ty n LeavesModel may = leaves s ty n may.0 may.1
 
-  pub change-keeps : {en ar en' ar' : ℕ} {s t : State} → Change p en ar s en' ar' t → WellTyped p s → WellTyped p t
-  change-keeps (Goes {s = s} n to t u block row state h is same here known along may balance) ty = goes s ty n to t u block row state h is here known along may balance
-  change-keeps (EntersLast {s = s} n t block row is here) ty = enters s ty n t.next t t block row row s.entities is here (its_parameters p s ty n t block row is) (ap is_some is.block_is) is.row_is (balanced-nothing p n row s.entities)
-  change-keeps (GoesWith {s = s} n to q value t block row state is here known along may balance) ty = goes_with s ty n to q value t block row state is here known along may balance
-  change-keeps (Arrives {s = s} b g row priority time block is none later owed few) ty = arrived s ty b g row priority time block is none
-  change-keeps (Rests {s = s} n placement may) ty = rests s ty n placement may
+  pub change-keeps : {en ar c en' ar' c' : ℕ} {s t : State} → Change p en ar c s en' ar' c' t → WellTyped p s → WellTyped p t
+  change-keeps (Goes {s = s} n to t u block row state h is same here known along may balance pays) ty = goes s ty n to t u block row state h is here known along may balance
+  change-keeps (EntersLast {s = s} n t block row is here pays) ty = enters s ty n t.next t t block row row s.entities is here (its_parameters p s ty n t block row is) (ap is_some is.block_is) is.row_is (balanced-nothing p n row s.entities)
+  change-keeps (GoesWith {s = s} n to q value t block row state is here known along may balance pays) ty = goes_with s ty n to q value t block row state is here known along may balance
+  change-keeps (Arrives {s = s} b g row priority time block is none later passes owed few) ty = arrived s ty b g row priority time block is none
+  change-keeps (Rests {s = s} n placement may settles) ty = rests s ty n placement may
   change-keeps (Called {s = s} e n here below) ty = called s ty e n here
-  change-keeps (Copied {s = s} n target b t u block row state found mark known block_is row_is along may facilities units few) ty = copy_made s ty n target b t block row state known block_is row_is along may facilities units
+  change-keeps (Copied {s = s} n target b t u block row state found mark known block_is row_is along may facilities units few pays) ty = copy_made s ty n target b t block row state known block_is row_is along may facilities units
   change-keeps (Assembled {s = s} a is) ty = agree-apart p s.transactions s.lists s.entities ty (assembled a s).lists (resides-assembled a s is ty.resides) refl refl (missing-without (is_of a.block a.set) s.lists.assemblies ty.assembling)
   change-keeps (Comes {s = s} a is more) ty = agree-apart p s.transactions s.lists s.entities ty (come_to a s).lists (resides-come a s ty.resides) refl refl (missing-changed (is_of a.block a.set) s.lists.assemblies a is more ty.assembling)
-  change-keeps (Unlinked {s = s} c target n t ns members row is found members_is row_is fits may below) ty = unlinks s ty c target n t ns members row is found members_is row_is fits may
+  change-keeps (Unlinked {s = s} c target n t ns members row is found members_is row_is fits may below pays) ty = unlinks s ty c target n t ns members row is found members_is row_is fits may
   change-keeps (Woken {s = s}) ty = agree-apart p s.transactions s.lists s.entities ty (woken s).lists (resides-woken s ty.resides) refl refl ty.assembling
   change-keeps (Activates {s = s} n ns nobody first) ty =
       agree-apart p s.transactions s.lists s.entities ty (record s.lists { active = Some n; current_events = ns }) (resides-active n ns s nobody first ty.resides) refl refl ty.assembling
@@ -589,177 +603,6 @@ module _ (p : Parts) (flow : FlowHolds p (own_table p)) where
   change-keeps (Counts by) ty = ty
   change-keeps (Marks steps ended) ty = ty
 
-  pub trace-keeps : {en ar en' ar' : ℕ} {s t : State} → Trace p en ar s en' ar' t → WellTyped p s → WellTyped p t
+  pub trace-keeps : {en ar c en' ar' c' : ℕ} {s t : State} → Trace p en ar c s en' ar' c' t → WellTyped p s → WellTyped p t
   trace-keeps Done ty = ty
   trace-keeps (Then x xs) ty = trace-keeps xs (change-keeps x ty)
-
--- WITHIN CAPACITY
-
-fills-later : (time : ℕ) (g : EntityStates) → AreWithinCapacity g → AreWithinCapacity (time_passes time g)
-fills-later time g w = record {
-  contents = λ e. subst (λ (x : Storage). x.contents.content ≤ x.capacity) (sym (storages-later time g.storages e)) (w.contents e);
-}
-
--- what a placement leaves as it was: the entities and the arrivals; and it makes no more live
-record Leaves (s t : State) : Type 0 where
-  entities : t.entities ≡ s.entities
-  scheduled : t.scheduled ≡ s.scheduled
-  live : live_count t.transactions ≤ live_count s.transactions
-
-pub written-live : (ts : List (Option LiveTransaction)) (n : ℕ) (v : Option LiveTransaction) → live_count (put None ts n v) + one_if (is_some (at None ts n)) ≡ live_count ts + one_if (is_some v)
-written-live ts n v = count_by-put None is_some ts n v refl
-
--- who joins a user chain or leaves one lives as before
-chained-live : (ts : List (Option LiveTransaction)) (n : ℕ) (chain : Option ℕ) → live_count (put_chain n chain ts) ≡ live_count ts
-chained-live ts n chain = omega (arith, written-live ts n (option_map (with_chain chain) (at None ts n)), ap one_if (is_some-chain chain (at None ts n)))
-
-placed-leaves : (n : ℕ) (placement : Placement) (s : State) → Leaves s (placed_at n placement s)
-placed-leaves n StaysActive s = record { entities = refl; scheduled = refl; live = omega arith }
-placed-leaves n (RestsUntil time) s = record { entities = refl; scheduled = refl; live = omega arith }
-placed-leaves n (JoinsDelayList e) s = record { entities = refl; scheduled = refl; live = omega arith }
-placed-leaves n JoinsRetryList s = record { entities = refl; scheduled = refl; live = omega arith }
-placed-leaves n RestsAhead s = record { entities = refl; scheduled = refl; live = omega arith }
-placed-leaves n RestsBehind s = record { entities = refl; scheduled = refl; live = omega arith }
-placed-leaves n (AwaitsSet a) s = record { entities = refl; scheduled = refl; live = omega arith }
-placed-leaves n (JoinsChain l) s = record { entities = refl; scheduled = refl; live = omega (arith, chained-live s.transactions n (Some l.chain)) }
-placed-leaves n LeavesModel s = record { entities = refl; scheduled = refl; live = omega (arith, written-live s.transactions n None) }
-
-change-fills : (p : Parts) {en ar en' ar' : ℕ} {s t : State} → Change p en ar s en' ar' t → AreWithinCapacity s.entities → AreWithinCapacity t.entities
-change-fills p (Goes n to t u block row state h is same here known along may balance) w = balance.filled w
-change-fills p (EntersLast n t block row is here) w = w
-change-fills p (GoesWith n to q value t block row state is here known along may balance) w = w
-change-fills p (Arrives b g row priority time block is none later owed few) w = w
-change-fills p (Rests {s = s} n placement may) w = subst AreWithinCapacity (sym (placed-leaves n placement s).entities) w
-change-fills p (Called e n here below) w = w
-change-fills p (Copied n target b t u block row state found mark known block_is row_is along may facilities units few) w = w
-change-fills p (Assembled a is) w = w
-change-fills p (Comes a is more) w = w
-change-fills p (Unlinked c target n t ns members row is found members_is row_is fits may below) w = w
-change-fills p Woken w = w
-change-fills p (Activates n ns nobody first) w = w
-change-fills p (ClockMoves {s = s} e es is) w = fills-later (unsigned_abs (e.time -ℤ s.clock)) s.entities w
-change-fills p (Draws streams same) w = w
-change-fills p (Counts by) w = w
-change-fills p (Marks steps ended) w = w
-
-pub trace-fills : (p : Parts) {en ar en' ar' : ℕ} {s t : State} → Trace p en ar s en' ar' t → AreWithinCapacity s.entities → AreWithinCapacity t.entities
-trace-fills p Done w = w
-trace-fills p (Then x xs) w = trace-fills p xs (change-fills p x w)
-
--- NUMBERS
-
-module _ (p : Parts) where
-  rests-within : (en ar n : ℕ) (placement : Placement) (s : State) → Rested p n placement s → IsWithin (length p.blocks) (length p.entities) en ar s → IsWithin (length p.blocks) (length p.entities) (credited placement en) ar (placed_at n placement s)
-  rests-within en ar n StaysActive s may w = w
-  rests-within en ar n (RestsUntil time) s may w = within-rests (length p.blocks) (length p.entities) en ar s w n time may.1
-  rests-within en ar n (JoinsDelayList e) s may w = within-waits (length p.blocks) (length p.entities) en ar s w e n may.2
-  rests-within en ar n JoinsRetryList s may w = within-retries (length p.blocks) (length p.entities) en ar s w n
-  rests-within en ar n RestsAhead s may w = within-ahead (length p.blocks) (length p.entities) en ar s w n
-  rests-within en ar n RestsBehind s may w = within-behind (length p.blocks) (length p.entities) en ar s w n
-  rests-within en ar n (AwaitsSet a) s may w = within-awaits (length p.blocks) (length p.entities) en ar s w n a
-  rests-within en ar n (JoinsChain l) s may w = within-linked (length p.blocks) (length p.entities) en ar s w n l may.1.below (at_some s.transactions n may.1.t may.1.found)
-  rests-within en ar n LeavesModel s may w = within-destroyed (length p.blocks) (length p.entities) en ar s w n (at_some s.transactions n may.1.t may.1.found)
-
-  whole-of : (en ar : ℕ) (s : State) → IsWithin (length p.blocks) (length p.entities) en ar s → AreWhole (length p.entities) s.entities
-  whole-of en ar s w = record { facilities = w.whole.facilities; storages = w.whole.storages; queues = w.whole.queues; switches = w.whole.switches; savevalues = w.whole.savevalues; tables = w.whole.tables }
-
-  change-within : {en ar en' ar' : ℕ} {s t : State} → Change p en ar s en' ar' t → IsWithin (length p.blocks) (length p.entities) en ar s → IsWithin (length p.blocks) (length p.entities) en' ar' t
-  change-within (Goes {en = en} {ar = ar} {s = s} n to t u block row state h is same here known along may balance) w =
-      within-entered (length p.blocks) (length p.entities) en ar s w n u to h (omega (arith, same.next, block_below p.blocks t.next block is.block_is)) (number_below s.transactions n t is.found) (same.mark w.clock (mark_from s.transactions n t w.marked is.found)) (balance.raises (whole-of en ar s w))
-  change-within (EntersLast {en = en} {ar = ar} {s = s} n t block row is here) w =
-      within-entered (length p.blocks) (length p.entities) en ar s w n t t.next s.entities (block_below p.blocks t.next block is.block_is) (number_below s.transactions n t is.found) (mark_from s.transactions n t w.marked is.found) (raises-same s.entities)
-  change-within (GoesWith {en = en} {ar = ar} {s = s} n to q value t block row state is here known along may balance) w =
-      let before = within-assigned (length p.blocks) (length p.entities) en ar s w n q value (number_below s.transactions n t is.found) in
-      within-entered (length p.blocks) (length p.entities) en ar (assigned n q value s) before n t to s.entities (block_below p.blocks t.next block is.block_is) (number_below (put_parameter n q value s.transactions) n t (attributes-parameter s.transactions n q value ∙ is.found)) (mark_from s.transactions n t w.marked is.found) (raises-same s.entities)
-  change-within (Arrives {en = en} {ar = ar} {s = s} b g row priority time block is none later owed few) w =
-      within-arrives (length p.blocks) (length p.entities) en ar s w b priority time (block_below p.blocks b (blocks.Generate g) block) later
-  change-within (Rests {en = en} {ar = ar} {s = s} n placement may) w = rests-within en ar n placement s may w
-  change-within (Called {en = en} {ar = ar} {s = s} e n here below) w = within-called (length p.blocks) (length p.entities) (suc en) ar s w e n below here en refl
-  change-within (Copied {en = en} {ar = ar} {s = s} n target b t u block row state found mark known block_is row_is along may facilities units few) w =
-      within-copied (length p.blocks) (length p.entities) en ar s w n t target (subst (λ (z : ℤ). pos 0 ≤ℤ z) (sym mark) (mark_from s.transactions n u w.marked found))
-  change-within (Assembled {en = en} {ar = ar} {s = s} a is) w = within-assembled (length p.blocks) (length p.entities) en ar s w a
-  change-within (Comes {en = en} {ar = ar} {s = s} a is more) w = within-come (length p.blocks) (length p.entities) en ar s w a
-  change-within (Unlinked {en = en} {ar = ar} {s = s} c target n t ns members row is found members_is row_is fits may below) w =
-      within-unlinked (length p.blocks) (length p.entities) en ar s w c target n t below (number_below s.transactions n t found) (mark_from s.transactions n t w.marked found)
-  change-within (Woken {en = en} {ar = ar} {s = s}) w = within-woken (length p.blocks) (length p.entities) en ar s w
-  change-within (Activates {en = en} {ar = ar} {s = s} n ns nobody first) w = within-active (length p.blocks) (length p.entities) en ar s w n ns
-  change-within (ClockMoves {en = en} {ar = ar} {s = s} e es is) w = within-clock (length p.blocks) (length p.entities) en ar s w e es is
-  change-within (Draws {en = en} {ar = ar} {s = s} streams same) w = within-streams (length p.blocks) (length p.entities) en ar s w streams (same w.whole.streams)
-  change-within (Counts {en = en} {ar = ar} {s = s} by) w = within-counted (length p.blocks) (length p.entities) en ar s w by
-  change-within (Marks {en = en} {ar = ar} {s = s} steps ended) w = within-ended (length p.blocks) (length p.entities) en ar s w steps ended
-
-  pub trace-within : {en ar en' ar' : ℕ} {s t : State} → Trace p en ar s en' ar' t → IsWithin (length p.blocks) (length p.entities) en ar s → IsWithin (length p.blocks) (length p.entities) en' ar' t
-  trace-within Done w = w
-  trace-within (Then x xs) w = trace-within xs (change-within x w)
-
--- ARRIVALS AND THE LIVE
-
--- an entry changes nothing of how many live
-pub entered-live : (ts : List (Option LiveTransaction)) (n : ℕ) (a : Transaction) → live_count (put_attributes n a ts) ≡ live_count ts
-entered-live ts n a = omega (arith, written-live ts n (option_map (with_attributes a) (at None ts n)), ap one_if (is_some-attributes a (at None ts n)))
-
-assigned-live : (ts : List (Option LiveTransaction)) (n q : ℕ) (value : ℤ) → live_count (put_parameter n q value ts) ≡ live_count ts
-assigned-live ts n q value = omega (arith, written-live ts n (option_map (with_parameter q value) (at None ts n)), ap one_if (is_some-parameter q value (at None ts n)))
-
-same_generate : (g h : Generate) → Some (blocks.Generate g) ≡ Some (blocks.Generate h) → g ≡ h
-same_generate g h is = cc
-
-one_owed : (limit : Option ℕ) (k : ℕ) → is_owed limit k ≡ true → IfSome limit (λ most. k + 1 ≤ most)
-one_owed None k h = tt
-one_owed (Some most) k h = omega (arith, ltb-true k most h)
-
--- one more arrival is scheduled
-pub limits-raised : (bs : List Block) (scheduled : List ℕ) (b : ℕ) (g : Generate) → block_at bs b ≡ Some (blocks.Generate g) → is_owed g.limit (at 0 scheduled b) ≡ true → AreWithinLimits bs scheduled → AreWithinLimits bs (raised b scheduled)
-limits-raised bs scheduled b g is owed l = record {
-  arrivals = by_entry 0 scheduled b (at 0 scheduled b + 1) (λ c k. (h : Generate) → block_at bs c ≡ Some (blocks.Generate h) → IfSome h.limit (λ limit. k ≤ limit))
-      (λ h here. subst (λ (x : Generate). IfSome x.limit (λ limit. at 0 scheduled b + 1 ≤ limit)) (same_generate g h (sym is ∙ here)) (one_owed g.limit (at 0 scheduled b) owed))
-      (λ c apart. l.arrivals c);
-}
-
-change-limits : (p : Parts) {en ar en' ar' : ℕ} {s t : State} → Change p en ar s en' ar' t → AreWithinLimits p.blocks s.scheduled → AreWithinLimits p.blocks t.scheduled
-change-limits p (Goes n to t u block row state h is same here known along may balance) l = l
-change-limits p (EntersLast n t block row is here) l = l
-change-limits p (GoesWith n to q value t block row state is here known along may balance) l = l
-change-limits p (Arrives {s = s} b g row priority time block is none later owed few) l = limits-raised p.blocks s.scheduled b g block owed l
-change-limits p (Rests {s = s} n placement may) l = subst (AreWithinLimits p.blocks) (sym (placed-leaves n placement s).scheduled) l
-change-limits p (Called e n here below) l = l
-change-limits p (Copied n target b t u block row state found mark known block_is row_is along may facilities units few) l = l
-change-limits p (Assembled a is) l = l
-change-limits p (Comes a is more) l = l
-change-limits p (Unlinked c target n t ns members row is found members_is row_is fits may below) l = l
-change-limits p Woken l = l
-change-limits p (Activates n ns nobody first) l = l
-change-limits p (ClockMoves e es is) l = l
-change-limits p (Draws streams same) l = l
-change-limits p (Counts by) l = l
-change-limits p (Marks steps ended) l = l
-
-pub trace-limits : (p : Parts) {en ar en' ar' : ℕ} {s t : State} → Trace p en ar s en' ar' t → AreWithinLimits p.blocks s.scheduled → AreWithinLimits p.blocks t.scheduled
-trace-limits p Done l = l
-trace-limits p (Then x xs) l = trace-limits p xs (change-limits p x l)
-
-change-live : (p : Parts) {en ar en' ar' : ℕ} {s t : State} → Change p en ar s en' ar' t → AreFewLive s.transactions → AreFewLive t.transactions
-change-live p (Goes {s = s} n to t u block row state h is same here known along may balance) l = record { live = omega (arith, l.live, entered-live s.transactions n (record u { current = u.next; next = to })) }
-change-live p (EntersLast {s = s} n t block row is here) l = record { live = omega (arith, l.live, entered-live s.transactions n (record t { current = t.next })) }
-change-live p (GoesWith {s = s} n to q value t block row state is here known along may balance) l =
-    record { live = omega (arith, l.live, assigned-live s.transactions n q value, entered-live (put_parameter n q value s.transactions) n (record t { current = t.next; next = to })) }
-change-live p (Arrives {s = s} b g row priority time block is none later owed few) l =
-    record { live = omega (arith, leb-true (live_count s.transactions + 1) 65536 few, written-live s.transactions (length s.transactions) (Some (newcomer b priority s))) }
-change-live p (Rests {s = s} n placement may) l = record { live = omega (arith, l.live, (placed-leaves n placement s).live) }
-change-live p (Called e n here below) l = l
-change-live p (Copied {s = s} n target b t u block row state found mark known block_is row_is along may facilities units few) l =
-    record { live = omega (arith, few, written-live s.transactions (length s.transactions) (Some (made_with (parameters_of n s) (record t { next = target })))) }
-change-live p (Assembled a is) l = l
-change-live p (Comes a is more) l = l
-change-live p (Unlinked {s = s} c target n t ns members row is found members_is row_is fits may below) l =
-    record { live = omega (arith, l.live, entered-live s.transactions n (record t { next = target }), chained-live (put_attributes n (record t { next = target }) s.transactions) n None) }
-change-live p Woken l = l
-change-live p (Activates n ns nobody first) l = l
-change-live p (ClockMoves e es is) l = l
-change-live p (Draws streams same) l = l
-change-live p (Counts by) l = l
-change-live p (Marks steps ended) l = l
-
-pub trace-live : (p : Parts) {en ar en' ar' : ℕ} {s t : State} → Trace p en ar s en' ar' t → AreFewLive s.transactions → AreFewLive t.transactions
-trace-live p Done l = l
-trace-live p (Then x xs) l = trace-live p xs (change-live p x l)

@@ -61,3 +61,9 @@ safe_answered (Err fault) = tt
 
 pub safe_moment : (clock time : ℤ) → Safe Any (moment_after clock time)
 safe_moment clock time = safe_if Any (int_lt time (pos 0)) _ _ (λ before. tt) (λ later. safe_answered (sum_of clock time))
+
+-- what it gives is so besides
+pub safe_given : {A : Type 0} (P Q : A → Type 0) (o : Outcome A) → Safe P o → OnGives Q o → Safe (λ a. P a × Q a) o
+safe_given P Q (Gives a) h k = (h, k)
+safe_given P Q (EndsBy end) h k = tt
+safe_given P Q (StopsBy stop) h k = absurd h

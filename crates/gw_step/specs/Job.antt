@@ -4,6 +4,7 @@ use Rattle.std.specs.List.{All, range_with_len}
 use Rattle.gw_object.specs.declared.parts.Parts.{Parts}
 use Rattle.gw_object.specs.Grammar.{HasSpelling}
 use Rattle.gw_verify.specs.Checks.{Checked}
+use Rattle.gw_weights.specs.Laws.{Weighted}
 use Rattle.gw_entities.specs.declared.stop.Stop.{Stop}
 use Rattle.gw_step.specs.Outcome.{stop_in}
 use Rattle.gw_step.specs.State.{State}
@@ -73,9 +74,10 @@ pub record Progress : Type 0 where
   pub job : Job
   pub state : State
 
--- a job as it may be made: its object was checked, count and budget are 1 to 2^40, and each stream has a seed in its range
+-- a job as it may be made: its object was checked and is weighted, count and budget are 1 to 2^40, and each stream has a seed in its range
 pub record JobFits (j : Job) : Type 0 where
   pub checked : Checked j.parts
+  pub weighted : Weighted j.parts
   pub spelled : HasSpelling j.parts
   pub count_least : 0 < j.count
   pub count_most : j.count ≤ 2 ^ 40

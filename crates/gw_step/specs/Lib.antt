@@ -15,3 +15,5 @@ pub mod Residence
 pub mod Places
 pub mod Typing
 pub mod Safety
+pub mod Weight
+pub mod Moments

@@ -23,6 +23,7 @@ ghost use Rattle.gw_step.specs.Safety.{
   StoragesKeepTheirCapacity,
   RetryingResideOnce,
 };
+ghost use Rattle.gw_step.specs.Moments.{EntriesArePaid, EntriesAreWithinWeight, StepsAreWithinWeight, MomentsPass};
 
 /// Each state has at most one step, and so a job has at most one state after so many steps.
 #[tactic(auto, using(crate::proofs::Slices::one_step, crate::proofs::Slices::one_state))]
@@ -84,4 +85,20 @@ pub fn no_job_meets_an_error_stop()
 pub fn waiters_are_not_forgotten()
     ensures once { RetryingResideOnce }
     ensures ends { WaitersAloneEnd }
+{}
+
+/// The moment bound: between two states of one clock moment that a job of an accepted object reaches, its block entries, by
+/// whomever they are made, are at most the first state's certified weight, and what that falls by pays for them (ours:
+/// docs/weights.md).
+pub fn entries_are_within_weight()
+    ensures paid { EntriesArePaid }
+    ensures within { EntriesAreWithinWeight }
+{}
+
+/// No job of an accepted object hangs in a clock moment: it makes at most so many steps in it as its certified weight
+/// allows, and then the clock moves or the job ends (ours: docs/weights.md).
+#[tactic(auto, using(crate::proofs::Moment::moments_pass))]
+pub fn moments_pass()
+    ensures within { StepsAreWithinWeight }
+    ensures over { MomentsPass }
 {}

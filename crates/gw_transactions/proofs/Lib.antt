@@ -3,3 +3,4 @@ pub mod Here
 pub mod Slots
 pub mod Populations
 pub mod Shown
+pub mod Listing

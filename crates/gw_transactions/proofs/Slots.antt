@@ -23,7 +23,7 @@ module _ {X : Type 0} where
 
   -- THE NUMBERS
 
-  numbered_tail : (o : Option (ℕ × X)) (slots : List (Option (ℕ × X))) (next : ℕ) → AreNumbered (o ∷ slots) next → AreNumbered slots next
+  pub numbered_tail : (o : Option (ℕ × X)) (slots : List (Option (ℕ × X))) (next : ℕ) → AreNumbered (o ∷ slots) next → AreNumbered slots next
   numbered_tail o slots next num =
       record {
         few = num.few;
@@ -31,7 +31,7 @@ module _ {X : Type 0} where
         distinct = λ p q a b there here same. omega (arith, num.distinct (suc p) (suc q) a b there here same);
       }
 
-  free_tail : (a : ℕ × X) (slots : List (Option (ℕ × X))) (next : ℕ) → AreNumbered (Some a ∷ slots) next → IsFree slots a.0
+  pub free_tail : (a : ℕ × X) (slots : List (Option (ℕ × X))) (next : ℕ) → AreNumbered (Some a ∷ slots) next → IsFree slots a.0
   free_tail a slots next num p b there same = absurd (omega (arith, num.distinct 0 (suc p) a b refl there (sym same)))
 
   -- one slot changes, and its number is of those given out and no other slot's

@@ -2,8 +2,9 @@
 use Rattle.std.specs.Prelude.{◌≡◌, ℕ, suc, ◌-◌, ◌^◌, ◌<◌, ◌≤◌, List, [], ◌∷◌, replicate, Option, Some, None, slice_index_or}
 use Rattle.slab.specs.Slab.{Slab, slab_len}
 use Rattle.gw_transactions.specs.declared.Kept.{Kept}
+use Rattle.gw_transactions.specs.declared.Transaction.{Transaction}
 use Rattle.gw_num.specs.Table.{at, put}
-use Rattle.gw_transactions.specs.Transactions.{Population, LiveTransaction, here_count}
+use Rattle.gw_transactions.specs.Transactions.{Population, LiveTransaction, listed_as, here_count}
 
 module _ {X Y : Type 0} (entry : ℕ → X → Y) (next : ℕ) where
   -- the table of these slots up to the next number, the first slot being at this place: each slot's number has the
@@ -16,6 +17,10 @@ module _ {X Y : Type 0} (entry : ℕ → X → Y) (next : ℕ) where
 -- a transaction that is kept
 abbrev pub live_as : Kept → LiveTransaction
 live_as kept = record { attributes = kept.attributes; parameters = kept.parameters; chain = kept.chain }
+
+-- what an entry of a slab lists of the transaction that it keeps
+abbrev pub listed_in : ℕ × (ℕ × Kept) → Transaction × Option ℕ
+listed_in entry = listed_as (live_as entry.1.1)
 
 -- what the slots and the next number show
 abbrev pub population_of : Slab (ℕ × Kept) → ℕ → Population

@@ -1,5 +1,5 @@
 -- What a contract sees of the transactions of a job: tables by number, which begin at number 0.
-use Rattle.std.specs.Prelude.{◌≡◌, ◌≢◌, ℕ, ◌^◌, ◌<◌, ◌≤◌, ◌==◌, ℤ, List, length, Option, Some, None, option_map, is_some, false, count_by}
+use Rattle.std.specs.Prelude.{◌≡◌, ◌≢◌, ℕ, ◌^◌, ◌<◌, ◌≤◌, ◌==◌, ℤ, List, length, Option, Some, None, option_map, is_some, false, count_by, filter_map}
 use Rattle.std.specs.Option.{option_map_or, option_flatten}
 use Rattle.gw_chains.specs.declared.tx.Tx.{Tx}
 use Rattle.gw_transactions.specs.declared.Transaction.{Transaction}
@@ -91,6 +91,14 @@ pub record IsSound (p : Population) : Type 0 where
   pub placed : (number : ℕ) → is_some (at None p.places number) ≡ is_some (at None p.txs number)
   pub below : (number place : ℕ) → at None p.places number ≡ Some place → number < length p.txs
   pub apart : (m n place : ℕ) → at None p.places m ≡ Some place → at None p.places n ≡ Some place → m ≡ n
+
+-- the attributes of a transaction, and the user chain that it is a member of
+abbrev pub listed_as : LiveTransaction → Transaction × Option ℕ
+listed_as t = (t.attributes, t.chain)
+
+-- those of each transaction that is there
+abbrev pub listed : List (Option LiveTransaction) → List (Transaction × Option ℕ)
+listed txs = filter_map (option_map listed_as) txs
 
 -- how many numbers have a transaction
 abbrev pub live_count : List (Option LiveTransaction) → ℕ

@@ -1,13 +1,15 @@
 //! The transactions of a job: each is kept under a number of its own, and contracts see tables by number.
 #![tactic(auto)]
 
-ghost use Rattle.std.specs.Prelude.{◌≡◌, ◌≤◌, ℕ, None, ◌<◌, ◌+◌, ◌^◌, ◌∷◌, [], length, replicate, IfOk, OnOk, OnErr};
+ghost use Rattle.std.specs.Prelude.{◌≡◌, ◌≤◌, ℕ, None, ◌<◌, ◌+◌, ◌^◌, ◌∷◌, [], length, replicate, IfOk, OnOk, OnErr, IsPermutation};
 ghost use Rattle.gw_num.specs.Table.{at, put};
 
 mod block_counts;
+mod iter;
 mod parameters;
 
 use crate::block_counts::BlockCounts;
+pub use crate::iter::Iter;
 pub use crate::parameters::Parameters;
 use gw_chains::{Memory, Tx};
 use slab::Slab;
@@ -75,7 +77,7 @@ impl Model for Transactions {
 }
 
 impl Transactions {
-    ghost use Rattle.gw_transactions.specs.Transactions.{Holds, KeepsHandles, KeepsOtherHandles, IsSound, as_made, made_with, attributes_at, put_attributes, put_chain, parameter_at, parameters_at, put_parameter, live_count, here_count};
+    ghost use Rattle.gw_transactions.specs.Transactions.{Holds, KeepsHandles, KeepsOtherHandles, IsSound, as_made, made_with, attributes_at, put_attributes, chain_of, put_chain, parameter_at, parameters_at, put_parameter, listed, live_count, here_count};
 
     /// None yet: the first number is 1. It takes memory for the counts of `here`, and none for transactions.
     ///
@@ -124,6 +126,16 @@ impl Transactions {
         ensures { result ≡ live_count self.now.txs }
     {
         self.slots.len()
+    }
+
+    /// The transactions that there are now, in no particular order: the attributes of each, and its user chain.
+    pub fn iter(&self) -> Iter<'_>
+        ensures listed { IsPermutation (listed self.now.txs) result }
+        ensures len { length result ≡ live_count self.now.txs }
+    {
+        Iter {
+            slots: self.slots.iter(),
+        }
     }
 
     /// How many transactions have this block as their current one: a block's number, from 1, or 0 for those that were in
@@ -238,6 +250,14 @@ impl Transactions {
         self.slots[tx.place].1.attributes = transaction;
         self.here.take(was);
         self.here.add(transaction.current);
+    }
+
+    /// The user chain, an entity by its number from 0, of which the transaction of a handle is a member, if it is of one.
+    pub fn chain(&self, tx: Tx) -> Option<u16>
+        requires { Holds self.now tx }
+        ensures { result ≡ chain_of (at None self.now.txs tx.number) }
+    {
+        self.slots[tx.place].1.chain
     }
 
     /// Writes of which user chain, an entity by its number from 0, the transaction of a handle is a member: of none is `None`,

@@ -1,4 +1,4 @@
--- What the verifier checks of an object, in order: kinds, then PLUS code, then flow.
+-- What the verifier checks of an object, in order: kinds, then PLUS code, then flow, then weights.
 use Rattle.std.specs.Prelude.{◌≡◌, ℕ, List, [], ◌∷◌, ◌++◌, Option, None, max}
 use Rattle.gw_object.specs.declared.fault.Fault.{Fault}
 use Rattle.gw_object.specs.declared.parts.Parts.{Parts}
@@ -6,22 +6,31 @@ use Rattle.gw_kinds.specs.Checks.{Check, first_broken}
 use Rattle.gw_kinds.specs.Pass.{kinds_checks}
 use Rattle.gw_code_flow.specs.PlusChecks.{plus_checks}
 use Rattle.gw_flow.specs.Flow.{own_table, flow_checks}
+use Rattle.gw_weights.specs.Weights.{weight_checks}
 
--- the checks for which no memory is needed: of kinds, then of PLUS code
+-- the checks for which no memory is needed, up to flow: of kinds, then of PLUS code
 abbrev pub first_checks : Parts → List Check
 first_checks p = kinds_checks p ++ plus_checks p
 
--- every check in order: those, then of flow with the object's own table
-abbrev pub checks : Parts → List Check
+-- the checks of a checked object, in order: those, then of flow with the object's own table
+unfoldable pub checks : Parts → List Check
 checks p = first_checks p ++ flow_checks p (own_table p)
+
+-- a checked object: none of these is broken
+abbrev pub Checked : Parts → Type 0
+Checked p = first_broken (checks p) ≡ None
+
+-- every check in order: those, then of weights
+abbrev pub all_checks : Parts → List Check
+all_checks p = checks p ++ weight_checks p
 
 -- the first fault, if there is one
 unfoldable pub fault_of : Parts → Option Fault
-fault_of p = first_broken (checks p)
+fault_of p = first_broken (all_checks p)
 
--- a checked object: no check is broken
-abbrev pub Checked : Parts → Type 0
-Checked p = fault_of p ≡ None
+-- an accepted object: no check is broken
+abbrev pub Accepted : Parts → Type 0
+Accepted p = fault_of p ≡ None
 
 -- the greatest of these weights, or 0
 abbrev pub heaviest : List ℕ → ℕ

@@ -6,11 +6,13 @@ ghost use Rattle.gw_kinds.specs.Checks.{first_broken, Finds};
 ghost use Rattle.gw_kinds.specs.Pass.{KindsPass};
 ghost use Rattle.gw_object.specs.Reading.{out_of_memory};
 ghost use Rattle.gw_object.specs.declared.fault.Fault.{Fault};
-ghost use Rattle.gw_verify.specs.Checks.{Checked, first_checks, checks, fault_of, heaviest as heaviest_of};
+ghost use Rattle.gw_weights.specs.Weights.{WeightsPass};
+ghost use Rattle.gw_verify.specs.Checks.{Checked, Accepted, first_checks, checks, all_checks, fault_of, heaviest as heaviest_of};
 
 use gw_flow::{check_flow, check_plus};
 use gw_kinds::check_kinds;
 use gw_object::{Fault, Object};
+use gw_weights::check_weights;
 use std::alloc::Global;
 use std::marker::Model;
 
@@ -22,13 +24,13 @@ pub struct Verified {
 
 impl Model for Verified {
     ghost use Rattle.gw_object.specs.declared.parts.Parts.{Parts};
-    ghost use Rattle.gw_verify.specs.Checks.{Checked};
+    ghost use Rattle.gw_verify.specs.Checks.{Accepted};
 
     ghost Value = { Parts };
 
     ghost view = { λ v. v.object };
 
-    ghost invariant = { λ v. Checked v.object };
+    ghost invariant = { λ v. Accepted v.object };
 }
 
 /// The first fault of kinds and of PLUS code, if there is one.
@@ -40,21 +42,32 @@ fn check_first(object: &Object) -> Result<(), Fault>
     check_plus(object)
 }
 
-/// The first fault of an object, if there is one: kinds before PLUS code, and that before flow.
-fn check_all(alloc: Global, object: &Object) -> Result<(), Fault>
+/// The first fault of kinds, of PLUS code and of flow, if there is one: kinds before PLUS code, and that before flow.
+#[tactic(auto, unfolding(crate::specs::Checks::checks))]
+fn check_through_flow(alloc: Global, object: &Object) -> Result<(), Fault>
     ensures found { FindsOrLacksMemory result (checks object.now) }
     ensures first { (fault : Fault) → first_broken (first_checks object.now) ≡ Some fault → IfErr result (λ e. e ≡ fault) }
+    ensures kinds { IfOk result (λ _. KindsPass object.now) }
 {
     check_first(object)?;
     check_flow(alloc, object)
 }
 
+/// The first fault of an object, if there is one: weights after all else.
+fn check_all(alloc: Global, object: &Object) -> Result<(), Fault>
+    ensures found { FindsOrLacksMemory result (all_checks object.now) }
+    ensures first { (fault : Fault) → first_broken (first_checks object.now) ≡ Some fault → IfErr result (λ e. e ≡ fault) }
+{
+    check_through_flow(alloc, object)?;
+    check_weights(object)
+}
+
 /// Accepts an object exactly where every check holds of it; else hands it back with the first fault: kinds (10 to 15)
-/// before PLUS code (30 to 35) before flow (20 to 28), and block by block; or with 8 Memory, at Nowhere (ours:
-/// docs/refusals.md).
+/// before PLUS code (30 to 35) before flow (20 to 28) before weights (40 to 42), and block by block; or with 8 Memory, at
+/// Nowhere (ours: docs/refusals.md).
 #[tactic(auto, unfolding(crate::specs::Checks::fault_of))]
 pub fn verify(alloc: Global, object: Object) -> Result<Verified, (Object, Fault)>
-    ensures accepted { IfOk result (λ v. (v ≡ object) × Checked object) }
+    ensures accepted { IfOk result (λ v. (v ≡ object) × Accepted object) }
     ensures refused { IfErr result (λ e. (e.0 ≡ object) × ((fault_of object ≡ Some e.1) ⊎ (e.1 ≡ out_of_memory))) }
     // Kinds and PLUS code are checked without memory: a fault of theirs is told, whatever the memory.
     ensures first { (fault : Fault) → first_broken (first_checks object) ≡ Some fault → IfErr result (λ e. e.1 ≡ fault) }
@@ -67,17 +80,21 @@ pub fn verify(alloc: Global, object: Object) -> Result<Verified, (Object, Fault)
 
 impl Verified {
     /// The object, as it was handed in.
+    #[tactic(auto, using(crate::proofs::AllPass::is_checked, crate::proofs::AllPass::weights_pass))]
     pub fn object(&self) -> &Object
         ensures value { result.now ≡ self.now }
         ensures checked { Checked self.now }
+        ensures weights { WeightsPass self.now }
     {
         &self.object
     }
 
     /// The object, given back.
+    #[tactic(auto, using(crate::proofs::AllPass::is_checked, crate::proofs::AllPass::weights_pass))]
     pub fn into_object(self) -> Object
         ensures value { result ≡ self }
         ensures checked { Checked self }
+        ensures weights { WeightsPass self }
     {
         let Verified { object } = self;
         object

@@ -5,7 +5,7 @@ use std::test::Fail;
 use std::time::{Duration, Instant};
 
 /// GENERATE ,,,1 / SPLIT 2 / ASSEMBLE 3 / TERMINATE 1, with a termination count of 1.
-const ASSEMBLING: &[u8] = b"\
+pub(super) const ASSEMBLING: &[u8] = b"\
     GPSO\0\x01\0\0\0\0\0\0\0\0\x01\0\0\x04\
     \x01\0\0\0\0\0\0\0\0\0\0\0\0\0\0\0\0\0\0\0\x01\0\0\0\x01\0\0\0\0\
     \x12\0\x02\0\

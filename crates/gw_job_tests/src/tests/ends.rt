@@ -177,7 +177,7 @@ fn named_ends_by_operands_leave_all_but_the_steps(rt: HostRuntime) -> Result<(),
         (assign(1, Mode::Add, P1), End::Number),
         (assign(2, Mode::Subtract, P1), End::Number),
         // -2^63 - 1.
-        (loop_to(1, 2), End::Number),
+        (loop_to(1, 5), End::Number),
         // 271 - 794 + 285, the rest of 1291394886 by 1589; and half a range below 0.
         (advance_by(RN1, RN1), End::NegativeTime),
         (advance_by(RN1, P1), End::Number),

@@ -25,7 +25,7 @@ const JOINING: &[u8] = b"\
     \0\x01\0\0\0\
     \x01\0\0\0\
     \x01\0\0\x01\0\0\0\0\0\x01\
-    \0\0\0\x01\0\0\0\x01\0\0\0\x01";
+    \0\0\0\x03\0\0\0\x02\0\0\0\x01";
 
 /// GENERATE ,,,2 / QUEUE L / SEIZE F / DEPART L / ADVANCE 4 / RELEASE F / TERMINATE 1, with a termination count of 2.
 const QUEUEING: &[u8] = b"\
@@ -44,7 +44,7 @@ const QUEUEING: &[u8] = b"\
     \x01\0\x01\0\x01\0\
     \x01\0\x01\0\x01\0\
     \x01\0\0\0\
-    \0\0\0\x01\0\0\0\x01\0\0\0\x01\0\0\0\x01\0\0\0\x01\0\0\0\x01\0\0\0\x01";
+    \0\0\0\x05\0\0\0\x04\0\0\0\x03\0\0\0\x02\0\0\0\x01\0\0\0\x02\0\0\0\x01";
 
 /// S STORAGE 3 / GENERATE ,,,1 / ENTER S,3 / ADVANCE 10 / LEAVE S,1 / ADVANCE 10 / TERMINATE 1 / GENERATE ,,1,2 / ENTER S,3
 /// / TERMINATE / GENERATE ,,2,1 / ENTER S / TERMINATE, with a termination count of 1.
@@ -76,8 +76,8 @@ const ENTERING: &[u8] = b"\
     \x01\0\0\0\
     \x01\0\0\0\
     \x01\0\0\x01\0\0\0\0\0\x01\
-    \0\0\0\x01\0\0\0\x01\0\0\0\x01\0\0\0\x01\0\0\0\x01\0\0\0\x01\0\0\0\x01\
-    \0\0\0\x01\0\0\0\x01\0\0\0\x01\0\0\0\x01\0\0\0\x01";
+    \0\0\0\x03\0\0\0\x02\0\0\0\x01\0\0\0\x02\0\0\0\x01\0\0\0\x01\0\0\0\x03\
+    \0\0\0\x02\0\0\0\x01\0\0\0\x03\0\0\0\x02\0\0\0\x01";
 
 /// GENERATE ,,995,2 / SEIZE F / ADVANCE 100 / RELEASE F / TERMINATE / GENERATE ,,1000,1 / TERMINATE 1, with a termination count
 /// of 1. The facility is owned from clock 995 on, and the job ends at 1000.
@@ -99,7 +99,7 @@ const OWNING: &[u8] = b"\
     \x01\0\0\0\
     \x01\0\0\0\
     \x01\0\0\0\
-    \0\0\0\x01\0\0\0\x01\0\0\0\x01\0\0\0\x01\0\0\0\x01\0\0\0\x01\0\0\0\x01";
+    \0\0\0\x03\0\0\0\x02\0\0\0\x01\0\0\0\x02\0\0\0\x01\0\0\0\x02\0\0\0\x01";
 
 /// GENERATE ,,,1 / ASSIGN 1,3 / BACK ADVANCE 2 / LOOP 1,BACK / TERMINATE 1, with a termination count of 1.
 const LOOPING: &[u8] = b"\
@@ -114,7 +114,7 @@ const LOOPING: &[u8] = b"\
     \x01\x01\x01\0\0\0\
     \x01\x01\x01\0\0\0\
     \x01\x01\x01\0\0\0\
-    \0\0\0\x01\0\0\0\x01\0\0\0\x01\0\0\0\x01\0\0\0\x01";
+    \0\0\0\x03\0\0\0\x02\0\0\0\x01\0\0\0\x02\0\0\0\x01";
 
 /// GENERATE ,,,1 / SAVEVALUE A+,1 / TERMINATE 1, with a termination count of 1 and a savevalue A of 2^63-1.
 const RISING: &[u8] = b"\
@@ -125,7 +125,7 @@ const RISING: &[u8] = b"\
     \0\x01\0\0\0\
     \x01\0\0\0\
     \x01\0\0\0\
-    \0\0\0\x01\0\0\0\x01\0\0\0\x01";
+    \0\0\0\x03\0\0\0\x02\0\0\0\x01";
 
 /// GENERATE ,,,1 / SAVEVALUE A-,1 / TERMINATE 1, with a termination count of 1 and a savevalue A of -2^63.
 const FALLING: &[u8] = b"\
@@ -136,7 +136,7 @@ const FALLING: &[u8] = b"\
     \0\x01\0\0\0\
     \x01\0\0\0\
     \x01\0\0\0\
-    \0\0\0\x01\0\0\0\x01\0\0\0\x01";
+    \0\0\0\x03\0\0\0\x02\0\0\0\x01";
 
 /// The job of the object of these bytes before its first step, with a budget of so many steps.
 pub(super) fn job(alloc: Global, bytes: &[u8], budget: u64) -> Result<Sim, Fail> {

@@ -115,11 +115,12 @@ fn turn(action: SwitchAction, switch: u16) -> Block {
     Block::Logic(Logic { action, switch })
 }
 
-/// GENERATE ,,,1 / ASSIGN 1,3 / BACK MARK / LOGIC I,G / LOGIC S,H / SAVEVALUE B-,P1 / LOOP 1,BACK / TERMINATE 1.
-fn three_times() -> [Block; 8] {
+/// GENERATE ,,,1 / ASSIGN 1,3 / BACK ADVANCE 1 / MARK / LOGIC I,G / LOGIC S,H / SAVEVALUE B-,P1 / LOOP 1,BACK / TERMINATE 1.
+fn three_times() -> [Block; 9] {
     [
         one_at(0, 0),
         assign(1, Mode::Set, Operand::Constant(3)),
+        advance(1),
         Block::Mark(None),
         turn(SwitchAction::Invert, 2),
         turn(SwitchAction::Set, 4),
@@ -141,13 +142,13 @@ fn job_of_settings(alloc: Global) -> Result<Sim, Fail> {
 fn settings_and_values_are_reported_in_the_order_of_the_object(
     rt: HostRuntime,
 ) -> Result<(), Fail> {
-    // Three times round: 5 + 3 x 5 steps, 3 + 3 x 5 entries. G is inverted three times, and B is 12 - 3 - 2 - 1.
+    // Three times round: 5 + 3 x 8 steps, 3 + 3 x 6 entries. G is inverted three times, and B is 12 - 3 - 2 - 1.
     let mut sim = job_of_settings(rt.alloc())?;
     run(&mut sim, AMPLE)?;
     let text = report(rt.alloc(), &sim)?;
-    let expected = b"END Done CLOCK 0 STEPS 20 ENTRIES 18 COUNT 0\n\
-        BLOCK 1 GENERATE 1 0\nBLOCK 2 ASSIGN 1 0\nBLOCK 3 MARK 3 0\nBLOCK 4 LOGIC 3 0\n\
-        BLOCK 5 LOGIC 3 0\nBLOCK 6 SAVEVALUE 3 0\nBLOCK 7 LOOP 3 0\nBLOCK 8 TERMINATE 1 0\n\
+    let expected = b"END Done CLOCK 3 STEPS 29 ENTRIES 21 COUNT 0\n\
+        BLOCK 1 GENERATE 1 0\nBLOCK 2 ASSIGN 1 0\nBLOCK 3 ADVANCE 3 0\nBLOCK 4 MARK 3 0\nBLOCK 5 LOGIC 3 0\n\
+        BLOCK 6 LOGIC 3 0\nBLOCK 7 SAVEVALUE 3 0\nBLOCK 8 LOOP 3 0\nBLOCK 9 TERMINATE 1 0\n\
         SAVEVALUE A -5\nFACILITY F ENTRIES 0 OWNER 0 WAIT 0 UTIL 0.000\nSWITCH G 0\n\
         SAVEVALUE B 6\nSWITCH H 1\n";
     assert!(rt; text.as_slice() == expected.as_slice());

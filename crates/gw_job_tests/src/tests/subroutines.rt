@@ -25,11 +25,12 @@ const BOTH: &[TableKind] = &[TableKind::Ret(0), TableKind::Ret(1)];
 /// The first parameter is a number.
 const NUMBER: &[TableKind] = &[TableKind::Num];
 
-/// What a model with subroutines knows: the blocks of each return row, and for each block what the parameters hold from the
-/// first on.
+/// What a model with subroutines knows: the blocks of each return row, for each block what the parameters hold from the first
+/// on, and the weight of each block.
 struct Known {
     returns: &'static [&'static [u16]],
     rows: &'static [&'static [TableKind]],
+    weights: &'static [u32],
 }
 
 /// The row of the state table that knows this of the parameters from the first on.
@@ -76,9 +77,10 @@ fn object_knowing(
 ) -> Result<Verified, Fail> {
     let returns = return_rows(alloc, known)?;
     let states = table(alloc, known)?;
+    let weights = Items::from_vec(Vec::from_slice(alloc, known.weights)?);
     object_of(
         alloc,
-        parts_with(alloc, &[], count, blocks, returns, states)?,
+        parts_with(alloc, &[], count, blocks, returns, states, weights)?,
     )
 }
 
@@ -119,6 +121,7 @@ fn subroutine_comes_back_to_each_of_two_calls(rt: HostRuntime) -> Result<(), Fai
     const KNOWN: Known = Known {
         returns: &[&[2, 3]],
         rows: &[NONE, NONE, FIRST, FIRST, FIRST, FIRST],
+        weights: &[3, 2, 2, 1, 1, 3],
     };
     let blocks = [
         one_at(0, 0),
@@ -139,6 +142,7 @@ fn subroutine_calls_another_one(rt: HostRuntime) -> Result<(), Fail> {
     const KNOWN: Known = Known {
         returns: &[&[2], &[4]],
         rows: &[NONE, NONE, NONE, FIRST, FIRST, BOTH, BOTH],
+        weights: &[4, 3, 1, 2, 2, 1, 3],
     };
     let blocks = [
         one_at(0, 0),
@@ -160,6 +164,7 @@ fn each_transaction_comes_back_to_its_own_call(rt: HostRuntime) -> Result<(), Fa
     const KNOWN: Known = Known {
         returns: &[&[2, 5]],
         rows: &[NONE, NONE, NONE, NONE, NONE, NONE, FIRST, FIRST],
+        weights: &[3, 2, 1, 3, 2, 1, 1, 2],
     };
     let blocks = [
         one_at(0, 0),
@@ -181,6 +186,7 @@ fn return_is_replaced_by_a_number(rt: HostRuntime) -> Result<(), Fail> {
     const KNOWN: Known = Known {
         returns: &[&[2]],
         rows: &[NONE, NONE, FIRST, NUMBER, NUMBER],
+        weights: &[5, 4, 3, 2, 1],
     };
     let blocks = [
         one_at(0, 0),

@@ -2,19 +2,9 @@
 
 use super::named::wrong_object;
 use crate::models::*;
-use gw_blocks::{Block, Split};
+use gw_blocks::Block;
 use gw_kinds::{Exit, Way, Who, exits};
 use std::test::Fail;
-
-/// A SPLIT of so many copies that go to a block, or to the next one.
-macro_rules! split {
-    ($copies:expr, $target:expr) => {
-        Block::Split(Split {
-            copies: $copies,
-            target: $target,
-        })
-    };
-}
 
 /// Whether the transaction leaves a block for the next one, and so many copies of it leave by a way, and nobody else.
 fn leaves_with_copies(block: Block, copies: u16, way: Way) -> bool {

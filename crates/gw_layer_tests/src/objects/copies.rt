@@ -2,17 +2,7 @@
 
 use super::conditions::wrong_spelling;
 use super::*;
-use gw_blocks::{Priority, Split};
-
-/// A SPLIT of so many copies that go to a block, or to the next one.
-macro_rules! split {
-    ($copies:expr, $target:expr) => {
-        Block::Split(Split {
-            copies: $copies,
-            target: $target,
-        })
-    };
-}
+use gw_blocks::Priority;
 
 /// A PRIORITY of a parameter's value, with BU or without.
 macro_rules! priority {

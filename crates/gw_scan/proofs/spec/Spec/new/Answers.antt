@@ -1,6 +1,7 @@
 use Rattle.std.proofs.Common.{arith, rules, ◌≡◌, ◌∙◌, ℕ, ◌≤◌, ◌<◌, ◌^◌, List, length, true, ap, sym, subst}
 use Rattle.std.specs.List.{All}
 use Rattle.gw_object.specs.Grammar.{HasSpelling}
+use Rattle.gw_weights.proofs.Passing.{weights_pass_where_weighted}
 use Rattle.gw_scan.specs.Making.{seeds_fit, seeds_or, count_or}
 use Rattle.gw_step.specs.Job.{streams_of}
 use Rattle.gw_scan.proofs.Fits.{seeds-within, length-streams, streams_fit, count-within}
@@ -27,6 +28,7 @@ invariant_of-result c =
     let within = seeds-within c.args.seeds.now c.args.verified.seeds (tested c) (spelled c).limits.each_seed in
     record {
       checked = c.object.ensures.checked;
+      weighted = (weights_pass_where_weighted c.args.verified (spelled c)).0 c.object.ensures.weights;
       spelled = spelled c;
       count_least = (counts c).0;
       count_most = (counts c).1;

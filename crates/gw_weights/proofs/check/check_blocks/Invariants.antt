@@ -1,0 +1,8 @@
+use Rattle.std.proofs.Common.{◌≡◌, ◌+◌, drop}
+use Rattle.gw_kinds.specs.Checks.{first_broken, numbered}
+use Rattle.gw_weights.specs.Weights.{checks_at}
+use Rattle.gw_weights.proofs.check.check_blocks.Given as goal
+
+-- the first fault of the blocks that are left is that of all
+abbrev pub invariant-loop-i : goal.invariant-loop-i
+invariant-loop-i l = first_broken (numbered (checks_at l.parts) (l.i + 1) (drop l.i l.blocks)) ≡ first_broken (numbered (checks_at l.parts) 1 l.blocks)

@@ -1,0 +1,10 @@
+use Rattle.std.proofs.Common.{◌≡◌, drop}
+use Rattle.std.specs.List.{flat_map}
+use Rattle.gw_kinds.specs.Checks.{first_broken}
+use Rattle.gw_weights.specs.Weights.{exit_checks}
+use Rattle.gw_weights.proofs.exits.check_exits.Given as goal
+
+-- the first fault of the exits that are left is that of all
+abbrev pub invariant-loop-exit : goal.invariant-loop-exit
+invariant-loop-exit l =
+    first_broken (flat_map (exit_checks l.parts l.number) (drop l.exit-index l.exits)) ≡ first_broken (flat_map (exit_checks l.parts l.number) l.exits)

@@ -1,0 +1,11 @@
+use Rattle.std.proofs.Common.{◌≡◌, map, drop}
+use Rattle.std.specs.List.{flat_map}
+use Rattle.gw_kinds.specs.Checks.{first_broken}
+use Rattle.gw_kinds.specs.Exits.{returns_to}
+use Rattle.gw_weights.specs.Weights.{exit_checks}
+use Rattle.gw_weights.proofs.exits.check_returns.Given as goal
+
+-- the first fault of the exits that are left is that of all
+abbrev pub invariant-loop-block : goal.invariant-loop-block
+invariant-loop-block l =
+    first_broken (flat_map (exit_checks l.parts l.number) (map returns_to (drop l.block-index l.blocks))) ≡ first_broken (flat_map (exit_checks l.parts l.number) (map returns_to l.blocks))

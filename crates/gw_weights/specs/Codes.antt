@@ -1,0 +1,14 @@
+-- The codes of refusals that checking weights answers.
+use Rattle.std.specs.Prelude.{ℕ}
+
+-- a block weighs too little for where it leads
+abbrev pub weight_edge : ℕ
+weight_edge = 40
+
+-- a LINK weighs too little for its user chain, or a user chain for where an UNLINK sends its members
+abbrev pub chain_weight : ℕ
+chain_weight = 41
+
+-- arrivals may come for ever in one clock moment
+abbrev pub arrival_weight : ℕ
+arrival_weight = 42

@@ -1,0 +1,31 @@
+//! What arrivals need: that only so many come in one clock moment.
+
+ghost use Rattle.std.specs.Prelude.{◌≡◌};
+ghost use Rattle.gw_kinds.specs.Checks.{Finds};
+ghost use Rattle.gw_weights.specs.Weights as model;
+
+use crate::codes::ARRIVAL_WEIGHT;
+use gw_blocks::{Block, Generate};
+use gw_kinds::{check, exits};
+use gw_object::{Fault, Place};
+
+/// Whether only so many arrivals of a GENERATE may come in one clock moment: time passes in its interval, as at an ADVANCE
+/// by it, or it has a limit.
+fn is_bounded(generate: &Generate) -> bool
+    ensures { result ≡ model.is_bounded generate.now }
+{
+    let exits = exits(&Block::Advance(generate.interval));
+    exits.iter().any(|exit| exit.passes_time) || generate.limit.is_some()
+}
+
+/// The fault of a GENERATE, which is the block of this number, whose arrivals may come for ever in one clock moment.
+pub(crate) fn check_arrivals(number: u16, block: &Block) -> Result<(), Fault>
+    ensures { Finds result (model.arrival_checks number block.now) }
+{
+    match block {
+        Block::Generate(generate) => {
+            check(ARRIVAL_WEIGHT, Place::Block(number), is_bounded(generate))
+        }
+        _ => Ok(()),
+    }
+}

@@ -1,0 +1,108 @@
+//! The checks of a weight certificate, in order.
+
+ghost use Rattle.std.specs.Prelude.{◌≡◌, ◌≤◌, Some, length, option_map};
+ghost use Rattle.std.specs.List.{flat_map};
+ghost use Rattle.gw_kinds.specs.Checks.{Finds};
+ghost use Rattle.gw_kinds.specs.Exits.{exits_with};
+ghost use Rattle.gw_kinds.specs.Pass.{KindsPass};
+ghost use Rattle.gw_flow.specs.Blocks.{returns_read};
+ghost use Rattle.gw_flow.specs.Flow.{own_row as row_of};
+ghost use Rattle.gw_flow.specs.Seen.{seen, HaveNext};
+ghost use Rattle.gw_weights.specs.Weights as model;
+
+use crate::arrivals::check_arrivals;
+use crate::chains::check_chain;
+use crate::exits::{check_exits, check_returns};
+use crate::returns::blocks_read;
+use gw_blocks::Block;
+use gw_kinds::exits;
+use gw_object::{Fault, Object, Parts, TableState};
+
+/// The row of the state table of the block of this number, from 1, if it has one.
+fn own_row(parts: &Parts, number: u16) -> Option<&TableState>
+    ensures { option_map (λ row. seen parts.now.returns row.now) result ≡ row_of parts.now number }
+{
+    if number == 0 {
+        return None;
+    }
+    parts.states.as_slice().get(number as usize - 1)?.as_ref()
+}
+
+/// The first fault of the exits of the block of this number in its row of the state table, if there is one.
+fn check_exits_in(parts: &Parts, number: u16, block: &Block, row: &TableState) -> Result<(), Fault>
+    requires number { number ≤ 4096 }
+    requires next { HaveNext parts.now.returns }
+    ensures { Finds result (flat_map (model.exit_checks parts.now number) (exits_with (returns_read block.now (seen parts.now.returns row.now)) block.now)) }
+{
+    match block {
+        Block::TransferByParameter(parameter) => {
+            let blocks = blocks_read(parts.returns.as_slice(), row, *parameter);
+            check_returns(parts, number, blocks)
+        }
+        _ => check_exits(parts, number, &exits(block)),
+    }
+}
+
+/// The first fault of the block of this number in its row of the state table, if there is one: of its user chain, then of
+/// its exits.
+fn check_in(parts: &Parts, number: u16, block: &Block, row: &TableState) -> Result<(), Fault>
+    requires number { number ≤ 4096 }
+    requires next { HaveNext parts.now.returns }
+    ensures { Finds result (model.row_checks parts.now number block.now (Some (seen parts.now.returns row.now))) }
+{
+    check_chain(parts, number, block)?;
+    check_exits_in(parts, number, block, row)
+}
+
+/// The first fault of the block of this number in its row of the state table, if it has one.
+fn check_row(parts: &Parts, number: u16, block: &Block) -> Result<(), Fault>
+    requires number { number ≤ 4096 }
+    requires next { HaveNext parts.now.returns }
+    ensures { Finds result (model.row_checks parts.now number block.now (row_of parts.now number)) }
+{
+    match own_row(parts, number) {
+        Some(row) => check_in(parts, number, block, row),
+        None => Ok(()),
+    }
+}
+
+/// The first fault of the block of this number, if there is one: of its arrivals, then in its row of the state table.
+fn check_block(parts: &Parts, number: u16, block: &Block) -> Result<(), Fault>
+    requires number { number ≤ 4096 }
+    requires next { HaveNext parts.now.returns }
+    ensures { Finds result (model.checks_at parts.now number block.now) }
+{
+    check_arrivals(number, block)?;
+    check_row(parts, number, block)
+}
+
+/// The first fault of the blocks, if there is one.
+#[tactic(auto, unfolding(crate::specs::Weights::weight_checks))]
+fn check_blocks(parts: &Parts) -> Result<(), Fault>
+    requires few { length parts.now.blocks ≤ 4096 }
+    requires next { HaveNext parts.now.returns }
+    ensures { Finds result (model.weight_checks parts.now) }
+{
+    let blocks = parts.blocks.as_slice();
+    for i in 0..blocks.len() {
+        check_block(parts, (i + 1) as u16, &blocks[i])?;
+    }
+    Ok(())
+}
+
+/// Accepts an object exactly where its weights are a certificate that no transaction goes on for ever in one clock moment:
+/// each block with a row of the state table weighs as much as an entry and all that follows from it at once. Else the
+/// first fault: the blocks in ascending order, and of one block its arrivals, then its user chain, then its exits in order.
+///
+/// 42 ArrivalWeight is of a GENERATE, with a row or without, whose interval isn't known to be 1 or more and that has no
+/// limit. 41 ChainWeight is of a LINK that doesn't weigh 1 more than its user chain, and of an UNLINK whose user chain has a
+/// row and weighs less than the block to which its members go. 40 WeightEdge, at the edge, is of an exit along which
+/// somebody goes at once, where the block doesn't weigh 1 more than the block there; of a SPLIT's copies, where it doesn't
+/// weigh 1 more than the next block and, for each copy, the block to which that goes (ours: docs/weights.md). Kinds have to
+/// pass before. It takes no memory.
+pub fn check_weights(object: &Object) -> Result<(), Fault>
+    requires kinds { KindsPass object.now }
+    ensures { Finds result (model.weight_checks object.now) }
+{
+    check_blocks(object.parts())
+}
