@@ -108,6 +108,40 @@ fn future_events_chain_goes_by_time(rt: HostRuntime) -> Result<(), Fail> {
     Ok(())
 }
 
+/// A chain on which so many are scheduled, by turns for 1 and for 2.
+fn by_turns(alloc: Global, count: u64) -> Result<Fec, Memory> {
+    let mut chain = Fec::new(alloc);
+    for number in 0..count {
+        chain.reserve(1)?;
+        chain.schedule(tx(number), 1 + (number % 2) as i64);
+    }
+    Ok(chain)
+}
+
+/// How many are scheduled for a time.
+fn scheduled_for(chain: &Fec, time: i64) -> usize {
+    let mut count = 0usize;
+    for event in chain.iter() {
+        if event.time == time {
+            count = count.saturating_add(1);
+        }
+    }
+    count
+}
+
+#[test]
+fn each_future_event_is_gone_through(rt: HostRuntime) -> Result<(), Fail> {
+    // More than are recent.
+    let chain = by_turns(rt.alloc(), 1201)?;
+    let counts = [
+        scheduled_for(&chain, 0),
+        scheduled_for(&chain, 1),
+        scheduled_for(&chain, 2),
+    ];
+    assert!(rt; counts == [0, 601, 600]);
+    Ok(())
+}
+
 /// Puts a transaction on the delay list of an entity.
 fn wait(waits: &mut Waits, entity: u16, number: u64, priority: i32) -> Result<(), Memory>
     requires { entity < length waits.old.lists }

@@ -104,6 +104,40 @@ fn a_user_chain_changes_no_attribute_and_no_parameter(rt: HostRuntime) -> Result
     Ok(())
 }
 
+/// How many of those that are there are in this block, as members of this user chain or of none.
+fn listed(transactions: &Transactions, current: u16, chain: Option<u16>) -> usize {
+    let mut count = 0usize;
+    for (transaction, joined) in transactions.iter() {
+        if transaction.current == current && joined == chain {
+            count = count.saturating_add(1);
+        }
+    }
+    count
+}
+
+/// How many of four are in block 4 and on no user chain, and on the user chains 7 and 8, where one of the first was removed.
+fn four_that_are_listed(alloc: Global) -> Result<[usize; 3], Memory> {
+    let mut transactions = Transactions::new(alloc)?;
+    transactions.reserve(4)?;
+    let first = transactions.insert(in_block(4, 1));
+    let second = transactions.insert(in_block(4, 2));
+    transactions.insert(in_block(4, 3));
+    transactions.insert(in_block(5, 4));
+    transactions.put_chain(second, Some(7));
+    transactions.remove(first);
+    Ok([
+        listed(&transactions, 4, None),
+        listed(&transactions, 4, Some(7)),
+        listed(&transactions, 4, Some(8)),
+    ])
+}
+
+#[test]
+fn those_that_are_there_are_listed(rt: HostRuntime) -> Result<(), Fail> {
+    assert!(rt; four_that_are_listed(rt.alloc())? == [1, 1, 0]);
+    Ok(())
+}
+
 #[test]
 fn live_and_here_count_those_that_are_there(rt: HostRuntime) -> Result<(), Fail> {
     let are_right = three_that_move(rt.alloc())?;

@@ -5,7 +5,7 @@ use gw_blocks::{Block, Generate, Loop, Operand, Spread};
 use gw_kinds::check_kinds;
 use gw_object::{Entity, Fault, Items, Kind, Memory, Object, Parts, Place, TableKind, TableState};
 use gw_verify::verify;
-use gw_weights::{check_weights, codes};
+use gw_weights::{chain_weight, check_weights, codes, weight_at};
 use std::alloc::Global;
 use std::test::Fail;
 
@@ -555,6 +555,27 @@ fn the_first_block_is_named_and_in_it_arrivals_before_exits(rt: HostRuntime) -> 
         ),
     ];
     assert!(rt; wrong_fault(rt.alloc(), CASES, &[])?.is_none());
+    Ok(())
+}
+
+/// What the blocks 0, 1, 2, 6 and 7 and the user chain weigh, of which the first and the last block aren't there.
+fn weighed(parts: &Parts) -> [u32; 6] {
+    let weights = parts.weights.as_slice();
+    [
+        weight_at(weights, 0),
+        weight_at(weights, 1),
+        weight_at(weights, 2),
+        weight_at(weights, 6),
+        weight_at(weights, 7),
+        chain_weight(parts, C),
+    ]
+}
+
+#[test]
+fn places_weigh_as_their_object_says(rt: HostRuntime) -> Result<(), Fail> {
+    const TABLE: Table = linking!(6, 2, 5);
+    let parts = parts_of(rt.alloc(), TABLE, (4, true), &[])?;
+    assert!(rt; weighed(&parts) == [0, 9, 6, 5, 0, 4]);
     Ok(())
 }
 

@@ -6,18 +6,11 @@ ghost use Rattle.std.specs.Prelude.{◌≤◌};
 use gw_blocks::Block;
 use gw_kinds::{Exit, Who, exits, leads_to};
 use gw_object::{Items, Memory};
+use gw_weights::weight_at;
 use std::alloc::Global;
 
 /// The greatest weight.
 const MOST: u64 = 1_000_000_000;
-
-/// The weight of the block of this number, from 1; 0 where there is no such block.
-fn weight_at(weights: &[u32], number: u16) -> u32 {
-    if number == 0 {
-        return 0;
-    }
-    weights.get(number as usize - 1).copied().unwrap_or(0)
-}
 
 /// What the block of this number has to weigh for those who go along an exit of it.
 fn needed(weights: &[u32], number: u16, exit: Exit) -> u64
