@@ -3,6 +3,7 @@ use Rattle.std.proofs.Common.{◌≡◌, ℕ, suc, ◌+◌, ◌*◌, ◌≤◌, 
 use Rattle.std.specs.Prelude.{int_le, sum, IsSome}
 use Rattle.std.proofs.lemmas.Bool.{cases_eq}
 use Rattle.std.proofs.lemmas.Int.{ints}
+use Rattle.std.proofs.lemmas.List.{length-append}
 use Rattle.gw_object.specs.declared.parts.Parts.{Parts}
 use Rattle.gw_num.specs.Table.{at, put}
 use Rattle.gw_num.proofs.Tables.{at-put_other}
@@ -16,7 +17,7 @@ use Rattle.gw_step.specs.Placing.{placed_at, placed}
 use Rattle.gw_step.specs.Residence.{occurrences, active_numbers}
 use Rattle.gw_step.specs.Numbers.{AreFewLive}
 use Rattle.gw_step.specs.Typing.{WellTyped}
-use Rattle.gw_step.proofs.Residence.{one_if, same_number, at_most_one}
+use Rattle.gw_step.proofs.Residence.{one_if, same_number, at_most_one, occurrences-append}
 use Rattle.gw_step.proofs.Within.{sum-raised}
 use Rattle.gw_step.proofs.Traces.{Change, Goes, EntersLast, GoesWith, Arrives, Copied, Rests, Called, Assembled, Comes, Unlinked, Woken, Activates, ClockMoves, Draws, Counts, Marks, Trace, Done, Then}
 use Rattle.gw_step.proofs.Bounds.{written-live}
@@ -65,14 +66,6 @@ few_live (x ∷ xs) ts h =
     ]) in
     omega (arith, without, own, lives, same_number x x refl, written-live ts x None)
 
-occurrences-both : (n : ℕ) (xs ys : List ℕ) → occurrences n (xs ++ ys) ≡ occurrences n xs + occurrences n ys
-occurrences-both n [] ys = omega arith
-occurrences-both n (x ∷ xs) ys = omega (arith, occurrences-both n xs ys)
-
-length-both : (xs ys : List ℕ) → length (xs ++ ys) ≡ length xs + length ys
-length-both [] ys = omega arith
-length-both (x ∷ xs) ys = omega (arith, length-both xs ys)
-
 pub are_few : (s : State) {p : Parts} → WellTyped p s → AreFewLive s.transactions → AreFew s
 are_few s ty live =
     let all = (active_numbers s.lists.active ++ s.lists.current_events) ++ s.lists.retry in
@@ -82,12 +75,12 @@ are_few s ty live =
         few_live all s.transactions (λ n. omega (
           arith,
           ty.resides n,
-          occurrences-both n (active_numbers s.lists.active ++ s.lists.current_events) s.lists.retry,
-          occurrences-both n (active_numbers s.lists.active) s.lists.current_events,
+          occurrences-append n (active_numbers s.lists.active ++ s.lists.current_events) s.lists.retry,
+          occurrences-append n (active_numbers s.lists.active) s.lists.current_events,
         )),
         live.live,
-        length-both (active_numbers s.lists.active ++ s.lists.current_events) s.lists.retry,
-        length-both (active_numbers s.lists.active) s.lists.current_events,
+        length-append (active_numbers s.lists.active ++ s.lists.current_events) s.lists.retry,
+        length-append (active_numbers s.lists.active) s.lists.current_events,
       );
     }
 

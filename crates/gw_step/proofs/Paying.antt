@@ -45,7 +45,3 @@ module _ (p : Parts) (b : ℕ) (block : Block) (row : Row) (block_is : block_at 
   -- the way back to after a block that called it
   pub return_paid : (from : ℕ) → Contains (exits_with (returns_read block row) block) (returns_to from) → (c : ℕ) → Paid p (1 + weight_at p.weights (from + 1) + c) (weight_at p.weights b + c)
   return_paid from among c = way_paid (Goes (from + 1)) c (λ weighted. All-contains (PaysExit p b) (exits_with (returns_read block row) block) (returns_to from) (exits_paid weighted) among)
-
-  -- its own entry
-  pub entry_paid : (d : ℕ) → Paid p (1 + d) (weight_at p.weights b + d)
-  entry_paid d weighted = omega (arith, weighted.least b block block_is)

@@ -206,7 +206,7 @@ resides-called e n s there h k =
 
 -- THE RETRY LIST
 
-occurrences-append : (k : ℕ) (xs ys : List ℕ) → occurrences k (xs ++ ys) ≡ occurrences k xs + occurrences k ys
+pub occurrences-append : (k : ℕ) (xs ys : List ℕ) → occurrences k (xs ++ ys) ≡ occurrences k xs + occurrences k ys
 occurrences-append k [] ys = omega arith
 occurrences-append k (x ∷ xs) ys = omega (arith, occurrences-append k xs ys)
 
