@@ -108,8 +108,8 @@ impl Sim {
     /// the places of all live transactions, but those that are scheduled for later, and of what is owed
     /// (ours: docs/weights.md). It takes no memory.
     ///
-    /// No clause says so, but it is below 2^74: at most 65,536 are live, at places of 10^9 at most, and each of at most 4,096 blocks owes fewer
-    /// than 2^32 arrivals of 10^9 at most.
+    /// No clause says so, but it is below 2^74: at most 65,536 are live, at places of 10^9 at most, and each of at most
+    /// 4,096 blocks owes fewer than 2^32 arrivals of 10^9 at most.
     pub fn weight(&self) -> u128
         ensures { result ≡ weight self.now.job.parts self.now.state }
     {
