@@ -122,7 +122,7 @@ fn move_to<'a>(target: u16, state: State<'a>) -> FlowEdge<'a>
 }
 
 /// Whether somebody may go along an exit: the way of no copies isn't gone.
-fn is_used(who: Who) -> bool
+pub fn is_used(who: Who) -> bool
     ensures { result ≡ model.is_used who }
 {
     match who {

@@ -15,6 +15,6 @@ mod state;
 mod table;
 
 pub use abstract_state::{AbsState, Amount, Parameter, ParameterKind, StateParts};
-pub use edges::{Edge, Target};
+pub use edges::{Edge, Target, is_used};
 pub use flow::{check_flow, out_edges};
 pub use gw_code_flow::check_plus;

@@ -22,4 +22,4 @@ pub use entities::{EntityKind, Named};
 pub use evaluation::{Operands, argument_in, as_operand, evaluated, operand_at, source_of, values};
 pub use pass::check_kinds;
 pub use rows::{chain_place, chain_row};
-pub use ways::{Exit, Way, Who, exits, leads_to, returns_to};
+pub use ways::{Exit, Way, Who, exits, leads_to, returns_to, takes_time};

@@ -67,8 +67,9 @@ fn for_copies(copies: u16, way: Way) -> Exit
     }
 }
 
-/// Whether the least time that may be drawn is known to be 1 clock unit or more.
-fn takes_time(time: Spread) -> bool
+/// Whether the least time that may be drawn of an ADVANCE, or between two arrivals of a GENERATE, is known to be 1 clock unit
+/// or more: both operands are constants, and the half range is 0 or more and less than the mean.
+pub fn takes_time(time: Spread) -> bool
     ensures { result ≡ model.takes_time time.mean time.half }
 {
     match (time.mean, time.half) {

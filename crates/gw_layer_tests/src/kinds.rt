@@ -9,7 +9,7 @@ mod subroutines;
 
 use crate::models::*;
 use gw_blocks::{Block, Generate};
-use gw_kinds::{Way, check, check_kinds, codes, exits, leads_to};
+use gw_kinds::{Way, check, check_kinds, codes, exits, leads_to, takes_time};
 use gw_object::{Fault, Memory, Place, TableState};
 use std::alloc::Global;
 use std::test::Fail;
@@ -307,6 +307,8 @@ fn time_passes_where_at_least_1_is_drawn(rt: HostRuntime) {
         leave_by(advance!(1, 0), &[(FALLS, true)]),
         leave_by(advance!(5, -1), &[(FALLS, false)]),
         leave_by(GENERATE, &[(FALLS, false)]),
+        takes_time(constant_time(3, 2)),
+        !takes_time(constant_time(2, 2)),
     ];
     assert!(rt; first_wrong(&are_right).is_none());
 }

@@ -18,8 +18,9 @@ use Rattle.gw_step.specs.State.{FutureEvent, State}
 use Rattle.gw_step.specs.Changes.{numbers}
 use Rattle.gw_step.specs.Residence.{occurrences, ResidesOnce}
 use Rattle.gw_step.specs.Places.{place_of}
-use Rattle.gw_step.proofs.Sums.{sum-same, sum-but_one}
-use Rattle.gw_step.proofs.Residence.{one_if, same_number, at_most_one}
+use Rattle.gw_step.proofs.Sums.{sum-same, sum-but_one, sum-tabulate_at}
+use Rattle.gw_step.proofs.Residence.{same_number, at_most_one}
+use Rattle.gw_step.proofs.Weighing.{not_there}
 use Rattle.gw_step.specs.Weight.{is_later, weight_in, weighs, weight}
 use Rattle.gw_scan.specs.Weighing.{later_weight, owed_weight}
 
@@ -54,26 +55,11 @@ sum-tabulate_both f g h (suc n) same =
       sum_by-cons (λ (x : ℕ). x) (h 0) (tabulate (later h) n),
     )
 
--- the sum over a table, by number
-sum-tabulate_at : {X : Type 0} (f : Option X → ℕ) (xs : List (Option X)) → sum (tabulate (λ n. f (at None xs n)) (length xs)) ≡ sum_by f xs
-sum-tabulate_at f [] = refl
-sum-tabulate_at f (x ∷ xs) =
-    omega (arith, sum-tabulate_at f xs, sum_by-cons (λ (n : ℕ). n) (f x) (tabulate (λ n. f (at None xs n)) (length xs)), sum_by-cons f x xs)
-
 -- THOSE THAT ARE SCHEDULED FOR LATER
 
 -- what is counted of a number where one of these events schedules it for later than a time
 abbrev part : (ℕ → ℕ) → ℤ → List FutureEvent → ℕ → ℕ
 part f time es n = if list_any (λ (e : FutureEvent). (e.number == n) && int_lt time e.time) es then f n else 0
-
--- no event schedules a number that doesn't occur
-none_later : (time : ℤ) (es : List FutureEvent) (n : ℕ) → occurrences n (numbers es) ≡ 0 → list_any (λ (e : FutureEvent). (e.number == n) && int_lt time e.time) es ≡ false
-none_later time [] n none = refl
-none_later time (e ∷ es) n none = by (e.number == n) refl (none_later time es n (omega (arith, none)))
-  where
-    by : (b : Bool) → e.number == n ≡ b → list_any (λ (e : FutureEvent). (e.number == n) && int_lt time e.time) es ≡ false → list_any (λ (e : FutureEvent). (e.number == n) && int_lt time e.time) (e ∷ es) ≡ false
-    by true same others = absurd (omega (arith, none, ap one_if same))
-    by false other others = rw other others
 
 -- a number that may be counted, or not
 counted_as : (b : Bool) (x : ℕ) → (if (b || false) then x else 0) ≡ (if b then x else 0)
@@ -96,7 +82,7 @@ later_weigh f most past time (e ∷ es) once =
     let later = int_lt time e.time in
     let others = λ (n : ℕ). list_any (λ (e : FutureEvent). (e.number == n) && int_lt time e.time) es in
     let single : occurrences k (numbers es) ≡ 0 = omega (arith, once k, same_number k k refl) in
-    let none : others k ≡ false = none_later time es k single in
+    let none : others k ≡ false = not_there time k es single in
     let now : part f time (e ∷ es) k ≡ (if later then f k else 0) =
     ap (λ b. if ((b && later) || others k) then f k else 0) (eq-eqb k k refl)
     ∙ ap (λ b. if (later || b) then f k else 0) none

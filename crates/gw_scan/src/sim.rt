@@ -5,7 +5,7 @@ ghost use Rattle.gw_num.specs.Table.{at};
 ghost use Rattle.gw_transactions.specs.Transactions.{here_count};
 ghost use Rattle.gw_step.specs.State.{delay_list, user_chain};
 ghost use Rattle.gw_step.specs.Job.{Alone, IsFinal, start_of};
-ghost use Rattle.gw_step.specs.Weight.{weight};
+ghost use Rattle.gw_step.specs.Weight.{weight, most_weight};
 
 use crate::scan::step;
 use crate::spec::{Spec, StartFault};
@@ -108,10 +108,11 @@ impl Sim {
     /// the places of all live transactions, but those that are scheduled for later, and of what is owed
     /// (ours: docs/weights.md). It takes no memory.
     ///
-    /// No clause says so, but it is below 2^74: at most 65,536 are live, at places of 10^9 at most, and each of at most
-    /// 4,096 blocks owes fewer than 2^32 arrivals of 10^9 at most.
+    /// At most 65,536 are live and at most 4,096 blocks owe fewer than 2^32 arrivals each, all at places of 10^9 at most; so it
+    /// is below 2^74.
     pub fn weight(&self) -> u128
-        ensures { result ≡ weight self.now.job.parts self.now.state }
+        ensures value { result ≡ weight self.now.job.parts self.now.state }
+        ensures range { result ≤ most_weight }
     {
         let parts = self.spec.verified().object().parts();
         certified_weight(parts, &self.machine)

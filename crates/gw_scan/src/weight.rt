@@ -14,7 +14,7 @@ ghost use Rattle.gw_scan.specs.Weighing.{later_weight, owed_weight};
 
 use gw_blocks::{Block, Generate};
 use gw_chains::{Event, Tx};
-use gw_kinds::exits;
+use gw_kinds::takes_time;
 use gw_machine::{Machine, block_of};
 use gw_object::Parts;
 use gw_transactions::Transactions;
@@ -78,12 +78,11 @@ fn weight_of_later(parts: &Parts, machine: &Machine) -> u128
 }
 
 /// How many arrivals of a GENERATE are still to be scheduled, where so many were, and all of them may come in one clock
-/// moment: it has a limit, and its interval, as the time of an ADVANCE by it, may be 0.
+/// moment: it has a limit, and its interval may be 0.
 fn still_owed(generate: &Generate, scheduled: u64) -> u32
     ensures { result ≡ model.still_owed generate.now scheduled }
 {
-    let exits = exits(&Block::Advance(generate.interval));
-    if exits.iter().any(|exit| exit.passes_time) {
+    if takes_time(generate.interval) {
         return 0;
     }
     let limit = generate.limit.unwrap_or(0);

@@ -24,6 +24,7 @@ use Rattle.gw_step.specs.Changes.{newcomer, assigned, time_passes}
 use Rattle.gw_step.proofs.Residence.{one_if}
 use Rattle.gw_step.proofs.Within.{raises-same, mark_from, within-entered, within-assigned, within-destroyed, within-retries, within-woken, within-counted, within-arrives, within-rests, within-streams, within-waits, within-called, within-active, within-ended, within-ahead, within-behind, within-copied, within-awaits, within-assembled, within-come, within-linked, within-unlinked}
 use Rattle.gw_step.proofs.Follows.{block_below, within-clock}
+use Rattle.gw_step.proofs.Placed.{placed_at-leaves}
 use Rattle.gw_step.specs.Times.{parameters_of}
 use Rattle.gw_step.specs.Typing.{AreWithinCapacity}
 use Rattle.gw_step.proofs.Agreeing.{AreWhole}
@@ -36,12 +37,6 @@ fills-later time g w = record {
   contents = λ e. subst (λ (x : Storage). x.contents.content ≤ x.capacity) (sym (storages-later time g.storages e)) (w.contents e);
 }
 
--- what a placement leaves as it was: the entities and the arrivals; and it makes no more live
-record Leaves (s t : State) : Type 0 where
-  entities : t.entities ≡ s.entities
-  scheduled : t.scheduled ≡ s.scheduled
-  live : live_count t.transactions ≤ live_count s.transactions
-
 pub written-live : (ts : List (Option LiveTransaction)) (n : ℕ) (v : Option LiveTransaction) → live_count (put None ts n v) + one_if (is_some (at None ts n)) ≡ live_count ts + one_if (is_some v)
 written-live ts n v = count_by-put None is_some ts n v refl
 
@@ -49,23 +44,18 @@ written-live ts n v = count_by-put None is_some ts n v refl
 chained-live : (ts : List (Option LiveTransaction)) (n : ℕ) (chain : Option ℕ) → live_count (put_chain n chain ts) ≡ live_count ts
 chained-live ts n chain = omega (arith, written-live ts n (option_map (with_chain chain) (at None ts n)), ap one_if (is_some-chain chain (at None ts n)))
 
-placed-leaves : (n : ℕ) (placement : Placement) (s : State) → Leaves s (placed_at n placement s)
-placed-leaves n StaysActive s = record { entities = refl; scheduled = refl; live = omega arith }
-placed-leaves n (RestsUntil time) s = record { entities = refl; scheduled = refl; live = omega arith }
-placed-leaves n (JoinsDelayList e) s = record { entities = refl; scheduled = refl; live = omega arith }
-placed-leaves n JoinsRetryList s = record { entities = refl; scheduled = refl; live = omega arith }
-placed-leaves n RestsAhead s = record { entities = refl; scheduled = refl; live = omega arith }
-placed-leaves n RestsBehind s = record { entities = refl; scheduled = refl; live = omega arith }
-placed-leaves n (AwaitsSet a) s = record { entities = refl; scheduled = refl; live = omega arith }
-placed-leaves n (JoinsChain l) s = record { entities = refl; scheduled = refl; live = omega (arith, chained-live s.transactions n (Some l.chain)) }
-placed-leaves n LeavesModel s = record { entities = refl; scheduled = refl; live = omega (arith, written-live s.transactions n None) }
+-- who is placed makes no more live
+placed-live : (n : ℕ) (placement : Placement) (s : State) → live_count (placed_at n placement s).transactions ≤ live_count s.transactions
+placed-live n (JoinsChain l) s = omega (arith, chained-live s.transactions n (Some l.chain))
+placed-live n LeavesModel s = omega (arith, written-live s.transactions n None)
+placed-live n placement s = omega arith
 
 change-fills : (p : Parts) {en ar c en' ar' c' : ℕ} {s t : State} → Change p en ar c s en' ar' c' t → AreWithinCapacity s.entities → AreWithinCapacity t.entities
 change-fills p (Goes n to t u block row state h is same here known along may balance pays) w = balance.filled w
 change-fills p (EntersLast n t block row is here pays) w = w
 change-fills p (GoesWith n to q value t block row state is here known along may balance pays) w = w
 change-fills p (Arrives b g row priority time block is none later passes owed few) w = w
-change-fills p (Rests {s = s} n placement may settles) w = subst AreWithinCapacity (sym (placed-leaves n placement s).entities) w
+change-fills p (Rests {s = s} n placement may settles) w = subst AreWithinCapacity (sym (placed_at-leaves n placement s).entities) w
 change-fills p (Called e n here below) w = w
 change-fills p (Copied n target b t u block row state found mark known block_is row_is along may facilities units few pays) w = w
 change-fills p (Assembled a is) w = w
@@ -157,7 +147,7 @@ change-limits p (Goes n to t u block row state h is same here known along may ba
 change-limits p (EntersLast n t block row is here pays) l = l
 change-limits p (GoesWith n to q value t block row state is here known along may balance pays) l = l
 change-limits p (Arrives {s = s} b g row priority time block is none later passes owed few) l = limits-raised p.blocks s.scheduled b g block owed l
-change-limits p (Rests {s = s} n placement may settles) l = subst (AreWithinLimits p.blocks) (sym (placed-leaves n placement s).scheduled) l
+change-limits p (Rests {s = s} n placement may settles) l = subst (AreWithinLimits p.blocks) (sym (placed_at-leaves n placement s).scheduled) l
 change-limits p (Called e n here below) l = l
 change-limits p (Copied n target b t u block row state found mark known block_is row_is along may facilities units few pays) l = l
 change-limits p (Assembled a is) l = l
@@ -181,7 +171,7 @@ change-live p (GoesWith {s = s} n to q value t block row state is here known alo
     record { live = omega (arith, l.live, assigned-live s.transactions n q value, entered-live (put_parameter n q value s.transactions) n (record t { current = t.next; next = to })) }
 change-live p (Arrives {s = s} b g row priority time block is none later passes owed few) l =
     record { live = omega (arith, leb-true (live_count s.transactions + 1) 65536 few, written-live s.transactions (length s.transactions) (Some (newcomer b priority s))) }
-change-live p (Rests {s = s} n placement may settles) l = record { live = omega (arith, l.live, (placed-leaves n placement s).live) }
+change-live p (Rests {s = s} n placement may settles) l = record { live = omega (arith, l.live, placed-live n placement s) }
 change-live p (Called e n here below) l = l
 change-live p (Copied {s = s} n target b t u block row state found mark known block_is row_is along may facilities units few pays) l =
     record { live = omega (arith, few, written-live s.transactions (length s.transactions) (Some (made_with (parameters_of n s) (record t { next = target })))) }

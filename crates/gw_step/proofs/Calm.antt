@@ -10,16 +10,17 @@ use Rattle.gw_num.proofs.Tables.{at-put_other}
 use Rattle.gw_chains.specs.Chain.{placed_behind, all_behind, later}
 use Rattle.gw_transactions.specs.Transactions.{LiveTransaction, live_count}
 use Rattle.gw_step.specs.declared.placement.Placement.{Placement}
-use Rattle.gw_step.specs.declared.placement.Placement.TheVariants.{StaysActive, RestsUntil, JoinsDelayList, JoinsRetryList, RestsAhead, RestsBehind, AwaitsSet, JoinsChain, LeavesModel}
+use Rattle.gw_step.specs.declared.placement.Placement.TheVariants.{JoinsDelayList, JoinsRetryList}
 use Rattle.gw_step.specs.State.{FutureEvent, State, priority_of}
 use Rattle.gw_step.specs.Changes.{waits_for, retries, woken, clock_moves}
-use Rattle.gw_step.specs.Placing.{placed_at, placed}
+use Rattle.gw_step.specs.Placing.{placed}
 use Rattle.gw_step.specs.Residence.{occurrences, active_numbers}
 use Rattle.gw_step.specs.Numbers.{AreFewLive}
 use Rattle.gw_step.specs.Typing.{WellTyped}
 use Rattle.gw_step.proofs.Residence.{one_if, same_number, at_most_one, occurrences-append}
 use Rattle.gw_step.proofs.Within.{sum-raised}
 use Rattle.gw_step.proofs.Traces.{Change, Goes, EntersLast, GoesWith, Arrives, Copied, Rests, Called, Assembled, Comes, Unlinked, Woken, Activates, ClockMoves, Draws, Counts, Marks, Trace, Done, Then}
+use Rattle.gw_step.proofs.Placed.{placed_at-leaves, placed-leaves}
 use Rattle.gw_step.proofs.Bounds.{written-live}
 
 -- WHAT IS TO BE MOVED
@@ -55,7 +56,7 @@ pub data Moves (s t : State) : Type 0 where
 -- HOW MANY RESIDE
 
 -- the numbers of a list in which none occurs twice and all are those of live transactions are no more than these
-few_live : (xs : List ℕ) (ts : List (Option LiveTransaction)) → ((n : ℕ) → occurrences n xs ≤ one_if (is_some (at None ts n))) → length xs ≤ live_count ts
+pub few_live : (xs : List ℕ) (ts : List (Option LiveTransaction)) → ((n : ℕ) → occurrences n xs ≤ one_if (is_some (at None ts n))) → length xs ≤ live_count ts
 few_live [] ts h = omega arith
 few_live (x ∷ xs) ts h =
     let own = h x in
@@ -173,38 +174,9 @@ clock_calms s e es nobody first same few =
 
 -- STEPS WITH AN ENTRY
 
--- waking makes no entry
-woken_entries : (b : Bool) (s : State) → (if b then woken s else s).entries ≡ s.entries
-woken_entries true s = refl
-woken_entries false s = refl
-
--- nor does who rests
-pub rests_entries : (n : ℕ) (placement : Placement) (s : State) → (placed_at n placement s).entries ≡ s.entries
-rests_entries n StaysActive s = refl
-rests_entries n (RestsUntil time) s = refl
-rests_entries n (JoinsDelayList e) s = refl
-rests_entries n JoinsRetryList s = refl
-rests_entries n RestsAhead s = refl
-rests_entries n RestsBehind s = refl
-rests_entries n (AwaitsSet a) s = refl
-rests_entries n (JoinsChain l) s = refl
-rests_entries n LeavesModel s = refl
-
--- nor does a placement
-placed_entries : (n : ℕ) (placement : Placement) (s : State) → (placed n placement s).entries ≡ s.entries
-placed_entries n StaysActive s = refl
-placed_entries n (RestsUntil time) s = woken_entries s.stir s
-placed_entries n (JoinsDelayList e) s = woken_entries s.stir s
-placed_entries n JoinsRetryList s = woken_entries s.stir s
-placed_entries n RestsAhead s = woken_entries s.stir s
-placed_entries n RestsBehind s = woken_entries s.stir s
-placed_entries n (AwaitsSet a) s = woken_entries s.stir s
-placed_entries n (JoinsChain l) s = woken_entries s.stir s
-placed_entries n LeavesModel s = woken_entries s.stir s
-
 -- an entry that is made stays made once the transaction is placed
 pub placed_grows : (n : ℕ) (placement : Placement) (s t : State) → sum s.entries + 1 ≤ sum t.entries → sum s.entries + 1 ≤ sum (placed n placement t).entries
-placed_grows n placement s t grows = subst (λ xs. sum s.entries + 1 ≤ sum xs) (sym (placed_entries n placement t)) grows
+placed_grows n placement s t grows = subst (λ xs. sum s.entries + 1 ≤ sum xs) (sym (placed-leaves n placement t).entries) grows
 
 -- no elementary change takes an entry back
 change-grows : (p : Parts) {en ar c en' ar' c' : ℕ} {s t : State} → Change p en ar c s en' ar' c' t → sum s.entries ≤ sum t.entries
@@ -212,7 +184,7 @@ change-grows p (Goes {s = s} n to t u block row state h is same here known along
 change-grows p (EntersLast {s = s} n t block row is here pays) = omega (arith, sum-raised t.next s.entries)
 change-grows p (GoesWith {s = s} n to q value t block row state is here known along may balance pays) = omega (arith, sum-raised t.next s.entries)
 change-grows p (Arrives b g row priority time block is none later passes owed few) = omega arith
-change-grows p (Rests {s = s} n placement may settles) = omega (arith, ap (λ (xs : List ℕ). sum xs) (rests_entries n placement s))
+change-grows p (Rests {s = s} n placement may settles) = omega (arith, ap (λ (xs : List ℕ). sum xs) (placed_at-leaves n placement s).entries)
 change-grows p (Called e n here below) = omega arith
 change-grows p (Copied n target b t u block row state found mark known block_is row_is along may facilities units few pays) = omega arith
 change-grows p (Assembled a is) = omega arith

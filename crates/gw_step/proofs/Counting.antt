@@ -25,15 +25,15 @@ use Rattle.gw_entities.specs.Tabulation.{tabulating}
 use Rattle.gw_step.specs.declared.ends.End.{End}
 use Rattle.gw_step.specs.declared.ends.End.TheVariants.{Done, Number, Live}
 use Rattle.gw_step.specs.declared.placement.Placement.{Placement}
-use Rattle.gw_step.specs.declared.placement.Placement.TheVariants.{StaysActive, RestsUntil, JoinsDelayList, JoinsRetryList, RestsAhead, RestsBehind, AwaitsSet, JoinsChain, LeavesModel}
 use Rattle.gw_step.specs.Outcome.{Outcome, Gives, EndsBy, StopsBy, ◌>>=◌, or_stop, granted, evaluated}
 use Rattle.gw_step.specs.State.{FutureEvent, Assembly, State, may_enter, with_streams, delay_list, user_chain}
 use Rattle.gw_step.specs.Times.{environment_of, environment_of_next, moment_after, drawn_moment}
-use Rattle.gw_step.specs.Changes.{copied, copies_made, assembled, come_to, leaves_chain, entered, enters_and_falls, assigned, arrives, woken, facility, storage, queue, switch, savevalue, put_facility, put_storage, put_queue, put_switch, put_savevalue, table, put_table, end_at}
-use Rattle.gw_step.specs.Placing.{woken_if_stirred, placed}
+use Rattle.gw_step.specs.Changes.{copied, copies_made, assembled, come_to, leaves_chain, entered, enters_and_falls, assigned, arrives, facility, storage, queue, switch, savevalue, put_facility, put_storage, put_queue, put_switch, put_savevalue, table, put_table, end_at}
+use Rattle.gw_step.specs.Placing.{placed}
 use Rattle.gw_step.specs.Blocks.{refuses, refusal, is_owed, next_arrival, chosen, passes_test, is_so, led_by, block_after, put_by, looped, turned, the_value, plus, split, assembly_at, joined_by_one, first_unlinked, unlinked, taken_by, unlink, assemble_in, assemble, is_priority, effect, then_placed, meets, act}
 use Rattle.gw_step.specs.Step.{next_event, next_active, scan}
 use Rattle.gw_step.proofs.Outcomes.{OnGives, on_bind, on_test, on_if, on_both, choose, by_option}
+use Rattle.gw_step.proofs.Placed.{placed-leaves}
 use Rattle.gw_step.proofs.Follows.{Stays, stays-same, stays-then, stays-hand_over, stays-admission}
 
 -- from s to t the steps stay, and so do the end and the termination count, or the count brings the end
@@ -52,22 +52,6 @@ counted_on s t u c h = record {
     | inr brought ↦ inr (h.ended ∙ brought ∙ ap end_at (sym h.count))
   ];
 }
-
--- PLACING
-
-woken_stays : (s : State) → Stays s (woken_if_stirred s)
-woken_stays s = choose (Stays s) s.stir (woken s) s (λ _. record { clock = refl; count = refl; steps = refl; ended = refl }) (λ _. stays-same s)
-
-placed_stays : (n : ℕ) (placement : Placement) (s : State) → Stays s (placed n placement s)
-placed_stays n StaysActive s = stays-same s
-placed_stays n (RestsUntil time) s = let h = woken_stays s in record { clock = h.clock; count = h.count; steps = h.steps; ended = h.ended }
-placed_stays n (JoinsDelayList e) s = let h = woken_stays s in record { clock = h.clock; count = h.count; steps = h.steps; ended = h.ended }
-placed_stays n JoinsRetryList s = let h = woken_stays s in record { clock = h.clock; count = h.count; steps = h.steps; ended = h.ended }
-placed_stays n RestsAhead s = let h = woken_stays s in record { clock = h.clock; count = h.count; steps = h.steps; ended = h.ended }
-placed_stays n RestsBehind s = let h = woken_stays s in record { clock = h.clock; count = h.count; steps = h.steps; ended = h.ended }
-placed_stays n (AwaitsSet a) s = let h = woken_stays s in record { clock = h.clock; count = h.count; steps = h.steps; ended = h.ended }
-placed_stays n (JoinsChain l) s = let h = woken_stays s in record { clock = h.clock; count = h.count; steps = h.steps; ended = h.ended }
-placed_stays n LeavesModel s = let h = woken_stays s in record { clock = h.clock; count = h.count; steps = h.steps; ended = h.ended }
 
 -- BLOCKS
 
@@ -209,8 +193,8 @@ module _ (s : State) where
   meets_counted : (p : Parts) (n : ℕ) (t : Transaction) (block : Block) (values : List ℤ) → OnGives (IsCounted s) (meets p n t block values s)
   meets_counted p n t block values =
       on_if (IsCounted s) (refuses n block values s) (Gives (placed n (refusal block) s)) (then_placed n (effect p n t block values s))
-      (counted_same s _ (placed_stays n (refusal block) s))
-      (on_both Entered (IsCounted s) (effect p n t block values s) _ (effect_counted p n t block values) (λ e h. counted_on s e.0 _ h (placed_stays n e.1 e.0)))
+      (counted_same s _ (placed-leaves n (refusal block) s).stays)
+      (on_both Entered (IsCounted s) (effect p n t block values s) _ (effect_counted p n t block values) (λ e h. counted_on s e.0 _ h (placed-leaves n e.1 e.0).stays))
 
 act_counted : (p : Parts) (n : ℕ) (t : Transaction) (block : Block) (s : State) → OnGives (IsCounted s) (act p n t block s)
 unfolding act

@@ -18,6 +18,7 @@ pub mod Unstopped
 pub mod Slices
 pub mod LeftByEnds
 pub mod Rests
+pub mod Placed
 pub mod Counting
 pub mod Drawn
 pub mod Timed
@@ -36,4 +37,5 @@ pub mod Suffices
 pub mod Calm
 pub mod Sums
 pub mod Weighing
+pub mod Heaviest
 pub mod Moment

@@ -44,6 +44,8 @@ use Rattle.gw_step.proofs.Drawn.{IsSound, IsDrawn, AreRead, safe_drawn}
 use Rattle.gw_step.proofs.Asked.{arrival_read}
 use Rattle.gw_step.proofs.Safe.{kinds_of, flow_of, sound_of, reached_in_step, reached_states_are_well_typed}
 use Rattle.gw_step.proofs.Operands.{blocks_fit, all-blocks}
+use Rattle.gw_step.specs.Weight.{weight, most_weight}
+use Rattle.gw_step.proofs.Heaviest.{weight_below}
 use Rattle.gw_step.proofs.Steps.{step-scan, by_budget, counts_more, some_is}
 use Rattle.gw_step.proofs.PlainBlocks.{by_arrival}
 use Rattle.gw_step.proofs.Nothing.{no_transaction}
@@ -59,6 +61,7 @@ record Numbered (j : Job) (k : ℕ) (t : State) : Type 0 where
   numbers : IsWithin (length j.parts.blocks) (length j.parts.entities) k (made_in k) t
   limits : AreWithinLimits j.parts.blocks t.scheduled
   live : AreFewLive t.transactions
+  weight : weight j.parts t ≤ most_weight
 
 -- what one step keeps of them
 bounded_more : (j : Job) (s u : State) → IsBounded j s → s.ended ≡ None → IsCounted s u → Numbered j (s.steps + 1) (within_budget j.budget (record u { steps = s.steps + 1 })) → IsBounded j (within_budget j.budget (record u { steps = s.steps + 1 }))
@@ -71,6 +74,7 @@ bounded_more j s u b runs c =
       numbers = n.numbers;
       limits = n.limits;
       live = n.live;
+      weight = n.weight;
     })
     (λ other n. record {
       steps = omega (arith, b.runs runs);
@@ -79,9 +83,11 @@ bounded_more j s u b runs c =
       numbers = n.numbers;
       limits = n.limits;
       live = n.live;
+      weight = n.weight;
     })
 
 bounded_ended : (j : Job) (s : State) (end : End) → IsBounded j s → s.ended ≡ None → IsBounded j (record s { steps = s.steps + 1; ended = Some end })
+unfolding weight
 bounded_ended j s end b runs =
     let bs = length j.parts.blocks in
     let es = length j.parts.entities in
@@ -92,6 +98,7 @@ bounded_ended j s end b runs =
       numbers = within-ended bs es (s.steps + 1) (made_in (s.steps + 1)) s (within-more bs es s.steps (made_in s.steps) s b.numbers (s.steps + 1) (made_in (s.steps + 1)) (omega arith) (omega arith)) (s.steps + 1) (Some end);
       limits = b.limits;
       live = b.live;
+      weight = b.weight;
     }
 
 -- what a step leads to
@@ -111,10 +118,12 @@ leads_from j s t (StopsBy stop) b runs is n h = absurd cc
 numbered_step : (j : Job) (s t : State) → IsReached (record { job = j; state = s }) → Step j s t → Numbered j (s.steps + 1) t
 numbered_step j s t r next =
     let x = reached_in_step j s.steps s t r.fits.checked (reached_states_are_well_typed j s.steps s r.fits.checked r.alone) next in
+    let live = trace-live j.parts x.trace r.bounded.live in
     record {
       numbers = within-more (length j.parts.blocks) (length j.parts.entities) x.entries x.arrivals t (trace-within j.parts x.trace r.bounded.numbers) (s.steps + 1) (made_in (s.steps + 1)) (omega (arith, x.few_entries)) (omega (arith, x.few_arrivals));
       limits = trace-limits j.parts x.trace r.bounded.limits;
-      live = trace-live j.parts x.trace r.bounded.live;
+      live = live;
+      weight = weight_below j.parts r.fits.spelled t live;
     }
 
 pub reached_more : (j : Job) (s t : State) → IsReached (record { job = j; state = s }) → s.ended ≡ None → Step j s t → IsReached (record { job = j; state = t })
@@ -272,6 +281,7 @@ within_limit (Some most) k h some = omega (arith, h, ltb-true 0 most some)
 begun_bounded : (j : Job) (k : ℕ) (t : State) (end : Option End) → JobFits j → k ≤ 4096 → Begun (length j.parts.blocks) (length j.parts.entities) (pos j.count) k t → IsBounded j (record t { ended = end })
 begun_bounded j k t end fits few b =
     let w = within-ended (length j.parts.blocks) (length j.parts.entities) 0 k t b.within t.steps end in
+    let live : AreFewLive t.transactions = record { live = omega (arith, b.live, few) } in
     record {
       steps = omega (arith, b.steps);
       runs = λ _. omega (arith, b.steps, fits.budget_least);
@@ -279,7 +289,8 @@ begun_bounded j k t end fits few b =
       numbers = subst (λ n. IsWithin (length j.parts.blocks) (length j.parts.entities) n (made_in n) (record t { ended = end })) (sym b.steps)
           (record { entries = w.entries; entity_entries = w.entity_entries; made = omega (arith, b.made, few); scheduled = omega (arith, b.scheduled, few); marked = w.marked; whole = w.whole; clock = w.clock; future = w.future });
       limits = record { arrivals = λ c g is. within_limit g.limit (at 0 t.scheduled c) (b.first c) (and_parts (is_none_or g.first (int_le (pos 0))) (is_none_or g.limit (nat_lt 0)) (constants c g is)).1 };
-      live = record { live = omega (arith, b.live, few) };
+      live = live;
+      weight = weight_below j.parts fits.spelled (record t { ended = end }) live;
     }
   where
     constants : (c : ℕ) (g : Generate) → block_at j.parts.blocks c ≡ Some (blocks.Generate g) → IsTrue (has_good_constants (blocks.Generate g))

@@ -38,10 +38,10 @@ use Rattle.gw_step.proofs.Attributes.{bearer_at, number_below, written_at, writt
 use Rattle.gw_step.proofs.Residence.{one_if, at_most_one, same_number, occurrences-one}
 use Rattle.gw_step.proofs.Within.{sum-raised}
 use Rattle.gw_step.proofs.Follows.{block_below}
+use Rattle.gw_step.proofs.Placed.{placed_at-leaves}
 use Rattle.gw_step.proofs.Traces.{IsAt, place-free, its_place, its_chain, present, member_at, IsPresent, Rested, Settles, Change, Goes, EntersLast, GoesWith, Arrives, Copied, Rests, Called, Assembled, Comes, Unlinked, Woken, Activates, ClockMoves, Draws, Counts, Marks, Trace, Done, Then, change-keeps}
 use Rattle.gw_step.proofs.Bounds.{change-within}
 use Rattle.gw_step.proofs.Paying.{weight_there}
-use Rattle.gw_step.proofs.Calm.{rests_entries}
 
 -- WHO IS SCHEDULED FOR LATER
 
@@ -50,7 +50,7 @@ abbrev IsAfter : ℤ → ℕ → FutureEvent → Bool
 IsAfter moment n e = (e.number == n) && int_lt moment e.time
 
 -- who isn't on the future events chain isn't scheduled for later
-not_there : (moment : ℤ) (n : ℕ) (es : List FutureEvent) → occurrences n (numbers es) ≡ 0 → list_any (IsAfter moment n) es ≡ false
+pub not_there : (moment : ℤ) (n : ℕ) (es : List FutureEvent) → occurrences n (numbers es) ≡ 0 → list_any (IsAfter moment n) es ≡ false
 not_there moment n [] none = refl
 not_there moment n (e ∷ es) none = by_number (e.number == n) refl (not_there moment n es (omega (arith, none)))
   where
@@ -112,7 +112,7 @@ due_left moment n (e ∷ es) = by_due (int_le e.time moment) refl (due_left mome
 -- WHAT ONE WEIGHS
 
 -- at most the weight of its place
-weighs_at_most : (p : Parts) (s : State) (n : ℕ) → weighs p s n ≤ weight_in p (at None s.transactions n)
+pub weighs_at_most : (p : Parts) (s : State) (n : ℕ) → weighs p s n ≤ weight_in p (at None s.transactions n)
 weighs_at_most p s n = by_later (is_later s n)
   where
     by_later : (b : Bool) → (if b then 0 else weight_in p (at None s.transactions n)) ≤ weight_in p (at None s.transactions n)
@@ -346,18 +346,6 @@ module _ (p : Parts) where
       weight_stays s (clock_moves time s) refl refl
       (λ i. ap (λ (l : Bool). if l then 0 else weight_in p (at None s.transactions i)) (due_left time i s.lists.future_events ∙ ap (λ z. list_any (IsAfter z i) s.lists.future_events) same))
 
-  -- while somebody is placed the clock stays
-  placed_clock : (n : ℕ) (placement : Placement) (s : State) → (placed_at n placement s).clock ≡ s.clock
-  placed_clock n StaysActive s = refl
-  placed_clock n (RestsUntil time) s = refl
-  placed_clock n (JoinsDelayList e) s = refl
-  placed_clock n JoinsRetryList s = refl
-  placed_clock n RestsAhead s = refl
-  placed_clock n RestsBehind s = refl
-  placed_clock n (AwaitsSet a) s = refl
-  placed_clock n (JoinsChain l) s = refl
-  placed_clock n LeavesModel s = refl
-
   -- EACH CHANGE
 
   -- what the weight falls by and the credit pay for the entries that a change makes
@@ -368,7 +356,7 @@ module _ (p : Parts) where
   change-weighs weighted (GoesWith {s = s} n to q value t block row state is here known along may balance pays) ty w clock = omega (arith, enters_with s ty n to q value t block row is here, sum-raised t.next s.entries, pays weighted)
   change-weighs weighted (Arrives {s = s} b g row priority time block is none later passes owed few) ty w clock = omega (arith, arrive weighted s b g priority time block passes owed (omega (arith, block_below p.blocks b (blocks.Generate g) block)))
   change-weighs weighted (Copied {s = s} n target b t u block row state found mark known block_is row_is along may facilities units few pays) ty w clock = omega (arith, copy_comes s n t target, pays weighted)
-  change-weighs weighted (Rests {c = c} {d = d} {s = s} n placement may settles) ty w clock = omega (arith, rests_pay weighted s ty n placement c d may settles, ap (λ (xs : List ℕ). sum xs) (rests_entries n placement s))
+  change-weighs weighted (Rests {c = c} {d = d} {s = s} n placement may settles) ty w clock = omega (arith, rests_pay weighted s ty n placement c d may settles, ap (λ (xs : List ℕ). sum xs) (placed_at-leaves n placement s).entries)
   change-weighs weighted (Called e n here below) ty w clock = omega arith
   change-weighs weighted (Assembled a is) ty w clock = omega arith
   change-weighs weighted (Comes a is more) ty w clock = omega arith
@@ -392,7 +380,7 @@ module _ (p : Parts) where
   change-later (GoesWith n to q value t block row state is here known along may balance pays) w = omega (arith, ints)
   change-later (Arrives b g row priority time block is none later passes owed few) w = omega (arith, ints)
   change-later (Copied n target b t u block row state found mark known block_is row_is along may facilities units few pays) w = omega (arith, ints)
-  change-later (Rests {s = s} n placement may settles) w = subst (λ z. s.clock ≤ℤ z) (sym (placed_clock n placement s)) (omega (arith, ints))
+  change-later (Rests {s = s} n placement may settles) w = subst (λ z. s.clock ≤ℤ z) (sym (placed_at-leaves n placement s).stays.clock) (omega (arith, ints))
   change-later (Called e n here below) w = omega (arith, ints)
   change-later (Assembled a is) w = omega (arith, ints)
   change-later (Comes a is more) w = omega (arith, ints)

@@ -11,6 +11,7 @@ use Rattle.gw_step.specs.State.{State}
 use Rattle.gw_step.specs.Step.{step, scan}
 use Rattle.gw_step.specs.Start.{start}
 use Rattle.gw_step.specs.Numbers.{IsWithin, made_in, AreWithinLimits, AreFewLive}
+use Rattle.gw_step.specs.Weight.{weight, most_weight}
 
 -- what a job runs: the parts of its object, the seeds of the 16 streams, the termination count, and at most how many steps
 pub record Job : Type 0 where
@@ -96,6 +97,7 @@ pub record IsBounded (j : Job) (s : State) : Type 0 where
   pub numbers : IsWithin (length j.parts.blocks) (length j.parts.entities) s.steps (made_in s.steps) s
   pub limits : AreWithinLimits j.parts.blocks s.scheduled
   pub live : AreFewLive s.transactions
+  pub weight : weight j.parts s ≤ most_weight
 
 -- a state that its job reaches: the lone run has it after as many steps
 pub record IsReached (p : Progress) : Type 0 where

@@ -1,10 +1,11 @@
 -- The certified weight of a state: how many block entries may still be made in its clock moment.
-use Rattle.std.specs.Prelude.{ℕ, ◌+◌, ◌-◌, ◌*◌, sum, length, Option, Some, None, Bool, ◌&&◌, ◌==◌, if◌then◌else◌, int_lt}
+use Rattle.std.specs.Prelude.{ℕ, ◌+◌, ◌-◌, ◌*◌, ◌^◌, sum, length, Option, Some, None, Bool, ◌&&◌, ◌==◌, if◌then◌else◌, int_lt}
 use Rattle.std.specs.Option.{option_map_or}
 use Rattle.std.specs.List.{list_any}
 use Rattle.gw_blocks.specs.declared.parts.Generate.{Generate}
 use Rattle.gw_blocks.specs.declared.parts.Block.{Block}
 use Rattle.gw_blocks.specs.declared.parts.Block.TheVariants as blocks
+use Rattle.gw_object.specs.Limits.{most_blocks, greatest_weight}
 use Rattle.gw_object.specs.declared.parts.Parts.{Parts}
 use Rattle.gw_kinds.specs.Exits.{takes_time}
 use Rattle.gw_kinds.specs.Kinds.{block_at}
@@ -45,6 +46,10 @@ abbrev pub owes : Parts → State → ℕ → ℕ
 owes p s b = owed_by (block_at p.blocks b) (at 0 s.scheduled b) * weight_at p.weights b
 
 -- THE WEIGHT OF A STATE
+
+-- no state that a job reaches weighs more: that of 65,536 live transactions and of 2 ^ 32 arrivals owed by each of 4,096 blocks, all at places of the greatest weight
+abbrev pub most_weight : ℕ
+most_weight = (65536 + most_blocks * 2 ^ 32) * greatest_weight
 
 -- the sum over all live transactions, but those scheduled for a time after the clock, of the weight of their place, and what GENERATE blocks still owe
 unfoldable pub weight : Parts → State → ℕ

@@ -6,16 +6,14 @@ ghost use Rattle.gw_weights.specs.Weights as model;
 
 use crate::codes::ARRIVAL_WEIGHT;
 use gw_blocks::{Block, Generate};
-use gw_kinds::{check, exits};
+use gw_kinds::{check, takes_time};
 use gw_object::{Fault, Place};
 
-/// Whether only so many arrivals of a GENERATE may come in one clock moment: time passes in its interval, as at an ADVANCE
-/// by it, or it has a limit.
+/// Whether only so many arrivals of a GENERATE may come in one clock moment: time passes in its interval, or it has a limit.
 fn is_bounded(generate: &Generate) -> bool
     ensures { result ≡ model.is_bounded generate.now }
 {
-    let exits = exits(&Block::Advance(generate.interval));
-    exits.iter().any(|exit| exit.passes_time) || generate.limit.is_some()
+    takes_time(generate.interval) || generate.limit.is_some()
 }
 
 /// The fault of a GENERATE, which is the block of this number, whose arrivals may come for ever in one clock moment.

@@ -8,17 +8,15 @@ ghost use Rattle.gw_weights.specs.Weights as model;
 
 use crate::codes::WEIGHT_EDGE;
 use crate::weights::{need, weight_at};
-use gw_kinds::{Exit, Who, check, leads_to, returns_to};
+use gw_flow::is_used;
+use gw_kinds::{Exit, check, leads_to, returns_to};
 use gw_object::{Fault, Parts, Place};
 
 /// Whether somebody may go along an exit in the clock moment of the entry.
 fn goes_at_once(exit: Exit) -> bool
     ensures { result ≡ model.goes_at_once exit }
 {
-    match exit.who {
-        Who::Itself => !exit.passes_time,
-        Who::Copies(copies) => copies != 0 && !exit.passes_time,
-    }
+    is_used(exit.who) && !exit.passes_time
 }
 
 /// What is needed at the block of this number for those who go along an exit of it at once.

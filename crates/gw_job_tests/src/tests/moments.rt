@@ -1,5 +1,6 @@
 //! The weight of a state, and the entries that are made in its clock moment.
 
+use super::chains::LAST_FIRST;
 use super::copies::ASSEMBLING;
 use super::reports::job;
 use super::*;
@@ -99,26 +100,11 @@ fn copies_are_paid_for_by_their_split(rt: HostRuntime) -> Result<(), Fail> {
     Ok(())
 }
 
-/// GENERATE ,,,2 / LINK C,LIFO / GENERATE ,,5,1 / UNLINK C,OUT,ALL / TERMINATE / OUT TERMINATE 1, with a termination count of
-/// 2. The blocks weigh 6, 5, 3, 2, 1 and 1, and the user chain weighs 4.
-const HEAVY_CHAIN: &[u8] = b"\
-    GPSO\0\x01\0\0\0\0\0\0\0\0\x02\x01\x07\x01C\0\x06\
-    \x01\0\0\0\0\0\0\0\0\0\0\0\0\0\0\0\0\0\0\0\x01\0\0\0\x02\0\0\0\0\
-    \x14\0\0\x01\
-    \x01\0\0\0\0\0\0\0\0\0\0\0\0\0\0\0\0\0\0\x01\0\0\0\0\0\0\0\x05\x01\0\0\0\x01\0\0\0\0\
-    \x15\0\0\0\x06\0\
-    \x02\0\0\0\0\0\0\0\0\0\
-    \x02\0\0\0\0\0\0\0\0\x01\
-    \0\x01\0\0\0\x01\0\0\0\x01\0\0\0\x01\0\0\0\x01\0\0\0\x01\0\0\0\
-    \x01\0\0\0\
-    \0\0\0\x06\0\0\0\x05\0\0\0\x03\0\0\0\x02\0\0\0\x01\0\0\0\x01\
-    \0\0\0\x04";
-
 #[test]
 fn members_weigh_as_their_user_chain(rt: HostRuntime) -> Result<(), Fail> {
-    // Both link themselves at clock 0, where only the first is scheduled at first. At clock 5 the third comes, of weight 3, and
-    // sends them to a block of weight 1.
-    let mut sim = job(rt.alloc(), HEAVY_CHAIN, AMPLE)?;
+    // The blocks weigh 6, 5, 3, 2, 1 and 1, and the user chain weighs 4. Both link themselves at clock 0, where only the first
+    // is scheduled at first. At clock 5 the third comes, of weight 3, and sends them to a block of weight 1.
+    let mut sim = job(rt.alloc(), LAST_FIRST, AMPLE)?;
     let moments = moments(rt.alloc(), &mut sim, &[0, 3, 1, 3, 1, 1, 2, 1, 1, 2, 2])?;
     let expected = [
         (0, 0, 12),

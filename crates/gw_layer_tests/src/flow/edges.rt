@@ -9,7 +9,8 @@ ghost use Rattle.gw_kinds.specs.Kinds.{block_at};
 use crate::flow::tables::*;
 use crate::models::*;
 use gw_blocks::{Block, Units};
-use gw_flow::{AbsState, Amount, Edge, Parameter, ParameterKind, StateParts, Target, out_edges};
+use gw_flow::{AbsState, Amount, Edge, Parameter, ParameterKind, StateParts, Target, is_used, out_edges};
+use gw_kinds::Who;
 use gw_object::{Fault, Items, Memory, Object, ReturnRow};
 use std::alloc::Global;
 use std::test::Fail;
@@ -289,4 +290,9 @@ fn the_lists_of_a_state_ascend_and_hold_no_amount_of_0(rt: HostRuntime) -> Resul
     ];
     assert!(rt; are_right == [true; 5]);
     Ok(())
+}
+
+#[test]
+fn no_copies_go_nowhere(rt: HostRuntime) {
+    assert!(rt; is_used(Who::Itself) && is_used(Who::Copies(1)) && !is_used(Who::Copies(0)));
 }

@@ -1,0 +1,49 @@
+-- What placing a transaction leaves as it was.
+use Rattle.std.proofs.Common.{◌≡◌, ◌∙◌, ℕ, refl, ap}
+use Rattle.gw_step.specs.declared.placement.Placement.{Placement}
+use Rattle.gw_step.specs.declared.placement.Placement.TheVariants.{StaysActive, RestsUntil, JoinsDelayList, JoinsRetryList, RestsAhead, RestsBehind, AwaitsSet, JoinsChain, LeavesModel}
+use Rattle.gw_step.specs.State.{State}
+use Rattle.gw_step.specs.Changes.{woken}
+use Rattle.gw_step.specs.Placing.{placed_at, woken_if_stirred, placed}
+use Rattle.gw_step.proofs.Outcomes.{choose}
+use Rattle.gw_step.proofs.Follows.{Stays, stays-same, stays-then}
+
+-- all but the lists, the transactions, and whether something has stirred
+pub record Leaves (s t : State) : Type 0 where
+  pub stays : Stays s t
+  pub entries : t.entries ≡ s.entries
+  pub entities : t.entities ≡ s.entities
+  pub scheduled : t.scheduled ≡ s.scheduled
+
+leaves-same : (s : State) → Leaves s s
+leaves-same s = record { stays = stays-same s; entries = refl; entities = refl; scheduled = refl }
+
+leaves-then : (s t u : State) → Leaves s t → Leaves t u → Leaves s u
+leaves-then s t u a b = record { stays = stays-then s t u a.stays b.stays; entries = b.entries ∙ a.entries; entities = b.entities ∙ a.entities; scheduled = b.scheduled ∙ a.scheduled }
+
+-- where lists, transactions and what has stirred alone are others
+leaves-rest : (s t : State) → t ≡ record s { lists = t.lists; transactions = t.transactions; stir = t.stir } → Leaves s t
+leaves-rest s t is = record {
+  stays = record { clock = ap (λ (u : State). u.clock) is; count = ap (λ (u : State). u.count) is; steps = ap (λ (u : State). u.steps) is; ended = ap (λ (u : State). u.ended) is };
+  entries = ap (λ (u : State). u.entries) is;
+  entities = ap (λ (u : State). u.entities) is;
+  scheduled = ap (λ (u : State). u.scheduled) is;
+}
+
+pub placed_at-leaves : (n : ℕ) (placement : Placement) (s : State) → Leaves s (placed_at n placement s)
+placed_at-leaves n StaysActive s = leaves-same s
+placed_at-leaves n (RestsUntil time) s = leaves-rest s (placed_at n (RestsUntil time) s) refl
+placed_at-leaves n (JoinsDelayList e) s = leaves-rest s (placed_at n (JoinsDelayList e) s) refl
+placed_at-leaves n JoinsRetryList s = leaves-rest s (placed_at n JoinsRetryList s) refl
+placed_at-leaves n RestsAhead s = leaves-rest s (placed_at n RestsAhead s) refl
+placed_at-leaves n RestsBehind s = leaves-rest s (placed_at n RestsBehind s) refl
+placed_at-leaves n (AwaitsSet a) s = leaves-rest s (placed_at n (AwaitsSet a) s) refl
+placed_at-leaves n (JoinsChain l) s = leaves-rest s (placed_at n (JoinsChain l) s) refl
+placed_at-leaves n LeavesModel s = leaves-rest s (placed_at n LeavesModel s) refl
+
+woken-leaves : (s : State) → Leaves s (woken_if_stirred s)
+woken-leaves s = choose (Leaves s) s.stir (woken s) s (λ _. leaves-rest s (woken s) refl) (λ _. leaves-same s)
+
+pub placed-leaves : (n : ℕ) (placement : Placement) (s : State) → Leaves s (placed n placement s)
+placed-leaves n StaysActive s = leaves-same s
+placed-leaves n placement s = leaves-then s (woken_if_stirred s) (placed_at n placement (woken_if_stirred s)) (woken-leaves s) (placed_at-leaves n placement (woken_if_stirred s))
