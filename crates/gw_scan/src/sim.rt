@@ -1,6 +1,6 @@
 //! One job.
 
-ghost use Rattle.std.specs.Prelude.{◌≡◌, ◌<◌, pos, length, sum, IfOk, IfErr, IsOk, OnErr};
+ghost use Rattle.std.specs.Prelude.{◌≡◌, ◌≤◌, ◌<◌, pos, length, sum, IfOk, IfErr, IsOk, OnErr};
 ghost use Rattle.gw_num.specs.Table.{at};
 ghost use Rattle.gw_transactions.specs.Transactions.{here_count};
 ghost use Rattle.gw_step.specs.State.{delay_list, user_chain};

@@ -9,7 +9,9 @@ ghost use Rattle.gw_kinds.specs.Kinds.{block_at};
 use crate::flow::tables::*;
 use crate::models::*;
 use gw_blocks::{Block, Units};
-use gw_flow::{AbsState, Amount, Edge, Parameter, ParameterKind, StateParts, Target, is_used, out_edges};
+use gw_flow::{
+    AbsState, Amount, Edge, Parameter, ParameterKind, StateParts, Target, is_used, out_edges,
+};
 use gw_kinds::Who;
 use gw_object::{Fault, Items, Memory, Object, ReturnRow};
 use std::alloc::Global;
