@@ -1,7 +1,7 @@
 -- What placing a transaction leaves as it was.
 use Rattle.std.proofs.Common.{◌≡◌, ◌∙◌, ℕ, refl, ap}
 use Rattle.gw_step.specs.declared.placement.Placement.{Placement}
-use Rattle.gw_step.specs.declared.placement.Placement.TheVariants.{StaysActive, RestsUntil, JoinsDelayList, JoinsRetryList, RestsAhead, RestsBehind, AwaitsSet, JoinsChain, LeavesModel}
+use Rattle.gw_step.specs.declared.placement.Placement.TheVariants.{StaysActive}
 use Rattle.gw_step.specs.State.{State}
 use Rattle.gw_step.specs.Changes.{woken}
 use Rattle.gw_step.specs.Placing.{placed_at, woken_if_stirred, placed}
@@ -32,14 +32,7 @@ leaves-rest s t is = record {
 
 pub placed_at-leaves : (n : ℕ) (placement : Placement) (s : State) → Leaves s (placed_at n placement s)
 placed_at-leaves n StaysActive s = leaves-same s
-placed_at-leaves n (RestsUntil time) s = leaves-rest s (placed_at n (RestsUntil time) s) refl
-placed_at-leaves n (JoinsDelayList e) s = leaves-rest s (placed_at n (JoinsDelayList e) s) refl
-placed_at-leaves n JoinsRetryList s = leaves-rest s (placed_at n JoinsRetryList s) refl
-placed_at-leaves n RestsAhead s = leaves-rest s (placed_at n RestsAhead s) refl
-placed_at-leaves n RestsBehind s = leaves-rest s (placed_at n RestsBehind s) refl
-placed_at-leaves n (AwaitsSet a) s = leaves-rest s (placed_at n (AwaitsSet a) s) refl
-placed_at-leaves n (JoinsChain l) s = leaves-rest s (placed_at n (JoinsChain l) s) refl
-placed_at-leaves n LeavesModel s = leaves-rest s (placed_at n LeavesModel s) refl
+placed_at-leaves n placement s = leaves-rest s (placed_at n placement s) refl
 
 woken-leaves : (s : State) → Leaves s (woken_if_stirred s)
 woken-leaves s = choose (Leaves s) s.stir (woken s) s (λ _. leaves-rest s (woken s) refl) (λ _. leaves-same s)

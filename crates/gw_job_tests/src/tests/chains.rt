@@ -5,7 +5,7 @@ use std::alloc::Global;
 use std::test::Fail;
 
 /// GENERATE ,,,2 / LINK C,LIFO / GENERATE ,,5,1 / UNLINK C,OUT,ALL / TERMINATE / OUT TERMINATE 1, with a termination count of
-/// 2. The blocks and the user chain weigh more than they have to.
+/// 2. The blocks 1 and 2 and the user chain weigh more than they have to.
 pub(super) const LAST_FIRST: &[u8] = b"\
     GPSO\0\x01\0\0\0\0\0\0\0\0\x02\x01\x07\x01C\0\x06\
     \x01\0\0\0\0\0\0\0\0\0\0\0\0\0\0\0\0\0\0\0\x01\0\0\0\x02\0\0\0\0\
