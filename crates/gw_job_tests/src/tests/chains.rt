@@ -1,6 +1,8 @@
 //! User chains: jobs worked out by hand, in which transactions link themselves and others unlink them.
 
-use super::reports::{job, step_on, wrong_report};
+use super::reports::{job, wrong_report};
+use super::views::View::Active;
+use super::views::{Views, wrong_view};
 use std::alloc::Global;
 use std::test::Fail;
 
@@ -151,17 +153,16 @@ fn members_leave_a_chain_that_counts_them(rt: HostRuntime) -> Result<(), Fail> {
             CHAIN C CONTENT 1\n",
         ),
     ];
-    assert!(rt; wrong_report(rt.alloc(), CASES)?.is_none());
+    assert_eq!(rt; wrong_report(rt.alloc(), CASES)?, None);
     Ok(())
 }
 
-/// The place, from 0, of the first of these objects in whose job another transaction is active after so many steps.
-fn wrong_active(alloc: Global, cases: &[(&[u8], u64, u64)]) -> Result<Option<usize>, Fail> {
+/// The place, from 0, of the first of these objects whose job is seen otherwise.
+fn wrong_object(alloc: Global, cases: &[(&[u8], Views)]) -> Result<Option<usize>, Fail> {
     for i in 0..cases.len() {
-        let (bytes, steps, number) = cases[i];
+        let (bytes, views) = cases[i];
         let mut sim = job(alloc, bytes, 1_000)?;
-        step_on(&mut sim, steps)?;
-        if sim.active() != Some(number) {
+        if wrong_view(&mut sim, views)?.is_some() {
             return Ok(Some(i));
         }
     }
@@ -170,17 +171,26 @@ fn wrong_active(alloc: Global, cases: &[(&[u8], u64, u64)]) -> Result<Option<usi
 
 #[test]
 fn members_leave_from_the_front_behind_their_peers(rt: HostRuntime) -> Result<(), Fail> {
-    const CASES: &[(&'static [u8], u64, u64)] = &[
-        (LAST_FIRST, 12, 2),
-        (LAST_FIRST, 14, 3),
-        (LAST_FIRST, 16, 1),
-        (FIRST_FIRST, 14, 1),
-        (FIRST_FIRST, 16, 3),
-        (ONE_ALONE, 14, 3),
+    const CASES: &[(&'static [u8], Views<'static>)] = &[
+        (
+            LAST_FIRST,
+            &[
+                (12, Active(Some(2))),
+                (2, Active(Some(3))),
+                (2, Active(Some(1))),
+            ],
+        ),
+        (
+            FIRST_FIRST,
+            &[(14, Active(Some(1))), (2, Active(Some(3)))],
+        ),
+        (ONE_ALONE, &[(14, Active(Some(3)))]),
         // The second member has the higher priority.
-        (BY_PRIORITY, 14, 2),
-        (BY_PRIORITY, 16, 1),
+        (
+            BY_PRIORITY,
+            &[(14, Active(Some(2))), (2, Active(Some(1)))],
+        ),
     ];
-    assert!(rt; wrong_active(rt.alloc(), CASES)?.is_none());
+    assert_eq!(rt; wrong_object(rt.alloc(), CASES)?, None);
     Ok(())
 }

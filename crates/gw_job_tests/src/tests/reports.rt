@@ -1,6 +1,7 @@
 //! The reports of the first example, and of jobs with facilities, storages, queues, loops and savevalues.
 
-use super::{accepted, job_of};
+use super::objects::{accepted, job_of};
+use super::views::run;
 use gw_object::{Memory, read};
 use gw_report::{report, stopped_report};
 use gw_scan::{Sim, Stop};
@@ -144,24 +145,10 @@ pub(super) fn job(alloc: Global, bytes: &[u8], budget: u64) -> Result<Sim, Fail>
     job_of(alloc, accepted(alloc, object)?, budget)
 }
 
-/// So many steps, past its end too.
-pub(super) fn step_on(sim: &mut Sim, steps: u64) -> Result<(), Memory> {
-    for _ in 0..steps {
-        sim.step()?;
-    }
-    Ok(())
-}
-
 /// The report of a job after so many further steps.
-fn report_after(alloc: Global, sim: &mut Sim, steps: u64) -> Result<Vec<u8>, Memory> {
-    step_on(sim, steps)?;
+pub(super) fn report_after(alloc: Global, sim: &mut Sim, steps: u64) -> Result<Vec<u8>, Memory> {
+    run(sim, steps)?;
     report(alloc, sim)
-}
-
-/// The report of a job after so many further steps, as one at an error stop.
-fn stopped_report_after(alloc: Global, sim: &mut Sim, steps: u64) -> Result<Vec<u8>, Memory> {
-    step_on(sim, steps)?;
-    stopped_report(alloc, sim, Stop::NoBlock)
 }
 
 /// The report of the job of an object after so many steps, with a budget of so many.
@@ -170,10 +157,10 @@ fn reported(alloc: Global, bytes: &[u8], budget: u64, steps: u64) -> Result<Vec<
     Ok(report_after(alloc, &mut sim, steps)?)
 }
 
-/// The report of the job of an object after so many steps as one at an error stop.
-fn reported_as_stopped(alloc: Global, bytes: &[u8], steps: u64) -> Result<Vec<u8>, Fail> {
-    let mut sim = job(alloc, bytes, 1_000)?;
-    Ok(stopped_report_after(alloc, &mut sim, steps)?)
+/// The report of the job of an object before its first step, as one at an error stop.
+fn reported_as_stopped(alloc: Global, bytes: &[u8]) -> Result<Vec<u8>, Fail> {
+    let sim = job(alloc, bytes, 1_000)?;
+    Ok(stopped_report(alloc, &sim, Stop::NoBlock)?)
 }
 
 /// The place, from 0, of the first of these objects whose job has another report at its end.
@@ -188,41 +175,59 @@ pub(super) fn wrong_report(alloc: Global, cases: &[(&[u8], &[u8])]) -> Result<Op
     Ok(None)
 }
 
-/// Whether a text begins and ends so.
-fn shows(text: &[u8], first: &str, last: &str) -> bool {
-    text.starts_with(first.as_bytes()) && text.ends_with(last.as_bytes())
+/// The place, from 0, of the first of these budgets and steps with which the first example has another report.
+fn wrong_first(alloc: Global, cases: &[(u64, u64, &[u8])]) -> Result<Option<usize>, Fail> {
+    for i in 0..cases.len() {
+        let (budget, steps, expected) = cases[i];
+        let text = reported(alloc, FIRST, budget, steps)?;
+        if text.as_slice() != expected {
+            return Ok(Some(i));
+        }
+    }
+    Ok(None)
+}
+
+/// The place, from 0, of the first of these objects whose job has a report that begins or ends otherwise.
+fn wrong_ends(alloc: Global, cases: &[(&[u8], &[u8], &[u8])]) -> Result<Option<usize>, Fail> {
+    for i in 0..cases.len() {
+        let (bytes, first, last) = cases[i];
+        let text = reported(alloc, bytes, 1_000, 1_000)?;
+        if !(text.starts_with(first) && text.ends_with(last)) {
+            return Ok(Some(i));
+        }
+    }
+    Ok(None)
 }
 
 #[test]
-fn the_first_example_is_reported_at_its_end(rt: HostRuntime) -> Result<(), Fail> {
-    let text = reported(rt.alloc(), FIRST, 1_000, 1_000)?;
-    let expected = b"END Done CLOCK 23 STEPS 14 ENTRIES 6 COUNT 0\n\
-        BLOCK 1 GENERATE 2 0\nBLOCK 2 ADVANCE 2 0\nBLOCK 3 TERMINATE 2 0\n";
-    assert!(rt; text.as_slice() == expected.as_slice());
-    Ok(())
-}
-
-#[test]
-fn a_used_budget_is_reported(rt: HostRuntime) -> Result<(), Fail> {
-    let text = reported(rt.alloc(), FIRST, 5, 1_000)?;
-    let expected = b"END Budget CLOCK 13 STEPS 5 ENTRIES 2 COUNT 2\n\
-        BLOCK 1 GENERATE 1 0\nBLOCK 2 ADVANCE 1 1\nBLOCK 3 TERMINATE 0 0\n";
-    assert!(rt; text.as_slice() == expected.as_slice());
-    Ok(())
-}
-
-#[test]
-fn a_running_job_is_reported(rt: HostRuntime) -> Result<(), Fail> {
-    let text = reported(rt.alloc(), FIRST, 1_000, 0)?;
-    let expected = b"END Running CLOCK 0 STEPS 0 ENTRIES 0 COUNT 2\n\
-        BLOCK 1 GENERATE 0 0\nBLOCK 2 ADVANCE 0 0\nBLOCK 3 TERMINATE 0 0\n";
-    assert!(rt; text.as_slice() == expected.as_slice());
+fn the_first_example_is_reported_at_its_end_and_on_its_way(rt: HostRuntime) -> Result<(), Fail> {
+    const CASES: &[(u64, u64, &'static [u8])] = &[
+        (
+            1_000,
+            1_000,
+            b"END Done CLOCK 23 STEPS 14 ENTRIES 6 COUNT 0\n\
+            BLOCK 1 GENERATE 2 0\nBLOCK 2 ADVANCE 2 0\nBLOCK 3 TERMINATE 2 0\n",
+        ),
+        (
+            5,
+            1_000,
+            b"END Budget CLOCK 13 STEPS 5 ENTRIES 2 COUNT 2\n\
+            BLOCK 1 GENERATE 1 0\nBLOCK 2 ADVANCE 1 1\nBLOCK 3 TERMINATE 0 0\n",
+        ),
+        (
+            1_000,
+            0,
+            b"END Running CLOCK 0 STEPS 0 ENTRIES 0 COUNT 2\n\
+            BLOCK 1 GENERATE 0 0\nBLOCK 2 ADVANCE 0 0\nBLOCK 3 TERMINATE 0 0\n",
+        ),
+    ];
+    assert_eq!(rt; wrong_first(rt.alloc(), CASES)?, None);
     Ok(())
 }
 
 #[test]
 fn a_job_at_an_error_stop_is_reported(rt: HostRuntime) -> Result<(), Fail> {
-    let text = reported_as_stopped(rt.alloc(), FIRST, 0)?;
+    let text = reported_as_stopped(rt.alloc(), FIRST)?;
     let expected = b"END Stopped CLOCK 0 STEPS 0 ENTRIES 0 COUNT 2\n\
         BLOCK 1 GENERATE 0 0\nBLOCK 2 ADVANCE 0 0\nBLOCK 3 TERMINATE 0 0\n";
     assert!(rt; text.as_slice() == expected.as_slice());
@@ -230,68 +235,62 @@ fn a_job_at_an_error_stop_is_reported(rt: HostRuntime) -> Result<(), Fail> {
 }
 
 #[test]
-fn a_queue_joined_at_the_end_has_an_average_of_0(rt: HostRuntime) -> Result<(), Fail> {
-    let text = reported(rt.alloc(), JOINING, 1_000, 1_000)?;
-    let first = "END Done CLOCK 10 STEPS 5 ENTRIES 3 COUNT 0\n";
-    let last =
-        "\nBLOCK 2 QUEUE 1 0\nBLOCK 3 TERMINATE 1 0\nQUEUE Q CONTENT 1 MAX 1 ENTRIES 1 AVG 0.000\n";
-    assert!(rt; shows(text.as_slice(), first, last));
+fn entities_are_reported_in_the_order_of_the_object(rt: HostRuntime) -> Result<(), Fail> {
+    const CASES: &[(&'static [u8], &'static [u8], &'static [u8])] = &[
+        // A queue that is joined at the end has an average of 0.
+        (
+            JOINING,
+            b"END Done CLOCK 10 STEPS 5 ENTRIES 3 COUNT 0\n",
+            b"\nBLOCK 2 QUEUE 1 0\nBLOCK 3 TERMINATE 1 0\n\
+            QUEUE Q CONTENT 1 MAX 1 ENTRIES 1 AVG 0.000\n",
+        ),
+        (
+            QUEUEING,
+            b"END Done CLOCK 8 STEPS 23 ENTRIES 14 COUNT 0\n",
+            b"\nQUEUE L CONTENT 0 MAX 1 ENTRIES 2 AVG 0.500\n\
+            FACILITY F ENTRIES 2 OWNER 0 WAIT 0 UTIL 1.000\n",
+        ),
+        // A full storage with its waiters.
+        (
+            ENTERING,
+            b"END Done CLOCK 20 STEPS 26 ENTRIES 11 COUNT 0\n",
+            b"\nSTORAGE S CAP 3 CONTENT 3 MAX 3 ENTRIES 4 WAIT 2 AVG 3.000\n",
+        ),
+        // An owned facility with its owner, and leading zeros.
+        (
+            OWNING,
+            b"END Done CLOCK 1000 STEPS 13 ENTRIES 6 COUNT 0\n",
+            b"\nFACILITY F ENTRIES 1 OWNER 1 WAIT 1 UTIL 0.005\n",
+        ),
+    ];
+    assert_eq!(rt; wrong_ends(rt.alloc(), CASES)?, None);
     Ok(())
 }
 
 #[test]
-fn a_queue_and_a_facility_are_reported_in_the_order_of_the_object(
-    rt: HostRuntime,
-) -> Result<(), Fail> {
-    let text = reported(rt.alloc(), QUEUEING, 1_000, 1_000)?;
-    let first = "END Done CLOCK 8 STEPS 23 ENTRIES 14 COUNT 0\n";
-    let last =
-        "\nQUEUE L CONTENT 0 MAX 1 ENTRIES 2 AVG 0.500\nFACILITY F ENTRIES 2 OWNER 0 WAIT 0 UTIL 1.000\n";
-    assert!(rt; shows(text.as_slice(), first, last));
-    Ok(())
-}
-
-#[test]
-fn a_full_storage_is_reported_with_its_waiters(rt: HostRuntime) -> Result<(), Fail> {
-    let text = reported(rt.alloc(), ENTERING, 1_000, 1_000)?;
-    let first = "END Done CLOCK 20 STEPS 26 ENTRIES 11 COUNT 0\n";
-    let last = "\nSTORAGE S CAP 3 CONTENT 3 MAX 3 ENTRIES 4 WAIT 2 AVG 3.000\n";
-    assert!(rt; shows(text.as_slice(), first, last));
-    Ok(())
-}
-
-#[test]
-fn an_owned_facility_is_reported_with_its_owner_and_leading_zeros(
-    rt: HostRuntime,
-) -> Result<(), Fail> {
-    let text = reported(rt.alloc(), OWNING, 1_000, 1_000)?;
-    let first = "END Done CLOCK 1000 STEPS 13 ENTRIES 6 COUNT 0\n";
-    let last = "\nFACILITY F ENTRIES 1 OWNER 1 WAIT 1 UTIL 0.005\n";
-    assert!(rt; shows(text.as_slice(), first, last));
-    Ok(())
-}
-
-#[test]
-fn a_loop_is_reported_with_the_entries_of_each_time_round(rt: HostRuntime) -> Result<(), Fail> {
-    let text = reported(rt.alloc(), LOOPING, 1_000, 1_000)?;
-    let expected = b"END Done CLOCK 6 STEPS 17 ENTRIES 9 COUNT 0\n\
-        BLOCK 1 GENERATE 1 0\nBLOCK 2 ASSIGN 1 0\nBLOCK 3 ADVANCE 3 0\nBLOCK 4 LOOP 3 0\n\
-        BLOCK 5 TERMINATE 1 0\n";
-    assert!(rt; text.as_slice() == expected.as_slice());
-    Ok(())
-}
-
-#[test]
-fn a_savevalue_at_its_limits_is_reported_as_it_was(rt: HostRuntime) -> Result<(), Fail> {
-    let rising = reported(rt.alloc(), RISING, 1_000, 1_000)?;
-    let expected = b"END Number CLOCK 0 STEPS 4 ENTRIES 1 COUNT 1\n\
-        BLOCK 1 GENERATE 1 1\nBLOCK 2 SAVEVALUE 0 0\nBLOCK 3 TERMINATE 0 0\n\
-        SAVEVALUE A 9223372036854775807\n";
-    assert!(rt; rising.as_slice() == expected.as_slice());
-    let falling = reported(rt.alloc(), FALLING, 1_000, 1_000)?;
-    let expected = b"END Number CLOCK 0 STEPS 4 ENTRIES 1 COUNT 1\n\
-        BLOCK 1 GENERATE 1 1\nBLOCK 2 SAVEVALUE 0 0\nBLOCK 3 TERMINATE 0 0\n\
-        SAVEVALUE A -9223372036854775808\n";
-    assert!(rt; falling.as_slice() == expected.as_slice());
+fn loops_and_savevalues_are_reported(rt: HostRuntime) -> Result<(), Fail> {
+    const CASES: &[(&'static [u8], &'static [u8])] = &[
+        // With the entries of each time round.
+        (
+            LOOPING,
+            b"END Done CLOCK 6 STEPS 17 ENTRIES 9 COUNT 0\n\
+            BLOCK 1 GENERATE 1 0\nBLOCK 2 ASSIGN 1 0\nBLOCK 3 ADVANCE 3 0\nBLOCK 4 LOOP 3 0\n\
+            BLOCK 5 TERMINATE 1 0\n",
+        ),
+        // A savevalue at its limits as it was.
+        (
+            RISING,
+            b"END Number CLOCK 0 STEPS 4 ENTRIES 1 COUNT 1\n\
+            BLOCK 1 GENERATE 1 1\nBLOCK 2 SAVEVALUE 0 0\nBLOCK 3 TERMINATE 0 0\n\
+            SAVEVALUE A 9223372036854775807\n",
+        ),
+        (
+            FALLING,
+            b"END Number CLOCK 0 STEPS 4 ENTRIES 1 COUNT 1\n\
+            BLOCK 1 GENERATE 1 1\nBLOCK 2 SAVEVALUE 0 0\nBLOCK 3 TERMINATE 0 0\n\
+            SAVEVALUE A -9223372036854775808\n",
+        ),
+    ];
+    assert_eq!(rt; wrong_report(rt.alloc(), CASES)?, None);
     Ok(())
 }

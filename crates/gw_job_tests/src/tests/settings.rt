@@ -1,99 +1,102 @@
 //! Logic switches and savevalues, and their lines in the report.
 
-use super::*;
-use gw_report::report;
+use super::blocks::*;
+use super::objects::{entity, job_of_parts, parts};
+use super::reports::report_after;
+use super::views::View::{Ended, Saved, Set};
+use super::views::{ALL, Job, saves, wrong_job};
+use gw_blocks::{Block, Logic, SwitchAction};
+use gw_object::{Entity, Items, Kind, Memory};
+use gw_scan::{End, Sim};
+use std::alloc::Global;
+use std::test::Fail;
 
 // LOGIC SWITCHES
 
-/// What LS$G is after these actions, and whether the switch is set at the end: GENERATE ,,,1, a LOGIC for each, then
-/// SAVEVALUE X,LS$G / TERMINATE 1.
-fn switched(alloc: Global, actions: &[SwitchAction]) -> Result<(i64, bool), Fail> {
-    let mut blocks = vec![in alloc; one_at(0, 0)]?;
-    for action in actions {
-        blocks.push(logic(*action))?;
-    }
-    let setting = of(EntityAttribute::SwitchSetting, G);
-    blocks.extend_from_slice(&[save(X, Mode::Set, setting), terminate(1)])?;
-    let seen = at_end(alloc, 1, &blocks)?;
-    let [x, _] = seen.savevalues;
-    Ok((x, seen.switch))
+/// The job of GENERATE ,,,1, a LOGIC for each of these, then SAVEVALUE X,LS$G / TERMINATE 1 leaves the switch so.
+macro_rules! switched {
+    ($($action:ident),*; $is_set:expr) => {
+        Job {
+            count: 1,
+            blocks: &[
+                one_at!(0, 0),
+                $(logic!($action),)*
+                save!(X, Set, of!(SwitchSetting, G)),
+                terminate!(1),
+            ],
+            seen: &[
+                (ALL, Set($is_set)),
+                (0, Saved($is_set as i64, 42)),
+            ],
+        }
+    };
 }
 
 #[test]
 fn logic_sets_resets_and_inverts(rt: HostRuntime) -> Result<(), Fail> {
-    use SwitchAction::{Invert, Reset, Set};
-    const ROWS: &[(&'static [SwitchAction], bool)] = &[
-        (&[], false),
-        (&[Set], true),
-        (&[Set, Set], true),
-        (&[Reset], false),
-        (&[Set, Reset], false),
-        (&[Invert], true),
-        (&[Invert, Invert], false),
-        (&[Set, Invert], false),
-        (&[Reset, Invert], true),
+    const JOBS: &[Job] = &[
+        switched!(; false),
+        switched!(Set; true),
+        switched!(Set, Set; true),
+        switched!(Reset; false),
+        switched!(Set, Reset; false),
+        switched!(Invert; true),
+        switched!(Invert, Invert; false),
+        switched!(Set, Invert; false),
+        switched!(Reset, Invert; true),
     ];
-    for (actions, is_set) in ROWS {
-        let switched = switched(rt.alloc(), actions)?;
-        assert!(rt;
-            switched == (*is_set as i64, *is_set),
-            "{actions:?}: {switched:?}"
-        );
-    }
+    assert_eq!(rt; wrong_job(rt.alloc(), JOBS)?, None);
     Ok(())
 }
 
 // SAVEVALUES
 
-/// What the savevalues are after these changes of X: GENERATE ,,,1, a SAVEVALUE for each, then TERMINATE 1; and how the job ends.
-fn changed(alloc: Global, changes: &[(Mode, i64)]) -> Result<([i64; 2], Status), Fail> {
-    let mut blocks = vec![in alloc; one_at(0, 0)]?;
-    for (mode, value) in changes {
-        blocks.push(save(X, *mode, Operand::Constant(*value)))?;
-    }
-    blocks.push(terminate(1))?;
-    let seen = at_end(alloc, 1, &blocks)?;
-    let (status, _) = seen.stand;
-    let values = seen.savevalues;
-    Ok((values, status))
+/// The job of GENERATE ,,,1, a SAVEVALUE of X for each of these, then TERMINATE 1 leaves this value, with so many left to count,
+/// and ends so.
+macro_rules! changed {
+    ($(($mode:ident, $value:expr)),*; $x:expr, $end:ident, $count:expr) => {
+        Job {
+            count: 1,
+            blocks: &[
+                one_at!(0, 0),
+                $(save!(X, $mode, number!($value)),)*
+                terminate!(1),
+            ],
+            seen: &[
+                (ALL, Saved($x, 42)),
+                (0, Ended(End::$end, $count)),
+            ],
+        }
+    };
 }
 
 #[test]
 fn savevalue_is_set_added_to_and_subtracted_from(rt: HostRuntime) -> Result<(), Fail> {
-    use Mode::{Add, Set, Subtract};
-    // At first it is 100.
-    const ROWS: &[(&'static [(Mode, i64)], i64, End)] = &[
-        (&[], 100, End::Done),
-        (&[(Set, 5)], 5, End::Done),
-        (&[(Add, 5)], 105, End::Done),
-        (&[(Subtract, 5)], 95, End::Done),
-        (&[(Set, 5), (Add, -9), (Subtract, 7)], -11, End::Done),
-        (&[(Set, GREATEST), (Add, 1)], GREATEST, End::Number),
-        (&[(Set, LEAST), (Subtract, 1)], LEAST, End::Number),
-        (&[(Subtract, LEAST)], 100, End::Number),
-        (&[(Set, LEAST), (Add, GREATEST)], -1, End::Done),
+    const JOBS: &[Job] = &[
+        // At first it is 100.
+        changed!(; 100, Done, 0),
+        changed!((Set, 5); 5, Done, 0),
+        changed!((Add, 5); 105, Done, 0),
+        changed!((Subtract, 5); 95, Done, 0),
+        changed!((Set, 5), (Add, -9), (Subtract, 7); -11, Done, 0),
+        changed!((Set, GREATEST), (Add, 1); GREATEST, Number, 1),
+        changed!((Set, LEAST), (Subtract, 1); LEAST, Number, 1),
+        changed!((Subtract, LEAST); 100, Number, 1),
+        changed!((Set, LEAST), (Add, GREATEST); -1, Done, 0),
+        // By savevalues: X is 100 - 42, and then twice as much; Y is 42 as before.
+        saves!(
+            1,
+            &[
+                one_at!(0, 0),
+                save!(X, Subtract, value_of!(Y)),
+                save!(X, Add, value_of!(X)),
+                terminate!(1),
+            ],
+            116,
+            42
+        ),
     ];
-    for (changes, x, end) in ROWS {
-        let (values, ended) = changed(rt.alloc(), changes)?;
-        assert!(rt;
-            values == [*x, 42] && ended == Status::Ended(*end),
-            "{changes:?}: {values:?}"
-        );
-    }
-    Ok(())
-}
-
-#[test]
-fn savevalue_is_changed_by_savevalues(rt: HostRuntime) -> Result<(), Fail> {
-    // X is 100 - 42, and then twice as much; Y is 42 as before.
-    let blocks = [
-        one_at(0, 0),
-        save(X, Mode::Subtract, value_of(Y)),
-        save(X, Mode::Add, value_of(X)),
-        terminate(1),
-    ];
-    let values = at_end(rt.alloc(), 1, &blocks)?.savevalues;
-    assert!(rt; values == [116, 42]);
+    assert_eq!(rt; wrong_job(rt.alloc(), JOBS)?, None);
     Ok(())
 }
 
@@ -111,31 +114,39 @@ fn five_entities(alloc: Global) -> Result<Items<Entity>, Memory> {
 }
 
 /// LOGIC S or I of a switch.
-fn turn(action: SwitchAction, switch: u16) -> Block {
-    Block::Logic(Logic { action, switch })
+macro_rules! turn {
+    ($action:ident, $switch:expr) => {
+        Block::Logic(Logic {
+            action: SwitchAction::$action,
+            switch: $switch,
+        })
+    };
 }
 
 /// GENERATE ,,,1 / ASSIGN 1,3 / BACK ADVANCE 1 / MARK / LOGIC I,G / LOGIC S,H / SAVEVALUE B-,P1 / LOOP 1,BACK / TERMINATE 1.
-fn three_times() -> [Block; 9] {
-    [
-        one_at(0, 0),
-        assign(1, Mode::Set, Operand::Constant(3)),
-        advance(1),
-        Block::Mark(None),
-        turn(SwitchAction::Invert, 2),
-        turn(SwitchAction::Set, 4),
-        save(3, Mode::Subtract, P1),
-        loop_to(1, 3),
-        terminate(1),
-    ]
-}
+const THREE_TIMES: &[Block] = &[
+    one_at!(0, 0),
+    assign!(1, Set, number!(3)),
+    advance!(1),
+    Block::Mark(None),
+    turn!(Invert, 2),
+    turn!(Set, 4),
+    save!(3, Subtract, P1),
+    loop_to!(1, 3),
+    terminate!(1),
+];
 
 /// The job of those blocks and the five entities.
 fn job_of_settings(alloc: Global) -> Result<Sim, Fail> {
-    let mut parts = parts(alloc, &[], 1, &three_times())?;
+    let mut parts = parts(alloc, &[], 1, THREE_TIMES)?;
     parts.entities = five_entities(alloc)?;
-    let object = Object::build(parts).ok().ok_or("parts of an object")?;
-    job_of(alloc, accepted(alloc, object)?, AMPLE)
+    job_of_parts(alloc, parts)
+}
+
+/// The report of that job after so many steps.
+fn reported_settings(alloc: Global, steps: u64) -> Result<Vec<u8>, Fail> {
+    let mut sim = job_of_settings(alloc)?;
+    Ok(report_after(alloc, &mut sim, steps)?)
 }
 
 #[test]
@@ -143,9 +154,7 @@ fn settings_and_values_are_reported_in_the_order_of_the_object(
     rt: HostRuntime,
 ) -> Result<(), Fail> {
     // Three times round: 5 + 3 x 8 steps, 3 + 3 x 6 entries. G is inverted three times, and B is 12 - 3 - 2 - 1.
-    let mut sim = job_of_settings(rt.alloc())?;
-    run(&mut sim, AMPLE)?;
-    let text = report(rt.alloc(), &sim)?;
+    let text = reported_settings(rt.alloc(), 1_000)?;
     let expected = b"END Done CLOCK 3 STEPS 29 ENTRIES 21 COUNT 0\n\
         BLOCK 1 GENERATE 1 0\nBLOCK 2 ASSIGN 1 0\nBLOCK 3 ADVANCE 3 0\nBLOCK 4 MARK 3 0\nBLOCK 5 LOGIC 3 0\n\
         BLOCK 6 LOGIC 3 0\nBLOCK 7 SAVEVALUE 3 0\nBLOCK 8 LOOP 3 0\nBLOCK 9 TERMINATE 1 0\n\
@@ -157,8 +166,7 @@ fn settings_and_values_are_reported_in_the_order_of_the_object(
 
 #[test]
 fn initial_settings_and_values_are_reported(rt: HostRuntime) -> Result<(), Fail> {
-    let sim = job_of_settings(rt.alloc())?;
-    let text = report(rt.alloc(), &sim)?;
+    let text = reported_settings(rt.alloc(), 0)?;
     let last = b"\nSAVEVALUE A -5\nFACILITY F ENTRIES 0 OWNER 0 WAIT 0 UTIL 0.000\nSWITCH G 1\n\
         SAVEVALUE B 12\nSWITCH H 0\n";
     assert!(rt; text.as_slice().ends_with(last.as_slice()));

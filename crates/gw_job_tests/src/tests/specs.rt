@@ -1,8 +1,13 @@
 //! What a job is made of, and what is refused.
 
-use super::*;
+use super::blocks::THREE_BLOCKS;
+use super::objects::{AMPLE, object};
 use gw_num::Stream;
-use gw_scan::StartFault;
+use gw_object::Memory;
+use gw_scan::{Spec, StartFault};
+use gw_verify::Verified;
+use std::alloc::Global;
+use std::test::Fail;
 
 /// Why a spec was refused, if it was, and of how many blocks the object then is that came back.
 fn fault_of(made: Result<Spec, (Verified, StartFault)>) -> Option<(StartFault, u16)> {
@@ -12,58 +17,42 @@ fn fault_of(made: Result<Spec, (Verified, StartFault)>) -> Option<(StartFault, u
     }
 }
 
-/// Why no job of the three blocks is made with these seeds, this count and this budget.
-fn refusal(
-    alloc: Global,
-    seeds: &[u32],
-    count: u64,
-    budget: u64,
-) -> Result<Option<(StartFault, u16)>, Fail> {
-    let verified = object(alloc, &[], 2, &three_blocks())?;
-    Ok(fault_of(Spec::new(verified, seeds, count, budget)))
+/// Seeds, a termination count and a budget, and why no job is made with them, if it is so.
+type Case<'a> = (&'a [u32], u64, u64, Option<StartFault>);
+
+/// The place, from 0, of the first of these with which another job of the three blocks is made, or refused.
+fn wrong_start(alloc: Global, cases: &[Case]) -> Result<Option<usize>, Fail> {
+    for i in 0..cases.len() {
+        let (seeds, count, budget, fault) = cases[i];
+        let verified = object(alloc, &[], 2, THREE_BLOCKS)?;
+        let due = fault.map(|fault| (fault, 3));
+        if fault_of(Spec::new(verified, seeds, count, budget)) != due {
+            return Ok(Some(i));
+        }
+    }
+    Ok(None)
 }
 
-/// Why no jobs are made with these seeds, counts and budgets.
-fn refusals(
-    alloc: Global,
-    specs: &[(&[u32], u64, u64)],
-) -> Result<Vec<Option<(StartFault, u16)>>, Fail> {
-    let mut faults = Vec::new(alloc);
-    for (seeds, count, budget) in specs {
-        faults.push(refusal(alloc, seeds, *count, *budget)?)?;
-    }
-    Ok(faults)
-}
+/// The most of a termination count and of a budget.
+const MOST: u64 = 1_099_511_627_776;
 
 #[test]
 fn seeds_counts_and_budgets_out_of_range_are_refused_in_order(rt: HostRuntime) -> Result<(), Fail> {
-    let most = 1_099_511_627_776;
-    let (many, seventeen): (&[u32], &[u32]) = (&[7; 16], &[7; 17]);
-    let (greatest, beyond): (&[u32], &[u32]) = (&[2_147_483_646], &[2_147_483_647]);
-    let own: &[u32] = &[];
-    let (seed, count, budget) = (
-        Some((StartFault::Seed, 3)),
-        Some((StartFault::Count, 3)),
-        Some((StartFault::Budget, 3)),
-    );
-    let specs = [
-        (seventeen, 0, AMPLE),
-        (many, 0, AMPLE),
-        (beyond, 0, AMPLE),
-        (greatest, 0, AMPLE),
-        (own, most + 1, AMPLE),
-        (own, most, AMPLE),
-        (own, 0, 0),
-        (own, 0, most + 1),
-        (own, 0, most),
-        (beyond, most + 1, 0),
-        (own, most + 1, 0),
+    use StartFault::{Budget, Count, Seed};
+    const CASES: &[Case<'static>] = &[
+        (&[7; 17], 0, AMPLE, Some(Seed)),
+        (&[7; 16], 0, AMPLE, None),
+        (&[2_147_483_647], 0, AMPLE, Some(Seed)),
+        (&[2_147_483_646], 0, AMPLE, None),
+        (&[], MOST + 1, AMPLE, Some(Count)),
+        (&[], MOST, AMPLE, None),
+        (&[], 0, 0, Some(Budget)),
+        (&[], 0, MOST + 1, Some(Budget)),
+        (&[], 0, MOST, None),
+        (&[2_147_483_647], MOST + 1, 0, Some(Seed)),
+        (&[], MOST + 1, 0, Some(Count)),
     ];
-    let expected = [
-        seed, None, seed, None, count, None, budget, budget, None, seed, count,
-    ];
-    let refusals = refusals(rt.alloc(), &specs)?;
-    assert!(rt; refusals.as_slice() == expected.as_slice());
+    assert_eq!(rt; wrong_start(rt.alloc(), CASES)?, None);
     Ok(())
 }
 
@@ -81,7 +70,7 @@ fn streams_at(alloc: Global, seeds: &[u32]) -> Result<Vec<Stream>, Memory> {
 /// Whether the job of an object with seeds 5, 0 and 9 and a count of 2, with this given, has streams at these seeds and this
 /// count.
 fn job_has(alloc: Global, given: (&[u32], u64), seeds: &[u32], count: u64) -> Result<bool, Fail> {
-    let verified = object(alloc, &[5, 0, 9], 2, &three_blocks())?;
+    let verified = object(alloc, &[5, 0, 9], 2, THREE_BLOCKS)?;
     let spec = Spec::new(verified, given.0, given.1, AMPLE)
         .ok()
         .ok_or("a spec")?;
@@ -91,18 +80,9 @@ fn job_has(alloc: Global, given: (&[u32], u64), seeds: &[u32], count: u64) -> Re
 
 #[test]
 fn given_seeds_and_count_go_before_the_objects_own(rt: HostRuntime) -> Result<(), Fail> {
-    let own = job_has(
-        rt.alloc(),
-        (&[], 0),
-        &[5, 2, 9, 4, 5, 6, 7, 8, 9, 10, 11, 12, 13, 14, 15, 16],
-        2,
-    )?;
-    let given = job_has(
-        rt.alloc(),
-        (&[0, 8], 3),
-        &[1, 8, 3, 4, 5, 6, 7, 8, 9, 10, 11, 12, 13, 14, 15, 16],
-        3,
-    )?;
-    assert!(rt; own && given);
+    const OWN: &[u32] = &[5, 2, 9, 4, 5, 6, 7, 8, 9, 10, 11, 12, 13, 14, 15, 16];
+    const GIVEN: &[u32] = &[1, 8, 3, 4, 5, 6, 7, 8, 9, 10, 11, 12, 13, 14, 15, 16];
+    assert!(rt; job_has(rt.alloc(), (&[], 0), OWN, 2)?);
+    assert!(rt; job_has(rt.alloc(), (&[0, 8], 3), GIVEN, 3)?);
     Ok(())
 }

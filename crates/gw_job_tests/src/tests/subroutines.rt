@@ -1,16 +1,30 @@
 //! Subroutines: TRANSFER in subroutine mode and in parameter mode.
 
-use super::*;
-use gw_blocks::Call;
+use super::blocks::*;
+use super::objects::{job_of_parts, parts_with};
+use super::views::View::{Ends, Saved};
+use super::views::{ALL, Views, wrong_view};
+use gw_blocks::{Block, Call};
+use gw_object::{Items, Memory, Parts, ReturnRow, TableKind, TableParameter, TableState};
+use gw_scan::End;
+use std::alloc::Global;
+use std::test::Fail;
 
 /// TRANSFER SBR,b,p.
-fn call(target: u16, parameter: u8) -> Block {
-    Block::TransferToSubroutine(Call { target, parameter })
+macro_rules! call {
+    ($target:expr, $parameter:expr) => {
+        Block::TransferToSubroutine(Call {
+            target: $target,
+            parameter: $parameter,
+        })
+    };
 }
 
 /// TRANSFER P,p,1.
-fn come_back(parameter: u8) -> Block {
-    Block::TransferByParameter(parameter)
+macro_rules! come_back {
+    ($parameter:expr) => {
+        Block::TransferByParameter($parameter)
+    };
 }
 
 /// Nothing is known of any parameter.
@@ -25,12 +39,14 @@ const BOTH: &[TableKind] = &[TableKind::Ret(0), TableKind::Ret(1)];
 /// The first parameter is a number.
 const NUMBER: &[TableKind] = &[TableKind::Num];
 
-/// What a model with subroutines knows: the blocks of each return row, for each block what the parameters hold from the first
-/// on, and the weight of each block.
-struct Known {
+/// A model with subroutines: its termination count, its blocks, each with what the parameters hold from the first on and with
+/// its weight, the blocks of each return row, and what there is to see of its job.
+#[derive(Clone, Copy)]
+struct Model {
+    count: u64,
+    blocks: &'static [(Block, &'static [TableKind], u32)],
     returns: &'static [&'static [u16]],
-    rows: &'static [&'static [TableKind]],
-    weights: &'static [u32],
+    seen: Views<'static>,
 }
 
 /// The row of the state table that knows this of the parameters from the first on.
@@ -50,9 +66,9 @@ fn row_knowing(alloc: Global, kinds: &[TableKind]) -> Result<TableState, Memory>
 }
 
 /// The return rows.
-fn return_rows(alloc: Global, known: &Known) -> Result<Items<ReturnRow>, Memory> {
+fn return_rows(alloc: Global, model: Model) -> Result<Items<ReturnRow>, Memory> {
     let mut rows = Vec::new(alloc);
-    for blocks in known.returns {
+    for blocks in model.returns {
         let blocks = Items::from_vec(Vec::from_slice(alloc, blocks)?);
         rows.push(ReturnRow { blocks })?;
     }
@@ -60,142 +76,117 @@ fn return_rows(alloc: Global, known: &Known) -> Result<Items<ReturnRow>, Memory>
 }
 
 /// The state table.
-fn table(alloc: Global, known: &Known) -> Result<Items<Option<TableState>>, Memory> {
+fn table(alloc: Global, model: Model) -> Result<Items<Option<TableState>>, Memory> {
     let mut rows = Vec::new(alloc);
-    for kinds in known.rows {
+    for (_, kinds, _) in model.blocks {
         rows.push(Some(row_knowing(alloc, kinds)?))?;
     }
     Ok(Items::from_vec(rows))
 }
 
-/// The object of these blocks, accepted.
-fn object_knowing(
-    alloc: Global,
-    count: u64,
-    blocks: &[Block],
-    known: &Known,
-) -> Result<Verified, Fail> {
-    let returns = return_rows(alloc, known)?;
-    let states = table(alloc, known)?;
-    let weights = Items::from_vec(Vec::from_slice(alloc, known.weights)?);
-    object_of(
-        alloc,
-        parts_with(alloc, &[], count, blocks, returns, states, weights)?,
-    )
-}
-
-/// How a job stands at its end, and the value of the savevalue X.
-fn last_of(sim: &mut Sim) -> Result<(Stand, i64), Fail> {
-    let status = run(sim, 1_000)?;
-    Ok(((status, numbers(sim)), savevalue_of(sim, X)?))
-}
-
-/// How the job of these blocks stands at its end, and the value of the savevalue X.
-fn end_of(
-    alloc: Global,
-    count: u64,
-    blocks: &[Block],
-    known: &Known,
-) -> Result<(Stand, i64), Fail> {
-    let verified = object_knowing(alloc, count, blocks, known)?;
-    let mut sim = job_of(alloc, verified, AMPLE)?;
-    last_of(&mut sim)
-}
-
-/// The clock, steps, entries and count with which the job of these blocks is done.
-fn done_at(
-    alloc: Global,
-    count: u64,
-    blocks: &[Block],
-    known: &Known,
-) -> Result<(i64, u64, u64, i64), Fail> {
-    match end_of(alloc, count, blocks, known)? {
-        ((Status::Ended(End::Done), numbers), _) => Ok(numbers),
-        _ => Err("another end".into()),
+/// The blocks.
+fn blocks_of(alloc: Global, model: Model) -> Result<Vec<Block>, Memory> {
+    let mut blocks = Vec::new(alloc);
+    for (block, _, _) in model.blocks {
+        blocks.push(*block)?;
     }
+    Ok(blocks)
+}
+
+/// The weights.
+fn weights_of(alloc: Global, model: Model) -> Result<Items<u32>, Memory> {
+    let mut weights = Vec::new(alloc);
+    for (_, _, weight) in model.blocks {
+        weights.push(*weight)?;
+    }
+    Ok(Items::from_vec(weights))
+}
+
+/// The parts of the model's object.
+fn parts_of(alloc: Global, model: Model) -> Result<Parts, Memory> {
+    let returns = return_rows(alloc, model)?;
+    let states = table(alloc, model)?;
+    let weights = weights_of(alloc, model)?;
+    let blocks = blocks_of(alloc, model)?;
+    parts_with(alloc, &[], model.count, &blocks, returns, states, weights)
+}
+
+/// The place, from 0, of the first of these models whose job is seen otherwise.
+fn wrong_model(alloc: Global, models: &[Model]) -> Result<Option<usize>, Fail> {
+    for i in 0..models.len() {
+        let mut sim = job_of_parts(alloc, parts_of(alloc, models[i])?)?;
+        if wrong_view(&mut sim, models[i].seen)?.is_some() {
+            return Ok(Some(i));
+        }
+    }
+    Ok(None)
 }
 
 #[test]
-fn subroutine_comes_back_to_each_of_two_calls(rt: HostRuntime) -> Result<(), Fail> {
-    // GENERATE ,,,1 / TRANSFER SBR,SUB,1 / TRANSFER SBR,SUB,1 / TERMINATE 1 / SUB ADVANCE 5 / TRANSFER P,1,1.
-    const KNOWN: Known = Known {
-        returns: &[&[2, 3]],
-        rows: &[NONE, NONE, FIRST, FIRST, FIRST, FIRST],
-        weights: &[3, 2, 2, 1, 1, 3],
-    };
-    let blocks = [
-        one_at(0, 0),
-        call(5, 1),
-        call(5, 1),
-        terminate(1),
-        advance(5),
-        come_back(1),
+fn subroutines_come_back_to_each_of_their_calls(rt: HostRuntime) -> Result<(), Fail> {
+    const MODELS: &[Model] = &[
+        // GENERATE ,,,1 / TRANSFER SBR,SUB,1 / TRANSFER SBR,SUB,1 / TERMINATE 1 / SUB ADVANCE 5 / TRANSFER P,1,1.
+        Model {
+            count: 1,
+            blocks: &[
+                (one_at!(0, 0), NONE, 3),
+                (call!(5, 1), NONE, 2),
+                (call!(5, 1), FIRST, 2),
+                (terminate!(1), FIRST, 1),
+                (advance!(5), FIRST, 1),
+                (come_back!(1), FIRST, 3),
+            ],
+            returns: &[&[2, 3]],
+            seen: &[(ALL, Ends(End::Done, (10, 14, 8, 0)))],
+        },
+        // One calls another: GENERATE ,,,1 / TRANSFER SBR,OUTER,1 / TERMINATE 1 / OUTER TRANSFER SBR,INNER,2 / TRANSFER P,1,1 /
+        // INNER ADVANCE 3 / TRANSFER P,2,1.
+        Model {
+            count: 1,
+            blocks: &[
+                (one_at!(0, 0), NONE, 4),
+                (call!(4, 1), NONE, 3),
+                (terminate!(1), NONE, 1),
+                (call!(6, 2), FIRST, 2),
+                (come_back!(1), FIRST, 2),
+                (advance!(3), BOTH, 1),
+                (come_back!(2), BOTH, 3),
+            ],
+            returns: &[&[2], &[4]],
+            seen: &[(ALL, Ends(End::Done, (3, 11, 7, 0)))],
+        },
+        // Each transaction comes back to its own call: GENERATE ,,,1 / TRANSFER SBR,SUB,1 / TERMINATE 1 / GENERATE ,,,1 / TRANSFER
+        // SBR,SUB,1 / TERMINATE 2 / SUB ADVANCE 5 / TRANSFER P,1,1. Where both came back to one call, the count of 3 would be 1
+        // or -1 at last.
+        Model {
+            count: 3,
+            blocks: &[
+                (one_at!(0, 0), NONE, 3),
+                (call!(7, 1), NONE, 2),
+                (terminate!(1), NONE, 1),
+                (one_at!(0, 0), NONE, 3),
+                (call!(7, 1), NONE, 2),
+                (terminate!(2), NONE, 1),
+                (advance!(5), FIRST, 1),
+                (come_back!(1), FIRST, 2),
+            ],
+            returns: &[&[2, 5]],
+            seen: &[(ALL, Ends(End::Done, (5, 16, 10, 0)))],
+        },
+        // A return is replaced by a number: GENERATE ,,,1 / TRANSFER SBR,NEXT,1 / NEXT ASSIGN 1,7 / SAVEVALUE X,P1 / TERMINATE 1.
+        Model {
+            count: 1,
+            blocks: &[
+                (one_at!(0, 0), NONE, 5),
+                (call!(3, 1), NONE, 4),
+                (assign!(1, Set, number!(7)), FIRST, 3),
+                (save!(X, Set, P1), NUMBER, 2),
+                (terminate!(1), NUMBER, 1),
+            ],
+            returns: &[&[2]],
+            seen: &[(ALL, Saved(7, 42))],
+        },
     ];
-    assert!(rt; done_at(rt.alloc(), 1, &blocks, &KNOWN)? == (10, 14, 8, 0));
-    Ok(())
-}
-
-#[test]
-fn subroutine_calls_another_one(rt: HostRuntime) -> Result<(), Fail> {
-    // GENERATE ,,,1 / TRANSFER SBR,OUTER,1 / TERMINATE 1 / OUTER TRANSFER SBR,INNER,2 / TRANSFER P,1,1 / INNER ADVANCE 3 /
-    // TRANSFER P,2,1.
-    const KNOWN: Known = Known {
-        returns: &[&[2], &[4]],
-        rows: &[NONE, NONE, NONE, FIRST, FIRST, BOTH, BOTH],
-        weights: &[4, 3, 1, 2, 2, 1, 3],
-    };
-    let blocks = [
-        one_at(0, 0),
-        call(4, 1),
-        terminate(1),
-        call(6, 2),
-        come_back(1),
-        advance(3),
-        come_back(2),
-    ];
-    assert!(rt; done_at(rt.alloc(), 1, &blocks, &KNOWN)? == (3, 11, 7, 0));
-    Ok(())
-}
-
-#[test]
-fn each_transaction_comes_back_to_its_own_call(rt: HostRuntime) -> Result<(), Fail> {
-    // GENERATE ,,,1 / TRANSFER SBR,SUB,1 / TERMINATE 1 / GENERATE ,,,1 / TRANSFER SBR,SUB,1 / TERMINATE 2 / SUB ADVANCE 5 /
-    // TRANSFER P,1,1. Where both came back to one call, the count of 3 would be 1 or -1 at last.
-    const KNOWN: Known = Known {
-        returns: &[&[2, 5]],
-        rows: &[NONE, NONE, NONE, NONE, NONE, NONE, FIRST, FIRST],
-        weights: &[3, 2, 1, 3, 2, 1, 1, 2],
-    };
-    let blocks = [
-        one_at(0, 0),
-        call(7, 1),
-        terminate(1),
-        one_at(0, 0),
-        call(7, 1),
-        terminate(2),
-        advance(5),
-        come_back(1),
-    ];
-    assert!(rt; done_at(rt.alloc(), 3, &blocks, &KNOWN)? == (5, 16, 10, 0));
-    Ok(())
-}
-
-#[test]
-fn return_is_replaced_by_a_number(rt: HostRuntime) -> Result<(), Fail> {
-    // GENERATE ,,,1 / TRANSFER SBR,NEXT,1 / NEXT ASSIGN 1,7 / SAVEVALUE X,P1 / TERMINATE 1.
-    const KNOWN: Known = Known {
-        returns: &[&[2]],
-        rows: &[NONE, NONE, FIRST, NUMBER, NUMBER],
-        weights: &[5, 4, 3, 2, 1],
-    };
-    let blocks = [
-        one_at(0, 0),
-        call(3, 1),
-        assign(1, Mode::Set, Operand::Constant(7)),
-        save(X, Mode::Set, P1),
-        terminate(1),
-    ];
-    let (_, saved) = end_of(rt.alloc(), 1, &blocks, &KNOWN)?;
-    assert!(rt; saved == 7);
+    assert_eq!(rt; wrong_model(rt.alloc(), MODELS)?, None);
     Ok(())
 }

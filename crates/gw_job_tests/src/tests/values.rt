@@ -1,310 +1,334 @@
 //! What operands read, and what blocks do with it.
 
-use super::*;
+use super::blocks::*;
+use super::views::View::{Active, Ends, Entries, Here, Saved};
+use super::views::{ALL, Job, ends, saves, wrong_job, wrong_view_of};
+use gw_blocks::{Block, Operand, Units};
+use gw_scan::End;
+use std::alloc::Global;
+use std::test::Fail;
 
 // WHAT OPERANDS READ
 
 /// GENERATE 2,,3,3 / ADVANCE 6 / TERMINATE / GENERATE ,,7,1,-3 / SEIZE F / ENTER S,2 / QUEUE L,4 / LOGIC S,G / ASSIGN 9,-4 /
-/// ADVANCE 5 / SAVEVALUE X,A / RELEASE F / TERMINATE 6.
+/// ADVANCE 5 / SAVEVALUE X,A / RELEASE F / TERMINATE 6, with a count of 6.
 ///
 /// Three customers come at clock 3, 5 and 7, and rest until 9, 11 and 13. The transaction that saves the value has the number
 /// 2, since the first arrival of each GENERATE is scheduled at the start; it comes at clock 7, and saves at clock 12.
 fn busy(value: Operand) -> [Block; 13] {
     [
-        generate(2, Some(3), Some(3), 0),
-        advance(6),
-        terminate(0),
-        one_at(7, -3),
-        Block::Seize(F),
-        enter(2),
+        generate!(2, Some(3), Some(3), 0),
+        advance!(6),
+        terminate!(0),
+        one_at!(7, -3),
+        SEIZE,
+        enter!(2),
         Block::Queue(Units {
             entity: L,
             number: 4,
         }),
-        logic(SwitchAction::Set),
-        assign(9, Mode::Set, Operand::Constant(-4)),
-        advance(5),
-        save(X, Mode::Set, value),
-        Block::Release(F),
-        terminate(6),
+        logic!(Set),
+        assign!(9, Set, number!(-4)),
+        advance!(5),
+        save!(X, Set, value),
+        RELEASE,
+        terminate!(6),
     ]
 }
 
-/// What the busy transaction reads of an operand at clock 12, with a termination count of 6.
-fn read_by_the_busy(alloc: Global, value: Operand) -> Result<i64, Fail> {
-    let [x, _] = saved(alloc, 6, &busy(value))?;
-    Ok(x)
+/// The first of these operands of which the busy transaction reads another value.
+fn misread_by_the_busy(
+    alloc: Global,
+    values: &[(Operand, i64)],
+) -> Result<Option<Operand>, Fail> {
+    for (operand, value) in values {
+        if wrong_view_of(alloc, 6, &busy(*operand), &[(ALL, Saved(*value, 42))])?.is_some() {
+            return Ok(Some(*operand));
+        }
+    }
+    Ok(None)
 }
 
 #[test]
 fn busy_transaction_reads_its_own_and_the_clock(rt: HostRuntime) -> Result<(), Fail> {
-    let values = [
-        (Operand::Constant(-17), -17),
-        (Operand::Constant(LEAST), LEAST),
-        (Operand::Constant(GREATEST), GREATEST),
+    const VALUES: &[(Operand, i64)] = &[
+        (number!(-17), -17),
+        (number!(LEAST), LEAST),
+        (number!(GREATEST), GREATEST),
         (Operand::Parameter(9), -4),
         (C1, 12),
-        (Operand::Attribute(Attribute::AbsoluteClock), 12),
+        (AC1, 12),
         (PR, -3),
         // It came at 7: 12 - 7.
         (M1, 5),
         (XN1, 2),
         (TG1, 6),
     ];
-    for (operand, value) in values {
-        assert_eq!(rt;
-            read_by_the_busy(rt.alloc(), operand)?,
-            value,
-            "{operand:?}"
-        );
-    }
+    assert_eq!(rt; misread_by_the_busy(rt.alloc(), VALUES)?, None);
     Ok(())
 }
 
 #[test]
 fn busy_transaction_reads_entities_and_blocks(rt: HostRuntime) -> Result<(), Fail> {
-    let values = [
-        (of(EntityAttribute::FacilityOwned, F), 1),
+    const VALUES: &[(Operand, i64)] = &[
+        (of!(FacilityOwned, F), 1),
         // Two of three units are taken.
-        (of(EntityAttribute::StorageContent, S), 2),
-        (of(EntityAttribute::StorageRemaining, S), 1),
-        (of(EntityAttribute::QueueContent, L), 4),
-        (value_of(X), 100),
-        (value_of(Y), 42),
-        (of(EntityAttribute::SwitchSetting, G), 1),
+        (of!(StorageContent, S), 2),
+        (of!(StorageRemaining, S), 1),
+        (of!(QueueContent, L), 4),
+        (value_of!(X), 100),
+        (value_of!(Y), 42),
+        (of!(SwitchSetting, G), 1),
         // All three customers came, and the last is still in the ADVANCE.
-        (entries_of(1), 3),
-        (count_of(1), 0),
-        (entries_of(2), 3),
-        (count_of(2), 1),
-        (entries_of(3), 2),
+        (entries_of!(1), 3),
+        (count_of!(1), 0),
+        (entries_of!(2), 3),
+        (count_of!(2), 1),
+        (entries_of!(3), 2),
         // The reader itself is in the second ADVANCE, and not yet in the SAVEVALUE.
-        (entries_of(10), 1),
-        (count_of(10), 1),
-        (entries_of(11), 0),
-        (count_of(11), 0),
+        (entries_of!(10), 1),
+        (count_of!(10), 1),
+        (entries_of!(11), 0),
+        (count_of!(11), 0),
     ];
-    for (operand, value) in values {
-        assert_eq!(rt;
-            read_by_the_busy(rt.alloc(), operand)?,
-            value,
-            "{operand:?}"
-        );
-    }
+    assert_eq!(rt; misread_by_the_busy(rt.alloc(), VALUES)?, None);
     Ok(())
 }
 
-/// What the first transaction of GENERATE ,,,1 / SAVEVALUE X,A / TERMINATE 1 reads of an operand at clock 0.
-fn read_at_first(alloc: Global, value: Operand) -> Result<i64, Fail> {
-    let blocks = [one_at(0, 0), save(X, Mode::Set, value), terminate(1)];
-    let [x, _] = saved(alloc, 1, &blocks)?;
-    Ok(x)
+/// The first of these operands of which the first transaction of GENERATE ,,,1 / SAVEVALUE X,A / TERMINATE 1 reads another value
+/// at clock 0.
+fn misread_at_first(alloc: Global, values: &[(Operand, i64)]) -> Result<Option<Operand>, Fail> {
+    for (operand, value) in values {
+        let blocks = [one_at!(0, 0), save!(X, Set, *operand), terminate!(1)];
+        if wrong_view_of(alloc, 1, &blocks, &[(ALL, Saved(*value, 42))])?.is_some() {
+            return Ok(Some(*operand));
+        }
+    }
+    Ok(None)
 }
 
 #[test]
 fn first_transaction_reads_what_is_unused(rt: HostRuntime) -> Result<(), Fail> {
-    let values = [
-        (of(EntityAttribute::FacilityOwned, F), 0),
-        (of(EntityAttribute::StorageContent, S), 0),
-        (of(EntityAttribute::StorageRemaining, S), 3),
-        (of(EntityAttribute::QueueContent, L), 0),
-        (of(EntityAttribute::SwitchSetting, G), 0),
+    const VALUES: &[(Operand, i64)] = &[
+        (of!(FacilityOwned, F), 0),
+        (of!(StorageContent, S), 0),
+        (of!(StorageRemaining, S), 3),
+        (of!(QueueContent, L), 0),
+        (of!(SwitchSetting, G), 0),
         (C1, 0),
-        (Operand::Attribute(Attribute::AbsoluteClock), 0),
+        (AC1, 0),
         (PR, 0),
         (M1, 0),
         (XN1, 1),
         (TG1, 1),
-        (entries_of(1), 1),
-        (count_of(1), 1),
-        (entries_of(3), 0),
-        (count_of(3), 0),
+        (entries_of!(1), 1),
+        (count_of!(1), 1),
+        (entries_of!(3), 0),
+        (count_of!(3), 0),
     ];
-    for (operand, value) in values {
-        assert_eq!(rt; read_at_first(rt.alloc(), operand)?, value, "{operand:?}");
-    }
+    assert_eq!(rt; misread_at_first(rt.alloc(), VALUES)?, None);
     Ok(())
 }
 
-/// What a transaction with a priority reads of PR.
-fn priority_read(alloc: Global, priority: i32) -> Result<i64, Fail> {
-    let blocks = [one_at(0, priority), save(X, Mode::Set, PR), terminate(1)];
-    let [x, _] = saved(alloc, 1, &blocks)?;
-    Ok(x)
+/// GENERATE ,,,1,E / SAVEVALUE X,PR / TERMINATE 1.
+macro_rules! reading_priority {
+    ($priority:expr) => {
+        &[
+            one_at!(0, $priority),
+            save!(X, Set, PR),
+            terminate!(1),
+        ]
+    };
 }
 
 #[test]
 fn attributes_reach_their_greatest_values(rt: HostRuntime) -> Result<(), Fail> {
-    assert_eq!(rt; priority_read(rt.alloc(), -2_147_483_648)?, -2_147_483_648);
-    assert_eq!(rt; priority_read(rt.alloc(), 2_147_483_647)?, 2_147_483_647);
-    // It comes at clock 0, and rests until the last moment.
-    let late = [
-        one_at(0, 0),
-        advance(GREATEST),
-        save(X, Mode::Set, C1),
-        save(Y, Mode::Set, M1),
-        terminate(1),
+    const JOBS: &[Job] = &[
+        saves!(1, reading_priority!(-2_147_483_648), -2_147_483_648, 42),
+        saves!(1, reading_priority!(2_147_483_647), 2_147_483_647, 42),
+        // It comes at clock 0, and rests until the last moment.
+        saves!(
+            1,
+            &[
+                one_at!(0, 0),
+                advance!(GREATEST),
+                save!(X, Set, C1),
+                save!(Y, Set, M1),
+                terminate!(1),
+            ],
+            GREATEST,
+            GREATEST
+        ),
+        // The greatest termination count is 2^40.
+        saves!(
+            1_099_511_627_776,
+            &[one_at!(0, 0), save!(X, Set, TG1), terminate!(0)],
+            1_099_511_627_776,
+            42
+        ),
     ];
-    assert!(rt; saved(rt.alloc(), 1, &late)? == [GREATEST, GREATEST]);
-    // The greatest termination count is 2^40.
-    let counted = [one_at(0, 0), save(X, Mode::Set, TG1), terminate(0)];
-    assert!(rt; saved(rt.alloc(), 1_099_511_627_776, &counted)? == [1_099_511_627_776, 42]);
+    assert_eq!(rt; wrong_job(rt.alloc(), JOBS)?, None);
     Ok(())
 }
 
 /// What the first of three reads of an operand when it has released the facility: GENERATE ,,,3 / SEIZE F / ADVANCE 5 /
 /// RELEASE F / SAVEVALUE X,A / TERMINATE 1.
-fn read_after_release(alloc: Global, value: Operand) -> Result<i64, Fail> {
-    let blocks = [
-        generate(0, None, Some(3), 0),
-        Block::Seize(F),
-        advance(5),
-        Block::Release(F),
-        save(X, Mode::Set, value),
-        terminate(1),
-    ];
-    let [x, _] = saved(alloc, 1, &blocks)?;
-    Ok(x)
+macro_rules! reading_after_release {
+    ($operand:expr, $value:expr) => {
+        saves!(
+            1,
+            &[
+                generate!(0, None, Some(3), 0),
+                SEIZE,
+                advance!(5),
+                RELEASE,
+                save!(X, Set, $operand),
+                terminate!(1),
+            ],
+            $value,
+            42
+        )
+    };
 }
 
 #[test]
 fn waiters_are_where_they_were_last(rt: HostRuntime) -> Result<(), Fail> {
     // At clock 5 the second is handed the facility and enters the SEIZE at once; the third waits for it in the GENERATE.
-    let values = [
-        (count_of(1), 1),
-        (count_of(2), 1),
-        (entries_of(2), 2),
-        (count_of(3), 0),
+    const JOBS: &[Job] = &[
+        reading_after_release!(count_of!(1), 1),
+        reading_after_release!(count_of!(2), 1),
+        reading_after_release!(entries_of!(2), 2),
+        reading_after_release!(count_of!(3), 0),
         // The reader itself.
-        (count_of(4), 1),
-        (of(EntityAttribute::FacilityOwned, F), 1),
+        reading_after_release!(count_of!(4), 1),
+        reading_after_release!(of!(FacilityOwned, F), 1),
     ];
-    for (operand, value) in values {
-        assert_eq!(rt;
-            read_after_release(rt.alloc(), operand)?,
-            value,
-            "{operand:?}"
-        );
-    }
+    assert_eq!(rt; wrong_job(rt.alloc(), JOBS)?, None);
     Ok(())
 }
 
 // THE STATE THAT OPERANDS READ
 
-#[test]
-fn operands_are_read_before_the_entry(rt: HostRuntime) -> Result<(), Fail> {
-    // N of the ADVANCE is 0 for the first, which goes on at once, and 1 for the second, which rests until clock 1.
-    let by_entries = [
-        generate(0, None, Some(2), 0),
-        advance_by(entries_of(2), Operand::Constant(0)),
-        terminate(1),
-    ];
-    let end = (Status::Ended(End::Done), (1, 12, 6, 0));
-    comes_to(&rt, rt.alloc(), 2, &by_entries, end)?;
-    // W of the ADVANCE is 0 for both.
-    let by_count = [
-        generate(0, None, Some(2), 0),
-        advance_by(count_of(2), Operand::Constant(0)),
-        terminate(1),
-    ];
-    let end = (Status::Ended(End::Done), (0, 10, 6, 0));
-    comes_to(&rt, rt.alloc(), 2, &by_count, end)?;
-    // W of the GENERATE counts who is about to enter the ADVANCE.
-    let by_count_behind = [
-        one_at(0, 0),
-        advance_by(count_of(1), Operand::Constant(0)),
-        terminate(1),
-    ];
-    let end = (Status::Ended(End::Done), (1, 7, 3, 0));
-    comes_to(&rt, rt.alloc(), 1, &by_count_behind, end)
+/// This GENERATE / ADVANCE A / TERMINATE 1.
+macro_rules! resting {
+    ($generate:expr, $time:expr) => {
+        &[
+            $generate,
+            advance_by!($time, number!(0)),
+            terminate!(1),
+        ]
+    };
 }
 
+/// GENERATE ,,,2.
+const TWO: Block = generate!(0, None, Some(2), 0);
+
 #[test]
-fn transit_time_is_read_before_the_rest(rt: HostRuntime) -> Result<(), Fail> {
-    // It comes at clock 2, and rests until 5; then for 5 - 2, until 8.
-    let blocks = [
-        one_at(2, 0),
-        advance(3),
-        advance_by(M1, Operand::Constant(0)),
-        terminate(1),
+fn operands_are_read_before_the_entry(rt: HostRuntime) -> Result<(), Fail> {
+    const JOBS: &[Job] = &[
+        // N of the ADVANCE is 0 for the first, which goes on at once, and 1 for the second, which rests until clock 1.
+        ends!(2, resting!(TWO, entries_of!(2)), Done, (1, 12, 6, 0)),
+        // W of the ADVANCE is 0 for both.
+        ends!(2, resting!(TWO, count_of!(2)), Done, (0, 10, 6, 0)),
+        // W of the GENERATE counts who is about to enter the ADVANCE.
+        ends!(
+            1,
+            resting!(one_at!(0, 0), count_of!(1)),
+            Done,
+            (1, 7, 3, 0)
+        ),
+        // The transit time is read before the rest. It comes at clock 2, and rests until 5; then for 5 - 2, until 8.
+        ends!(
+            1,
+            &[
+                one_at!(2, 0),
+                advance!(3),
+                advance_by!(M1, number!(0)),
+                terminate!(1),
+            ],
+            Done,
+            (8, 10, 4, 0)
+        ),
     ];
-    let end = (Status::Ended(End::Done), (8, 10, 4, 0));
-    comes_to(&rt, rt.alloc(), 1, &blocks, end)
+    assert_eq!(rt; wrong_job(rt.alloc(), JOBS)?, None);
+    Ok(())
 }
 
 // WHAT BLOCKS DO WITH OPERANDS
 
 /// GENERATE 10 / TERMINATE A.
-fn terminates_by(value: Operand) -> [Block; 2] {
-    [generate(10, None, None, 0), Block::Terminate(value)]
+macro_rules! terminating_by {
+    ($value:expr) => {
+        &[
+            generate!(10, None, None, 0),
+            Block::Terminate($value),
+        ]
+    };
 }
 
 #[test]
 fn terminate_counts_down_by_its_operand(rt: HostRuntime) -> Result<(), Fail> {
-    // 25 - 10 - 20: each transaction takes 4 steps and makes 2 entries.
-    let end = (Status::Ended(End::Done), (20, 8, 4, -5));
-    comes_to(&rt, rt.alloc(), 25, &terminates_by(C1), end)?;
-    // 6 - 1 - 2 - 3.
-    let end = (Status::Ended(End::Done), (30, 12, 6, 0));
-    comes_to(&rt, rt.alloc(), 6, &terminates_by(XN1), end)?;
-    // 7 - 7.
-    let end = (Status::Ended(End::Done), (10, 4, 2, 0));
-    comes_to(&rt, rt.alloc(), 7, &terminates_by(TG1), end)?;
-    // 101 - 100 - 100.
-    let end = (Status::Ended(End::Done), (20, 8, 4, -99));
-    comes_to(&rt, rt.alloc(), 101, &terminates_by(value_of(X)), end)
+    const JOBS: &[Job] = &[
+        // 25 - 10 - 20: each transaction takes 4 steps and makes 2 entries.
+        ends!(25, terminating_by!(C1), Done, (20, 8, 4, -5)),
+        // 6 - 1 - 2 - 3.
+        ends!(6, terminating_by!(XN1), Done, (30, 12, 6, 0)),
+        // 7 - 7.
+        ends!(7, terminating_by!(TG1), Done, (10, 4, 2, 0)),
+        // 101 - 100 - 100.
+        ends!(101, terminating_by!(value_of!(X)), Done, (20, 8, 4, -99)),
+        // By less than 0 it leaves the transaction.
+        Job {
+            count: 1,
+            blocks: &[
+                one_at!(0, 0),
+                assign!(1, Set, number!(-1)),
+                Block::Terminate(P1),
+            ],
+            seen: &[
+                (ALL, Ends(End::Number, (0, 5, 2, 1))),
+                (0, Active(Some(1))),
+                (0, Entries([1, 1, 0, 0])),
+                (0, Here([0, 0, 1, 0])),
+            ],
+        },
+    ];
+    assert_eq!(rt; wrong_job(rt.alloc(), JOBS)?, None);
+    Ok(())
 }
 
 /// How GENERATE ,,,1 / ASSIGN 1,k / ADVANCE A,B / TERMINATE 1 comes to rest.
-fn rests_by(alloc: Global, value: i64, mean: Operand, half: Operand) -> Result<Stand, Fail> {
-    let blocks = [
-        one_at(0, 0),
-        assign(1, Mode::Set, Operand::Constant(value)),
-        advance_by(mean, half),
-        terminate(1),
-    ];
-    Ok(at_end(alloc, 1, &blocks)?.stand)
+macro_rules! rests_by {
+    ($value:expr, $mean:expr, $half:expr, $end:ident, $numbers:expr) => {
+        ends!(
+            1,
+            &[
+                one_at!(0, 0),
+                assign!(1, Set, number!($value)),
+                advance_by!($mean, $half),
+                terminate!(1),
+            ],
+            $end,
+            $numbers
+        )
+    };
 }
 
 #[test]
 fn advance_rests_for_its_operands(rt: HostRuntime) -> Result<(), Fail> {
-    let zero = Operand::Constant(0);
-    let rows = [
+    const JOBS: &[Job] = &[
         // It goes on at once.
-        (0, P1, zero, (Status::Ended(End::Done), (0, 6, 4, 0))),
-        (9, P1, zero, (Status::Ended(End::Done), (9, 8, 4, 0))),
+        rests_by!(0, P1, number!(0), Done, (0, 6, 4, 0)),
+        rests_by!(9, P1, number!(0), Done, (9, 8, 4, 0)),
         // 9 - 9 + 48271 mod 19: 19 x 2540 is 48260.
-        (9, P1, P1, (Status::Ended(End::Done), (11, 8, 4, 0))),
-        (
-            -1,
-            P1,
-            zero,
-            (Status::Ended(End::NegativeTime), (0, 5, 2, 1)),
-        ),
+        rests_by!(9, P1, P1, Done, (11, 8, 4, 0)),
+        rests_by!(-1, P1, number!(0), NegativeTime, (0, 5, 2, 1)),
         // Half the range is below 0; and A - B and 2B + 1 leave the numbers.
-        (-1, C1, P1, (Status::Ended(End::Number), (0, 5, 2, 1))),
-        (-1, P1, P1, (Status::Ended(End::Number), (0, 5, 2, 1))),
-        (LEAST, P1, XN1, (Status::Ended(End::Number), (0, 5, 2, 1))),
-        (GREATEST, C1, P1, (Status::Ended(End::Number), (0, 5, 2, 1))),
+        rests_by!(-1, C1, P1, Number, (0, 5, 2, 1)),
+        rests_by!(-1, P1, P1, Number, (0, 5, 2, 1)),
+        rests_by!(LEAST, P1, XN1, Number, (0, 5, 2, 1)),
+        rests_by!(GREATEST, C1, P1, Number, (0, 5, 2, 1)),
     ];
-    for (value, mean, half, end) in rows {
-        let stand = rests_by(rt.alloc(), value, mean, half)?;
-        assert!(rt; stand == end, "{value}: {stand:?}");
-    }
-    Ok(())
-}
-
-#[test]
-fn terminate_by_less_than_0_leaves_the_transaction(rt: HostRuntime) -> Result<(), Fail> {
-    let blocks = [
-        one_at(0, 0),
-        assign(1, Mode::Set, Operand::Constant(-1)),
-        Block::Terminate(P1),
-    ];
-    let seen = at_end(rt.alloc(), 1, &blocks)?;
-    assert!(rt; seen.stand == (Status::Ended(End::Number), (0, 5, 2, 1)));
-    assert!(rt;
-        seen.active == Some(1) && seen.entries == [1, 1, 0, 0] && seen.here == [0, 0, 1, 0]
-    );
+    assert_eq!(rt; wrong_job(rt.alloc(), JOBS)?, None);
     Ok(())
 }
