@@ -50,9 +50,19 @@ fn interval_is_read_when_the_arrival_is_scheduled(rt: HostRuntime) -> Result<(),
         // At 3, 3 + 3 and 6 + 2: the count falls after the next arrival is scheduled.
         ends!(3, arrivals!(TG1, None, 3, 0), Done, (8, 12, 6, 0)),
         // At 1, 1 + 0, 1 + 1 and 2 + 2: the entry itself isn't counted yet.
-        ends!(4, arrivals!(entries_of!(1), Some(1), 4, 0), Done, (4, 16, 8, 0)),
+        ends!(
+            4,
+            arrivals!(entries_of!(1), Some(1), 4, 0),
+            Done,
+            (4, 16, 8, 0)
+        ),
         // At 1, and all others too: nobody is in the GENERATE before the entry.
-        ends!(4, arrivals!(count_of!(1), Some(1), 4, 0), Done, (1, 16, 8, 0)),
+        ends!(
+            4,
+            arrivals!(count_of!(1), Some(1), 4, 0),
+            Done,
+            (1, 16, 8, 0)
+        ),
         // At 100, 100 + 100 and 200 + 7: the first two are scheduled before the SAVEVALUE is entered.
         ends!(
             3,

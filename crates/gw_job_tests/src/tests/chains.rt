@@ -180,16 +180,10 @@ fn members_leave_from_the_front_behind_their_peers(rt: HostRuntime) -> Result<()
                 (2, Active(Some(1))),
             ],
         ),
-        (
-            FIRST_FIRST,
-            &[(14, Active(Some(1))), (2, Active(Some(3)))],
-        ),
+        (FIRST_FIRST, &[(14, Active(Some(1))), (2, Active(Some(3)))]),
         (ONE_ALONE, &[(14, Active(Some(3)))]),
         // The second member has the higher priority.
-        (
-            BY_PRIORITY,
-            &[(14, Active(Some(2))), (2, Active(Some(1)))],
-        ),
+        (BY_PRIORITY, &[(14, Active(Some(2))), (2, Active(Some(1)))]),
     ];
     assert_eq!(rt; wrong_object(rt.alloc(), CASES)?, None);
     Ok(())

@@ -238,10 +238,7 @@ fn draws_of_a_test_stand_where_it_refuses(rt: HostRuntime) -> Result<(), Fail> {
             generate!(1, Some(1), Some(2), 0),
             terminate!(0),
         ],
-        seen: &[
-            (ALL, Ends(End::Done, (2, 18, 8, 0))),
-            (0, Saved(637, 42)),
-        ],
+        seen: &[(ALL, Ends(End::Done, (2, 18, 8, 0))), (0, Saved(637, 42))],
     }];
     assert_eq!(rt; wrong_job(rt.alloc(), JOBS)?, None);
     Ok(())
@@ -288,22 +285,21 @@ fn is_found(alloc: Global, first: Block, condition: Condition, is_so: bool) -> R
     let (with_another, alone) = if is_so {
         (goes_on, goes_on)
     } else {
-        (
-            Ends(End::Done, (5, 10, 6, -1)),
-            Runs((10, 10, 4, 1)),
-        )
+        (Ends(End::Done, (5, 10, 6, -1)), Runs((10, 10, 4, 1)))
     };
-    let led = wrong_view_of(alloc, 1, &gated(first, condition, Some(8)), &[(10, with_another)])?;
+    let led = wrong_view_of(
+        alloc,
+        1,
+        &gated(first, condition, Some(8)),
+        &[(10, with_another)],
+    )?;
     let left = wrong_view_of(alloc, 1, &gated(first, condition, None), &[(10, alone)])?;
     Ok(led.is_none() && left.is_none())
 }
 
 /// The place, from 0, of the first of these rows that is found otherwise: a block, what is asked at clock 5 after it, and whether
 /// it is so.
-fn wrong_gate(
-    alloc: Global,
-    rows: &[(Block, Condition, bool)],
-) -> Result<Option<usize>, Fail> {
+fn wrong_gate(alloc: Global, rows: &[(Block, Condition, bool)]) -> Result<Option<usize>, Fail> {
     for i in 0..rows.len() {
         let (first, condition, is_so) = rows[i];
         if !is_found(alloc, first, condition, is_so)? {

@@ -88,10 +88,7 @@ fn facility_is_handed_over_hundreds_of_times(rt: HostRuntime) -> Result<(), Fail
         ),
         all_who_own!(
             400,
-            &[
-                (ALL, Owned(None, 400, 400, (1, 0))),
-                (0, Waiting(0, 0)),
-            ]
+            &[(ALL, Owned(None, 400, 400, (1, 0))), (0, Waiting(0, 0)),]
         ),
     ];
     assert_eq!(rt; wrong_job(rt.alloc(), JOBS)?, None);
@@ -220,7 +217,14 @@ fn job_of_queues(alloc: Global) -> Result<Sim, Fail> {
 /// Whether a queue has had one unit, which is in it still, and this sum of content times time.
 fn has_held(sim: &Sim, number: u16, time_sum: u128) -> bool {
     match queue(sim, number) {
-        Some(Contents { content: 1, entries: 1, time_sum: sum, .. }) => sum == time_sum,
+        Some(
+            Contents {
+                content: 1,
+                entries: 1,
+                time_sum: sum,
+                ..
+            },
+        ) => sum == time_sum,
         _ => false,
     }
 }
@@ -229,10 +233,12 @@ fn has_held(sim: &Sim, number: u16, time_sum: u128) -> bool {
 fn passes_queues(alloc: Global) -> Result<bool, Fail> {
     let mut sim = job_of_queues(alloc)?;
     let end = Ends(End::Done, (300, 1204, 602, 0));
-    Ok(wrong_view(&mut sim, &[(ALL, end)])?.is_none()
-        && has_held(&sim, 0, 300)
-        && has_held(&sim, 100, 200)
-        && has_held(&sim, 299, 1))
+    Ok(
+        wrong_view(&mut sim, &[(ALL, end)])?.is_none()
+            && has_held(&sim, 0, 300)
+            && has_held(&sim, 100, 200)
+            && has_held(&sim, 299, 1),
+    )
 }
 
 #[test]

@@ -142,19 +142,13 @@ fn interval_is_read_from_left_to_right(rt: HostRuntime) -> Result<(), Fail> {
         // As above: 336 - 57 + 86. At the start, and for the second, where the first comes at clock 0.
         ends!(
             1,
-            &[
-                generate_by!(RN16, RN16, None, Some(1), 0),
-                terminate!(1)
-            ],
+            &[generate_by!(RN16, RN16, None, Some(1), 0), terminate!(1)],
             Done,
             (365, 4, 2, 0)
         ),
         ends!(
             2,
-            &[
-                generate_by!(RN16, RN16, Some(0), Some(2), 0),
-                terminate!(1)
-            ],
+            &[generate_by!(RN16, RN16, Some(0), Some(2), 0), terminate!(1)],
             Done,
             (365, 8, 4, 0)
         ),

@@ -12,7 +12,10 @@ use std::test::Fail;
 fn budget_of_5_ends_at_clock_13(rt: HostRuntime) -> Result<(), Fail> {
     let verified = object(rt.alloc(), &[], 2, THREE_BLOCKS)?;
     let mut sim = job_of(rt.alloc(), verified, 5)?;
-    assert_eq!(rt; wrong_view(&mut sim, &[(1_000, Ends(End::Budget, (13, 5, 2, 2)))])?, None);
+    assert_eq!(rt;
+        wrong_view(&mut sim, &[(1_000, Ends(End::Budget, (13, 5, 2, 2)))])?,
+        None
+    );
     Ok(())
 }
 
@@ -37,10 +40,7 @@ fn times_below_0_and_past_the_last_moment_are_named_ends(rt: HostRuntime) -> Res
         // The next arrival.
         ends!(
             1,
-            &[
-                generate!(8, Some(GREATEST - 7), None, 0),
-                terminate!(1)
-            ],
+            &[generate!(8, Some(GREATEST - 7), None, 0), terminate!(1)],
             Number,
             (GREATEST - 7, 3, 0, 1)
         ),

@@ -37,10 +37,7 @@ fn busy(value: Operand) -> [Block; 13] {
 }
 
 /// The first of these operands of which the busy transaction reads another value.
-fn misread_by_the_busy(
-    alloc: Global,
-    values: &[(Operand, i64)],
-) -> Result<Option<Operand>, Fail> {
+fn misread_by_the_busy(alloc: Global, values: &[(Operand, i64)]) -> Result<Option<Operand>, Fail> {
     for (operand, value) in values {
         if wrong_view_of(alloc, 6, &busy(*operand), &[(ALL, Saved(*value, 42))])?.is_some() {
             return Ok(Some(*operand));
@@ -231,12 +228,7 @@ fn operands_are_read_before_the_entry(rt: HostRuntime) -> Result<(), Fail> {
         // W of the ADVANCE is 0 for both.
         ends!(2, resting!(TWO, count_of!(2)), Done, (0, 10, 6, 0)),
         // W of the GENERATE counts who is about to enter the ADVANCE.
-        ends!(
-            1,
-            resting!(one_at!(0, 0), count_of!(1)),
-            Done,
-            (1, 7, 3, 0)
-        ),
+        ends!(1, resting!(one_at!(0, 0), count_of!(1)), Done, (1, 7, 3, 0)),
         // The transit time is read before the rest. It comes at clock 2, and rests until 5; then for 5 - 2, until 8.
         ends!(
             1,

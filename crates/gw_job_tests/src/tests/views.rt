@@ -96,9 +96,7 @@ fn stored(sim: &Sim, contents: Contents, average: Average) -> bool {
 
 /// Whether what is in the queue L and its average content are these.
 fn queued(sim: &Sim, contents: Contents, average: Average) -> bool {
-    has_entity(sim, L)
-        && sim.queues().get(L) == contents
-        && sim.queues().average(L) == average
+    has_entity(sim, L) && sim.queues().get(L) == contents && sim.queues().average(L) == average
 }
 
 /// What is in the storage S, if there is one.
