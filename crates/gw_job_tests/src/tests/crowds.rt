@@ -208,7 +208,7 @@ fn through_queues(alloc: Global, count: u16) -> Result<Vec<Block>, Memory> {
 
 /// The job of those blocks for 300 queues.
 fn job_of_queues(alloc: Global) -> Result<Sim, Fail> {
-    let mut parts = parts(alloc, &[], 1, &through_queues(alloc, 300)?)?;
+    let mut parts = parts(alloc, 1, &through_queues(alloc, 300)?)?;
     parts.entities = numbered_queues(alloc, 300)?;
     parts.states = rows_of_nothing(alloc, 602)?;
     job_of_parts(alloc, parts)

@@ -2,7 +2,7 @@
 //! stream 2 to 96542 and 365211588, stream 16 to 772336 and 774209057.
 
 use super::blocks::*;
-use super::objects::{AMPLE, job_of, object};
+use super::objects::{AMPLE, job_of, seeded_object};
 use super::views::View::{Clock, Ends, Entries, Saved};
 use super::views::{ALL, Job, ends, run, saves, value, wrong_job};
 use gw_blocks::{Block, Operand};
@@ -14,7 +14,7 @@ use std::test::Fail;
 fn first_draw(alloc: Global, seeds: &[u32], stream: u8) -> Result<Option<i64>, Fail> {
     let drawn = Operand::Random(stream);
     let blocks = [one_at!(0, 0), save!(X, Set, drawn), terminate!(1)];
-    let verified = object(alloc, seeds, 1, &blocks)?;
+    let verified = seeded_object(alloc, seeds, 1, &blocks)?;
     let mut sim = job_of(alloc, verified, AMPLE)?;
     run(&mut sim, ALL)?;
     Ok(value(&sim, X))

@@ -4,7 +4,7 @@ use super::blocks::*;
 use super::weights::weights_of;
 use gw_blocks::{Block, Units};
 use gw_object::{
-    Entity, Items, Kind, Memory, Object, Parts, ReturnRow, TableKind, TableParameter, TableState,
+    Entity, Items, Kind, Memory, Object, Parts, TableKind, TableParameter, TableState,
 };
 use gw_scan::{Sim, Spec};
 use gw_verify::{Verified, verify};
@@ -85,23 +85,36 @@ impl Held {
         }
     }
 
-    /// The row of the state table that says so, after these blocks.
-    pub(super) fn row(self, alloc: Global, passed: &[Block]) -> Result<TableState, Memory> {
+    /// The facility that it owns, if it does.
+    fn facilities(self, alloc: Global) -> Result<Items<u16>, Memory> {
         let mut facilities = Vec::new(alloc);
         if self.facility {
             facilities.push(F)?;
         }
+        Ok(Items::from_vec(facilities))
+    }
+
+    /// The units that it holds.
+    fn units(self, alloc: Global) -> Result<Items<Units>, Memory> {
         let mut units = Vec::new(alloc);
         for (entity, number) in [(S, self.storage), (L, self.queue)] {
             if number > 0 {
                 units.push(Units { entity, number })?;
             }
         }
-        Ok(TableState {
-            parameters: set_by(alloc, passed)?,
-            facilities: Items::from_vec(facilities),
-            units: Items::from_vec(units),
-        })
+        Ok(Items::from_vec(units))
+    }
+
+    /// The row of the state table that says so, after these blocks.
+    pub(super) fn row(self, alloc: Global, passed: &[Block]) -> Result<TableState, Memory> {
+        let mut row = TableState {
+            parameters: Items::from_vec(Vec::new(alloc)),
+            facilities: self.facilities(alloc)?,
+            units: Items::from_vec(Vec::new(alloc)),
+        };
+        row.units = self.units(alloc)?;
+        row.parameters = set_by(alloc, passed)?;
+        Ok(row)
     }
 }
 
@@ -125,63 +138,60 @@ fn straight_table(alloc: Global, blocks: &[Block]) -> Result<Items<Option<TableS
 
 // OBJECTS
 
-/// An entity with a name of one letter.
-pub(super) fn entity(alloc: Global, name: u8, kind: Kind) -> Result<Entity, Memory> {
-    Ok(Entity {
-        name: Items::from_vec(vec![in alloc; name]?),
-        kind,
-    })
+/// Adds an entity with a name of one letter.
+pub(super) fn add_entity(
+    alloc: Global,
+    entities: &mut Vec<Entity>,
+    name: u8,
+    kind: Kind,
+) -> Result<(), Memory> {
+    let name = Items::from_vec(vec![in alloc; name]?);
+    entities.push(Entity { name, kind })?;
+    Ok(())
 }
 
 /// The entities of each object: the facility F, the storage S of 3 units, the queue L, the logic switch G, and the savevalues
 /// X and Y.
 fn six_entities(alloc: Global) -> Result<Items<Entity>, Memory> {
-    Ok(Items::from_vec(vec![in alloc;
-        entity(alloc, b'F', Kind::Facility)?,
-        entity(alloc, b'S', Kind::Storage(3))?,
-        entity(alloc, b'L', Kind::Queue)?,
-        entity(alloc, b'G', Kind::Switch(false))?,
-        entity(alloc, b'X', Kind::Savevalue(100))?,
-        entity(alloc, b'Y', Kind::Savevalue(42))?,
-    ]?))
+    let mut entities = Vec::new(alloc);
+    add_entity(alloc, &mut entities, b'F', Kind::Facility)?;
+    add_entity(alloc, &mut entities, b'S', Kind::Storage(3))?;
+    add_entity(alloc, &mut entities, b'L', Kind::Queue)?;
+    add_entity(alloc, &mut entities, b'G', Kind::Switch(false))?;
+    add_entity(alloc, &mut entities, b'X', Kind::Savevalue(100))?;
+    add_entity(alloc, &mut entities, b'Y', Kind::Savevalue(42))?;
+    Ok(Items::from_vec(entities))
 }
 
-/// The parts of an object of these blocks, with these return rows, this state table and these weights, and with seeds and a
-/// termination count of its own.
-pub(super) fn parts_with(
-    alloc: Global,
-    seeds: &[u32],
-    count: u64,
-    blocks: &[Block],
-    returns: Items<ReturnRow>,
-    states: Items<Option<TableState>>,
-    weights: Items<u32>,
-) -> Result<Parts, Memory> {
+/// The parts of an object of those entities and no block, with a termination count.
+pub(super) fn bare_parts(alloc: Global, count: u64) -> Result<Parts, Memory> {
     Ok(Parts {
-        seeds: Items::from_vec(Vec::from_slice(alloc, seeds)?),
+        seeds: Items::from_vec(Vec::new(alloc)),
         count,
         entities: six_entities(alloc)?,
         procedures: Items::from_vec(Vec::new(alloc)),
-        blocks: Items::from_vec(Vec::from_slice(alloc, blocks)?),
-        returns,
-        states,
+        blocks: Items::from_vec(Vec::new(alloc)),
+        returns: Items::from_vec(Vec::new(alloc)),
+        states: Items::from_vec(Vec::new(alloc)),
         chain_states: Items::from_vec(Vec::new(alloc)),
-        weights,
+        weights: Items::from_vec(Vec::new(alloc)),
         chain_weights: Items::from_vec(Vec::new(alloc)),
     })
 }
 
-/// The parts of an object of these blocks, with seeds and a termination count of its own.
-pub(super) fn parts(
-    alloc: Global,
-    seeds: &[u32],
-    count: u64,
-    blocks: &[Block],
-) -> Result<Parts, Memory> {
-    let no_returns = Items::from_vec(Vec::new(alloc));
-    let states = straight_table(alloc, blocks)?;
-    let weights = weights_of(alloc, blocks)?;
-    parts_with(alloc, seeds, count, blocks, no_returns, states, weights)
+/// Gives an object these blocks, with what is known in each and with its weight.
+fn put_blocks(alloc: Global, parts: &mut Parts, blocks: &[Block]) -> Result<(), Memory> {
+    parts.blocks = Items::from_vec(Vec::from_slice(alloc, blocks)?);
+    parts.states = straight_table(alloc, blocks)?;
+    parts.weights = weights_of(alloc, blocks)?;
+    Ok(())
+}
+
+/// The parts of an object of these blocks, with a termination count.
+pub(super) fn parts(alloc: Global, count: u64, blocks: &[Block]) -> Result<Parts, Memory> {
+    let mut parts = bare_parts(alloc, count)?;
+    put_blocks(alloc, &mut parts, blocks)?;
+    Ok(parts)
 }
 
 /// The object of these parts.
@@ -194,14 +204,21 @@ pub(super) fn accepted(alloc: Global, object: Object) -> Result<Verified, Fail> 
     Ok(verify(alloc, object).ok().ok_or("an accepted object")?)
 }
 
-/// The object of these blocks, accepted, with seeds and a termination count of its own.
-pub(super) fn object(
+/// The object of these blocks, accepted, with a termination count.
+pub(super) fn object(alloc: Global, count: u64, blocks: &[Block]) -> Result<Verified, Fail> {
+    accepted(alloc, built(parts(alloc, count, blocks)?)?)
+}
+
+/// The object of these blocks, accepted, with seeds of its own and a termination count.
+pub(super) fn seeded_object(
     alloc: Global,
     seeds: &[u32],
     count: u64,
     blocks: &[Block],
 ) -> Result<Verified, Fail> {
-    accepted(alloc, built(parts(alloc, seeds, count, blocks)?)?)
+    let mut parts = parts(alloc, count, blocks)?;
+    parts.seeds = Items::from_vec(Vec::from_slice(alloc, seeds)?);
+    accepted(alloc, built(parts)?)
 }
 
 // JOBS
@@ -214,7 +231,7 @@ pub(super) fn job_of(alloc: Global, verified: Verified, budget: u64) -> Result<S
 
 /// The job of these blocks before its first step, with a termination count.
 pub(super) fn job_of_blocks(alloc: Global, count: u64, blocks: &[Block]) -> Result<Sim, Fail> {
-    job_of(alloc, object(alloc, &[], count, blocks)?, AMPLE)
+    job_of(alloc, object(alloc, count, blocks)?, AMPLE)
 }
 
 /// The job of an object of these parts before its first step.

@@ -210,7 +210,7 @@ fn mark_puts_the_clock_into_the_mark_time_or_a_parameter(rt: HostRuntime) -> Res
 
 /// The fault with which the object of these blocks is refused, if it is.
 fn refusal(alloc: Global, blocks: &[Block]) -> Result<Option<Fault>, Fail> {
-    let object = built(parts(alloc, &[], 1, blocks)?)?;
+    let object = built(parts(alloc, 1, blocks)?)?;
     Ok(verify(alloc, object).err().map(|(_object, fault)| fault))
 }
 

@@ -1,7 +1,7 @@
 //! Logic switches and savevalues, and their lines in the report.
 
 use super::blocks::*;
-use super::objects::{entity, job_of_parts, parts};
+use super::objects::{add_entity, job_of_parts, parts};
 use super::reports::report_after;
 use super::views::View::{Ended, Saved, Set};
 use super::views::{ALL, Job, saves, wrong_job};
@@ -104,13 +104,13 @@ fn savevalue_is_set_added_to_and_subtracted_from(rt: HostRuntime) -> Result<(), 
 
 /// A savevalue A of -5, a facility F, a logic switch G that is set, a savevalue B of 12, and a logic switch H that is reset.
 fn five_entities(alloc: Global) -> Result<Items<Entity>, Memory> {
-    Ok(Items::from_vec(vec![in alloc;
-        entity(alloc, b'A', Kind::Savevalue(-5))?,
-        entity(alloc, b'F', Kind::Facility)?,
-        entity(alloc, b'G', Kind::Switch(true))?,
-        entity(alloc, b'B', Kind::Savevalue(12))?,
-        entity(alloc, b'H', Kind::Switch(false))?,
-    ]?))
+    let mut entities = Vec::new(alloc);
+    add_entity(alloc, &mut entities, b'A', Kind::Savevalue(-5))?;
+    add_entity(alloc, &mut entities, b'F', Kind::Facility)?;
+    add_entity(alloc, &mut entities, b'G', Kind::Switch(true))?;
+    add_entity(alloc, &mut entities, b'B', Kind::Savevalue(12))?;
+    add_entity(alloc, &mut entities, b'H', Kind::Switch(false))?;
+    Ok(Items::from_vec(entities))
 }
 
 /// LOGIC S or I of a switch.
@@ -138,7 +138,7 @@ const THREE_TIMES: &[Block] = &[
 
 /// The job of those blocks and the five entities.
 fn job_of_settings(alloc: Global) -> Result<Sim, Fail> {
-    let mut parts = parts(alloc, &[], 1, THREE_TIMES)?;
+    let mut parts = parts(alloc, 1, THREE_TIMES)?;
     parts.entities = five_entities(alloc)?;
     job_of_parts(alloc, parts)
 }

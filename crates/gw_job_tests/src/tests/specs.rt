@@ -1,7 +1,7 @@
 //! What a job is made of, and what is refused.
 
 use super::blocks::THREE_BLOCKS;
-use super::objects::{AMPLE, object};
+use super::objects::{AMPLE, object, seeded_object};
 use gw_num::Stream;
 use gw_object::Memory;
 use gw_scan::{Spec, StartFault};
@@ -24,7 +24,7 @@ type Case<'a> = (&'a [u32], u64, u64, Option<StartFault>);
 fn wrong_start(alloc: Global, cases: &[Case]) -> Result<Option<usize>, Fail> {
     for i in 0..cases.len() {
         let (seeds, count, budget, fault) = cases[i];
-        let verified = object(alloc, &[], 2, THREE_BLOCKS)?;
+        let verified = object(alloc, 2, THREE_BLOCKS)?;
         let due = fault.map(|fault| (fault, 3));
         if fault_of(Spec::new(verified, seeds, count, budget)) != due {
             return Ok(Some(i));
@@ -70,7 +70,7 @@ fn streams_at(alloc: Global, seeds: &[u32]) -> Result<Vec<Stream>, Memory> {
 /// Whether the job of an object with seeds 5, 0 and 9 and a count of 2, with this given, has streams at these seeds and this
 /// count.
 fn job_has(alloc: Global, given: (&[u32], u64), seeds: &[u32], count: u64) -> Result<bool, Fail> {
-    let verified = object(alloc, &[5, 0, 9], 2, THREE_BLOCKS)?;
+    let verified = seeded_object(alloc, &[5, 0, 9], 2, THREE_BLOCKS)?;
     let spec = Spec::new(verified, given.0, given.1, AMPLE)
         .ok()
         .ok_or("a spec")?;

@@ -1,12 +1,12 @@
 //! Subroutines: TRANSFER in subroutine mode and in parameter mode.
 
 use super::blocks::*;
-use super::objects::{job_of_parts, parts_with};
+use super::objects::{bare_parts, job_of_parts};
 use super::views::View::{Ends, Saved};
 use super::views::{ALL, Views, wrong_view};
 use gw_blocks::{Block, Call};
 use gw_object::{Items, Memory, Parts, ReturnRow, TableKind, TableParameter, TableState};
-use gw_scan::End;
+use gw_scan::{End, Sim};
 use std::alloc::Global;
 use std::test::Fail;
 
@@ -102,19 +102,26 @@ fn weights_of(alloc: Global, model: Model) -> Result<Items<u32>, Memory> {
     Ok(Items::from_vec(weights))
 }
 
-/// The parts of the model's object.
-fn parts_of(alloc: Global, model: Model) -> Result<Parts, Memory> {
-    let returns = return_rows(alloc, model)?;
-    let states = table(alloc, model)?;
-    let weights = weights_of(alloc, model)?;
-    let blocks = blocks_of(alloc, model)?;
-    parts_with(alloc, &[], model.count, &blocks, returns, states, weights)
+/// Gives an object the blocks of the model, with what is known in each and with its weight.
+fn put_model(alloc: Global, parts: &mut Parts, model: Model) -> Result<(), Memory> {
+    parts.blocks = Items::from_vec(blocks_of(alloc, model)?);
+    parts.returns = return_rows(alloc, model)?;
+    parts.states = table(alloc, model)?;
+    parts.weights = weights_of(alloc, model)?;
+    Ok(())
+}
+
+/// The job of the model before its first step.
+fn job_of_model(alloc: Global, model: Model) -> Result<Sim, Fail> {
+    let mut parts = bare_parts(alloc, model.count)?;
+    put_model(alloc, &mut parts, model)?;
+    job_of_parts(alloc, parts)
 }
 
 /// The place, from 0, of the first of these models whose job is seen otherwise.
 fn wrong_model(alloc: Global, models: &[Model]) -> Result<Option<usize>, Fail> {
     for i in 0..models.len() {
-        let mut sim = job_of_parts(alloc, parts_of(alloc, models[i])?)?;
+        let mut sim = job_of_model(alloc, models[i])?;
         if wrong_view(&mut sim, models[i].seen)?.is_some() {
             return Ok(Some(i));
         }
