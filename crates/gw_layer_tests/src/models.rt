@@ -1,6 +1,6 @@
 //! What the tests of several layers are made of: blocks, entities, rows of the state table, objects and faults.
 
-ghost use Rattle.std.specs.Prelude.{◌≡◌, length, IfOk};
+ghost use Rattle.std.specs.Prelude.{◌≡◌, ◌+◌, length, IfOk};
 
 use gw_blocks::{Block, Generate, Operand, Spread, Units};
 use gw_code::{Instruction, Procedure};
@@ -143,15 +143,34 @@ pub(crate) fn entity(alloc: Global, kind: Kind, name: &[u8]) -> Result<Entity, M
     Ok(Entity { name, kind })
 }
 
+/// Adds an entity behind the others.
+pub(crate) fn add_entity(
+    alloc: Global,
+    entities: &mut Vec<Entity>,
+    kind: Kind,
+    name: &[u8],
+) -> Result<(), Memory>
+    ensures { IfOk result (λ _. length entities.new.items ≡ length entities.old.items + 1) }
+{
+    entities.push(entity(alloc, kind, name)?)?;
+    Ok(())
+}
+
 /// The entities F, S, of this capacity, and Q.
 pub(crate) fn three_entities(alloc: Global, capacity: u32) -> Result<Vec<Entity>, Memory>
     ensures { IfOk result (λ e. length e.items ≡ 3) }
 {
-    let entities = vec![in alloc;
-        entity(alloc, Kind::Facility, b"F")?,
-        entity(alloc, Kind::Storage(capacity), b"S")?,
-        entity(alloc, Kind::Queue, b"Q")?,
-    ]?;
+    let mut entities = Vec::new(alloc);
+    add_entity(alloc, &mut entities, Kind::Facility, b"F")?;
+    add_entity(alloc, &mut entities, Kind::Storage(capacity), b"S")?;
+    add_entity(alloc, &mut entities, Kind::Queue, b"Q")?;
+    Ok(entities)
+}
+
+/// The entities F, S of 3 units and Q, and one more.
+pub(crate) fn four_entities(alloc: Global, kind: Kind, name: &[u8]) -> Result<Vec<Entity>, Memory> {
+    let mut entities = three_entities(alloc, 3)?;
+    add_entity(alloc, &mut entities, kind, name)?;
     Ok(entities)
 }
 
@@ -321,6 +340,52 @@ pub(crate) fn parts(
     })
 }
 
+/// Gives parts one user chain of this weight, with this row, if it has one.
+pub(crate) fn put_chain(
+    alloc: Global,
+    parts: &mut Parts,
+    row: Option<TableState>,
+    weight: u32,
+) -> Result<(), Memory> {
+    parts.chain_states = Items::from_vec(vec![in alloc; row]?);
+    parts.chain_weights = Items::from_vec(vec![in alloc; weight]?);
+    Ok(())
+}
+
+/// Gives parts these return rows and these weights of the blocks.
+pub(crate) fn put_returns(
+    alloc: Global,
+    parts: &mut Parts,
+    returns: Returns,
+    weights: &[u32],
+) -> Result<(), Memory> {
+    parts.returns = return_rows(alloc, returns)?;
+    parts.weights = Items::from_vec(Vec::from_slice(alloc, weights)?);
+    Ok(())
+}
+
+/// Parts of these blocks and rows, with the entities F, S of this capacity, and Q.
+pub(crate) fn model_parts(
+    alloc: Global,
+    capacity: u32,
+    blocks: &[Block],
+    states: Vec<Option<TableState>>,
+) -> Result<Parts, Memory> {
+    let entities = three_entities(alloc, capacity)?;
+    let blocks = Vec::from_slice(alloc, blocks)?;
+    parts(alloc, entities, blocks, states)
+}
+
+/// Parts of these blocks and rows, with the entities F, S of 3 units and Q, and a user chain C.
+pub(crate) fn chain_parts(
+    alloc: Global,
+    blocks: Vec<Block>,
+    states: Vec<Option<TableState>>,
+) -> Result<Parts, Memory> {
+    let entities = four_entities(alloc, Kind::Chain, b"C")?;
+    parts(alloc, entities, blocks, states)
+}
+
 /// The object of these parts, or the fault with which they are refused.
 pub(crate) fn object_or_fault(parts: Parts) -> Result<Object, Fault>
     ensures { IfOk result (λ o. o ≡ parts) }
@@ -348,9 +413,7 @@ pub(crate) fn model(
     blocks: &[Block],
     states: Vec<Option<TableState>>,
 ) -> Result<Object, Fail> {
-    let entities = three_entities(alloc, capacity)?;
-    let blocks = Vec::from_slice(alloc, blocks)?;
-    built(parts(alloc, entities, blocks, states)?)
+    built(model_parts(alloc, capacity, blocks, states)?)
 }
 
 pub(crate) fn at_row(code: u16, row: u16) -> Option<Fault> {

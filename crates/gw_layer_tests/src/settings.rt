@@ -2,7 +2,7 @@
 
 ghost use Rattle.std.specs.Prelude.{◌≡◌, length, IfOk};
 
-use crate::models::{built, entity, first_wrong, parts};
+use crate::models::{add_entity, built, first_wrong, parts};
 use gw_entities::{Savevalues, Switches};
 use gw_object::{Entity, Kind, Memory, Object};
 use std::alloc::Global;
@@ -12,13 +12,12 @@ use std::test::Fail;
 fn five_entities(alloc: Global) -> Result<Vec<Entity>, Memory>
     ensures { IfOk result (λ e. length e.items ≡ 5) }
 {
-    let entities = vec![in alloc;
-        entity(alloc, Kind::Facility, b"F")?,
-        entity(alloc, Kind::Switch(true), b"GO")?,
-        entity(alloc, Kind::Switch(false), b"STOP")?,
-        entity(alloc, Kind::Savevalue(-5), b"A")?,
-        entity(alloc, Kind::Savevalue(12), b"B")?,
-    ]?;
+    let mut entities = Vec::new(alloc);
+    add_entity(alloc, &mut entities, Kind::Facility, b"F")?;
+    add_entity(alloc, &mut entities, Kind::Switch(true), b"GO")?;
+    add_entity(alloc, &mut entities, Kind::Switch(false), b"STOP")?;
+    add_entity(alloc, &mut entities, Kind::Savevalue(-5), b"A")?;
+    add_entity(alloc, &mut entities, Kind::Savevalue(12), b"B")?;
     Ok(entities)
 }
 

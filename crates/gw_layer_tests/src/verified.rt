@@ -21,9 +21,7 @@ fn rows(alloc: Global, owned: &[bool]) -> Result<Vec<Option<TableState>>, Memory
 /// The parts of these blocks, whose rows own the facility F where `owned` says so, with each block's weight 1.
 fn owning(alloc: Global, blocks: &[Block], owned: &[bool]) -> Result<Parts, Memory> {
     let states = rows(alloc, owned)?;
-    let entities = three_entities(alloc, 3)?;
-    let blocks = Vec::from_slice(alloc, blocks)?;
-    parts(alloc, entities, blocks, states)
+    model_parts(alloc, 3, blocks, states)
 }
 
 /// An object of these blocks, with these weights, accepted.
@@ -177,12 +175,12 @@ fn fault_with(
     let states = states_knowing(alloc, rows)?;
     let blocks = Vec::from_slice(alloc, blocks)?;
     let mut parts = parts(alloc, Vec::new(alloc), blocks, states)?;
-    parts.returns = return_rows(alloc, returns)?;
-    parts.weights = Items::from_vec(Vec::from_slice(alloc, weights)?);
-    match verify(alloc, built(parts)?) {
-        Ok(_) => Ok(None),
-        Err((_, fault)) => Ok(Some(fault)),
-    }
+    put_returns(alloc, &mut parts, returns, weights)?;
+    Ok(
+        verify(alloc, built(parts)?)
+            .err()
+            .map(|(_object, fault)| fault),
+    )
 }
 
 #[test]

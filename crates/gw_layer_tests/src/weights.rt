@@ -3,7 +3,7 @@
 use crate::models::*;
 use gw_blocks::{Block, Generate, Loop, Operand, Spread};
 use gw_kinds::check_kinds;
-use gw_object::{Entity, Fault, Items, Kind, Memory, Object, Parts, Place, TableKind, TableState};
+use gw_object::{Fault, Memory, Object, Parts, Place, TableKind, TableState};
 use gw_verify::verify;
 use gw_weights::{chain_weight, check_weights, codes, weight_at};
 use std::alloc::Global;
@@ -98,23 +98,25 @@ fn states_of(alloc: Global, table: Table) -> Result<Vec<Option<TableState>>, Mem
     Ok(states)
 }
 
-/// The entities F, S and Q, and the user chain C.
-fn entities_of(alloc: Global) -> Result<Vec<Entity>, Memory> {
-    let mut entities = three_entities(alloc, 3)?;
-    entities.push(entity(alloc, Kind::Chain, b"C")?)?;
-    Ok(entities)
+/// Gives parts the weights of these blocks, this user chain and these return rows.
+fn put_weights(
+    alloc: Global,
+    parts: &mut Parts,
+    table: Table,
+    chain: Chain,
+    returns: Returns,
+) -> Result<(), Memory> {
+    let (weight, has_row) = chain;
+    let row = if has_row { NOTHING } else { None };
+    put_chain(alloc, parts, state_if(alloc, row)?, weight)?;
+    put_returns(alloc, parts, returns, &weights_of(alloc, table)?)
 }
 
 /// The parts of these blocks with these rows and weights, of this user chain and of these return rows.
 fn parts_of(alloc: Global, table: Table, chain: Chain, returns: Returns) -> Result<Parts, Memory> {
-    let (blocks, states) = (blocks_of(alloc, table)?, states_of(alloc, table)?);
-    let mut parts = parts(alloc, entities_of(alloc)?, blocks, states)?;
-    let (weight, has_row) = chain;
-    let row = if has_row { NOTHING } else { None };
-    parts.returns = return_rows(alloc, returns)?;
-    parts.chain_states = Items::from_vec(vec![in alloc; state_if(alloc, row)?]?);
-    parts.weights = Items::from_vec(weights_of(alloc, table)?);
-    parts.chain_weights = Items::from_vec(vec![in alloc; weight]?);
+    let blocks = blocks_of(alloc, table)?;
+    let mut parts = chain_parts(alloc, blocks, states_of(alloc, table)?)?;
+    put_weights(alloc, &mut parts, table, chain, returns)?;
     Ok(parts)
 }
 

@@ -2,7 +2,7 @@
 
 use super::blocks::*;
 use super::views::View::{Active, Ends, Here};
-use super::views::{ALL, Job, ends, wrong_job};
+use super::views::{ALL, Job, are_seen, ends};
 use gw_scan::End;
 use std::test::Fail;
 
@@ -38,8 +38,7 @@ fn interval_is_that_of_the_coming_transaction(rt: HostRuntime) -> Result<(), Fai
         // A transit time of 0. All three come at clock 5: the one that enters then was marked at clock 0, but isn't asked.
         ends!(3, arrivals!(M1, Some(5), 3, 0), Done, (5, 12, 6, 0)),
     ];
-    assert_eq!(rt; wrong_job(rt.alloc(), JOBS)?, None);
-    Ok(())
+    are_seen(&rt, rt.alloc(), JOBS)
 }
 
 #[test]
@@ -75,8 +74,7 @@ fn interval_is_read_when_the_arrival_is_scheduled(rt: HostRuntime) -> Result<(),
             (207, 15, 9, 0)
         ),
     ];
-    assert_eq!(rt; wrong_job(rt.alloc(), JOBS)?, None);
-    Ok(())
+    are_seen(&rt, rt.alloc(), JOBS)
 }
 
 /// The job of these blocks, with a count of 2, ends so, after so many steps and entries, with this one active, and so many in
@@ -122,6 +120,5 @@ fn interval_below_0_is_a_named_end(rt: HostRuntime) -> Result<(), Fail> {
             0
         ),
     ];
-    assert_eq!(rt; wrong_job(rt.alloc(), JOBS)?, None);
-    Ok(())
+    are_seen(&rt, rt.alloc(), JOBS)
 }

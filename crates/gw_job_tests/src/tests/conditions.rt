@@ -2,7 +2,7 @@
 
 use super::blocks::*;
 use super::views::View::{Active, Ends, Entries, Here, Runs, Saved, Waiting};
-use super::views::{ALL, Job, end_of, ends, saves, wrong_job, wrong_view_of};
+use super::views::{ALL, Job, are_seen, end_of, ends, saves, wrong_view_of};
 use gw_blocks::{Block, Comparison, Condition, Gate, Operand, Test};
 use gw_scan::End;
 use std::alloc::Global;
@@ -89,8 +89,8 @@ fn test_compares_its_values(rt: HostRuntime) -> Result<(), Fail> {
     ];
     const NEAR: &[(i64, i64)] = &[(-3, -2), (-2, -2), (-1, -2)];
     const FAR: &[(i64, i64)] = &[(LEAST, GREATEST), (LEAST, LEAST), (GREATEST, LEAST)];
-    assert_eq!(rt; wrong_comparison(rt.alloc(), ROWS, NEAR)?, None);
-    assert_eq!(rt; wrong_comparison(rt.alloc(), ROWS, FAR)?, None);
+    assert!(rt; wrong_comparison(rt.alloc(), ROWS, NEAR)?.is_none());
+    assert!(rt; wrong_comparison(rt.alloc(), ROWS, FAR)?.is_none());
     Ok(())
 }
 
@@ -140,8 +140,7 @@ fn test_goes_on_or_to_its_other_block(rt: HostRuntime) -> Result<(), Fail> {
             (10, 24, 12, 0)
         ),
     ];
-    assert_eq!(rt; wrong_job(rt.alloc(), JOBS)?, None);
-    Ok(())
+    are_seen(&rt, rt.alloc(), JOBS)
 }
 
 /// Whether two values are equal for the only transaction of a job, at its TEST, block 3:
@@ -183,7 +182,7 @@ fn test_reads_its_values_before_the_entry(rt: HostRuntime) -> Result<(), Fail> {
         (entries_of!(3), 0),
         (count_of!(3), 0),
     ];
-    assert_eq!(rt; misread_at_block_3(rt.alloc(), VALUES)?, None);
+    assert!(rt; misread_at_block_3(rt.alloc(), VALUES)?.is_none());
     Ok(())
 }
 
@@ -219,8 +218,7 @@ fn values_of_a_test_are_drawn_from_left_to_right(rt: HostRuntime) -> Result<(), 
         drawn_and_compared!(Equal, number!(271), 794, 42),
         drawn_and_compared!(NotEqual, number!(271), 100, 794),
     ];
-    assert_eq!(rt; wrong_job(rt.alloc(), JOBS)?, None);
-    Ok(())
+    are_seen(&rt, rt.alloc(), JOBS)
 }
 
 #[test]
@@ -240,8 +238,7 @@ fn draws_of_a_test_stand_where_it_refuses(rt: HostRuntime) -> Result<(), Fail> {
         ],
         seen: &[(ALL, Ends(End::Done, (2, 18, 8, 0))), (0, Saved(637, 42))],
     }];
-    assert_eq!(rt; wrong_job(rt.alloc(), JOBS)?, None);
-    Ok(())
+    are_seen(&rt, rt.alloc(), JOBS)
 }
 
 // GATE
@@ -322,7 +319,7 @@ fn gate_asks_for_a_switch_or_a_facility(rt: HostRuntime) -> Result<(), Fail> {
         (SEIZE, FacilityNotInUse, false),
         (logic!(Reset), FacilityNotInUse, true),
     ];
-    assert_eq!(rt; wrong_gate(rt.alloc(), ROWS)?, None);
+    assert!(rt; wrong_gate(rt.alloc(), ROWS)?.is_none());
     Ok(())
 }
 
@@ -348,7 +345,7 @@ fn gate_asks_for_a_storage(rt: HostRuntime) -> Result<(), Fail> {
         (enter!(2), StorageNotEmpty, true),
         (enter!(3), StorageNotEmpty, true),
     ];
-    assert_eq!(rt; wrong_gate(rt.alloc(), ROWS)?, None);
+    assert!(rt; wrong_gate(rt.alloc(), ROWS)?.is_none());
     Ok(())
 }
 
@@ -389,8 +386,7 @@ fn gate_waits_until_it_is_so(rt: HostRuntime) -> Result<(), Fail> {
         opened_later!(StorageNotFull, S, enter!(3), leave!(1)),
         opened_later!(StorageNotEmpty, S, logic!(Reset), enter!(1)),
     ];
-    assert_eq!(rt; wrong_job(rt.alloc(), JOBS)?, None);
-    Ok(())
+    are_seen(&rt, rt.alloc(), JOBS)
 }
 
 #[test]
@@ -413,6 +409,5 @@ fn facility_that_is_handed_over_stays_in_use(rt: HostRuntime) -> Result<(), Fail
         Done,
         (10, 30, 13, 0)
     )];
-    assert_eq!(rt; wrong_job(rt.alloc(), JOBS)?, None);
-    Ok(())
+    are_seen(&rt, rt.alloc(), JOBS)
 }

@@ -116,7 +116,7 @@ fn copies_are_made_and_assembled_within_a_second(rt: HostRuntime) -> Result<(), 
         ),
     ];
     let start = Instant::now(&rt)?;
-    assert_eq!(rt; wrong_report(rt.alloc(), CASES)?, None);
+    assert!(rt; wrong_report(rt.alloc(), CASES)?.is_none());
     assert!(rt; start.elapsed(&rt)? < Duration::from_secs(1));
     Ok(())
 }
@@ -156,6 +156,6 @@ fn priorities_and_buffers_let_others_go_first(rt: HostRuntime) -> Result<(), Fai
             BLOCK 3 TERMINATE 0 0\n",
         ),
     ];
-    assert_eq!(rt; wrong_report(rt.alloc(), CASES)?, None);
+    assert!(rt; wrong_report(rt.alloc(), CASES)?.is_none());
     Ok(())
 }

@@ -3,7 +3,7 @@
 use super::blocks::*;
 use super::objects::{NOTHING, job_of_blocks, job_of_parts, parts};
 use super::views::View::{Clock, Ended, Ends, Made, Owned, Stored, Waiting};
-use super::views::{ALL, Job, queue, storage, wrong_job, wrong_view};
+use super::views::{ALL, Job, are_seen, queue, storage, wrong_view};
 use gw_blocks::{Block, Units};
 use gw_entities::Contents;
 use gw_object::{Entity, Items, Kind, Memory, TableState};
@@ -53,8 +53,7 @@ fn admission_comes_past_hundreds_who_ask_for_more(rt: HostRuntime) -> Result<(),
             (0, Waiting(0, 300)),
         ],
     }];
-    assert_eq!(rt; wrong_job(rt.alloc(), JOBS)?, None);
-    Ok(())
+    are_seen(&rt, rt.alloc(), JOBS)
 }
 
 /// The job of 400 who each own the facility for one unit, with this count, seen so.
@@ -91,8 +90,7 @@ fn facility_is_handed_over_hundreds_of_times(rt: HostRuntime) -> Result<(), Fail
             &[(ALL, Owned(None, 400, 400, (1, 0))), (0, Waiting(0, 0)),]
         ),
     ];
-    assert_eq!(rt; wrong_job(rt.alloc(), JOBS)?, None);
-    Ok(())
+    are_seen(&rt, rt.alloc(), JOBS)
 }
 
 /// 300 terminate at clock 50, and 300 at clock 100.
@@ -135,8 +133,7 @@ fn hundreds_move_at_equal_times(rt: HostRuntime) -> Result<(), Fail> {
             ],
         },
     ];
-    assert_eq!(rt; wrong_job(rt.alloc(), JOBS)?, None);
-    Ok(())
+    are_seen(&rt, rt.alloc(), JOBS)
 }
 
 /// Each of 900 holds one unit for one unit of time.
@@ -164,7 +161,7 @@ fn through_the_storage(alloc: Global) -> Result<Option<(u64, u64, u128)>, Fail> 
 #[test]
 fn crowd_comes_through_a_storage(rt: HostRuntime) -> Result<(), Fail> {
     // At the end 900 came in, and 900 units of time are summed up.
-    assert_eq!(rt; through_the_storage(rt.alloc())?, Some((0, 900, 900)));
+    assert!(rt; through_the_storage(rt.alloc())? == Some((0, 900, 900)));
     Ok(())
 }
 

@@ -4,7 +4,7 @@
 use super::blocks::*;
 use super::objects::{AMPLE, job_of, seeded_object};
 use super::views::View::{Clock, Ends, Entries, Saved};
-use super::views::{ALL, Job, ends, run, saves, value, wrong_job};
+use super::views::{ALL, Job, are_seen, ends, run, saves, value};
 use gw_blocks::{Block, Operand};
 use gw_scan::End;
 use std::alloc::Global;
@@ -44,7 +44,7 @@ fn each_stream_has_a_seed_of_its_own(rt: HostRuntime) -> Result<(), Fail> {
         (&[5, 0, 9], 3, 439),
         (&[5, 0, 9], 16, 336),
     ];
-    assert_eq!(rt; wrong_draw(rt.alloc(), DRAWS)?, None);
+    assert!(rt; wrong_draw(rt.alloc(), DRAWS)?.is_none());
     Ok(())
 }
 
@@ -92,8 +92,7 @@ fn each_draw_moves_its_own_stream_and_stands(rt: HostRuntime) -> Result<(), Fail
             ],
         },
     ];
-    assert_eq!(rt; wrong_job(rt.alloc(), JOBS)?, None);
-    Ok(())
+    are_seen(&rt, rt.alloc(), JOBS)
 }
 
 /// The job of GENERATE ,,,1 / ADVANCE A,B / SAVEVALUE X,RN1 / TERMINATE 1 ends at this clock time, and leaves this value.
@@ -132,8 +131,7 @@ fn operands_are_read_from_left_to_right_and_then_the_time_is_drawn(
         // 271 and 542: 271 - 542 + 182605794 mod 1085, which is 294.
         rest_and_draw!(RN1, RN2, 23, 886),
     ];
-    assert_eq!(rt; wrong_job(rt.alloc(), JOBS)?, None);
-    Ok(())
+    are_seen(&rt, rt.alloc(), JOBS)
 }
 
 #[test]
@@ -174,8 +172,7 @@ fn interval_is_read_from_left_to_right(rt: HostRuntime) -> Result<(), Fail> {
             ],
         },
     ];
-    assert_eq!(rt; wrong_job(rt.alloc(), JOBS)?, None);
-    Ok(())
+    are_seen(&rt, rt.alloc(), JOBS)
 }
 
 /// What is drawn after the arrival: the job of GENERATE RN1,,C,D / SAVEVALUE X,RN1 / TERMINATE 1 leaves this value.
@@ -204,6 +201,5 @@ fn interval_is_read_only_where_an_arrival_is_owed(rt: HostRuntime) -> Result<(),
         drawn_after_arrival!(None, 1, 794),
         drawn_after_arrival!(None, 2, 886),
     ];
-    assert_eq!(rt; wrong_job(rt.alloc(), JOBS)?, None);
-    Ok(())
+    are_seen(&rt, rt.alloc(), JOBS)
 }

@@ -3,7 +3,7 @@
 use super::blocks::*;
 use super::objects::{job_of, object};
 use super::views::View::{Active, Ends, Entries, Here, Runs, Saved, Set};
-use super::views::{Job, Views, ends, wrong_job, wrong_view};
+use super::views::{Job, Views, are_seen, ends, wrong_view};
 use gw_blocks::Block;
 use gw_scan::End;
 use std::test::Fail;
@@ -62,8 +62,7 @@ fn times_below_0_and_past_the_last_moment_are_named_ends(rt: HostRuntime) -> Res
             ],
         },
     ];
-    assert_eq!(rt; wrong_job(rt.alloc(), JOBS)?, None);
-    Ok(())
+    are_seen(&rt, rt.alloc(), JOBS)
 }
 
 #[test]
@@ -101,8 +100,7 @@ fn counts_and_crowds_end_a_job(rt: HostRuntime) -> Result<(), Fail> {
             (65_536, 262_143, 131_070, 1)
         ),
     ];
-    assert_eq!(rt; wrong_job(rt.alloc(), JOBS)?, None);
-    Ok(())
+    are_seen(&rt, rt.alloc(), JOBS)
 }
 
 /// What there is to see at the limits after 5, 6 and 7 steps, of which the sixth ends the job and leaves all but the steps.
@@ -172,6 +170,5 @@ fn named_ends_by_operands_leave_all_but_the_steps(rt: HostRuntime) -> Result<(),
         at_the_limits!(advance_by!(P1, number!(0)), NEGATIVE_TIME_LEAVES),
         at_the_limits!(Block::Terminate(P1), NUMBER_LEAVES),
     ];
-    assert_eq!(rt; wrong_job(rt.alloc(), JOBS)?, None);
-    Ok(())
+    are_seen(&rt, rt.alloc(), JOBS)
 }

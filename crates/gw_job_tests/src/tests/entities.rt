@@ -2,7 +2,7 @@
 
 use super::blocks::*;
 use super::views::View::{Ends, Owned, Queued, Runs, Stored, Waiting};
-use super::views::{ALL, Job, ends, wrong_job};
+use super::views::{ALL, Job, are_seen, ends};
 use gw_scan::End;
 use std::test::Fail;
 
@@ -33,8 +33,7 @@ fn units_left_admit_each_waiter_that_fits(rt: HostRuntime) -> Result<(), Fail> {
             (0, Waiting(0, 2)),
         ],
     }];
-    assert_eq!(rt; wrong_job(rt.alloc(), JOBS)?, None);
-    Ok(())
+    are_seen(&rt, rt.alloc(), JOBS)
 }
 
 #[test]
@@ -67,8 +66,7 @@ fn admission_goes_on_past_one_that_does_not_fit(rt: HostRuntime) -> Result<(), F
             (0, Runs((10, 20, 9, 1))),
         ],
     }];
-    assert_eq!(rt; wrong_job(rt.alloc(), JOBS)?, None);
-    Ok(())
+    are_seen(&rt, rt.alloc(), JOBS)
 }
 
 /// The job of GENERATE A,0,,D / QUEUE L / SEIZE F / DEPART L / ADVANCE B / RELEASE F / TERMINATE 1, with this count, seen so.
@@ -116,8 +114,7 @@ fn customers_wait_in_a_queue_for_a_facility(rt: HostRuntime) -> Result<(), Fail>
             ],
         },
     ];
-    assert_eq!(rt; wrong_job(rt.alloc(), JOBS)?, None);
-    Ok(())
+    are_seen(&rt, rt.alloc(), JOBS)
 }
 
 #[test]
@@ -136,8 +133,7 @@ fn hundred_thousand_customers_pass_within_a_minute(rt: HostRuntime) -> Result<()
             (0, Owned(Some(100_001), 100_001, 200_000, (0, 999))),
         ]
     )];
-    assert_eq!(rt; wrong_job(rt.alloc(), JOBS)?, None);
-    Ok(())
+    are_seen(&rt, rt.alloc(), JOBS)
 }
 
 #[test]
@@ -153,6 +149,5 @@ fn interval_is_drawn_from_the_first_stream(rt: HostRuntime) -> Result<(), Fail> 
         Done,
         (21, 8, 4, 0)
     )];
-    assert_eq!(rt; wrong_job(rt.alloc(), JOBS)?, None);
-    Ok(())
+    are_seen(&rt, rt.alloc(), JOBS)
 }

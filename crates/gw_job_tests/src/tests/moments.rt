@@ -6,7 +6,7 @@ use super::copies::ASSEMBLING;
 use super::objects::AMPLE;
 use super::reports::job;
 use super::views::View::{Ends, Moment};
-use super::views::{Job, Views, wrong_job, wrong_view};
+use super::views::{Job, Views, are_seen, wrong_view};
 use gw_scan::End;
 use std::alloc::Global;
 use std::test::Fail;
@@ -63,8 +63,7 @@ fn arrivals_that_are_due_or_owed_weigh(rt: HostRuntime) -> Result<(), Fail> {
             ],
         },
     ];
-    assert_eq!(rt; wrong_job(rt.alloc(), JOBS)?, None);
-    Ok(())
+    are_seen(&rt, rt.alloc(), JOBS)
 }
 
 /// The place, from 0, of the first of these views of the job of an object that is another one.
@@ -87,7 +86,7 @@ fn copies_are_paid_for_by_their_split(rt: HostRuntime) -> Result<(), Fail> {
         (2, Moment(0, 6, 0)),
         (0, Ends(End::Done, (0, 11, 6, 0))),
     ];
-    assert_eq!(rt; wrong_moment(rt.alloc(), ASSEMBLING, SEEN)?, None);
+    assert!(rt; wrong_moment(rt.alloc(), ASSEMBLING, SEEN)?.is_none());
     Ok(())
 }
 
@@ -109,6 +108,6 @@ fn members_weigh_as_their_user_chain(rt: HostRuntime) -> Result<(), Fail> {
         (2, Moment(5, 9, 0)),
         (0, Ends(End::Done, (5, 17, 9, 0))),
     ];
-    assert_eq!(rt; wrong_moment(rt.alloc(), LAST_FIRST, SEEN)?, None);
+    assert!(rt; wrong_moment(rt.alloc(), LAST_FIRST, SEEN)?.is_none());
     Ok(())
 }

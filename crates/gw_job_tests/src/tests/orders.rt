@@ -2,7 +2,7 @@
 
 use super::blocks::*;
 use super::views::View::{Ends, Serves};
-use super::views::{ALL, Job, wrong_job};
+use super::views::{ALL, Job, are_seen};
 use gw_scan::End;
 use std::test::Fail;
 
@@ -33,8 +33,7 @@ fn facility_is_handed_over_by_priority_and_then_in_order(rt: HostRuntime) -> Res
             (ALL, Ends(End::Done, (40, 39, 20, 0))),
         ],
     }];
-    assert_eq!(rt; wrong_job(rt.alloc(), JOBS)?, None);
-    Ok(())
+    are_seen(&rt, rt.alloc(), JOBS)
 }
 
 #[test]
@@ -52,6 +51,5 @@ fn newcomer_does_not_overtake_who_waits(rt: HostRuntime) -> Result<(), Fail> {
             (ALL, Ends(End::Done, (30, 28, 15, 0))),
         ],
     }];
-    assert_eq!(rt; wrong_job(rt.alloc(), JOBS)?, None);
-    Ok(())
+    are_seen(&rt, rt.alloc(), JOBS)
 }

@@ -112,7 +112,7 @@ fn procedures_and_tables_work_on_what_they_are_given(rt: HostRuntime) -> Result<
             BLOCK 5 TERMINATE 1 0\n",
         ),
     ];
-    assert_eq!(rt; wrong_report(rt.alloc(), CASES)?, None);
+    assert!(rt; wrong_report(rt.alloc(), CASES)?.is_none());
     Ok(())
 }
 
@@ -137,6 +137,6 @@ fn ends_of_procedures_end_the_job(rt: HostRuntime) -> Result<(), Fail> {
             BLOCK 5 TERMINATE 0 0\n",
         ),
     ];
-    assert_eq!(rt; wrong_report(rt.alloc(), CASES)?, None);
+    assert!(rt; wrong_report(rt.alloc(), CASES)?.is_none());
     Ok(())
 }

@@ -221,7 +221,7 @@ fn the_first_example_is_reported_at_its_end_and_on_its_way(rt: HostRuntime) -> R
             BLOCK 1 GENERATE 0 0\nBLOCK 2 ADVANCE 0 0\nBLOCK 3 TERMINATE 0 0\n",
         ),
     ];
-    assert_eq!(rt; wrong_first(rt.alloc(), CASES)?, None);
+    assert!(rt; wrong_first(rt.alloc(), CASES)?.is_none());
     Ok(())
 }
 
@@ -263,7 +263,7 @@ fn entities_are_reported_in_the_order_of_the_object(rt: HostRuntime) -> Result<(
             b"\nFACILITY F ENTRIES 1 OWNER 1 WAIT 1 UTIL 0.005\n",
         ),
     ];
-    assert_eq!(rt; wrong_ends(rt.alloc(), CASES)?, None);
+    assert!(rt; wrong_ends(rt.alloc(), CASES)?.is_none());
     Ok(())
 }
 
@@ -291,6 +291,6 @@ fn loops_and_savevalues_are_reported(rt: HostRuntime) -> Result<(), Fail> {
             SAVEVALUE A -9223372036854775808\n",
         ),
     ];
-    assert_eq!(rt; wrong_report(rt.alloc(), CASES)?, None);
+    assert!(rt; wrong_report(rt.alloc(), CASES)?.is_none());
     Ok(())
 }

@@ -2,7 +2,7 @@
 
 use super::blocks::*;
 use super::views::View::{Active, Ends};
-use super::views::{ALL, Job, ends, wrong_job};
+use super::views::{ALL, Job, are_seen, ends};
 use gw_scan::End;
 use std::test::Fail;
 
@@ -31,8 +31,7 @@ fn switch_that_is_set_at_clock_5_lets_through(rt: HostRuntime) -> Result<(), Fai
             (ALL, Ends(End::Done, (5, 12, 6, 0))),
         ],
     }];
-    assert_eq!(rt; wrong_job(rt.alloc(), JOBS)?, None);
-    Ok(())
+    are_seen(&rt, rt.alloc(), JOBS)
 }
 
 /// The job of GENERATE ,,,1,E / TEST GE X$X,103 / TERMINATE 1 / GENERATE 10 / SAVEVALUE X+,1 / TERMINATE is done after so many
@@ -64,8 +63,7 @@ fn test_waits_until_it_is_true(rt: HostRuntime) -> Result<(), Fail> {
         // Of higher priority it is woken twice at each clock time, by the clock and by TERMINATE: 4 + 2 x 9 + 10 steps.
         until_three_were_added!(1, 32),
     ];
-    assert_eq!(rt; wrong_job(rt.alloc(), JOBS)?, None);
-    Ok(())
+    are_seen(&rt, rt.alloc(), JOBS)
 }
 
 #[test]
@@ -102,8 +100,7 @@ fn clock_wakes_all_and_who_is_refused_again_goes_to_the_end(rt: HostRuntime) -> 
             (ALL, Ends(End::NoMoreEvents, (5, 25, 5, 1))),
         ],
     }];
-    assert_eq!(rt; wrong_job(rt.alloc(), JOBS)?, None);
-    Ok(())
+    are_seen(&rt, rt.alloc(), JOBS)
 }
 
 #[test]
@@ -148,8 +145,7 @@ fn woken_go_by_priority_and_then_in_the_order_of_the_list(rt: HostRuntime) -> Re
             (ALL, Ends(End::Done, (5, 34, 17, 0))),
         ],
     }];
-    assert_eq!(rt; wrong_job(rt.alloc(), JOBS)?, None);
-    Ok(())
+    are_seen(&rt, rt.alloc(), JOBS)
 }
 
 #[test]
@@ -192,8 +188,7 @@ fn woken_goes_behind_its_peers(rt: HostRuntime) -> Result<(), Fail> {
             (ALL, Ends(End::Done, (5, 31, 15, 0))),
         ],
     }];
-    assert_eq!(rt; wrong_job(rt.alloc(), JOBS)?, None);
-    Ok(())
+    are_seen(&rt, rt.alloc(), JOBS)
 }
 
 /// The job of GENERATE ,,,1 / ENTER S,3 / SEIZE F / ADVANCE 5 / LOGIC S G / RELEASE F, a block, TERMINATE / GENERATE ,,1,1,1 /
@@ -242,8 +237,7 @@ fn waiters_are_woken_when_the_active_one_rests(rt: HostRuntime) -> Result<(), Fa
         opened_and_handed_over!(gate!(StorageNotFull, S, None), 13),
         opened_and_handed_over!(enter!(1), 13),
     ];
-    assert_eq!(rt; wrong_job(rt.alloc(), JOBS)?, None);
-    Ok(())
+    are_seen(&rt, rt.alloc(), JOBS)
 }
 
 // WAITING FOR GOOD
@@ -291,6 +285,5 @@ fn clock_goes_on_only_to_events(rt: HostRuntime) -> Result<(), Fail> {
             (20, 11, 5, 0)
         ),
     ];
-    assert_eq!(rt; wrong_job(rt.alloc(), JOBS)?, None);
-    Ok(())
+    are_seen(&rt, rt.alloc(), JOBS)
 }

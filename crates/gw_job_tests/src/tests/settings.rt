@@ -4,7 +4,7 @@ use super::blocks::*;
 use super::objects::{add_entity, job_of_parts, parts};
 use super::reports::report_after;
 use super::views::View::{Ended, Saved, Set};
-use super::views::{ALL, Job, saves, wrong_job};
+use super::views::{ALL, Job, are_seen, saves};
 use gw_blocks::{Block, Logic, SwitchAction};
 use gw_object::{Entity, Items, Kind, Memory};
 use gw_scan::{End, Sim};
@@ -45,8 +45,7 @@ fn logic_sets_resets_and_inverts(rt: HostRuntime) -> Result<(), Fail> {
         switched!(Set, Invert; false),
         switched!(Reset, Invert; true),
     ];
-    assert_eq!(rt; wrong_job(rt.alloc(), JOBS)?, None);
-    Ok(())
+    are_seen(&rt, rt.alloc(), JOBS)
 }
 
 // SAVEVALUES
@@ -96,8 +95,7 @@ fn savevalue_is_set_added_to_and_subtracted_from(rt: HostRuntime) -> Result<(), 
             42
         ),
     ];
-    assert_eq!(rt; wrong_job(rt.alloc(), JOBS)?, None);
-    Ok(())
+    are_seen(&rt, rt.alloc(), JOBS)
 }
 
 // THE REPORT

@@ -52,7 +52,7 @@ fn seeds_counts_and_budgets_out_of_range_are_refused_in_order(rt: HostRuntime) -
         (&[2_147_483_647], MOST + 1, 0, Some(Seed)),
         (&[], MOST + 1, 0, Some(Count)),
     ];
-    assert_eq!(rt; wrong_start(rt.alloc(), CASES)?, None);
+    assert!(rt; wrong_start(rt.alloc(), CASES)?.is_none());
     Ok(())
 }
 

@@ -2,7 +2,7 @@
 
 use super::blocks::*;
 use super::views::View::Entries;
-use super::views::{ALL, Job, ends, wrong_job};
+use super::views::{ALL, Job, are_seen, ends};
 use gw_blocks::{Block, Fraction};
 use std::test::Fail;
 
@@ -20,8 +20,7 @@ fn transfer_goes_to_its_block(rt: HostRuntime) -> Result<(), Fail> {
         Done,
         (10, 5, 3, -1)
     )];
-    assert_eq!(rt; wrong_job(rt.alloc(), JOBS)?, None);
-    Ok(())
+    are_seen(&rt, rt.alloc(), JOBS)
 }
 
 /// GENERATE 1 / TRANSFER k,B,4 / TERMINATE 1 / TERMINATE 1, with this count, of whom so many go to each of the last blocks.
@@ -55,6 +54,5 @@ fn fraction_decides_by_a_draw_from_the_first_stream(rt: HostRuntime) -> Result<(
         two_ways!(100, 0, Some(3), 100, 0),
         two_ways!(100, 1000, None, 0, 100),
     ];
-    assert_eq!(rt; wrong_job(rt.alloc(), JOBS)?, None);
-    Ok(())
+    are_seen(&rt, rt.alloc(), JOBS)
 }

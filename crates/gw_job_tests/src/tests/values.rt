@@ -2,7 +2,7 @@
 
 use super::blocks::*;
 use super::views::View::{Active, Ends, Entries, Here, Saved};
-use super::views::{ALL, Job, ends, saves, wrong_job, wrong_view_of};
+use super::views::{ALL, Job, are_seen, ends, saves, wrong_view_of};
 use gw_blocks::{Block, Operand, Units};
 use gw_scan::End;
 use std::alloc::Global;
@@ -61,7 +61,7 @@ fn busy_transaction_reads_its_own_and_the_clock(rt: HostRuntime) -> Result<(), F
         (XN1, 2),
         (TG1, 6),
     ];
-    assert_eq!(rt; misread_by_the_busy(rt.alloc(), VALUES)?, None);
+    assert!(rt; misread_by_the_busy(rt.alloc(), VALUES)?.is_none());
     Ok(())
 }
 
@@ -88,7 +88,7 @@ fn busy_transaction_reads_entities_and_blocks(rt: HostRuntime) -> Result<(), Fai
         (entries_of!(11), 0),
         (count_of!(11), 0),
     ];
-    assert_eq!(rt; misread_by_the_busy(rt.alloc(), VALUES)?, None);
+    assert!(rt; misread_by_the_busy(rt.alloc(), VALUES)?.is_none());
     Ok(())
 }
 
@@ -123,7 +123,7 @@ fn first_transaction_reads_what_is_unused(rt: HostRuntime) -> Result<(), Fail> {
         (entries_of!(3), 0),
         (count_of!(3), 0),
     ];
-    assert_eq!(rt; misread_at_first(rt.alloc(), VALUES)?, None);
+    assert!(rt; misread_at_first(rt.alloc(), VALUES)?.is_none());
     Ok(())
 }
 
@@ -164,8 +164,7 @@ fn attributes_reach_their_greatest_values(rt: HostRuntime) -> Result<(), Fail> {
             42
         ),
     ];
-    assert_eq!(rt; wrong_job(rt.alloc(), JOBS)?, None);
-    Ok(())
+    are_seen(&rt, rt.alloc(), JOBS)
 }
 
 /// What the first of three reads of an operand when it has released the facility: GENERATE ,,,3 / SEIZE F / ADVANCE 5 /
@@ -200,8 +199,7 @@ fn waiters_are_where_they_were_last(rt: HostRuntime) -> Result<(), Fail> {
         reading_after_release!(count_of!(4), 1),
         reading_after_release!(of!(FacilityOwned, F), 1),
     ];
-    assert_eq!(rt; wrong_job(rt.alloc(), JOBS)?, None);
-    Ok(())
+    are_seen(&rt, rt.alloc(), JOBS)
 }
 
 // THE STATE THAT OPERANDS READ
@@ -242,8 +240,7 @@ fn operands_are_read_before_the_entry(rt: HostRuntime) -> Result<(), Fail> {
             (8, 10, 4, 0)
         ),
     ];
-    assert_eq!(rt; wrong_job(rt.alloc(), JOBS)?, None);
-    Ok(())
+    are_seen(&rt, rt.alloc(), JOBS)
 }
 
 // WHAT BLOCKS DO WITH OPERANDS
@@ -285,8 +282,7 @@ fn terminate_counts_down_by_its_operand(rt: HostRuntime) -> Result<(), Fail> {
             ],
         },
     ];
-    assert_eq!(rt; wrong_job(rt.alloc(), JOBS)?, None);
-    Ok(())
+    are_seen(&rt, rt.alloc(), JOBS)
 }
 
 /// How GENERATE ,,,1 / ASSIGN 1,k / ADVANCE A,B / TERMINATE 1 comes to rest.
@@ -321,6 +317,5 @@ fn advance_rests_for_its_operands(rt: HostRuntime) -> Result<(), Fail> {
         rests_by!(LEAST, P1, XN1, Number, (0, 5, 2, 1)),
         rests_by!(GREATEST, C1, P1, Number, (0, 5, 2, 1)),
     ];
-    assert_eq!(rt; wrong_job(rt.alloc(), JOBS)?, None);
-    Ok(())
+    are_seen(&rt, rt.alloc(), JOBS)
 }

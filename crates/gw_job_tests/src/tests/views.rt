@@ -9,6 +9,7 @@ use gw_entities::{Average, Contents, Facility};
 use gw_object::Memory;
 use gw_scan::{End, Sim, Status};
 use std::alloc::Global;
+use std::process::Abort;
 use std::test::Fail;
 
 /// More steps than any job makes here.
@@ -266,7 +267,7 @@ pub(super) fn wrong_view_of(
 }
 
 /// The place, from 0, of the first of these jobs that is seen otherwise, and of the first view of it that is another one.
-pub(super) fn wrong_job(alloc: Global, jobs: &[Job]) -> Result<Option<(usize, usize)>, Fail> {
+fn wrong_job(alloc: Global, jobs: &[Job]) -> Result<Option<(usize, usize)>, Fail> {
     for i in 0..jobs.len() {
         let job = jobs[i];
         if let Some(view) = wrong_view_of(alloc, job.count, job.blocks, job.seen)? {
@@ -274,6 +275,12 @@ pub(super) fn wrong_job(alloc: Global, jobs: &[Job]) -> Result<Option<(usize, us
         }
     }
     Ok(None)
+}
+
+/// Each of these jobs is seen so.
+pub(super) fn are_seen(rt: &impl Abort, alloc: Global, jobs: &[Job]) -> Result<(), Fail> {
+    assert_eq!(rt; wrong_job(alloc, jobs)?, None);
+    Ok(())
 }
 
 /// How the job of these blocks has ended and with which numbers, if it has.

@@ -5,7 +5,7 @@ use crate::flow::tables::{NOTHING, Table, blocks_of, first_fault, row_if, states
 use crate::models::*;
 use gw_blocks::{Block, Units};
 use gw_flow::{AbsState, Amount, Edge, StateParts, Target};
-use gw_object::{Fault, Items, Kind, Memory, Object, TableState};
+use gw_object::{Fault, Items, Object, TableState};
 use std::alloc::Global;
 use std::test::Fail;
 
@@ -25,11 +25,8 @@ fn object_of(
     states: Vec<Option<TableState>>,
     chain_row: Option<Row>,
 ) -> Result<Object, Fail> {
-    let mut entities = three_entities(alloc, 3)?;
-    entities.push(entity(alloc, Kind::Chain, b"C")?)?;
-    let mut parts = parts(alloc, entities, blocks, states)?;
-    parts.chain_states = Items::from_vec(vec![in alloc; row_if(alloc, chain_row)?]?);
-    parts.chain_weights = Items::from_vec(vec![in alloc; 1]?);
+    let mut parts = chain_parts(alloc, blocks, states)?;
+    put_chain(alloc, &mut parts, row_if(alloc, chain_row)?, 1)?;
     built(parts)
 }
 

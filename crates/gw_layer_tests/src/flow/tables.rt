@@ -24,8 +24,7 @@ pub(crate) fn object_with(
     states: Vec<Option<TableState>>,
     returns: Returns,
 ) -> Result<Object, Fail> {
-    let mut entities = three_entities(alloc, 3)?;
-    entities.push(entity(alloc, Kind::Facility, b"G")?)?;
+    let entities = four_entities(alloc, Kind::Facility, b"G")?;
     let mut parts = parts(alloc, entities, blocks, states)?;
     parts.returns = return_rows(alloc, returns)?;
     built(parts)

@@ -4,7 +4,7 @@ use super::named::{has_values, leaves_at_once_by};
 use crate::models::*;
 use gw_blocks::{Block, EntityAttribute, Numbered, Operand, Units};
 use gw_kinds::{Way, check_kinds};
-use gw_object::{Fault, Items, Kind, TableKind, TableState};
+use gw_object::{Fault, Memory, Parts, TableKind, TableState};
 use std::alloc::Global;
 use std::test::Fail;
 
@@ -24,6 +24,12 @@ macro_rules! by_members {
     };
 }
 
+/// Parts of these blocks, of which the first has this row, if it has one, and the others none.
+fn parts_of(alloc: Global, blocks: &[Block], first_row: Option<Row>) -> Result<Parts, Memory> {
+    let states = super::rows(alloc, blocks.len(), first_row)?;
+    chain_parts(alloc, Vec::from_slice(alloc, blocks)?, states)
+}
+
 /// The fault of the object of these blocks, whose first block and whose user chain have these rows, if they have one, and the
 /// other blocks none.
 fn fault_with(
@@ -32,13 +38,8 @@ fn fault_with(
     first_row: Option<Row>,
     chain_row: Option<TableState>,
 ) -> Result<Option<Fault>, Fail> {
-    let states = super::rows(alloc, blocks.len(), first_row)?;
-    let mut entities = three_entities(alloc, 3)?;
-    entities.push(entity(alloc, Kind::Chain, b"C")?)?;
-    let blocks = Vec::from_slice(alloc, blocks)?;
-    let mut parts = parts(alloc, entities, blocks, states)?;
-    parts.chain_states = Items::from_vec(vec![in alloc; chain_row]?);
-    parts.chain_weights = Items::from_vec(vec![in alloc; 1]?);
+    let mut parts = parts_of(alloc, blocks, first_row)?;
+    put_chain(alloc, &mut parts, chain_row, 1)?;
     Ok(check_kinds(&built(parts)?).err())
 }
 

@@ -21,8 +21,8 @@ pub(super) const MISSING: u16 = 5;
 /// The entities F, S and Q, a logic switch and a savevalue.
 fn five_entities(alloc: Global) -> Result<Vec<Entity>, Memory> {
     let mut entities = three_entities(alloc, 2_000_000)?;
-    entities.push(entity(alloc, Kind::Switch(true), b"L")?)?;
-    entities.push(entity(alloc, Kind::Savevalue(-7), b"X")?)?;
+    add_entity(alloc, &mut entities, Kind::Switch(true), b"L")?;
+    add_entity(alloc, &mut entities, Kind::Savevalue(-7), b"X")?;
     Ok(entities)
 }
 

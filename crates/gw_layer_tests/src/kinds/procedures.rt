@@ -39,9 +39,7 @@ fn procedures(alloc: Global, codes: &[&[Instruction]]) -> Result<Vec<Procedure>,
 
 /// Parts with the entities F, S and Q, one block, and the procedures of these codes.
 fn parts_of(alloc: Global, codes: &[&[Instruction]]) -> Result<Parts, Memory> {
-    let entities = three_entities(alloc, 1)?;
-    let blocks = Vec::from_slice(alloc, &[TERMINATE])?;
-    let mut parts = parts(alloc, entities, blocks, no_states(alloc, 1)?)?;
+    let mut parts = model_parts(alloc, 1, &[TERMINATE], no_states(alloc, 1)?)?;
     parts.procedures = Items::from_vec(procedures(alloc, codes)?);
     Ok(parts)
 }

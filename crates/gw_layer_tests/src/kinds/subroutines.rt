@@ -36,10 +36,8 @@ fn fault_with(
     known: Known,
     returns: Returns,
 ) -> Result<Option<Fault>, Fail> {
-    let entities = three_entities(alloc, 1)?;
     let states = rows(alloc, blocks.len(), known)?;
-    let blocks = Vec::from_slice(alloc, blocks)?;
-    let mut parts = parts(alloc, entities, blocks, states)?;
+    let mut parts = model_parts(alloc, 1, blocks, states)?;
     parts.returns = return_rows(alloc, returns)?;
     Ok(check_kinds(&built(parts)?).err())
 }

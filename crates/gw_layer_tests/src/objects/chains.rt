@@ -2,7 +2,7 @@
 
 use super::conditions::wrong_spelling;
 use super::*;
-use gw_object::{Kind, TableKind};
+use gw_object::{Entity, Kind, TableKind};
 
 #[test]
 fn a_link_is_read_built_and_written(rt: HostRuntime) -> Result<(), Fail> {
@@ -77,20 +77,24 @@ fn known_and_none(alloc: Global) -> Result<Vec<Option<TableState>>, Memory> {
     states_knowing(alloc, &[Some(&[(1, TableKind::Num)]), None])
 }
 
+/// The entities of the two chains' object.
+fn chains_and_queue(alloc: Global) -> Result<Vec<Entity>, Memory> {
+    let mut entities = Vec::new(alloc);
+    add_entity(alloc, &mut entities, Kind::Chain, b"C")?;
+    add_entity(alloc, &mut entities, Kind::Queue, b"C")?;
+    add_entity(alloc, &mut entities, Kind::Chain, b"D")?;
+    Ok(entities)
+}
+
 /// The two chains' object with these states and weights of theirs.
 fn two_chains_with(
     alloc: Global,
     states: Vec<Option<TableState>>,
     weights: &[u32],
 ) -> Result<Parts, Memory> {
-    let entities = vec![in alloc;
-        entity(alloc, Kind::Chain, b"C")?,
-        entity(alloc, Kind::Queue, b"C")?,
-        entity(alloc, Kind::Chain, b"D")?,
-    ]?;
-    let blocks = Vec::from_slice(alloc, &[Block::Transfer(1)])?;
-    let mut parts = parts(alloc, entities, blocks, no_states(alloc, 1)?)?;
+    let mut parts = one_block(alloc, Block::Transfer(1))?;
     parts.chain_states = Items::from_vec(states);
+    parts.entities = Items::from_vec(chains_and_queue(alloc)?);
     parts.chain_weights = Items::from_vec(Vec::from_slice(alloc, weights)?);
     Ok(parts)
 }
