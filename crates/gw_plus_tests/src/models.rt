@@ -4,7 +4,7 @@ ghost use Rattle.std.specs.Prelude.{◌≡◌, IfOk};
 
 use gw_blocks::{Block, EntityAttribute, Numbered, Operand};
 use gw_code::{Instruction, Procedure};
-use gw_object::{Entity, Function, Items, Kind, Memory, Object, Parts, Point};
+use gw_object::{Entity, Function, Items, Kind, Memory, Object, Parts, Point, TableState};
 use std::alloc::Global;
 use std::test::Fail;
 
@@ -51,55 +51,83 @@ fn function(alloc: Global, argument: Operand) -> Result<Kind, Memory> {
     Ok(Kind::Function(Function { argument, points }))
 }
 
-/// A facility, a storage for 5 units, a queue, a savevalue of 7 and a logic switch that is set, in this order.
-fn five_entities(alloc: Global) -> Result<Vec<Entity>, Memory> {
-    let entities = vec![in alloc;
-        entity(alloc, Kind::Facility, b"F")?,
-        entity(alloc, Kind::Storage(5), b"S")?,
-        entity(alloc, Kind::Queue, b"Q")?,
-        entity(alloc, Kind::Savevalue(7), b"X")?,
-        entity(alloc, Kind::Switch(true), b"L")?,
-    ]?;
-    Ok(entities)
+/// Adds an entity behind the others.
+fn add(alloc: Global, entities: &mut Vec<Entity>, kind: Kind, name: &[u8]) -> Result<(), Memory> {
+    entities.push(entity(alloc, kind, name)?)?;
+    Ok(())
 }
 
-/// Behind those five a variable and a boolean variable of the procedure 1, a boolean variable of the procedure 2, a
-/// function of the parameter 1, a function of the variable, and a user chain.
-fn eleven_entities(alloc: Global) -> Result<Vec<Entity>, Memory> {
-    let mut entities = five_entities(alloc)?;
-    entities.push(entity(alloc, Kind::Variable(1), b"V")?)?;
-    entities.push(entity(alloc, Kind::BooleanVariable(1), b"A")?)?;
-    entities.push(entity(alloc, Kind::BooleanVariable(2), b"B")?)?;
+/// Adds a facility, a storage for 5 units, a queue, a savevalue of 7 and a logic switch that is set, in this order.
+fn add_five(alloc: Global, entities: &mut Vec<Entity>) -> Result<(), Memory> {
+    add(alloc, entities, Kind::Facility, b"F")?;
+    add(alloc, entities, Kind::Storage(5), b"S")?;
+    add(alloc, entities, Kind::Queue, b"Q")?;
+    add(alloc, entities, Kind::Savevalue(7), b"X")?;
+    add(alloc, entities, Kind::Switch(true), b"L")
+}
+
+/// Adds a variable and a boolean variable of the procedure 1, a boolean variable of the procedure 2, a function of the
+/// parameter 1, a function of the variable, and a user chain, in this order.
+fn add_six(alloc: Global, entities: &mut Vec<Entity>) -> Result<(), Memory> {
+    add(alloc, entities, Kind::Variable(1), b"V")?;
+    add(alloc, entities, Kind::BooleanVariable(1), b"A")?;
+    add(alloc, entities, Kind::BooleanVariable(2), b"B")?;
     let of_parameter = function(alloc, Operand::Parameter(1))?;
-    entities.push(entity(alloc, of_parameter, b"OFP")?)?;
+    add(alloc, entities, of_parameter, b"OFP")?;
     let of_variable = function(alloc, Operand::OfEntity(VARIABLE))?;
-    entities.push(entity(alloc, of_variable, b"OFV")?)?;
-    entities.push(entity(alloc, Kind::Chain, b"C")?)?;
-    Ok(entities)
+    add(alloc, entities, of_variable, b"OFV")?;
+    add(alloc, entities, Kind::Chain, b"C")
+}
+
+/// Those five and those six.
+fn eleven_entities(alloc: Global) -> Result<Items<Entity>, Memory> {
+    let mut entities = Vec::new(alloc);
+    add_five(alloc, &mut entities)?;
+    add_six(alloc, &mut entities)?;
+    Ok(Items::from_vec(entities))
+}
+
+/// So many rows that aren't there.
+fn no_rows(alloc: Global, count: usize) -> Result<Items<Option<TableState>>, Memory> {
+    let mut rows = Vec::new(alloc);
+    for _ in 0..count {
+        rows.push(None)?;
+    }
+    Ok(Items::from_vec(rows))
+}
+
+/// Gives parts eleven entities, and two blocks and a user chain to which nobody comes.
+fn put_blocks(alloc: Global, parts: &mut Parts) -> Result<(), Memory>
+    ensures { parts.new.procedures ≡ parts.old.procedures }
+{
+    let terminate = Block::Terminate(Operand::Constant(1));
+    parts.entities = eleven_entities(alloc)?;
+    parts.blocks = Items::from_vec(Vec::from_slice(alloc, &[terminate, terminate])?);
+    parts.states = no_rows(alloc, 2)?;
+    parts.chain_states = no_rows(alloc, 1)?;
+    parts.weights = Items::from_vec(Vec::from_slice(alloc, &[1, 1])?);
+    parts.chain_weights = Items::from_vec(Vec::from_slice(alloc, &[1])?);
+    Ok(())
 }
 
 /// Parts of these procedures, with eleven entities, and two blocks and a user chain to which nobody comes.
 fn parts_of(alloc: Global, procedures: Vec<Procedure>) -> Result<Parts, Memory>
     ensures procedures { IfOk result (λ p. p.procedures ≡ procedures.items) }
 {
-    let terminate = Block::Terminate(Operand::Constant(1));
-    let mut states = Vec::new(alloc);
-    states.push(None)?;
-    states.push(None)?;
-    let mut chain_states = Vec::new(alloc);
-    chain_states.push(None)?;
-    Ok(Parts {
+    let mut parts = Parts {
         seeds: Items::from_vec(Vec::new(alloc)),
         count: 1,
-        entities: Items::from_vec(eleven_entities(alloc)?),
+        entities: Items::from_vec(Vec::new(alloc)),
         procedures: Items::from_vec(procedures),
-        blocks: Items::from_vec(Vec::from_slice(alloc, &[terminate, terminate])?),
+        blocks: Items::from_vec(Vec::new(alloc)),
         returns: Items::from_vec(Vec::new(alloc)),
-        states: Items::from_vec(states),
-        chain_states: Items::from_vec(chain_states),
-        weights: Items::from_vec(Vec::from_slice(alloc, &[1, 1])?),
-        chain_weights: Items::from_vec(Vec::from_slice(alloc, &[1])?),
-    })
+        states: Items::from_vec(Vec::new(alloc)),
+        chain_states: Items::from_vec(Vec::new(alloc)),
+        weights: Items::from_vec(Vec::new(alloc)),
+        chain_weights: Items::from_vec(Vec::new(alloc)),
+    };
+    put_blocks(alloc, &mut parts)?;
+    Ok(parts)
 }
 
 /// An object of these procedures, with eleven entities, and two blocks and a user chain to which nobody comes.

@@ -1,6 +1,6 @@
 //! What procedures come to: each instruction, by a value worked out by hand.
 
-ghost use Rattle.std.specs.Prelude.{◌≡◌, ◌<◌, length, IfOk, slice_get, Some, [], ◌∷◌};
+ghost use Rattle.std.specs.Prelude.{◌≡◌, ◌<◌, ◌+◌, length, IfOk, slice_get, Some, [], ◌∷◌};
 
 use crate::models::*;
 use gw_blocks::Attribute;
@@ -51,15 +51,35 @@ const DIFFERENCE: &[Instruction] = &[
     RET,
 ];
 
-/// The procedure 0, the difference of its two arguments, the procedures 1 and 2, of the values 5 and 0, and the
-/// procedure 3, which has this code, two locals, and needs the parameter 1.
+/// Adds a procedure behind the others.
+fn add(
+    alloc: Global,
+    procedures: &mut Vec<Procedure>,
+    counts: (u8, u8),
+    code: &[Instruction],
+) -> Result<(), Memory>
+    ensures { IfOk result (λ _. length procedures.new.items ≡ length procedures.old.items + 1) }
+{
+    procedures.push(procedure(alloc, counts, &[], code)?)?;
+    Ok(())
+}
+
+/// The procedure 0, the difference of its two arguments, and the procedures 1 and 2, of the values 5 and 0.
+fn three_procedures(alloc: Global) -> Result<Vec<Procedure>, Memory>
+    ensures { IfOk result (λ prs. length prs.items ≡ 3) }
+{
+    let mut procedures = Vec::new(alloc);
+    add(alloc, &mut procedures, (2, 2), DIFFERENCE)?;
+    add(alloc, &mut procedures, (0, 0), &[push!(5), RET])?;
+    add(alloc, &mut procedures, (0, 0), &[push!(0), RET])?;
+    Ok(procedures)
+}
+
+/// Those three, and the procedure 3, which has this code, two locals, and needs the parameter 1.
 fn four_procedures(alloc: Global, code: &[Instruction]) -> Result<Vec<Procedure>, Memory>
     ensures { IfOk result (λ prs. (pr : Procedure) × (slice_get prs.items 3 ≡ Some pr) × (pr.arguments ≡ 0) × (pr.needs ≡ 1 ∷ [])) }
 {
-    let mut procedures = Vec::new(alloc);
-    procedures.push(procedure(alloc, (2, 2), &[], DIFFERENCE)?)?;
-    procedures.push(procedure(alloc, (0, 0), &[], &[push!(5), RET])?)?;
-    procedures.push(procedure(alloc, (0, 0), &[], &[push!(0), RET])?)?;
+    let mut procedures = three_procedures(alloc)?;
     procedures.push(procedure(alloc, (0, 2), &[1], code)?)?;
     Ok(procedures)
 }

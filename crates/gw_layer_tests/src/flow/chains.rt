@@ -160,17 +160,18 @@ fn a_chain_without_a_row_has_no_members_that_go(rt: HostRuntime) -> Result<(), F
     Ok(())
 }
 
-/// What is known of a transaction that owns F and holds so many units of S, if it holds any.
-fn owner_with(alloc: Global, number: u64) -> Result<AbsState, Fail> {
-    let mut units = Vec::new(alloc);
-    if number > 0 {
-        units.push(Amount { entity: S, number })?;
-    }
-    let parts = StateParts {
+/// What is known of a transaction that owns F and holds 5 units of S.
+fn owner_of_5(alloc: Global) -> Result<AbsState, Fail> {
+    const HELD: &[Amount] = &[Amount {
+        entity: S,
+        number: 5,
+    }];
+    let mut parts = StateParts {
         parameters: Items::from_vec(Vec::new(alloc)),
         facilities: Items::from_vec(Vec::from_slice(alloc, &[F])?),
-        units: Items::from_vec(units),
+        units: Items::from_vec(Vec::new(alloc)),
     };
+    parts.units = Items::from_vec(Vec::from_slice(alloc, HELD)?);
     Ok(AbsState::build(parts).ok().ok_or("a state")?)
 }
 
@@ -185,6 +186,23 @@ fn is_edge(edge: &Edge, expected: &Expected) -> bool {
     edge.target == target && state.facilities.as_slice() == facilities && held == number
 }
 
+/// The object of three blocks without rows, of which the second is this one, and of a user chain with this row.
+fn object_around(alloc: Global, second: Block, chain_row: Option<Row>) -> Result<Object, Fail> {
+    let blocks = Vec::from_slice(alloc, &[GENERATE, second, TERMINATE])?;
+    object_of(alloc, blocks, no_states(alloc, 3)?, chain_row)
+}
+
+/// What its second block answers where who enters owns F and holds 5 units of S.
+fn edges_for_owner(alloc: Global, object: &Object) -> Result<Result<Vec<Edge>, Fault>, Fail> {
+    let state = owner_of_5(alloc)?;
+    second_edges(alloc, object, &state)
+}
+
+/// Whether edges are these, in order.
+fn are_edges(edges: &[Edge], expected: &[Expected]) -> bool {
+    edges.len() == expected.len() && (0..edges.len()).all(|i| is_edge(&edges[i], &expected[i]))
+}
+
 /// Whether these are the edges of a block, the second of three, in order, where who enters owns F and holds 5 units of S, and
 /// the user chain has this row.
 fn leads(
@@ -193,11 +211,11 @@ fn leads(
     chain_row: Option<Row>,
     expected: &[Expected],
 ) -> Result<bool, Fail> {
-    let blocks = Vec::from_slice(alloc, &[GENERATE, second, TERMINATE])?;
-    let object = object_of(alloc, blocks, no_states(alloc, 3)?, chain_row)?;
-    let edges = second_edges(alloc, &object, &owner_with(alloc, 5)?)?;
-    let edges = edges.ok().ok_or("rules that hold")?;
-    Ok(edges.len() == expected.len() && (0..edges.len()).all(|i| is_edge(&edges[i], &expected[i])))
+    let object = object_around(alloc, second, chain_row)?;
+    match edges_for_owner(alloc, &object)? {
+        Ok(edges) => Ok(are_edges(&edges, expected)),
+        Err(_) => Ok(false),
+    }
 }
 
 #[test]
