@@ -147,11 +147,16 @@ fn are_edges(edges: &[Edge], expected: &[Expected]) -> bool {
     true
 }
 
+/// What the second block of an object answers for a state as a row says it.
+fn edges_in(alloc: Global, object: &Object, row: Row) -> Result<Result<Vec<Edge>, Fault>, Fail> {
+    let state = state_of(alloc, row)?.ok_or("a row whose lists ascend")?;
+    second_edges(alloc, object, &state)
+}
+
 /// What a block, the second of three, answers for a state as a row says it.
 fn edges(alloc: Global, block: Block, row: Row) -> Result<Result<Vec<Edge>, Fault>, Fail> {
     let object = three_blocks(alloc, block)?;
-    let state = state_of(alloc, row)?.ok_or("a row whose lists ascend")?;
-    second_edges(alloc, &object, &state)
+    edges_in(alloc, &object, row)
 }
 
 /// Whether these are the edges of a block, the second of three, in a state as a row says it, in order.

@@ -373,63 +373,83 @@ fn lead_to(edges: &[Edge], blocks: &[u16], numbers: &[u8]) -> bool {
     true
 }
 
-/// What a block, the second of three, answers for a state with these parameters: whether its edges lead to these blocks
-/// with these parameters, or its fault.
-fn leads(
+/// What the second block of an object answers for a state with these parameters.
+fn edges_in(
     alloc: Global,
-    block: Block,
+    object: &Object,
     given: &[u8],
-    blocks: &[u16],
-    numbers: &[u8],
-) -> Result<Result<bool, Fault>, Fail> {
-    let object = three_blocks(alloc, block)?;
+) -> Result<Result<Vec<Edge>, Fault>, Fail> {
     let state = state_of(alloc, given)?.ok_or("parameters that ascend")?;
-    let edges = second_edges(alloc, &object, &state)?;
-    Ok(edges.map(|edges| lead_to(&edges, blocks, numbers)))
+    second_edges(alloc, object, &state)
+}
+
+/// What a block, the second of three, answers for a state with these parameters.
+fn edges(alloc: Global, block: Block, given: &[u8]) -> Result<Result<Vec<Edge>, Fault>, Fail> {
+    let object = three_blocks(alloc, block)?;
+    edges_in(alloc, &object, given)
+}
+
+/// A block, the second of three, the parameters of who enters it, and to which blocks its edges lead, with which parameters.
+type Lead<'a> = (Block, &'a [u8], &'a [u16], &'a [u8]);
+
+/// The place, from 0, of the first of these blocks that has other edges.
+fn wrong_lead(alloc: Global, cases: &[Lead]) -> Result<Option<usize>, Fail> {
+    for i in 0..cases.len() {
+        let (block, given, blocks, numbers) = cases[i];
+        let is_right = match edges(alloc, block, given)? {
+            Ok(edges) => lead_to(&edges, blocks, numbers),
+            Err(_) => false,
+        };
+        if !is_right {
+            return Ok(Some(i));
+        }
+    }
+    Ok(None)
 }
 
 #[test]
 fn the_parameter_that_a_block_sets_stands_in_its_place(rt: HostRuntime) -> Result<(), Fail> {
-    let is_new = leads(rt.alloc(), assign!(2, Set, FIVE), &[1, 3], &[3], &[1, 2, 3])?;
-    let is_known = leads(rt.alloc(), assign!(3, Add, P1), &[1, 3], &[3], &[1, 3])?;
-    let is_marked = leads(
-        rt.alloc(),
-        Block::Mark(Some(64)),
-        &[1, 3],
-        &[3],
-        &[1, 3, 64],
-    )?;
-    assert!(rt; is_new == Ok(true));
-    assert!(rt; is_known == Ok(true));
-    assert!(rt; is_marked == Ok(true));
+    const CASES: &[Lead<'static>] = &[
+        (assign!(2, Set, FIVE), &[1, 3], &[3], &[1, 2, 3]),
+        (assign!(3, Add, P1), &[1, 3], &[3], &[1, 3]),
+        (Block::Mark(Some(64)), &[1, 3], &[3], &[1, 3, 64]),
+    ];
+    assert!(rt; wrong_lead(rt.alloc(), CASES)?.is_none());
     Ok(())
 }
 
 #[test]
 fn a_block_that_sets_none_leaves_the_parameters(rt: HostRuntime) -> Result<(), Fail> {
-    let is_counted = leads(rt.alloc(), count_down!(3, 9), &[1, 3], &[3, 9], &[1, 3])?;
-    let test = compare!(Less, P1, FIVE, Some(9));
-    let is_tested = leads(rt.alloc(), test, &[1, 3], &[3, 9], &[1, 3])?;
-    let gate = gate!(FacilityInUse, F, None);
-    let is_asked = leads(rt.alloc(), gate, &[1, 3], &[3], &[1, 3])?;
-    let is_marked = leads(rt.alloc(), Block::Mark(None), &[1, 3], &[3], &[1, 3])?;
-    let is_seized = leads(rt.alloc(), Block::Seize(F), &[1, 3], &[3], &[1, 3])?;
-    assert!(rt; is_counted == Ok(true));
-    assert!(rt; is_tested == Ok(true));
-    assert!(rt; is_asked == Ok(true));
-    assert!(rt; is_marked == Ok(true));
-    assert!(rt; is_seized == Ok(true));
+    const CASES: &[Lead<'static>] = &[
+        (count_down!(3, 9), &[1, 3], &[3, 9], &[1, 3]),
+        (compare!(Less, P1, FIVE, Some(9)), &[1, 3], &[3, 9], &[1, 3]),
+        (gate!(FacilityInUse, F, None), &[1, 3], &[3], &[1, 3]),
+        (Block::Mark(None), &[1, 3], &[3], &[1, 3]),
+        (Block::Seize(F), &[1, 3], &[3], &[1, 3]),
+    ];
+    assert!(rt; wrong_lead(rt.alloc(), CASES)?.is_none());
     Ok(())
+}
+
+/// The place, from 0, of the first of these blocks that has another fault than this code for a state with these parameters.
+fn wrong_rule(alloc: Global, cases: &[(Block, &[u8], u16)]) -> Result<Option<usize>, Fail> {
+    for i in 0..cases.len() {
+        let (block, given, code) = cases[i];
+        if edges(alloc, block, given)?.err() != at_block(code, 2) {
+            return Ok(Some(i));
+        }
+    }
+    Ok(None)
 }
 
 #[test]
 fn the_values_of_a_block_are_its_first_rule(rt: HostRuntime) -> Result<(), Fail> {
-    let not_counted = leads(rt.alloc(), count_down!(2, 9), &[1, 3], &[], &[])?;
-    let not_read = leads(rt.alloc(), GENERATE_P1, &[2], &[], &[])?;
-    let not_empty = leads(rt.alloc(), GENERATE_P1, &[1], &[], &[])?;
-    assert!(rt; not_counted.err() == at_block(20, 2));
-    assert!(rt; not_read.err() == at_block(20, 2));
-    assert!(rt; not_empty.err() == at_block(25, 2));
+    const CASES: &[(Block, &'static [u8], u16)] = &[
+        (count_down!(2, 9), &[1, 3], 20),
+        (GENERATE_P1, &[2], 20),
+        (GENERATE_P1, &[1], 25),
+    ];
+    assert!(rt; wrong_rule(rt.alloc(), CASES)?.is_none());
     Ok(())
 }
 

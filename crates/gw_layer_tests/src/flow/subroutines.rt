@@ -5,7 +5,7 @@ use crate::flow::tables::{first_fault, object_with};
 use crate::models::*;
 use gw_blocks::{Assign, Block, Loop, Mode, Operand, Spread};
 use gw_flow::{AbsState, Edge, Parameter, ParameterKind, StateParts, Target};
-use gw_object::{Fault, Items, Memory, TableKind};
+use gw_object::{Fault, Items, Memory, Object, TableKind};
 use std::alloc::Global;
 use std::test::Fail;
 
@@ -74,11 +74,22 @@ fn state_of(alloc: Global, held: Held) -> Result<AbsState, Fail> {
     Ok(AbsState::build(parts).ok().ok_or("parameters that ascend")?)
 }
 
+/// The object of three blocks without rows, of which the second is this one, and of those return rows.
+fn object_around(alloc: Global, second: Block) -> Result<Object, Fail> {
+    let blocks = Vec::from_slice(alloc, &[GENERATE, second, TERMINATE])?;
+    object_with(alloc, blocks, no_states(alloc, 3)?, RETURNS)
+}
+
+/// What its second block answers for a transaction whose parameters hold this.
+fn edges_in(alloc: Global, object: &Object, held: Held) -> Result<Result<Vec<Edge>, Fault>, Fail> {
+    let state = state_of(alloc, held)?;
+    second_edges(alloc, object, &state)
+}
+
 /// What a block, the second of three, answers for a transaction whose parameters hold this.
 fn edges(alloc: Global, block: Block, held: Held) -> Result<Result<Vec<Edge>, Fault>, Fail> {
-    let blocks = Vec::from_slice(alloc, &[GENERATE, block, TERMINATE])?;
-    let object = object_with(alloc, blocks, no_states(alloc, 3)?, RETURNS)?;
-    second_edges(alloc, &object, &state_of(alloc, held)?)
+    let object = object_around(alloc, block)?;
+    edges_in(alloc, &object, held)
 }
 
 /// Whether parameters hold this, in order.
