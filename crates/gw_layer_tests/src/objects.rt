@@ -111,6 +111,31 @@ fn bytes_of(alloc: Global, tag: u8, operands: &[u8]) -> Result<Vec<u8>, Memory> 
     Ok(bytes)
 }
 
+/// The refusal of an object's bytes, with some others from a place on in place of as many as `old`, if they are no object.
+fn refusal_of_changed(
+    alloc: Global,
+    whole: &[u8],
+    place: usize,
+    old: usize,
+    new: &[u8],
+) -> Result<Option<Fault>, Memory> {
+    let bytes = changed(alloc, whole, place, old, new)?;
+    Ok(refusal(alloc, &bytes))
+}
+
+/// The refusal of an object of one block of this tag, with these as its operands, if it is no object.
+fn refusal_of_block(alloc: Global, tag: u8, operands: &[u8]) -> Result<Option<Fault>, Memory> {
+    let bytes = bytes_of(alloc, tag, operands)?;
+    Ok(refusal(alloc, &bytes))
+}
+
+/// Whether an object of this block alone is read from the bytes of this tag and these operands and written again, and built
+/// and written as them.
+fn is_spelled(alloc: Global, block: Block, tag: u8, operands: &[u8]) -> Result<bool, Memory> {
+    let bytes = bytes_of(alloc, tag, operands)?;
+    is_spelling(alloc, one_block(alloc, block)?, &bytes)
+}
+
 /// The place of the first change of an object's bytes after which another fault is found than the one listed. A
 /// change is the place and the number of the bytes that are replaced, those that replace them, and the code and the
 /// byte of the fault.
@@ -120,8 +145,8 @@ fn wrong_fault(
     changes: &[(usize, usize, &[u8], u16, u32)],
 ) -> Result<Option<usize>, Memory> {
     for (place, old, new, code, byte) in changes {
-        let bytes = changed(alloc, whole, *place, *old, new)?;
-        if refusal(alloc, &bytes) != at_byte(*code, *byte) {
+        let found = refusal_of_changed(alloc, whole, *place, *old, new)?;
+        if found != at_byte(*code, *byte) {
             return Ok(Some(*place));
         }
     }
@@ -234,12 +259,17 @@ fn each_fault_is_named_by_its_code_and_place(rt: HostRuntime) -> Result<(), Fail
     Ok(())
 }
 
+/// The refusal of so many bytes 0, if they are no object.
+fn refusal_of_zeros(alloc: Global, len: usize) -> Result<Option<Fault>, Memory> {
+    let bytes = vec![in alloc; 0u8; len]?;
+    Ok(refusal(alloc, &bytes))
+}
+
 /// The place, from 0, of the first of these numbers of bytes 0 with another refusal.
 fn wrong_zeros(alloc: Global, cases: &[(usize, Option<Fault>)]) -> Result<Option<usize>, Memory> {
     for i in 0..cases.len() {
         let (len, fault) = cases[i];
-        let bytes = vec![in alloc; 0u8; len]?;
-        if refusal(alloc, &bytes) != fault {
+        if refusal_of_zeros(alloc, len)? != fault {
             return Ok(Some(i));
         }
     }
@@ -361,13 +391,43 @@ fn seeds_that_end_in_0_are_handed_back(rt: HostRuntime) -> Result<(), Fail> {
     Ok(())
 }
 
+/// The code with which two blocks with these seeds, states and weights are refused, if they are.
+fn code_with(
+    alloc: Global,
+    seeds: &[u32],
+    states: Vec<Option<TableState>>,
+    weights: &[u32],
+) -> Result<Option<u16>, Memory> {
+    Ok(build_code(two_blocks_with(alloc, seeds, states, weights)?))
+}
+
+/// The code with which the two blocks with these seeds are refused, if they are.
+fn seeds_code(alloc: Global, seeds: &[u32]) -> Result<Option<u16>, Memory> {
+    code_with(alloc, seeds, state_and_none(alloc)?, &TWO_WEIGHTS)
+}
+
+/// The code with which the two blocks with these weights are refused, if they are.
+fn weights_code(alloc: Global, weights: &[u32]) -> Result<Option<u16>, Memory> {
+    code_with(alloc, &THREE_SEEDS, state_and_none(alloc)?, weights)
+}
+
+/// The code with which the two blocks with so many states are refused, if they are.
+fn states_code(alloc: Global, count: usize) -> Result<Option<u16>, Memory> {
+    code_with(alloc, &THREE_SEEDS, no_states(alloc, count)?, &TWO_WEIGHTS)
+}
+
+/// The code with which the two blocks with this termination count are refused, if they are.
+fn count_code(alloc: Global, count: u64) -> Result<Option<u16>, Memory> {
+    let mut parts = two_blocks(alloc)?;
+    parts.count = count;
+    Ok(build_code(parts))
+}
+
 /// The place, from 0, of the first of these lists of seeds with which the two blocks are built, or refused with another
 /// code.
 fn wrong_seeds(alloc: Global, lists: &[&[u32]], code: u16) -> Result<Option<usize>, Memory> {
     for i in 0..lists.len() {
-        let states = state_and_none(alloc)?;
-        let parts = two_blocks_with(alloc, lists[i], states, &TWO_WEIGHTS)?;
-        if build_code(parts) != Some(code) {
+        if seeds_code(alloc, lists[i])? != Some(code) {
             return Ok(Some(i));
         }
     }
@@ -385,9 +445,7 @@ fn seeds_outside_their_limits_are_not_built(rt: HostRuntime) -> Result<(), Fail>
 /// another code.
 fn wrong_weights(alloc: Global, lists: &[&[u32]], code: u16) -> Result<Option<usize>, Memory> {
     for i in 0..lists.len() {
-        let states = state_and_none(alloc)?;
-        let parts = two_blocks_with(alloc, &THREE_SEEDS, states, lists[i])?;
-        if build_code(parts) != Some(code) {
+        if weights_code(alloc, lists[i])? != Some(code) {
             return Ok(Some(i));
         }
     }
@@ -405,9 +463,7 @@ fn weights_outside_their_limits_are_not_built(rt: HostRuntime) -> Result<(), Fai
 /// another code.
 fn wrong_states(alloc: Global, counts: &[usize], code: u16) -> Result<Option<usize>, Memory> {
     for i in 0..counts.len() {
-        let states = no_states(alloc, counts[i])?;
-        let parts = two_blocks_with(alloc, &THREE_SEEDS, states, &TWO_WEIGHTS)?;
-        if build_code(parts) != Some(code) {
+        if states_code(alloc, counts[i])? != Some(code) {
             return Ok(Some(i));
         }
     }
@@ -423,9 +479,7 @@ fn more_or_fewer_states_than_blocks_are_not_built(rt: HostRuntime) -> Result<(),
 /// The first of these termination counts with which the two blocks are built, or refused with another code.
 fn wrong_count(alloc: Global, counts: &[u64], code: u16) -> Result<Option<u64>, Memory> {
     for count in counts {
-        let mut parts = two_blocks(alloc)?;
-        parts.count = *count;
-        if build_code(parts) != Some(code) {
+        if count_code(alloc, *count)? != Some(code) {
             return Ok(Some(*count));
         }
     }

@@ -128,25 +128,33 @@ fn first_fault(object: &Object) -> Option<Fault> {
     }
 }
 
-/// The fault of the weights of these parts, if they have one.
-fn fault(parts: Parts) -> Result<Option<Fault>, Fail> {
-    Ok(first_fault(&built(parts)?))
+/// The fault of the weights of this object, if they have one.
+fn fault(
+    alloc: Global,
+    table: Table,
+    chain: Chain,
+    returns: Returns,
+) -> Result<Option<Fault>, Fail> {
+    let object = built(parts_of(alloc, table, chain, returns)?)?;
+    Ok(first_fault(&object))
 }
 
-/// The fault with which the object of these parts is refused, if it is.
-fn refusal(alloc: Global, parts: Parts) -> Result<Option<Fault>, Fail> {
-    Ok(
-        verify(alloc, built(parts)?)
-            .err()
-            .map(|(_object, fault)| fault),
-    )
+/// The fault with which this object is refused, if it is.
+fn refusal(
+    alloc: Global,
+    table: Table,
+    chain: Chain,
+    returns: Returns,
+) -> Result<Option<Fault>, Fail> {
+    let object = built(parts_of(alloc, table, chain, returns)?)?;
+    Ok(verify(alloc, object).err().map(|(_object, fault)| fault))
 }
 
 /// The place, from 0, of the first of these objects whose weights have another fault.
 fn wrong_fault(alloc: Global, cases: &[Case], returns: Returns) -> Result<Option<usize>, Fail> {
     for i in 0..cases.len() {
         let (table, chain, due) = cases[i];
-        if fault(parts_of(alloc, table, chain, returns)?)? != due {
+        if fault(alloc, table, chain, returns)? != due {
             return Ok(Some(i));
         }
     }
@@ -157,7 +165,7 @@ fn wrong_fault(alloc: Global, cases: &[Case], returns: Returns) -> Result<Option
 fn wrong_refusal(alloc: Global, cases: &[Case], returns: Returns) -> Result<Option<usize>, Fail> {
     for i in 0..cases.len() {
         let (table, chain, due) = cases[i];
-        if refusal(alloc, parts_of(alloc, table, chain, returns)?)? != due {
+        if refusal(alloc, table, chain, returns)? != due {
             return Ok(Some(i));
         }
     }

@@ -1,8 +1,8 @@
 //! User chains: jobs worked out by hand, in which transactions link themselves and others unlink them.
 
-use super::reports::{job, wrong_report};
+use super::reports::{wrong_report, wrong_view_of_object};
 use super::views::View::Active;
-use super::views::{Views, wrong_view};
+use super::views::Views;
 use std::alloc::Global;
 use std::test::Fail;
 
@@ -161,8 +161,7 @@ fn members_leave_a_chain_that_counts_them(rt: HostRuntime) -> Result<(), Fail> {
 fn wrong_object(alloc: Global, cases: &[(&[u8], Views)]) -> Result<Option<usize>, Fail> {
     for i in 0..cases.len() {
         let (bytes, views) = cases[i];
-        let mut sim = job(alloc, bytes, 1_000)?;
-        if wrong_view(&mut sim, views)?.is_some() {
+        if wrong_view_of_object(alloc, bytes, views)?.is_some() {
             return Ok(Some(i));
         }
     }

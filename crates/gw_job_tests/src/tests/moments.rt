@@ -3,12 +3,10 @@
 use super::blocks::*;
 use super::chains::LAST_FIRST;
 use super::copies::ASSEMBLING;
-use super::objects::AMPLE;
-use super::reports::job;
+use super::reports::wrong_view_of_object;
 use super::views::View::{Ends, Moment};
-use super::views::{Job, Views, are_seen, wrong_view};
+use super::views::{Job, Views, are_seen};
 use gw_scan::End;
-use std::alloc::Global;
 use std::test::Fail;
 
 #[test]
@@ -66,12 +64,6 @@ fn arrivals_that_are_due_or_owed_weigh(rt: HostRuntime) -> Result<(), Fail> {
     are_seen(&rt, rt.alloc(), JOBS)
 }
 
-/// The place, from 0, of the first of these views of the job of an object that is another one.
-fn wrong_moment(alloc: Global, bytes: &[u8], views: Views) -> Result<Option<usize>, Fail> {
-    let mut sim = job(alloc, bytes, AMPLE)?;
-    Ok(wrong_view(&mut sim, views)?)
-}
-
 #[test]
 fn copies_are_paid_for_by_their_split(rt: HostRuntime) -> Result<(), Fail> {
     // The blocks weigh 8, 7, 2 and 1. The first waits for the copies with the last block before it.
@@ -86,7 +78,7 @@ fn copies_are_paid_for_by_their_split(rt: HostRuntime) -> Result<(), Fail> {
         (2, Moment(0, 6, 0)),
         (0, Ends(End::Done, (0, 11, 6, 0))),
     ];
-    assert!(rt; wrong_moment(rt.alloc(), ASSEMBLING, SEEN)?.is_none());
+    assert!(rt; wrong_view_of_object(rt.alloc(), ASSEMBLING, SEEN)?.is_none());
     Ok(())
 }
 
@@ -108,6 +100,6 @@ fn members_weigh_as_their_user_chain(rt: HostRuntime) -> Result<(), Fail> {
         (2, Moment(5, 9, 0)),
         (0, Ends(End::Done, (5, 17, 9, 0))),
     ];
-    assert!(rt; wrong_moment(rt.alloc(), LAST_FIRST, SEEN)?.is_none());
+    assert!(rt; wrong_view_of_object(rt.alloc(), LAST_FIRST, SEEN)?.is_none());
     Ok(())
 }

@@ -1,7 +1,7 @@
 //! The reports of the first example, and of jobs with facilities, storages, queues, loops and savevalues.
 
-use super::objects::{accepted, job_of};
-use super::views::run;
+use super::objects::{AMPLE, accepted, job_of};
+use super::views::{Views, run, wrong_view};
 use gw_object::{Memory, read};
 use gw_report::{report, stopped_report};
 use gw_scan::{Sim, Stop};
@@ -163,12 +163,39 @@ fn reported_as_stopped(alloc: Global, bytes: &[u8]) -> Result<Vec<u8>, Fail> {
     Ok(stopped_report(alloc, &sim, Stop::NoBlock)?)
 }
 
+/// Whether this is the report of the job of an object after so many steps, with a budget of so many.
+fn is_reported(
+    alloc: Global,
+    bytes: &[u8],
+    budget: u64,
+    steps: u64,
+    expected: &[u8],
+) -> Result<bool, Fail> {
+    let text = reported(alloc, bytes, budget, steps)?;
+    Ok(text.as_slice() == expected)
+}
+
+/// Whether the report of the job of an object at its end begins and ends so.
+fn begins_and_ends(alloc: Global, bytes: &[u8], first: &[u8], last: &[u8]) -> Result<bool, Fail> {
+    let text = reported(alloc, bytes, 1_000, 1_000)?;
+    Ok(text.starts_with(first) && text.ends_with(last))
+}
+
+/// The place, from 0, of the first of these views of the job of an object that is another one.
+pub(super) fn wrong_view_of_object(
+    alloc: Global,
+    bytes: &[u8],
+    views: Views,
+) -> Result<Option<usize>, Fail> {
+    let mut sim = job(alloc, bytes, AMPLE)?;
+    Ok(wrong_view(&mut sim, views)?)
+}
+
 /// The place, from 0, of the first of these objects whose job has another report at its end.
 pub(super) fn wrong_report(alloc: Global, cases: &[(&[u8], &[u8])]) -> Result<Option<usize>, Fail> {
     for i in 0..cases.len() {
         let (bytes, expected) = cases[i];
-        let text = reported(alloc, bytes, 1_000, 1_000)?;
-        if text.as_slice() != expected {
+        if !is_reported(alloc, bytes, 1_000, 1_000, expected)? {
             return Ok(Some(i));
         }
     }
@@ -179,8 +206,7 @@ pub(super) fn wrong_report(alloc: Global, cases: &[(&[u8], &[u8])]) -> Result<Op
 fn wrong_first(alloc: Global, cases: &[(u64, u64, &[u8])]) -> Result<Option<usize>, Fail> {
     for i in 0..cases.len() {
         let (budget, steps, expected) = cases[i];
-        let text = reported(alloc, FIRST, budget, steps)?;
-        if text.as_slice() != expected {
+        if !is_reported(alloc, FIRST, budget, steps, expected)? {
             return Ok(Some(i));
         }
     }
@@ -191,8 +217,7 @@ fn wrong_first(alloc: Global, cases: &[(u64, u64, &[u8])]) -> Result<Option<usiz
 fn wrong_ends(alloc: Global, cases: &[(&[u8], &[u8], &[u8])]) -> Result<Option<usize>, Fail> {
     for i in 0..cases.len() {
         let (bytes, first, last) = cases[i];
-        let text = reported(alloc, bytes, 1_000, 1_000)?;
-        if !(text.starts_with(first) && text.ends_with(last)) {
+        if !begins_and_ends(alloc, bytes, first, last)? {
             return Ok(Some(i));
         }
     }

@@ -20,13 +20,23 @@ fn fault_of(made: Result<Spec, (Verified, StartFault)>) -> Option<(StartFault, u
 /// Seeds, a termination count and a budget, and why no job is made with them, if it is so.
 type Case<'a> = (&'a [u32], u64, u64, Option<StartFault>);
 
+/// Why no job of the three blocks is made with these seeds, this count and this budget, if it is so.
+fn refusal(
+    alloc: Global,
+    seeds: &[u32],
+    count: u64,
+    budget: u64,
+) -> Result<Option<(StartFault, u16)>, Fail> {
+    let verified = object(alloc, 2, THREE_BLOCKS)?;
+    Ok(fault_of(Spec::new(verified, seeds, count, budget)))
+}
+
 /// The place, from 0, of the first of these with which another job of the three blocks is made, or refused.
 fn wrong_start(alloc: Global, cases: &[Case]) -> Result<Option<usize>, Fail> {
     for i in 0..cases.len() {
         let (seeds, count, budget, fault) = cases[i];
-        let verified = object(alloc, 2, THREE_BLOCKS)?;
         let due = fault.map(|fault| (fault, 3));
-        if fault_of(Spec::new(verified, seeds, count, budget)) != due {
+        if refusal(alloc, seeds, count, budget)? != due {
             return Ok(Some(i));
         }
     }

@@ -118,11 +118,16 @@ fn job_of_model(alloc: Global, model: Model) -> Result<Sim, Fail> {
     job_of_parts(alloc, parts)
 }
 
+/// Whether the job of the model is seen as it has to be.
+fn is_seen(alloc: Global, model: Model) -> Result<bool, Fail> {
+    let mut sim = job_of_model(alloc, model)?;
+    Ok(wrong_view(&mut sim, model.seen)?.is_none())
+}
+
 /// The place, from 0, of the first of these models whose job is seen otherwise.
 fn wrong_model(alloc: Global, models: &[Model]) -> Result<Option<usize>, Fail> {
     for i in 0..models.len() {
-        let mut sim = job_of_model(alloc, models[i])?;
-        if wrong_view(&mut sim, models[i].seen)?.is_some() {
+        if !is_seen(alloc, models[i])? {
             return Ok(Some(i));
         }
     }

@@ -49,15 +49,21 @@ fn raised(alloc: Global, blocks: &[Block], weights: &[u32]) -> Result<Vec<u32>, 
     Ok(raised)
 }
 
+/// Raises the weights of these blocks by one round; whether any is another then.
+fn raise(alloc: Global, blocks: &[Block], weights: &mut Vec<u32>) -> Result<bool, Memory> {
+    let raised = raised(alloc, blocks, weights)?;
+    let is_other = raised.as_slice() != weights.as_slice();
+    *weights = raised;
+    Ok(is_other)
+}
+
 /// The weights of these blocks, if there are no subroutines and no user chains.
 pub(super) fn weights_of(alloc: Global, blocks: &[Block]) -> Result<Items<u32>, Memory> {
     let mut weights = vec![in alloc; 1u32; blocks.len()]?;
     for _ in 0..=blocks.len() {
-        let raised = raised(alloc, blocks, &weights)?;
-        if raised.as_slice() == weights.as_slice() {
+        if !raise(alloc, blocks, &mut weights)? {
             break;
         }
-        weights = raised;
     }
     Ok(Items::from_vec(weights))
 }

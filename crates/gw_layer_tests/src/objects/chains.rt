@@ -36,7 +36,7 @@ fn an_unlink_is_read_built_and_written(rt: HostRuntime) -> Result<(), Fail> {
 fn wrong_refusal(alloc: Global, cases: &[(u8, &[u8], u16, u32)]) -> Result<Option<usize>, Memory> {
     for i in 0..cases.len() {
         let (tag, operands, code, byte) = cases[i];
-        if refusal(alloc, &bytes_of(alloc, tag, operands)?) != at_byte(code, byte) {
+        if refusal_of_block(alloc, tag, operands)? != at_byte(code, byte) {
             return Ok(Some(i));
         }
     }
@@ -132,12 +132,23 @@ fn each_fault_of_a_chain_is_named_by_its_code_and_place(rt: HostRuntime) -> Resu
     Ok(())
 }
 
+/// The code with which the two chains with so many states are refused, if they are.
+fn chain_states_code(alloc: Global, count: usize) -> Result<Option<u16>, Memory> {
+    let states = no_states(alloc, count)?;
+    Ok(build_code(two_chains_with(alloc, states, &CHAIN_WEIGHTS)?))
+}
+
+/// The code with which the two chains with these weights are refused, if they are.
+fn chain_weights_code(alloc: Global, weights: &[u32]) -> Result<Option<u16>, Memory> {
+    let states = known_and_none(alloc)?;
+    Ok(build_code(two_chains_with(alloc, states, weights)?))
+}
+
 /// The place, from 0, of the first of these numbers of states with which the two chains are built, or refused with another
 /// code.
 fn wrong_states(alloc: Global, counts: &[usize], code: u16) -> Result<Option<usize>, Memory> {
     for i in 0..counts.len() {
-        let parts = two_chains_with(alloc, no_states(alloc, counts[i])?, &CHAIN_WEIGHTS)?;
-        if build_code(parts) != Some(code) {
+        if chain_states_code(alloc, counts[i])? != Some(code) {
             return Ok(Some(i));
         }
     }
@@ -148,8 +159,7 @@ fn wrong_states(alloc: Global, counts: &[usize], code: u16) -> Result<Option<usi
 /// code.
 fn wrong_weights(alloc: Global, lists: &[&[u32]], code: u16) -> Result<Option<usize>, Memory> {
     for i in 0..lists.len() {
-        let parts = two_chains_with(alloc, known_and_none(alloc)?, lists[i])?;
-        if build_code(parts) != Some(code) {
+        if chain_weights_code(alloc, lists[i])? != Some(code) {
             return Ok(Some(i));
         }
     }

@@ -22,8 +22,7 @@ pub(super) fn wrong_spelling(
 ) -> Result<Option<usize>, Memory> {
     for i in 0..cases.len() {
         let (block, operands) = cases[i];
-        let parts = one_block(alloc, block)?;
-        if !is_spelling(alloc, parts, &bytes_of(alloc, tag, operands)?)? {
+        if !is_spelled(alloc, block, tag, operands)? {
             return Ok(Some(i));
         }
     }

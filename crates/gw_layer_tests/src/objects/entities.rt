@@ -46,6 +46,17 @@ fn kind_of(capacity: Option<u32>) -> Kind {
     }
 }
 
+/// Whether this entity is the other one.
+fn is_entity(
+    alloc: Global,
+    capacity: Option<u32>,
+    name: &[u8],
+    other: &Entity,
+) -> Result<bool, Memory> {
+    let entity = entity(alloc, kind_of(capacity), name)?;
+    Ok(*other == entity)
+}
+
 /// The place, from 0, of the first of these entities, by kind and name, that is the storage S of capacity 3 where it is
 /// not said to be, or the other way round.
 fn wrong_equality(
@@ -55,7 +66,7 @@ fn wrong_equality(
     let storage = entity(alloc, Kind::Storage(3), b"S")?;
     for i in 0..cases.len() {
         let (capacity, name, is_same) = cases[i];
-        if (storage == entity(alloc, kind_of(capacity), name)?) != is_same {
+        if is_entity(alloc, capacity, name, &storage)? != is_same {
             return Ok(Some(i));
         }
     }

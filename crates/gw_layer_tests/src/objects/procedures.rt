@@ -171,11 +171,21 @@ fn a_33rd_back_is_refused_before_what_is_behind_its_tag(rt: HostRuntime) -> Resu
 /// A procedure by its counts of arguments and locals, its needs and its code, and the code with which it isn't built.
 type Built<'a> = ((u8, u8), &'a [u8], &'a [Instruction], Option<u16>);
 
+/// The code with which an object of this procedure is refused, if it is.
+fn procedure_code(
+    alloc: Global,
+    counts: (u8, u8),
+    needs: &[u8],
+    code: &[Instruction],
+) -> Result<Option<u16>, Memory> {
+    Ok(build_code(one_procedure(alloc, counts, needs, code)?))
+}
+
 /// The place, from 0, of the first procedure that is built with another code than the one listed.
 fn wrong_build(alloc: Global, cases: &[Built<'_>]) -> Result<Option<usize>, Memory> {
     for i in 0..cases.len() {
         let (counts, needs, code, wanted) = cases[i];
-        if build_code(one_procedure(alloc, counts, needs, code)?) != wanted {
+        if procedure_code(alloc, counts, needs, code)? != wanted {
             return Ok(Some(i));
         }
     }

@@ -41,6 +41,12 @@ fn three_states_are_read_built_and_written(rt: HostRuntime) -> Result<(), Fail> 
     Ok(())
 }
 
+/// Whether this state is the other one.
+fn is_state(alloc: Global, row: Row, other: &TableState) -> Result<bool, Memory> {
+    let state = state(alloc, row)?;
+    Ok(*other == state)
+}
+
 /// The place, from 0, of the first of these states that is the one with facilities 0 and 2 and 5 units of entity 1 where
 /// it is not said to be, or the other way round.
 fn wrong_equality(
@@ -50,7 +56,7 @@ fn wrong_equality(
     let first = state(alloc, (&[0, 2], &[units!(1, 5)]))?;
     for i in 0..cases.len() {
         let (facilities, held, is_same) = cases[i];
-        if (first == state(alloc, (facilities, held))?) != is_same {
+        if is_state(alloc, (facilities, held), &first)? != is_same {
             return Ok(Some(i));
         }
     }
@@ -119,6 +125,11 @@ fn state_code(alloc: Global, state: TableState) -> Result<Option<u16>, Memory> {
     Ok(build_code(parts_of(alloc, states)?))
 }
 
+/// The code with which an object is refused whose state has these facilities and units, if it is.
+fn row_code(alloc: Global, row: Row) -> Result<Option<u16>, Memory> {
+    state_code(alloc, state(alloc, row)?)
+}
+
 /// The number, from 0, of the first of these states, by facilities and units, whose code is another.
 fn wrong_code(
     alloc: Global,
@@ -126,7 +137,7 @@ fn wrong_code(
 ) -> Result<Option<usize>, Memory> {
     for i in 0..states.len() {
         let (facilities, held, code) = states[i];
-        if state_code(alloc, state(alloc, (facilities, held))?)? != code {
+        if row_code(alloc, (facilities, held))? != code {
             return Ok(Some(i));
         }
     }

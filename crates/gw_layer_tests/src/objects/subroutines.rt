@@ -137,6 +137,13 @@ fn first_returns(alloc: Global, rows: usize, blocks: u16) -> Result<Items<Return
     Ok(Items::from_vec(returns))
 }
 
+/// The code with which the subroutine with so many return rows of so many blocks is refused, if it is.
+fn returns_code(alloc: Global, rows: usize, blocks: u16) -> Result<Option<u16>, Memory> {
+    let mut parts = subroutine(alloc)?;
+    parts.returns = first_returns(alloc, rows, blocks)?;
+    Ok(build_code(parts))
+}
+
 /// The place, from 0, of the first of these numbers of return rows and of blocks in each with which the subroutine's code is
 /// another.
 fn wrong_length(
@@ -145,9 +152,7 @@ fn wrong_length(
 ) -> Result<Option<usize>, Memory> {
     for i in 0..cases.len() {
         let (rows, blocks, code) = cases[i];
-        let mut parts = subroutine(alloc)?;
-        parts.returns = first_returns(alloc, rows, blocks)?;
-        if build_code(parts) != code {
+        if returns_code(alloc, rows, blocks)? != code {
             return Ok(Some(i));
         }
     }

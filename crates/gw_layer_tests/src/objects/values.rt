@@ -188,8 +188,7 @@ const TERMINATE_TAG: u8 = 0x02;
 fn wrong_operand(alloc: Global, cases: &[(Operand, &[u8])]) -> Result<Option<usize>, Memory> {
     for i in 0..cases.len() {
         let (operand, bytes) = cases[i];
-        let parts = one_block(alloc, Block::Terminate(operand))?;
-        if !is_spelling(alloc, parts, &bytes_of(alloc, TERMINATE_TAG, bytes)?)? {
+        if !is_spelled(alloc, Block::Terminate(operand), TERMINATE_TAG, bytes)? {
             return Ok(Some(i));
         }
     }
@@ -272,7 +271,7 @@ fn operands_of_entities_and_blocks_are_read_built_and_written(rt: HostRuntime) -
 fn wrong_refusal(alloc: Global, cases: &[(&[u8], u16, u32)]) -> Result<Option<usize>, Memory> {
     for i in 0..cases.len() {
         let (bytes, code, byte) = cases[i];
-        if refusal(alloc, &bytes_of(alloc, TERMINATE_TAG, bytes)?) != at_byte(code, byte) {
+        if refusal_of_block(alloc, TERMINATE_TAG, bytes)? != at_byte(code, byte) {
             return Ok(Some(i));
         }
     }
@@ -298,6 +297,11 @@ fn each_fault_of_an_operand_is_named_by_its_code_and_place(rt: HostRuntime) -> R
     Ok(())
 }
 
+/// The code with which an object of this block alone is refused, if it is.
+fn block_code(alloc: Global, block: Block) -> Result<Option<u16>, Memory> {
+    Ok(build_code(one_block(alloc, block)?))
+}
+
 /// The place, from 0, of the first of these blocks that is built alone, or refused with another code.
 pub(super) fn wrong_block(
     alloc: Global,
@@ -305,7 +309,7 @@ pub(super) fn wrong_block(
     code: u16,
 ) -> Result<Option<usize>, Memory> {
     for i in 0..blocks.len() {
-        if build_code(one_block(alloc, blocks[i])?) != Some(code) {
+        if block_code(alloc, blocks[i])? != Some(code) {
             return Ok(Some(i));
         }
     }
