@@ -147,21 +147,30 @@ const CROWD: &[Block] = &[
     terminate!(1),
 ];
 
-/// The content of the storage after the job of that crowd, how many came in, and the sum of content times time, where all else
-/// is as it must be.
-fn through_the_storage(alloc: Global) -> Result<Option<(u64, u64, u128)>, Fail> {
-    let mut sim = job_of_blocks(alloc, 900, CROWD)?;
-    let views = [(ALL, Ended(End::Done, 0)), (0, Made(6300))];
-    if wrong_view(&mut sim, &views)?.is_some() {
-        return Ok(None);
+/// Whether a job passes so many through its storage, each with one unit of it for one unit of time, in so many entries.
+fn passes(sim: &mut Sim, number: u64, entries: u64) -> Result<bool, Memory> {
+    let views = [(ALL, Ended(End::Done, 0)), (0, Made(entries))];
+    if wrong_view(sim, &views)?.is_some() {
+        return Ok(false);
     }
-    Ok(storage(&sim).map(|seen| (seen.content, seen.entries, seen.time_sum)))
+    Ok(match storage(sim) {
+        Some(seen) => {
+            seen.content == 0 && seen.entries == number && seen.time_sum == u128::from(number)
+        }
+        None => false,
+    })
+}
+
+/// Whether that crowd comes through the storage.
+fn crowd_passes(alloc: Global) -> Result<bool, Fail> {
+    let mut sim = job_of_blocks(alloc, 900, CROWD)?;
+    Ok(passes(&mut sim, 900, 6300)?)
 }
 
 #[test]
 fn crowd_comes_through_a_storage(rt: HostRuntime) -> Result<(), Fail> {
     // At the end 900 came in, and 900 units of time are summed up.
-    assert!(rt; through_the_storage(rt.alloc())? == Some((0, 900, 900)));
+    assert!(rt; crowd_passes(rt.alloc())?);
     Ok(())
 }
 
@@ -226,16 +235,21 @@ fn has_held(sim: &Sim, number: u16, time_sum: u128) -> bool {
     }
 }
 
-/// Whether the job of 300 queues ends as it must, with what it must have in the first queue, in another and in the last.
-fn passes_queues(alloc: Global) -> Result<bool, Fail> {
-    let mut sim = job_of_queues(alloc)?;
+/// Whether a job ends as that of 300 queues must, with what it must have in the first queue, in another and in the last.
+fn has_passed_queues(sim: &mut Sim) -> Result<bool, Memory> {
     let end = Ends(End::Done, (300, 1204, 602, 0));
     Ok(
-        wrong_view(&mut sim, &[(ALL, end)])?.is_none()
-            && has_held(&sim, 0, 300)
-            && has_held(&sim, 100, 200)
-            && has_held(&sim, 299, 1),
+        wrong_view(sim, &[(ALL, end)])?.is_none()
+            && has_held(sim, 0, 300)
+            && has_held(sim, 100, 200)
+            && has_held(sim, 299, 1),
     )
+}
+
+/// Whether the job of 300 queues does so.
+fn passes_queues(alloc: Global) -> Result<bool, Fail> {
+    let mut sim = job_of_queues(alloc)?;
+    Ok(has_passed_queues(&mut sim)?)
 }
 
 #[test]

@@ -6,14 +6,20 @@ use super::views::View::{Active, Ends, Entries, Here, Runs, Saved, Set};
 use super::views::{Job, Views, are_seen, ends, wrong_view};
 use gw_blocks::Block;
 use gw_scan::End;
+use std::alloc::Global;
 use std::test::Fail;
+
+/// The place, from 0, of the first of these views of the job of the three blocks that is another one, with this budget.
+fn wrong_view_within(alloc: Global, budget: u64, views: Views) -> Result<Option<usize>, Fail> {
+    let verified = object(alloc, 2, THREE_BLOCKS)?;
+    let mut sim = job_of(alloc, verified, budget)?;
+    Ok(wrong_view(&mut sim, views)?)
+}
 
 #[test]
 fn budget_of_5_ends_at_clock_13(rt: HostRuntime) -> Result<(), Fail> {
-    let verified = object(rt.alloc(), 2, THREE_BLOCKS)?;
-    let mut sim = job_of(rt.alloc(), verified, 5)?;
-    let views = [(1_000, Ends(End::Budget, (13, 5, 2, 2)))];
-    assert!(rt; wrong_view(&mut sim, &views)?.is_none());
+    const SEEN: Views<'static> = &[(1_000, Ends(End::Budget, (13, 5, 2, 2)))];
+    assert!(rt; wrong_view_within(rt.alloc(), 5, SEEN)?.is_none());
     Ok(())
 }
 

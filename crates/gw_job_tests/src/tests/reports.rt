@@ -175,10 +175,15 @@ fn is_reported(
     Ok(text.as_slice() == expected)
 }
 
+/// Whether a text begins and ends so.
+fn has_ends(text: &[u8], first: &[u8], last: &[u8]) -> bool {
+    text.starts_with(first) && text.ends_with(last)
+}
+
 /// Whether the report of the job of an object at its end begins and ends so.
 fn begins_and_ends(alloc: Global, bytes: &[u8], first: &[u8], last: &[u8]) -> Result<bool, Fail> {
     let text = reported(alloc, bytes, 1_000, 1_000)?;
-    Ok(text.starts_with(first) && text.ends_with(last))
+    Ok(has_ends(&text, first, last))
 }
 
 /// The place, from 0, of the first of these views of the job of an object that is another one.

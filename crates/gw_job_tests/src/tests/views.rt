@@ -283,7 +283,15 @@ pub(super) fn are_seen(rt: &impl Abort, alloc: Global, jobs: &[Job]) -> Result<(
     Ok(())
 }
 
-/// How the job of these blocks has ended and with which numbers, if it has.
+/// How a job has ended, and with which numbers, if it has.
+fn end(sim: &Sim) -> Option<(End, Numbers)> {
+    match sim.status() {
+        Status::Ended(end) => Some((end, numbers(sim))),
+        _ => None,
+    }
+}
+
+/// How the job of these blocks ends, and with which numbers, if it does.
 pub(super) fn end_of(
     alloc: Global,
     count: u64,
@@ -291,10 +299,7 @@ pub(super) fn end_of(
 ) -> Result<Option<(End, Numbers)>, Fail> {
     let mut sim = job_of_blocks(alloc, count, blocks)?;
     run(&mut sim, ALL)?;
-    match sim.status() {
-        Status::Ended(end) => Ok(Some((end, numbers(&sim)))),
-        _ => Ok(None),
-    }
+    Ok(end(&sim))
 }
 
 /// The job of these blocks, with this count, ends so, and with these numbers.
