@@ -1,8 +1,8 @@
 //! TEST and GATE: what they ask, and where they lead.
 
 use super::blocks::*;
-use super::views::View::{Active, Ends, Entries, Here, Runs, Saved, Waiting};
-use super::views::{ALL, Job, are_seen, end_of, ends, saves, wrong_view_of};
+use super::views::View::{Active, Ended, Ends, Entries, Here, Runs, Saved, Waiting};
+use super::views::{ALL, Job, are_seen, ends, saves, wrong_view_of};
 use gw_blocks::{Block, Comparison, Condition, Gate, Operand, Test};
 use gw_scan::End;
 use std::alloc::Global;
@@ -26,25 +26,29 @@ fn tested(comparison: Comparison, values: (i64, i64), otherwise: Option<u16>) ->
     ]
 }
 
-/// Whether a TEST of two values is true. The clock, the scan and GENERATE are 3 steps. Where it is true, TEST and TERMINATE 1
-/// are two more and two entries; where it is false, TEST and TERMINATE 2, or without another block the refusal and the end.
-fn is_true(
+/// Whether a TEST of two values is so, true or not. The clock, the scan and GENERATE are 3 steps. Where it is true, TEST and
+/// TERMINATE 1 are two more and two entries; where it is false, TEST and TERMINATE 2, or without another block the refusal and
+/// the end.
+fn is_compared(
     alloc: Global,
     comparison: Comparison,
     values: (i64, i64),
-) -> Result<Option<bool>, Fail> {
-    let with_another = end_of(alloc, 1, &tested(comparison, values, Some(4)))?;
-    let alone = end_of(alloc, 1, &tested(comparison, values, None))?;
-    let goes_on = Some((End::Done, (0, 5, 3, 0)));
-    let led_away = Some((End::Done, (0, 5, 3, -1)));
-    let waits = Some((End::NoMoreEvents, (0, 5, 1, 1)));
-    Ok(if with_another == goes_on && alone == goes_on {
-        Some(true)
-    } else if with_another == led_away && alone == waits {
-        Some(false)
+    is_true: bool,
+) -> Result<bool, Fail> {
+    let goes_on = Ends(End::Done, (0, 5, 3, 0));
+    let (with_another, alone) = if is_true {
+        (goes_on, goes_on)
     } else {
-        None
-    })
+        (
+            Ends(End::Done, (0, 5, 3, -1)),
+            Ends(End::NoMoreEvents, (0, 5, 1, 1)),
+        )
+    };
+    let two_ways = tested(comparison, values, Some(4));
+    let one_way = tested(comparison, values, None);
+    let led = wrong_view_of(alloc, 1, &two_ways, &[(ALL, with_another)])?;
+    let left = wrong_view_of(alloc, 1, &one_way, &[(ALL, alone)])?;
+    Ok(led.is_none() && left.is_none())
 }
 
 /// The place, from 0, of the first two of these values for which a comparison is otherwise than due.
@@ -55,7 +59,7 @@ fn wrong_pair(
     due: &[bool],
 ) -> Result<Option<usize>, Fail> {
     for i in 0..pairs.len().min(due.len()) {
-        if is_true(alloc, comparison, pairs[i])? != Some(due[i]) {
+        if !is_compared(alloc, comparison, pairs[i], due[i])? {
             return Ok(Some(i));
         }
     }
@@ -143,9 +147,14 @@ fn test_goes_on_or_to_its_other_block(rt: HostRuntime) -> Result<(), Fail> {
     are_seen(&rt, rt.alloc(), JOBS)
 }
 
-/// Whether two values are equal for the only transaction of a job, at its TEST, block 3:
+/// Whether it is so that two values are equal, or that they are not, for the only transaction of a job, at its TEST, block 3:
 /// GENERATE ,,,1 / ASSIGN 1,7 / TEST E A,B,b / TERMINATE 1 / TERMINATE 2. Nothing or one less than nothing is left to count.
-fn equal_at_block_3(alloc: Global, left: Operand, right: i64) -> Result<bool, Fail> {
+fn is_so_at_block_3(
+    alloc: Global,
+    left: Operand,
+    right: i64,
+    are_equal: bool,
+) -> Result<bool, Fail> {
     let blocks = [
         one_at!(0, 0),
         assign!(1, Set, number!(7)),
@@ -153,16 +162,16 @@ fn equal_at_block_3(alloc: Global, left: Operand, right: i64) -> Result<bool, Fa
         terminate!(1),
         terminate!(2),
     ];
-    Ok(match end_of(alloc, 1, &blocks)? {
-        Some((_, (_, _, _, count))) => count == 0,
-        None => false,
-    })
+    let left = if are_equal { 0 } else { -1 };
+    Ok(wrong_view_of(alloc, 1, &blocks, &[(ALL, Ended(End::Done, left))])?.is_none())
 }
 
 /// The first of these operands that isn't this value at that TEST, or is -1.
 fn misread_at_block_3(alloc: Global, values: &[(Operand, i64)]) -> Result<Option<Operand>, Fail> {
     for (operand, value) in values {
-        if !equal_at_block_3(alloc, *operand, *value)? || equal_at_block_3(alloc, *operand, -1)? {
+        let is_right = is_so_at_block_3(alloc, *operand, *value, true)?;
+        let is_minus_1 = !is_so_at_block_3(alloc, *operand, -1, false)?;
+        if !is_right || is_minus_1 {
             return Ok(Some(*operand));
         }
     }

@@ -1,11 +1,10 @@
 //! Crowded jobs: hundreds wait for a facility, for a storage, or for a time.
 
 use super::blocks::*;
-use super::objects::{NOTHING, job_of_blocks, job_of_parts, parts};
-use super::views::View::{Clock, Ended, Ends, Made, Owned, Stored, Waiting};
-use super::views::{ALL, Job, are_seen, queue, storage, wrong_view};
+use super::objects::{NOTHING, job_of_parts, parts};
+use super::views::View::{Clock, Ended, Ends, Made, Owned, Passed, PassedQueue, Stored, Waiting};
+use super::views::{ALL, Job, Views, are_seen, first_wrong_view};
 use gw_blocks::{Block, Units};
-use gw_entities::Contents;
 use gw_object::{Entity, Items, Kind, Memory, TableState};
 use gw_scan::{End, Sim};
 use std::alloc::Global;
@@ -136,42 +135,27 @@ fn hundreds_move_at_equal_times(rt: HostRuntime) -> Result<(), Fail> {
     are_seen(&rt, rt.alloc(), JOBS)
 }
 
-/// Each of 900 holds one unit for one unit of time.
-const CROWD: &[Block] = &[
-    all_at!(0, 900),
-    ADVANCE_AT_RANDOM,
-    ADVANCE_AT_RANDOM,
-    enter!(1),
-    advance!(1),
-    leave!(1),
-    terminate!(1),
-];
-
-/// Whether a job passes so many through its storage, each with one unit of it for one unit of time, in so many entries.
-fn passes(sim: &mut Sim, number: u64, entries: u64) -> Result<bool, Memory> {
-    let views = [(ALL, Ended(End::Done, 0)), (0, Made(entries))];
-    if wrong_view(sim, &views)?.is_some() {
-        return Ok(false);
-    }
-    Ok(match storage(sim) {
-        Some(seen) => {
-            seen.content == 0 && seen.entries == number && seen.time_sum == u128::from(number)
-        }
-        None => false,
-    })
-}
-
-/// Whether that crowd comes through the storage.
-fn crowd_passes(alloc: Global) -> Result<bool, Fail> {
-    let mut sim = job_of_blocks(alloc, 900, CROWD)?;
-    Ok(passes(&mut sim, 900, 6300)?)
-}
-
 #[test]
 fn crowd_comes_through_a_storage(rt: HostRuntime) -> Result<(), Fail> {
-    // At the end 900 came in, and 900 units of time are summed up.
-    assert!(rt; crowd_passes(rt.alloc())?);
-    Ok(())
+    // Each of 900 holds one unit for one unit of time, so at the end 900 came in, and 900 units of time are summed up.
+    const JOBS: &[Job] = &[Job {
+        count: 900,
+        blocks: &[
+            all_at!(0, 900),
+            ADVANCE_AT_RANDOM,
+            ADVANCE_AT_RANDOM,
+            enter!(1),
+            advance!(1),
+            leave!(1),
+            terminate!(1),
+        ],
+        seen: &[
+            (ALL, Ended(End::Done, 0)),
+            (0, Made(6300)),
+            (0, Passed(0, 900, 900)),
+        ],
+    }];
+    are_seen(&rt, rt.alloc(), JOBS)
 }
 
 /// The last digit of a number.
@@ -220,42 +204,17 @@ fn job_of_queues(alloc: Global) -> Result<Sim, Fail> {
     job_of_parts(alloc, parts)
 }
 
-/// Whether a queue has had one unit, which is in it still, and this sum of content times time.
-fn has_held(sim: &Sim, number: u16, time_sum: u128) -> bool {
-    match queue(sim, number) {
-        Some(
-            Contents {
-                content: 1,
-                entries: 1,
-                time_sum: sum,
-                ..
-            },
-        ) => sum == time_sum,
-        _ => false,
-    }
-}
-
-/// Whether a job ends as that of 300 queues must, with what it must have in the first queue, in another and in the last.
-fn has_passed_queues(sim: &mut Sim) -> Result<bool, Memory> {
-    let end = Ends(End::Done, (300, 1204, 602, 0));
-    Ok(
-        wrong_view(sim, &[(ALL, end)])?.is_none()
-            && has_held(sim, 0, 300)
-            && has_held(sim, 100, 200)
-            && has_held(sim, 299, 1),
-    )
-}
-
-/// Whether the job of 300 queues does so.
-fn passes_queues(alloc: Global) -> Result<bool, Fail> {
-    let mut sim = job_of_queues(alloc)?;
-    Ok(has_passed_queues(&mut sim)?)
-}
-
 #[test]
 fn clock_moves_past_hundreds_of_queues(rt: HostRuntime) -> Result<(), Fail> {
     // One unit comes into queue q at clock q, and is there until the end, at clock 300. 3 steps lead through GENERATE, 4 through
     // each queue, and 1 ends the job.
-    assert!(rt; passes_queues(rt.alloc())?);
+    const SEEN: Views<'static> = &[
+        (ALL, Ends(End::Done, (300, 1204, 602, 0))),
+        (0, PassedQueue(0, 1, 1, 300)),
+        (0, PassedQueue(100, 1, 1, 200)),
+        (0, PassedQueue(299, 1, 1, 1)),
+    ];
+    let sim = job_of_queues(rt.alloc())?;
+    assert!(rt; first_wrong_view(sim, SEEN)?.is_none());
     Ok(())
 }

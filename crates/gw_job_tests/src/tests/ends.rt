@@ -3,7 +3,7 @@
 use super::blocks::*;
 use super::objects::{job_of, object};
 use super::views::View::{Active, Ends, Entries, Here, Runs, Saved, Set};
-use super::views::{Job, Views, are_seen, ends, wrong_view};
+use super::views::{Job, Views, are_seen, ends, first_wrong_view};
 use gw_blocks::Block;
 use gw_scan::End;
 use std::alloc::Global;
@@ -12,8 +12,8 @@ use std::test::Fail;
 /// The place, from 0, of the first of these views of the job of the three blocks that is another one, with this budget.
 fn wrong_view_within(alloc: Global, budget: u64, views: Views) -> Result<Option<usize>, Fail> {
     let verified = object(alloc, 2, THREE_BLOCKS)?;
-    let mut sim = job_of(alloc, verified, budget)?;
-    Ok(wrong_view(&mut sim, views)?)
+    let sim = job_of(alloc, verified, budget)?;
+    Ok(first_wrong_view(sim, views)?)
 }
 
 #[test]

@@ -1,7 +1,7 @@
 //! The reports of the first example, and of jobs with facilities, storages, queues, loops and savevalues.
 
 use super::objects::{AMPLE, accepted, job_of};
-use super::views::{Views, run, wrong_view};
+use super::views::{Views, first_wrong_view, run};
 use gw_object::{Memory, read};
 use gw_report::{report, stopped_report};
 use gw_scan::{Sim, Stop};
@@ -145,16 +145,16 @@ pub(super) fn job(alloc: Global, bytes: &[u8], budget: u64) -> Result<Sim, Fail>
     job_of(alloc, accepted(alloc, object)?, budget)
 }
 
-/// The report of a job after so many further steps.
-pub(super) fn report_after(alloc: Global, sim: &mut Sim, steps: u64) -> Result<Vec<u8>, Memory> {
-    run(sim, steps)?;
-    report(alloc, sim)
+/// The report of a job after so many steps.
+pub(super) fn report_after(alloc: Global, mut sim: Sim, steps: u64) -> Result<Vec<u8>, Memory> {
+    run(&mut sim, steps)?;
+    report(alloc, &sim)
 }
 
 /// The report of the job of an object after so many steps, with a budget of so many.
 fn reported(alloc: Global, bytes: &[u8], budget: u64, steps: u64) -> Result<Vec<u8>, Fail> {
-    let mut sim = job(alloc, bytes, budget)?;
-    Ok(report_after(alloc, &mut sim, steps)?)
+    let sim = job(alloc, bytes, budget)?;
+    Ok(report_after(alloc, sim, steps)?)
 }
 
 /// The report of the job of an object before its first step, as one at an error stop.
@@ -192,8 +192,8 @@ pub(super) fn wrong_view_of_object(
     bytes: &[u8],
     views: Views,
 ) -> Result<Option<usize>, Fail> {
-    let mut sim = job(alloc, bytes, AMPLE)?;
-    Ok(wrong_view(&mut sim, views)?)
+    let sim = job(alloc, bytes, AMPLE)?;
+    Ok(first_wrong_view(sim, views)?)
 }
 
 /// The place, from 0, of the first of these objects whose job has another report at its end.

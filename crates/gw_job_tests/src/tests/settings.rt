@@ -143,8 +143,8 @@ fn job_of_settings(alloc: Global) -> Result<Sim, Fail> {
 
 /// The report of that job after so many steps.
 fn reported_settings(alloc: Global, steps: u64) -> Result<Vec<u8>, Fail> {
-    let mut sim = job_of_settings(alloc)?;
-    Ok(report_after(alloc, &mut sim, steps)?)
+    let sim = job_of_settings(alloc)?;
+    Ok(report_after(alloc, sim, steps)?)
 }
 
 #[test]

@@ -3,7 +3,7 @@
 use super::blocks::*;
 use super::objects::{bare_parts, job_of_parts};
 use super::views::View::{Ends, Saved};
-use super::views::{ALL, Views, wrong_view};
+use super::views::{ALL, Views, first_wrong_view};
 use gw_blocks::{Block, Call};
 use gw_object::{Items, Memory, Parts, ReturnRow, TableKind, TableParameter, TableState};
 use gw_scan::{End, Sim};
@@ -120,8 +120,8 @@ fn job_of_model(alloc: Global, model: Model) -> Result<Sim, Fail> {
 
 /// Whether the job of the model is seen as it has to be.
 fn is_seen(alloc: Global, model: Model) -> Result<bool, Fail> {
-    let mut sim = job_of_model(alloc, model)?;
-    Ok(wrong_view(&mut sim, model.seen)?.is_none())
+    let sim = job_of_model(alloc, model)?;
+    Ok(first_wrong_view(sim, model.seen)?.is_none())
 }
 
 /// The place, from 0, of the first of these models whose job is seen otherwise.

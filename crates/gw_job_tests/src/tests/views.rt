@@ -46,6 +46,10 @@ pub(super) enum View {
     Owned(Option<u64>, u64, u128, Decimal),
     /// The content of the storage S, the most, the entries and the sum of content times time, and the average content.
     Stored(u64, u64, u64, u128, Decimal),
+    /// The content of the storage S, the entries and the sum of content times time.
+    Passed(u64, u64, u128),
+    /// The same of the queue of this number.
+    PassedQueue(u16, u64, u64, u128),
     /// The content of the queue L, the most, the entries and the sum of content times time, and the average content.
     Queued(u64, u64, u64, u128, Decimal),
     /// How many wait for the facility F and for the storage S.
@@ -101,7 +105,7 @@ fn queued(sim: &Sim, contents: Contents, average: Average) -> bool {
 }
 
 /// What is in the storage S, if there is one.
-pub(super) fn storage(sim: &Sim) -> Option<Contents> {
+fn storage(sim: &Sim) -> Option<Contents> {
     if has_entity(sim, S) {
         Some(sim.storages().get(S).contents)
     } else {
@@ -110,11 +114,21 @@ pub(super) fn storage(sim: &Sim) -> Option<Contents> {
 }
 
 /// What is in a queue, if there is one of this number.
-pub(super) fn queue(sim: &Sim, entity: u16) -> Option<Contents> {
+fn queue(sim: &Sim, entity: u16) -> Option<Contents> {
     if has_entity(sim, entity) {
         Some(sim.queues().get(entity))
     } else {
         None
+    }
+}
+
+/// Whether there are contents, with this content, so many entries and this sum of content times time.
+fn is_passed(contents: Option<Contents>, content: u64, entries: u64, time_sum: u128) -> bool {
+    match contents {
+        Some(seen) => {
+            seen.content == content && seen.entries == entries && seen.time_sum == time_sum
+        }
+        None => false,
     }
 }
 
@@ -146,7 +160,7 @@ fn is_set(sim: &Sim) -> Option<bool> {
 }
 
 /// The value of a savevalue, if there is one.
-pub(super) fn value(sim: &Sim, entity: u16) -> Option<i64> {
+fn value(sim: &Sim, entity: u16) -> Option<i64> {
     if has_entity(sim, entity) {
         Some(sim.savevalues().get(entity))
     } else {
@@ -155,7 +169,7 @@ pub(super) fn value(sim: &Sim, entity: u16) -> Option<i64> {
 }
 
 /// The clock, the steps, the entries and the count.
-pub(super) fn numbers(sim: &Sim) -> Numbers {
+fn numbers(sim: &Sim) -> Numbers {
     (sim.clock(), sim.steps(), sim.entries(), sim.count())
 }
 
@@ -219,6 +233,10 @@ fn is_seen(sim: &Sim, view: View) -> bool {
         View::Stored(content, most, entries, sum, due) => {
             stored(sim, contents(content, most, entries, sum), average(due))
         }
+        View::Passed(content, entries, sum) => is_passed(storage(sim), content, entries, sum),
+        View::PassedQueue(number, content, entries, sum) => {
+            is_passed(queue(sim, number), content, entries, sum)
+        }
         View::Queued(content, most, entries, sum, due) => {
             queued(sim, contents(content, most, entries, sum), average(due))
         }
@@ -244,7 +262,7 @@ pub(super) fn run(sim: &mut Sim, most: u64) -> Result<(), Memory> {
 }
 
 /// The place, from 0, of the first of these views that is another one.
-pub(super) fn wrong_view(sim: &mut Sim, views: Views) -> Result<Option<usize>, Memory> {
+fn wrong_view(sim: &mut Sim, views: Views) -> Result<Option<usize>, Memory> {
     for i in 0..views.len() {
         let (steps, view) = views[i];
         run(sim, steps)?;
@@ -255,6 +273,12 @@ pub(super) fn wrong_view(sim: &mut Sim, views: Views) -> Result<Option<usize>, M
     Ok(None)
 }
 
+/// The place, from 0, of the first of these views of a job that is another one. No other function here owns a job that makes
+/// steps, but the one that reports it: what such a one costs to prove is paid once.
+pub(super) fn first_wrong_view(mut sim: Sim, views: Views) -> Result<Option<usize>, Memory> {
+    wrong_view(&mut sim, views)
+}
+
 /// The place, from 0, of the first of these views of the job of these blocks that is another one.
 pub(super) fn wrong_view_of(
     alloc: Global,
@@ -262,8 +286,8 @@ pub(super) fn wrong_view_of(
     blocks: &[Block],
     views: Views,
 ) -> Result<Option<usize>, Fail> {
-    let mut sim = job_of_blocks(alloc, count, blocks)?;
-    Ok(wrong_view(&mut sim, views)?)
+    let sim = job_of_blocks(alloc, count, blocks)?;
+    Ok(first_wrong_view(sim, views)?)
 }
 
 /// The place, from 0, of the first of these jobs that is seen otherwise, and of the first view of it that is another one.
@@ -281,25 +305,6 @@ fn wrong_job(alloc: Global, jobs: &[Job]) -> Result<Option<(usize, usize)>, Fail
 pub(super) fn are_seen(rt: &impl Abort, alloc: Global, jobs: &[Job]) -> Result<(), Fail> {
     assert_eq!(rt; wrong_job(alloc, jobs)?, None);
     Ok(())
-}
-
-/// How a job has ended, and with which numbers, if it has.
-fn end(sim: &Sim) -> Option<(End, Numbers)> {
-    match sim.status() {
-        Status::Ended(end) => Some((end, numbers(sim))),
-        _ => None,
-    }
-}
-
-/// How the job of these blocks ends, and with which numbers, if it does.
-pub(super) fn end_of(
-    alloc: Global,
-    count: u64,
-    blocks: &[Block],
-) -> Result<Option<(End, Numbers)>, Fail> {
-    let mut sim = job_of_blocks(alloc, count, blocks)?;
-    run(&mut sim, ALL)?;
-    Ok(end(&sim))
 }
 
 /// The job of these blocks, with this count, ends so, and with these numbers.
