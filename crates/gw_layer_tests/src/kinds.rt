@@ -8,19 +8,14 @@ mod procedures;
 mod subroutines;
 
 use crate::models::*;
-use gw_blocks::{Block, Generate};
+use gw_blocks::Block;
 use gw_kinds::{Way, check, check_kinds, codes, exits, leads_to, takes_time};
 use gw_object::{Fault, Memory, Place, TableState};
 use std::alloc::Global;
 use std::test::Fail;
 
 /// A GENERATE whose first time is below 0.
-const EARLY: Block = Block::Generate(Generate {
-    interval: TEN,
-    first: Some(-1),
-    limit: None,
-    priority: 0,
-});
+const EARLY: Block = generate!(10, Some(-1), None, 0);
 
 /// The rows of so many blocks, of which the first has this one and the others none.
 fn rows(
@@ -307,8 +302,8 @@ fn time_passes_where_at_least_1_is_drawn(rt: HostRuntime) {
         leave_by(advance!(1, 0), &[(FALLS, true)]),
         leave_by(advance!(5, -1), &[(FALLS, false)]),
         leave_by(GENERATE, &[(FALLS, false)]),
-        takes_time(constant_time(3, 2)),
-        !takes_time(constant_time(2, 2)),
+        takes_time(constant_time!(3, 2)),
+        !takes_time(constant_time!(2, 2)),
     ];
     assert!(rt; first_wrong(&are_right).is_none());
 }

@@ -1,12 +1,16 @@
 //! What the tests of several layers are made of: blocks, entities, rows of the state table, objects and faults.
 
-ghost use Rattle.std.specs.Prelude.{◌≡◌, ◌+◌, length, IfOk};
+ghost use Rattle.std.specs.Prelude.{◌≡◌, length, IfOk};
 
-use gw_blocks::{Block, Generate, Operand, Spread, Units};
-use gw_code::{Instruction, Procedure};
+use gw_blocks::{Block, Spread, Units};
 use gw_object::{
     Entity, Fault, Items, Kind, Memory, Object, Parts, Place, ReturnRow, TableKind, TableParameter,
     TableState,
+};
+pub(crate) use gw_samples::{
+    add_entity, advance, advance_by, assign, back, by_fraction, call, compare, constant_time,
+    empty_parts, entity, first_wrong, gate, generate, generate_by, link, logic, loop_to, no_states,
+    number, of, procedure, push, save, split, terminate, units, unlink, value, value_of,
 };
 use std::alloc::Global;
 use std::test::Fail;
@@ -19,142 +23,22 @@ pub(crate) const S: u16 = 1;
 pub(crate) const Q: u16 = 2;
 
 /// A GENERATE of no transactions.
-pub(crate) const LIMITED_TO_0: Block = Block::Generate(Generate {
-    interval: TEN,
-    first: None,
-    limit: Some(0),
-    priority: 0,
-});
+pub(crate) const LIMITED_TO_0: Block = generate!(10, None, Some(0), 0);
 
 /// A constant time of 10.
-pub(crate) const TEN: Spread = Spread {
-    mean: Operand::Constant(10),
-    half: Operand::Constant(0),
-};
+pub(crate) const TEN: Spread = constant_time!(10, 0);
 
-pub(crate) const TERMINATE: Block = Block::Terminate(Operand::Constant(1));
+pub(crate) const TERMINATE: Block = terminate!(1);
 
-pub(crate) const ADVANCE: Block = Block::Advance(TEN);
+pub(crate) const ADVANCE: Block = advance!(10);
 
-pub(crate) const GENERATE: Block = Block::Generate(Generate {
-    interval: TEN,
-    first: None,
-    limit: None,
-    priority: 0,
-});
+pub(crate) const GENERATE: Block = generate!(10, None, None, 0);
 
 /// A GENERATE of one transaction, at clock 0.
-pub(crate) const LIMITED_TO_1: Block = Block::Generate(Generate {
-    interval: Spread {
-        mean: Operand::Constant(0),
-        half: Operand::Constant(0),
-    },
-    first: None,
-    limit: Some(1),
-    priority: 0,
-});
+pub(crate) const LIMITED_TO_1: Block = generate!(0, None, Some(1), 0);
 
 /// A GENERATE of any number of transactions, all at clock 0.
-pub(crate) const UNBOUNDED: Block = Block::Generate(Generate {
-    interval: Spread {
-        mean: Operand::Constant(0),
-        half: Operand::Constant(0),
-    },
-    first: None,
-    limit: None,
-    priority: 0,
-});
-
-/// A time of this mean and half range.
-pub(crate) fn constant_time(mean: i64, half: i64) -> Spread {
-    Spread {
-        mean: Operand::Constant(mean),
-        half: Operand::Constant(half),
-    }
-}
-
-/// Units of an entity, also in a constant.
-macro_rules! units {
-    ($entity:expr, $number:expr) => {
-        gw_blocks::Units {
-            entity: $entity,
-            number: $number,
-        }
-    };
-}
-
-pub(crate) use units;
-
-/// A TRANSFER of so many thousandths of the transactions to a block, and of the others to another or to the next, also in
-/// a constant.
-macro_rules! by_fraction {
-    ($thousandths:expr, $otherwise:expr, $target:expr) => {
-        gw_blocks::Block::TransferByFraction(gw_blocks::Fraction {
-            thousandths: $thousandths,
-            otherwise: $otherwise,
-            target: $target,
-        })
-    };
-}
-
-pub(crate) use by_fraction;
-
-/// A TEST of two values, and where those go for whom it is false, also in a constant.
-macro_rules! compare {
-    ($comparison:ident, $left:expr, $right:expr, $otherwise:expr) => {
-        gw_blocks::Block::Test(gw_blocks::Test {
-            comparison: gw_blocks::Comparison::$comparison,
-            left: $left,
-            right: $right,
-            otherwise: $otherwise,
-        })
-    };
-}
-
-pub(crate) use compare;
-
-/// A GATE of an entity, and where those go for whom it isn't so, also in a constant.
-macro_rules! gate {
-    ($condition:ident, $entity:expr, $otherwise:expr) => {
-        gw_blocks::Block::Gate(gw_blocks::Gate {
-            condition: gw_blocks::Condition::$condition,
-            entity: $entity,
-            otherwise: $otherwise,
-        })
-    };
-}
-
-pub(crate) use gate;
-
-/// A call of the subroutine at a block, with the return in a parameter, also in a constant.
-macro_rules! call {
-    ($target:expr, $parameter:expr) => {
-        gw_blocks::Block::TransferToSubroutine(gw_blocks::Call {
-            target: $target,
-            parameter: $parameter,
-        })
-    };
-}
-
-pub(crate) use call;
-
-pub(crate) fn entity(alloc: Global, kind: Kind, name: &[u8]) -> Result<Entity, Memory> {
-    let name = Items::from_vec(Vec::from_slice(alloc, name)?);
-    Ok(Entity { name, kind })
-}
-
-/// Adds an entity behind the others.
-pub(crate) fn add_entity(
-    alloc: Global,
-    entities: &mut Vec<Entity>,
-    kind: Kind,
-    name: &[u8],
-) -> Result<(), Memory>
-    ensures { IfOk result (λ _. length entities.new.items ≡ length entities.old.items + 1) }
-{
-    entities.push(entity(alloc, kind, name)?)?;
-    Ok(())
-}
+pub(crate) const UNBOUNDED: Block = generate!(0, None, None, 0);
 
 /// The entities F, S, of this capacity, and Q.
 pub(crate) fn three_entities(alloc: Global, capacity: u32) -> Result<Vec<Entity>, Memory>
@@ -189,15 +73,6 @@ pub(crate) fn state(alloc: Global, row: Row) -> Result<TableState, Memory> {
         facilities: Items::from_vec(Vec::from_slice(alloc, facilities)?),
         units: Items::from_vec(Vec::from_slice(alloc, units)?),
     })
-}
-
-/// No row for any of so many blocks.
-pub(crate) fn no_states(alloc: Global, count: usize) -> Result<Vec<Option<TableState>>, Memory> {
-    let mut states = Vec::new(alloc);
-    for _ in 0..count {
-        states.push(None)?;
-    }
-    Ok(states)
 }
 
 /// The parameters that a row knows, each by its number and what it holds.
@@ -250,71 +125,6 @@ pub(crate) fn return_rows(alloc: Global, returns: Returns) -> Result<Items<Retur
     Ok(Items::from_vec(rows))
 }
 
-/// A procedure with these numbers of arguments and of locals, needs and code.
-pub(crate) fn procedure(
-    alloc: Global,
-    counts: (u8, u8),
-    needs: &[u8],
-    code: &[Instruction],
-) -> Result<Procedure, Memory> {
-    let (arguments, locals) = counts;
-    Ok(Procedure {
-        arguments,
-        locals,
-        needs: Items::from_vec(Vec::from_slice(alloc, needs)?),
-        code: Items::from_vec(Vec::from_slice(alloc, code)?),
-    })
-}
-
-/// An ADVANCE of this mean and half the range, also in a constant.
-macro_rules! advance {
-    ($mean:expr, $half:expr) => {
-        gw_blocks::Block::Advance(gw_blocks::Spread {
-            mean: gw_blocks::Operand::Constant($mean),
-            half: gw_blocks::Operand::Constant($half),
-        })
-    };
-}
-
-pub(crate) use advance;
-
-/// A SPLIT of so many copies that go to a block, or to the next one, also in a constant.
-macro_rules! split {
-    ($copies:expr, $target:expr) => {
-        gw_blocks::Block::Split(gw_blocks::Split {
-            copies: $copies,
-            target: $target,
-        })
-    };
-}
-
-pub(crate) use split;
-
-/// A LINK to a user chain, at its end or at its front, also in a constant.
-macro_rules! link {
-    ($chain:expr, $order:ident) => {
-        gw_blocks::Block::Link(gw_blocks::Link {
-            chain: $chain,
-            order: gw_blocks::LinkOrder::$order,
-        })
-    };
-}
-
-pub(crate) use link;
-
-/// An UNLINK of so many members of a user chain, or of all, to a block, also in a constant.
-macro_rules! unlink {
-    ($chain:expr, $target:expr, $most:expr) => {
-        gw_blocks::Block::Unlink(gw_blocks::Unlink {
-            chain: $chain,
-            target: $target,
-            most: $most,
-        })
-    };
-}
-
-pub(crate) use unlink;
-
 /// Parts of these blocks and rows, each of weight 1, with no seeds, termination count 1, no procedures, no return rows, and
 /// nothing for user chains, which entities of other kinds don't ask for.
 pub(crate) fn parts(
@@ -326,18 +136,12 @@ pub(crate) fn parts(
     ensures { IfOk result (λ p. p.entities ≡ entities.items) }
 {
     let weights = vec![in alloc; 1; blocks.len()]?;
-    Ok(Parts {
-        seeds: Items::from_vec(Vec::new(alloc)),
-        count: 1,
-        entities: Items::from_vec(entities),
-        procedures: Items::from_vec(Vec::new(alloc)),
-        blocks: Items::from_vec(blocks),
-        returns: Items::from_vec(Vec::new(alloc)),
-        states: Items::from_vec(states),
-        chain_states: Items::from_vec(Vec::new(alloc)),
-        weights: Items::from_vec(weights),
-        chain_weights: Items::from_vec(Vec::new(alloc)),
-    })
+    let mut parts = empty_parts(alloc, 1);
+    parts.entities = Items::from_vec(entities);
+    parts.blocks = Items::from_vec(blocks);
+    parts.states = Items::from_vec(states);
+    parts.weights = Items::from_vec(weights);
+    Ok(parts)
 }
 
 /// Gives parts one user chain of this weight, with this row, if it has one.
@@ -439,14 +243,4 @@ pub(crate) fn at_edge(code: u16, from: u16, to: u16) -> Option<Fault> {
 pub(crate) fn at_byte(code: u16, byte: u32) -> Option<Fault> {
     let place = Place::Byte(byte);
     Some(Fault { code, place })
-}
-
-/// The place, from 0, of the first that does not hold.
-pub(crate) fn first_wrong(holds: &[bool]) -> Option<usize> {
-    for i in 0..holds.len() {
-        if !holds[i] {
-            return Some(i);
-        }
-    }
-    None
 }

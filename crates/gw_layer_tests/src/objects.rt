@@ -1,7 +1,7 @@
 //! Objects: reading, building and writing them.
 
 use crate::models::*;
-use gw_blocks::{Block, Generate, Operand};
+use gw_blocks::{Block, Operand};
 use gw_object::codes::*;
 use gw_object::{
     Fault, Items, Memory, Object, Parts, Place, ReturnRow, TableState, codes, read, write,
@@ -164,10 +164,7 @@ fn empty_states(alloc: Global, count: usize) -> Result<Vec<Option<TableState>>, 
 
 /// The parts of the three blocks.
 fn three_blocks(alloc: Global) -> Result<Parts, Memory> {
-    let blocks = Vec::from_slice(
-        alloc,
-        &[GENERATE, Block::Advance(constant_time(3, 0)), TERMINATE],
-    )?;
+    let blocks = Vec::from_slice(alloc, &[GENERATE, advance!(3), TERMINATE])?;
     let mut parts = parts(alloc, Vec::new(alloc), blocks, empty_states(alloc, 3)?)?;
     parts.count = 2;
     parts.weights = Items::from_vec(Vec::from_slice(alloc, &[2, 1, 1])?);
@@ -289,12 +286,8 @@ fn too_many_bytes_are_refused_before_all_else(rt: HostRuntime) -> Result<(), Fai
 
 /// A GENERATE with all operands, and a TERMINATE.
 fn generate_and_terminate(alloc: Global) -> Result<Vec<Block>, Memory> {
-    let generate = Block::Generate(Generate {
-        interval: constant_time(i64::MIN, 7),
-        first: Some(-1),
-        limit: Some(u32::MAX),
-        priority: -7,
-    });
+    let half = number!(7);
+    let generate = generate_by!(number!(i64::MIN), half, Some(-1), Some(u32::MAX), -7);
     Ok(Vec::from_slice(alloc, &[generate, TERMINATE])?)
 }
 

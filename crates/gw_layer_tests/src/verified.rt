@@ -1,9 +1,8 @@
 //! The verifier: objects of a few blocks, accepted and refused.
 
 use crate::models::*;
-use gw_blocks::{Block, Operand, Spread};
-use gw_code::Instruction;
-use gw_object::{Fault, Items, Memory, Object, Parts, Place, TableKind, TableState, read};
+use gw_blocks::{Block, Operand};
+use gw_object::{Fault, Items, Memory, Parts, Place, TableKind, TableState, read};
 use gw_verify::{Verified, verify};
 use std::alloc::Global;
 use std::test::Fail;
@@ -141,10 +140,7 @@ macro_rules! called_twice {
             call!(5, 1),
             call!(5, 1),
             TERMINATE,
-            Block::Advance(Spread {
-                mean: $time,
-                half: Operand::Constant(0),
-            }),
+            advance_by!($time, number!(0)),
             Block::TransferByParameter(1),
         ]
     };
@@ -210,7 +206,7 @@ fn who_was_never_called_may_not_return(rt: HostRuntime) -> Result<(), Fail> {
 /// The parts of these blocks, whose rows own the facility F where `owned` says so, and of one procedure, whose code ends
 /// without a RET.
 fn parts_with_code(alloc: Global, blocks: &[Block], owned: &[bool]) -> Result<Parts, Memory> {
-    let endless = procedure(alloc, (0, 0), &[], &[Instruction::Push(1)])?;
+    let endless = procedure(alloc, (0, 0), &[], &[push!(1)])?;
     let mut parts = owning(alloc, blocks, owned)?;
     parts.procedures = Items::from_vec(vec![in alloc; endless]?);
     Ok(parts)

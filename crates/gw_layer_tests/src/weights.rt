@@ -1,7 +1,7 @@
 //! The weight certificate: objects of a few blocks with weights worked out by hand, and with weights that are too little somewhere.
 
 use crate::models::*;
-use gw_blocks::{Block, Generate, Loop, Operand, Spread};
+use gw_blocks::{Block, Operand};
 use gw_kinds::check_kinds;
 use gw_object::{Fault, Memory, Object, Parts, Place, TableKind, TableState};
 use gw_verify::verify;
@@ -44,28 +44,6 @@ macro_rules! edge_fault {
             code: $code,
             place: Place::Edge($from, $to),
         })
-    };
-}
-
-/// A GENERATE whose first arrival comes at clock 5, and that goes on without end.
-macro_rules! generate {
-    ($mean:expr, $half:expr) => {
-        Block::Generate(Generate {
-            interval: Spread {
-                mean: $mean,
-                half: $half,
-            },
-            first: Some(5),
-            limit: None,
-            priority: 0,
-        })
-    };
-}
-
-/// An operand that is a number.
-macro_rules! number {
-    ($value:expr) => {
-        Operand::Constant($value)
     };
 }
 
@@ -183,11 +161,15 @@ fn wrong_object(alloc: Global, cases: &[Case], returns: Returns) -> Result<Optio
 
 // ARRIVALS
 
-/// A GENERATE of this interval, without a limit, / TERMINATE 1, with weights that suffice.
+/// A GENERATE of this interval, whose first arrival comes at clock 5, without a limit, / TERMINATE 1, with weights that suffice.
 macro_rules! arriving {
     ($mean:expr, $half:expr) => {
         &[
-            (generate!($mean, $half), 2, NOTHING),
+            (
+                generate_by!($mean, $half, Some(5), None, 0),
+                2,
+                NOTHING,
+            ),
             (TERMINATE, 1, NOTHING),
         ]
     };
@@ -195,19 +177,7 @@ macro_rules! arriving {
 
 /// GENERATE ,,,5 / TERMINATE 1.
 const FIVE: Table = &[
-    (
-        Block::Generate(Generate {
-            interval: Spread {
-                mean: number!(0),
-                half: number!(0),
-            },
-            first: None,
-            limit: Some(5),
-            priority: 0,
-        }),
-        2,
-        NOTHING,
-    ),
+    (generate!(0, None, Some(5), 0), 2, NOTHING),
     (TERMINATE, 1, NOTHING),
 ];
 
@@ -307,10 +277,7 @@ macro_rules! two_ways {
 const BY_HALVES: Block = by_fraction!(500, None, 4);
 
 /// LOOP 1,4.
-const LOOP_TO_4: Block = Block::Loop(Loop {
-    parameter: 1,
-    target: 4,
-});
+const LOOP_TO_4: Block = loop_to!(1, 4);
 
 #[test]
 fn a_block_pays_for_each_of_its_exits(rt: HostRuntime) -> Result<(), Fail> {

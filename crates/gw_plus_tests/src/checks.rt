@@ -1,7 +1,7 @@
 //! The checks of PLUS code: objects of a few procedures, accepted and refused.
 
 use crate::models::*;
-use gw_code::{Back, Instruction, Procedure, Sna};
+use gw_code::{Instruction, Procedure, Sna};
 use gw_code_flow::codes::*;
 use gw_flow::check_plus;
 use gw_num::Binary;
@@ -9,7 +9,7 @@ use gw_object::{Fault, Memory, Place};
 use std::alloc::Global;
 use std::test::Fail;
 
-const PUSH: Instruction = Instruction::Push(1);
+const PUSH: Instruction = push!(1);
 
 const ADD: Instruction = Instruction::Binary(Binary::Add);
 
@@ -19,16 +19,6 @@ const RET: Instruction = Instruction::Return;
 
 /// VALUE of the parameter 1.
 const P1: Instruction = Instruction::Value(Sna::Parameter(1));
-
-/// A jump back to an instruction, at most so often, in a constant.
-macro_rules! back {
-    ($target:expr, $count:expr) => {
-        Instruction::Back(Back {
-            target: $target,
-            count: $count,
-        })
-    };
-}
 
 /// A procedure by its number of arguments, its needs and its code.
 type Code<'a> = (u8, &'a [u8], &'a [Instruction]);
@@ -353,7 +343,7 @@ const LOOP: &[Instruction] = &[
     PUSH,
     Instruction::JumpIfZero(3),
     back!(0, 1_000_000),
-    Instruction::Push(0),
+    push!(0),
     RET,
 ];
 
@@ -368,7 +358,7 @@ fn calls_of(
         code.push(instruction)?;
         code.push(POP)?;
     }
-    code.push(Instruction::Push(0))?;
+    code.push(push!(0))?;
     code.push(RET)?;
     Ok(code)
 }

@@ -3,9 +3,8 @@
 ghost use Rattle.std.specs.Prelude.{◌≡◌, ◌<◌, ◌+◌, length, IfOk, slice_get, Some, [], ◌∷◌};
 
 use crate::models::*;
-use gw_blocks::Attribute;
 use gw_chains::{Tx, UserChains};
-use gw_code::{Back, Instruction, Procedure, Sna};
+use gw_code::{Instruction, Procedure, Sna};
 use gw_entities::{Facilities, Queues, Savevalues, Storages, Switches, Tables};
 use gw_num::{Binary, Unary};
 use gw_object::{Memory, Object};
@@ -18,30 +17,6 @@ const RET: Instruction = Instruction::Return;
 
 /// What an evaluation comes to.
 type Outcome = Result<i64, PlusEnd>;
-
-/// PUSH of a number, in a constant.
-macro_rules! push {
-    ($number:expr) => {
-        Instruction::Push($number)
-    };
-}
-
-/// VALUE of this attribute of the clock, the count or the transaction, in a constant.
-macro_rules! value {
-    ($attribute:ident) => {
-        Instruction::Value(Sna::Attribute(Attribute::$attribute))
-    };
-}
-
-/// A jump back to an instruction, at most so often, in a constant.
-macro_rules! back {
-    ($target:expr, $count:expr) => {
-        Instruction::Back(Back {
-            target: $target,
-            count: $count,
-        })
-    };
-}
 
 /// The difference of two arguments.
 const DIFFERENCE: &[Instruction] = &[

@@ -319,14 +319,14 @@ fn wrong_gate(alloc: Global, rows: &[(Block, Condition, bool)]) -> Result<Option
 fn gate_asks_for_a_switch_or_a_facility(rt: HostRuntime) -> Result<(), Fail> {
     use Condition::{FacilityInUse, FacilityNotInUse, SwitchReset, SwitchSet};
     const ROWS: &[(Block, Condition, bool)] = &[
-        (logic!(Set), SwitchSet, true),
-        (logic!(Reset), SwitchSet, false),
-        (logic!(Set), SwitchReset, false),
-        (logic!(Reset), SwitchReset, true),
+        (logic!(Set, G), SwitchSet, true),
+        (logic!(Reset, G), SwitchSet, false),
+        (logic!(Set, G), SwitchReset, false),
+        (logic!(Reset, G), SwitchReset, true),
         (SEIZE, FacilityInUse, true),
-        (logic!(Reset), FacilityInUse, false),
+        (logic!(Reset, G), FacilityInUse, false),
         (SEIZE, FacilityNotInUse, false),
-        (logic!(Reset), FacilityNotInUse, true),
+        (logic!(Reset, G), FacilityNotInUse, true),
     ];
     assert!(rt; wrong_gate(rt.alloc(), ROWS)?.is_none());
     Ok(())
@@ -337,19 +337,19 @@ fn gate_asks_for_a_storage(rt: HostRuntime) -> Result<(), Fail> {
     use Condition::{StorageEmpty, StorageFull, StorageNotEmpty, StorageNotFull};
     // Of its three units none is taken, or one, or two, or all.
     const ROWS: &[(Block, Condition, bool)] = &[
-        (logic!(Reset), StorageFull, false),
+        (logic!(Reset, G), StorageFull, false),
         (enter!(1), StorageFull, false),
         (enter!(2), StorageFull, false),
         (enter!(3), StorageFull, true),
-        (logic!(Reset), StorageEmpty, true),
+        (logic!(Reset, G), StorageEmpty, true),
         (enter!(1), StorageEmpty, false),
         (enter!(2), StorageEmpty, false),
         (enter!(3), StorageEmpty, false),
-        (logic!(Reset), StorageNotFull, true),
+        (logic!(Reset, G), StorageNotFull, true),
         (enter!(1), StorageNotFull, true),
         (enter!(2), StorageNotFull, true),
         (enter!(3), StorageNotFull, false),
-        (logic!(Reset), StorageNotEmpty, false),
+        (logic!(Reset, G), StorageNotEmpty, false),
         (enter!(1), StorageNotEmpty, true),
         (enter!(2), StorageNotEmpty, true),
         (enter!(3), StorageNotEmpty, true),
@@ -386,14 +386,14 @@ macro_rules! opened_later {
 #[test]
 fn gate_waits_until_it_is_so(rt: HostRuntime) -> Result<(), Fail> {
     const JOBS: &[Job] = &[
-        opened_later!(SwitchSet, G, logic!(Reset), logic!(Set)),
-        opened_later!(SwitchReset, G, logic!(Set), logic!(Reset)),
-        opened_later!(FacilityInUse, F, logic!(Reset), SEIZE),
+        opened_later!(SwitchSet, G, logic!(Reset, G), logic!(Set, G)),
+        opened_later!(SwitchReset, G, logic!(Set, G), logic!(Reset, G)),
+        opened_later!(FacilityInUse, F, logic!(Reset, G), SEIZE),
         opened_later!(FacilityNotInUse, F, SEIZE, RELEASE),
         opened_later!(StorageFull, S, enter!(2), enter!(1)),
         opened_later!(StorageEmpty, S, enter!(1), leave!(1)),
         opened_later!(StorageNotFull, S, enter!(3), leave!(1)),
-        opened_later!(StorageNotEmpty, S, logic!(Reset), enter!(1)),
+        opened_later!(StorageNotEmpty, S, logic!(Reset, G), enter!(1)),
     ];
     are_seen(&rt, rt.alloc(), JOBS)
 }

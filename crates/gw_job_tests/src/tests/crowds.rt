@@ -4,8 +4,9 @@ use super::blocks::*;
 use super::objects::{NOTHING, job_of_parts, parts};
 use super::views::View::{Clock, Ended, Ends, Made, Owned, Passed, PassedQueue, Stored, Waiting};
 use super::views::{ALL, Job, Views, are_seen, first_wrong_view};
-use gw_blocks::{Block, Units};
+use gw_blocks::Block;
 use gw_object::{Entity, Items, Kind, Memory, TableState};
+use gw_samples::add_entity;
 use gw_scan::{End, Sim};
 use std::alloc::Global;
 use std::test::Fail;
@@ -168,10 +169,7 @@ fn numbered_queues(alloc: Global, count: u16) -> Result<Items<Entity>, Memory> {
     let mut queues = Vec::new(alloc);
     for i in 0..count {
         let digits = [last_digit(i / 100), last_digit(i / 10), last_digit(i)];
-        queues.push(Entity {
-            name: Items::from_vec(Vec::from_slice(alloc, &digits)?),
-            kind: Kind::Queue,
-        })?;
+        add_entity(alloc, &mut queues, Kind::Queue, &digits)?;
     }
     Ok(Items::from_vec(queues))
 }
@@ -189,7 +187,7 @@ fn rows_of_nothing(alloc: Global, count: usize) -> Result<Items<Option<TableStat
 fn through_queues(alloc: Global, count: u16) -> Result<Vec<Block>, Memory> {
     let mut blocks = vec![in alloc; one_at!(0, 0)]?;
     for entity in 0..count {
-        blocks.push(Block::Queue(Units { entity, number: 1 }))?;
+        blocks.push(Block::Queue(units!(entity, 1)))?;
         blocks.push(advance!(1))?;
     }
     blocks.push(terminate!(1))?;

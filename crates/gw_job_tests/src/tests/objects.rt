@@ -6,6 +6,7 @@ use gw_blocks::{Block, Units};
 use gw_object::{
     Entity, Items, Kind, Memory, Object, Parts, TableKind, TableParameter, TableState,
 };
+use gw_samples::{add_entity, empty_parts};
 use gw_scan::{Sim, Spec};
 use gw_verify::{Verified, verify};
 use std::alloc::Global;
@@ -138,45 +139,25 @@ fn straight_table(alloc: Global, blocks: &[Block]) -> Result<Items<Option<TableS
 
 // OBJECTS
 
-/// Adds an entity with a name of one letter.
-pub(super) fn add_entity(
-    alloc: Global,
-    entities: &mut Vec<Entity>,
-    name: u8,
-    kind: Kind,
-) -> Result<(), Memory> {
-    let name = Items::from_vec(vec![in alloc; name]?);
-    entities.push(Entity { name, kind })?;
-    Ok(())
-}
-
 /// The entities of each object: the facility F, the storage S of 3 units, the queue L, the logic switch G, and the savevalues
 /// X and Y.
 fn six_entities(alloc: Global) -> Result<Items<Entity>, Memory> {
     let mut entities = Vec::new(alloc);
-    add_entity(alloc, &mut entities, b'F', Kind::Facility)?;
-    add_entity(alloc, &mut entities, b'S', Kind::Storage(3))?;
-    add_entity(alloc, &mut entities, b'L', Kind::Queue)?;
-    add_entity(alloc, &mut entities, b'G', Kind::Switch(false))?;
-    add_entity(alloc, &mut entities, b'X', Kind::Savevalue(100))?;
-    add_entity(alloc, &mut entities, b'Y', Kind::Savevalue(42))?;
+    add_entity(alloc, &mut entities, Kind::Facility, b"F")?;
+    add_entity(alloc, &mut entities, Kind::Storage(3), b"S")?;
+    add_entity(alloc, &mut entities, Kind::Queue, b"L")?;
+    add_entity(alloc, &mut entities, Kind::Switch(false), b"G")?;
+    add_entity(alloc, &mut entities, Kind::Savevalue(100), b"X")?;
+    add_entity(alloc, &mut entities, Kind::Savevalue(42), b"Y")?;
     Ok(Items::from_vec(entities))
 }
 
 /// The parts of an object of those entities and no block, with a termination count.
 pub(super) fn bare_parts(alloc: Global, count: u64) -> Result<Parts, Memory> {
-    Ok(Parts {
-        seeds: Items::from_vec(Vec::new(alloc)),
-        count,
-        entities: six_entities(alloc)?,
-        procedures: Items::from_vec(Vec::new(alloc)),
-        blocks: Items::from_vec(Vec::new(alloc)),
-        returns: Items::from_vec(Vec::new(alloc)),
-        states: Items::from_vec(Vec::new(alloc)),
-        chain_states: Items::from_vec(Vec::new(alloc)),
-        weights: Items::from_vec(Vec::new(alloc)),
-        chain_weights: Items::from_vec(Vec::new(alloc)),
-    })
+    let entities = six_entities(alloc)?;
+    let mut parts = empty_parts(alloc, count);
+    parts.entities = entities;
+    Ok(parts)
 }
 
 /// Gives an object these blocks, with what is known in each and with its weight.

@@ -1,12 +1,13 @@
 //! Logic switches and savevalues, and their lines in the report.
 
 use super::blocks::*;
-use super::objects::{add_entity, job_of_parts, parts};
+use super::objects::{job_of_parts, parts};
 use super::reports::report_after;
 use super::views::View::{Ended, Saved, Set};
 use super::views::{ALL, Job, are_seen, saves};
-use gw_blocks::{Block, Logic, SwitchAction};
+use gw_blocks::Block;
 use gw_object::{Entity, Items, Kind, Memory};
+use gw_samples::add_entity;
 use gw_scan::{End, Sim};
 use std::alloc::Global;
 use std::test::Fail;
@@ -20,7 +21,7 @@ macro_rules! switched {
             count: 1,
             blocks: &[
                 one_at!(0, 0),
-                $(logic!($action),)*
+                $(logic!($action, G),)*
                 save!(X, Set, of!(SwitchSetting, G)),
                 terminate!(1),
             ],
@@ -103,22 +104,12 @@ fn savevalue_is_set_added_to_and_subtracted_from(rt: HostRuntime) -> Result<(), 
 /// A savevalue A of -5, a facility F, a logic switch G that is set, a savevalue B of 12, and a logic switch H that is reset.
 fn five_entities(alloc: Global) -> Result<Items<Entity>, Memory> {
     let mut entities = Vec::new(alloc);
-    add_entity(alloc, &mut entities, b'A', Kind::Savevalue(-5))?;
-    add_entity(alloc, &mut entities, b'F', Kind::Facility)?;
-    add_entity(alloc, &mut entities, b'G', Kind::Switch(true))?;
-    add_entity(alloc, &mut entities, b'B', Kind::Savevalue(12))?;
-    add_entity(alloc, &mut entities, b'H', Kind::Switch(false))?;
+    add_entity(alloc, &mut entities, Kind::Savevalue(-5), b"A")?;
+    add_entity(alloc, &mut entities, Kind::Facility, b"F")?;
+    add_entity(alloc, &mut entities, Kind::Switch(true), b"G")?;
+    add_entity(alloc, &mut entities, Kind::Savevalue(12), b"B")?;
+    add_entity(alloc, &mut entities, Kind::Switch(false), b"H")?;
     Ok(Items::from_vec(entities))
-}
-
-/// LOGIC S or I of a switch.
-macro_rules! turn {
-    ($action:ident, $switch:expr) => {
-        Block::Logic(Logic {
-            action: SwitchAction::$action,
-            switch: $switch,
-        })
-    };
 }
 
 /// GENERATE ,,,1 / ASSIGN 1,3 / BACK ADVANCE 1 / MARK / LOGIC I,G / LOGIC S,H / SAVEVALUE B-,P1 / LOOP 1,BACK / TERMINATE 1.
@@ -127,8 +118,8 @@ const THREE_TIMES: &[Block] = &[
     assign!(1, Set, number!(3)),
     advance!(1),
     Block::Mark(None),
-    turn!(Invert, 2),
-    turn!(Set, 4),
+    logic!(Invert, 2),
+    logic!(Set, 4),
     save!(3, Subtract, P1),
     loop_to!(1, 3),
     terminate!(1),

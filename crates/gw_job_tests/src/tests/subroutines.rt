@@ -4,21 +4,11 @@ use super::blocks::*;
 use super::objects::{bare_parts, job_of_parts};
 use super::views::View::{Ends, Saved};
 use super::views::{ALL, Views, first_wrong_view};
-use gw_blocks::{Block, Call};
+use gw_blocks::Block;
 use gw_object::{Items, Memory, Parts, ReturnRow, TableKind, TableParameter, TableState};
 use gw_scan::{End, Sim};
 use std::alloc::Global;
 use std::test::Fail;
-
-/// TRANSFER SBR,b,p.
-macro_rules! call {
-    ($target:expr, $parameter:expr) => {
-        Block::TransferToSubroutine(Call {
-            target: $target,
-            parameter: $parameter,
-        })
-    };
-}
 
 /// TRANSFER P,p,1.
 macro_rules! come_back {

@@ -3,7 +3,7 @@
 use super::blocks::*;
 use super::views::View::Entries;
 use super::views::{ALL, Job, are_seen, ends};
-use gw_blocks::{Block, Fraction};
+use gw_blocks::Block;
 use std::test::Fail;
 
 #[test]
@@ -30,11 +30,7 @@ macro_rules! two_ways {
             count: $count,
             blocks: &[
                 generate!(1, None, None, 0),
-                Block::TransferByFraction(Fraction {
-                    thousandths: $thousandths,
-                    otherwise: $otherwise,
-                    target: 4,
-                }),
+                by_fraction!($thousandths, $otherwise, 4),
                 terminate!(1),
                 terminate!(1),
             ],

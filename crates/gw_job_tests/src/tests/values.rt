@@ -3,7 +3,7 @@
 use super::blocks::*;
 use super::views::View::{Active, Ends, Entries, Here, Saved};
 use super::views::{ALL, Job, are_seen, ends, saves, wrong_view_of};
-use gw_blocks::{Block, Operand, Units};
+use gw_blocks::{Block, Operand};
 use gw_scan::End;
 use std::alloc::Global;
 use std::test::Fail;
@@ -23,11 +23,8 @@ fn busy(value: Operand) -> [Block; 13] {
         one_at!(7, -3),
         SEIZE,
         enter!(2),
-        Block::Queue(Units {
-            entity: L,
-            number: 4,
-        }),
-        logic!(Set),
+        Block::Queue(units!(L, 4)),
+        logic!(Set, G),
         assign!(9, Set, number!(-4)),
         advance!(5),
         save!(X, Set, value),

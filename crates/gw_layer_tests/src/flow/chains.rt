@@ -3,7 +3,7 @@
 use crate::flow::edges::second_edges;
 use crate::flow::tables::{NOTHING, Table, blocks_of, first_fault, row_if, states_of};
 use crate::models::*;
-use gw_blocks::{Block, Units};
+use gw_blocks::Block;
 use gw_flow::{AbsState, Amount, Edge, StateParts, Target};
 use gw_object::{Fault, Items, Object, TableState};
 use std::alloc::Global;

@@ -3,7 +3,7 @@
 use crate::flow::edges::{second_edges, three_blocks};
 use crate::flow::tables::{first_fault, object_of};
 use crate::models::*;
-use gw_blocks::{Assign, Block, Generate, Loop, Mode, Operand, Spread};
+use gw_blocks::{Block, Operand};
 use gw_flow::{AbsState, Edge, Parameter, ParameterKind, StateParts, Target};
 use gw_object::{Fault, Items, Memory, Object, TableKind, TableParameter, TableState};
 use std::alloc::Global;
@@ -16,45 +16,13 @@ const P2: Operand = Operand::Parameter(2);
 const FIVE: Operand = Operand::Constant(5);
 
 /// ADVANCE P1.
-const ADVANCE_P1: Block = Block::Advance(Spread {
-    mean: P1,
-    half: Operand::Constant(0),
-});
+const ADVANCE_P1: Block = advance_by!(P1, number!(0));
 
 /// ADVANCE P2,P1.
-const ADVANCE_P2_P1: Block = Block::Advance(Spread { mean: P2, half: P1 });
+const ADVANCE_P2_P1: Block = advance_by!(P2, P1);
 
 /// GENERATE P1.
-const GENERATE_P1: Block = Block::Generate(Generate {
-    interval: Spread {
-        mean: P1,
-        half: Operand::Constant(0),
-    },
-    first: None,
-    limit: None,
-    priority: 0,
-});
-
-/// An ASSIGN of a value to a parameter, also in a constant.
-macro_rules! assign {
-    ($parameter:expr, $mode:ident, $value:expr) => {
-        Block::Assign(Assign {
-            parameter: $parameter,
-            mode: Mode::$mode,
-            value: $value,
-        })
-    };
-}
-
-/// A LOOP of a parameter to a block, also in a constant.
-macro_rules! count_down {
-    ($parameter:expr, $target:expr) => {
-        Block::Loop(Loop {
-            parameter: $parameter,
-            target: $target,
-        })
-    };
-}
+const GENERATE_P1: Block = generate_by!(P1, number!(0), None, None, 0);
 
 /// The blocks of an object, each with the parameters that its row knows, if it has a row.
 type Table = &'static [(Block, Option<&'static [u8]>)];
@@ -263,13 +231,13 @@ fn a_loop_counts_a_parameter_down_that_is_set(rt: HostRuntime) -> Result<(), Fai
         (GENERATE, Some(&[])),
         (assign!(1, Set, FIVE), Some(&[])),
         (ADVANCE, Some(&[1])),
-        (count_down!(1, 3), Some(&[1])),
+        (loop_to!(1, 3), Some(&[1])),
         (TERMINATE, Some(&[1])),
     ];
     const NOT_SET: Table = &[
         (GENERATE, Some(&[])),
         (assign!(2, Set, FIVE), Some(&[])),
-        (count_down!(1, 3), Some(&[2])),
+        (loop_to!(1, 3), Some(&[2])),
         (TERMINATE, Some(&[2])),
     ];
     assert!(rt; fault(rt.alloc(), SET)?.is_none());
@@ -282,14 +250,14 @@ fn a_loop_falls_and_goes_back(rt: HostRuntime) -> Result<(), Fail> {
     const BACK_ALONE: Table = &[
         (GENERATE, Some(&[])),
         (assign!(1, Set, FIVE), Some(&[])),
-        (count_down!(1, 5), Some(&[1])),
+        (loop_to!(1, 5), Some(&[1])),
         (TERMINATE, Some(&[1])),
         (TERMINATE, Some(&[1, 2])),
     ];
     const BOTH: Table = &[
         (GENERATE, Some(&[])),
         (assign!(1, Set, FIVE), Some(&[])),
-        (count_down!(1, 5), Some(&[1])),
+        (loop_to!(1, 5), Some(&[1])),
         (TERMINATE, Some(&[2])),
         (TERMINATE, Some(&[1, 2])),
     ];
@@ -421,7 +389,7 @@ fn the_parameter_that_a_block_sets_stands_in_its_place(rt: HostRuntime) -> Resul
 #[test]
 fn a_block_that_sets_none_leaves_the_parameters(rt: HostRuntime) -> Result<(), Fail> {
     const CASES: &[Lead<'static>] = &[
-        (count_down!(3, 9), &[1, 3], &[3, 9], &[1, 3]),
+        (loop_to!(3, 9), &[1, 3], &[3, 9], &[1, 3]),
         (compare!(Less, P1, FIVE, Some(9)), &[1, 3], &[3, 9], &[1, 3]),
         (gate!(FacilityInUse, F, None), &[1, 3], &[3], &[1, 3]),
         (Block::Mark(None), &[1, 3], &[3], &[1, 3]),
@@ -445,7 +413,7 @@ fn wrong_rule(alloc: Global, cases: &[(Block, &[u8], u16)]) -> Result<Option<usi
 #[test]
 fn the_values_of_a_block_are_its_first_rule(rt: HostRuntime) -> Result<(), Fail> {
     const CASES: &[(Block, &'static [u8], u16)] = &[
-        (count_down!(2, 9), &[1, 3], 20),
+        (loop_to!(2, 9), &[1, 3], 20),
         (GENERATE_P1, &[2], 20),
         (GENERATE_P1, &[1], 25),
     ];

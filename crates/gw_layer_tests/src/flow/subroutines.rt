@@ -3,7 +3,7 @@
 use crate::flow::edges::second_edges;
 use crate::flow::tables::{first_fault, object_with};
 use crate::models::*;
-use gw_blocks::{Assign, Block, Loop, Mode, Operand, Spread};
+use gw_blocks::{Block, Operand};
 use gw_flow::{AbsState, Edge, Parameter, ParameterKind, StateParts, Target};
 use gw_object::{Fault, Items, Memory, Object, TableKind};
 use std::alloc::Global;
@@ -29,27 +29,10 @@ const RETURNS: Returns<'static> = &[&[4, 7], &[9]];
 const FIVE: Operand = Operand::Constant(5);
 
 /// ADVANCE P1.
-const ADVANCE_P1: Block = Block::Advance(Spread {
-    mean: Operand::Parameter(1),
-    half: Operand::Constant(0),
-});
+const ADVANCE_P1: Block = advance_by!(Operand::Parameter(1), number!(0));
 
 /// LOOP P1 to the fourth block.
-const LOOP_P1: Block = Block::Loop(Loop {
-    parameter: 1,
-    target: 4,
-});
-
-/// An ASSIGN of a value to parameter 1, also in a constant.
-macro_rules! assign {
-    ($mode:ident, $value:expr) => {
-        Block::Assign(Assign {
-            parameter: 1,
-            mode: Mode::$mode,
-            value: $value,
-        })
-    };
-}
+const LOOP_P1: Block = loop_to!(1, 4);
 
 // The edges of one block
 
@@ -169,12 +152,12 @@ fn a_transfer_by_parameter_leads_after_each_block_of_its_return(
 #[test]
 fn a_number_takes_the_place_of_a_return(rt: HostRuntime) -> Result<(), Fail> {
     const CASES: &[Lead<'static>] = &[
-        (assign!(Set, FIVE), &[(1, RET_0)], &[3], &[(1, NUM)]),
-        (assign!(Set, FIVE), &[(1, RET_TO_6)], &[3], &[(1, NUM)]),
+        (assign!(1, Set, FIVE), &[(1, RET_0)], &[3], &[(1, NUM)]),
+        (assign!(1, Set, FIVE), &[(1, RET_TO_6)], &[3], &[(1, NUM)]),
         (Block::Mark(Some(1)), &[(1, RET_0)], &[3], &[(1, NUM)]),
         // Another parameter keeps its return.
         (
-            assign!(Set, FIVE),
+            assign!(1, Set, FIVE),
             &[(2, RET_TO_6)],
             &[3],
             &[(1, NUM), (2, RET_TO_6)],
@@ -222,11 +205,11 @@ fn a_return_is_not_read_as_a_number(rt: HostRuntime) -> Result<(), Fail> {
             &[(1, RET_0)],
         ),
         (Block::Terminate(Operand::Parameter(1)), &[(1, RET_TO_6)]),
-        (assign!(Set, Operand::Parameter(1)), &[(1, RET_0)]),
+        (assign!(1, Set, Operand::Parameter(1)), &[(1, RET_0)]),
         // Nothing is added to a return or subtracted from it.
-        (assign!(Add, FIVE), &[(1, RET_0)]),
-        (assign!(Add, FIVE), &[(1, RET_TO_6)]),
-        (assign!(Subtract, FIVE), &[(1, RET_0)]),
+        (assign!(1, Add, FIVE), &[(1, RET_0)]),
+        (assign!(1, Add, FIVE), &[(1, RET_TO_6)]),
+        (assign!(1, Subtract, FIVE), &[(1, RET_0)]),
     ];
     assert!(rt; wrong_rule(rt.alloc(), CASES, 27)?.is_none());
     Ok(())

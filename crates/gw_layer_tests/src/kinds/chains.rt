@@ -2,7 +2,7 @@
 
 use super::named::{has_values, leaves_at_once_by};
 use crate::models::*;
-use gw_blocks::{Block, EntityAttribute, Numbered, Operand, Units};
+use gw_blocks::{Block, Units};
 use gw_kinds::{Way, check_kinds};
 use gw_object::{Fault, Memory, Parts, TableKind, TableState};
 use std::alloc::Global;
@@ -17,10 +17,7 @@ const MISSING: u16 = 4;
 /// A TERMINATE by how many members an entity has.
 macro_rules! by_members {
     ($number:expr) => {
-        Block::Terminate(Operand::OfEntity(Numbered {
-            attribute: EntityAttribute::ChainMembers,
-            number: $number,
-        }))
+        Block::Terminate(of!(ChainMembers, $number))
     };
 }
 

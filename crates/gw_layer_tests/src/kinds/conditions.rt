@@ -2,15 +2,12 @@
 
 use super::named::*;
 use crate::models::*;
-use gw_blocks::{Block, EntityAttribute, Numbered, Operand};
+use gw_blocks::{Block, Operand};
 use gw_kinds::Way;
 use std::test::Fail;
 
 /// Whether a facility that isn't there is owned.
-const NOBODY: Operand = Operand::OfEntity(Numbered {
-    attribute: EntityAttribute::FacilityOwned,
-    number: MISSING,
-});
+const NOBODY: Operand = of!(FacilityOwned, MISSING);
 
 #[test]
 fn conditions_that_name_what_they_must_are_accepted(rt: HostRuntime) -> Result<(), Fail> {

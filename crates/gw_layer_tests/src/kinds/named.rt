@@ -1,10 +1,7 @@
 //! Kinds: what the values of blocks name, and LOGIC, SAVEVALUE and LOOP, in objects with a logic switch and a savevalue.
 
 use crate::models::*;
-use gw_blocks::{
-    Assign, Attribute, Block, EntityAttribute, Generate, Logic, Loop, Mode, Numbered, Operand,
-    Save, Spread, SwitchAction,
-};
+use gw_blocks::{Attribute, Block, Operand};
 use gw_kinds::{Way, check_kinds, exits, values};
 use gw_object::{Entity, Fault, Kind, Memory};
 use std::alloc::Global;
@@ -24,80 +21,6 @@ fn five_entities(alloc: Global) -> Result<Vec<Entity>, Memory> {
     add_entity(alloc, &mut entities, Kind::Switch(true), b"L")?;
     add_entity(alloc, &mut entities, Kind::Savevalue(-7), b"X")?;
     Ok(entities)
-}
-
-/// An attribute of an entity or a block, also in a constant.
-macro_rules! of {
-    ($attribute:ident, $number:expr) => {
-        Operand::OfEntity(Numbered {
-            attribute: EntityAttribute::$attribute,
-            number: $number,
-        })
-    };
-}
-
-/// A time of this mean and half range, also in a constant.
-macro_rules! time {
-    ($mean:expr, $half:expr) => {
-        Spread {
-            mean: $mean,
-            half: $half,
-        }
-    };
-}
-
-/// A GENERATE with this interval and first time.
-macro_rules! generate {
-    ($interval:expr, $first:expr) => {
-        Block::Generate(Generate {
-            interval: $interval,
-            first: $first,
-            limit: None,
-            priority: 0,
-        })
-    };
-}
-
-/// An ASSIGN of this value to parameter 1.
-macro_rules! assign {
-    ($value:expr) => {
-        Block::Assign(Assign {
-            parameter: 1,
-            mode: Mode::Set,
-            value: $value,
-        })
-    };
-}
-
-/// A SAVEVALUE that adds this value.
-macro_rules! save {
-    ($savevalue:expr, $value:expr) => {
-        Block::Savevalue(Save {
-            savevalue: $savevalue,
-            mode: Mode::Add,
-            value: $value,
-        })
-    };
-}
-
-/// A LOGIC of this action.
-macro_rules! logic {
-    ($action:ident, $switch:expr) => {
-        Block::Logic(Logic {
-            action: SwitchAction::$action,
-            switch: $switch,
-        })
-    };
-}
-
-/// A LOOP over parameter 64 to this block.
-macro_rules! back_to {
-    ($target:expr) => {
-        Block::Loop(Loop {
-            parameter: 64,
-            target: $target,
-        })
-    };
 }
 
 pub(super) const ONE: Operand = Operand::Constant(1);
@@ -143,7 +66,7 @@ fn wrong_value(
     fault: Option<Fault>,
 ) -> Result<Option<usize>, Fail> {
     for i in 0..values.len() {
-        let object = [GENERATE, assign!(values[i]), TERMINATE];
+        let object = [GENERATE, assign!(1, Set, values[i]), TERMINATE];
         if fault_with(alloc, &object, None)? != fault {
             return Ok(Some(i));
         }
@@ -168,13 +91,13 @@ pub(super) fn wrong_object(alloc: Global, cases: &[Case]) -> Result<Option<usize
 #[test]
 fn blocks_that_name_what_they_must_are_accepted(rt: HostRuntime) -> Result<(), Fail> {
     const BLOCKS: &[Block] = &[
-        assign!(ONE),
-        back_to!(2),
-        back_to!(3),
+        assign!(1, Set, ONE),
+        loop_to!(64, 2),
+        loop_to!(64, 3),
         logic!(Set, SWITCH),
         logic!(Reset, SWITCH),
         logic!(Invert, SWITCH),
-        save!(SAVEVALUE, ONE),
+        save!(SAVEVALUE, Add, ONE),
         Block::Mark(None),
         Block::Mark(Some(64)),
     ];
@@ -223,8 +146,8 @@ fn a_block_that_names_another_kind_is_refused(rt: HostRuntime) -> Result<(), Fai
     const BLOCKS: &[Block] = &[
         logic!(Set, SAVEVALUE),
         logic!(Invert, F),
-        save!(SWITCH, ONE),
-        save!(Q, ONE),
+        save!(SWITCH, Add, ONE),
+        save!(Q, Add, ONE),
         Block::Seize(SWITCH),
         Block::Enter(units!(SAVEVALUE, 1)),
         Block::Queue(units!(SWITCH, 1)),
@@ -236,28 +159,24 @@ fn a_block_that_names_another_kind_is_refused(rt: HostRuntime) -> Result<(), Fai
 #[test]
 fn a_value_is_checked_wherever_it_stands(rt: HostRuntime) -> Result<(), Fail> {
     const CASES: &[Case<'static>] = &[
-        (&[generate!(time!(WRONG, ONE), None), TERMINATE], 10, 1),
-        (&[generate!(time!(ONE, WRONG), None), TERMINATE], 10, 1),
+        (&[generate_by!(WRONG, ONE, None, None, 0), TERMINATE], 10, 1),
+        (&[generate_by!(ONE, WRONG, None, None, 0), TERMINATE], 10, 1),
         (&[GENERATE, Block::Terminate(WRONG)], 10, 2),
+        (&[GENERATE, advance_by!(WRONG, ONE), TERMINATE], 10, 2),
+        (&[GENERATE, advance_by!(ONE, WRONG), TERMINATE], 10, 2),
+        (&[GENERATE, save!(SAVEVALUE, Add, WRONG), TERMINATE], 10, 2),
         (
-            &[GENERATE, Block::Advance(time!(WRONG, ONE)), TERMINATE],
-            10,
-            2,
+            &[generate_by!(ONE, NOWHERE, None, None, 0), TERMINATE],
+            12,
+            1,
         ),
-        (
-            &[GENERATE, Block::Advance(time!(ONE, WRONG)), TERMINATE],
-            10,
-            2,
-        ),
-        (&[GENERATE, save!(SAVEVALUE, WRONG), TERMINATE], 10, 2),
-        (&[generate!(time!(ONE, NOWHERE), None), TERMINATE], 12, 1),
         (&[GENERATE, Block::Terminate(NOWHERE)], 12, 2),
+        (&[GENERATE, advance_by!(NOWHERE, ONE), TERMINATE], 12, 2),
         (
-            &[GENERATE, Block::Advance(time!(NOWHERE, ONE)), TERMINATE],
+            &[GENERATE, save!(SAVEVALUE, Add, NOWHERE), TERMINATE],
             12,
             2,
         ),
-        (&[GENERATE, save!(SAVEVALUE, NOWHERE), TERMINATE], 12, 2),
     ];
     assert!(rt; wrong_object(rt.alloc(), CASES)?.is_none());
     Ok(())
@@ -279,7 +198,7 @@ fn a_value_of_an_entity_that_is_not_there_is_refused(rt: HostRuntime) -> Result<
 
 #[test]
 fn a_block_that_names_no_entity_is_refused(rt: HostRuntime) -> Result<(), Fail> {
-    const BLOCKS: &[Block] = &[logic!(Reset, MISSING), save!(MISSING, ONE)];
+    const BLOCKS: &[Block] = &[logic!(Reset, MISSING), save!(MISSING, Add, ONE)];
     assert!(rt; wrong_block(rt.alloc(), BLOCKS, at_block(11, 2))?.is_none());
     Ok(())
 }
@@ -300,9 +219,9 @@ fn a_value_of_a_block_that_is_not_there_is_refused(rt: HostRuntime) -> Result<()
 #[test]
 fn a_loop_leads_to_a_block_that_is_no_generate(rt: HostRuntime) -> Result<(), Fail> {
     const CASES: &[Case<'static>] = &[
-        (&[GENERATE, back_to!(0), TERMINATE], 12, 2),
-        (&[GENERATE, back_to!(4), TERMINATE], 12, 2),
-        (&[GENERATE, back_to!(1), TERMINATE], 13, 2),
+        (&[GENERATE, loop_to!(64, 0), TERMINATE], 12, 2),
+        (&[GENERATE, loop_to!(64, 4), TERMINATE], 12, 2),
+        (&[GENERATE, loop_to!(64, 1), TERMINATE], 13, 2),
     ];
     assert!(rt; wrong_object(rt.alloc(), CASES)?.is_none());
     Ok(())
@@ -311,10 +230,10 @@ fn a_loop_leads_to_a_block_that_is_no_generate(rt: HostRuntime) -> Result<(), Fa
 #[test]
 fn no_block_falls_to_a_generate(rt: HostRuntime) -> Result<(), Fail> {
     const CASES: &[Case<'static>] = &[
-        (&[assign!(ONE), GENERATE, TERMINATE], 13, 1),
-        (&[back_to!(3), GENERATE, TERMINATE], 13, 1),
+        (&[assign!(1, Set, ONE), GENERATE, TERMINATE], 13, 1),
+        (&[loop_to!(64, 3), GENERATE, TERMINATE], 13, 1),
         (&[logic!(Set, SWITCH), GENERATE, TERMINATE], 13, 1),
-        (&[save!(SAVEVALUE, ONE), GENERATE, TERMINATE], 13, 1),
+        (&[save!(SAVEVALUE, Add, ONE), GENERATE, TERMINATE], 13, 1),
         (&[Block::Mark(None), GENERATE, TERMINATE], 13, 1),
     ];
     assert!(rt; wrong_object(rt.alloc(), CASES)?.is_none());
@@ -324,10 +243,10 @@ fn no_block_falls_to_a_generate(rt: HostRuntime) -> Result<(), Fail> {
 #[test]
 fn no_block_falls_off_the_end(rt: HostRuntime) -> Result<(), Fail> {
     const CASES: &[Case<'static>] = &[
-        (&[GENERATE, assign!(ONE)], 14, 2),
-        (&[GENERATE, back_to!(2)], 14, 2),
+        (&[GENERATE, assign!(1, Set, ONE)], 14, 2),
+        (&[GENERATE, loop_to!(64, 2)], 14, 2),
         (&[GENERATE, logic!(Set, SWITCH)], 14, 2),
-        (&[GENERATE, save!(SAVEVALUE, ONE)], 14, 2),
+        (&[GENERATE, save!(SAVEVALUE, Add, ONE)], 14, 2),
         (&[GENERATE, Block::Mark(Some(1))], 14, 2),
     ];
     assert!(rt; wrong_object(rt.alloc(), CASES)?.is_none());
@@ -337,17 +256,13 @@ fn no_block_falls_off_the_end(rt: HostRuntime) -> Result<(), Fail> {
 #[test]
 fn the_lowest_code_of_what_is_named_goes_first(rt: HostRuntime) -> Result<(), Fail> {
     const CASES: &[Case<'static>] = &[
-        (
-            &[GENERATE, Block::Advance(time!(NOWHERE, WRONG)), TERMINATE],
-            10,
-            2,
-        ),
+        (&[GENERATE, advance_by!(NOWHERE, WRONG), TERMINATE], 10, 2),
         // The block's own entity isn't there, and its value is of another kind.
-        (&[GENERATE, save!(MISSING, WRONG), TERMINATE], 10, 2),
-        (&[GENERATE, save!(MISSING, NOWHERE), TERMINATE], 11, 2),
-        (&[GENERATE, assign!(NOWHERE)], 12, 2),
+        (&[GENERATE, save!(MISSING, Add, WRONG), TERMINATE], 10, 2),
+        (&[GENERATE, save!(MISSING, Add, NOWHERE), TERMINATE], 11, 2),
+        (&[GENERATE, assign!(1, Set, NOWHERE)], 12, 2),
         (
-            &[generate!(time!(ONE, NOWHERE), Some(-1)), TERMINATE],
+            &[generate_by!(ONE, NOWHERE, Some(-1), None, 0), TERMINATE],
             12,
             1,
         ),
@@ -378,13 +293,13 @@ pub(super) fn leaves_at_once_by(block: Block, ways: &[Way]) -> bool {
 fn a_loop_falls_and_then_goes_to_its_target(rt: HostRuntime) {
     const FALLS: Way = Way::Falls;
     let are_right = [
-        leaves_at_once_by(back_to!(7), &[FALLS, Way::Goes(7)]),
-        leaves_at_once_by(assign!(ONE), &[FALLS]),
+        leaves_at_once_by(loop_to!(64, 7), &[FALLS, Way::Goes(7)]),
+        leaves_at_once_by(assign!(1, Set, ONE), &[FALLS]),
         leaves_at_once_by(logic!(Set, SWITCH), &[FALLS]),
-        leaves_at_once_by(save!(SAVEVALUE, ONE), &[FALLS]),
+        leaves_at_once_by(save!(SAVEVALUE, Add, ONE), &[FALLS]),
         leaves_at_once_by(Block::Mark(None), &[FALLS]),
-        leaves_at_once_by(Block::Advance(time!(Operand::Parameter(1), ONE)), &[FALLS]),
-        leaves_at_once_by(Block::Advance(time!(ONE, Operand::Random(1))), &[FALLS]),
+        leaves_at_once_by(advance_by!(Operand::Parameter(1), ONE), &[FALLS]),
+        leaves_at_once_by(advance_by!(ONE, Operand::Random(1)), &[FALLS]),
     ];
     assert!(rt; first_wrong(&are_right).is_none());
 }
@@ -398,12 +313,12 @@ pub(super) fn has_values(block: Block, expected: &[Operand]) -> bool {
 fn the_values_of_a_block_are_those_that_are_evaluated(rt: HostRuntime) {
     const TWO: Operand = Operand::Constant(2);
     let are_right = [
-        has_values(generate!(time!(ONE, TWO), Some(3)), &[ONE, TWO]),
-        has_values(Block::Advance(time!(TWO, ONE)), &[TWO, ONE]),
+        has_values(generate_by!(ONE, TWO, Some(3), None, 0), &[ONE, TWO]),
+        has_values(advance_by!(TWO, ONE), &[TWO, ONE]),
         has_values(Block::Terminate(TWO), &[TWO]),
-        has_values(assign!(TWO), &[TWO]),
-        has_values(save!(SAVEVALUE, TWO), &[TWO]),
-        has_values(back_to!(2), &[]),
+        has_values(assign!(1, Set, TWO), &[TWO]),
+        has_values(save!(SAVEVALUE, Add, TWO), &[TWO]),
+        has_values(loop_to!(64, 2), &[]),
         has_values(Block::Mark(Some(2)), &[]),
     ];
     assert!(rt; first_wrong(&are_right).is_none());

@@ -1,32 +1,11 @@
 //! Kinds: what instructions name.
 
 use crate::models::*;
-use gw_blocks::{EntityAttribute, Numbered};
-use gw_code::{Back, Instruction, Procedure, Sna};
+use gw_code::{Instruction, Procedure};
 use gw_kinds::check_kinds;
 use gw_object::{Fault, Items, Memory, Parts, Place};
 use std::alloc::Global;
 use std::test::Fail;
-
-/// VALUE of this attribute of an entity or a block, in a constant.
-macro_rules! value_of {
-    ($attribute:ident, $number:expr) => {
-        Instruction::Value(Sna::OfEntity(Numbered {
-            attribute: EntityAttribute::$attribute,
-            number: $number,
-        }))
-    };
-}
-
-/// A jump back to the first instruction, at most so often, in a constant.
-macro_rules! back {
-    ($count:expr) => {
-        Instruction::Back(Back {
-            target: 0,
-            count: $count,
-        })
-    };
-}
 
 /// The procedures of these codes, each with three locals.
 fn procedures(alloc: Global, codes: &[&[Instruction]]) -> Result<Vec<Procedure>, Memory> {
@@ -79,8 +58,8 @@ fn numbers_that_name_what_they_must_are_accepted(rt: HostRuntime) -> Result<(), 
             Instruction::Get(2),
             Instruction::Set(2),
             Instruction::Call(1),
-            back!(1),
-            back!(1_000_000),
+            back!(0, 1),
+            back!(0, 1_000_000),
         ],
     ];
     assert!(rt; fault_of(rt.alloc(), CODES)?.is_none());
@@ -102,8 +81,8 @@ fn what_an_instruction_names_wrongly_is_refused_at_it(rt: HostRuntime) -> Result
         // Locals that the procedure doesn't have, and jumps back too seldom and too often.
         (&[&[Instruction::Get(3)]], 15, 0, 0),
         (&[&[Instruction::Set(3)]], 15, 0, 0),
-        (&[&[back!(0)]], 15, 0, 0),
-        (&[&[back!(1_000_001)]], 15, 0, 0),
+        (&[&[back!(0, 0)]], 15, 0, 0),
+        (&[&[back!(0, 1_000_001)]], 15, 0, 0),
         // The first instruction with a fault is named, and the first procedure.
         (
             &[&[Instruction::Get(3), value_of!(FacilityOwned, 1)]],
@@ -111,7 +90,7 @@ fn what_an_instruction_names_wrongly_is_refused_at_it(rt: HostRuntime) -> Result
             0,
             0,
         ),
-        (&[&[back!(0)], &[value_of!(FacilityOwned, 1)]], 15, 0, 0),
+        (&[&[back!(0, 0)], &[value_of!(FacilityOwned, 1)]], 15, 0, 0),
     ];
     assert!(rt; wrong_fault(rt.alloc(), CASES)?.is_none());
     Ok(())
@@ -119,7 +98,7 @@ fn what_an_instruction_names_wrongly_is_refused_at_it(rt: HostRuntime) -> Result
 
 /// The fault of an object of one procedure and one block, each of which has one.
 fn fault_of_both(alloc: Global) -> Result<Option<Fault>, Fail> {
-    let mut parts = parts_of(alloc, &[&[back!(0)]])?;
+    let mut parts = parts_of(alloc, &[&[back!(0, 0)]])?;
     parts.blocks = Items::from_vec(Vec::from_slice(alloc, &[LIMITED_TO_0])?);
     Ok(check_kinds(&built(parts)?).err())
 }

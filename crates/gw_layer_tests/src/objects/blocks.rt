@@ -1,7 +1,6 @@
 //! Blocks of every kind.
 
 use super::*;
-use gw_blocks::Fraction;
 
 /// `ADVANCE 10,5 / ADVANCE 0,-1`, then SEIZE of entity 0, RELEASE of 65535, ENTER of 2 units of 1, LEAVE of
 /// none of 1, QUEUE of 4294967295 of 1024 and DEPART of 1450744508 of 4660; no entities, no states, weights 1.
@@ -26,8 +25,8 @@ const BLOCK_FIELDS: [u32; 50] = [
 
 fn eight_blocks(alloc: Global) -> Result<Parts, Memory> {
     let blocks = [
-        Block::Advance(constant_time(10, 5)),
-        Block::Advance(constant_time(0, -1)),
+        advance!(10, 5),
+        advance!(0, -1),
         Block::Seize(0),
         Block::Release(65_535),
         Block::Enter(units!(1, 2)),
@@ -97,19 +96,11 @@ const TRANSFER_FIELDS: [u32; 25] = [
     0, 4, 6, 7, 15, 16, 17, 18, 19, 21, 22, 24, 25, 27, 28, 30, 31, 33, 35, 36, 37, 38, 39, 43, 47,
 ];
 
-fn fraction(thousandths: u16, otherwise: Option<u16>, target: u16) -> Fraction {
-    Fraction {
-        thousandths,
-        otherwise,
-        target,
-    }
-}
-
 fn three_transfers(alloc: Global) -> Result<Parts, Memory> {
     let blocks = [
         Block::Transfer(3),
-        Block::TransferByFraction(fraction(500, None, 4)),
-        Block::TransferByFraction(fraction(1_001, Some(65_535), 0)),
+        by_fraction!(500, None, 4),
+        by_fraction!(1_001, Some(65_535), 0),
     ];
     let blocks = Vec::from_slice(alloc, &blocks)?;
     parts(alloc, Vec::new(alloc), blocks, no_states(alloc, 3)?)
@@ -124,13 +115,13 @@ fn three_transfers_are_read_built_and_written(rt: HostRuntime) -> Result<(), Fai
 
 #[test]
 fn transfers_of_other_parts_or_to_other_blocks_differ(rt: HostRuntime) {
-    let whole = fraction(500, Some(3), 4);
+    let whole = by_fraction!(500, Some(3), 4);
     let are_right = [
-        whole == fraction(500, Some(3), 4),
-        whole != fraction(501, Some(3), 4),
-        whole != fraction(500, None, 4),
-        whole != fraction(500, Some(2), 4),
-        whole != fraction(500, Some(4), 3),
+        whole == by_fraction!(500, Some(3), 4),
+        whole != by_fraction!(501, Some(3), 4),
+        whole != by_fraction!(500, None, 4),
+        whole != by_fraction!(500, Some(2), 4),
+        whole != by_fraction!(500, Some(4), 3),
         Block::Transfer(3) != Block::Transfer(4),
         Block::Transfer(3) != Block::Seize(3),
     ];

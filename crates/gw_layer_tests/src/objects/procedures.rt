@@ -1,8 +1,7 @@
 //! Procedures and their instructions.
 
 use super::*;
-use gw_blocks::{Attribute, EntityAttribute, Numbered};
-use gw_code::{Back, Instruction, Procedure, Sna};
+use gw_code::{Instruction, Procedure, Sna};
 use gw_num::{Binary, Unary};
 
 /// One procedure of each instruction, with one argument and one more local, that needs the parameters 1 and 64, and no
@@ -25,15 +24,12 @@ const INSTRUCTION_FIELDS: [u32; 57] = [
 
 /// Its instructions.
 const CODE: &[Instruction] = &[
-    Instruction::Push(-2),
+    push!(-2),
     Instruction::Get(0),
     Instruction::Set(1),
     Instruction::Value(Sna::Parameter(64)),
-    Instruction::Value(Sna::Attribute(Attribute::TerminationCount)),
-    Instruction::Value(Sna::OfEntity(Numbered {
-        attribute: EntityAttribute::BlockCount,
-        number: 1,
-    })),
+    value!(TerminationCount),
+    value_of!(BlockCount, 1),
     Instruction::Binary(Binary::Add),
     Instruction::Binary(Binary::Subtract),
     Instruction::Binary(Binary::Multiply),
@@ -53,19 +49,13 @@ const CODE: &[Instruction] = &[
     Instruction::Pop,
     Instruction::Jump(3),
     Instruction::JumpIfZero(4),
-    Instruction::Back(Back {
-        target: 0,
-        count: 1_000_000,
-    }),
+    back!(0, 1_000_000),
     Instruction::Call(0),
     Instruction::Return,
 ];
 
 /// A jump back.
-const BACK: Instruction = Instruction::Back(Back {
-    target: 0,
-    count: 1,
-});
+const BACK: Instruction = back!(0, 1);
 
 /// The parts of an object of these procedures alone.
 fn with_procedures(alloc: Global, procedures: Vec<Procedure>) -> Result<Parts, Memory> {

@@ -1,9 +1,7 @@
 //! Values: parameters, attributes, logic switches and savevalues, and the blocks that change them.
 
 use super::*;
-use gw_blocks::{
-    Assign, Attribute, EntityAttribute, Logic, Loop, Mode, Numbered, Save, Spread, SwitchAction,
-};
+use gw_blocks::Attribute;
 use gw_object::{Kind, TableKind, TableParameter};
 
 /// No blocks; a logic switch `L` that is set, one `M` that is reset, and a savevalue `X` of -2; termination count 1.
@@ -84,45 +82,17 @@ const CHANGE_FIELDS: [u32; 73] = [
     123, 127,
 ];
 
-fn of(attribute: EntityAttribute, number: u16) -> Operand {
-    Operand::OfEntity(Numbered { attribute, number })
-}
-
-fn assign(parameter: u8, mode: Mode, value: Operand) -> Block {
-    Block::Assign(Assign {
-        parameter,
-        mode,
-        value,
-    })
-}
-
-fn logic(action: SwitchAction, switch: u16) -> Block {
-    Block::Logic(Logic { action, switch })
-}
-
-fn save(savevalue: u16, mode: Mode, value: Operand) -> Block {
-    Block::Savevalue(Save {
-        savevalue,
-        mode,
-        value,
-    })
-}
-
-fn count_down(parameter: u8, target: u16) -> Block {
-    Block::Loop(Loop { parameter, target })
-}
-
 fn eleven_blocks(alloc: Global) -> Result<Parts, Memory> {
     let blocks = [
-        assign(3, Mode::Set, Operand::Constant(7)),
-        assign(64, Mode::Add, Operand::Parameter(1)),
-        assign(1, Mode::Subtract, Operand::Attribute(Attribute::Priority)),
-        count_down(2, 1),
-        logic(SwitchAction::Set, 0),
-        logic(SwitchAction::Reset, 1),
-        logic(SwitchAction::Invert, 65_535),
-        save(1, Mode::Set, of(EntityAttribute::FacilityOwned, 0)),
-        save(1, Mode::Add, Operand::Random(16)),
+        assign!(3, Set, number!(7)),
+        assign!(64, Add, Operand::Parameter(1)),
+        assign!(1, Subtract, Operand::Attribute(Attribute::Priority)),
+        loop_to!(2, 1),
+        logic!(Set, 0),
+        logic!(Reset, 1),
+        logic!(Invert, 65_535),
+        save!(1, Set, of!(FacilityOwned, 0)),
+        save!(1, Add, Operand::Random(16)),
         Block::Mark(None),
         Block::Mark(Some(5)),
     ];
@@ -198,10 +168,7 @@ fn wrong_operand(alloc: Global, cases: &[(Operand, &[u8])]) -> Result<Option<usi
 #[test]
 fn operands_are_read_built_and_written(rt: HostRuntime) -> Result<(), Fail> {
     const CASES: &[(Operand, &'static [u8])] = &[
-        (
-            Operand::Constant(258),
-            b"\x00\x00\x00\x00\x00\x00\x00\x01\x02",
-        ),
+        (number!(258), b"\x00\x00\x00\x00\x00\x00\x00\x01\x02"),
         (Operand::Parameter(1), &[0x01, 0x01]),
         (Operand::Parameter(64), &[0x01, 0x40]),
         (Operand::Attribute(Attribute::Clock), &[0x02, 0x00]),
@@ -226,42 +193,15 @@ fn operands_are_read_built_and_written(rt: HostRuntime) -> Result<(), Fail> {
 #[test]
 fn operands_of_entities_and_blocks_are_read_built_and_written(rt: HostRuntime) -> Result<(), Fail> {
     let cases: [(Operand, &[u8]); 9] = [
-        (
-            of(EntityAttribute::FacilityOwned, 0),
-            &[0x03, 0x00, 0x00, 0x00],
-        ),
-        (
-            of(EntityAttribute::StorageContent, 1),
-            &[0x03, 0x01, 0x00, 0x01],
-        ),
-        (
-            of(EntityAttribute::StorageRemaining, 65_535),
-            &[0x03, 0x02, 0xff, 0xff],
-        ),
-        (
-            of(EntityAttribute::QueueContent, 4_660),
-            &[0x03, 0x03, 0x12, 0x34],
-        ),
-        (
-            of(EntityAttribute::SavevalueValue, 2),
-            &[0x03, 0x04, 0x00, 0x02],
-        ),
-        (
-            of(EntityAttribute::SwitchSetting, 3),
-            &[0x03, 0x05, 0x00, 0x03],
-        ),
-        (
-            of(EntityAttribute::ChainMembers, 258),
-            &[0x03, 0x06, 0x01, 0x02],
-        ),
-        (
-            of(EntityAttribute::BlockEntries, 1),
-            &[0x03, 0x0a, 0x00, 0x01],
-        ),
-        (
-            of(EntityAttribute::BlockCount, 4_096),
-            &[0x03, 0x0b, 0x10, 0x00],
-        ),
+        (of!(FacilityOwned, 0), &[0x03, 0x00, 0x00, 0x00]),
+        (of!(StorageContent, 1), &[0x03, 0x01, 0x00, 0x01]),
+        (of!(StorageRemaining, 65_535), &[0x03, 0x02, 0xff, 0xff]),
+        (of!(QueueContent, 4_660), &[0x03, 0x03, 0x12, 0x34]),
+        (of!(SavevalueValue, 2), &[0x03, 0x04, 0x00, 0x02]),
+        (of!(SwitchSetting, 3), &[0x03, 0x05, 0x00, 0x03]),
+        (of!(ChainMembers, 258), &[0x03, 0x06, 0x01, 0x02]),
+        (of!(BlockEntries, 1), &[0x03, 0x0a, 0x00, 0x01]),
+        (of!(BlockCount, 4_096), &[0x03, 0x0b, 0x10, 0x00]),
     ];
     assert!(rt; wrong_operand(rt.alloc(), &cases)?.is_none());
     Ok(())
@@ -318,22 +258,18 @@ pub(super) fn wrong_block(
 
 #[test]
 fn parameters_and_streams_outside_their_limits_are_not_built(rt: HostRuntime) -> Result<(), Fail> {
-    const TIME: Spread = Spread {
-        mean: Operand::Constant(1),
-        half: Operand::Parameter(65),
-    };
     let blocks = [
         Block::Terminate(Operand::Parameter(0)),
         Block::Terminate(Operand::Parameter(65)),
         Block::Terminate(Operand::Random(0)),
         Block::Terminate(Operand::Random(17)),
-        Block::Advance(TIME),
-        assign(0, Mode::Set, Operand::Constant(0)),
-        assign(65, Mode::Set, Operand::Constant(0)),
-        assign(1, Mode::Set, Operand::Parameter(0)),
-        count_down(0, 1),
-        count_down(65, 1),
-        save(0, Mode::Set, Operand::Random(17)),
+        advance_by!(number!(1), Operand::Parameter(65)),
+        assign!(0, Set, number!(0)),
+        assign!(65, Set, number!(0)),
+        assign!(1, Set, Operand::Parameter(0)),
+        loop_to!(0, 1),
+        loop_to!(65, 1),
+        save!(0, Set, Operand::Random(17)),
         Block::Mark(Some(0)),
         Block::Mark(Some(65)),
     ];
@@ -343,19 +279,19 @@ fn parameters_and_streams_outside_their_limits_are_not_built(rt: HostRuntime) ->
 
 #[test]
 fn blocks_of_other_parameters_modes_or_values_differ(rt: HostRuntime) {
-    let seven = Operand::Constant(7);
-    let whole = assign(3, Mode::Set, seven);
+    let seven = number!(7);
+    let whole = assign!(3, Set, seven);
     let are_right = [
-        whole == assign(3, Mode::Set, seven),
-        whole != assign(4, Mode::Set, seven),
-        whole != assign(3, Mode::Add, seven),
-        whole != assign(3, Mode::Set, Operand::Parameter(7)),
-        count_down(2, 1) != count_down(2, 2),
-        logic(SwitchAction::Set, 0) != logic(SwitchAction::Reset, 0),
-        save(1, Mode::Set, seven) != save(2, Mode::Set, seven),
+        whole == assign!(3, Set, seven),
+        whole != assign!(4, Set, seven),
+        whole != assign!(3, Add, seven),
+        whole != assign!(3, Set, Operand::Parameter(7)),
+        loop_to!(2, 1) != loop_to!(2, 2),
+        logic!(Set, 0) != logic!(Reset, 0),
+        save!(1, Set, seven) != save!(2, Set, seven),
         Block::Mark(None) != Block::Mark(Some(1)),
-        of(EntityAttribute::StorageContent, 1) != of(EntityAttribute::StorageRemaining, 1),
-        of(EntityAttribute::StorageContent, 1) != of(EntityAttribute::StorageContent, 2),
+        of!(StorageContent, 1) != of!(StorageRemaining, 1),
+        of!(StorageContent, 1) != of!(StorageContent, 2),
     ];
     assert!(rt; first_wrong(&are_right).is_none());
 }

@@ -1,0 +1,39 @@
+//! Instructions of PLUS code.
+
+/// PUSH of a number.
+#[macro_export]
+macro_rules! push {
+    ($number:expr) => {
+        gw_code::Instruction::Push($number)
+    };
+}
+
+/// VALUE of an attribute of the clock, the termination count or the transaction: `value!(Clock)` for example.
+#[macro_export]
+macro_rules! value {
+    ($attribute:ident) => {
+        gw_code::Instruction::Value(gw_code::Sna::Attribute(gw_blocks::Attribute::$attribute))
+    };
+}
+
+/// VALUE of an attribute of an entity or a block: `value_of!(QueueContent, 2)` for example.
+#[macro_export]
+macro_rules! value_of {
+    ($attribute:ident, $number:expr) => {
+        gw_code::Instruction::Value(gw_code::Sna::OfEntity(gw_blocks::Numbered {
+            attribute: gw_blocks::EntityAttribute::$attribute,
+            number: $number,
+        }))
+    };
+}
+
+/// A jump back to an instruction, at most so often.
+#[macro_export]
+macro_rules! back {
+    ($target:expr, $count:expr) => {
+        gw_code::Instruction::Back(gw_code::Back {
+            target: $target,
+            count: $count,
+        })
+    };
+}

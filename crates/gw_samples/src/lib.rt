@@ -1,0 +1,12 @@
+//! What the tests of objects and of jobs are made of. Operands, blocks and instructions stand in constants there, which can call
+//! no function: so each has a macro, which takes what the block has, in the order of its operands. The crate that calls one
+//! names `gw_blocks`, and for an instruction `gw_code`, among its own. Procedures and entities take memory, and have a function
+//! each.
+#![tactic(auto)]
+
+mod blocks;
+mod instructions;
+mod operands;
+mod parts;
+
+pub use parts::{add_entity, empty_parts, entity, first_wrong, no_states, procedure};
