@@ -17,17 +17,13 @@ use std::test::Fail;
 /// A GENERATE whose first time is below 0.
 const EARLY: Block = generate!(10, Some(-1), None, 0);
 
-/// The rows of so many blocks, of which the first has this one and the others none.
+/// The rows of so many blocks, of which the first has this one, if there is one, and the others none.
 fn rows(
     alloc: Global,
     count: usize,
-    first_row: Option<Row>,
+    first_row: Option<TableState>,
 ) -> Result<Vec<Option<TableState>>, Memory> {
-    let mut states = Vec::new(alloc);
-    states.push(match first_row {
-        Some(row) => Some(state(alloc, row)?),
-        None => None,
-    })?;
+    let mut states = vec![in alloc; first_row]?;
     for _ in 1..count {
         states.push(None)?;
     }
@@ -40,7 +36,7 @@ fn fault_with(
     blocks: &[Block],
     first_row: Option<Row>,
 ) -> Result<Option<Fault>, Fail> {
-    let states = rows(alloc, blocks.len(), first_row)?;
+    let states = rows(alloc, blocks.len(), row_if(alloc, first_row)?)?;
     let object = model(alloc, 2_000_000, blocks, states)?;
     Ok(check_kinds(&object).err())
 }

@@ -12,6 +12,7 @@ pub(crate) use gw_samples::{
     empty_parts, entity, first_wrong, gate, generate, generate_by, link, logic, loop_to, no_states,
     number, of, procedure, push, save, split, terminate, units, unlink, value, value_of,
 };
+use gw_verify::verify;
 use std::alloc::Global;
 use std::test::Fail;
 
@@ -75,11 +76,19 @@ pub(crate) fn state(alloc: Global, row: Row) -> Result<TableState, Memory> {
     })
 }
 
+/// A row, if there is one, as an object has it.
+pub(crate) fn row_if(alloc: Global, row: Option<Row>) -> Result<Option<TableState>, Memory> {
+    match row {
+        Some(row) => Ok(Some(state(alloc, row)?)),
+        None => Ok(None),
+    }
+}
+
 /// The parameters that a row knows, each by its number and what it holds.
 pub(crate) type Known<'a> = &'a [(u8, TableKind)];
 
-/// A row that knows these parameters and nothing else, as an object has it.
-pub(crate) fn state_knowing(alloc: Global, known: Known) -> Result<TableState, Memory> {
+/// These parameters, as an object has them.
+fn parameters_knowing(alloc: Global, known: Known) -> Result<Vec<TableParameter>, Memory> {
     let mut parameters = Vec::new(alloc);
     for (number, kind) in known {
         parameters.push(TableParameter {
@@ -87,9 +96,36 @@ pub(crate) fn state_knowing(alloc: Global, known: Known) -> Result<TableState, M
             kind: *kind,
         })?;
     }
-    let mut state = state(alloc, (&[], &[]))?;
-    state.parameters = Items::from_vec(parameters);
-    Ok(state)
+    Ok(parameters)
+}
+
+/// The parameters of these numbers, each of which holds a number, as an object has them.
+pub(crate) fn numeric_parameters(
+    alloc: Global,
+    numbers: &[u8],
+) -> Result<Vec<TableParameter>, Memory> {
+    let mut parameters = Vec::new(alloc);
+    for number in numbers {
+        parameters.push(TableParameter {
+            number: *number,
+            kind: TableKind::Num,
+        })?;
+    }
+    Ok(parameters)
+}
+
+/// A row that knows these parameters and nothing else, as an object has it.
+pub(crate) fn state_of_parameters(alloc: Global, parameters: Vec<TableParameter>) -> TableState {
+    TableState {
+        parameters: Items::from_vec(parameters),
+        facilities: Items::from_vec(Vec::new(alloc)),
+        units: Items::from_vec(Vec::new(alloc)),
+    }
+}
+
+/// A row that knows these parameters and nothing else, as an object has it.
+pub(crate) fn state_knowing(alloc: Global, known: Known) -> Result<TableState, Memory> {
+    Ok(state_of_parameters(alloc, parameters_knowing(alloc, known)?))
 }
 
 /// A row that knows these parameters, if there is one.
@@ -207,6 +243,14 @@ pub(crate) fn built(parts: Parts) -> Result<Object, Fail>
     match object_or_fault(parts) {
         Ok(object) => Ok(object),
         Err(_) => Err(Fail::from("the parts have a spelling")),
+    }
+}
+
+/// The fault with which an object is refused, if it is.
+pub(crate) fn refusal_of(alloc: Global, object: Object) -> Option<Fault> {
+    match verify(alloc, object) {
+        Ok(_) => None,
+        Err((_, fault)) => Some(fault),
     }
 }
 

@@ -1,6 +1,6 @@
 //! Logic switches and savevalues: what is set is read again, and what stands beside it stays.
 
-ghost use Rattle.std.specs.Prelude.{◌≡◌, length, IfOk};
+ghost use Rattle.std.specs.Prelude.{◌≡◌, ◌+◌, length, IfOk, OnOk};
 
 use crate::models::{add_entity, built, first_wrong, parts};
 use gw_entities::{Savevalues, Switches};
@@ -8,16 +8,23 @@ use gw_object::{Entity, Kind, Memory, Object};
 use std::alloc::Global;
 use std::test::Fail;
 
+/// Adds a facility, a logic switch that is set, one that is reset, and savevalues of -5 and 12.
+fn add_five(alloc: Global, entities: &mut Vec<Entity>) -> Result<(), Memory>
+    ensures { OnOk result (length entities.new.items ≡ length entities.old.items + 5) }
+{
+    add_entity(alloc, entities, Kind::Facility, b"F")?;
+    add_entity(alloc, entities, Kind::Switch(true), b"GO")?;
+    add_entity(alloc, entities, Kind::Switch(false), b"STOP")?;
+    add_entity(alloc, entities, Kind::Savevalue(-5), b"A")?;
+    add_entity(alloc, entities, Kind::Savevalue(12), b"B")
+}
+
 /// Entities with numbers from 0: a facility, a logic switch that is set, one that is reset, and savevalues of -5 and 12.
 fn five_entities(alloc: Global) -> Result<Vec<Entity>, Memory>
     ensures { IfOk result (λ e. length e.items ≡ 5) }
 {
     let mut entities = Vec::new(alloc);
-    add_entity(alloc, &mut entities, Kind::Facility, b"F")?;
-    add_entity(alloc, &mut entities, Kind::Switch(true), b"GO")?;
-    add_entity(alloc, &mut entities, Kind::Switch(false), b"STOP")?;
-    add_entity(alloc, &mut entities, Kind::Savevalue(-5), b"A")?;
-    add_entity(alloc, &mut entities, Kind::Savevalue(12), b"B")?;
+    add_five(alloc, &mut entities)?;
     Ok(entities)
 }
 

@@ -11,8 +11,8 @@ use std::test::Fail;
 fn rows(alloc: Global, owned: &[bool]) -> Result<Vec<Option<TableState>>, Memory> {
     let mut states = Vec::new(alloc);
     for owns in owned {
-        let facilities: &[u16] = if *owns { &[F] } else { &[] };
-        states.push(Some(state(alloc, (facilities, &[]))?))?;
+        let row: Row = if *owns { (&[F], &[]) } else { (&[], &[]) };
+        states.push(row_if(alloc, Some(row))?)?;
     }
     Ok(states)
 }
@@ -40,10 +40,13 @@ fn accepted(
 
 /// The fault with which an object of these blocks, each of weight 1, is refused, where all of its blocks came back.
 fn refusal(alloc: Global, blocks: &[Block], owned: &[bool]) -> Result<Option<Fault>, Fail> {
-    let object = built(owning(alloc, blocks, owned)?)?;
-    let (back, fault) = verify(alloc, object).err().ok_or("it is refused")?;
-    let is_back = back.parts().blocks.as_slice() == blocks;
-    Ok(if is_back { Some(fault) } else { None })
+    match verify(alloc, built(owning(alloc, blocks, owned)?)?) {
+        Ok(_) => Ok(None),
+        Err((back, fault)) => {
+            let is_back = back.parts().blocks.as_slice() == blocks;
+            Ok(if is_back { Some(fault) } else { None })
+        }
+    }
 }
 
 /// Which of what an object of five blocks tells is right.
@@ -172,11 +175,7 @@ fn fault_with(
     let blocks = Vec::from_slice(alloc, blocks)?;
     let mut parts = parts(alloc, Vec::new(alloc), blocks, states)?;
     put_returns(alloc, &mut parts, returns, weights)?;
-    Ok(
-        verify(alloc, built(parts)?)
-            .err()
-            .map(|(_object, fault)| fault),
-    )
+    Ok(refusal_of(alloc, built(parts)?))
 }
 
 #[test]
@@ -219,7 +218,7 @@ fn refusal_with_code(
     owned: &[bool],
 ) -> Result<Option<Fault>, Fail> {
     let object = built(parts_with_code(alloc, blocks, owned)?)?;
-    Ok(verify(alloc, object).err().map(|(_object, fault)| fault))
+    Ok(refusal_of(alloc, object))
 }
 
 #[test]
@@ -271,11 +270,10 @@ const ENDING: &[u8] = b"\
 
 /// The fault with which the object of these bytes is refused, if it is.
 fn fault_of(alloc: Global, bytes: &[u8]) -> Result<Option<Fault>, Fail> {
-    let object = read(alloc, bytes).ok().ok_or("an object")?;
-    Ok(match verify(alloc, object) {
-        Ok(_) => None,
-        Err((_, fault)) => Some(fault),
-    })
+    match read(alloc, bytes) {
+        Ok(object) => Ok(refusal_of(alloc, object)),
+        Err(_) => Err(Fail::from("the bytes spell an object")),
+    }
 }
 
 #[test]

@@ -4,7 +4,6 @@ use crate::models::*;
 use gw_blocks::{Block, Operand};
 use gw_kinds::check_kinds;
 use gw_object::{Fault, Memory, Object, Parts, Place, TableKind, TableState};
-use gw_verify::verify;
 use gw_weights::{chain_weight, check_weights, codes, weight_at};
 use std::alloc::Global;
 use std::test::Fail;
@@ -125,7 +124,7 @@ fn refusal(
     returns: Returns,
 ) -> Result<Option<Fault>, Fail> {
     let object = built(parts_of(alloc, table, chain, returns)?)?;
-    Ok(verify(alloc, object).err().map(|(_object, fault)| fault))
+    Ok(refusal_of(alloc, object))
 }
 
 /// The place, from 0, of the first of these objects whose weights have another fault.

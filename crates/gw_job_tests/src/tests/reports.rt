@@ -145,10 +145,15 @@ pub(super) fn job(alloc: Global, bytes: &[u8], budget: u64) -> Result<Sim, Fail>
     job_of(alloc, accepted(alloc, object)?, budget)
 }
 
+/// The report of a job after so many more steps.
+fn report_behind(alloc: Global, sim: &mut Sim, steps: u64) -> Result<Vec<u8>, Memory> {
+    run(sim, steps)?;
+    report(alloc, sim)
+}
+
 /// The report of a job after so many steps.
 pub(super) fn report_after(alloc: Global, mut sim: Sim, steps: u64) -> Result<Vec<u8>, Memory> {
-    run(&mut sim, steps)?;
-    report(alloc, &sim)
+    report_behind(alloc, &mut sim, steps)
 }
 
 /// The report of the job of an object after so many steps, with a budget of so many.
@@ -157,10 +162,15 @@ fn reported(alloc: Global, bytes: &[u8], budget: u64, steps: u64) -> Result<Vec<
     Ok(report_after(alloc, sim, steps)?)
 }
 
+/// The report of a job as one at an error stop.
+fn report_as_stopped(alloc: Global, sim: Sim) -> Result<Vec<u8>, Memory> {
+    stopped_report(alloc, &sim, Stop::NoBlock)
+}
+
 /// The report of the job of an object before its first step, as one at an error stop.
 fn reported_as_stopped(alloc: Global, bytes: &[u8]) -> Result<Vec<u8>, Fail> {
     let sim = job(alloc, bytes, 1_000)?;
-    Ok(stopped_report(alloc, &sim, Stop::NoBlock)?)
+    Ok(report_as_stopped(alloc, sim)?)
 }
 
 /// Whether this is the report of the job of an object after so many steps, with a budget of so many.

@@ -1,7 +1,7 @@
 //! User chains: what is known of who joins one, and of who leaves it.
 
 use crate::flow::edges::second_edges;
-use crate::flow::tables::{NOTHING, Table, blocks_of, first_fault, row_if, states_of};
+use crate::flow::tables::{NOTHING, Table, blocks_of, first_fault, states_of};
 use crate::models::*;
 use gw_blocks::Block;
 use gw_flow::{AbsState, Amount, Edge, StateParts, Target};

@@ -5,7 +5,7 @@ use crate::flow::tables::{first_fault, object_of};
 use crate::models::*;
 use gw_blocks::{Block, Operand};
 use gw_flow::{AbsState, Edge, Parameter, ParameterKind, StateParts, Target};
-use gw_object::{Fault, Items, Memory, Object, TableKind, TableParameter, TableState};
+use gw_object::{Fault, Items, Memory, Object, TableState};
 use std::alloc::Global;
 use std::test::Fail;
 
@@ -27,29 +27,13 @@ const GENERATE_P1: Block = generate_by!(P1, number!(0), None, None, 0);
 /// The blocks of an object, each with the parameters that its row knows, if it has a row.
 type Table = &'static [(Block, Option<&'static [u8]>)];
 
-/// These parameters, each a number, as an object has them.
-fn table_parameters(alloc: Global, numbers: &[u8]) -> Result<Vec<TableParameter>, Memory> {
-    let mut parameters = Vec::new(alloc);
-    for number in numbers {
-        parameters.push(TableParameter {
-            number: *number,
-            kind: TableKind::Num,
-        })?;
-    }
-    Ok(parameters)
-}
-
-/// A row that knows these parameters.
+/// A row that knows these parameters, each a number.
 fn row_of(alloc: Global, numbers: &[u8]) -> Result<TableState, Memory> {
-    Ok(TableState {
-        parameters: Items::from_vec(table_parameters(alloc, numbers)?),
-        facilities: Items::from_vec(Vec::new(alloc)),
-        units: Items::from_vec(Vec::new(alloc)),
-    })
+    Ok(state_of_parameters(alloc, numeric_parameters(alloc, numbers)?))
 }
 
 /// A row that knows these parameters, if there is one.
-fn row_if(alloc: Global, numbers: Option<&[u8]>) -> Result<Option<TableState>, Memory> {
+fn row_knowing_if(alloc: Global, numbers: Option<&[u8]>) -> Result<Option<TableState>, Memory> {
     match numbers {
         Some(numbers) => Ok(Some(row_of(alloc, numbers)?)),
         None => Ok(None),
@@ -62,7 +46,7 @@ fn object(alloc: Global, table: Table) -> Result<Object, Fail> {
     let mut rows = Vec::new(alloc);
     for (block, numbers) in table {
         blocks.push(*block)?;
-        rows.push(row_if(alloc, *numbers)?)?;
+        rows.push(row_knowing_if(alloc, *numbers)?)?;
     }
     object_of(alloc, blocks, rows)
 }

@@ -56,14 +56,6 @@ pub(crate) fn blocks_of(alloc: Global, table: Table) -> Result<Vec<Block>, Memor
     Ok(blocks)
 }
 
-/// A row, if there is one, as an object has it.
-pub(crate) fn row_if(alloc: Global, row: Option<Row>) -> Result<Option<TableState>, Memory> {
-    match row {
-        Some(row) => Ok(Some(state(alloc, row)?)),
-        None => Ok(None),
-    }
-}
-
 /// The rows of these.
 pub(crate) fn states_of(alloc: Global, table: Table) -> Result<Vec<Option<TableState>>, Memory> {
     let mut states = Vec::new(alloc);

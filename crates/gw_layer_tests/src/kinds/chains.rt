@@ -23,7 +23,7 @@ macro_rules! by_members {
 
 /// Parts of these blocks, of which the first has this row, if it has one, and the others none.
 fn parts_of(alloc: Global, blocks: &[Block], first_row: Option<Row>) -> Result<Parts, Memory> {
-    let states = super::rows(alloc, blocks.len(), first_row)?;
+    let states = super::rows(alloc, blocks.len(), row_if(alloc, first_row)?)?;
     chain_parts(alloc, Vec::from_slice(alloc, blocks)?, states)
 }
 

@@ -15,11 +15,16 @@ pub(super) const SAVEVALUE: u16 = 4;
 /// No entity has this number.
 pub(super) const MISSING: u16 = 5;
 
+/// Adds a logic switch and a savevalue.
+fn add_two(alloc: Global, entities: &mut Vec<Entity>) -> Result<(), Memory> {
+    add_entity(alloc, entities, Kind::Switch(true), b"L")?;
+    add_entity(alloc, entities, Kind::Savevalue(-7), b"X")
+}
+
 /// The entities F, S and Q, a logic switch and a savevalue.
 fn five_entities(alloc: Global) -> Result<Vec<Entity>, Memory> {
     let mut entities = three_entities(alloc, 2_000_000)?;
-    add_entity(alloc, &mut entities, Kind::Switch(true), b"L")?;
-    add_entity(alloc, &mut entities, Kind::Savevalue(-7), b"X")?;
+    add_two(alloc, &mut entities)?;
     Ok(entities)
 }
 
@@ -37,7 +42,7 @@ fn fault_with(
     blocks: &[Block],
     first_row: Option<Row>,
 ) -> Result<Option<Fault>, Fail> {
-    let states = super::rows(alloc, blocks.len(), first_row)?;
+    let states = super::rows(alloc, blocks.len(), row_if(alloc, first_row)?)?;
     let entities = five_entities(alloc)?;
     let blocks = Vec::from_slice(alloc, blocks)?;
     let object = built(parts(alloc, entities, blocks, states)?)?;

@@ -1,31 +1,51 @@
 //! Kinds: what instructions name.
 
 use crate::models::*;
+use gw_blocks::Block;
 use gw_code::{Instruction, Procedure};
 use gw_kinds::check_kinds;
 use gw_object::{Fault, Items, Memory, Parts, Place};
 use std::alloc::Global;
 use std::test::Fail;
 
+/// Adds a procedure of this code, with three locals.
+fn add_procedure(
+    alloc: Global,
+    procedures: &mut Vec<Procedure>,
+    code: &[Instruction],
+) -> Result<(), Memory> {
+    procedures.push(procedure(alloc, (0, 3), &[], code)?)?;
+    Ok(())
+}
+
 /// The procedures of these codes, each with three locals.
 fn procedures(alloc: Global, codes: &[&[Instruction]]) -> Result<Vec<Procedure>, Memory> {
     let mut procedures = Vec::new(alloc);
     for code in codes {
-        procedures.push(procedure(alloc, (0, 3), &[], *code)?)?;
+        add_procedure(alloc, &mut procedures, *code)?;
     }
     Ok(procedures)
 }
 
-/// Parts with the entities F, S and Q, one block, and the procedures of these codes.
-fn parts_of(alloc: Global, codes: &[&[Instruction]]) -> Result<Parts, Memory> {
-    let mut parts = model_parts(alloc, 1, &[TERMINATE], no_states(alloc, 1)?)?;
+/// Parts with the entities F, S and Q, this block, and the procedures of these codes.
+fn parts_of(alloc: Global, block: Block, codes: &[&[Instruction]]) -> Result<Parts, Memory> {
+    let mut parts = model_parts(alloc, 1, &[block], no_states(alloc, 1)?)?;
     parts.procedures = Items::from_vec(procedures(alloc, codes)?);
     Ok(parts)
 }
 
+/// The fault of an object of this block and of the procedures of these codes, if it has one.
+fn fault_beside(
+    alloc: Global,
+    block: Block,
+    codes: &[&[Instruction]],
+) -> Result<Option<Fault>, Fail> {
+    Ok(check_kinds(&built(parts_of(alloc, block, codes)?)?).err())
+}
+
 /// The fault of the procedures of these codes, if they have one.
 fn fault_of(alloc: Global, codes: &[&[Instruction]]) -> Result<Option<Fault>, Fail> {
-    Ok(check_kinds(&built(parts_of(alloc, codes)?)?).err())
+    fault_beside(alloc, TERMINATE, codes)
 }
 
 /// The codes of procedures, and the code, the procedure and the instruction of the fault that they have.
@@ -96,16 +116,11 @@ fn what_an_instruction_names_wrongly_is_refused_at_it(rt: HostRuntime) -> Result
     Ok(())
 }
 
-/// The fault of an object of one procedure and one block, each of which has one.
-fn fault_of_both(alloc: Global) -> Result<Option<Fault>, Fail> {
-    let mut parts = parts_of(alloc, &[&[back!(0, 0)]])?;
-    parts.blocks = Items::from_vec(Vec::from_slice(alloc, &[LIMITED_TO_0])?);
-    Ok(check_kinds(&built(parts)?).err())
-}
-
 #[test]
 fn procedures_go_before_blocks(rt: HostRuntime) -> Result<(), Fail> {
+    // Each of the two has a fault.
+    let fault = fault_beside(rt.alloc(), LIMITED_TO_0, &[&[back!(0, 0)]])?;
     let place = Place::Code(0, 0);
-    assert!(rt; fault_of_both(rt.alloc())? == Some(Fault { code: 15, place }));
+    assert!(rt; fault == Some(Fault { code: 15, place }));
     Ok(())
 }

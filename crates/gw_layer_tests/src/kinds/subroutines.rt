@@ -5,7 +5,7 @@ use super::named::{has_values, wrong_object};
 use crate::models::*;
 use gw_blocks::Block;
 use gw_kinds::{Exit, Way, Who, check_kinds, returns_to};
-use gw_object::{Fault, Memory, TableKind, TableState};
+use gw_object::{Fault, TableKind};
 use std::alloc::Global;
 use std::test::Fail;
 
@@ -18,16 +18,6 @@ const SUBROUTINE: &[Block] = &[
     Block::TransferByParameter(1),
 ];
 
-/// The rows of so many blocks, of which the first has one that knows these parameters and the others have none.
-fn rows(alloc: Global, count: usize, known: Known) -> Result<Vec<Option<TableState>>, Memory> {
-    let mut states = Vec::new(alloc);
-    states.push(Some(state_knowing(alloc, known)?))?;
-    for _ in 1..count {
-        states.push(None)?;
-    }
-    Ok(states)
-}
-
 /// The fault of the object of these blocks and return rows, whose first block has a row that knows these parameters and the
 /// others none, if it has one.
 fn fault_with(
@@ -36,7 +26,7 @@ fn fault_with(
     known: Known,
     returns: Returns,
 ) -> Result<Option<Fault>, Fail> {
-    let states = rows(alloc, blocks.len(), known)?;
+    let states = super::rows(alloc, blocks.len(), state_if(alloc, Some(known))?)?;
     let mut parts = model_parts(alloc, 1, blocks, states)?;
     parts.returns = return_rows(alloc, returns)?;
     Ok(check_kinds(&built(parts)?).err())

@@ -77,12 +77,17 @@ fn known_and_none(alloc: Global) -> Result<Vec<Option<TableState>>, Memory> {
     states_knowing(alloc, &[Some(&[(1, TableKind::Num)]), None])
 }
 
+/// Adds the entities of the two chains' object.
+fn add_chains_and_queue(alloc: Global, entities: &mut Vec<Entity>) -> Result<(), Memory> {
+    add_entity(alloc, entities, Kind::Chain, b"C")?;
+    add_entity(alloc, entities, Kind::Queue, b"C")?;
+    add_entity(alloc, entities, Kind::Chain, b"D")
+}
+
 /// The entities of the two chains' object.
 fn chains_and_queue(alloc: Global) -> Result<Vec<Entity>, Memory> {
     let mut entities = Vec::new(alloc);
-    add_entity(alloc, &mut entities, Kind::Chain, b"C")?;
-    add_entity(alloc, &mut entities, Kind::Queue, b"C")?;
-    add_entity(alloc, &mut entities, Kind::Chain, b"D")?;
+    add_chains_and_queue(alloc, &mut entities)?;
     Ok(entities)
 }
 

@@ -2,7 +2,7 @@
 
 use super::*;
 use gw_blocks::Attribute;
-use gw_object::{Kind, TableKind, TableParameter};
+use gw_object::Kind;
 
 /// No blocks; a logic switch `L` that is set, one `M` that is reset, and a savevalue `X` of -2; termination count 1.
 const SETTINGS: [u8; 38] = [
@@ -310,16 +310,8 @@ const PARAMETER_FIELDS: [u32; 20] = [
 
 /// A state with these parameters and facilities.
 fn state_of(alloc: Global, numbers: &[u8], facilities: &[u16]) -> Result<TableState, Memory> {
-    let kind = TableKind::Num;
-    let mut parameters = Vec::new(alloc);
-    for number in numbers {
-        parameters.push(TableParameter {
-            number: *number,
-            kind,
-        })?;
-    }
-    let mut state = state(alloc, (facilities, &[]))?;
-    state.parameters = Items::from_vec(parameters);
+    let mut state = state_of_parameters(alloc, numeric_parameters(alloc, numbers)?);
+    state.facilities = Items::from_vec(Vec::from_slice(alloc, facilities)?);
     Ok(state)
 }
 
@@ -413,11 +405,19 @@ fn a_state_may_have_all_parameters(rt: HostRuntime) -> Result<(), Fail> {
     Ok(())
 }
 
+/// Whether a state with these parameters is the one with parameters 1 and 64.
+fn is_of_1_and_64(alloc: Global, numbers: &[u8]) -> Result<bool, Memory> {
+    let state = state_of(alloc, numbers, &[])?;
+    Ok(state == state_of(alloc, &[1, 64], &[])?)
+}
+
 #[test]
 fn states_of_other_parameters_differ(rt: HostRuntime) -> Result<(), Fail> {
-    let first = state_of(rt.alloc(), &[1, 64], &[])?;
-    assert!(rt; first == state_of(rt.alloc(), &[1, 64], &[])?);
-    assert!(rt; first != state_of(rt.alloc(), &[1], &[])?);
-    assert!(rt; first != state_of(rt.alloc(), &[1, 63], &[])?);
+    let are_right = [
+        is_of_1_and_64(rt.alloc(), &[1, 64])?,
+        !is_of_1_and_64(rt.alloc(), &[1])?,
+        !is_of_1_and_64(rt.alloc(), &[1, 63])?,
+    ];
+    assert!(rt; first_wrong(&are_right).is_none());
     Ok(())
 }
