@@ -1,5 +1,6 @@
 pub mod EachProcedure
 pub mod KnownHeights
+pub mod OneHeight
 pub mod Outcomes
 pub mod Potential
 pub mod Reading

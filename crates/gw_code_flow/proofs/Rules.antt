@@ -1,6 +1,6 @@
 -- What it means that code passes its checks.
-use Rattle.std.proofs.Common.{◌≡◌, ℕ, zero, suc, ◌+◌, ◌*◌, ◌<◌, ◌≤◌, List, [], ◌∷◌, ◌++◌, length, Option, Some, None, Bool, true, refl, sym, ap, ◌∙◌, subst, arith, nat_le, length-append}
-use Rattle.std.proofs.lemmas.Bool.{eq-eqb, eqb-true, leb-true, ltb-true, and_parts, and_from}
+use Rattle.std.proofs.Common.{◌≡◌, ℕ, zero, suc, ◌+◌, ◌*◌, ◌<◌, ◌≤◌, List, [], ◌∷◌, ◌++◌, length, Option, Some, None, Bool, true, refl, sym, ap, ◌∙◌, subst, arith, nat_le, length-append, ◌⊎◌, inl, inr, ◌==◌, ◌||◌}
+use Rattle.std.proofs.lemmas.Bool.{eq-eqb, eqb-true, leb-true, ltb-true, and_parts, and_from, or_left, or_right}
 use Rattle.std.specs.Prelude.{slice_get}
 use Rattle.std.specs.List.{list_all}
 use Rattle.gw_num.specs.Table.{at, put}
@@ -12,6 +12,7 @@ use Rattle.gw_object.specs.declared.parts.Parts.{Parts}
 use Rattle.gw_kinds.proofs.Each.{Hold, first_and_others, parts_hold}
 use Rattle.gw_code_flow.specs.Code.{procedure_at, most_values, takes, targets, leads_well, called_in, calls_lower, asks_for, is_among, turns_of, cost_of_called, cost_of_body, cost_of_code}
 use Rattle.gw_code_flow.specs.PlusChecks.{Heights, agrees, known_height, height_after, spread, instruction_checks, code_checks, has_code, greatest_cost, procedure_checks, checks_from, plus_checks, PlusPasses, costs_from, costs_of}
+use Rattle.gw_code_flow.specs.OneHeight.{IsLedTo}
 use Rattle.gw_code_flow.proofs.Steps.{Fine, Sound, Lead}
 
 -- ONE INSTRUCTION
@@ -44,7 +45,7 @@ kept p n pr heights k i (Some height) hold =
 -- HEIGHTS THAT SPREAD
 
 -- each height that is known stays known
-abbrev Grows : Heights → Heights → Type 0
+abbrev pub Grows : Heights → Heights → Type 0
 Grows heights more = (j height : ℕ) → at None heights j ≡ Some height → at None more j ≡ Some height
 
 agrees_is : (height other : ℕ) (known : Option ℕ) → agrees height known ≡ true → known ≡ Some other → other ≡ height
@@ -70,7 +71,7 @@ put_all_agree heights target height (j ∷ targets) agree =
     let both = and_parts (agrees height (at None heights j)) (all_agree heights height targets) agree in
     and_from _ _ (put_agrees heights target height j both.0) (put_all_agree heights target height targets both.1)
 
-spread_grows : (heights : Heights) (height : ℕ) (targets : List ℕ) → all_agree heights height targets ≡ true → Grows heights (spread heights height targets)
+pub spread_grows : (heights : Heights) (height : ℕ) (targets : List ℕ) → all_agree heights height targets ≡ true → Grows heights (spread heights height targets)
 spread_grows heights height [] agree j other is = is
 spread_grows heights height (target ∷ targets) agree j other is =
     let both = and_parts (agrees height (at None heights target)) (all_agree heights height targets) agree in
@@ -80,14 +81,37 @@ lead_on : (heights more : Heights) (height : ℕ) (targets : List ℕ) → Grows
 lead_on heights more height [] grows lead = tt
 lead_on heights more height (target ∷ targets) grows lead = (grows target height lead.0, lead_on heights more height targets grows lead.1)
 
-spread_leads : (heights : Heights) (height : ℕ) (targets : List ℕ) → all_agree heights height targets ≡ true → Lead (spread heights height targets) height targets
+pub spread_leads : (heights : Heights) (height : ℕ) (targets : List ℕ) → all_agree heights height targets ≡ true → Lead (spread heights height targets) height targets
 spread_leads heights height [] agree = tt
 spread_leads heights height (target ∷ targets) agree =
     let both = and_parts (agrees height (at None heights target)) (all_agree heights height targets) agree in
     let rest = put_all_agree heights target height targets both.1 in
     (spread_grows (put None heights target (Some height)) height targets rest target height (at-put None heights target (Some height)), spread_leads (put None heights target (Some height)) height targets rest)
 
+-- what is known after heights have spread was known before, or is at one of the instructions to which they spread
+pub spread_known : (heights : Heights) (height : ℕ) (targets : List ℕ) (j other : ℕ) → at None (spread heights height targets) j ≡ Some other → (at None heights j ≡ Some other) ⊎ (is_among targets j ≡ true)
+spread_known heights height [] j other is = inl is
+spread_known heights height (target ∷ targets) j other is =
+    elim (spread_known (put None heights target (Some height)) height targets j other is) [
+      | inl known ↦ by_entry None heights target (Some height) (λ i entry. entry ≡ Some other → (at None heights i ≡ Some other) ⊎ (is_among (target ∷ targets) i ≡ true))
+          (λ _. inr (or_left (target == target) (is_among targets target) (eq-eqb target target refl)))
+          (λ i else here. inl here)
+          j known
+      | inr among ↦ inr (or_right (j == target) (is_among targets j) among)
+    ]
+
 -- CODE
+
+-- an instruction has a known height only if it is the first one, or one before k leads to it
+abbrev Told : List Instruction → Heights → ℕ → Type 0
+Told whole heights k = (j height : ℕ) → at None heights j ≡ Some height → 0 < j → (m : ℕ) × (i : Instruction) × (m < k) × (slice_get whole m ≡ Some i) × (is_among (targets m i) j ≡ true)
+
+tell : (whole : List Instruction) (heights : Heights) (k height : ℕ) (i : Instruction) → slice_get whole k ≡ Some i → Told whole heights k → Told whole (spread heights height (targets k i)) (k + 1)
+tell whole heights k height i here told j other is later =
+    elim (spread_known heights height (targets k i) j other is) [
+      | inl known ↦ let before = told j other known later in (before.0, before.1, omega (arith, before.2), before.3, before.4)
+      | inr among ↦ (k, i, omega arith, here, among)
+    ]
 
 module _ (p : Parts) (n : ℕ) (pr : Procedure) where
   -- the checks hold at each of these instructions, which count from k on, by heights that keep these
@@ -129,13 +153,44 @@ module _ (p : Parts) (n : ℕ) (pr : Procedure) where
             rest.each;
       }
 
+  -- the height before the first of these instructions, by the checks, and the checks of the later ones
+  stepped : (heights : Heights) (k : ℕ) (i : Instruction) (code : List Instruction) → Hold (code_checks p n pr heights k (i ∷ code)) → (height : ℕ) × (at None heights k ≡ Some height) × Hold (code_checks p n pr (spread heights (height_after p i height) (targets k i)) (k + 1) code)
+  stepped heights k i code hold =
+      let after = λ (before : Option ℕ). spread heights (height_after p i (known_height before)) (targets k i) in
+      let parts = parts_hold (instruction_checks p n pr heights k i (at None heights k)) (code_checks p n pr (after (at None heights k)) (k + 1) code) hold in
+      let r = kept p n pr heights k i (at None heights k) parts.0 in
+      (r.height, r.is, subst (λ (before : Option ℕ). Hold (code_checks p n pr (after before) (k + 1) code)) r.is parts.1)
+
+  -- where the checks hold, an earlier instruction leads to each of these but the first one of all
+  led_to : (whole : List Instruction) (heights : Heights) (k : ℕ) (code : List Instruction) → ((j : ℕ) → slice_get code j ≡ slice_get whole (k + j)) → Told whole heights k → Hold (code_checks p n pr heights k code) → (m : ℕ) → 0 < k + m → m < length code → IsLedTo whole (k + m)
+  led_to whole heights k [] same told hold m later within = absurd (omega arith)
+  led_to whole heights k (i ∷ code) same told hold zero later within =
+      let here : k + 0 ≡ k = omega arith in
+      let s = stepped heights k i code hold in
+      subst (λ x. IsLedTo whole x) (sym here) (told k s.0 s.1 (omega (arith, later)))
+  led_to whole heights k (i ∷ code) same told hold (suc m) later within =
+      let next : k + 1 + m ≡ k + suc m = omega arith in
+      let here : slice_get whole k ≡ Some i = ap (slice_get whole) (omega arith) ∙ sym (same 0) in
+      let s = stepped heights k i code hold in
+      subst (λ x. IsLedTo whole x) next
+      (led_to whole (spread heights (height_after p i s.0) (targets k i)) (k + 1) code
+      (λ j. same (suc j) ∙ ap (slice_get whole) (omega arith))
+      (tell whole heights k (height_after p i s.0) i here told)
+      s.2 m (omega arith) (omega (arith, within)))
+
 some_code : (code : List Instruction) → has_code code ≡ true → 0 < length code
 some_code [] has = absurd (cc)
 some_code (i ∷ code) has = omega arith
 
+-- at first the height before the first instruction alone is known
+first_alone : (whole : List Instruction) → Told whole (Some 0 ∷ []) 0
+first_alone whole zero height is later = absurd (omega (arith, later))
+first_alone whole (suc j) height is later = absurd (cc)
+
 -- a procedure passes, by the costs of those below
 pub record Accepted (p : Parts) (costs : List ℕ) (n : ℕ) (pr : Procedure) : Type 0 where
   pub sound : Sound p n pr
+  pub led_to : (k : ℕ) → 0 < k → k < length pr.code → IsLedTo pr.code k
   pub cost : cost_of_code p.entities costs pr.code ≤ greatest_cost
 
 accepted : (p : Parts) (costs : List ℕ) (n : ℕ) (pr : Procedure) → Hold (procedure_checks p costs n pr) → Accepted p costs n pr
@@ -145,6 +200,7 @@ accepted p costs n pr hold =
     let s = scanned p n pr (Some 0 ∷ []) 0 pr.code parts.0 in
     record {
       sound = record { heights = s.more; start = s.grows 0 0 refl; some = some_code pr.code some.0; each = λ k i here. s.each k k i (omega arith) here };
+      led_to = λ k later within. subst (λ m. IsLedTo pr.code m) (omega arith) (led_to p n pr pr.code (Some 0 ∷ []) 0 pr.code (λ j. ap (slice_get pr.code) (omega arith)) (first_alone pr.code) parts.0 k (omega (arith, later)) within);
       cost = leb-true _ _ (first_and_others _ _ _ some.1).0;
     }
 
@@ -177,20 +233,30 @@ costs_keep es costs (pr ∷ prs) q within =
     let cost = cost_of_code es costs pr.code in
     costs_keep es (costs ++ cost ∷ []) prs q (omega (arith, length-append costs (cost ∷ []))) ∙ at_front costs cost q within
 
--- a procedure among the others: its heights, and its cost
+-- what a procedure costs stands behind the costs of those below
+pub own_cost : (es : List Entity) (costs : List ℕ) (pr : Procedure) (prs : List Procedure) → at 0 (costs_from es costs (pr ∷ prs)) (length costs) ≡ cost_of_code es costs pr.code
+own_cost es costs pr prs =
+    let cost = cost_of_code es costs pr.code in
+    costs_keep es (costs ++ cost ∷ []) prs (length costs) (omega (arith, length-append costs (cost ∷ []))) ∙ at_end costs cost
+
+-- a procedure among the others: its heights, what leads to its instructions, and its cost
 pub record Checked (p : Parts) (costs : List ℕ) (n : ℕ) (pr : Procedure) : Type 0 where
   pub sound : Sound p n pr
+  pub led_to : (k : ℕ) → 0 < k → k < length pr.code → IsLedTo pr.code k
+  pub bound : at 0 costs n ≤ greatest_cost
   pub cost : at 0 costs n ≡ cost_of_code p.entities costs pr.code
 
 checked_one : (p : Parts) (costs : List ℕ) (pr : Procedure) (prs : List Procedure) → Accepted p costs (length costs) pr → Checked p (costs_from p.entities costs (pr ∷ prs)) (length costs) pr
 checked_one p costs pr prs a =
-    let cost = cost_of_code p.entities costs pr.code in
     let all = costs_from p.entities costs (pr ∷ prs) in
     let s = a.sound in
     let same : cost_of_body p.entities costs pr.code ≡ cost_of_body p.entities all pr.code = same_body p.entities (length costs) costs all pr.code (λ k i here. (s.each k i here).calls_lower) (λ q below. sym (costs_keep p.entities costs (pr ∷ prs) q below)) in
+    let own = own_cost p.entities costs pr prs in
     record {
       sound = s;
-      cost = costs_keep p.entities (costs ++ cost ∷ []) prs (length costs) (omega (arith, length-append costs (cost ∷ []))) ∙ at_end costs cost ∙ ap (λ x. x * (1 + turns_of pr.code)) same;
+      led_to = a.led_to;
+      bound = omega (arith, own, a.cost);
+      cost = own ∙ ap (λ x. x * (1 + turns_of pr.code)) same;
     }
 
 checked_from : (p : Parts) (costs : List ℕ) (n : ℕ) (prs : List Procedure) → length costs ≡ n → Hold (checks_from p costs n prs) → (j m : ℕ) (pr : Procedure) → m ≡ n + j → slice_get prs j ≡ Some pr → Checked p (costs_from p.entities costs prs) m pr

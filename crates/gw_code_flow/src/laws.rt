@@ -3,6 +3,7 @@
 
 ghost use Rattle.gw_code_flow.specs.Laws.{OneOutcome, AnswersAreDerived, DerivedIsAnswered};
 ghost use Rattle.gw_code_flow.specs.Laws.{OutcomesDependOnWhatIsKept, HasOutcome, CostBounds, OutcomesAreEvaluated};
+ghost use Rattle.gw_code_flow.specs.OneHeight.{PlusPassesByHeights};
 
 /// From one place at most one outcome is derived, after as many instructions (ours: docs/plus-code.md).
 #[tactic(auto, using(crate::proofs::Theorems::one_outcome_law))]
@@ -37,4 +38,12 @@ pub fn accepted_code_never_gets_stuck()
 /// needs are set: the one that PLUS evaluation derives (ours: docs/plus-code.md).
 pub fn outcomes_are_evaluated()
     ensures { OutcomesAreEvaluated }
+{}
+
+/// PLUS code passes its checks exactly where, in each procedure, the stack has one height before each instruction, such that
+/// each rule holds, an earlier instruction leads to each but the first, and the procedure costs at most 10^9 (ours:
+/// docs/plus-code.md).
+#[tactic(auto, using(crate::proofs::OneHeight::plus_passes_by_heights))]
+pub fn plus_passes_by_heights()
+    ensures { PlusPassesByHeights }
 {}
