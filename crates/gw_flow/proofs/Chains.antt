@@ -12,8 +12,8 @@ use Rattle.gw_flow.specs.declared.abstract_state.Parameter.{Parameter}
 use Rattle.gw_flow.specs.declared.edges.Edge.{Edge}
 use Rattle.gw_flow.specs.declared.edges.FlowEdge.{FlowEdge}
 use Rattle.gw_flow.specs.Rows.{Row}
-use Rattle.gw_flow.specs.Blocks.{Table, move, edges_from, joins, members_edges}
-use Rattle.gw_flow.specs.Flow.{SayTheSame, own_setting, parameters_with, own_edges, HaveOwn}
+use Rattle.gw_flow.specs.Blocks.{Table, parameter_set, move, edges_from, joins, members_edges}
+use Rattle.gw_flow.specs.Flow.{SayTheSame, parameters_with, own_edges, HaveOwn}
 
 -- BLOCKS
 
@@ -43,13 +43,13 @@ first_of P rows e (o ∷ out) more h all = All-cons P o [] (All-head P o out all
 
 -- the edges of who enters have the parameters of who enters, whatever those of members have
 pub all_have_own : (rows : List ReturnRow) (table : Table) (b : ℕ) (block : Block) (state : Row) (given : List Parameter) (out more : List Edge) → ChainUse block → SayTheSame rows out (edges_from b block state ++ joins block state) → SayTheSame rows more (members_edges table block) →
-    All (λ (e : Edge). e.state.parameters ≡ parameters_with (own_setting b block) given) out → HaveOwn (out ++ more) b block given
+    All (λ (e : Edge). e.state.parameters ≡ parameters_with (parameter_set b block) given) out → HaveOwn (out ++ more) b block given
 all_have_own rows table b _ state given out more (Links l) h g all =
     let alone : out ++ more ≡ out = ap (λ xs. out ++ xs) (none_said rows more g) ∙ append-nil out in
-    subst (All (λ (e : Edge). e.state.parameters ≡ parameters_with (own_setting b (blocks.Link l)) given)) (sym alone) all
+    subst (All (λ (e : Edge). e.state.parameters ≡ parameters_with (parameter_set b (blocks.Link l)) given)) (sym alone) all
 all_have_own rows table b _ state given out more (Unlinks u) h g all =
-    first_of (λ (e : Edge). e.state.parameters ≡ parameters_with (own_setting b (blocks.Unlink u)) given) rows (move (b + 1) state) out more h all
+    first_of (λ (e : Edge). e.state.parameters ≡ parameters_with (parameter_set b (blocks.Unlink u)) given) rows (move (b + 1) state) out more h all
 all_have_own rows table b block state given out more (Neither joins_none members_none own_all) h g all =
     let none : more ≡ [] = none_said rows more (subst (SayTheSame rows more) (members_none table) g) in
     let alone : own_edges block (out ++ more) ≡ out = own_all (out ++ more) ∙ ap (λ xs. out ++ xs) none ∙ append-nil out in
-    subst (All (λ (e : Edge). e.state.parameters ≡ parameters_with (own_setting b block) given)) (sym alone) all
+    subst (All (λ (e : Edge). e.state.parameters ≡ parameters_with (parameter_set b block) given)) (sym alone) all

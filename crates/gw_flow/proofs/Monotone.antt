@@ -17,8 +17,9 @@ use Rattle.gw_flow.specs.Entries.{lists, with_number, without_number}
 use Rattle.gw_flow.specs.Rows.{Row, ParamKind, Num, Ret, kind_of, is_number, is_return, return_blocks, units_of, with_parameter, with_facility, without_facility, with_units, kind_fits, Fits}
 use Rattle.gw_flow.specs.declared.edges.FlowEdge.{FlowEdge}
 use Rattle.gw_flow.specs.declared.edges.Target.TheVariants as targets
-use Rattle.gw_flow.specs.declared.setting.Setting.{Setting}
-use Rattle.gw_flow.specs.Blocks.{Table, Rule, rule, holds_units, number_rules, return_rules, parameters_read, value_rules, replaces, own_rules, parameter_set, kind_set, with_setting, after, move, is_used, known_of, edge_along, edges_along, edges_from, join, members_edges, chain_edges}
+use Rattle.gw_flow.specs.declared.abstract_state.Parameter.{Parameter}
+use Rattle.gw_flow.specs.Seen.{kind_seen}
+use Rattle.gw_flow.specs.Blocks.{Table, Rule, rule, holds_units, number_rules, return_rules, parameters_read, value_rules, replaces, own_rules, parameter_set, with_setting, after, move, is_used, known_of, edge_along, edges_along, edges_from, join, members_edges, chain_edges}
 use Rattle.gw_flow.specs.Laws.{forbids, FittingStatesPass}
 use Rattle.gw_flow.proofs.Chains.{ChainUse, Links, Unlinks, Neither, chain_use}
 use Rattle.gw_flow.proofs.Entries.{entry-with_entry, amount-with_entry}
@@ -38,9 +39,9 @@ fits_parameter p kind state row h = record {
   units = h.units;
 }
 
-fits_set : (b : ℕ) (set : Option Setting) (state row : Row) → Fits state row → Fits (with_setting b set state) (with_setting b set row)
-fits_set b None state row h = h
-fits_set b (Some set) state row h = fits_parameter set.parameter (kind_set b set.to) state row h
+fits_set : (set : Option Parameter) (state row : Row) → Fits state row → Fits (with_setting set state) (with_setting set row)
+fits_set None state row h = h
+fits_set (Some set) state row h = fits_parameter set.number (kind_seen [] set.kind) state row h
 
 fits_facility : (f : ℕ) (state row : Row) → Fits state row → Fits (with_facility f state) (with_facility f row)
 fits_facility f state row h = record { params = h.params; facilities = ap (with_number f) h.facilities; units = h.units }
@@ -161,8 +162,8 @@ passes_like p b (blocks.Assign a) state row h = record {
 passes_like p b (blocks.Loop l) state row h = record { rules_hold = λ _ hold. by_number l.parameter state row h hold; after_fits = h }
 passes_like p b (blocks.Logic l) state row h = record { rules_hold = λ _ hold. hold; after_fits = h }
 passes_like p b (blocks.Savevalue s) state row h = record { rules_hold = λ _ hold. hold; after_fits = h }
-passes_like p b (blocks.Mark p') state row h = record { rules_hold = λ _ hold. hold; after_fits = fits_set b (parameter_set (blocks.Mark p')) state row h }
-passes_like p b (blocks.Plus a) state row h = record { rules_hold = λ _ hold. hold; after_fits = fits_set b (parameter_set (blocks.Plus a)) state row h }
+passes_like p b (blocks.Mark p') state row h = record { rules_hold = λ _ hold. hold; after_fits = fits_set (parameter_set b (blocks.Mark p')) state row h }
+passes_like p b (blocks.Plus a) state row h = record { rules_hold = λ _ hold. hold; after_fits = fits_set (parameter_set b (blocks.Plus a)) state row h }
 passes_like p b (blocks.Tabulate t) state row h = record { rules_hold = λ _ hold. hold; after_fits = h }
 passes_like p b (blocks.TransferToSubroutine c) state row h = record { rules_hold = λ _ hold. hold; after_fits = fits_parameter c.parameter (Ret (b ∷ [])) state row h }
 passes_like p b (blocks.TransferByParameter q) state row h = record { rules_hold = λ _ hold. by_return q state row h hold; after_fits = h }

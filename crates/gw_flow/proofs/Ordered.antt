@@ -20,7 +20,7 @@ use Rattle.gw_flow.specs.declared.state.Param.{Param}
 use Rattle.gw_flow.specs.Entries.{in_place, with_number, with_entry}
 use Rattle.gw_flow.specs.Rows.{Row, ParamKind, KindAscends, IsOrdered, with_parameter, with_facility, without_facility, with_units, nonzero}
 use Rattle.gw_flow.specs.Seen.{row_blocks, kind_seen, kind_said, PartsAscend, known, seen}
-use Rattle.gw_flow.specs.Viewed.{held_kind, viewed}
+use Rattle.gw_flow.specs.Viewed.{kind_viewed, viewed}
 use Rattle.gw_flow.proofs.Ascending.{Ascends, All-from_map, AllPairs-map, AllPairs-from_map, ascends_placed}
 
 -- RETURN ROWS
@@ -75,10 +75,10 @@ module _ (rows : List ReturnRow) (up : All AreAscending rows) where
 
 module _ (ps : List Param) (fs : List ℕ) (us : List Amount) (h : IsOrdered (viewed ps fs us)) where
   pub params_from_viewed : AllPairs (λ (a b : Param). a.number < b.number) ps
-  params_from_viewed = AllPairs-from_map (λ (a b : ℕ × ParamKind). a.0 < b.0) (λ (p : Param). (p.number, held_kind p.holds)) ps h.params
+  params_from_viewed = AllPairs-from_map (λ (a b : ℕ × ParamKind). a.0 < b.0) (λ (p : Param). (p.number, kind_viewed p.kind)) ps h.params
 
-  pub returns_from_viewed : All (λ (p : Param). KindAscends (held_kind p.holds)) ps
-  returns_from_viewed = All-from_map (λ (e : ℕ × ParamKind). KindAscends e.1) (λ (p : Param). (p.number, held_kind p.holds)) ps h.returns
+  pub returns_from_viewed : All (λ (p : Param). KindAscends (kind_viewed p.kind)) ps
+  returns_from_viewed = All-from_map (λ (e : ℕ × ParamKind). KindAscends e.1) (λ (p : Param). (p.number, kind_viewed p.kind)) ps h.returns
 
   pub units_from_viewed : AllPairs (λ (a b : Amount). a.entity < b.entity) us
   units_from_viewed = AllPairs-from_map (λ (a b : ℕ × ℕ). a.0 < b.0) (λ (u : Amount). (u.entity, u.number)) us h.units

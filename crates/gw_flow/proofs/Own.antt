@@ -3,6 +3,7 @@ use Rattle.std.proofs.Common.{◌≡◌, ℕ, ◌<◌, List, [], ◌∷◌, ◌+
 use Rattle.std.specs.Prelude.{All, AllPairs}
 use Rattle.std.proofs.lemmas.List.Elements.{All-nil, All-cons, All-append}
 use Rattle.gw_blocks.specs.declared.parts.Block.{Block}
+use Rattle.gw_blocks.specs.declared.parts.Block.TheVariants as blocks
 use Rattle.gw_object.specs.declared.parts.ReturnRow.{ReturnRow}
 use Rattle.gw_kinds.specs.declared.ways.Who.{Who}
 use Rattle.gw_kinds.specs.declared.ways.Who.TheVariants.{Itself, Copies}
@@ -10,37 +11,42 @@ use Rattle.gw_kinds.specs.declared.ways.Exit.{Exit}
 use Rattle.gw_kinds.specs.Exits.{leads_to, exits_with}
 use Rattle.gw_flow.specs.declared.abstract_state.Parameter.{Parameter}
 use Rattle.gw_flow.specs.declared.abstract_state.StateParts.{StateParts}
-use Rattle.gw_flow.specs.declared.setting.SetTo.{SetTo}
-use Rattle.gw_flow.specs.declared.setting.SetTo.TheVariants.{Number, ReturnHere}
-use Rattle.gw_flow.specs.declared.setting.Setting.{Setting}
 use Rattle.gw_flow.specs.declared.edges.FlowEdge.{FlowEdge}
 use Rattle.gw_flow.specs.Entries.{with_entry}
 use Rattle.gw_flow.specs.Rows.{ParamKind, Row}
 use Rattle.gw_flow.specs.Seen.{kind_seen, params_of, known}
-use Rattle.gw_flow.specs.Flow.{own_kind, own_setting, parameters_with}
-use Rattle.gw_flow.specs.Blocks.{parameter_set, kind_set, with_setting, after, returns_read, move, is_used, known_of, edge_along, edges_along, edges_from, join, joins}
+use Rattle.gw_flow.specs.Flow.{parameters_with}
+use Rattle.gw_flow.specs.Blocks.{number_in, parameter_set, with_setting, after, returns_read, move, is_used, known_of, edge_along, edges_along, edges_from, join, joins}
 use Rattle.gw_flow.proofs.Chains.{ChainUse, Links, Unlinks, Neither, chain_use}
 use Rattle.gw_flow.proofs.Entries.{entries-in_place}
 use Rattle.gw_flow.proofs.Parameters.{after_params}
 use Rattle.gw_flow.proofs.Ordered.{in_place_ascends}
 
--- what calls carry of a parameter that is set is what it holds
-kind_is : (rows : List ReturnRow) (b : ℕ) (to : SetTo) → kind_seen rows (own_kind b to) ≡ kind_set b to
-kind_is rows b Number = refl
-kind_is rows b ReturnHere = refl
+-- a parameter that is set names no return row
+abbrev NamesNoRow : Option Parameter → Type 0
+NamesNoRow None = Unit {0}
+NamesNoRow (Some set) = (rows : List ReturnRow) → kind_seen rows set.kind ≡ kind_seen [] set.kind
 
-abbrev own : ℕ → Option Setting → Option Parameter
-own b set = option_map (λ (s : Setting). record { number = s.parameter; kind = own_kind b s.to }) set
+number_names_none : (q : Option ℕ) → NamesNoRow (option_map number_in q)
+number_names_none None = tt
+number_names_none (Some q) = λ rows. refl
 
-own_with : (rows : List ReturnRow) (b : ℕ) (set : Option Setting) (s : StateParts) → (with_setting b set (known rows s)).params ≡ params_of rows (parameters_with (own b set) s.parameters)
-own_with rows b None s = refl
-own_with rows b (Some set) s =
-    ap (λ kind. with_entry set.parameter (Some kind) (params_of rows s.parameters)) (sym (kind_is rows b set.to))
-    ∙ sym (entries-in_place (λ (q : Parameter). q.number) (λ (q : Parameter). kind_seen rows q.kind) (record { number = set.parameter; kind = own_kind b set.to }) s.parameters)
+set_names_none : (b : ℕ) (block : Block) → NamesNoRow (parameter_set b block)
+set_names_none b (blocks.Assign a) = λ rows. refl
+set_names_none b (blocks.TransferToSubroutine c) = λ rows. refl
+set_names_none b (blocks.Mark q) = number_names_none q
+set_names_none b (blocks.Plus a) = number_names_none a.parameter
+set_names_none b block = tt
+
+own_with : (rows : List ReturnRow) (set : Option Parameter) (s : StateParts) → NamesNoRow set → (with_setting set (known rows s)).params ≡ params_of rows (parameters_with set s.parameters)
+own_with rows None s none = refl
+own_with rows (Some set) s none =
+    ap (λ kind. with_entry set.number (Some kind) (params_of rows s.parameters)) (sym (none rows))
+    ∙ sym (entries-in_place (λ (q : Parameter). q.number) (λ (q : Parameter). kind_seen rows q.kind) set s.parameters)
 
 -- what is known of parameters after a block is what the given ones say, but the one that it sets
-own_after : (rows : List ReturnRow) (b : ℕ) (block : Block) (s : StateParts) → (after b block (known rows s)).params ≡ params_of rows (parameters_with (own_setting b block) s.parameters)
-own_after rows b block s = after_params b block (known rows s) ∙ own_with rows b (parameter_set block) s
+own_after : (rows : List ReturnRow) (b : ℕ) (block : Block) (s : StateParts) → (after b block (known rows s)).params ≡ params_of rows (parameters_with (parameter_set b block) s.parameters)
+own_after rows b block s = after_params b block (known rows s) ∙ own_with rows (parameter_set b block) s (set_names_none b block)
 
 -- who goes along an exit has the parameters of who entered
 known_params : (who : Who) (passed : Row) → (known_of who passed).params ≡ passed.params
@@ -72,9 +78,9 @@ module _ (params : List (ℕ × ParamKind)) where
 
 -- and so at each edge of who enters the block
 pub own_at_edges : (rows : List ReturnRow) (b : ℕ) (block : Block) (s : StateParts) →
-    All (λ (e : FlowEdge). e.state.params ≡ params_of rows (parameters_with (own_setting b block) s.parameters)) (edges_from b block (known rows s) ++ joins block (known rows s))
+    All (λ (e : FlowEdge). e.state.params ≡ params_of rows (parameters_with (parameter_set b block) s.parameters)) (edges_from b block (known rows s) ++ joins block (known rows s))
 own_at_edges rows b block s =
-    let params = params_of rows (parameters_with (own_setting b block) s.parameters) in
+    let params = params_of rows (parameters_with (parameter_set b block) s.parameters) in
     let state = known rows s in
     All-append (Has params) (edges_from b block state) (joins block state)
     (at_edges params b (exits_with (returns_read block state) block) (after b block state) (own_after rows b block s))

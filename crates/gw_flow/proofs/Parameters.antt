@@ -30,7 +30,7 @@ pub kind_of_other : (p q : ℕ) (kind : ParamKind) (row : Row) → p ≢ q → k
 kind_of_other p q kind row ne = entry-with_entry p (Some kind) row.params q ∙ rw (ne_eqb p q ne) refl
 
 -- a block sets the parameter that it sets, and no other
-pub after_params : (b : ℕ) (block : Block) (row : Row) → (after b block row).params ≡ (with_setting b (parameter_set block) row).params
+pub after_params : (b : ℕ) (block : Block) (row : Row) → (after b block row).params ≡ (with_setting (parameter_set b block) row).params
 after_params b (blocks.Generate g) row = refl
 after_params b (blocks.Terminate by) row = refl
 after_params b (blocks.Advance time) row = refl

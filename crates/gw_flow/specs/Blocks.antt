@@ -20,12 +20,12 @@ use Rattle.gw_code_flow.specs.Code.{parameters_asked}
 use Rattle.gw_flow.specs.declared.edges.Target.{Target}
 use Rattle.gw_flow.specs.declared.edges.Target.TheVariants as targets
 use Rattle.gw_flow.specs.declared.edges.FlowEdge.{FlowEdge}
-use Rattle.gw_flow.specs.declared.setting.SetTo.{SetTo}
-use Rattle.gw_flow.specs.declared.setting.SetTo.TheVariants.{Number, ReturnHere}
-use Rattle.gw_flow.specs.declared.setting.Setting.{Setting}
+use Rattle.gw_flow.specs.declared.abstract_state.ParameterKind.TheVariants.{Num as OwnNum, RetTo as OwnRetTo}
+use Rattle.gw_flow.specs.declared.abstract_state.Parameter.{Parameter}
 use Rattle.gw_flow.specs.Codes as codes
 use Rattle.gw_flow.specs.Entries.{in_order}
-use Rattle.gw_flow.specs.Rows.{ParamKind, Num, Ret, Row, kind_of, is_number, is_return, return_blocks, owns, units_of, is_empty, nothing_known, with_parameter, with_facility, without_facility, with_units, parameters_alone}
+use Rattle.gw_flow.specs.Seen.{kind_seen}
+use Rattle.gw_flow.specs.Rows.{Row, kind_of, is_number, is_return, return_blocks, owns, units_of, is_empty, nothing_known, with_parameter, with_facility, without_facility, with_units, parameters_alone}
 
 -- a state table: what is known of a transaction that is about to go to a target, if it says that one may go there
 abbrev pub Table : Type 0
@@ -105,23 +105,22 @@ rules_without_row p block = if is_generate (Some block) then value_rules p block
 
 -- EDGES
 
--- the parameter that a block sets, if it sets one, and what to
-abbrev pub parameter_set : Block → Option Setting
-parameter_set (blocks.Assign a) = Some (record { parameter = a.parameter; to = Number })
-parameter_set (blocks.TransferToSubroutine c) = Some (record { parameter = c.parameter; to = ReturnHere })
-parameter_set (blocks.Mark p) = option_map (λ q. record { parameter = q; to = Number }) p
-parameter_set (blocks.Plus a) = option_map (λ q. record { parameter = q; to = Number }) a.parameter
-parameter_set block = None
+-- a parameter that is set to a number
+abbrev pub number_in : ℕ → Parameter
+number_in q = record { number = q; kind = OwnNum }
 
--- what a parameter holds that the block of number b has set
-abbrev pub kind_set : ℕ → SetTo → ParamKind
-kind_set b Number = Num
-kind_set b ReturnHere = Ret (b ∷ [])
+-- the parameter that the block of number b sets, if it sets one: to a number, or to the return to the block itself
+abbrev pub parameter_set : ℕ → Block → Option Parameter
+parameter_set b (blocks.Assign a) = Some (number_in a.parameter)
+parameter_set b (blocks.TransferToSubroutine c) = Some (record { number = c.parameter; kind = OwnRetTo b })
+parameter_set b (blocks.Mark p) = option_map number_in p
+parameter_set b (blocks.Plus a) = option_map number_in a.parameter
+parameter_set b block = None
 
--- the state once the block of number b has set a parameter, if it sets one
-abbrev pub with_setting : ℕ → Option Setting → Row → Row
-with_setting b None state = state
-with_setting b (Some s) state = with_parameter s.parameter (kind_set b s.to) state
+-- the state once a parameter is set, if one is; no return row is named
+abbrev pub with_setting : Option Parameter → Row → Row
+with_setting None state = state
+with_setting (Some set) state = with_parameter set.number (kind_seen [] set.kind) state
 
 -- what is known of a transaction once it has passed the block of number b in a state; most blocks change nothing of it
 abbrev pub after : ℕ → Block → Row → Row
@@ -131,7 +130,7 @@ after b (blocks.Enter u) state = with_units u.entity (units_of state u.entity + 
 after b (blocks.Leave u) state = with_units u.entity (units_of state u.entity - u.number) state
 after b (blocks.Queue u) state = with_units u.entity (units_of state u.entity + u.number) state
 after b (blocks.Depart u) state = with_units u.entity (units_of state u.entity - u.number) state
-after b block state = with_setting b (parameter_set block) state
+after b block state = with_setting (parameter_set b block) state
 
 -- the blocks to which the return may lead that a TRANSFER in parameter mode reads; no other block reads one
 abbrev pub returns_read : Block → Row → List ℕ

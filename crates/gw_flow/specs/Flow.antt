@@ -14,11 +14,6 @@ use Rattle.gw_object.specs.declared.parts.Parts.{Parts}
 use Rattle.gw_kinds.specs.Checks.{Check, check, first_broken, numbered}
 use Rattle.gw_kinds.specs.Kinds.{for_chain}
 use Rattle.gw_flow.specs.declared.abstract_state.Parameter.{Parameter}
-use Rattle.gw_flow.specs.declared.abstract_state.ParameterKind.{ParameterKind}
-use Rattle.gw_flow.specs.declared.abstract_state.ParameterKind.TheVariants.{Num as OwnNum, RetTo as OwnRetTo}
-use Rattle.gw_flow.specs.declared.setting.SetTo.{SetTo}
-use Rattle.gw_flow.specs.declared.setting.SetTo.TheVariants.{Number, ReturnHere}
-use Rattle.gw_flow.specs.declared.setting.Setting.{Setting}
 use Rattle.gw_flow.specs.declared.edges.Target.{Target}
 use Rattle.gw_flow.specs.declared.edges.Target.TheVariants as targets
 use Rattle.gw_flow.specs.declared.edges.Edge.{Edge}
@@ -100,15 +95,6 @@ abbrev pub FindsOrLacksMemory : {X : Type 0} → Result X Fault → List Check �
 FindsOrLacksMemory (Ok x) cs = first_broken cs ≡ None
 FindsOrLacksMemory (Err fault) cs = (first_broken cs ≡ Some fault) ⊎ (fault ≡ out_of_memory)
 
--- the kind, as calls carry it, of a parameter that the block of number b has set
-abbrev pub own_kind : ℕ → SetTo → ParameterKind
-own_kind b Number = OwnNum
-own_kind b ReturnHere = OwnRetTo b
-
--- the parameter that the block of number b sets, if it sets one, as calls carry it
-abbrev pub own_setting : ℕ → Block → Option Parameter
-own_setting b block = option_map (λ (s : Setting). record { number = s.parameter; kind = own_kind b s.to }) (parameter_set block)
-
 -- the parameters that are sure to be set once one is set, if one is; each other one is as it was given
 abbrev pub parameters_with : Option Parameter → List Parameter → List Parameter
 parameters_with None given = given
@@ -133,7 +119,7 @@ own_edges block out = out
 
 -- the states of edges of the block of number b have the parameters that were given, but the one that the block sets
 abbrev pub HaveOwn : List Edge → ℕ → Block → List Parameter → Type 0
-HaveOwn out b block given = All (λ (e : Edge). e.state.parameters ≡ parameters_with (own_setting b block) given) (own_edges block out)
+HaveOwn out b block given = All (λ (e : Edge). e.state.parameters ≡ parameters_with (parameter_set b block) given) (own_edges block out)
 
 -- what a call answers for the edges of a block, by these return rows, where these are the checks of its rules: the fault of the first rule that is broken; else where each edge leads and its state, in order, unless memory ran out
 abbrev pub AnswersEdges : List ReturnRow → Result (Vec Edge Global) Fault → List Check → List FlowEdge → Type 0

@@ -5,7 +5,7 @@ ghost use Rattle.gw_object.specs.declared.parts.ReturnRow.{ReturnRow};
 ghost use Rattle.gw_kinds.specs.Exits.{returns_to as exit_after};
 ghost use Rattle.gw_flow.specs.declared.abstract_state.Parameter.{Parameter as DeclaredParameter};
 ghost use Rattle.gw_flow.specs.Rows.{HasRoom, return_blocks};
-ghost use Rattle.gw_flow.specs.Viewed.{held_kind};
+ghost use Rattle.gw_flow.specs.Viewed.{kind_viewed};
 ghost use Rattle.gw_flow.specs.ViewedTable.{table_viewed};
 ghost use Rattle.gw_flow.specs.Blocks as model;
 ghost use Rattle.gw_flow.specs.Flow.{said};
@@ -15,8 +15,8 @@ use crate::abstract_state::{AbsState, Parameter};
 use crate::codes::{CHAIN_STATE, EDGE_STATE};
 use crate::lists::with_last;
 use crate::lookups::Lookups;
-use crate::setting::{Setting, parameter_set};
-use crate::state::{Holds, State};
+use crate::setting::parameter_set;
+use crate::state::{ParamKind, State, param_seen};
 use crate::table::StateTable;
 use gw_blocks::Block;
 use gw_kinds::{Exit, Who, exits, leads_to, returns_to};
@@ -45,11 +45,11 @@ pub struct Edge {
 #[derive(Debug, Drop)]
 pub struct FlowEdge<'a> {
     /// The code of the fault where the state doesn't fit the row of the target.
-    pub(crate) code: u16,
+    pub code: u16,
     /// Where the transaction goes on to.
-    pub(crate) target: Target,
+    pub target: Target,
     /// What is known of it there.
-    pub(crate) state: State<'a>,
+    pub state: State<'a>,
 }
 
 impl<'a> FlowEdge<'a> {
@@ -70,17 +70,19 @@ impl<'a> FlowEdge<'a> {
     }
 }
 
-/// The state once the block of this number has set a parameter, if it sets one.
+/// The state once this parameter is set, if one is; no return row is named.
 fn with_setting<'a>(
     alloc: Global,
-    number: u16,
-    setting: Option<Setting>,
+    set: Option<Parameter>,
     state: &State<'a>,
 ) -> Result<State<'a>, Memory>
-    ensures { IfOk result (λ s. s ≡ model.with_setting number setting state.now) }
+    ensures { IfOk result (λ s. s ≡ model.with_setting set state.now) }
 {
-    match setting {
-        Some(set) => state.with_parameter(alloc, set.parameter, set.to.holds(number)),
+    match set {
+        Some(parameter) => {
+            let param = param_seen(&[], &parameter);
+            state.with_parameter(alloc, param.number, param.kind)
+        }
         None => state.copy(alloc),
     }
 }
@@ -106,7 +108,7 @@ fn after<'a>(
             let units = state.units_of(u.entity).saturating_sub(u.number as u64);
             state.with_units(alloc, u.entity, units)
         }
-        _ => with_setting(alloc, number, parameter_set(block), state),
+        _ => with_setting(alloc, parameter_set(number, block), state),
     }
 }
 
@@ -174,14 +176,14 @@ fn exits_after(alloc: Global, blocks: &[u16]) -> Result<Vec<Exit>, Memory>
 }
 
 /// The exits of a TRANSFER in parameter mode whose parameter holds this, if it is set.
-fn exits_of_return(alloc: Global, holds: Option<Holds<'_>>) -> Result<Vec<Exit>, Memory>
-    requires { All (λ b. b < 65535) (return_blocks (option_map held_kind holds)) }
-    ensures { IfOk result (λ exits. exits.items ≡ map exit_after (return_blocks (option_map held_kind holds.entry))) }
+fn exits_of_return(alloc: Global, kind: Option<ParamKind<'_>>) -> Result<Vec<Exit>, Memory>
+    requires { All (λ b. b < 65535) (return_blocks (option_map kind_viewed kind)) }
+    ensures { IfOk result (λ exits. exits.items ≡ map exit_after (return_blocks (option_map kind_viewed kind.entry))) }
 {
-    match holds {
-        Some(Holds::ReturnTo(block)) => exits_after(alloc, &[block]),
-        Some(Holds::ReturnToAny(blocks)) => exits_after(alloc, blocks),
-        Some(Holds::Num) | None => Ok(Vec::new(alloc)),
+    match kind {
+        Some(ParamKind::Ret(blocks)) => exits_after(alloc, blocks),
+        Some(ParamKind::RetTo(block)) => exits_after(alloc, &[block]),
+        Some(ParamKind::Num) | None => Ok(Vec::new(alloc)),
     }
 }
 
@@ -243,7 +245,7 @@ fn members_move<'a>(
 }
 
 /// The edges of the block of this number in a state, in order, of those who enter it and of their copies.
-pub(crate) fn own_edges_of<'a>(
+pub fn own_edges_of<'a>(
     alloc: Global,
     number: u16,
     block: &Block,

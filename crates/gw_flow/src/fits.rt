@@ -6,11 +6,11 @@ ghost use Rattle.std.specs.List.{list_all, list_any};
 ghost use Rattle.gw_flow.specs.Entries.{lists};
 ghost use Rattle.gw_flow.specs.Rows as rows;
 ghost use Rattle.gw_flow.specs.Seen.{amounts_of};
-ghost use Rattle.gw_flow.specs.Viewed.{held_kind, params_viewed};
+ghost use Rattle.gw_flow.specs.Viewed.{kind_viewed, params_viewed};
 
 use crate::abstract_state::Amount;
 use crate::lists::Keyed;
-use crate::state::{Holds, Param};
+use crate::state::{Param, ParamKind};
 
 /// An entry of a list that ascends by number.
 trait Entry: Keyed {
@@ -53,33 +53,33 @@ fn are_all(blocks: &[u16], block: u16) -> bool
 
 /// Whether what a parameter holds suffices where this is asked: a number for a number, and a return for one to at least the
 /// same blocks.
-fn kind_suffices(held: Holds<'_>, asked: Holds<'_>) -> bool
-    requires held { rows.KindAscends (held_kind held) }
-    requires asked { rows.KindAscends (held_kind asked) }
-    ensures { result ≡ rows.kind_fits (Some (held_kind held.entry)) (Some (held_kind asked.entry)) }
+fn kind_suffices(held: ParamKind<'_>, asked: ParamKind<'_>) -> bool
+    requires held { rows.KindAscends (kind_viewed held) }
+    requires asked { rows.KindAscends (kind_viewed asked) }
+    ensures { result ≡ rows.kind_fits (Some (kind_viewed held.entry)) (Some (kind_viewed asked.entry)) }
 {
     match held {
-        Holds::Num => asked == Holds::Num,
-        Holds::ReturnTo(block) => match asked {
-            Holds::Num => false,
-            Holds::ReturnTo(other) => other == block,
-            Holds::ReturnToAny(others) => others.contains(&block),
+        ParamKind::Num => asked == ParamKind::Num,
+        ParamKind::RetTo(block) => match asked {
+            ParamKind::Num => false,
+            ParamKind::RetTo(other) => other == block,
+            ParamKind::Ret(others) => others.contains(&block),
         },
-        Holds::ReturnToAny(blocks) => match asked {
-            Holds::Num => false,
-            Holds::ReturnTo(other) => are_all(blocks, other),
-            Holds::ReturnToAny(others) => are_among(blocks, others),
+        ParamKind::Ret(blocks) => match asked {
+            ParamKind::Num => false,
+            ParamKind::RetTo(other) => are_all(blocks, other),
+            ParamKind::Ret(others) => are_among(blocks, others),
         },
     }
 }
 
 impl<'a> Entry for Param<'a> {
-    ghost enough = { λ held asked. rows.kind_fits (Some (held_kind held.holds)) (Some (held_kind asked.holds)) };
+    ghost enough = { λ held asked. rows.kind_fits (Some (kind_viewed held.kind)) (Some (kind_viewed asked.kind)) };
 
-    ghost can_compare = { λ p. rows.KindAscends (held_kind p.holds) };
+    ghost can_compare = { λ p. rows.KindAscends (kind_viewed p.kind) };
 
     fn suffices(&self, asked: &Param<'a>) -> bool {
-        kind_suffices(self.holds, asked.holds)
+        kind_suffices(self.kind, asked.kind)
     }
 }
 
@@ -131,8 +131,8 @@ pub(crate) fn has_units(held: &[Amount], asked: &[Amount]) -> bool
 pub(crate) fn has_params(held: &[Param<'_>], asked: &[Param<'_>]) -> bool
     requires held { AllPairs (λ (a b : Param). a.number < b.number) held.now }
     requires asked { AllPairs (λ (a b : Param). a.number < b.number) asked.now }
-    requires each_held { All (λ (p : Param). rows.KindAscends (held_kind p.holds)) held.now }
-    requires each_asked { All (λ (p : Param). rows.KindAscends (held_kind p.holds)) asked.now }
+    requires each_held { All (λ (p : Param). rows.KindAscends (kind_viewed p.kind)) held.now }
+    requires each_asked { All (λ (p : Param). rows.KindAscends (kind_viewed p.kind)) asked.now }
     ensures { result ≡ rows.params_fit (params_viewed held.now) (params_viewed asked.now) }
 {
     has_each(held, asked)

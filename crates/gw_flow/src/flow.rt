@@ -9,7 +9,7 @@ ghost use Rattle.gw_kinds.specs.Kinds.{block_at};
 ghost use Rattle.gw_kinds.specs.Pass.{KindsPass};
 ghost use Rattle.gw_flow.specs.declared.abstract_state.Parameter.{Parameter as DeclaredParameter};
 ghost use Rattle.gw_flow.specs.Rows.{HasRoom};
-ghost use Rattle.gw_flow.specs.Blocks.{edges_from, joins, members_edges, chain_edges, edges};
+ghost use Rattle.gw_flow.specs.Blocks.{parameter_set as set_by, edges_from, joins, members_edges, chain_edges, edges};
 ghost use Rattle.gw_flow.specs.Flow as model;
 ghost use Rattle.gw_flow.specs.Flow.{FindsOrLacksMemory, SayTheSame, HaveOwn, AnswersEdges};
 ghost use Rattle.gw_flow.specs.Seen.{known, params_of};
@@ -22,7 +22,7 @@ use crate::edges::{Edge, FlowEdge, Target, all_edges_of, own_edges_of};
 use crate::lists::{copy_of, in_place, with_last};
 use crate::lookups::Carried;
 use crate::rules::{check_rules, check_without_row};
-use crate::setting::own_setting;
+use crate::setting::parameter_set;
 use crate::state::State;
 use crate::table::{StateTable, rows_of};
 use gw_blocks::Block;
@@ -188,11 +188,11 @@ fn own_edges(
     requires returns { All AreAscending returns.now }
     requires room { HasRoom (known returns.now state.now) }
     ensures same { IfOk result (λ out. SayTheSame returns.now out.items (edges_from number block.now (known returns.now state.now) ++ joins block.now (known returns.now state.now))) }
-    ensures own { IfOk result (λ out. All (λ (e : DeclaredEdge). e.state.parameters ≡ model.parameters_with (model.own_setting number block.now) state.now.parameters) out.items) }
+    ensures own { IfOk result (λ out. All (λ (e : DeclaredEdge). e.state.parameters ≡ model.parameters_with (set_by number block.now) state.now.parameters) out.items) }
 {
     let seen = State::of(alloc, returns, state)?;
     let edges = own_edges_of(alloc, number, block, &seen)?;
-    let set = own_setting(number, block);
+    let set = parameter_set(number, block);
     let parameters = parameters_with(alloc, set, &state.parts().parameters)?;
     in_numbers_of(alloc, &edges, &parameters)
 }

@@ -15,6 +15,9 @@ mod state;
 mod table;
 
 pub use abstract_state::{AbsState, Amount, Parameter, ParameterKind, StateParts};
-pub use edges::{Edge, Target, is_used};
+pub use edges::{Edge, FlowEdge, Target, is_used, own_edges_of};
 pub use flow::{check_flow, out_edges};
 pub use gw_code_flow::check_plus;
+pub use lookups::Lookups;
+pub use rules::check_rules;
+pub use state::{Param, ParamKind, State};

@@ -3,16 +3,16 @@
 ghost use Rattle.std.specs.Prelude.{◌≡◌, ◌==◌, length, is_some, option_map};
 ghost use Rattle.gw_flow.specs.Rows.{Row};
 ghost use Rattle.gw_flow.specs.Rows as rows;
-ghost use Rattle.gw_flow.specs.Viewed.{held_kind};
+ghost use Rattle.gw_flow.specs.Viewed.{kind_viewed};
 ghost use Rattle.gw_flow.specs.Seen.{known as known_of, amounts_of};
 
 use crate::abstract_state::{AbsState, Amount};
 use crate::lists::{amount_in, of_key};
-use crate::state::{Holds, param_seen};
+use crate::state::{ParamKind, param_seen};
 use gw_object::ReturnRow;
 
 /// What is known of a transaction, by lookups that take no memory.
-pub(crate) trait Lookups {
+pub trait Lookups {
     /// The abstract state that is looked into.
     ghost known: { Self → Row };
 
@@ -21,8 +21,8 @@ pub(crate) trait Lookups {
         ensures { result ≡ (length (known self.now).params == 0) };
 
     /// What a parameter, given by its number, is sure to hold.
-    fn kind_of(&self, parameter: u8) -> Option<Holds<'_>>
-        ensures { option_map held_kind result ≡ rows.kind_of (known self.now) parameter };
+    fn kind_of(&self, parameter: u8) -> Option<ParamKind<'_>>
+        ensures { option_map kind_viewed result ≡ rows.kind_of (known self.now) parameter };
 
     /// The facilities that are owned.
     fn facilities(&self) -> &[u16]
@@ -44,8 +44,8 @@ pub(crate) trait Lookups {
         ensures { result ≡ rows.is_number (rows.kind_of (known self.now) parameter) }
     {
         match self.kind_of(parameter) {
-            Some(Holds::Num) => true,
-            Some(Holds::ReturnTo(_) | Holds::ReturnToAny(_)) | None => false,
+            Some(ParamKind::Num) => true,
+            Some(ParamKind::Ret(_) | ParamKind::RetTo(_)) | None => false,
         }
     }
 
@@ -54,8 +54,8 @@ pub(crate) trait Lookups {
         ensures { result ≡ rows.is_return (rows.kind_of (known self.now) parameter) }
     {
         match self.kind_of(parameter) {
-            Some(Holds::ReturnTo(_) | Holds::ReturnToAny(_)) => true,
-            Some(Holds::Num) | None => false,
+            Some(ParamKind::Ret(_) | ParamKind::RetTo(_)) => true,
+            Some(ParamKind::Num) | None => false,
         }
     }
 
@@ -104,9 +104,9 @@ impl<'a> Lookups for Carried<'a> {
         self.state.parts().parameters.as_slice().is_empty()
     }
 
-    fn kind_of(&self, parameter: u8) -> Option<Holds<'_>> {
+    fn kind_of(&self, parameter: u8) -> Option<ParamKind<'_>> {
         let parameters = self.state.parts().parameters.as_slice();
-        of_key(parameters, parameter as u16).map(|found| param_seen(self.returns, &found).holds)
+        of_key(parameters, parameter as u16).map(|found| param_seen(self.returns, &found).kind)
     }
 
     fn facilities(&self) -> &[u16] {
@@ -128,7 +128,7 @@ impl Lookups for NoRow {
         true
     }
 
-    fn kind_of(&self, _: u8) -> Option<Holds<'_>> {
+    fn kind_of(&self, _: u8) -> Option<ParamKind<'_>> {
         None
     }
 

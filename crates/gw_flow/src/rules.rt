@@ -166,7 +166,7 @@ fn check_own_rules<S: Lookups>(
 }
 
 /// The fault of the first rule of the block of this number that is broken in a state, if there is one.
-pub(crate) fn check_rules<S: Lookups>(
+pub fn check_rules<S: Lookups>(
     parts: &Parts,
     number: u16,
     block: &Block,

@@ -10,7 +10,7 @@ ghost use Rattle.gw_object.specs.declared.parts.ReturnRow.{ReturnRow as Declared
 ghost use Rattle.gw_flow.specs.declared.abstract_state.Parameter.{Parameter as DeclaredParameter};
 ghost use Rattle.gw_flow.specs.Rows.{Ret};
 ghost use Rattle.gw_flow.specs.Seen.{row_blocks, kind_seen, kind_said, params_of, params_said as params_of_row, seen, known, HaveNext};
-ghost use Rattle.gw_flow.specs.Viewed.{held_kind, params_viewed};
+ghost use Rattle.gw_flow.specs.Viewed.{kind_viewed, params_viewed, viewed};
 
 use crate::abstract_state::{AbsState, Amount, Parameter, ParameterKind, StateParts};
 use crate::fits::{has_params, has_units};
@@ -22,34 +22,34 @@ use std::marker::Model;
 
 /// What a parameter holds.
 #[derive(Clone, Copy, Debug, PartialEq, Eq)]
-pub(crate) enum Holds<'a> {
+pub enum ParamKind<'a> {
     /// A number.
     Num,
+    /// A return to one of these blocks, by their numbers from 1, which ascend.
+    Ret(&'a [u16]),
     /// The return to the block of this number, from 1.
-    ReturnTo(u16),
-    /// A return to one of these blocks, by their numbers, which ascend.
-    ReturnToAny(&'a [u16]),
+    RetTo(u16),
 }
 
-impl<'a> Holds<'a> {
+impl<'a> ParamKind<'a> {
     /// A return to one of the blocks of the return row of this number; to none where there is no such row.
-    pub(crate) fn of_return_row(returns: &'a [ReturnRow], row: u16) -> Holds<'a>
-        ensures { held_kind result ≡ Ret (row_blocks returns.now row) }
+    pub(crate) fn of_return_row(returns: &'a [ReturnRow], row: u16) -> ParamKind<'a>
+        ensures { kind_viewed result ≡ Ret (row_blocks returns.now row) }
     {
         match returns.get(row as usize) {
-            Some(row) => Holds::ReturnToAny(row.blocks.as_slice()),
-            None => Holds::ReturnToAny(&[]),
+            Some(row) => ParamKind::Ret(row.blocks.as_slice()),
+            None => ParamKind::Ret(&[]),
         }
     }
 }
 
 /// A parameter that is set.
 #[derive(Clone, Copy, Debug, PartialEq, Eq)]
-pub(crate) struct Param<'a> {
+pub struct Param<'a> {
     /// Its number, from 1 to 64.
     pub number: u8,
     /// What it holds.
-    pub holds: Holds<'a>,
+    pub kind: ParamKind<'a>,
 }
 
 impl<'a> Keyed for Param<'a> {
@@ -60,9 +60,11 @@ impl<'a> Keyed for Param<'a> {
     }
 }
 
-/// An abstract state; its lists ascend, and no amount is 0. The blocks of returns are those of the object's return rows.
+/// An abstract state, as flow works with it: what is known of a transaction that is about to go on to a block or a user
+/// chain. Its lists ascend, and no amount is 0. The blocks of returns are lent, by an object's return rows or by who computes
+/// a state table.
 #[derive(Debug, Drop)]
-pub(crate) struct State<'a> {
+pub struct State<'a> {
     params: Items<Param<'a>>,
     facilities: Items<u16>,
     units: Items<Amount>,
@@ -82,13 +84,13 @@ impl<'a> Model for State<'a> {
 /// A parameter of a row of the state table, as flow works with it.
 fn param_said<'a>(returns: &'a [ReturnRow], parameter: &TableParameter) -> Param<'a>
     ensures number { result.number ≡ parameter.now.number }
-    ensures holds { held_kind result.holds ≡ kind_said returns.now parameter.now.kind }
+    ensures kind { kind_viewed result.kind ≡ kind_said returns.now parameter.now.kind }
 {
     Param {
         number: parameter.number,
-        holds: match parameter.kind {
-            TableKind::Num => Holds::Num,
-            TableKind::Ret(row) => Holds::of_return_row(returns, row),
+        kind: match parameter.kind {
+            TableKind::Num => ParamKind::Num,
+            TableKind::Ret(row) => ParamKind::of_return_row(returns, row),
         },
     }
 }
@@ -110,14 +112,14 @@ fn params_said<'a>(
 /// A parameter as flow works with it.
 pub(crate) fn param_seen<'a>(returns: &'a [ReturnRow], parameter: &Parameter) -> Param<'a>
     ensures number { result.number ≡ parameter.now.number }
-    ensures holds { held_kind result.holds ≡ kind_seen returns.now parameter.now.kind }
+    ensures kind { kind_viewed result.kind ≡ kind_seen returns.now parameter.now.kind }
 {
     Param {
         number: parameter.number,
-        holds: match parameter.kind {
-            ParameterKind::Num => Holds::Num,
-            ParameterKind::Ret(row) => Holds::of_return_row(returns, row),
-            ParameterKind::RetTo(block) => Holds::ReturnTo(block),
+        kind: match parameter.kind {
+            ParameterKind::Num => ParamKind::Num,
+            ParameterKind::Ret(row) => ParamKind::of_return_row(returns, row),
+            ParameterKind::RetTo(block) => ParamKind::RetTo(block),
         },
     }
 }
@@ -137,6 +139,26 @@ fn params_seen<'a>(
 }
 
 impl<'a> State<'a> {
+    /// The state of these lists, which ascend.
+    pub fn of_lists(params: Vec<Param<'a>>, facilities: Vec<u16>, units: Vec<Amount>) -> State<'a>
+        requires { rows.IsOrdered (viewed params.items facilities.items units.items) }
+        ensures { result ≡ viewed params.entry.items facilities.items units.items }
+    {
+        State {
+            params: Items::from_vec(params),
+            facilities: Items::from_vec(facilities),
+            units: Items::from_vec(units),
+        }
+    }
+
+    /// The parameters that are sure to be set, ascending.
+    pub fn params(&self) -> &[Param<'a>]
+        ensures value { params_viewed result.now ≡ self.now.params }
+        ensures ordered { rows.IsOrdered self.now }
+    {
+        self.params.as_slice()
+    }
+
     /// What a row of the state table says.
     pub(crate) fn of_row(
         alloc: Global,
@@ -195,7 +217,7 @@ impl<'a> State<'a> {
     }
 
     /// This state once more.
-    pub(crate) fn copy(&self, alloc: Global) -> Result<State<'a>, Memory>
+    pub fn copy(&self, alloc: Global) -> Result<State<'a>, Memory>
         ensures { IfOk result (λ state. state ≡ self.now) }
     {
         Ok(State {
@@ -221,12 +243,12 @@ impl<'a> State<'a> {
         &self,
         alloc: Global,
         number: u8,
-        holds: Holds<'a>,
+        kind: ParamKind<'a>,
     ) -> Result<State<'a>, Memory>
-        requires { rows.KindAscends (held_kind holds) }
-        ensures { IfOk result (λ state. state ≡ rows.with_parameter number (held_kind holds.entry) self.now) }
+        requires { rows.KindAscends (kind_viewed kind) }
+        ensures { IfOk result (λ state. state ≡ rows.with_parameter number (kind_viewed kind.entry) self.now) }
     {
-        let param = Param { number, holds };
+        let param = Param { number, kind };
         let params = in_place(alloc, self.params.as_slice(), param)?;
         Ok(State {
             params: Items::from_vec(params),
@@ -276,14 +298,28 @@ impl<'a> State<'a> {
         })
     }
 
+    /// Whether this state has what a row knows of parameters.
+    pub fn has_params_of(&self, row: &State<'_>) -> bool
+        ensures { result ≡ rows.params_fit self.now.params row.now.params }
+    {
+        has_params(self.params.as_slice(), row.params.as_slice())
+    }
+
+    /// Whether this state has at least the units of a row.
+    pub fn has_units_of(&self, row: &State<'_>) -> bool
+        ensures { result ≡ rows.units_fit self.now.units row.now.units }
+    {
+        has_units(self.units.as_slice(), row.units.as_slice())
+    }
+
     /// Whether this state fits a row: it has at least the row's parameters, exactly its facilities, and at least its
     /// units.
     pub(crate) fn fits(&self, row: &State<'_>) -> bool
         ensures { result ≡ rows.fits self.now row.now }
     {
-        has_params(self.params.as_slice(), row.params.as_slice())
+        self.has_params_of(row)
             && self.facilities.as_slice() == row.facilities.as_slice()
-            && has_units(self.units.as_slice(), row.units.as_slice())
+            && self.has_units_of(row)
     }
 }
 
@@ -294,8 +330,8 @@ impl<'a> Lookups for State<'a> {
         self.params.as_slice().is_empty()
     }
 
-    fn kind_of(&self, parameter: u8) -> Option<Holds<'_>> {
-        of_key(self.params.as_slice(), parameter as u16).map(|param| param.holds)
+    fn kind_of(&self, parameter: u8) -> Option<ParamKind<'_>> {
+        of_key(self.params.as_slice(), parameter as u16).map(|param| param.kind)
     }
 
     fn facilities(&self) -> &[u16] {
