@@ -1,26 +1,32 @@
 -- Weights pass exactly where an object is weighted.
-use Rattle.std.proofs.Common.{◌≡◌, ◌↔◌, ℕ, zero, suc, ◌≤◌, ◌<◌, List, [], ◌∷◌, Option, Some, None, Bool, true, false, if◌then◌else◌, refl, sym, ap, subst, ◌∙◌}
+use Rattle.std.proofs.Common.{◌≡◌, ◌↔◌, ℕ, zero, suc, ◌+◌, ◌≤◌, ◌<◌, List, [], ◌∷◌, Option, Some, None, Bool, true, false, if◌then◌else◌, refl, sym, ap, subst, arith, cond, take, ◌∙◌}
 use Rattle.std.specs.Prelude.{All, IsTrue, nat_le, length}
 use Rattle.std.specs.List.{flat_map}
 use Rattle.std.proofs.lemmas.Bool.{leb-true, le-leb}
 use Rattle.std.proofs.lemmas.List.Elements.{All-nil, All-cons, All-head, All-tail}
+use Rattle.std.proofs.lemmas.List.Sums.{sum_by-cons}
 use Rattle.std.proofs.lemmas.Option.{slice_get_within}
 use Rattle.gw_blocks.specs.declared.parts.Generate.{Generate}
 use Rattle.gw_blocks.specs.declared.parts.Block.{Block}
 use Rattle.gw_blocks.specs.declared.parts.Block.TheVariants as blocks
 use Rattle.gw_object.specs.declared.fault.Fault.{Fault}
+use Rattle.gw_object.specs.declared.parts.Entity.{Entity}
+use Rattle.gw_object.specs.declared.parts.Kind.{Kind}
+use Rattle.gw_object.specs.declared.parts.Kind.TheVariants.{Chain}
 use Rattle.gw_object.specs.declared.parts.Parts.{Parts}
+use Rattle.gw_object.specs.Entities.{is_chain, chains_in}
 use Rattle.gw_object.specs.Grammar.{HasSpelling}
 use Rattle.gw_kinds.specs.declared.ways.Exit.{Exit}
 use Rattle.gw_kinds.specs.Checks.{Check}
 use Rattle.gw_kinds.specs.Exits.{exits_with}
-use Rattle.gw_kinds.specs.Kinds.{block_at}
+use Rattle.gw_kinds.specs.Evaluated.{kind_at}
+use Rattle.gw_kinds.specs.Kinds.{block_at, chain_place}
 use Rattle.gw_kinds.proofs.Each.{Hold, first_and_others, first_with_others, parts_hold, hold_together}
 use Rattle.gw_flow.specs.Rows.{Row}
 use Rattle.gw_flow.specs.Blocks.{returns_read}
 use Rattle.gw_flow.specs.Flow.{own_row}
 use Rattle.gw_flow.proofs.EachBlock.{numbered_holds, all_numbered_hold}
-use Rattle.gw_weights.specs.Weights.{weight_at, needed, goes_at_once, is_bounded, arrival_checks, chain_checks, exit_checks, row_checks, checks_at, weight_checks, WeightsPass}
+use Rattle.gw_weights.specs.Weights.{weight_at, chain_weight, needed, goes_at_once, is_bounded, arrival_checks, chain_checks, exit_checks, row_checks, checks_at, weight_checks, WeightsPass}
 use Rattle.gw_weights.specs.Laws.{PaysExit, PaysChain, Pays, Weighted, WeightsPassWhereWeighted}
 
 -- CHECKS
@@ -41,6 +47,22 @@ at_most m n fault = (λ h. leb-true m n (first_and_others _ _ _ h).0, λ h. firs
 at_most_if : (made : Bool) (m n : ℕ) (fault : Fault) → Hold (if made then record { holds = nat_le m n; fault = fault } ∷ [] else []) ↔ (IsTrue made → m ≤ n)
 at_most_if true m n fault = (λ h _. (at_most m n fault).0 h, λ h. (at_most m n fault).1 (h refl))
 at_most_if false m n fault = (λ h made. absurd (cc), λ h. refl)
+
+-- USER CHAINS
+
+-- 1 for a user chain
+abbrev chain_counts : Entity → ℕ
+chain_counts e = cond (is_chain e.kind) 1 0
+
+-- a user chain comes after fewer user chains than there are
+place_is_there : (es : List Entity) (c : ℕ) → kind_at es c ≡ Some Chain → chain_place es c < chains_in es
+place_is_there [] c is = absurd (cc)
+place_is_there (e ∷ es) zero is =
+    let chain : e.kind ≡ Chain = cc in
+    let one : chain_counts e ≡ 1 = ap (λ (kind : Kind). cond (is_chain kind) 1 0) chain in
+    omega (arith, one, sum_by-cons chain_counts e es)
+place_is_there (e ∷ es) (suc c) is =
+    omega (arith, place_is_there es c is, sum_by-cons chain_counts e es, sum_by-cons chain_counts e (take c es))
 
 -- BLOCKS
 
@@ -89,9 +111,16 @@ module _ (p : Parts) where
       let within : i < length p.weights = subst (λ n. i < n) (sym fits.limits.weights) (slice_get_within p.blocks i block is) in
       (fits.limits.each_weight i 0 within).0
 
+  -- so has each user chain
+  chain_weighs : HasSpelling p → (c : ℕ) → kind_at p.entities c ≡ Some Chain → 1 ≤ chain_weight p c
+  chain_weighs fits c is =
+      let within : chain_place p.entities c < length p.chain_weights = subst (λ n. chain_place p.entities c < n) (sym fits.limits.chain_weights) (place_is_there p.entities c is) in
+      (fits.limits.each_chain_weight (chain_place p.entities c) 0 within).0
+
   weighted : HasSpelling p → WeightsPass p → Weighted p
   weighted fits h = record {
     least = weighs fits;
+    chains = chain_weighs fits;
     arrivals = λ b g is. bounded b g (at_block h b (blocks.Generate g) is).0;
     each_row = λ b block row is has. pays b block row (subst (λ r. Hold (row_checks p b block r)) has (at_block h b block is).1);
   }

@@ -5,6 +5,8 @@ use Rattle.gw_blocks.specs.declared.parts.Block.{Block}
 use Rattle.gw_blocks.specs.declared.parts.Block.TheVariants as blocks
 use Rattle.gw_object.specs.declared.parts.Parts.{Parts}
 use Rattle.gw_object.specs.Grammar.{HasSpelling}
+use Rattle.gw_object.specs.declared.parts.Kind.TheVariants.{Chain}
+use Rattle.gw_kinds.specs.Evaluated.{kind_at}
 use Rattle.gw_kinds.specs.Exits.{exits_with}
 use Rattle.gw_kinds.specs.Kinds.{block_at}
 use Rattle.gw_kinds.specs.declared.ways.Exit.{Exit}
@@ -29,9 +31,10 @@ pub record Pays (p : Parts) (b : ℕ) (block : Block) (row : Row) : Type 0 where
   pub chain : PaysChain p b block
   pub exits : All (PaysExit p b) (exits_with (returns_read block row) block)
 
--- a weighted object: each block weighs 1 or more, the arrivals of each GENERATE are bounded in a clock moment, and each block with a row pays for what follows from an entry
+-- a weighted object: each block and each user chain weighs 1 or more, the arrivals of each GENERATE are bounded in a clock moment, and each block with a row pays for what follows from an entry
 pub record Weighted (p : Parts) : Type 0 where
   pub least : (b : ℕ) (block : Block) → block_at p.blocks b ≡ Some block → 1 ≤ weight_at p.weights b
+  pub chains : (c : ℕ) → kind_at p.entities c ≡ Some Chain → 1 ≤ chain_weight p c
   pub arrivals : (b : ℕ) (g : Generate) → block_at p.blocks b ≡ Some (blocks.Generate g) → IsTrue (is_bounded g)
   pub each_row : (b : ℕ) (block : Block) (row : Row) → block_at p.blocks b ≡ Some block → own_row p b ≡ Some row → Pays p b block row
 

@@ -18,8 +18,8 @@ use gw_blocks::Block;
 use gw_kinds::exits;
 use gw_object::{Fault, Object, Parts, TableState};
 
-/// The row of the state table of the block of this number, from 1, if it has one.
-fn own_row(parts: &Parts, number: u16) -> Option<&TableState>
+/// The row of the state table of the block of this number, from 1, if it has one (ours: docs/object-format.md).
+pub fn own_row(parts: &Parts, number: u16) -> Option<&TableState>
     ensures { option_map (λ row. seen parts.now.returns row.now) result ≡ row_of parts.now number }
 {
     if number == 0 {

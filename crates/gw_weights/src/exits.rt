@@ -12,8 +12,8 @@ use gw_flow::is_used;
 use gw_kinds::{Exit, check, leads_to, returns_to};
 use gw_object::{Fault, Parts, Place};
 
-/// Whether somebody may go along an exit in the clock moment of the entry.
-fn goes_at_once(exit: Exit) -> bool
+/// Whether somebody may go along an exit in the clock moment of the entry (ours: docs/weights.md).
+pub fn goes_at_once(exit: Exit) -> bool
     ensures { result ≡ model.goes_at_once exit }
 {
     is_used(exit.who) && !exit.passes_time

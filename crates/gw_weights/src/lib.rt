@@ -10,5 +10,7 @@ pub mod laws;
 mod returns;
 mod weights;
 
-pub use check::check_weights;
-pub use weights::{chain_weight, weight_at};
+pub use check::{check_weights, own_row};
+pub use exits::goes_at_once;
+pub use returns::blocks_read;
+pub use weights::{chain_weight, need, weight_at};

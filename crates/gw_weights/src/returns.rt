@@ -39,8 +39,9 @@ fn parameter_of(parameters: &[TableParameter], number: u8) -> Option<TableParame
     None
 }
 
-/// The blocks to one of which this parameter returns by a row of the state table, if that says that it holds a return.
-pub(crate) fn blocks_read<'a>(
+/// The blocks to one of which this parameter returns by a row of the state table, if that says that it holds a return
+/// (ours: docs/object-format.md).
+pub fn blocks_read<'a>(
     returns: &'a [ReturnRow],
     row: &TableState,
     parameter: u8,

@@ -31,8 +31,8 @@ pub fn chain_weight(parts: &Parts, chain: u16) -> u32
 }
 
 /// What is needed for an entry and for what comes after it, by the weights of the next block and of the one to which these
-/// go: who makes copies needs it for itself and for each of them.
-pub(crate) fn need(who: Who, next: u32, there: u32) -> u64
+/// go: who makes copies needs it for itself and for each of them (ours: docs/weights.md).
+pub fn need(who: Who, next: u32, there: u32) -> u64
     ensures { result ≡ model.need who next there }
 {
     match who {
