@@ -1,0 +1,60 @@
+//! An object with other weights.
+
+ghost use Rattle.std.specs.Prelude.{◌≡◌, IfOk, IfErr, All, length};
+ghost use Rattle.gw_object.specs.Entities.{chains_in as chains_among};
+ghost use Rattle.gw_kinds.specs.Pass.{KindsPass};
+ghost use Rattle.gw_weighing.specs.Counts.{HasAll};
+ghost use Rattle.gw_weighing.specs.Raising.{IsWeight, DifferInWeights};
+
+use crate::certificate::Certificate;
+use crate::rounds::raise_in_rounds;
+use gw_object::{Items, Memory, Object, chains_in};
+use std::alloc::Global;
+
+/// The weights that the rounds give to an object.
+fn certificate_of(alloc: Global, object: &Object) -> Result<Certificate, Memory>
+    requires kinds { KindsPass object.now }
+    ensures { IfOk result (λ c. HasAll object.now c) }
+{
+    let parts = object.parts();
+    let mut certificate = Certificate::least(alloc, parts)?;
+    let rounds = parts.blocks.as_slice().len() + chains_in(parts.entities.as_slice()) + 1;
+    raise_in_rounds(parts, &mut certificate, rounds);
+    Ok(certificate)
+}
+
+/// An object with these weights in the place of its own.
+fn with_weights(object: Object, weights: Vec<u32>, chain_weights: Vec<u32>) -> Object
+    requires blocks { length weights.items ≡ length object.blocks }
+    requires chains { length chain_weights.items ≡ chains_among object.entities }
+    requires range { All IsWeight weights.items }
+    requires chain_range { All IsWeight chain_weights.items }
+    ensures { DifferInWeights object result }
+{
+    let mut parts = object.into_parts();
+    parts.weights = Items::from_vec(weights);
+    parts.chain_weights = Items::from_vec(chain_weights);
+    match Object::build(parts) {
+        Ok(object) => object,
+        Err(_) => unreachable!(),
+    }
+}
+
+/// An object with weights in the place of its own: from the least on, they are raised in rounds to the least that the rules
+/// of weights ask for (ours: docs/weights.md), each from 1 to 1,000,000,000; all else stays as it is. A round goes over the
+/// blocks in order and then over the user chains, and the rounds end with one that raises nothing, or after as many as there
+/// are blocks and user chains, and one more. Whether the weights pass is a matter of checking them. Kinds have to pass
+/// before. For want of memory the object comes back as it was.
+pub fn weigh(alloc: Global, object: Object) -> Result<Object, (Object, Memory)>
+    requires kinds { KindsPass object }
+    ensures rest { IfOk result (λ o. DifferInWeights object o) }
+    ensures refused { IfErr result (λ e. e.0 ≡ object) }
+{
+    match certificate_of(alloc, &object) {
+        Ok(certificate) => {
+            let Certificate { blocks, chains, .. } = certificate;
+            Ok(with_weights(object, blocks.into_vec(), chains.into_vec()))
+        }
+        Err(memory) => Err((object, memory)),
+    }
+}
