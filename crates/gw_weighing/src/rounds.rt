@@ -114,12 +114,7 @@ fn raise_for_unlink(
 
 /// Raises the weight of the user chain of the block of this number, if that is an UNLINK, and tells whether it was below
 /// what is needed.
-fn raise_chain_of(
-    parts: &Parts,
-    certificate: &mut Certificate,
-    number: u16,
-    block: &Block,
-) -> bool
+fn raise_chain_of(parts: &Parts, certificate: &mut Certificate, number: u16, block: &Block) -> bool
     ensures { KeepsCounts certificate.old certificate.new }
 {
     match block {
