@@ -3,3 +3,4 @@ pub mod Places
 pub mod Turning
 pub mod Finding
 mod Merging
+pub mod Chunking

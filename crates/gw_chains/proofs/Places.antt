@@ -1,16 +1,17 @@
 -- A newcomer's place in a list that is kept in order.
-use Rattle.std.proofs.Common.{◌≡◌, ◌∙◌, ℕ, zero, suc, ◌+◌, ◌-◌, ◌<◌, ◌≤◌, List, [], ◌∷◌, length, Bool, true, false, refl, ap, sym, arith, get_or, subst, inl, inr, ℤ, ◌≤ℤ◌}
-use Rattle.std.specs.Prelude.{AllPairs, insert, int_le, int_lt}
+use Rattle.std.proofs.Common.{◌≡◌, ◌∙◌, ℕ, zero, suc, ◌+◌, ◌-◌, ◌<◌, ◌≤◌, List, [], ◌∷◌, length, Some, Bool, true, false, true≢false, if◌then◌else◌, refl, ap, sym, arith, get_or, subst, inl, inr, ℤ, ◌≤ℤ◌}
+use Rattle.std.specs.Prelude.{All, AllPairs, insert, int_le, int_lt}
+use Rattle.std.proofs.lemmas.List.Elements.{All-head, All-tail, All-cons, All-nil}
 use Rattle.std.specs.List.Sorted.{IsPartitionedBy, IsPartitionPoint}
 use Rattle.std.proofs.lemmas.Int.{ints}
 use Rattle.std.proofs.lemmas.Bool.{cases_order}
 use Rattle.std.proofs.lemmas.List.{get_or_default}
 use Rattle.std.proofs.lemmas.List.Edits.{get_or-insert_below, get_or-insert_at, get_or-insert_above, length-insert}
-use Rattle.gw_chains.specs.Chain.{placed_behind}
+use Rattle.gw_chains.specs.Chain.{placed_behind, first, rest}
 
 module _ {A : Type 0} where
   -- the place behind the longest front that passes
-  insert-placed_behind : (p : A → Bool) (x : A) (xs : List A) (i : ℕ) → i ≤ length xs → IsPartitionPoint (λ y. p y ≡ true) (λ y. p y ≡ false) xs i → insert xs i x ≡ placed_behind p x xs
+  pub insert-placed_behind : (p : A → Bool) (x : A) (xs : List A) (i : ℕ) → i ≤ length xs → IsPartitionPoint (λ y. p y ≡ true) (λ y. p y ≡ false) xs i → insert xs i x ≡ placed_behind p x xs
   insert-placed_behind p x [] zero within point = refl
   insert-placed_behind p x [] (suc i) within point = absurd (omega arith)
   insert-placed_behind p x (y ∷ ys) zero within point = rw (point.1 0 y (omega arith) (omega arith))
@@ -94,3 +95,57 @@ module _ {A : Type 0} where
     behind = λ y t. grind (arith, ints);
     before = λ y t. grind (arith, ints);
   }
+
+  -- ORDER OF A LIST THAT A NEWCOMER JOINED
+
+  pairs_cons : (R : A → A → Type 0) (x : A) (xs : List A) → All (R x) xs → AllPairs R xs → AllPairs R (x ∷ xs)
+  pairs_cons R x xs all pairs zero zero d lt below = absurd (omega (arith, lt))
+  pairs_cons R x xs all pairs zero (suc b) d lt below = all b d (omega arith)
+  pairs_cons R x xs all pairs (suc a) zero d lt below = absurd (omega (arith, lt))
+  pairs_cons R x xs all pairs (suc a) (suc b) d lt below = pairs a b d (omega arith) (omega arith)
+
+  pub pairs_rest : (R : A → A → Type 0) (x : A) (xs : List A) → AllPairs R (x ∷ xs) → AllPairs R xs
+  pairs_rest R x xs pairs a b d lt below = pairs (suc a) (suc b) d (omega arith) (omega arith)
+
+  pairs_first : (R : A → A → Type 0) (x : A) (xs : List A) → AllPairs R (x ∷ xs) → All (R x) xs
+  pairs_first R x xs pairs b d below = pairs zero (suc b) d (omega arith) (omega arith)
+
+  all_placed : (P : A → Type 0) (p : A → Bool) (x : A) (xs : List A) → P x → All P xs → All P (placed_behind p x xs)
+  all_placed P p x [] this all = All-cons P x [] this all
+  all_placed P p x (y ∷ ys) this all = case (p y) (all_placed P p x ys this (All-tail P y ys all))
+    where
+      case : (b : Bool) → All P (placed_behind p x ys) → All P (if b then y ∷ placed_behind p x ys else x ∷ y ∷ ys)
+      case true later = All-cons P y (placed_behind p x ys) (All-head P y ys all) later
+      case false later = All-cons P x (y ∷ ys) this all
+
+  -- none that fails stands before one that passes
+  all_before : (R : A → A → Type 0) (p : A → Bool) (x y : A) (ys : List A) → Ranks R p x → p y ≡ false → All (R y) ys → All (R x) (y ∷ ys)
+  all_before R p x y ys ranks fails all = All-cons (R x) y ys (ranks.before y fails) (λ k d below. case (get_or ys k d) (all k d below) (p (get_or ys k d)) refl)
+    where
+      case : (z : A) → R y z → (b : Bool) → p z ≡ b → R x z
+      case z r true is = absurd (true≢false (sym (ranks.falls y z r is) ∙ fails))
+      case z r false is = ranks.before z is
+
+  pub placed_in_order : (R : A → A → Type 0) (p : A → Bool) (x : A) (xs : List A) → Ranks R p x → AllPairs R xs → AllPairs R (placed_behind p x xs)
+  placed_in_order R p x [] ranks pairs = pairs_cons R x [] (All-nil (R x)) pairs
+  placed_in_order R p x (y ∷ ys) ranks pairs = case (p y) refl (placed_in_order R p x ys ranks (pairs_rest R y ys pairs))
+    where
+      case : (b : Bool) → p y ≡ b → AllPairs R (placed_behind p x ys) → AllPairs R (if b then y ∷ placed_behind p x ys else x ∷ y ∷ ys)
+      case true is later = pairs_cons R y (placed_behind p x ys) (all_placed (R y) p x ys (ranks.behind y is) (pairs_first R y ys pairs)) later
+      case false is later = pairs_cons R x (y ∷ ys) (all_before R p x y ys ranks is (pairs_first R y ys pairs)) pairs
+
+  pub length-placed : (p : A → Bool) (x : A) (xs : List A) → length (placed_behind p x xs) ≡ length xs + 1
+  length-placed p x [] = refl
+  length-placed p x (y ∷ ys) = case (p y) (length-placed p x ys)
+    where
+      case : (b : Bool) → length (placed_behind p x ys) ≡ length ys + 1 → length (if b then y ∷ placed_behind p x ys else x ∷ y ∷ ys) ≡ length (y ∷ ys) + 1
+      case true same = omega (arith, same)
+      case false same = omega (arith)
+
+  pub pairs_rest_of : (R : A → A → Type 0) (xs : List A) → AllPairs R xs → AllPairs R (rest xs)
+  pairs_rest_of R [] pairs = pairs
+  pairs_rest_of R (x ∷ xs) pairs = pairs_rest R x xs pairs
+
+  pub length-rest : (xs : List A) (x : A) → Some x ≡ first xs → length xs ≡ length (rest xs) + 1
+  length-rest [] x is = absurd cc
+  length-rest (y ∷ ys) x is = omega arith

@@ -1,4 +1,6 @@
 pub mod Chain
 pub mod Lists
 pub mod Runs
+pub mod Chunks
+pub mod Calls
 pub mod Assembling

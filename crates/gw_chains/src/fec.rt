@@ -1,44 +1,60 @@
 //! The future events chain.
 
-ghost use Rattle.std.specs.Prelude.{◌≡◌, ◌≤◌, ◌<◌, ◌+◌, [], length, if◌then◌else◌, option_map, is_some, OnOk, OnErr, IsPermutation};
+ghost use Rattle.std.specs.Prelude.{◌≡◌, ◌≤◌, ◌<◌, ◌+◌, [], length, if◌then◌else◌, option_map, is_some, OnOk, OnErr, IsPermutation, option_copied, option_to_list, ◌++◌, true, false, IfNone};
 ghost use Rattle.std.specs.Iterator.{YieldsFirstRef, item_count};
 ghost use Rattle.gw_chains.specs.Chain.{in_time, due, first, rest};
+ghost use Rattle.std.specs.VecDeque.Iter.{deque_iter_rest};
+ghost use Rattle.gw_chains.specs.Chunks.{all_of, rest_of};
 ghost use Rattle.gw_chains.specs.declared.tx.Event.{Event};
 
-use crate::runs::{front, insert, pop_first, reserve};
+use crate::chunks::{Placed, front, insert, pop_first, reserve};
+use crate::tx::MOST;
 use crate::{Event, Memory, Tx};
 use std::alloc::Global;
 use std::collections::{VecDeque, vec_deque};
 use std::marker::Model;
 
+impl Placed for Event {
+    ghost use Rattle.std.specs.Prelude.{int_le};
+
+    ghost goes_first = { λ one other. int_le one.time other.time };
+
+    fn goes_first(self, newcomer: Event) -> bool {
+        self.time <= newcomer.time
+    }
+}
+
 /// The future events chain: the transactions that wait for a clock time, by that time, and those
 /// of one time in the order in which they were scheduled (GPSS World Reference Manual, "The
 /// Transaction Scheduler").
 ///
-/// It is kept in two runs, so that a newcomer among tens of thousands moves few of them: the settled
-/// ones, and some recent ones, which join them many at a time.
+/// It is kept in chunks, so that a newcomer among tens of thousands moves few of them.
 #[derive(Debug, Drop)]
 pub struct Fec {
-    settled: VecDeque<Event>,
-    recent: VecDeque<Event>,
+    chunks: VecDeque<VecDeque<Event>>,
+    // What a chunk becomes that is split.
+    spare: Vec<VecDeque<Event>>,
+    scheduled: usize,
 }
 
 impl Model for Fec {
-    ghost use Rattle.std.specs.Prelude.{◌-◌};
+    ghost use Rattle.std.specs.Prelude.{◌≡◌, ◌≤◌, ◌-◌, ◌^◌, All, length};
     ghost use Rattle.std.specs.VecDeque.{deque_len, deque_capacity};
-    ghost use Rattle.std.specs.Prelude.{◌+◌, ◌≤◌};
-    ghost use Rattle.gw_chains.specs.Chain.{Chain, IsInTime, merged};
-    ghost use Rattle.gw_chains.specs.Runs.{room_for};
+    ghost use Rattle.gw_chains.specs.Chain.{Chain, IsInTime};
+    ghost use Rattle.gw_chains.specs.Chunks.{all_of, room_beside, IsChunk, IsSpare};
     ghost use Rattle.gw_chains.specs.declared.tx.Event.{Event};
 
     ghost Value = { Chain Event };
 
-    ghost invariant = { λ c. IsInTime (λ (e : Event). e.time) c.recent.items
-        × (deque_len c.settled + deque_len c.recent ≤ deque_capacity c.settled) };
+    ghost invariant = { λ c. IsInTime (λ (e : Event). e.time) (all_of c.chunks.items)
+        × All IsChunk c.chunks.items
+        × All IsSpare c.spare.items
+        × (c.scheduled ≡ length (all_of c.chunks.items))
+        × (c.scheduled ≤ 2 ^ 62) };
 
     ghost view = { λ c. record {
-      items = merged (λ (e : Event). e.time) c.settled.items c.recent.items;
-      room = room_for (deque_len c.settled + deque_len c.recent) (deque_capacity c.settled) (deque_capacity c.recent);
+      items = all_of c.chunks.items;
+      room = room_beside c.scheduled (length c.spare.items) (deque_capacity c.chunks - deque_len c.chunks);
     } };
 }
 
@@ -48,8 +64,9 @@ impl Fec {
         ensures { result.items ≡ [] }
     {
         Fec {
-            settled: VecDeque::new(alloc),
-            recent: VecDeque::new(alloc),
+            chunks: VecDeque::new(alloc),
+            spare: Vec::new(alloc),
+            scheduled: 0,
         }
     }
 
@@ -60,7 +77,10 @@ impl Fec {
         ensures kept { self.old.room ≤ self.new.room }
         ensures refused { OnErr result (self.old.room < more) }
     {
-        reserve(&mut self.settled, &mut self.recent, more)
+        if MOST - self.scheduled < more {
+            return Err(Memory);
+        }
+        reserve(&mut self.chunks, &mut self.spare, more)
     }
 
     /// Puts it behind all that are scheduled for `time`, in clock units, or earlier. There is room.
@@ -70,14 +90,15 @@ impl Fec {
             self.new.items ≡ in_time (λ e. e.time) newcomer self.old.items }
         ensures room { self.old.room ≤ self.new.room + 1 }
     {
-        insert(&mut self.settled, &mut self.recent, Event { tx, time });
+        insert(&mut self.chunks, &mut self.spare, Event { tx, time });
+        self.scheduled += 1;
     }
 
     /// The time of the first, in clock units, if there is one.
     pub fn first_time(&self) -> Option<i64>
         ensures { result ≡ option_map (λ e. e.time) (first self.now.items) }
     {
-        let event = front(&self.settled, &self.recent)?;
+        let event = front(&self.chunks)?;
         Some(event.time)
     }
 
@@ -92,7 +113,8 @@ impl Fec {
         if time < self.first_time()? {
             return None;
         }
-        let event = pop_first(&mut self.settled, &mut self.recent)?;
+        let event = pop_first(&mut self.chunks, &mut self.spare)?;
+        self.scheduled -= 1;
         Some(event.tx)
     }
 
@@ -101,35 +123,36 @@ impl Fec {
         ensures { IsPermutation self.now.items result }
     {
         Events {
-            settled: self.settled.iter(),
-            recent: self.recent.iter(),
+            chunk: None,
+            chunks: self.chunks.iter(),
         }
     }
 
     /// How many members there are.
-    #[tactic(auto, using(crate::proofs::Merging::merged_length))]
     pub fn len(&self) -> usize
         ensures { result ≡ length self.now.items }
     {
-        self.settled.len() + self.recent.len()
+        self.scheduled
     }
 }
 
 /// The members of a future events chain, in no particular order. Contracts see those that are still to come.
 #[derive(Drop)]
 pub struct Events<'a> {
-    settled: vec_deque::Iter<'a, Event>,
-    recent: vec_deque::Iter<'a, Event>,
+    // Those of the chunk that was begun, and the chunks behind it.
+    chunk: Option<vec_deque::Iter<'a, Event>>,
+    chunks: vec_deque::Iter<'a, VecDeque<Event>>,
 }
 
 impl<'a> Model for Events<'a> {
     ghost use Rattle.std.specs.Prelude.{List, ◌++◌};
     ghost use Rattle.std.specs.VecDeque.Iter.{deque_iter_rest};
+    ghost use Rattle.gw_chains.specs.Chunks.{all_of, rest_of};
     ghost use Rattle.gw_chains.specs.declared.tx.Event.{Event};
 
     ghost Value = { List Event };
 
-    ghost view = { λ it. deque_iter_rest it.settled ++ deque_iter_rest it.recent };
+    ghost view = { λ it. rest_of it.chunk ++ all_of (deque_iter_rest it.chunks) };
 }
 
 impl<'a> Iterator for Events<'a> {
@@ -140,9 +163,39 @@ impl<'a> Iterator for Events<'a> {
     ghost remaining = { item_count (λ rest. rest) };
 
     fn next(&mut self) -> Option<&'a Event> {
-        match self.settled.next() {
-            Some(event) => Some(event),
-            None => self.recent.next(),
+        loop {
+            if let Some(event) = next_of(&mut self.chunk) {
+                return Some(event);
+            }
+            if !begin_next(&mut self.chunk, &mut self.chunks) {
+                return None;
+            }
         }
+    }
+}
+
+/// The next of a chunk that was begun, if there is one.
+fn next_of<'a>(chunk: &mut Option<vec_deque::Iter<'a, Event>>) -> Option<&'a Event>
+    ensures items { rest_of chunk.old ≡ option_to_list (option_copied result) ++ rest_of chunk.new }
+    ensures end { IfNone result (rest_of chunk.old ≡ []) }
+{
+    chunk.as_mut()?.next()
+}
+
+/// Begins the next chunk, if there is one.
+fn begin_next<'a>(
+    chunk: &mut Option<vec_deque::Iter<'a, Event>>,
+    chunks: &mut vec_deque::Iter<'a, VecDeque<Event>>,
+) -> bool
+    ensures begun { result ≡ true → all_of (deque_iter_rest chunks.old) ≡ rest_of chunk.new ++ all_of (deque_iter_rest chunks.new) }
+    ensures fewer { result ≡ true → length (deque_iter_rest chunks.old) ≡ length (deque_iter_rest chunks.new) + 1 }
+    ensures end { result ≡ false → (all_of (deque_iter_rest chunks.old) ≡ []) × (rest_of chunk.new ≡ rest_of chunk.old) × (deque_iter_rest chunks.new ≡ []) }
+{
+    match chunks.next() {
+        Some(next) => {
+            *chunk = Some(next.iter());
+            true
+        }
+        None => false,
     }
 }

@@ -6,8 +6,11 @@
 
 mod assemblies;
 mod cec;
+mod chunks;
 mod delay_list;
+mod event_chain;
 mod fec;
+pub mod plain;
 mod queue;
 mod runs;
 mod tx;
@@ -16,6 +19,7 @@ mod waits;
 
 pub use assemblies::{Assemblies, Assembly};
 pub use cec::Cec;
+pub use event_chain::{EventCall, EventChain, make_calls};
 pub use fec::{Events, Fec};
 /// The answer where there was no memory.
 pub use std::alloc::AllocError as Memory;

@@ -3,7 +3,7 @@ use Rattle.std.specs.Prelude.{IsPermutation}
 use Rattle.gw_chains.specs.Chain.{Chain}
 use Rattle.gw_chains.specs.declared.tx.Event.{Event}
 use Rattle.gw_chains.proofs.Merging.{merged_members}
-use Rattle.gw_chains.proofs.fec.Fec.iter.Goals as goal
+use Rattle.gw_chains.proofs.plain.Fec.iter.Goals as goal
 
 pub returns : goal.returns
 returns c =

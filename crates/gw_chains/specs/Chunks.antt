@@ -1,0 +1,46 @@
+-- A list that is kept in chunks: queues of fewer than a number of elements, one behind the other, none of them empty.
+use Rattle.std.specs.Prelude.{◌≡◌, ◌<◌, ◌≤◌, ℕ, ◌-◌, ◌^◌, min, List, [], ◌∷◌, ◌++◌, Option, Some, None, Bool, false}
+use Rattle.std.specs.VecDeque.{deque_len, deque_capacity}
+use Rattle.std.specs.VecDeque.Iter.{deque_iter_rest}
+use Rattle.std.specs.declared.collections.VecDeque.{VecDeque}
+use Rattle.std.specs.declared.collections.vec_deque.Iter.{Iter}
+
+-- a chunk that comes to have so many elements is full, and is split
+abbrev pub most_in_chunk : ℕ
+most_in_chunk = 128
+
+module _ {X Z : Type 0} where
+  -- the elements of all chunks, in order
+  abbrev pub all_of : List (VecDeque X Z) → List X
+  all_of [] = []
+  all_of (c ∷ cs) = c.items ++ all_of cs
+
+  -- the elements of a chunk, if there is one
+  abbrev pub items_of : Option (VecDeque X Z) → List X
+  items_of None = []
+  items_of (Some c) = c.items
+
+  -- a chunk has an element, and room for one more
+  pub record IsChunk (c : VecDeque X Z) : Type 0 where
+    pub some : 0 < deque_len c
+    pub less : deque_len c < most_in_chunk
+    pub room : most_in_chunk ≤ deque_capacity c
+
+  -- a spare chunk has no element, and room for all that one may have
+  pub record IsSpare (c : VecDeque X Z) : Type 0 where
+    pub none : c.items ≡ []
+    pub room : most_in_chunk ≤ deque_capacity c
+
+-- what an iterator over a chunk has still to yield, if there is one
+abbrev pub rest_of : {X : Type 0} → Option (Iter X) → List X
+rest_of None = []
+rest_of (Some it) = deque_iter_rest it
+
+-- whether the first passes, if there is one
+abbrev pub begins_in : {A : Type 0} → (A → Bool) → List A → Bool
+begins_in p [] = false
+begins_in p (x ∷ xs) = p x
+
+-- how many more fit beside so many, where so many spare chunks and so much room for chunks are left
+abbrev pub room_beside : ℕ → ℕ → ℕ → ℕ
+room_beside members spare chunks = min (min spare chunks) (2 ^ 62 - members)

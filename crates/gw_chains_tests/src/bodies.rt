@@ -1,0 +1,115 @@
+//! Both bodies of the future events chain.
+
+use gw_chains::{Event, EventCall, EventChain, Fec, Memory, Tx, make_calls, plain};
+use std::alloc::Global;
+use std::test::Fail;
+
+/// The transaction of a number.
+fn tx(number: u64) -> Tx {
+    Tx { place: 0, number }
+}
+
+/// The call that schedules a transaction.
+fn schedule(number: u64, time: i64) -> EventCall {
+    EventCall::Schedule(Event {
+        tx: tx(number),
+        time,
+    })
+}
+
+/// What a chain with no member answers to calls.
+fn answers_to<C: EventChain + Drop>(
+    alloc: Global,
+    mut chain: C,
+    calls: &[EventCall],
+) -> Result<Vec<Option<Tx>>, Memory> {
+    let mut answers = Vec::new(alloc);
+    make_calls(&mut chain, calls, &mut answers)?;
+    Ok(answers)
+}
+
+/// The calls by which 1 and 3 are scheduled for 9 and 2 for 4, and those that are due at 8 and at 9 leave.
+fn few_calls() -> [EventCall; 8] {
+    [
+        schedule(1, 9),
+        schedule(2, 4),
+        schedule(3, 9),
+        EventCall::PopDue(8),
+        EventCall::PopDue(8),
+        EventCall::PopDue(9),
+        EventCall::PopDue(9),
+        EventCall::PopDue(9),
+    ]
+}
+
+/// Who leaves by each of these calls.
+fn few_answers() -> [Option<Tx>; 8] {
+    [
+        None,
+        None,
+        None,
+        Some(tx(2)),
+        None,
+        Some(tx(1)),
+        Some(tx(3)),
+        None,
+    ]
+}
+
+#[test]
+fn plain_chain_goes_by_time(rt: HostRuntime) -> Result<(), Fail> {
+    let answers = answers_to(rt.alloc(), plain::Fec::new(rt.alloc()), &few_calls())?;
+    let wanted = few_answers();
+    assert!(rt; answers.as_slice() == wanted.as_slice());
+    Ok(())
+}
+
+#[test]
+fn chain_in_chunks_goes_by_time(rt: HostRuntime) -> Result<(), Fail> {
+    let answers = answers_to(rt.alloc(), Fec::new(rt.alloc()), &few_calls())?;
+    let wanted = few_answers();
+    assert!(rt; answers.as_slice() == wanted.as_slice());
+    Ok(())
+}
+
+/// The calls by which so many are scheduled, by turns for 1 and for 2, and then as many leave.
+fn calls_by_turns(alloc: Global, count: u64) -> Result<Vec<EventCall>, Memory> {
+    let mut calls = Vec::new(alloc);
+    for number in 0..count {
+        calls.push(schedule(number, 1 + (number % 2) as i64))?;
+    }
+    for _ in 0..count {
+        calls.push(EventCall::PopDue(2))?;
+    }
+    Ok(calls)
+}
+
+/// Whether the last 600 of these answers are that the even numbers below 600 left, in their order, and then the odd ones.
+fn leave_by_turns(answers: &[Option<Tx>]) -> bool {
+    if answers.len() != 1200 {
+        return false;
+    }
+    for i in 0..300usize {
+        let number = 2 * i as u64;
+        if answers[600 + i] != Some(tx(number)) || answers[900 + i] != Some(tx(number + 1)) {
+            return false;
+        }
+    }
+    true
+}
+
+#[test]
+fn many_leave_a_plain_chain_by_time(rt: HostRuntime) -> Result<(), Fail> {
+    let calls = calls_by_turns(rt.alloc(), 600)?;
+    let answers = answers_to(rt.alloc(), plain::Fec::new(rt.alloc()), calls.as_slice())?;
+    assert!(rt; leave_by_turns(answers.as_slice()));
+    Ok(())
+}
+
+#[test]
+fn many_leave_a_chain_in_chunks_by_time(rt: HostRuntime) -> Result<(), Fail> {
+    let calls = calls_by_turns(rt.alloc(), 600)?;
+    let answers = answers_to(rt.alloc(), Fec::new(rt.alloc()), calls.as_slice())?;
+    assert!(rt; leave_by_turns(answers.as_slice()));
+    Ok(())
+}

@@ -1,0 +1,5 @@
+//! Tests of the bodies of a chain: the same calls have the same answers, whatever the body is, on calls worked out by hand.
+#![tactic(auto)]
+
+#[cfg(test)]
+mod bodies;
