@@ -13,8 +13,7 @@ use Rattle.gpssw.proofs.Bytes.{kept}
 
 -- the status of an answer
 answer_status : (r : Result Job Fault) (text : List ℕ) (status : ℕ) → MatchResult r (λ j. Concludes j text status) (λ fault. (status ≡ refused) × (text ≡ refusal_line fault)) → (status ≡ ended) ⊎ (status ≡ refused)
-answer_status (Ok j) text status (inl h) = inl h.0
-answer_status (Ok j) text status (inr h) = inr h.0
+answer_status (Ok j) text status h = inl h.0
 answer_status (Err fault) text status h = inr h.0
 
 -- the statuses of a run

@@ -1,15 +1,14 @@
 -- What a run of an object comes to: a text and a status.
-use Rattle.std.specs.Prelude.{◌≡◌, ℕ, List, [], ◌∷◌, Option, Some, None, Result, Ok, Err, MatchResult, ◌⊎◌, ◌==◌, if◌then◌else◌}
+use Rattle.std.specs.Prelude.{◌≡◌, ℕ, List, [], ◌∷◌, Option, Some, None, Result, Ok, Err, MatchResult, ◌==◌, if◌then◌else◌}
 use Rattle.std.specs.Option.{option_map}
 use Rattle.gw_object.specs.declared.fault.Fault.{Fault}
 use Rattle.gw_object.specs.declared.parts.Parts.{Parts}
 use Rattle.gw_object.specs.Reading.{first_fault}
 use Rattle.gw_verify.specs.Checks.{fault_of}
-use Rattle.gw_entities.specs.declared.stop.Stop.{Stop}
 use Rattle.gw_step.specs.State.{State}
-use Rattle.gw_step.specs.Job.{Job, Alone, IsFinal, IsStuck, stop_of}
+use Rattle.gw_step.specs.Job.{Job, Alone, IsFinal}
 use Rattle.gw_scan.specs.Making.{spec_fault, job_from}
-use Rattle.gw_report.specs.Report.{report_of, stopped_report_of}
+use Rattle.gw_report.specs.Report.{report_of}
 use Rattle.gpssw.specs.Status.{ended, refused, run_budget}
 use Rattle.gpssw.specs.Refusal.{refusal_line, start_refusal}
 
@@ -48,21 +47,11 @@ pub record Ends (j : Job) (text : List ℕ) : Type 0 where
   pub final : IsFinal state
   pub report : text ≡ report_of (record { job = j; state = state })
 
--- the report of the error stop at which the lone run is stuck
-pub record Stops (j : Job) (text : List ℕ) : Type 0 where
-  pub steps : ℕ
-  pub state : State
-  pub stop : Stop
-  pub alone : Alone j steps state
-  pub stuck : IsStuck j state
-  pub cause : stop_of j state ≡ Some stop
-  pub report : text ≡ stopped_report_of stop (record { job = j; state = state })
-
 -- the text and the status of a job
 abbrev pub Concludes : Job → List ℕ → ℕ → Type 0
-Concludes j text status = ((status ≡ ended) × Ends j text) ⊎ ((status ≡ refused) × Stops j text)
+Concludes j text status = (status ≡ ended) × Ends j text
 
--- the text and the status for these bytes, this seed and this count: of the job's end, or the refusal line and status 1
+-- the text and the status for these bytes, this seed and this count: of the job's end, or the refusal line and the status of a refusal
 abbrev pub IsAnswer : ℕ → ℕ → List ℕ → List ℕ → ℕ → Type 0
 IsAnswer seed count bytes text status =
     MatchResult (job_of seed count bytes) (λ j. Concludes j text status) (λ fault. (status ≡ refused) × (text ≡ refusal_line fault))

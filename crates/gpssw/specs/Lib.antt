@@ -2,7 +2,6 @@ pub mod Words
 pub mod Status
 pub mod Refusal
 pub mod Answer
-pub mod Conclusion
 pub mod Finding
 pub mod Output
 pub mod Input

@@ -5,7 +5,7 @@ use Rattle.std.specs.Prelude.{ℕ}
 abbrev pub ended : ℕ
 ended = 0
 
--- the object or the job was refused, or the job met an error stop
+-- the object or the job was refused
 abbrev pub refused : ℕ
 refused = 1
 

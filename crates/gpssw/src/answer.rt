@@ -1,18 +1,17 @@
 //! From the bytes of an object to a text and a status.
 
-ghost use Rattle.std.specs.Prelude.{◌≡◌, IfOk};
-ghost use Rattle.gw_step.specs.Job.{Alone};
+ghost use Rattle.std.specs.Prelude.{◌≡◌, OnOk, IfOk};
+ghost use Rattle.gw_step.specs.Job.{Alone, IsFinal};
 ghost use Rattle.gpssw.specs.Status.{refused as refused_status};
 ghost use Rattle.gpssw.specs.Refusal.{refusal_line};
 ghost use Rattle.gw_object.specs.Reading.{first_fault};
 ghost use Rattle.gpssw.specs.Answer.{verified, job_made, job_of, Concludes, IsAnswer};
 ghost use Rattle.gpssw.specs.Finding.{FindsJob};
-ghost use Rattle.gpssw.specs.Conclusion.{IsOver};
 
 use crate::refusal::Refusal;
 use crate::status::{ENDED, REFUSED};
 use gw_object::{Memory, Object, codes, read};
-use gw_report::{report, stopped_report};
+use gw_report::report;
 use gw_scan::{Sim, Spec, Status};
 use gw_verify::{Verified, verify};
 use std::alloc::Global;
@@ -27,38 +26,32 @@ pub struct Answer {
     pub status: u8,
 }
 
-/// Makes steps until a named end stands or the job is stuck.
-fn run_to_end(sim: &mut Sim) -> Result<Status, Memory>
+/// Makes steps until a named end stands.
+fn run_to_end(sim: &mut Sim) -> Result<(), Memory>
     requires { sim.old.job.budget ≡ BUDGET }
     ensures job { sim.new.job ≡ sim.old.job }
     ensures alone { Alone sim.new.job sim.new.state.steps sim.new.state }
-    ensures over { IfOk result (λ status. IsOver status sim.new) }
+    ensures over { OnOk result (IsFinal sim.new.state) }
 {
     for _ in 0..BUDGET {
         match sim.step()? {
             Status::Running => {}
-            status => return Ok(status),
+            Status::Ended(_) => return Ok(()),
         }
     }
-    Ok(sim.status())
+    Ok(())
 }
 
-/// The report of a job whose run is over, and the status.
-fn concluded(alloc: Global, sim: &Sim, status: Status) -> Result<Answer, Memory>
+/// The report of a job that has ended, and the status.
+fn concluded(alloc: Global, sim: &Sim) -> Result<Answer, Memory>
     requires alone { Alone sim.now.job sim.now.state.steps sim.now.state }
-    requires over { IsOver status sim.now }
+    requires over { IsFinal sim.now.state }
     ensures { IfOk result (λ a. Concludes sim.now.job a.text.items a.status) }
 {
-    match status {
-        Status::Stopped(stop) => Ok(Answer {
-            text: stopped_report(alloc, sim, stop)?,
-            status: REFUSED,
-        }),
-        _ => Ok(Answer {
-            text: report(alloc, sim)?,
-            status: ENDED,
-        }),
-    }
+    Ok(Answer {
+        text: report(alloc, sim)?,
+        status: ENDED,
+    })
 }
 
 /// Runs a job to its end, and reports it.
@@ -66,8 +59,8 @@ fn run_and_report(alloc: Global, sim: &mut Sim) -> Result<Answer, Memory>
     requires budget { sim.old.job.budget ≡ BUDGET }
     ensures { IfOk result (λ a. Concludes sim.old.job a.text.items a.status) }
 {
-    let status = run_to_end(sim)?;
-    concluded(alloc, sim, status)
+    run_to_end(sim)?;
+    concluded(alloc, sim)
 }
 
 /// Runs a job to its end.

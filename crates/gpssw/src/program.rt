@@ -71,8 +71,8 @@ fn read_and_answer<R: Read>(
 }
 
 /// The command `run`: reads an object and writes the report of its run, or the refusal line. It answers the status: 0
-/// where the job came to a named end, 1 where something was refused or the job met an error stop, 3 where a read or a
-/// write failed, 4 where memory ran out. Nothing is written before all input is read (ours: docs/program.md).
+/// where the job came to a named end, 1 where something was refused, 3 where a read or a write failed, 4 where memory ran
+/// out. Nothing is written before all input is read (ours: docs/program.md).
 pub fn run<R: Read, W: Write>(
     alloc: Global,
     seed: u32,

@@ -3,7 +3,7 @@
 /// An accepted job came to a named end.
 pub const ENDED: u8 = 0;
 
-/// The object or the job was refused, or the job met an error stop.
+/// The object or the job was refused.
 pub const REFUSED: u8 = 1;
 
 /// The words are not those of a command.

@@ -1,10 +1,8 @@
 -- Facilities: at most one transaction owns a facility.
-use Rattle.std.specs.Prelude.{ℕ, ◌+◌, List, Bool, true, false, Some, None, is_none, Result, Ok, Err, ◌==◌, if◌then◌else◌}
+use Rattle.std.specs.Prelude.{ℕ, ◌+◌, List, Bool, true, false, Some, None, is_none, Option, ◌==◌, if◌then◌else◌}
 use Rattle.std.specs.Option.{option_map_or}
 use Rattle.std.specs.List.{list_any}
 use Rattle.gw_entities.specs.declared.facilities.Facility.{Facility}
-use Rattle.gw_entities.specs.declared.stop.Stop.{Stop}
-use Rattle.gw_entities.specs.declared.stop.Stop.TheVariants.{AlreadyOwned, NotOwner}
 
 -- nobody owns it, and nobody did yet
 abbrev pub idle : Facility
@@ -34,13 +32,13 @@ released f = record f { owner = None }
 abbrev pub facility_after : ℕ → Facility → Facility
 facility_after dt f = if is_idle f then f else record f { busy = f.busy + dt }
 
--- SEIZE by xn: true with the facility seized, or false where another owns it; an error stop where xn owns it already
-abbrev pub seizing : ℕ → Facility → Result (Bool × Facility) Stop
+-- SEIZE by xn: true with the facility seized, or false where another owns it; there is no case where xn owns it already
+abbrev pub seizing : ℕ → Facility → Option (Bool × Facility)
 seizing xn f =
-    if is_owned_by xn f then Err AlreadyOwned
-    else if is_idle f then Ok (true, seized xn f)
-    else Ok (false, f)
+    if is_owned_by xn f then None
+    else if is_idle f then Some (true, seized xn f)
+    else Some (false, f)
 
--- RELEASE by xn: an error stop where xn isn't the owner
-abbrev pub releasing : ℕ → Facility → Result (Unit {0} × Facility) Stop
-releasing xn f = if is_owned_by xn f then Ok (tt, released f) else Err NotOwner
+-- RELEASE by xn: there is no case where xn isn't the owner
+abbrev pub releasing : ℕ → Facility → Option Facility
+releasing xn f = if is_owned_by xn f then Some (released f) else None

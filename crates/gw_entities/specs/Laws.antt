@@ -11,15 +11,15 @@ use Rattle.gw_entities.specs.Storage.{entered, left, entering, leaving}
 
 -- who seizes a facility owns it then, and nobody owned it before
 abbrev pub OnlyIdleIsSeized : Type 0
-OnlyIdleIsSeized = (xn : ℕ) (old new : Facility) → seizing xn old ≡ Ok (true, new) → (old.owner ≡ None) × (new.owner ≡ Some xn)
+OnlyIdleIsSeized = (xn : ℕ) (old new : Facility) → seizing xn old ≡ Some (true, new) → (old.owner ≡ None) × (new.owner ≡ Some xn)
 
 -- a facility that somebody owns stays as it is, whoever else tries to seize it
 abbrev pub OwnersAreKept : Type 0
-OwnersAreKept = (owner xn : ℕ) (answer : Bool) (old new : Facility) → old.owner ≡ Some owner → seizing xn old ≡ Ok (answer, new) → new ≡ old
+OwnersAreKept = (owner xn : ℕ) (answer : Bool) (old new : Facility) → old.owner ≡ Some owner → seizing xn old ≡ Some (answer, new) → new ≡ old
 
 -- the owner alone gives a facility up, and nobody owns it then
 abbrev pub OnlyTheOwnerReleases : Type 0
-OnlyTheOwnerReleases = (xn : ℕ) (old new : Facility) → releasing xn old ≡ Ok (tt, new) → (old.owner ≡ Some xn) × (new.owner ≡ None)
+OnlyTheOwnerReleases = (xn : ℕ) (old new : Facility) → releasing xn old ≡ Some new → (old.owner ≡ Some xn) × (new.owner ≡ None)
 
 -- what is inside a storage is at most its capacity
 abbrev pub IsWithinCapacity : Storage → Type 0
@@ -27,11 +27,11 @@ IsWithinCapacity s = s.contents.content ≤ s.capacity
 
 -- it stays so, whatever enters
 abbrev pub EnteringStaysWithin : Type 0
-EnteringStaysWithin = (n : ℕ) (answer : Bool) (old new : Storage) → entering n old ≡ Ok (answer, new) → IsWithinCapacity old → IsWithinCapacity new
+EnteringStaysWithin = (n : ℕ) (answer : Bool) (old new : Storage) → entering n old ≡ Some (answer, new) → IsWithinCapacity old → IsWithinCapacity new
 
 -- and whatever leaves
 abbrev pub LeavingStaysWithin : Type 0
-LeavingStaysWithin = (n : ℕ) (old new : Storage) → leaving n old ≡ Ok (tt, new) → IsWithinCapacity old → IsWithinCapacity new
+LeavingStaysWithin = (n : ℕ) (old new : Storage) → leaving n old ≡ Some new → IsWithinCapacity old → IsWithinCapacity new
 
 -- as many units as entered can leave, and then as many are inside as before
 abbrev pub LeavingGivesBack : Type 0

@@ -1,8 +1,6 @@
 -- Storages: what is inside stays within the capacity.
-use Rattle.std.specs.Prelude.{ℕ, ◌+◌, Bool, true, false, nat_le, Result, Ok, Err, if◌then◌else◌}
+use Rattle.std.specs.Prelude.{ℕ, ◌+◌, Bool, true, false, nat_le, Option, Some, None, if◌then◌else◌}
 use Rattle.gw_entities.specs.declared.storages.Storage.{Storage}
-use Rattle.gw_entities.specs.declared.stop.Stop.{Stop}
-use Rattle.gw_entities.specs.declared.stop.Stop.TheVariants.{OverCapacity, TooFew}
 use Rattle.gw_entities.specs.Contents.{empty, holds, added, taken, contents_after}
 
 -- a storage of this capacity with nothing inside
@@ -29,13 +27,13 @@ left n s = record s { contents = taken n s.contents }
 abbrev pub storage_after : ℕ → Storage → Storage
 storage_after dt s = record s { contents = contents_after dt s.contents }
 
--- ENTER of n units: true with the units inside, or false where there is no room; an error stop where there never is
-abbrev pub entering : ℕ → Storage → Result (Bool × Storage) Stop
+-- ENTER of n units: true with the units inside, or false where there is no room; there is no case where there never is
+abbrev pub entering : ℕ → Storage → Option (Bool × Storage)
 entering n s =
     if fits_capacity n s
-    then (if has_room n s then Ok (true, entered n s) else Ok (false, s))
-    else Err OverCapacity
+    then (if has_room n s then Some (true, entered n s) else Some (false, s))
+    else None
 
--- LEAVE of n units: an error stop where fewer are inside
-abbrev pub leaving : ℕ → Storage → Result (Unit {0} × Storage) Stop
-leaving n s = if holds n s.contents then Ok (tt, left n s) else Err TooFew
+-- LEAVE of n units: there is no case where fewer are inside
+abbrev pub leaving : ℕ → Storage → Option Storage
+leaving n s = if holds n s.contents then Some (left n s) else None

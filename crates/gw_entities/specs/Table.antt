@@ -10,7 +10,6 @@ use Rattle.gw_entities.specs.declared.contents.Contents.{Contents}
 use Rattle.gw_entities.specs.declared.facilities.Facility.{Facility}
 use Rattle.gw_entities.specs.declared.storages.Storage.{Storage}
 use Rattle.gw_entities.specs.Tabulation.{Tabulation}
-use Rattle.gw_entities.specs.declared.stop.Stop.{Stop}
 use Rattle.gw_entities.specs.Contents.{empty, contents_after}
 use Rattle.gw_entities.specs.Facility.{idle, facility_after}
 use Rattle.gw_entities.specs.Storage.{vacant, storage_after}
@@ -146,11 +145,6 @@ abbrev pub set_table : ℕ → Tabulation → List Tabulation → List Tabulatio
 set_table t table tables = put no_table tables t table
 
 -- ANSWERS
-
--- an answer with what it leaves of the entity; an error stop stands alone
-abbrev pub with_left : {A T : Type 0} → Result A Stop → T → Result (A × T) Stop
-with_left (Ok answer) left = Ok (answer, left)
-with_left (Err stop) left = Err stop
 
 -- what is left of the entity where there is no other answer; a fault stands alone
 abbrev pub left_by : {T E : Type 0} → Result (Unit {0}) E → T → Result T E

@@ -30,13 +30,6 @@ impl Contents {
         }
     }
 
-    /// Whether at least `n` units are inside.
-    pub(crate) fn holds(&self, n: u32) -> bool
-        ensures { result ≡ model.holds n self.now }
-    {
-        u64::from(n) <= self.content
-    }
-
     /// Puts `n` units in.
     pub(crate) fn add(&mut self, n: u32)
         requires content { self.old.content + n ≤ 2 ^ 62 }

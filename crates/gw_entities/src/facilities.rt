@@ -1,17 +1,17 @@
 //! Facilities.
 
-ghost use Rattle.std.specs.Prelude.{◌≡◌, ◌≤◌, ◌<◌, ◌+◌, ◌^◌, ℕ, length, IfOk, OnErr, Ok, false};
+ghost use Rattle.std.specs.Prelude.{◌≡◌, ◌≤◌, ◌<◌, ◌+◌, ◌^◌, ℕ, length, IfOk, Some, false, true};
 ghost use Rattle.std.specs.List.{list_any};
 ghost use Rattle.std.proofs.Common.{rules};
 ghost use Rattle.std.proofs.lemmas.Grind.{common_steps};
 ghost use Rattle.gw_entities.specs.Average.{average};
 ghost use Rattle.gw_entities.specs.Facility as model;
 ghost use Rattle.gw_entities.specs.Fits.{FacilityFits};
-ghost use Rattle.gw_entities.specs.Table.{facilities_of, facility_at, set_facility, facilities_after, with_left};
+ghost use Rattle.gw_entities.specs.Table.{facilities_of, facility_at, set_facility, facilities_after};
 
+use crate::Memory;
 use crate::average::{Average, average_of};
 use crate::numbered::{Kept, Numbered, Timed};
-use crate::{Memory, Stop};
 use gw_object::{Kind, Object};
 use std::alloc::Global;
 use std::marker::Model;
@@ -43,33 +43,27 @@ impl Facility {
     }
 
     /// The transaction `xn` seizes it, if it is idle.
-    fn seize(&mut self, xn: u64) -> Result<bool, Stop>
-        requires { self.old.entries < 2 ^ 62 }
-        ensures value { with_left result self.new ≡ model.seizing xn self.old }
-        ensures busy { result ≡ Ok false → self.new ≡ self.old }
+    fn seize(&mut self, xn: u64) -> bool
+        requires few { self.old.entries < 2 ^ 62 }
+        requires other { model.is_owned_by xn self.old ≡ false }
+        ensures value { model.seizing xn self.old ≡ Some (result, self.new) }
+        ensures busy { result ≡ false → self.new ≡ self.old }
         ensures fits { (passed : ℕ) → FacilityFits passed self.old → FacilityFits passed self.new }
     {
-        if self.is_owned_by(xn) {
-            return Err(Stop::AlreadyOwned);
-        }
         if !self.is_idle() {
-            return Ok(false);
+            return false;
         }
         self.owner = Some(xn);
         self.entries += 1;
-        Ok(true)
+        true
     }
 
-    /// The transaction `xn` gives it up.
-    fn release(&mut self, xn: u64) -> Result<(), Stop>
-        ensures value { with_left result self.new ≡ model.releasing xn self.old }
+    /// Its owner gives it up.
+    fn release(&mut self)
+        ensures value { self.new ≡ model.released self.old }
         ensures fits { (passed : ℕ) → FacilityFits passed self.old → FacilityFits passed self.new }
     {
-        if !self.is_owned_by(xn) {
-            return Err(Stop::NotOwner);
-        }
         self.owner = None;
-        Ok(())
     }
 }
 
@@ -131,42 +125,37 @@ impl Facilities {
         Ok(Facilities { table })
     }
 
-    /// The transaction `xn` seizes the facility `f`, if it is idle; false where another owns it, and nothing changes.
-    ///
-    /// `AlreadyOwned` where `xn` owns it, and nothing changes (GPSS World Reference Manual, "SEIZE"; that this is an error
-    /// stop is ours: docs/machine.md).
+    /// The transaction `xn`, which doesn't own the facility `f`, seizes it, if it is idle; false where another owns it, and
+    /// nothing changes (GPSS World Reference Manual, "SEIZE").
     #[tactic(auto, using(crate::proofs::Rules::tables))]
-    pub fn seize(&mut self, f: u16, xn: u64) -> Result<bool, Stop>
+    pub fn seize(&mut self, f: u16, xn: u64) -> bool
         requires there { f < length self.old.facilities }
         requires few { (facility_at f self.old).entries < 2 ^ 62 }
-        ensures value { with_left result (facility_at f self.new) ≡ model.seizing xn (facility_at f self.old) }
+        requires other { model.is_owned_by xn (facility_at f self.old) ≡ false }
+        ensures value { model.seizing xn (facility_at f self.old) ≡ Some (result, facility_at f self.new) }
         ensures others { self.new ≡ set_facility f (facility_at f self.new) self.old }
-        ensures busy { result ≡ Ok false → self.new ≡ self.old }
-        ensures stopped { OnErr result (self.new ≡ self.old) }
+        ensures busy { result ≡ false → self.new ≡ self.old }
         ensures count { length self.new.facilities ≡ length self.old.facilities }
     {
         let mut facility = self.table.get(f);
-        let seized = facility.seize(xn)?;
+        let seized = facility.seize(xn);
         self.table.set(f, facility);
-        Ok(seized)
+        seized
     }
 
-    /// The transaction `xn` gives up the facility `f`, which is then idle.
-    ///
-    /// `NotOwner` where `xn` doesn't own it, and nothing changes (GPSS World Reference Manual, "RELEASE"; that this is an
-    /// error stop is ours: docs/machine.md).
+    /// The transaction `xn` gives up the facility `f`, which it owns, and which is then idle (GPSS World Reference Manual,
+    /// "RELEASE").
     #[tactic(auto, using(crate::proofs::Rules::tables))]
-    pub fn release(&mut self, f: u16, xn: u64) -> Result<(), Stop>
-        requires { f < length self.old.facilities }
-        ensures value { with_left result (facility_at f self.new) ≡ model.releasing xn (facility_at f self.old) }
+    pub fn release(&mut self, f: u16, xn: u64)
+        requires there { f < length self.old.facilities }
+        requires owner { model.is_owned_by xn (facility_at f self.old) ≡ true }
+        ensures value { model.releasing xn (facility_at f self.old) ≡ Some (facility_at f self.new) }
         ensures others { self.new ≡ set_facility f (facility_at f self.new) self.old }
-        ensures stopped { OnErr result (self.new ≡ self.old) }
         ensures count { length self.new.facilities ≡ length self.old.facilities }
     {
         let mut facility = self.table.get(f);
-        facility.release(xn)?;
+        facility.release();
         self.table.set(f, facility);
-        Ok(())
     }
 
     /// Lets `dt` clock units pass: each facility that is owned was busy for as long.

@@ -1,8 +1,8 @@
 //! The entities of a model: facilities, storages, queues, logic switches, savevalues and tables, each with what the report
 //! says of it.
 //!
-//! A call names an entity by its number in the object, from 0. Only `new` takes memory. A call for which the rules of its
-//! block have no case answers the error stop that it is, and changes nothing.
+//! A call names an entity by its number in the object, from 0. Only `new` takes memory. What the rules of a block ask for is a
+//! condition of its call: in an accepted object it holds wherever the block is met (docs/machine.md, "Well-typed states").
 #![tactic(auto)]
 
 mod average;
@@ -13,7 +13,6 @@ pub mod laws;
 mod numbered;
 mod queues;
 mod savevalues;
-mod stop;
 mod storages;
 mod switches;
 mod tables;
@@ -25,7 +24,6 @@ pub use queues::Queues;
 pub use savevalues::Savevalues;
 /// The answer where there was no memory.
 pub use std::alloc::AllocError as Memory;
-pub use stop::Stop;
 pub use storages::{Storage, Storages};
 pub use switches::Switches;
 pub use tables::{Tables, Tabulation};

@@ -1,56 +1,37 @@
 //! Queues.
 
-ghost use Rattle.std.specs.Prelude.{◌≡◌, ◌≤◌, ◌<◌, ◌+◌, ◌^◌, ℕ, length, IfOk, OnErr};
+ghost use Rattle.std.specs.Prelude.{◌≡◌, ◌≤◌, ◌<◌, ◌+◌, ◌^◌, ℕ, length, IfOk, Some, true};
 ghost use Rattle.std.proofs.Common.{rules};
 ghost use Rattle.gw_entities.specs.Average.{average};
 ghost use Rattle.gw_entities.specs.Contents as contents;
 ghost use Rattle.gw_entities.specs.Fits.{QueueFits};
 ghost use Rattle.gw_entities.specs.Queue as model;
-ghost use Rattle.gw_entities.specs.Table.{queues_of, queue_at, set_queue, queues_after, with_left};
+ghost use Rattle.gw_entities.specs.Table.{queues_of, queue_at, set_queue, queues_after};
 
+use crate::Memory;
 use crate::average::{Average, average_of};
 use crate::contents::Contents;
 use crate::numbered::{Numbered, Timed};
-use crate::{Memory, Stop};
 use gw_object::{Kind, Object};
 use std::alloc::Global;
 use std::marker::Model;
 
-/// The most units that a queue counts: those inside, and those that ever joined it.
-const MOST_UNITS: u64 = 1 << 62;
-
-/// Whether `n` units more can be counted.
-fn may_join(queue: &Contents, n: u32) -> bool
-    requires { (passed : ℕ) × QueueFits passed queue.now }
-    ensures { result ≡ model.may_join n queue.now }
-{
-    let n = u64::from(n);
-    queue.content + n <= MOST_UNITS && queue.entries + n <= MOST_UNITS
-}
-
 /// Lets `n` units join.
-fn join(queue: &mut Contents, n: u32) -> Result<(), Stop>
-    requires { (passed : ℕ) × QueueFits passed queue.old }
-    ensures value { with_left result queue.new ≡ model.joining n queue.old }
+fn join(queue: &mut Contents, n: u32)
+    requires few { (queue.old.content + n ≤ 2 ^ 62) × (queue.old.entries + n ≤ 2 ^ 62) }
+    ensures value { queue.new ≡ model.joined n queue.old }
     ensures fits { (passed : ℕ) → QueueFits passed queue.old → QueueFits passed queue.new }
 {
-    if !may_join(queue, n) {
-        return Err(Stop::OverCapacity);
-    }
     queue.add(n);
-    Ok(())
 }
 
 /// Lets `n` units depart.
-fn depart(queue: &mut Contents, n: u32) -> Result<(), Stop>
-    ensures value { with_left result queue.new ≡ model.departing n queue.old }
+fn depart(queue: &mut Contents, n: u32)
+    requires { n ≤ queue.old.content }
+    ensures value { model.departing n queue.old ≡ Some queue.new }
     ensures fits { (passed : ℕ) → QueueFits passed queue.old → QueueFits passed queue.new }
 {
-    if !queue.holds(n) {
-        return Err(Stop::TooFew);
-    }
     queue.take(n);
-    Ok(())
 }
 
 /// A queue is what is inside, and has no capacity (GPSS World Reference Manual, "QUEUE" and "DEPART").
@@ -99,40 +80,33 @@ impl Queues {
         Ok(Queues { table })
     }
 
-    /// Lets `n` units join the queue `q`.
-    ///
-    /// `OverCapacity` where the units inside, or those that ever joined, would then be more than 2^62, and nothing changes
-    /// (GPSS World Reference Manual, "QUEUE"; the limit is ours: docs/machine.md).
+    /// Lets `n` units join the queue `q`, where those inside and those that ever joined are at most 2^62 then (GPSS World
+    /// Reference Manual, "QUEUE"; the limit is ours: docs/machine.md).
     #[tactic(auto, using(crate::proofs::Rules::tables))]
-    pub fn join_queue(&mut self, q: u16, n: u32) -> Result<(), Stop>
-        requires { q < length self.old.queues }
-        ensures value { with_left result (queue_at q self.new) ≡ model.joining n (queue_at q self.old) }
+    pub fn join_queue(&mut self, q: u16, n: u32)
+        requires there { q < length self.old.queues }
+        requires few { ((queue_at q self.old).content + n ≤ 2 ^ 62) × ((queue_at q self.old).entries + n ≤ 2 ^ 62) }
+        ensures value { queue_at q self.new ≡ model.joined n (queue_at q self.old) }
         ensures others { self.new ≡ set_queue q (queue_at q self.new) self.old }
-        ensures stopped { OnErr result (self.new ≡ self.old) }
         ensures count { length self.new.queues ≡ length self.old.queues }
     {
         let mut queue = self.table.get(q);
-        join(&mut queue, n)?;
+        join(&mut queue, n);
         self.table.set(q, queue);
-        Ok(())
     }
 
-    /// Lets `n` units depart from the queue `q`.
-    ///
-    /// `TooFew` where fewer are inside, and nothing changes (GPSS World Reference Manual, "DEPART"; that this is an error
-    /// stop is ours: docs/machine.md).
+    /// Lets `n` units depart from the queue `q`, where at least so many are inside (GPSS World Reference Manual, "DEPART").
     #[tactic(auto, using(crate::proofs::Rules::tables))]
-    pub fn depart(&mut self, q: u16, n: u32) -> Result<(), Stop>
-        requires { q < length self.old.queues }
-        ensures value { with_left result (queue_at q self.new) ≡ model.departing n (queue_at q self.old) }
+    pub fn depart(&mut self, q: u16, n: u32)
+        requires there { q < length self.old.queues }
+        requires inside { n ≤ (queue_at q self.old).content }
+        ensures value { model.departing n (queue_at q self.old) ≡ Some (queue_at q self.new) }
         ensures others { self.new ≡ set_queue q (queue_at q self.new) self.old }
-        ensures stopped { OnErr result (self.new ≡ self.old) }
         ensures count { length self.new.queues ≡ length self.old.queues }
     {
         let mut queue = self.table.get(q);
-        depart(&mut queue, n)?;
+        depart(&mut queue, n);
         self.table.set(q, queue);
-        Ok(())
     }
 
     /// Lets `dt` clock units pass: each unit inside was there for as long.

@@ -1,17 +1,17 @@
 //! Storages.
 
-ghost use Rattle.std.specs.Prelude.{◌≡◌, ◌≤◌, ◌<◌, ◌+◌, ◌^◌, ℕ, length, IfOk, OnErr, Ok, false};
+ghost use Rattle.std.specs.Prelude.{◌≡◌, ◌≤◌, ◌<◌, ◌+◌, ◌^◌, ℕ, length, IfOk, Some, false, true};
 ghost use Rattle.gw_object.specs.Entities.{capacity_of};
 ghost use Rattle.std.proofs.Common.{rules};
 ghost use Rattle.gw_entities.specs.Average.{average};
 ghost use Rattle.gw_entities.specs.Fits.{StorageFits};
 ghost use Rattle.gw_entities.specs.Storage as model;
-ghost use Rattle.gw_entities.specs.Table.{storages_of, storage_at, set_storage, storages_after, with_left};
+ghost use Rattle.gw_entities.specs.Table.{storages_of, storage_at, set_storage, storages_after};
 
+use crate::Memory;
 use crate::average::{Average, average_of};
 use crate::contents::Contents;
 use crate::numbered::{Numbered, Timed};
-use crate::{Memory, Stop};
 use gw_object::{Kind, Object};
 use std::alloc::Global;
 use std::marker::Model;
@@ -26,13 +26,6 @@ pub struct Storage {
 }
 
 impl Storage {
-    /// Whether `n` units are at most the whole capacity.
-    fn fits_capacity(&self, n: u32) -> bool
-        ensures { result ≡ model.fits_capacity n self.now }
-    {
-        n <= self.capacity
-    }
-
     /// Whether there is room for `n` units more.
     fn has_room(&self, n: u32) -> bool
         requires { self.now.contents.content ≤ 2 ^ 62 }
@@ -42,33 +35,28 @@ impl Storage {
     }
 
     /// Lets `n` units enter, if there is room.
-    fn enter(&mut self, n: u32) -> Result<bool, Stop>
+    fn enter(&mut self, n: u32) -> bool
         requires fits { (passed : ℕ) × StorageFits passed self.old }
         requires few { self.old.contents.entries + n ≤ 2 ^ 62 }
-        ensures value { with_left result self.new ≡ model.entering n self.old }
-        ensures full { result ≡ Ok false → self.new ≡ self.old }
+        requires whole { n ≤ self.old.capacity }
+        ensures value { model.entering n self.old ≡ Some (result, self.new) }
+        ensures full { result ≡ false → self.new ≡ self.old }
         ensures fits { (passed : ℕ) → StorageFits passed self.old → StorageFits passed self.new }
     {
-        if !self.fits_capacity(n) {
-            return Err(Stop::OverCapacity);
-        }
         if !self.has_room(n) {
-            return Ok(false);
+            return false;
         }
         self.contents.add(n);
-        Ok(true)
+        true
     }
 
     /// Lets `n` units leave.
-    fn leave(&mut self, n: u32) -> Result<(), Stop>
-        ensures value { with_left result self.new ≡ model.leaving n self.old }
+    fn leave(&mut self, n: u32)
+        requires { n ≤ self.old.contents.content }
+        ensures value { model.leaving n self.old ≡ Some self.new }
         ensures fits { (passed : ℕ) → StorageFits passed self.old → StorageFits passed self.new }
     {
-        if !self.contents.holds(n) {
-            return Err(Stop::TooFew);
-        }
         self.contents.take(n);
-        Ok(())
     }
 }
 
@@ -124,42 +112,36 @@ impl Storages {
         Ok(Storages { table })
     }
 
-    /// Lets `n` units enter the storage `s`, if there is room; false where there isn't now, and nothing changes.
-    ///
-    /// `OverCapacity` where `n` is more than the whole capacity, and nothing changes (GPSS World Reference Manual, "ENTER";
-    /// that this is an error stop is ours: docs/machine.md).
+    /// Lets `n` units, at most the whole capacity, enter the storage `s`, if there is room; false where there isn't now, and
+    /// nothing changes (GPSS World Reference Manual, "ENTER").
     #[tactic(auto, using(crate::proofs::Rules::tables))]
-    pub fn enter(&mut self, s: u16, n: u32) -> Result<bool, Stop>
+    pub fn enter(&mut self, s: u16, n: u32) -> bool
         requires there { s < length self.old.storages }
         requires few { (storage_at s self.old).contents.entries + n ≤ 2 ^ 62 }
-        ensures value { with_left result (storage_at s self.new) ≡ model.entering n (storage_at s self.old) }
+        requires whole { n ≤ (storage_at s self.old).capacity }
+        ensures value { model.entering n (storage_at s self.old) ≡ Some (result, storage_at s self.new) }
         ensures others { self.new ≡ set_storage s (storage_at s self.new) self.old }
-        ensures full { result ≡ Ok false → self.new ≡ self.old }
-        ensures stopped { OnErr result (self.new ≡ self.old) }
+        ensures full { result ≡ false → self.new ≡ self.old }
         ensures count { length self.new.storages ≡ length self.old.storages }
     {
         let mut storage = self.table.get(s);
-        let entered = storage.enter(n)?;
+        let entered = storage.enter(n);
         self.table.set(s, storage);
-        Ok(entered)
+        entered
     }
 
-    /// Lets `n` units leave the storage `s`.
-    ///
-    /// `TooFew` where fewer are inside, and nothing changes (GPSS World Reference Manual, "LEAVE"; that this is an error
-    /// stop is ours: docs/machine.md).
+    /// Lets `n` units leave the storage `s`, where at least so many are inside (GPSS World Reference Manual, "LEAVE").
     #[tactic(auto, using(crate::proofs::Rules::tables))]
-    pub fn leave(&mut self, s: u16, n: u32) -> Result<(), Stop>
-        requires { s < length self.old.storages }
-        ensures value { with_left result (storage_at s self.new) ≡ model.leaving n (storage_at s self.old) }
+    pub fn leave(&mut self, s: u16, n: u32)
+        requires there { s < length self.old.storages }
+        requires inside { n ≤ (storage_at s self.old).contents.content }
+        ensures value { model.leaving n (storage_at s self.old) ≡ Some (storage_at s self.new) }
         ensures others { self.new ≡ set_storage s (storage_at s self.new) self.old }
-        ensures stopped { OnErr result (self.new ≡ self.old) }
         ensures count { length self.new.storages ≡ length self.old.storages }
     {
         let mut storage = self.table.get(s);
-        storage.leave(n)?;
+        storage.leave(n);
         self.table.set(s, storage);
-        Ok(())
     }
 
     /// Lets `dt` clock units pass: each unit inside was there for as long.

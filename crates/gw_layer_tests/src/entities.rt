@@ -1,12 +1,17 @@
 //! Entities worked out by hand.
 
-ghost use Rattle.std.specs.Prelude.{◌≡◌, length, IfOk};
+ghost use Rattle.std.specs.Prelude.{◌≡◌, ◌<◌, length, IfOk};
+ghost use Rattle.gw_entities.specs.Facility.{is_owned_by};
+ghost use Rattle.gw_entities.specs.Table.{facility_at};
 
 use crate::models::{built, first_wrong, parts, three_entities};
-use gw_entities::{Average, Contents, Facilities, Facility, Queues, Stop, Storage, Storages};
+use gw_entities::{Average, Contents, Facilities, Facility, Queues, Storage, Storages};
 use gw_object::Object;
 use std::alloc::Global;
 use std::test::Fail;
+
+/// At most so many units are in a queue, or ever joined it, before some join that a test lets join.
+const MOST_BEFORE: u64 = 1 << 61;
 
 /// The last clock time.
 const LAST: u64 = 9_223_372_036_854_775_807;
@@ -46,16 +51,27 @@ trait Followed {
 /// What is done with the facility, and what is then to be seen.
 #[derive(Clone, Copy)]
 enum FacilityStep {
-    /// A transaction seizes it, which answers so.
-    Seize(u64, Result<bool, Stop>),
-    /// A transaction releases it, which answers so.
-    Release(u64, Result<(), Stop>),
+    /// A transaction that doesn't own it seizes it, which answers so.
+    Seize(u64, bool),
+    /// Its owner releases it.
+    Release(u64),
     /// So many clock units pass.
     Pass(u64),
     /// Whether a transaction owns any facility.
     OwnsAny(u64, bool),
     /// Its owner, its entries, how long it was owned, and its utilisation.
     Reads(Option<u64>, u64, u128, (u64, u16)),
+}
+
+/// Whether a transaction owns the facility, which is number 0.
+fn is_owner(facilities: &Facilities, xn: u64) -> bool
+    requires { 0 < length facilities.now.facilities }
+    ensures { result ≡ is_owned_by xn (facility_at 0 facilities.now) }
+{
+    match facilities.get(0).owner {
+        Some(owner) => owner == xn,
+        None => false,
+    }
 }
 
 /// The facility of that object, and the clock time.
@@ -76,12 +92,21 @@ impl OneFacility {
         })
     }
 
-    /// Whether a transaction that seizes it, at most the hundredth time, is answered so.
-    fn seizes(&mut self, xn: u64, seized: Result<bool, Stop>) -> bool {
-        if 100 <= self.facilities.get(0).entries {
+    /// Whether a transaction that doesn't own it and seizes it, at most the hundredth time, is answered so.
+    fn seizes(&mut self, xn: u64, seized: bool) -> bool {
+        if 100 <= self.facilities.get(0).entries || is_owner(&self.facilities, xn) {
             return false;
         }
         self.facilities.seize(0, xn) == seized
+    }
+
+    /// Whether a transaction owns it, which then releases it.
+    fn releases(&mut self, xn: u64) -> bool {
+        if !is_owner(&self.facilities, xn) {
+            return false;
+        }
+        self.facilities.release(0, xn);
+        true
     }
 
     /// Lets so many clock units pass, if there are as many.
@@ -105,7 +130,7 @@ impl Followed for OneFacility {
     fn follows(&mut self, step: &FacilityStep) -> bool {
         match step {
             FacilityStep::Seize(xn, seized) => self.seizes(*xn, *seized),
-            FacilityStep::Release(xn, released) => self.facilities.release(0, *xn) == *released,
+            FacilityStep::Release(xn) => self.releases(*xn),
             FacilityStep::Pass(dt) => self.passes(*dt),
             FacilityStep::OwnsAny(xn, owns) => self.facilities.owns_any(*xn) == *owns,
             FacilityStep::Reads(owner, entries, busy, (whole, thousandths)) => {
@@ -123,10 +148,10 @@ impl Followed for OneFacility {
 /// What is done with the storage, and what is then to be seen.
 #[derive(Clone, Copy)]
 enum StorageStep {
-    /// So many units enter, which answers so.
-    Enter(u32, Result<bool, Stop>),
-    /// So many units leave, which answers so.
-    Leave(u32, Result<(), Stop>),
+    /// So many units, at most the capacity, enter, which answers so.
+    Enter(u32, bool),
+    /// So many units leave.
+    Leave(u32),
     /// So many clock units pass.
     Pass(u64),
     /// The content, the maximum and the entries, the sum of content times time, and the average.
@@ -148,12 +173,22 @@ impl OneStorage {
         Ok(OneStorage { storages, clock: 0 })
     }
 
-    /// Whether so many units that enter are answered so, where no more than a hundred entered before.
-    fn enters(&mut self, n: u32, entered: Result<bool, Stop>) -> bool {
-        if 100 <= self.storages.get(1).contents.entries {
+    /// Whether so many units, at most the capacity, that enter are answered so, where no more than a hundred entered before.
+    fn enters(&mut self, n: u32, entered: bool) -> bool {
+        let storage = self.storages.get(1);
+        if 100 <= storage.contents.entries || n > storage.capacity {
             return false;
         }
         self.storages.enter(1, n) == entered
+    }
+
+    /// Whether so many units are inside, which then leave.
+    fn leaves(&mut self, n: u32) -> bool {
+        if u64::from(n) > self.storages.get(1).contents.content {
+            return false;
+        }
+        self.storages.leave(1, n);
+        true
     }
 
     /// Lets so many clock units pass, if there are as many.
@@ -181,7 +216,7 @@ impl Followed for OneStorage {
     fn follows(&mut self, step: &StorageStep) -> bool {
         match step {
             StorageStep::Enter(n, entered) => self.enters(*n, *entered),
-            StorageStep::Leave(n, left) => self.storages.leave(1, *n) == *left,
+            StorageStep::Leave(n) => self.leaves(*n),
             StorageStep::Pass(dt) => self.passes(*dt),
             StorageStep::Reads(content, maximum, entries, time_sum, (whole, thousandths)) => {
                 let contents = Contents {
@@ -199,10 +234,10 @@ impl Followed for OneStorage {
 /// What is done with the queue, and what is then to be seen.
 #[derive(Clone, Copy)]
 enum QueueStep {
-    /// So many units join, which answers so.
-    Join(u32, Result<(), Stop>),
-    /// So many units depart, which answers so.
-    Depart(u32, Result<(), Stop>),
+    /// So many units join.
+    Join(u32),
+    /// So many units depart.
+    Depart(u32),
     /// So many clock units pass.
     Pass(u64),
     /// The content, the maximum and the entries, the sum of content times time, and the average.
@@ -238,10 +273,29 @@ impl OneQueue {
         self.queues.get(2) == contents && self.queues.average(2) == average
     }
 
+    /// Whether so many units may join by the limit of a queue, 2^62 in all, and then join.
+    fn joins(&mut self, n: u32) -> bool {
+        let queue = self.queues.get(2);
+        if queue.content > MOST_BEFORE || queue.entries > MOST_BEFORE {
+            return false;
+        }
+        self.queues.join_queue(2, n);
+        true
+    }
+
+    /// Whether so many units are inside, which then depart.
+    fn departs(&mut self, n: u32) -> bool {
+        if u64::from(n) > self.queues.get(2).content {
+            return false;
+        }
+        self.queues.depart(2, n);
+        true
+    }
+
     /// Lets four thousand million units join so often; whether they all could.
     fn fills(&mut self, times: u32) -> bool {
         for _ in 0..times {
-            if self.queues.join_queue(2, 4_000_000_000).is_err() {
+            if !self.joins(4_000_000_000) {
                 return false;
             }
         }
@@ -254,8 +308,8 @@ impl Followed for OneQueue {
 
     fn follows(&mut self, step: &QueueStep) -> bool {
         match step {
-            QueueStep::Join(n, joined) => self.queues.join_queue(2, *n) == *joined,
-            QueueStep::Depart(n, departed) => self.queues.depart(2, *n) == *departed,
+            QueueStep::Join(n) => self.joins(*n),
+            QueueStep::Depart(n) => self.departs(*n),
             QueueStep::Pass(dt) => self.passes(*dt),
             QueueStep::Reads(content, maximum, entries, time_sum, (whole, thousandths)) => {
                 let contents = Contents {
@@ -291,15 +345,12 @@ fn wrong_queue_step(alloc: Global, steps: &[QueueStep]) -> Result<Option<usize>,
 #[test]
 fn a_facility_is_its_owners_until_it_is_released(rt: HostRuntime) -> Result<(), Fail> {
     const STEPS: &[FacilityStep] = &[
-        FacilityStep::Seize(7, Ok(true)),
+        FacilityStep::Seize(7, true),
         FacilityStep::OwnsAny(7, true),
         FacilityStep::OwnsAny(8, false),
-        FacilityStep::Seize(8, Ok(false)),
-        FacilityStep::Seize(7, Err(Stop::AlreadyOwned)),
-        FacilityStep::Release(8, Err(Stop::NotOwner)),
+        FacilityStep::Seize(8, false),
         FacilityStep::Reads(Some(7), 1, 0, (0, 0)),
-        FacilityStep::Release(7, Ok(())),
-        FacilityStep::Release(7, Err(Stop::NotOwner)),
+        FacilityStep::Release(7),
         FacilityStep::Reads(None, 1, 0, (0, 0)),
     ];
     assert!(rt; wrong_facility_step(rt.alloc(), STEPS)?.is_none());
@@ -309,10 +360,10 @@ fn a_facility_is_its_owners_until_it_is_released(rt: HostRuntime) -> Result<(), 
 #[test]
 fn a_facility_owned_all_the_time_has_utilisation_1(rt: HostRuntime) -> Result<(), Fail> {
     const STEPS: &[FacilityStep] = &[
-        FacilityStep::Seize(1, Ok(true)),
+        FacilityStep::Seize(1, true),
         FacilityStep::Pass(8),
         FacilityStep::Reads(Some(1), 1, 8, (1, 0)),
-        FacilityStep::Release(1, Ok(())),
+        FacilityStep::Release(1),
         FacilityStep::Pass(4),
         FacilityStep::Reads(None, 1, 8, (0, 666)),
     ];
@@ -323,10 +374,10 @@ fn a_facility_owned_all_the_time_has_utilisation_1(rt: HostRuntime) -> Result<()
 #[test]
 fn a_storage_of_3_that_is_always_full_has_average_3(rt: HostRuntime) -> Result<(), Fail> {
     const STEPS: &[StorageStep] = &[
-        StorageStep::Enter(3, Ok(true)),
+        StorageStep::Enter(3, true),
         StorageStep::Pass(10),
-        StorageStep::Leave(1, Ok(())),
-        StorageStep::Enter(1, Ok(true)),
+        StorageStep::Leave(1),
+        StorageStep::Enter(1, true),
         StorageStep::Pass(10),
         StorageStep::Reads(3, 3, 4, 60, (3, 0)),
     ];
@@ -337,11 +388,9 @@ fn a_storage_of_3_that_is_always_full_has_average_3(rt: HostRuntime) -> Result<(
 #[test]
 fn a_storage_holds_no_more_than_its_capacity(rt: HostRuntime) -> Result<(), Fail> {
     const STEPS: &[StorageStep] = &[
-        StorageStep::Enter(4, Err(Stop::OverCapacity)),
-        StorageStep::Enter(2, Ok(true)),
-        StorageStep::Enter(2, Ok(false)),
-        StorageStep::Leave(3, Err(Stop::TooFew)),
-        StorageStep::Leave(2, Ok(())),
+        StorageStep::Enter(2, true),
+        StorageStep::Enter(2, false),
+        StorageStep::Leave(2),
         StorageStep::Reads(0, 2, 2, 0, (0, 0)),
     ];
     assert!(rt; wrong_storage_step(rt.alloc(), STEPS)?.is_none());
@@ -351,9 +400,9 @@ fn a_storage_holds_no_more_than_its_capacity(rt: HostRuntime) -> Result<(), Fail
 #[test]
 fn a_queue_of_one_unit_for_half_the_time_has_average_one_half(rt: HostRuntime) -> Result<(), Fail> {
     const STEPS: &[QueueStep] = &[
-        QueueStep::Join(1, Ok(())),
+        QueueStep::Join(1),
         QueueStep::Pass(4),
-        QueueStep::Depart(1, Ok(())),
+        QueueStep::Depart(1),
         QueueStep::Pass(4),
         QueueStep::Reads(0, 1, 1, 4, (0, 500)),
     ];
@@ -364,10 +413,9 @@ fn a_queue_of_one_unit_for_half_the_time_has_average_one_half(rt: HostRuntime) -
 #[test]
 fn a_queue_counts_units(rt: HostRuntime) -> Result<(), Fail> {
     const STEPS: &[QueueStep] = &[
-        QueueStep::Join(5, Ok(())),
-        QueueStep::Depart(6, Err(Stop::TooFew)),
-        QueueStep::Depart(3, Ok(())),
-        QueueStep::Join(1, Ok(())),
+        QueueStep::Join(5),
+        QueueStep::Depart(3),
+        QueueStep::Join(1),
         QueueStep::Reads(3, 5, 6, 0, (0, 0)),
     ];
     assert!(rt; wrong_queue_step(rt.alloc(), STEPS)?.is_none());
@@ -403,7 +451,7 @@ fn crowded_averages(queue: &mut OneQueue) -> Option<[Average; 2]> {
         return None;
     }
     let all_stayed = queue.queues.average(2);
-    if queue.queues.depart(2, 1).is_ok() && queue.passes(1) {
+    if queue.departs(1) && queue.passes(1) {
         Some([all_stayed, queue.queues.average(2)])
     } else {
         None

@@ -1,5 +1,6 @@
 //! Parameters of transactions: what was set is read again, by the transaction and the number.
 
+ghost use Rattle.std.specs.Prelude.{◌≡◌};
 ghost use Rattle.gw_transactions.specs.Transactions.{Holds};
 
 use crate::models::first_wrong;
@@ -18,28 +19,33 @@ const MADE: Transaction = Transaction {
     set: 1,
 };
 
-/// Whether these are the parameters 1, 2 and 64 of a transaction, as far as they are set.
-fn are_set(transactions: &Transactions, tx: Tx, parameters: [Option<i64>; 3]) -> bool
-    requires { Holds transactions.now tx }
+/// Whether these are the values of the parameters 1, 2 and 64 of a transaction, 0 where one isn't set.
+fn have_values(transactions: &Transactions, tx: Tx, values: [i64; 3]) -> bool
+    requires held { Holds transactions.now tx }
+    requires last { transactions.now.last ≡ 64 }
 {
-    let [first, second, last] = parameters;
-    transactions.parameter(tx, 1) == first
-        && transactions.parameter(tx, 2) == second
-        && transactions.parameter(tx, 64) == last
+    let parameters = transactions.parameters(tx);
+    let [first, second, last] = values;
+    parameters.get_or_zero(1) == first
+        && parameters.get_or_zero(2) == second
+        && parameters.get_or_zero(64) == last
 }
 
 /// Which answers are right where parameters of the first of two transactions are set, and no parameter of the second is.
-fn two_transactions(alloc: Global) -> Result<[bool; 5], Memory> {
-    let mut transactions = Transactions::new(alloc)?;
+fn two_transactions(alloc: Global) -> Result<[bool; 6], Memory> {
+    let mut transactions = Transactions::new(alloc, 64)?;
     transactions.reserve(2)?;
-    let first = transactions.insert(MADE);
-    let second = transactions.insert(MADE);
-    let none_at_first = are_set(&transactions, first, [None, None, None]);
-    transactions.assign(first, 1, 7)?;
-    transactions.assign(first, 64, -9)?;
-    let set = are_set(&transactions, first, [Some(7), None, Some(-9)]);
-    transactions.assign(first, 1, i64::MIN)?;
-    let set_again = are_set(&transactions, first, [Some(i64::MIN), None, Some(-9)]);
+    let unset = transactions.new_parameters()?;
+    let first = transactions.insert_with(MADE, unset);
+    let unset = transactions.new_parameters()?;
+    let second = transactions.insert_with(MADE, unset);
+    let none_at_first = have_values(&transactions, first, [0, 0, 0]);
+    transactions.assign(first, 1, 7);
+    transactions.assign(first, 64, -9);
+    let set = have_values(&transactions, first, [7, 0, -9]);
+    let read = transactions.parameters(first).get(64) == -9;
+    transactions.assign(first, 1, i64::MIN);
+    let set_again = have_values(&transactions, first, [i64::MIN, 0, -9]);
     transactions.set(
         first,
         Transaction {
@@ -47,9 +53,16 @@ fn two_transactions(alloc: Global) -> Result<[bool; 5], Memory> {
             ..MADE
         },
     );
-    let kept = are_set(&transactions, first, [Some(i64::MIN), None, Some(-9)]);
-    let none_of_the_second = are_set(&transactions, second, [None, None, None]);
-    Ok([none_at_first, set, set_again, kept, none_of_the_second])
+    let kept = have_values(&transactions, first, [i64::MIN, 0, -9]);
+    let none_of_the_second = have_values(&transactions, second, [0, 0, 0]);
+    Ok([
+        none_at_first,
+        set,
+        read,
+        set_again,
+        kept,
+        none_of_the_second,
+    ])
 }
 
 #[test]
@@ -61,15 +74,17 @@ fn parameters_are_read_as_they_were_set(rt: HostRuntime) -> Result<(), Fail> {
 
 /// Which answers are right where a transaction comes to the place of one that was removed, of which a parameter was set.
 fn one_at_the_place_of_another(alloc: Global) -> Result<[bool; 2], Memory> {
-    let mut transactions = Transactions::new(alloc)?;
+    let mut transactions = Transactions::new(alloc, 64)?;
     transactions.reserve(1)?;
-    let first = transactions.insert(MADE);
-    transactions.assign(first, 2, 5)?;
+    let unset = transactions.new_parameters()?;
+    let first = transactions.insert_with(MADE, unset);
+    transactions.assign(first, 2, 5);
     transactions.remove(first);
-    let second = transactions.insert(MADE);
+    let unset = transactions.new_parameters()?;
+    let second = transactions.insert_with(MADE, unset);
     Ok([
         second.place == first.place,
-        are_set(&transactions, second, [None, None, None]),
+        have_values(&transactions, second, [0, 0, 0]),
     ])
 }
 

@@ -23,14 +23,17 @@ fn in_block(current: u16, set: u64) -> Transaction
 
 /// Which answers are right where a third transaction comes after the first of two was removed.
 fn third_after_the_first_left(alloc: Global) -> Result<[bool; 9], Memory> {
-    let mut transactions = Transactions::new(alloc)?;
+    let mut transactions = Transactions::new(alloc, 3)?;
     transactions.reserve(2)?;
     let next_at_first = transactions.next_number();
-    let first = transactions.insert(in_block(0, 1));
-    let second = transactions.insert(in_block(4, 2));
+    let unset = transactions.new_parameters()?;
+    let first = transactions.insert_with(in_block(0, 1), unset);
+    let unset = transactions.new_parameters()?;
+    let second = transactions.insert_with(in_block(4, 2), unset);
     let removed = transactions.remove(first);
     let next_at_last = transactions.next_number();
-    let third = transactions.insert(in_block(4, 3));
+    let unset = transactions.new_parameters()?;
+    let third = transactions.insert_with(in_block(4, 3), unset);
     Ok([
         next_at_first == 1,
         first.number == 1,
@@ -63,12 +66,15 @@ fn counts(transactions: &Transactions, live: usize, here: [usize; 3]) -> bool {
 /// Which answers are right where of two transactions in block 4 and one in block 5 the second goes to block 5, and then
 /// the first is removed.
 fn three_that_move(alloc: Global) -> Result<[bool; 6], Memory> {
-    let mut transactions = Transactions::new(alloc)?;
+    let mut transactions = Transactions::new(alloc, 3)?;
     transactions.reserve(3)?;
     let at_first = counts(&transactions, 0, [0, 0, 0]);
-    let first = transactions.insert(in_block(4, 1));
-    let second = transactions.insert(in_block(4, 2));
-    let third = transactions.insert(in_block(5, 3));
+    let unset = transactions.new_parameters()?;
+    let first = transactions.insert_with(in_block(4, 1), unset);
+    let unset = transactions.new_parameters()?;
+    let second = transactions.insert_with(in_block(4, 2), unset);
+    let unset = transactions.new_parameters()?;
+    let third = transactions.insert_with(in_block(5, 3), unset);
     let all_there = counts(&transactions, 3, [2, 1, 0]);
     transactions.set(second, in_block(5, 2));
     let written = *transactions.get(second) == in_block(5, 2);
@@ -81,11 +87,13 @@ fn three_that_move(alloc: Global) -> Result<[bool; 6], Memory> {
 
 /// Which answers are right where of two transactions the first joins a user chain, moves as one of it, and leaves it.
 fn one_on_a_chain(alloc: Global) -> Result<[bool; 5], Memory> {
-    let mut transactions = Transactions::new(alloc)?;
+    let mut transactions = Transactions::new(alloc, 3)?;
     transactions.reserve(2)?;
-    let first = transactions.insert(in_block(4, 1));
-    let second = transactions.insert(in_block(5, 2));
-    transactions.assign(first, 3, 8)?;
+    let unset = transactions.new_parameters()?;
+    let first = transactions.insert_with(in_block(4, 1), unset);
+    let unset = transactions.new_parameters()?;
+    let second = transactions.insert_with(in_block(5, 2), unset);
+    transactions.assign(first, 3, 8);
     transactions.put_chain(first, Some(7));
     let is_as_before = *transactions.get(first) == in_block(4, 1);
     let are_counted = counts(&transactions, 2, [1, 1, 0]);
@@ -93,7 +101,7 @@ fn one_on_a_chain(alloc: Global) -> Result<[bool; 5], Memory> {
     transactions.put_chain(first, None);
     let has_moved = *transactions.get(first) == in_block(6, 1);
     let is_left = *transactions.get(second) == in_block(5, 2);
-    let is_kept = transactions.parameter(first, 3) == Some(8);
+    let is_kept = transactions.parameters(first).get_or_zero(3) == 8;
     Ok([is_as_before, are_counted, has_moved, is_left, is_kept])
 }
 
@@ -117,12 +125,16 @@ fn listed(transactions: &Transactions, current: u16, chain: Option<u16>) -> usiz
 
 /// How many of four are in block 4 and on no user chain, and on the user chains 7 and 8, where one of the first was removed.
 fn four_that_are_listed(alloc: Global) -> Result<[usize; 3], Memory> {
-    let mut transactions = Transactions::new(alloc)?;
+    let mut transactions = Transactions::new(alloc, 3)?;
     transactions.reserve(4)?;
-    let first = transactions.insert(in_block(4, 1));
-    let second = transactions.insert(in_block(4, 2));
-    transactions.insert(in_block(4, 3));
-    transactions.insert(in_block(5, 4));
+    let unset = transactions.new_parameters()?;
+    let first = transactions.insert_with(in_block(4, 1), unset);
+    let unset = transactions.new_parameters()?;
+    let second = transactions.insert_with(in_block(4, 2), unset);
+    let unset = transactions.new_parameters()?;
+    transactions.insert_with(in_block(4, 3), unset);
+    let unset = transactions.new_parameters()?;
+    transactions.insert_with(in_block(5, 4), unset);
     transactions.put_chain(second, Some(7));
     transactions.remove(first);
     Ok([

@@ -57,6 +57,7 @@ linked-others m active q cs us l c sound is_active ranked held as_many_chains re
       chained = as_many_chains ∙ l.chained;
       sound = sound;
       blocks = c.blocks l.blocks;
+      last = c.last ∙ l.last;
       resides = resides;
       timed = timed-kept m (with_others m active q cs us) refl refl refl refl l.timed;
     }
@@ -78,6 +79,7 @@ linked-roomed m l us lists = record {
   chained = rw lists l.chained;
   sound = l.sound;
   blocks = l.blocks;
+  last = l.last;
   resides = subst ResidesOnce (sym (state-roomed m us lists)) l.resides;
   timed = timed-kept m (record m { chains = us }) refl refl refl refl l.timed;
 }
@@ -101,7 +103,7 @@ all-joined P Lifo tx xs p h = (p, h)
 
 -- the active transaction joins a user chain
 module _ (m : Machine) (tx : Tx) (link : Link) (order : LinkOrder) (is : link.order ≡ order) (r : CanRest m tx) (there : link.chain < length m.facilities.facilities)
-    (q : Population) (ts : q.txs ≡ put_chain tx.number (Some link.chain) m.transactions.txs) (ps : q.places ≡ m.transactions.places) (sound : IsSound q)
+    (q : Population) (ts : q.txs ≡ put_chain tx.number (Some link.chain) m.transactions.txs) (ps : q.places ≡ m.transactions.places) (ls : q.last ≡ m.transactions.last) (sound : IsSound q)
     (us : chain_lists.Linked) (changes : us.lists ≡ changed link.chain (joined_at order tx) m.chains.lists) where
   pub state-joins : state_of (with_others m None q m.current_events us) ≡ joins_chain tx.number link (state_of m)
   state-joins =
@@ -115,7 +117,7 @@ module _ (m : Machine) (tx : Tx) (link : Link) (order : LinkOrder) (is : link.or
   linked-joins =
       let l = r.linked in
       let p = m.transactions in
-      let c = carries-chain p q tx.number (Some link.chain) ts ps in
+      let c = carries-chain p q tx.number (Some link.chain) ts ps ls in
       let carried = λ (xs : List Tx). handles_carried Every p q c xs (every handle_number xs) in
       linked-others m None q m.current_events us l c sound tt (members_carried Every p q c m.current_events.items (every member_number m.current_events.items) l.current_events)
       (λ k below. all_changed (Holds q) m.chains.lists us.lists link.chain (joined_at order tx) changes
@@ -174,7 +176,7 @@ module _ (m : Machine) (l : Linked m) (c target : ℕ) (there : c < length m.fac
           subst (λ (a : Transaction). a.current ≤ 4096) u.2 (current_in m.transactions.txs tx.number u.0 l.blocks u.1)
 
       module _ (p q : Population) (set : p.txs ≡ put_attributes tx.number (record t { next = target }) m.transactions.txs) (places : p.places ≡ m.transactions.places)
-          (ts : q.txs ≡ put_chain tx.number None p.txs) (ps : q.places ≡ p.places) (sound : IsSound q)
+          (ts : q.txs ≡ put_chain tx.number None p.txs) (ps : q.places ≡ p.places) (pl : p.last ≡ m.transactions.last) (ls : q.last ≡ p.last) (sound : IsSound q)
           (cs : Chain Member) (joined : cs.items ≡ behind (λ (x : Member). x.priority) (record { tx = tx; priority = t.priority }) m.current_events.items)
           (us : chain_lists.Linked) (changes : us.lists ≡ changed c rest m.chains.lists) where
         abbrev leaver : Member
@@ -201,7 +203,7 @@ module _ (m : Machine) (l : Linked m) (c target : ℕ) (there : c < length m.fac
         pub linked-unlinks : Linked (with_others m m.active q cs us)
         linked-unlinks =
             let old = m.transactions in
-            let k = carries-then old p q (carries-set old p tx.number (record t { next = target }) set places first-block rank) (carries-chain p q tx.number None ts ps) in
+            let k = carries-then old p q (carries-set old p tx.number (record t { next = target }) set places first-block rank pl) (carries-chain p q tx.number None ts ps ls) in
             let carried = λ (xs : List Tx). handles_carried Every old q k xs (every handle_number xs) in
             let members = members_carried Every old q k m.current_events.items (every member_number m.current_events.items) l.current_events in
             linked-others m m.active q cs us l k sound (active_carried old q k m.active l.active)

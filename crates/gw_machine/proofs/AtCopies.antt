@@ -33,7 +33,7 @@ number_of x = x.tx.number
 -- A COPY
 
 module _ (m : Machine) (l : Linked m) (n : ℕ) (t : Transaction) (block : t.current ≤ 4096) (target : ℕ) (tx : Tx) (q : Population)
-    (ts : q.txs ≡ with_copy n t target (state_of m)) (ps : q.places ≡ put None m.transactions.places (length m.transactions.txs) (Some tx.place)) (ns : tx.number ≡ length m.transactions.txs)
+    (ts : q.txs ≡ with_copy n t target (state_of m)) (ps : q.places ≡ put None m.transactions.places (length m.transactions.txs) (Some tx.place)) (ls : q.last ≡ m.transactions.last) (ns : tx.number ≡ length m.transactions.txs)
     (cs : List Member) (joined : cs ≡ behind (λ (x : Member). x.priority) (record { tx = tx; priority = t.priority }) m.current_events.items) where
   abbrev newcomer : Member
   newcomer = record { tx = tx; priority = t.priority }
@@ -42,7 +42,7 @@ module _ (m : Machine) (l : Linked m) (n : ℕ) (t : Transaction) (block : t.cur
   made = made_with (parameters_of n (state_of m)) (record t { next = target })
 
   carries : Carries Every m.transactions q
-  carries = carries-insert m.transactions q made tx.place l.sound block ts ps
+  carries = carries-insert m.transactions q made tx.place l.sound block ts ps ls
 
   newcomer-held : Holds q tx
   newcomer-held = ap (λ xs. at None xs tx.number) ps ∙ ap (λ k. at None (put None m.transactions.places k (Some tx.place)) tx.number) (sym ns) ∙ at-put None m.transactions.places tx.number (Some tx.place)
@@ -75,6 +75,7 @@ module _ (m : Machine) (l : Linked m) (n : ℕ) (t : Transaction) (block : t.cur
         chained = rw (k.chains, k.facilities) l.chained;
         sound = rw is_q sound;
         blocks = rw is_q (carries.blocks l.blocks);
+        last = rw is_q (carries.last ∙ l.last);
         resides = subst ResidesOnce (sym is) (resides-copied n t target (state_of m) l.resides);
         timed = timed-kept m new k.facilities k.storages k.queues k.clock l.timed;
       }
@@ -121,15 +122,15 @@ popped-length (y ∷ ys) last = ap suc (popped-length ys last)
 
 -- the active transaction, which is on no chain, enters with another priority
 pub linked-ranked : (m new : Machine) (tx : Tx) (t : Transaction) (next : ℕ)
-    → new.transactions.txs ≡ put_attributes tx.number (record t { current = t.next; next = next }) m.transactions.txs → new.transactions.places ≡ m.transactions.places → IsSound new.transactions
+    → new.transactions.txs ≡ put_attributes tx.number (record t { current = t.next; next = next }) m.transactions.txs → new.transactions.places ≡ m.transactions.places → new.transactions.last ≡ m.transactions.last → IsSound new.transactions
     → m.active ≡ Some tx → Holds m.transactions tx → new.active ≡ m.active → new.current_events.items ≡ m.current_events.items → new.future_events.items ≡ m.future_events.items → Keeps m new
     → state_of new ≡ entered tx.number t next (state_of m) → t.next ≤ 4096 → Linked m → Linked new
-linked-ranked m new tx t next ts ps sound is_active held a cs fs k is block l =
+linked-ranked m new tx t next ts ps ls sound is_active held a cs fs k is block l =
     let n = tx.number in
     let p = m.transactions in
     let q = new.transactions in
     let active : (state_of m).lists.active ≡ Some n = ap (option_map (λ (x : Tx). x.number)) is_active in
-    let c = carries-ranked p q n (record t { current = t.next; next = next }) ts ps block in
+    let c = carries-ranked p q n (record t { current = t.next; next = next }) ts ps block ls in
     let none = alone n (state_of m) active l.resides in
     let carried = λ (xs : List Member) (gone : occurrences n (map number_of xs) ≡ 0). members_carried (Others n) p q c xs (others number_of n xs gone) in
     let still : Holds q tx = ap (λ xs. at None xs n) ps ∙ held in
@@ -150,6 +151,7 @@ linked-ranked m new tx t next ts ps sound is_active held a cs fs k is block l =
       chained = rw (k.chains, k.facilities) l.chained;
       sound = sound;
       blocks = c.blocks l.blocks;
+      last = c.last ∙ l.last;
       resides = subst ResidesOnce (sym is) (resides-entered n t next (state_of m) l.resides);
       timed = timed-kept m new k.facilities k.storages k.queues k.clock l.timed;
     }

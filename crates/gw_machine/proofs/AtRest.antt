@@ -40,6 +40,7 @@ linked-members m new ts a cs fs w sets chs fac sto que clock resides l = record 
   chained = rw (chs, fac) l.chained;
   sound = rw ts l.sound;
   blocks = rw ts l.blocks;
+  last = rw ts l.last;
   resides = resides;
   timed = timed-kept m new fac sto que clock l.timed;
 }

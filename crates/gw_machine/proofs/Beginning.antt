@@ -33,6 +33,7 @@ pub record Begins (p : Parts) (n : ℕ) (ss : List ℕ) (m : Machine) : Type 0 w
   pub scheduled : m.scheduled.items ≡ replicate (length p.blocks + 1) 0
   pub transactions : m.transactions.txs ≡ None ∷ []
   pub sound : IsSound m.transactions
+  pub last : m.transactions.last ≡ 64
   pub active : m.active ≡ None
   pub current_events : m.current_events.items ≡ []
   pub future_events : m.future_events.items ≡ []
@@ -89,6 +90,7 @@ module _ (p : Parts) (count : ℕ) (streams : List ℕ) (m : Machine) (b : Begin
     chained = rw b.chains (length-replicate (length p.entities) [] ∙ sym entities);
     sound = b.sound;
     blocks = rw b.transactions nobody_in;
+    last = b.last;
     resides = subst ResidesOnce (sym state-nothing) (resides-nothing p count streams);
     timed = record { facilities = rw (b.facilities, b.clock) refl; storages = rw (b.storages, b.clock) refl; queues = rw (b.queues, b.clock) refl };
   }

@@ -72,49 +72,50 @@ linked-carried m new c sound a cs fs k resides l =
       chained = rw (k.chains, k.facilities) l.chained;
       sound = sound;
       blocks = c.blocks l.blocks;
+      last = c.last ∙ l.last;
       resides = resides;
       timed = timed-kept m new k.facilities k.storages k.queues k.clock l.timed;
     }
 
 pub linked-entered : (m new : Machine) (tx : Tx) (t : Transaction) (next : ℕ)
-    → new.transactions.txs ≡ put_attributes tx.number (record t { current = t.next; next = next }) m.transactions.txs → new.transactions.places ≡ m.transactions.places → IsSound new.transactions
+    → new.transactions.txs ≡ put_attributes tx.number (record t { current = t.next; next = next }) m.transactions.txs → new.transactions.places ≡ m.transactions.places → new.transactions.last ≡ m.transactions.last → IsSound new.transactions
     → new.active ≡ m.active → new.current_events.items ≡ m.current_events.items → new.future_events.items ≡ m.future_events.items → Keeps m new
     → state_of new ≡ entered tx.number t next (state_of m) → t.next ≤ 4096 → priority_of m.transactions.txs tx.number ≡ t.priority → Linked m → Linked new
-linked-entered m new tx t next ts ps sound a cs fs k is block pr l =
-    linked-carried m new (carries-set m.transactions new.transactions tx.number (record t { current = t.next; next = next }) ts ps block pr) sound a cs fs k
+linked-entered m new tx t next ts ps ls sound a cs fs k is block pr l =
+    linked-carried m new (carries-set m.transactions new.transactions tx.number (record t { current = t.next; next = next }) ts ps block pr ls) sound a cs fs k
     (subst ResidesOnce (sym is) (resides-entered tx.number t next (state_of m) l.resides)) l
 
 pub linked-assigned : (m new : Machine) (tx : Tx) (k : ℕ) (value : ℤ)
-    → new.transactions.txs ≡ put_parameter tx.number k value m.transactions.txs → new.transactions.places ≡ m.transactions.places → IsSound new.transactions
+    → new.transactions.txs ≡ put_parameter tx.number k value m.transactions.txs → new.transactions.places ≡ m.transactions.places → new.transactions.last ≡ m.transactions.last → IsSound new.transactions
     → new.active ≡ m.active → new.current_events.items ≡ m.current_events.items → new.future_events.items ≡ m.future_events.items → Keeps m new
     → state_of new ≡ assigned tx.number k value (state_of m) → Linked m → Linked new
-linked-assigned m new tx k value ts ps sound a cs fs keeps is l =
-    linked-carried m new (carries-assign m.transactions new.transactions tx.number k value ts ps) sound a cs fs keeps
+linked-assigned m new tx k value ts ps ls sound a cs fs keeps is l =
+    linked-carried m new (carries-assign m.transactions new.transactions tx.number k value ts ps ls) sound a cs fs keeps
     (subst ResidesOnce (sym is) (resides-assigned tx.number k value (state_of m) l.resides)) l
 
 pub linked-same : (m new : Machine)
-    → new.transactions.txs ≡ m.transactions.txs → new.transactions.places ≡ m.transactions.places → IsSound new.transactions
+    → new.transactions.txs ≡ m.transactions.txs → new.transactions.places ≡ m.transactions.places → new.transactions.last ≡ m.transactions.last → IsSound new.transactions
     → new.active ≡ m.active → new.current_events.items ≡ m.current_events.items → new.future_events.items ≡ m.future_events.items → Keeps m new
     → state_of new ≡ state_of m → Linked m → Linked new
-linked-same m new ts ps sound a cs fs keeps is l = linked-carried m new (carries-same m.transactions new.transactions ts ps) sound a cs fs keeps (subst ResidesOnce (sym is) l.resides) l
+linked-same m new ts ps ls sound a cs fs keeps is l = linked-carried m new (carries-same m.transactions new.transactions ts ps ls) sound a cs fs keeps (subst ResidesOnce (sym is) l.resides) l
 
 -- room for more transactions, and on the current events chain, leaves a machine as it was
-pub linked-reserved : (m : Machine) (q : Population) (cs : Chain Member) → q.txs ≡ m.transactions.txs → q.places ≡ m.transactions.places → IsSound q → cs.items ≡ m.current_events.items → Linked m → Linked (record m { transactions = q; current_events = cs })
-linked-reserved m q cs ts ps sound items l =
-    linked-same m (record m { transactions = q; current_events = cs }) ts ps sound refl items refl (record { waits = refl; assemblies = refl; chains = refl; facilities = refl; storages = refl; queues = refl; clock = refl })
+pub linked-reserved : (m : Machine) (q : Population) (cs : Chain Member) → q.txs ≡ m.transactions.txs → q.places ≡ m.transactions.places → q.last ≡ m.transactions.last → IsSound q → cs.items ≡ m.current_events.items → Linked m → Linked (record m { transactions = q; current_events = cs })
+linked-reserved m q cs ts ps ls sound items l =
+    linked-same m (record m { transactions = q; current_events = cs }) ts ps ls sound refl items refl (record { waits = refl; assemblies = refl; chains = refl; facilities = refl; storages = refl; queues = refl; clock = refl })
     (ap (λ (xs : List (Option LiveTransaction)). record (state_of m) { transactions = xs; lists = record (lists_of m) { current_events = map member_number cs.items } }) ts
     ∙ ap (λ (xs : List Member). record (state_of m) { lists = record (lists_of m) { current_events = map member_number xs } }) items) l
 
 pub linked-destroyed : (m new : Machine) (tx : Tx)
-    → new.transactions.txs ≡ put None m.transactions.txs tx.number None → new.transactions.places ≡ put None m.transactions.places tx.number None → IsSound new.transactions
+    → new.transactions.txs ≡ put None m.transactions.txs tx.number None → new.transactions.places ≡ put None m.transactions.places tx.number None → new.transactions.last ≡ m.transactions.last → IsSound new.transactions
     → CanRest m tx → new.active ≡ None → new.current_events.items ≡ m.current_events.items → new.future_events.items ≡ m.future_events.items → Keeps m new
     → state_of new ≡ destroyed tx.number (state_of m) → Linked new
-linked-destroyed m new tx ts ps sound r a cs fs k is =
+linked-destroyed m new tx ts ps ls sound r a cs fs k is =
     let l = r.linked in
     let n = tx.number in
     let u = transaction_of m.transactions l.sound tx r.held in
     let active : (state_of m).lists.active ≡ Some n = ap (option_map (λ (x : Tx). x.number)) r.active in
-    let c = carries-remove m.transactions new.transactions n ts ps in
+    let c = carries-remove m.transactions new.transactions n ts ps ls in
     let none = alone n (state_of m) active l.resides in
     let carried = λ (xs : List Member) (gone : occurrences n (map number_of xs) ≡ 0). members_carried (Others n) m.transactions new.transactions c xs (others number_of n xs gone) in
     record {
@@ -134,6 +135,7 @@ linked-destroyed m new tx ts ps sound r a cs fs k is =
       chained = rw (k.chains, k.facilities) l.chained;
       sound = sound;
       blocks = c.blocks l.blocks;
+      last = c.last ∙ l.last;
       resides = subst ResidesOnce (sym is) (resides-destroyed n u.0 (state_of m) active u.1 l.resides);
       timed = timed-kept m new k.facilities k.storages k.queues k.clock l.timed;
     }
@@ -156,18 +158,19 @@ linked-rested m new tx time ps r a cs fs k is =
       chained = rw (k.chains, k.facilities) l.chained;
       sound = rw ps l.sound;
       blocks = rw ps l.blocks;
+      last = rw ps l.last;
       resides = subst ResidesOnce (sym is) (resides-rests tx.number time (state_of m) active l.resides);
       timed = timed-kept m new k.facilities k.storages k.queues k.clock l.timed;
     }
 
 pub linked-arrived : (m new : Machine) (tx : Tx) (t : LiveTransaction) (b : ℕ) (priority time : ℤ)
-    → new.transactions.txs ≡ put None m.transactions.txs (length m.transactions.txs) (Some t) → new.transactions.places ≡ put None m.transactions.places (length m.transactions.txs) (Some tx.place) → tx.number ≡ length m.transactions.txs → IsSound new.transactions
+    → new.transactions.txs ≡ put None m.transactions.txs (length m.transactions.txs) (Some t) → new.transactions.places ≡ put None m.transactions.places (length m.transactions.txs) (Some tx.place) → new.transactions.last ≡ m.transactions.last → tx.number ≡ length m.transactions.txs → IsSound new.transactions
     → new.active ≡ m.active → new.current_events.items ≡ m.current_events.items → new.future_events.items ≡ in_time (λ (e : Event). e.time) (record { tx = tx; time = time }) m.future_events.items → Keeps m new
     → state_of new ≡ arrives b priority time (state_of m) → t.attributes.current ≤ 4096 → Linked m → Linked new
-linked-arrived m new tx t b priority time ts ps ns sound a cs fs k is block l =
+linked-arrived m new tx t b priority time ts ps ls ns sound a cs fs k is block l =
     let p = m.transactions in
     let q = new.transactions in
-    let c = carries-insert p q t tx.place l.sound block ts ps in
+    let c = carries-insert p q t tx.place l.sound block ts ps ls in
     let held : Holds q tx = ap (λ xs. at None xs tx.number) ps ∙ ap (λ k. at None (put None p.places k (Some tx.place)) tx.number) (sym ns) ∙ at-put None p.places tx.number (Some tx.place) in
     let carried = λ (xs : List Member). members_carried Every p q c xs (every number_of xs) in
     record {
@@ -183,6 +186,7 @@ linked-arrived m new tx t b priority time ts ps ns sound a cs fs k is block l =
       chained = rw (k.chains, k.facilities) l.chained;
       sound = sound;
       blocks = c.blocks l.blocks;
+      last = c.last ∙ l.last;
       resides = subst ResidesOnce (sym is) (resides-arrives b priority time (state_of m) l.resides);
       timed = timed-kept m new k.facilities k.storages k.queues k.clock l.timed;
     }

@@ -76,6 +76,7 @@ module _ (m : Machine) (time : ℤ) (cs : List Member) (fs : List Event) (g : En
     user_chains = λ k below. rw (ts, chs) (l.user_chains k (rw count at below));
     chained = rw (chs, count) l.chained;
     blocks = rw ts l.blocks;
+    last = rw ts l.last;
     listed = rw (ws, count) l.listed;
     sound = rw ts l.sound;
     resides = subst ResidesOnce (sym is) (resides-clock time (state_of m) l.resides);

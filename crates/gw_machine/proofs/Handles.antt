@@ -102,58 +102,64 @@ current_in ts n t h there = subst InBlocks there (h n)
 -- WHAT EACH CALL CARRIES
 
 -- one transaction was written, with the priority that it had
-pub carries-set : (p q : Population) (n : ℕ) (t : Transaction) → q.txs ≡ put_attributes n t p.txs → q.places ≡ p.places → t.current ≤ 4096 → priority_of p.txs n ≡ t.priority → Carries Every p q
-carries-set p q n t ts ps block pr = record {
+pub carries-set : (p q : Population) (n : ℕ) (t : Transaction) → q.txs ≡ put_attributes n t p.txs → q.places ≡ p.places → t.current ≤ 4096 → priority_of p.txs n ≡ t.priority → q.last ≡ p.last → Carries Every p q
+carries-set p q n t ts ps block pr last = record {
   held = λ h _ is. ap (λ xs. at None xs h.number) ps ∙ is;
   rank = λ h _ is. elim (cases_eq h.number n) [
     | inl e ↦ ap (λ xs. priority_of xs h.number) ts ∙ ap (priority_of (put_attributes n t p.txs)) e ∙ ap priority_in (at-put None p.txs n _) ∙ priority-attributes t (at None p.txs n) pr ∙ sym (ap (priority_of p.txs) e)
     | inr e ↦ ap (λ xs. priority_of xs h.number) ts ∙ ap priority_in (at-put_other None p.txs n h.number _ e)
   ];
   blocks = λ h. subst AreInBlocks (sym ts) (in_blocks-put p.txs n _ (with_attributes_in t (at None p.txs n) block) h);
+  last = last;
 }
 
 -- one transaction was written, with another priority
-pub carries-ranked : (p q : Population) (n : ℕ) (t : Transaction) → q.txs ≡ put_attributes n t p.txs → q.places ≡ p.places → t.current ≤ 4096 → Carries (Others n) p q
-carries-ranked p q n t ts ps block = record {
+pub carries-ranked : (p q : Population) (n : ℕ) (t : Transaction) → q.txs ≡ put_attributes n t p.txs → q.places ≡ p.places → t.current ≤ 4096 → q.last ≡ p.last → Carries (Others n) p q
+carries-ranked p q n t ts ps block last = record {
   held = λ h other is. ap (λ xs. at None xs h.number) ps ∙ is;
   rank = λ h other is. ap (λ xs. priority_of xs h.number) ts ∙ ap priority_in (at-put_other None p.txs n h.number _ other);
   blocks = λ h. subst AreInBlocks (sym ts) (in_blocks-put p.txs n _ (with_attributes_in t (at None p.txs n) block) h);
+  last = last;
 }
 
 -- nothing changed
-pub carries-same : (p q : Population) → q.txs ≡ p.txs → q.places ≡ p.places → Carries Every p q
-carries-same p q ts ps = record { held = λ h _ is. ap (λ xs. at None xs h.number) ps ∙ is; rank = λ h _ is. ap (λ xs. priority_of xs h.number) ts; blocks = λ h. subst AreInBlocks (sym ts) h }
+pub carries-same : (p q : Population) → q.txs ≡ p.txs → q.places ≡ p.places → q.last ≡ p.last → Carries Every p q
+carries-same p q ts ps last = record { held = λ h _ is. ap (λ xs. at None xs h.number) ps ∙ is; rank = λ h _ is. ap (λ xs. priority_of xs h.number) ts; blocks = λ h. subst AreInBlocks (sym ts) h; last = last }
 
 -- a parameter of one was set
-pub carries-assign : (p q : Population) (n k : ℕ) (value : ℤ) → q.txs ≡ put_parameter n k value p.txs → q.places ≡ p.places → Carries Every p q
-carries-assign p q n k value ts ps = record {
+pub carries-assign : (p q : Population) (n k : ℕ) (value : ℤ) → q.txs ≡ put_parameter n k value p.txs → q.places ≡ p.places → q.last ≡ p.last → Carries Every p q
+carries-assign p q n k value ts ps last = record {
   held = λ h _ is. ap (λ xs. at None xs h.number) ps ∙ is;
   rank = λ h _ is. ap (λ xs. priority_of xs h.number) ts ∙ priority-assigned n k value p.txs h.number;
   blocks = λ h. subst AreInBlocks (sym ts) (in_blocks-put p.txs n _ (with_parameter_in k value (at None p.txs n) (h n)) h);
+  last = last;
 }
 
 -- one is a member of another user chain, or of none
-pub carries-chain : (p q : Population) (n : ℕ) (chain : Option ℕ) → q.txs ≡ put_chain n chain p.txs → q.places ≡ p.places → Carries Every p q
-carries-chain p q n chain ts ps = record {
+pub carries-chain : (p q : Population) (n : ℕ) (chain : Option ℕ) → q.txs ≡ put_chain n chain p.txs → q.places ≡ p.places → q.last ≡ p.last → Carries Every p q
+carries-chain p q n chain ts ps last = record {
   held = λ h _ is. ap (λ xs. at None xs h.number) ps ∙ is;
   rank = λ h _ is. ap (λ xs. priority_of xs h.number) ts ∙ priority-chained n chain p.txs h.number;
   blocks = λ h. subst AreInBlocks (sym ts) (in_blocks-put p.txs n _ (with_chain_in chain (at None p.txs n) (h n)) h);
+  last = last;
 }
 
 -- one was made
-pub carries-insert : (p q : Population) (t : LiveTransaction) (place : ℕ) → IsSound p → t.attributes.current ≤ 4096 → q.txs ≡ put None p.txs (length p.txs) (Some t) → q.places ≡ put None p.places (length p.txs) (Some place) → Carries Every p q
-carries-insert p q t place sound block ts ps = record {
+pub carries-insert : (p q : Population) (t : LiveTransaction) (place : ℕ) → IsSound p → t.attributes.current ≤ 4096 → q.txs ≡ put None p.txs (length p.txs) (Some t) → q.places ≡ put None p.places (length p.txs) (Some place) → q.last ≡ p.last → Carries Every p q
+carries-insert p q t place sound block ts ps last = record {
   held = λ h _ is. ap (λ xs. at None xs h.number) ps ∙ at-put_other None p.places (length p.txs) h.number (Some place) (λ e. absurd (omega (arith, sound.below h.number h.place is, e))) ∙ is;
   rank = λ h _ is. ap (λ xs. priority_of xs h.number) ts ∙ ap priority_in (at-put_other None p.txs (length p.txs) h.number (Some t) (λ e. absurd (omega (arith, sound.below h.number h.place is, e))));
   blocks = λ h. subst AreInBlocks (sym ts) (in_blocks-put p.txs (length p.txs) (Some t) block h);
+  last = last;
 }
 
 -- one was taken out
-pub carries-remove : (p q : Population) (n : ℕ) → q.txs ≡ put None p.txs n None → q.places ≡ put None p.places n None → Carries (Others n) p q
-carries-remove p q n ts ps = record {
+pub carries-remove : (p q : Population) (n : ℕ) → q.txs ≡ put None p.txs n None → q.places ≡ put None p.places n None → q.last ≡ p.last → Carries (Others n) p q
+carries-remove p q n ts ps last = record {
   held = λ h other is. ap (λ xs. at None xs h.number) ps ∙ at-put_other None p.places n h.number None other ∙ is;
   rank = λ h other is. ap (λ xs. priority_of xs h.number) ts ∙ ap priority_in (at-put_other None p.txs n h.number None other);
   blocks = λ h. subst AreInBlocks (sym ts) (in_blocks-put p.txs n None tt h);
+  last = last;
 }
 
 -- two changes, one after the other
@@ -162,4 +168,5 @@ carries-then p q r a b = record {
   held = λ h _ is. b.held h tt (a.held h tt is);
   rank = λ h _ is. b.rank h tt (a.held h tt is) ∙ a.rank h tt is;
   blocks = λ h. b.blocks (a.blocks h);
+  last = b.last ∙ a.last;
 }

@@ -31,7 +31,7 @@ pub record Lends (m : Machine) (subject : Subject) (env : Env) : Type 0 where
   pub number : env.number ≡ subject.number
   pub priority : env.priority ≡ subject.priority
   pub mark : env.mark ≡ subject.mark
-  pub parameters : (k : ℕ) → at None env.parameters.now k ≡ at None (parameters_for subject.tx (state_of m)) k
+  pub parameters : env.parameters.now.values ≡ parameters_for subject.tx (state_of m)
   pub clock : env.clock ≡ m.clock
   pub count : env.count ≡ m.count
   pub facilities : env.facilities.now ≡ m.facilities
@@ -56,7 +56,7 @@ module _ (m : Machine) (subject : Subject) (env : Env) (l : Lends m subject env)
   of_entity_same attribute n = cc
 
   kept_same : (o : Operand) → kept_value (lent.environment_of env) o ≡ kept_value (environment_for subject (state_of m)) o
-  kept_same (Parameter x) = l.parameters x
+  kept_same (Parameter x) = ap (λ ps. at None ps x) l.parameters
   kept_same (OfEntity a) = ap Some (of_entity_same a.attribute a.number)
   kept_same o = cc
 

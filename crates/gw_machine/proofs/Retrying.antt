@@ -49,6 +49,7 @@ module _ (m : Machine) (tx : Tx) (priority : ℤ) where
         user_chains = λ c below. rw (ts, chs) (l.user_chains c (rw fac at below));
         chained = rw (chs, fac) l.chained;
         blocks = rw ts l.blocks;
+        last = rw ts l.last;
         listed = rw (w, same, fac) l.listed;
         sound = rw ts l.sound;
         resides = subst ResidesOnce (sym is) (resides-retries tx.number (state_of m) (ap (option_map (λ (x : Tx). x.number)) r.active) l.resides);
@@ -79,6 +80,7 @@ module _ (m : Machine) (l : Linked m) (cs : List Member) (ws : Waiting) (joined 
     user_chains = λ c below. rw (ts, chs) (l.user_chains c (rw fac at below));
     chained = rw (chs, fac) l.chained;
     blocks = rw ts l.blocks;
+    last = rw ts l.last;
     listed = rw (w, same, fac) l.listed;
     sound = rw ts l.sound;
     resides = subst ResidesOnce (sym is) (resides-woken (state_of m) l.resides);

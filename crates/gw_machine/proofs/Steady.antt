@@ -1,17 +1,12 @@
 -- A steady machine through the changes of one block.
-use Rattle.std.proofs.Common.{◌≡◌, ℕ, suc, ◌+◌, ◌^◌, ◌≤◌, ◌<◌, List, length, Some, Result, Ok, Err, Bool, true, false, if◌then◌else◌, refl, sym, ap, ◌∙◌, subst, arith}
+use Rattle.std.proofs.Common.{◌≡◌, ℕ, suc, ◌+◌, ◌^◌, ◌≤◌, ◌<◌, List, length, Some, sym, ap, ◌∙◌, subst, arith}
 use Rattle.gw_blocks.specs.declared.parts.Units.{Units}
 use Rattle.gw_blocks.specs.declared.parts.Block.{Block}
 use Rattle.gw_chains.specs.declared.tx.Tx.{Tx}
 use Rattle.gw_transactions.specs.declared.Transaction.{Transaction}
 use Rattle.gw_transactions.specs.Transactions.{attributes_at}
-use Rattle.gw_entities.specs.declared.facilities.Facility.{Facility}
-use Rattle.gw_entities.specs.declared.storages.Storage.{Storage}
-use Rattle.gw_entities.specs.declared.stop.Stop.{Stop}
-use Rattle.gw_entities.specs.declared.stop.Stop.TheVariants.{NotOwner, TooFew}
-use Rattle.gw_entities.specs.Contents.{holds}
-use Rattle.gw_entities.specs.Facility.{is_owned_by, released, releasing}
-use Rattle.gw_entities.specs.Storage.{left, leaving}
+use Rattle.gw_entities.specs.Facility.{released}
+use Rattle.gw_entities.specs.Storage.{left}
 use Rattle.gw_entities.specs.Table.{FacilityTable}
 use Rattle.gw_machine.specs.declared.machine.Machine.{Machine}
 use Rattle.gw_step.specs.State.{State}
@@ -19,7 +14,6 @@ use Rattle.gw_step.specs.Changes.{enters_and_falls, facility, storage, put_facil
 use Rattle.gw_step.specs.Numbers.{IsWithin, made_in}
 use Rattle.gw_machine.specs.View.{state_of}
 use Rattle.gw_machine.specs.Coherence.{Linked, IsSteady, IsActive, IsPassing}
-use Rattle.gw_machine.specs.Leaving.{Leaves}
 use Rattle.gw_step.proofs.Within.{raises-same, within-entered, within-more, mark_from}
 use Rattle.gw_step.proofs.Follows.{within-released, within-given_back}
 use Rattle.gw_step.proofs.Attributes.{number_below}
@@ -62,35 +56,6 @@ steady-same bs k m new s is fac linked =
     steady-now bs k k m new s (omega arith) (ap (λ (f : FacilityTable). length f.facilities) fac) linked
     (subst (λ (x : State). IsWithin (length bs) (length m.facilities.facilities) k (made_in k) x) (sym is) s.within) s.few
 
--- WHAT ENTITIES ANSWERED
-
-abbrev done : Unit {0} → Result (Unit {0}) Stop
-done x = Ok x
-
-pair_is : {A B : Type 0} (a b : A × B) (r : Result (A × B) Stop) → r ≡ Ok a → r ≡ Ok b → a.1 ≡ b.1
-pair_is a b r h k = let e : a ≡ b = cc in ap (λ x. x.1) e
-
--- who gives a facility up was its owner
-owner_gave : (n : ℕ) (f v : Facility) (x : Unit {0}) → releasing n f ≡ Ok (x, v) → v ≡ released f
-owner_gave n f v x h = by_test (is_owned_by n f) h
-  where
-    by_test : (b : Bool) → if◌then◌else◌ {A = Result (Unit {0} × Facility) Stop} b (Ok (tt, released f)) (Err NotOwner) ≡ Ok (x, v) → v ≡ released f
-    by_test true h = sym (pair_is (tt, released f) (x, v) _ refl h)
-    by_test false h = absurd cc
-
-pub released-as : (f n : ℕ) (x : Unit {0}) (s t : State) → Leaves (done x) (releasing n (facility f s)) (λ v. put_facility f v s) s t → t ≡ put_facility f (released (facility f s)) s
-released-as f n x s t h = h.2 ∙ ap (λ v. put_facility f v s) (owner_gave n (facility f s) h.0 x h.1)
-
-holder_gave : (n : ℕ) (e v : Storage) (x : Unit {0}) → leaving n e ≡ Ok (x, v) → v ≡ left n e
-holder_gave n e v x h = by_test (holds n e.contents) h
-  where
-    by_test : (b : Bool) → if◌then◌else◌ {A = Result (Unit {0} × Storage) Stop} b (Ok (tt, left n e)) (Err TooFew) ≡ Ok (x, v) → v ≡ left n e
-    by_test true h = sym (pair_is (tt, left n e) (x, v) _ refl h)
-    by_test false h = absurd cc
-
-pub given_back-as : (u : Units) (x : Unit {0}) (s t : State) → Leaves (done x) (leaving u.number (storage u.entity s)) (λ v. put_storage u.entity v s) s t → t ≡ put_storage u.entity (left u.number (storage u.entity s)) s
-given_back-as u x s t h = h.2 ∙ ap (λ v. put_storage u.entity v s) (holder_gave u.number (storage u.entity s) h.0 x h.1)
-
 -- ONE BLOCK
 
 -- the block of the active transaction has changed an entity
@@ -103,27 +68,27 @@ passing-from bs m new tx t a steps ts steady = record {
   next = a.next;
 }
 
-pub passing-released : (bs : List Block) (m mid new : Machine) (tx : Tx) (t : Transaction) (f n : ℕ) (x : Unit {0}) → IsActive bs m tx t → f < length m.facilities.facilities
+pub passing-released : (bs : List Block) (m mid new : Machine) (tx : Tx) (t : Transaction) (f : ℕ) → IsActive bs m tx t → f < length m.facilities.facilities
     → state_of mid ≡ state_of m → Linked mid → mid ≡ record m { current_events = mid.current_events }
-    → Leaves (done x) (releasing n (facility f (state_of mid))) (λ v. put_facility f v (state_of mid)) (state_of mid) (state_of new) → Linked new → new ≡ record mid { facilities = new.facilities } → length new.facilities.facilities ≡ length mid.facilities.facilities → IsPassing bs new tx t
-passing-released bs m mid new tx t f n x a here same linked frame is linked_new frame_new count =
+    → state_of new ≡ put_facility f (released (facility f (state_of mid))) (state_of mid) → Linked new → new ≡ record mid { facilities = new.facilities } → length new.facilities.facilities ≡ length mid.facilities.facilities → IsPassing bs new tx t
+passing-released bs m mid new tx t f a here same linked frame is linked_new frame_new count =
     let fac : mid.facilities ≡ m.facilities = ap (λ (x : Machine). x.facilities) frame in
     let steady = steady-same bs m.steps m mid a.steady same fac linked in
     passing-from bs m new tx t a
     (ap (λ (x : Machine). x.steps) frame_new ∙ ap (λ (x : Machine). x.steps) frame)
     (ap (λ (x : Machine). x.transactions) frame_new ∙ ap (λ (x : Machine). x.transactions) frame)
-    (steady-released bs m.steps mid new f steady (rw fac here) (released-as f n x (state_of mid) (state_of new) is) count linked_new)
+    (steady-released bs m.steps mid new f steady (rw fac here) is count linked_new)
 
-pub passing-given_back : (bs : List Block) (m mid new : Machine) (tx : Tx) (t : Transaction) (u : Units) (x : Unit {0}) → IsActive bs m tx t → u.entity < length m.facilities.facilities
+pub passing-given_back : (bs : List Block) (m mid new : Machine) (tx : Tx) (t : Transaction) (u : Units) → IsActive bs m tx t → u.entity < length m.facilities.facilities
     → state_of mid ≡ state_of m → Linked mid → mid ≡ record m { current_events = mid.current_events }
-    → Leaves (done x) (leaving u.number (storage u.entity (state_of mid))) (λ v. put_storage u.entity v (state_of mid)) (state_of mid) (state_of new) → Linked new → new ≡ record mid { storages = new.storages } → IsPassing bs new tx t
-passing-given_back bs m mid new tx t u x a here same linked frame is linked_new frame_new =
+    → state_of new ≡ put_storage u.entity (left u.number (storage u.entity (state_of mid))) (state_of mid) → Linked new → new ≡ record mid { storages = new.storages } → IsPassing bs new tx t
+passing-given_back bs m mid new tx t u a here same linked frame is linked_new frame_new =
     let fac : mid.facilities ≡ m.facilities = ap (λ (x : Machine). x.facilities) frame in
     let steady = steady-same bs m.steps m mid a.steady same fac linked in
     passing-from bs m new tx t a
     (ap (λ (x : Machine). x.steps) frame_new ∙ ap (λ (x : Machine). x.steps) frame)
     (ap (λ (x : Machine). x.transactions) frame_new ∙ ap (λ (x : Machine). x.transactions) frame)
-    (steady-given_back bs m.steps mid new u steady (rw fac here) (given_back-as u x (state_of mid) (state_of new) is) (ap (λ (x : Machine). x.facilities) frame_new) linked_new)
+    (steady-given_back bs m.steps mid new u steady (rw fac here) is (ap (λ (x : Machine). x.facilities) frame_new) linked_new)
 
 -- room was made
 pub active-same : (bs : List Block) (m new : Machine) (tx : Tx) (t : Transaction) → IsActive bs m tx t → state_of new ≡ state_of m → Linked new → new ≡ record m { current_events = new.current_events; future_events = new.future_events } → IsActive bs new tx t

@@ -110,6 +110,7 @@ module _ (m : Machine) (l : Linked m) (e : ℕ) (below : e < length m.facilities
       user_chains = λ c within. rw (ts, chs) (l.user_chains c (rw fac at within));
       chained = rw (chs, fac) l.chained;
       blocks = rw ts l.blocks;
+      last = rw ts l.last;
       listed = rw (w, fac) (as_many m.waits.lists ws e (behind (λ (x : Member). x.priority) newcomer) (rw l.listed below) changes ∙ l.listed);
       sound = rw ts l.sound;
       resides = subst ResidesOnce (sym is) (resides-waits e tx.number (state_of m) (ap (option_map (λ (x : Tx). x.number)) active) l.resides);
@@ -155,6 +156,7 @@ module _ (m : Machine) (l : Linked m) (e : ℕ) (below : e < length m.facilities
       user_chains = λ c within. rw (ts, chs) (l.user_chains c (rw fac at within));
       chained = rw (chs, fac) l.chained;
       blocks = rw ts l.blocks;
+      last = rw ts l.last;
       listed = rw (w, fac) (as_many m.waits.lists ws e (λ xs. remove xs i) (rw l.listed below) changes ∙ l.listed);
       sound = rw ts l.sound;
       resides = subst ResidesOnce (sym is) (resides-called e tx.number (state_of m) occurs-there l.resides);
@@ -179,6 +181,7 @@ linked-walked m l ws lists retry = record {
   listed = rw lists l.listed;
   chained = l.chained;
   blocks = l.blocks;
+  last = l.last;
   sound = l.sound;
   resides = subst ResidesOnce (sym (state-walked m ws lists retry)) l.resides;
   timed = record { facilities = l.timed.facilities; storages = l.timed.storages; queues = l.timed.queues };

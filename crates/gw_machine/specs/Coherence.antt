@@ -61,12 +61,15 @@ pub record Linked (m : Machine) : Type 0 where
   pub sound : IsSound m.transactions
   pub resides : ResidesOnce (state_of m)
   pub timed : IsTimed m
+  -- each transaction has as many parameters
+  pub last : m.transactions.last ≡ 64
 
 -- from p to q these handles stay held, and their transactions keep their priorities; and no transaction comes past the blocks
 pub record Carries (these : ℕ → Type 0) (p q : Population) : Type 0 where
   pub held : (h : Tx) → these h.number → Holds p h → Holds q h
   pub rank : (h : Tx) → these h.number → Holds p h → priority_of q.txs h.number ≡ priority_of p.txs h.number
   pub blocks : AreInBlocks p.txs → AreInBlocks q.txs
+  pub last : q.last ≡ p.last
 
 -- every handle
 abbrev pub Every : ℕ → Type 0

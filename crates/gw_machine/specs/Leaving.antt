@@ -1,6 +1,5 @@
 -- What a call on a machine leaves.
 use Rattle.std.specs.Prelude.{[], ◌≡◌, ℕ, ◌+◌, ◌≤◌, remove, Option, Some, None, Result, Ok, Err, Bool, true, false}
-use Rattle.gw_entities.specs.declared.stop.Stop.{Stop}
 use Rattle.gw_entities.specs.Tabulation.{Tabulation}
 use Rattle.gw_num.specs.declared.arithmetic.NumFault.{NumFault}
 use Rattle.gw_num.specs.Table.{at}
@@ -18,11 +17,6 @@ Schedules None outcome new = outcome ≡ Gives new
 Schedules (Some end) outcome new = outcome ≡ EndsBy end
 
 -- ENTITIES
-
--- an entity answered as its rule says, and stands in the new state as the rule leaves it; or its rule has no case, and nothing changed
-abbrev pub Leaves : {A T : Type 0} → Result A Stop → Result (A × T) Stop → (T → State) → State → State → Type 0
-Leaves {T = T} (Ok answer) rule puts old new = (left : T) × (rule ≡ Ok (answer, left)) × (new ≡ puts left)
-Leaves (Err stop) rule puts old new = (rule ≡ Err stop) × (new ≡ old)
 
 -- a value was entered into a table, which stands in the new state as the rule leaves it; or the rule answers a fault, and nothing changed
 abbrev pub Tabulates : Result (Unit {0}) NumFault → Result Tabulation NumFault → (Tabulation → State) → State → State → Type 0

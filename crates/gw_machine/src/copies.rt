@@ -1,9 +1,8 @@
 //! Copies of the active transaction.
 
 ghost use Rattle.std.specs.Prelude.{◌≡◌, ◌≤◌, ◌<◌, ◌+◌, ◌^◌, None, length, replicate, IfOk, OnOk};
-ghost use Rattle.gw_transactions.specs.Transactions.{Holds};
+ghost use Rattle.gw_transactions.specs.Transactions.{Holds, kept_of};
 ghost use Rattle.gw_step.specs.Changes as model;
-ghost use Rattle.gw_step.specs.Times.{parameters_of};
 ghost use Rattle.gw_machine.specs.View.{state_of};
 ghost use Rattle.gw_machine.specs.Coherence.{Linked, Carries, Every};
 
@@ -17,7 +16,7 @@ impl Machine {
     /// It fails for want of memory.
     pub fn reserve_copies(&mut self, tx: Tx, copies: u16) -> Result<Vec<Parameters>, Memory>
         requires held { Holds self.old.transactions tx }
-        ensures parameters { IfOk result (λ all. all.items ≡ replicate copies (parameters_of tx.number (state_of self.old))) }
+        ensures parameters { IfOk result (λ all. all.items ≡ replicate copies (kept_of tx.number self.new.transactions)) }
         ensures state { state_of self.new ≡ state_of self.old }
         ensures linked { Linked self.old → Linked self.new }
         ensures room { OnOk result ((copies ≤ self.new.transactions.room) × (copies ≤ self.new.current_events.room)) }
@@ -35,14 +34,14 @@ impl Machine {
     fn copy_once(&mut self, tx: Tx, transaction: Transaction, target: u16, parameters: Parameters)
         requires linked { Linked self.old }
         requires held { Holds self.old.transactions tx }
-        requires same { parameters ≡ parameters_of tx.number (state_of self.old) }
+        requires same { parameters ≡ kept_of tx.number self.old.transactions }
         requires block { transaction.current ≤ 4096 }
         requires few { length self.old.transactions.txs < 2 ^ 60 }
         requires room { (0 < self.old.transactions.room) × (0 < self.old.current_events.room) }
         ensures state { state_of self.new ≡ model.copied tx.number transaction target (state_of self.old) }
         ensures linked { Linked self.new }
         ensures held { Holds self.new.transactions tx }
-        ensures same { parameters_of tx.number (state_of self.new) ≡ parameters_of tx.number (state_of self.old) }
+        ensures same { kept_of tx.number self.new.transactions ≡ kept_of tx.number self.old.transactions }
         ensures made { length self.new.transactions.txs ≡ length self.old.transactions.txs + 1 }
         ensures room { (self.old.transactions.room ≤ self.new.transactions.room + 1) ×
             (self.old.current_events.room ≤ self.new.current_events.room + 1) }
@@ -66,7 +65,7 @@ impl Machine {
     )
         requires linked { Linked self.old }
         requires held { Holds self.old.transactions tx }
-        requires same { parameters.items ≡ replicate copies (parameters_of tx.number (state_of self.old)) }
+        requires same { parameters.items ≡ replicate copies (kept_of tx.number self.old.transactions) }
         requires block { transaction.current ≤ 4096 }
         requires few { length self.old.transactions.txs + copies < 2 ^ 60 }
         requires room { (copies ≤ self.old.transactions.room) × (copies ≤ self.old.current_events.room) }

@@ -1,11 +1,11 @@
 //! What a block does to the entity that it names.
 
-ghost use Rattle.std.specs.Prelude.{◌≡◌, ◌≤◌, ◌<◌, ◌+◌, ◌^◌, Ok, false, length};
+ghost use Rattle.std.specs.Prelude.{◌≡◌, ◌≤◌, ◌<◌, ◌+◌, ◌^◌, true, length};
 ghost use Rattle.gw_num.specs.Table.{at};
 ghost use Rattle.gw_entities.specs.Contents.{empty};
-ghost use Rattle.gw_entities.specs.Facility.{idle, seizing, releasing};
-ghost use Rattle.gw_entities.specs.Queue.{joined, departing};
-ghost use Rattle.gw_entities.specs.Storage.{vacant, entering, leaving};
+ghost use Rattle.gw_entities.specs.Facility.{idle, is_idle, is_owned_by, seized, released, seizing};
+ghost use Rattle.gw_entities.specs.Queue.{joined, departed};
+ghost use Rattle.gw_entities.specs.Storage.{vacant, has_room, entered, left, entering};
 ghost use Rattle.gw_entities.specs.Table.{table_at};
 ghost use Rattle.gw_entities.specs.Tabulation.{tabulating};
 ghost use Rattle.gw_step.specs.Blocks as model;
@@ -15,11 +15,11 @@ ghost use Rattle.gw_step.specs.Changes.{put_facility, put_storage, put_queue, pu
 ghost use Rattle.gw_machine.specs.View.{state_of};
 ghost use Rattle.gw_machine.specs.Coherence.{Linked};
 ghost use Rattle.gw_machine.specs.Evaluating.{IsReadable};
-ghost use Rattle.gw_machine.specs.Leaving.{Leaves, Tabulates};
+ghost use Rattle.gw_machine.specs.Leaving.{Tabulates};
 
 use crate::machine::Machine;
 use gw_blocks::{Condition, Logic, SwitchAction, Units};
-use gw_entities::{Facility, Stop, Storage};
+use gw_entities::{Facility, Storage};
 use gw_num::NumFault;
 
 /// Whether the transaction of this number has to wait for a facility, since another owns it.
@@ -67,28 +67,28 @@ impl Machine {
     }
 
     /// The transaction of this number seizes a facility, if it is idle.
-    pub fn seize_facility(&mut self, f: u16, number: u64) -> Result<bool, Stop>
+    pub fn seize_facility(&mut self, f: u16, number: u64)
         requires there { f < length self.old.facilities.facilities }
         requires few { (at idle self.old.facilities.facilities f).entries < 2 ^ 62 }
-        ensures made { Leaves result (seizing number (facility f (state_of self.old))) (λ v. put_facility f v (state_of self.old))
-            (state_of self.old) (state_of self.new) }
+        requires idle { is_idle (facility f (state_of self.old)) ≡ true }
+        ensures state { state_of self.new ≡ put_facility f (seized number (facility f (state_of self.old))) (state_of self.old) }
         ensures linked { Linked self.old → Linked self.new }
         ensures frame { self.new ≡ record self.old { facilities = self.new.facilities } }
         ensures table { length self.new.facilities.facilities ≡ length self.old.facilities.facilities }
     {
-        self.facilities.seize(f, number)
+        self.facilities.seize(f, number);
     }
 
     /// The transaction of this number gives a facility up.
-    pub fn release_facility(&mut self, f: u16, number: u64) -> Result<(), Stop>
+    pub fn release_facility(&mut self, f: u16, number: u64)
         requires there { f < length self.old.facilities.facilities }
-        ensures made { Leaves result (releasing number (facility f (state_of self.old))) (λ v. put_facility f v (state_of self.old))
-            (state_of self.old) (state_of self.new) }
+        requires owner { is_owned_by number (facility f (state_of self.old)) ≡ true }
+        ensures state { state_of self.new ≡ put_facility f (released (facility f (state_of self.old))) (state_of self.old) }
         ensures linked { Linked self.old → Linked self.new }
         ensures frame { self.new ≡ record self.old { facilities = self.new.facilities } }
         ensures table { length self.new.facilities.facilities ≡ length self.old.facilities.facilities }
     {
-        self.facilities.release(f, number)
+        self.facilities.release(f, number);
     }
 
     // STORAGES
@@ -102,27 +102,26 @@ impl Machine {
     }
 
     /// Units of a storage are taken, if they are free.
-    pub fn take(&mut self, u: Units) -> Result<bool, Stop>
+    pub fn take(&mut self, u: Units)
         requires there { u.entity < length self.old.storages.storages }
         requires few { (at (vacant 0) self.old.storages.storages u.entity).contents.entries + u.number ≤ 2 ^ 62 }
-        ensures made { Leaves result (entering u.number (storage u.entity (state_of self.old)))
-            (λ v. put_storage u.entity v (state_of self.old)) (state_of self.old) (state_of self.new) }
-        ensures full { result ≡ Ok false → state_of self.new ≡ state_of self.old }
+        requires room { has_room u.number (storage u.entity (state_of self.old)) ≡ true }
+        ensures state { state_of self.new ≡ put_storage u.entity (entered u.number (storage u.entity (state_of self.old))) (state_of self.old) }
         ensures linked { Linked self.old → Linked self.new }
         ensures frame { self.new ≡ record self.old { storages = self.new.storages } }
     {
-        self.storages.enter(u.entity, u.number)
+        self.storages.enter(u.entity, u.number);
     }
 
     /// Units of a storage are given back.
-    pub fn give_back(&mut self, u: Units) -> Result<(), Stop>
+    pub fn give_back(&mut self, u: Units)
         requires there { u.entity < length self.old.storages.storages }
-        ensures made { Leaves result (leaving u.number (storage u.entity (state_of self.old)))
-            (λ v. put_storage u.entity v (state_of self.old)) (state_of self.old) (state_of self.new) }
+        requires inside { u.number ≤ (storage u.entity (state_of self.old)).contents.content }
+        ensures state { state_of self.new ≡ put_storage u.entity (left u.number (storage u.entity (state_of self.old))) (state_of self.old) }
         ensures linked { Linked self.old → Linked self.new }
         ensures frame { self.new ≡ record self.old { storages = self.new.storages } }
     {
-        self.storages.leave(u.entity, u.number)
+        self.storages.leave(u.entity, u.number);
     }
 
     // QUEUES
@@ -136,18 +135,18 @@ impl Machine {
         ensures linked { Linked self.old → Linked self.new }
         ensures frame { self.new ≡ record self.old { queues = self.new.queues } }
     {
-        let _ = self.queues.join_queue(u.entity, u.number);
+        self.queues.join_queue(u.entity, u.number);
     }
 
     /// Units depart from a queue.
-    pub fn depart_units(&mut self, u: Units) -> Result<(), Stop>
+    pub fn depart_units(&mut self, u: Units)
         requires there { u.entity < length self.old.queues.queues }
-        ensures made { Leaves result (departing u.number (queue u.entity (state_of self.old)))
-            (λ v. put_queue u.entity v (state_of self.old)) (state_of self.old) (state_of self.new) }
+        requires inside { u.number ≤ (queue u.entity (state_of self.old)).content }
+        ensures state { state_of self.new ≡ put_queue u.entity (departed u.number (queue u.entity (state_of self.old))) (state_of self.old) }
         ensures linked { Linked self.old → Linked self.new }
         ensures frame { self.new ≡ record self.old { queues = self.new.queues } }
     {
-        self.queues.depart(u.entity, u.number)
+        self.queues.depart(u.entity, u.number);
     }
 
     // LOGIC SWITCHES AND SAVEVALUES

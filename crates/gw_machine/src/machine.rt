@@ -1,6 +1,6 @@
 //! The state of a job in memory, and the elementary changes of it.
 
-ghost use Rattle.std.specs.Prelude.{◌≡◌, ◌≤◌, ◌<◌, ◌+◌, ◌^◌, Some, None, length, vec_len, sum, OnOk, OnErr, pos, ◌<ℤ◌, ◌≤ℤ◌, nat_le};
+ghost use Rattle.std.specs.Prelude.{◌≡◌, ◌≤◌, ◌<◌, ◌+◌, ◌^◌, Some, None, length, vec_len, sum, IfOk, OnOk, OnErr, pos, ◌<ℤ◌, ◌≤ℤ◌, nat_le};
 ghost use Rattle.gw_num.specs.Table.{at};
 ghost use Rattle.gw_transactions.specs.Transactions.{Holds, attributes_at, live_count};
 ghost use Rattle.gw_step.specs.State.{priority_of, raised, with_streams};
@@ -8,13 +8,14 @@ ghost use Rattle.gw_step.specs.Blocks.{is_owed};
 ghost use Rattle.gw_step.specs.Changes as model;
 ghost use Rattle.gw_step.specs.Times.{parameters_of};
 ghost use Rattle.gw_machine.specs.View.{state_of};
+ghost use Rattle.gw_transactions.specs.Parameters.{none_of};
 ghost use Rattle.gw_machine.specs.Coherence.{Linked, Carries, Every};
 
 use gw_chains::{Assemblies, Cec, Fec, Memory, Tx, UserChains, Waits};
-use gw_entities::{Facilities, Queues, Savevalues, Stop, Storages, Switches, Tables};
+use gw_entities::{Facilities, Queues, Savevalues, Storages, Switches, Tables};
 use gw_num::Stream;
 use gw_step::End;
-use gw_transactions::{Transaction, Transactions};
+use gw_transactions::{Parameters, Transaction, Transactions};
 
 /// The most live transactions, scheduled arrivals included (ours: docs/machine.md).
 const MOST_LIVE: usize = 65_536;
@@ -26,8 +27,6 @@ pub enum Made {
     Step,
     /// No change: it comes to a named end.
     Ends(End),
-    /// No change: it comes to an error stop.
-    Stops(Stop),
 }
 
 /// The state of a job in memory: transactions lie in a slab, and the chains hold handles to them. A table of blocks has
@@ -167,9 +166,10 @@ impl Machine {
     }
 
     /// A new transaction is scheduled to arrive at its GENERATE block.
-    pub fn arrive(&mut self, block: u16, priority: i32, time: i64)
+    pub fn arrive(&mut self, block: u16, priority: i32, time: i64, parameters: Parameters)
         requires linked { Linked self.old }
         requires room { (0 < self.old.transactions.room) × (0 < self.old.future_events.room) }
+        requires unset { parameters ≡ none_of self.old.transactions.last }
         requires block { block < vec_len self.old.scheduled }
         requires few { (length self.old.transactions.txs < 2 ^ 60) × (sum self.old.scheduled.items < 2 ^ 60) }
         ensures state { state_of self.new ≡ model.arrives block priority time (state_of self.old) }
@@ -180,31 +180,29 @@ impl Machine {
     {
         let number = self.transactions.next_number();
         let mark = self.clock;
-        let tx = self.transactions.insert(Transaction {
+        let arrival = Transaction {
             current: 0,
             next: block,
             priority,
             mark,
             set: number,
-        });
+        };
+        let tx = self.transactions.insert_with(arrival, parameters);
         self.future_events.schedule(tx, time);
         raise(&mut self.scheduled, block as usize);
     }
 
-    /// A parameter of a transaction, by its number from 1 to 64, has this value from now on.
-    ///
-    /// It fails for want of memory, and changes nothing then.
-    pub fn assign(&mut self, tx: Tx, parameter: u8, value: i64) -> Result<(), Memory>
+    /// A parameter of a transaction has this value from now on.
+    pub fn assign(&mut self, tx: Tx, parameter: u8, value: i64)
         requires held { Holds self.old.transactions tx }
-        requires parameter { parameter ≤ 64 }
-        ensures ok { OnOk result (state_of self.new ≡ model.assigned tx.number parameter value (state_of self.old)) }
-        ensures err { OnErr result (state_of self.new ≡ state_of self.old) }
+        requires parameter { (1 ≤ parameter) × (parameter ≤ self.old.transactions.last) }
+        ensures state { state_of self.new ≡ model.assigned tx.number parameter value (state_of self.old) }
         ensures linked { Linked self.old → Linked self.new }
         ensures held { Holds self.new.transactions tx }
         ensures rank { priority_of self.new.transactions.txs tx.number ≡ priority_of self.old.transactions.txs tx.number }
         ensures frame { self.new ≡ record self.old { transactions = self.new.transactions } }
     {
-        self.transactions.assign(tx, parameter, value)
+        self.transactions.assign(tx, parameter, value);
     }
 
     /// The streams are now here.
@@ -229,16 +227,19 @@ impl Machine {
         self.ended = end_of(count);
     }
 
-    /// Makes room for one more transaction and its arrival.
-    pub fn reserve_arrival(&mut self) -> Result<(), Memory>
+    /// Makes room for one more transaction and its arrival, and answers its parameters, none of which is set.
+    pub fn reserve_arrival(&mut self) -> Result<Parameters, Memory>
+        ensures unset { IfOk result (λ parameters. parameters ≡ none_of self.new.transactions.last) }
         ensures state { state_of self.new ≡ state_of self.old }
         ensures linked { Linked self.old → Linked self.new }
         ensures room { OnOk result ((0 < self.new.transactions.room) × (0 < self.new.future_events.room)) }
         ensures carries { Carries Every self.old.transactions self.new.transactions }
         ensures frame { self.new ≡ record self.old { transactions = self.new.transactions; future_events = self.new.future_events } }
     {
+        let parameters = self.transactions.new_parameters()?;
         self.transactions.reserve(1)?;
-        self.future_events.reserve(1)
+        self.future_events.reserve(1)?;
+        Ok(parameters)
     }
 
     /// The entries of a block, by its number from 1; 0 where there is no such block.

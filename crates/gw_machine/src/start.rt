@@ -78,7 +78,7 @@ impl Machine {
         let scheduled = zeros(alloc, blocks + 1)?;
         let entries = zeros(alloc, blocks + 1)?;
         let tables = entity_tables(alloc, object)?;
-        let transactions = Transactions::new(alloc)?;
+        let transactions = Transactions::new(alloc, 64)?;
         let entities = object.parts().entities.as_slice().len();
         let waits = Waits::new(alloc, entities)?;
         let chains = UserChains::new(alloc, entities)?;
@@ -162,9 +162,9 @@ impl Machine {
         let mut streams = self.streams;
         match self.first_moment(verified, g, &mut streams) {
             Ok(moment) => {
-                self.reserve_arrival()?;
+                let parameters = self.reserve_arrival()?;
                 self.set_streams(&streams);
-                self.arrive(number, g.priority, moment);
+                self.arrive(number, g.priority, moment, parameters);
                 Ok(None)
             }
             Err(end) => Ok(Some(end)),
@@ -220,7 +220,7 @@ impl Machine {
     ) -> Result<Machine, Memory>
         requires few { count ≤ 2 ^ 40 }
         requires fit { BlocksFit (length verified.now.entities) verified.now.blocks }
-        ensures state { IfOk result (λ m. state_of m ≡ model.start verified.now count streams) }
+        ensures state { IfOk result (λ m. model.start verified.now count streams ≡ Some (state_of m)) }
         ensures linked { IfOk result Linked }
     {
         let mut machine = Machine::nothing(alloc, verified.object(), count, streams)?;

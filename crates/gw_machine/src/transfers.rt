@@ -98,9 +98,10 @@ impl Machine {
             (change.enters_and_falls tx.number transaction (change.called_from f tx.number (state_of self.old))) }
         ensures linked { Linked self.new }
     {
+        let next = transaction.next + 1;
         self.call(f, 0, tx, transaction.priority);
-        self.enter(tx, transaction, transaction.next + 1);
-        let _ = self.seize_facility(f, tx.number);
+        self.enter(tx, transaction, next);
+        self.seize_facility(f, tx.number);
     }
 
     /// Whether units of a storage are free.
@@ -193,13 +194,9 @@ impl Machine {
         if !self.has_free(units) {
             return false;
         }
-        match self.take(units) {
-            Ok(true) => {
-                self.call_current(units.entity, tx, transaction.priority);
-                self.enter(tx, transaction, transaction.next + 1);
-                true
-            }
-            _ => false,
-        }
+        self.take(units);
+        self.call_current(units.entity, tx, transaction.priority);
+        self.enter(tx, transaction, transaction.next + 1);
+        true
     }
 }

@@ -27,7 +27,7 @@ use gw_code_flow::{PlusEnd, made};
 use gw_kinds::source_of;
 use gw_num::Stream;
 use gw_plus::{Env, eval};
-use gw_transactions::Transaction;
+use gw_transactions::{Parameters, Transaction};
 use gw_verify::Verified;
 
 /// For whom operands are evaluated: the active transaction, or the next that is to arrive.
@@ -121,14 +121,14 @@ impl Machine {
         }
     }
 
-    /// The parameters of a subject by their numbers, as far as they are set.
-    fn parameters_for(&self, tx: Option<Tx>) -> &[Option<i64>]
+    /// The parameters of a subject.
+    fn parameters_for(&self, tx: Option<Tx>) -> &Parameters
         requires { IfSome tx (Holds self.now.transactions) }
-        ensures { (number : ℕ) → at None result.now number ≡ at None (parameters_for tx (state_of self.now)) number }
+        ensures { result.now.values ≡ parameters_for tx (state_of self.now) }
     {
         match tx {
             Some(tx) => self.transactions.parameters(tx),
-            None => &[],
+            None => self.transactions.unset(),
         }
     }
 

@@ -64,7 +64,7 @@ module _ (p : Parts) (env : Env) (of : IsOf p env) where
   -- a source that an activation reads without a call may be read
   pub may_read_kept : (source : Operand) (finish : ℤ → ℤ) (f : Frame) → IsGood p source → reads_source (environment_of env) source finish f ≢ Stuck → ((q : ℕ) → source ≢ Procedure q) → MayReadKept env source
   may_read_kept (Constant z) finish f good moves none = tt
-  may_read_kept (Parameter x) finish f good moves none = given_is_some (at None env.parameters.now x) (λ v. pushed (finish v) f) moves
+  may_read_kept (Parameter x) finish f good moves none = given_is_some (at None env.parameters.now.values x) (λ v. pushed (finish v) f) moves
   may_read_kept (Attribute a) finish f good moves none = record { number = of.number; clock = of.clock; mark = of.mark }
   may_read_kept (OfEntity a) finish f good moves none = may_read a.attribute a.number good.holds.entity
   may_read_kept (Random j) finish f good moves none = absurd (moves refl)

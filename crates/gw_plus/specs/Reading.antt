@@ -36,7 +36,7 @@ environment_of env = record {
   number = env.number;
   priority = env.priority;
   mark = env.mark;
-  parameters = env.parameters.now;
+  parameters = env.parameters.now.values;
   of_entity = λ (a : Numbered). attribute_of (readings_of env) a.attribute a.number;
 }
 
@@ -83,7 +83,7 @@ MayRead env BlockCount b = at 0 env.here.now b ≤ 2 ^ 62
 -- an operand may be read that is kept: if it is a parameter, that one is set; nothing is kept of what is drawn, or evaluated by a procedure
 abbrev pub MayReadKept : Env → Operand → Type 0
 MayReadKept env (operands.Constant z) = Unit {0}
-MayReadKept env (operands.Parameter p) = IsSome (at None env.parameters.now p)
+MayReadKept env (operands.Parameter p) = IsSome (at None env.parameters.now.values p)
 MayReadKept env (operands.Attribute a) = AttributesFit env
 MayReadKept env (operands.OfEntity a) = MayRead env a.attribute a.number
 MayReadKept env (operands.Random j) = ⊥

@@ -12,6 +12,7 @@ use gw_blocks::{Attribute, EntityAttribute, Operand};
 use gw_chains::UserChains;
 use gw_entities::{Facilities, Facility, Queues, Savevalues, Storage, Storages, Switches, Tables};
 use gw_num::truth_value;
+use gw_transactions::Parameters;
 
 /// What procedures read: it lends what is to be read of the job and of one transaction.
 #[derive(Clone, Copy)]
@@ -22,8 +23,8 @@ pub struct Env<'a> {
     pub priority: i32,
     /// Its mark time, in clock units.
     pub mark: i64,
-    /// Its parameters by their numbers, which begin with 1, as far as they are set; nothing is at 0.
-    pub parameters: &'a [Option<i64>],
+    /// Its parameters.
+    pub parameters: &'a Parameters,
     /// The clock, in clock units.
     pub clock: i64,
     /// What is left of the termination count.
@@ -125,10 +126,10 @@ impl Env<'_> {
 
     /// The value of a parameter that is set.
     fn parameter(&self, number: u8) -> i64
-        requires { IsSome (at None self.now.parameters.now number) }
-        ensures { at None self.now.parameters.now number ≡ Some result }
+        requires { IsSome (at None self.now.parameters.now.values number) }
+        ensures { at None self.now.parameters.now.values number ≡ Some result }
     {
-        self.parameters[number as usize].unwrap()
+        self.parameters.get(number)
     }
 
     /// The value of an operand that is kept: a constant, a parameter that is set, or an attribute (docs/plus-code.md).

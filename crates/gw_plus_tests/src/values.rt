@@ -1,6 +1,8 @@
 //! What procedures come to: each instruction, by a value worked out by hand.
 
-ghost use Rattle.std.specs.Prelude.{◌≡◌, ◌<◌, ◌+◌, length, IfOk, slice_get, Some, [], ◌∷◌};
+ghost use Rattle.std.specs.Prelude.{◌≡◌, ◌<◌, ◌+◌, length, IfOk, IsSome, slice_get, Some, None, [], ◌∷◌};
+ghost use Rattle.gw_num.specs.Table.{at};
+ghost use Rattle.gw_transactions.specs.Transactions.{Holds, parameter_at};
 
 use crate::models::*;
 use gw_chains::{Tx, UserChains};
@@ -9,6 +11,7 @@ use gw_entities::{Facilities, Queues, Savevalues, Storages, Switches, Tables};
 use gw_num::{Binary, Unary};
 use gw_object::{Memory, Object};
 use gw_plus::{Env, PlusEnd, eval};
+use gw_transactions::{Parameters, Transaction, Transactions};
 use gw_verify::{Verified, verify};
 use std::alloc::Global;
 use std::test::Fail;
@@ -126,10 +129,36 @@ fn entities_of(alloc: Global, object: &Object) -> Result<Entities, Fail>
     })
 }
 
+/// A transaction whose parameter 1 has this value, and its handle.
+fn transaction_with(alloc: Global, first: i64) -> Result<(Transactions, Tx), Memory>
+    ensures held { IfOk result (λ made. Holds made.0 made.1) }
+    ensures set { IfOk result (λ made. parameter_at made.1.number 1 made.0.txs ≡ Some first) }
+{
+    let mut transactions = Transactions::new(alloc, 1)?;
+    transactions.reserve(1)?;
+    let unset = transactions.new_parameters()?;
+    let made = Transaction {
+        current: 0,
+        next: 1,
+        priority: -3,
+        mark: 40,
+        set: 1,
+    };
+    let tx = transactions.insert_with(made, unset);
+    transactions.assign(tx, 1, first);
+    Ok((transactions, tx))
+}
+
 /// What a procedure of this code, with two locals, comes to at clock 100 for the transaction 12 of priority -3, which has
-/// marked 40, where TG1 is 7 and P1 is this. The second block has 6 entries so far, 2 transactions are in it, and 2 are on
-/// the user chain.
-fn outcome_with(alloc: Global, first: i64, code: &[Instruction]) -> Result<Outcome, Fail> {
+/// marked 40 and has these parameters, where TG1 is 7. The second block has 6 entries so far, 2 transactions are in it, and 2
+/// are on the user chain.
+fn outcome_for(
+    alloc: Global,
+    parameters: &Parameters,
+    code: &[Instruction],
+) -> Result<Outcome, Fail>
+    requires { IsSome (at None parameters.now.values 1) }
+{
     let object = object_of(alloc, four_procedures(alloc, code)?)?;
     let entities = entities_of(alloc, &object)?;
     let verified = accepted(alloc, object)?;
@@ -137,7 +166,7 @@ fn outcome_with(alloc: Global, first: i64, code: &[Instruction]) -> Result<Outco
         number: 12,
         priority: -3,
         mark: 40,
-        parameters: &[None, Some(first)],
+        parameters,
         clock: 100,
         count: 7,
         facilities: &entities.facilities,
@@ -151,6 +180,12 @@ fn outcome_with(alloc: Global, first: i64, code: &[Instruction]) -> Result<Outco
         here: &[0, 1, 2],
     };
     Ok(eval(&verified, 3, &env))
+}
+
+/// What it comes to where P1 is this.
+fn outcome_with(alloc: Global, first: i64, code: &[Instruction]) -> Result<Outcome, Fail> {
+    let (transactions, tx) = transaction_with(alloc, first)?;
+    outcome_for(alloc, transactions.parameters(tx), code)
 }
 
 /// What it comes to where P1 is 5.

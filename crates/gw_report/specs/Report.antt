@@ -13,7 +13,6 @@ use Rattle.gw_transactions.specs.Transactions.{here_count}
 use Rattle.gw_entities.specs.declared.average.Average.{Average}
 use Rattle.gw_entities.specs.declared.contents.Contents.{Contents}
 use Rattle.gw_entities.specs.declared.facilities.Facility.{Facility}
-use Rattle.gw_entities.specs.declared.stop.Stop.{Stop}
 use Rattle.gw_entities.specs.Average.{average}
 use Rattle.gw_entities.specs.Contents.{empty}
 use Rattle.gw_entities.specs.Facility.{idle}
@@ -22,14 +21,13 @@ use Rattle.gw_entities.specs.Table.{table_at}
 use Rattle.gw_step.specs.declared.ends.End.TheVariants.{Done, Number, ZeroDivisor, NegativeTime, LoopLimit, NoMoreEvents, Budget, Live}
 use Rattle.gw_step.specs.State.{State, delay_list, user_chain}
 use Rattle.gw_scan.specs.declared.sim.Status.{Status}
-use Rattle.gw_scan.specs.declared.sim.Status.TheVariants.{Running, Ended, Stopped}
+use Rattle.gw_scan.specs.declared.sim.Status.TheVariants.{Running, Ended}
 use Rattle.gw_scan.specs.Answers.{status_at}
 use Rattle.gw_step.specs.Job.{Progress}
 
 -- how a job stands: the name of its end, if one stands
 abbrev pub status_word : Status → List ℕ
 status_word Running = codes "Running"
-status_word (Stopped stop) = codes "Stopped"
 status_word (Ended Done) = codes "Done"
 status_word (Ended Number) = codes "Number"
 status_word (Ended ZeroDivisor) = codes "ZeroDivisor"
@@ -188,15 +186,7 @@ unfoldable pub entity_lines : State → ℕ → List Entity → List ℕ
 entity_lines s e [] = []
 entity_lines s e (entity ∷ rest) = lines_of s e entity ++ entity_lines s (e + 1) rest
 
--- the report of a job that stands so
-abbrev pub report_as : Status → Progress → List ℕ
-report_as status p =
-    end_line status p.state ++ block_lines p.state 1 p.job.parts.blocks ++ entity_lines p.state 0 p.job.parts.entities
-
 -- the report text of a job and its state
 abbrev pub report_of : Progress → List ℕ
-report_of p = report_as (status_at p.state.ended) p
-
--- the report text of a job that is stuck at this error stop
-abbrev pub stopped_report_of : Stop → Progress → List ℕ
-stopped_report_of stop p = report_as (Stopped stop) p
+report_of p =
+    end_line (status_at p.state.ended) p.state ++ block_lines p.state 1 p.job.parts.blocks ++ entity_lines p.state 0 p.job.parts.entities

@@ -11,15 +11,13 @@ ghost use Rattle.gw_report.specs.Report.{
   status_word as word_of_status,
   counts,
   end_line,
-  report_as,
   report_of,
-  stopped_report_of,
 };
 
 use blocks::put_block_lines;
 use entities::put_entity_lines;
 use gw_object::Memory;
-use gw_scan::{End, Sim, Status, Stop};
+use gw_scan::{End, Sim, Status};
 use std::alloc::Global;
 use text::{put, put_number};
 
@@ -29,7 +27,6 @@ fn status_word(status: Status) -> &'static str
 {
     match status {
         Status::Running => "Running",
-        Status::Stopped(_) => "Stopped",
         Status::Ended(End::Done) => "Done",
         Status::Ended(End::Number) => "Number",
         Status::Ended(End::ZeroDivisor) => "ZeroDivisor",
@@ -60,29 +57,13 @@ fn put_end_line(out: &mut Vec<u8>, sim: &Sim, status: Status) -> Result<(), Memo
     put(out, "\n")
 }
 
-/// The report of a job that stands so.
-fn lines(alloc: Global, sim: &Sim, status: Status) -> Result<Vec<u8>, Memory>
-    ensures { IfOk result (λ text. text.items ≡ report_as status sim.now) }
-{
-    let mut out = Vec::new(alloc);
-    put_end_line(&mut out, sim, status)?;
-    put_block_lines(&mut out, sim)?;
-    put_entity_lines(&mut out, sim)?;
-    Ok(out)
-}
-
 /// The report of a job, in lines that each end by LF: how it stands, its blocks, and its entities (ours: docs/report.md).
 pub fn report(alloc: Global, sim: &Sim) -> Result<Vec<u8>, Memory>
     ensures { IfOk result (λ text. text.items ≡ report_of sim.now) }
 {
-    lines(alloc, sim, sim.status())
-}
-
-/// The report of a job that is stuck at this error stop, as `Sim::step` answered it: it stands as `Stopped`. That the job
-/// is stuck is no condition of this call: no job of a checked object ever is (docs/machine.md, "Well-typed states"), so a
-/// call that asked for it could not be made.
-pub fn stopped_report(alloc: Global, sim: &Sim, stop: Stop) -> Result<Vec<u8>, Memory>
-    ensures { IfOk result (λ text. text.items ≡ stopped_report_of stop sim.now) }
-{
-    lines(alloc, sim, Status::Stopped(stop))
+    let mut out = Vec::new(alloc);
+    put_end_line(&mut out, sim, sim.status())?;
+    put_block_lines(&mut out, sim)?;
+    put_entity_lines(&mut out, sim)?;
+    Ok(out)
 }

@@ -11,7 +11,7 @@ use Rattle.gw_object.specs.declared.parts.Parts.{Parts}
 use Rattle.gw_kinds.specs.Evaluated.{operand_at}
 use Rattle.gw_flow.specs.Values.{Evaluation, Value, Fails, Unset, ◌>>=◌ as ◌then◌, operand_value, one_operand, drawn_time, alone}
 use Rattle.gw_transactions.specs.declared.Transaction.{Transaction}
-use Rattle.gw_step.specs.Outcome.{Outcome, Gives, EndsBy, StopsBy, ◌>>=◌, evaluated}
+use Rattle.gw_step.specs.Outcome.{Outcome, Gives, EndsBy, HasNoCase, ◌>>=◌, evaluated}
 use Rattle.gw_step.specs.State.{State, with_streams}
 use Rattle.gw_step.specs.Times.{environment_of, moment_after, drawn_moment}
 use Rattle.gw_step.specs.Blocks.{leads, until, advance, assign, save, set_priority, plus, tabulate, then_placed, meets, act, effect}
@@ -62,9 +62,9 @@ module _ (p : Parts) (n : ℕ) (t : Transaction) (s : State) where
       by : (o : Outcome ℤ) → then_placed n (o >>= λ moment. leads p.blocks (t.next + 1) (Gives (enters_and_falls n t (with_streams d.1 s), until s.clock moment))) ≡ ((o >>= λ moment. Gives (moment, d.1)) >>= advanced)
       by (Gives moment) = refl
       by (EndsBy end) = refl
-      by (StopsBy stop) = refl
+      by HasNoCase = refl
   resting (EndsBy end) = refl
-  resting (StopsBy stop) = refl
+  resting HasNoCase = refl
 
   pub act-advance : (time : Spread) (o : Outcome (ℤ × List ℕ)) → drawn_moment p (environment_of n t s) time s.clock s.streams ≡ o → act p n t (blocks.Advance time) s ≡ (o >>= advanced)
   unfolding act effect

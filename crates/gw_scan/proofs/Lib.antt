@@ -3,5 +3,7 @@ pub mod BlocksWithValue
 pub mod Meeting
 pub mod Running
 pub mod FewReside
-pub mod Nowhere
 pub mod Weighing
+pub mod Leading
+pub mod Taking
+pub mod Moments

@@ -4,14 +4,15 @@ use Rattle.gw_machine.specs.declared.machine.Machine.{Machine}
 use Rattle.gw_step.specs.State.{delay_list}
 use Rattle.gw_step.specs.Numbers.{IsWithin, made_in}
 use Rattle.gw_step.specs.Operands.{BlocksFit, MayStep}
+use Rattle.gw_step.specs.Asks.{IsServed}
 use Rattle.gw_step.specs.Job.{Job, IsReached}
 use Rattle.gw_machine.specs.View.{state_of, member_number}
 use Rattle.gw_machine.specs.Coherence.{Linked, IsOf, IsRunning}
 use Rattle.gw_num.specs.Table.{at}
 use Rattle.std.proofs.lemmas.List.{length-map}
 use Rattle.gw_step.proofs.Operands.{blocks_fit}
-use Rattle.gw_step.proofs.Safe.{reached_states_are_well_typed}
 use Rattle.gw_step.proofs.Suffices.{parameters_suffice}
+use Rattle.gw_step.proofs.Served.{blocks_are_served}
 use Rattle.gw_machine.proofs.Changes.{delay_list-at}
 
 pub running : (j : Job) (m : Machine) → IsReached (record { job = j; state = state_of m }) → Linked m → m.ended ≡ None → IsRunning j.parts.blocks m
@@ -34,7 +35,10 @@ pub is_own : (j : Job) (m : Machine) → IsReached (record { job = j; state = st
 is_own j m r = r.bounded.numbers.whole.facilities
 
 pub may_step : (j : Job) (m : Machine) → IsReached (record { job = j; state = state_of m }) → MayStep j.parts (state_of m)
-may_step j m r = parameters_suffice j.parts (state_of m) r.fits.checked r.fits.spelled (reached_states_are_well_typed j m.steps (state_of m) r.fits.checked r.alone)
+may_step j m r = parameters_suffice j.parts (state_of m) r.fits.checked r.fits.spelled r.typed
+
+pub is_served : (j : Job) (m : Machine) → IsReached (record { job = j; state = state_of m }) → IsServed j.parts (state_of m)
+is_served j m r = blocks_are_served j.parts (state_of m) r.fits.checked r.typed
 
 pub waiting-of : (j : Job) (m : Machine) (e : ℕ) → IsReached (record { job = j; state = state_of m }) → e < length j.parts.entities → length (at [] m.waits.lists e) ≡ length (delay_list e (state_of m))
 waiting-of j m e r below =

@@ -1,24 +1,28 @@
 -- What a call of `step` answers.
-use Rattle.std.specs.Prelude.{◌≡◌, Option, Some, None}
+use Rattle.std.specs.Prelude.{◌≡◌, ◌+◌, ◌≤◌, sum, Option, Some, None}
 use Rattle.gw_step.specs.declared.ends.End.{End}
 use Rattle.gw_scan.specs.declared.sim.Status.{Status}
-use Rattle.gw_scan.specs.declared.sim.Status.TheVariants.{Running, Ended, Stopped}
+use Rattle.gw_scan.specs.declared.sim.Status.TheVariants.{Running, Ended}
 use Rattle.gw_step.specs.State.{State}
-use Rattle.gw_step.specs.Job.{Job, Step, IsStuck, stop_of}
+use Rattle.gw_step.specs.Job.{Job, Progress, Step}
+use Rattle.gw_step.specs.Weight.{weight}
 
 -- running, or the named end that stands
 abbrev pub status_at : Option End → Status
 status_at None = Running
 status_at (Some end) = Ended end
 
--- a final state stays, and its end is answered; a running state makes its step, and what then stands is answered; a stuck
--- state stays, and its error stop is answered
+-- a final state stays, and its end is answered; a running state makes its step, and what then stands is answered
 abbrev pub AnswersFrom : Option End → Status → Job → State → State → Type 0
 AnswersFrom (Some end) status j old new = (status ≡ Ended end) × (new ≡ old)
 AnswersFrom None Running j old new = Step j old new × (new.ended ≡ None)
 AnswersFrom None (Ended end) j old new = Step j old new × (new.ended ≡ Some end)
-AnswersFrom None (Stopped stop) j old new = IsStuck j old × (stop_of j old ≡ Some stop) × (new ≡ old)
 
 -- this status is right for a call in the old state that leaves the new one
 abbrev pub Answers : Status → Job → State → State → Type 0
 Answers status j old new = AnswersFrom old.ended status j old new
+
+-- while the clock stands, what the state weighs and the entries made so far are together at most what they were
+abbrev pub StaysPaid : Progress → Progress → Type 0
+StaysPaid old new =
+    new.state.clock ≡ old.state.clock → weight old.job.parts new.state + sum new.state.entries ≤ weight old.job.parts old.state + sum old.state.entries

@@ -1,30 +1,22 @@
 -- What a call of the machine made.
-use Rattle.std.specs.Prelude.{◌≡◌, ℕ, List, Option, Some, None, Bool, not, ◌&&◌, Result, is_none, if◌then◌else◌}
+use Rattle.std.specs.Prelude.{◌≡◌, ℕ, List, Option, Bool, not, ◌&&◌, is_none, if◌then◌else◌}
 use Rattle.gw_blocks.specs.declared.parts.Block.{Block}
-use Rattle.gw_entities.specs.declared.stop.Stop.{Stop}
-use Rattle.gw_entities.specs.declared.stop.Stop.TheVariants.{NoBlock}
-use Rattle.gw_entities.specs.Tabulation.{Tabulation}
-use Rattle.gw_flow.specs.Values.{answered}
-use Rattle.gw_num.specs.declared.arithmetic.NumFault.{NumFault}
-use Rattle.gw_object.specs.declared.parts.Parts.{Parts}
 use Rattle.gw_machine.specs.declared.machine.Machine.{Machine}
 use Rattle.gw_machine.specs.declared.machine.Made.{Made}
-use Rattle.gw_machine.specs.declared.machine.Made.TheVariants.{Step, Ends, Stops}
-use Rattle.gw_step.specs.Outcome.{Outcome, Gives, EndsBy, StopsBy, ◌>>=◌, evaluated, stop_in}
+use Rattle.gw_machine.specs.declared.machine.Made.TheVariants.{Step, Ends}
+use Rattle.gw_step.specs.Outcome.{Outcome, Gives, EndsBy}
 use Rattle.gw_step.specs.declared.placement.Placement.{Placement}
 use Rattle.gw_step.specs.declared.placement.Placement.TheVariants.{JoinsRetryList}
 use Rattle.gw_step.specs.Placing.{placed}
 use Rattle.gw_transactions.specs.declared.Transaction.{Transaction}
 use Rattle.gw_step.specs.State.{State}
 use Rattle.gw_step.specs.Blocks.{led_by, transfer, then_placed}
-use Rattle.gw_step.specs.Step.{step, scan}
 use Rattle.gw_machine.specs.View.{state_of}
 
--- the outcome is the new state; or it is an end or an error stop, and nothing changed
+-- the outcome is the new state; or it is an end, and nothing changed
 abbrev pub Makes : Made → Outcome State → State → State → Type 0
 Makes Step outcome old new = outcome ≡ Gives new
 Makes (Ends end) outcome old new = (outcome ≡ EndsBy end) × (new ≡ old)
-Makes (Stops stop) outcome old new = (outcome ≡ StopsBy stop) × (new ≡ old)
 
 -- the same for a call on a machine: the outcome is said of the state that it was in
 abbrev pub MakesFrom : Made → (State → Outcome State) → Machine → Machine → Type 0
@@ -38,12 +30,3 @@ Enters made n effect old new = MakesFrom made (λ s. then_placed n (effect s)) o
 abbrev pub passes_or_retries : List Block → ℕ → Transaction → Option ℕ → Bool → State → Outcome State
 passes_or_retries bs n t otherwise so s =
     if is_none otherwise && not so then Gives (placed n JoinsRetryList s) else then_placed n (transfer bs n t (led_by t.next otherwise so) s)
-
--- a step of a running state was made; or there is none, for the error stop that is answered, and nothing changed
-abbrev pub MakesStep : Option Stop → Parts → ℕ → State → State → Type 0
-MakesStep None p budget old new = step p budget old ≡ Some new
-MakesStep (Some stop) p budget old new = (step p budget old ≡ None) × (stop_in (scan p old.lists.active old) ≡ Some stop) × (new ≡ old)
-
--- a TABULATE that leads nowhere comes to the end of its arithmetic, else to an error stop
-abbrev pub leads_nowhere : Result Tabulation NumFault → Outcome State
-leads_nowhere rule = evaluated (answered rule) >>= λ left. StopsBy NoBlock

@@ -1,22 +1,21 @@
 //! Blocks that set parameters, logic switches and savevalues, and those that enter values into tables.
 
-ghost use Rattle.std.specs.Prelude.{◌≡◌, ◌≤◌, ◌<◌, ◌+◌, Some, None, length, OnOk, OnErr, IfOk, IfSome};
+ghost use Rattle.std.specs.Prelude.{◌≡◌, ◌≤◌, ◌<◌, ◌+◌, Some, None, length, IfSome, IsSome, IsSomeAnd};
 ghost use Rattle.gw_step.specs.Changes as change;
 ghost use Rattle.gw_step.specs.Blocks as model;
 ghost use Rattle.gw_step.specs.State as state;
+ghost use Rattle.gw_step.specs.Asks.{MayLead};
 ghost use Rattle.gw_step.specs.Operands.{IsParameter, MayEvaluate};
+ghost use Rattle.gw_transactions.specs.Transactions.{parameter_at};
 ghost use Rattle.gw_step.specs.Times.{environment_of};
 ghost use Rattle.gw_kinds.specs.Evaluated.{operand_at};
 ghost use Rattle.gw_machine.specs.View.{state_of};
 ghost use Rattle.gw_machine.specs.Coherence.{Linked, IsOf, IsActive};
-ghost use Rattle.gw_entities.specs.Table.{table_at};
-ghost use Rattle.gw_entities.specs.Tabulation.{tabulating};
-ghost use Rattle.gw_scan.specs.Makes.{Makes, MakesFrom, Enters, leads_nowhere};
+ghost use Rattle.gw_scan.specs.Makes.{MakesFrom, Enters};
 
-use crate::blocks::{blocks_of, may_enter};
+use crate::blocks::blocks_of;
 use gw_blocks::{Assign, Block, Logic, Loop, Mode, Plus, Save};
-use gw_chains::{Memory, Tx};
-use gw_entities::Stop;
+use gw_chains::Tx;
 use gw_kinds::operand_at;
 use gw_machine::{Machine, Made, active_subject, end_by, end_by_fault};
 use gw_num::{NumFault, Stream, add, sub};
@@ -53,17 +52,15 @@ pub(crate) fn assign_and_enter(
     next: u16,
     parameter: u8,
     value: i64,
-) -> Result<(), Memory>
+)
     requires active { IsActive blocks.now machine.old tx transaction }
     requires parameter { IsParameter parameter }
-    ensures ok { OnOk result (state_of machine.new ≡
-        change.entered tx.number transaction next (change.assigned tx.number parameter value (state_of machine.old))) }
-    ensures err { OnErr result (state_of machine.new ≡ state_of machine.old) }
+    ensures state { state_of machine.new ≡
+        change.entered tx.number transaction next (change.assigned tx.number parameter value (state_of machine.old)) }
     ensures linked { Linked machine.new }
 {
-    machine.assign(tx, parameter, value)?;
+    machine.assign(tx, parameter, value);
     machine.enter(tx, transaction, next);
-    Ok(())
 }
 
 /// ASSIGN: a parameter of the transaction is set, or its value, 0 where it has none, is raised or lowered.
@@ -74,35 +71,30 @@ pub(crate) fn assign_parameter(
     tx: Tx,
     transaction: Transaction,
     assign: Assign,
-) -> Result<Made, Memory>
+) -> Made
     requires active { IsActive verified.now.blocks machine.old tx transaction }
     requires own { IsOf verified.now machine.old }
     requires parameter { IsParameter assign.parameter }
     requires operands { MayEvaluate verified.now (environment_of tx.number transaction (state_of machine.old)) assign.value }
-    ensures made { IfOk result (λ made. MakesFrom made
-        (model.act verified.now tx.number transaction (Block.Assign assign)) machine.old machine.new) }
-    ensures err { OnErr result (state_of machine.new ≡ state_of machine.old) }
+    requires leads { MayLead verified.now.blocks (transaction.next + 1) }
+    ensures made { MakesFrom result
+        (model.act verified.now tx.number transaction (Block.Assign assign)) machine.old machine.new }
     ensures linked { Linked machine.new }
 {
     let mut streams = machine.streams;
     let subject = active_subject(tx, transaction);
     let value = match machine.value(verified, subject, assign.value, &mut streams) {
         Ok(value) => value,
-        Err(end) => return Ok(Made::Ends(end_by(end))),
+        Err(end) => return Made::Ends(end_by(end)),
     };
-    let old = machine
-        .transactions
-        .parameter(tx, assign.parameter)
-        .unwrap_or(0);
+    let parameters = machine.transactions.parameters(tx);
+    let old = parameters.get_or_zero(assign.parameter);
     let new = match put_by(assign.mode, old, value) {
         Ok(new) => new,
-        Err(fault) => return Ok(Made::Ends(end_by_fault(fault))),
+        Err(fault) => return Made::Ends(end_by_fault(fault)),
     };
     let blocks = blocks_of(verified);
     let next = transaction.next + 1;
-    if !may_enter(blocks, next) {
-        return Ok(Made::Stops(Stop::NoBlock));
-    }
     assign_and_enter(
         machine,
         blocks,
@@ -111,9 +103,9 @@ pub(crate) fn assign_parameter(
         next,
         assign.parameter,
         new,
-    )?;
+    );
     machine.set_streams(&streams);
-    Ok(Made::Step)
+    Made::Step
 }
 
 /// LOOP: a parameter of the transaction falls by one, and while it is above 0 the transaction goes to a block.
@@ -123,26 +115,23 @@ pub(crate) fn loop_back(
     tx: Tx,
     transaction: Transaction,
     l: Loop,
-) -> Result<Made, Memory>
+) -> Made
     requires active { IsActive blocks.now machine.old tx transaction }
     requires parameter { IsParameter l.parameter }
-    ensures made { IfOk result (λ made. Enters made tx.number (model.loop blocks.now tx.number transaction l) machine.old machine.new) }
-    ensures err { OnErr result (state_of machine.new ≡ state_of machine.old) }
+    requires set { IsSome (parameter_at tx.number l.parameter (state_of machine.old).transactions) }
+    requires falls { MayLead blocks.now (transaction.next + 1) }
+    requires goes { MayLead blocks.now l.target }
+    ensures made { Enters result tx.number (model.loop blocks.now tx.number transaction l) machine.old machine.new }
     ensures linked { Linked machine.new }
 {
-    let Some(old) = machine.transactions.parameter(tx, l.parameter) else {
-        return Ok(Made::Stops(Stop::UnsetParam));
-    };
+    let old = machine.transactions.parameters(tx).get(l.parameter);
     let left = match sub(old, 1) {
         Ok(left) => left,
-        Err(fault) => return Ok(Made::Ends(end_by_fault(fault))),
+        Err(fault) => return Made::Ends(end_by_fault(fault)),
     };
     let next = looped(transaction.next, l.target, left);
-    if !may_enter(blocks, next) {
-        return Ok(Made::Stops(Stop::NoBlock));
-    }
-    assign_and_enter(machine, blocks, tx, transaction, next, l.parameter, left)?;
-    Ok(Made::Step)
+    assign_and_enter(machine, blocks, tx, transaction, next, l.parameter, left);
+    Made::Step
 }
 
 // MARK TIMES
@@ -154,13 +143,11 @@ pub(crate) fn mark(
     tx: Tx,
     transaction: Transaction,
 ) -> Made
-    requires { IsActive blocks.now machine.old tx transaction }
+    requires active { IsActive blocks.now machine.old tx transaction }
+    requires leads { MayLead blocks.now (transaction.next + 1) }
     ensures made { Enters result tx.number (model.mark blocks.now tx.number transaction None) machine.old machine.new }
     ensures linked { Linked machine.new }
 {
-    if !may_enter(blocks, transaction.next + 1) {
-        return Made::Stops(Stop::NoBlock);
-    }
     machine.enter_marked(tx, transaction);
     Made::Step
 }
@@ -172,21 +159,18 @@ pub(crate) fn mark_parameter(
     tx: Tx,
     transaction: Transaction,
     parameter: u8,
-) -> Result<Made, Memory>
+) -> Made
     requires active { IsActive blocks.now machine.old tx transaction }
     requires parameter { IsParameter parameter }
-    ensures made { IfOk result (λ made. Enters made tx.number
-        (model.mark blocks.now tx.number transaction (Some parameter)) machine.old machine.new) }
-    ensures err { OnErr result (state_of machine.new ≡ state_of machine.old) }
+    requires leads { MayLead blocks.now (transaction.next + 1) }
+    ensures made { Enters result tx.number
+        (model.mark blocks.now tx.number transaction (Some parameter)) machine.old machine.new }
     ensures linked { Linked machine.new }
 {
     let next = transaction.next + 1;
-    if !may_enter(blocks, next) {
-        return Ok(Made::Stops(Stop::NoBlock));
-    }
     let clock = machine.clock;
-    assign_and_enter(machine, blocks, tx, transaction, next, parameter, clock)?;
-    Ok(Made::Step)
+    assign_and_enter(machine, blocks, tx, transaction, next, parameter, clock);
+    Made::Step
 }
 
 // PLUS
@@ -199,16 +183,14 @@ fn pass_with(
     transaction: Transaction,
     streams: &[Stream; 16],
 ) -> Made
-    requires { IsActive blocks.now machine.old tx transaction }
+    requires active { IsActive blocks.now machine.old tx transaction }
+    requires leads { MayLead blocks.now (transaction.next + 1) }
     ensures made { Enters result tx.number
         (λ s. model.transfer blocks.now tx.number transaction (transaction.next + 1) (state.with_streams streams.now s))
         machine.old machine.new }
     ensures linked { Linked machine.new }
 {
     let next = transaction.next + 1;
-    if !may_enter(blocks, next) {
-        return Made::Stops(Stop::NoBlock);
-    }
     machine.set_streams(streams);
     machine.enter(tx, transaction, next);
     Made::Step
@@ -223,22 +205,19 @@ fn take_value(
     parameter: u8,
     value: i64,
     streams: &[Stream; 16],
-) -> Result<Made, Memory>
+) -> Made
     requires active { IsActive blocks.now machine.old tx transaction }
     requires parameter { IsParameter parameter }
-    ensures made { IfOk result (λ made. Enters made tx.number
+    requires leads { MayLead blocks.now (transaction.next + 1) }
+    ensures made { Enters result tx.number
         (λ s. model.plus blocks.now tx.number transaction (Some parameter) value (state.with_streams streams.now s))
-        machine.old machine.new) }
-    ensures err { OnErr result (state_of machine.new ≡ state_of machine.old) }
+        machine.old machine.new }
     ensures linked { Linked machine.new }
 {
     let next = transaction.next + 1;
-    if !may_enter(blocks, next) {
-        return Ok(Made::Stops(Stop::NoBlock));
-    }
-    assign_and_enter(machine, blocks, tx, transaction, next, parameter, value)?;
+    assign_and_enter(machine, blocks, tx, transaction, next, parameter, value);
     machine.set_streams(streams);
-    Ok(Made::Step)
+    Made::Step
 }
 
 /// PLUS: an expression is evaluated, and its value is a parameter's from now on, if one takes it.
@@ -249,25 +228,25 @@ pub(crate) fn plus(
     tx: Tx,
     transaction: Transaction,
     plus: Plus,
-) -> Result<Made, Memory>
+) -> Made
     requires active { IsActive verified.now.blocks machine.old tx transaction }
     requires own { IsOf verified.now machine.old }
     requires parameter { IfSome plus.parameter IsParameter }
     requires operands { MayEvaluate verified.now (environment_of tx.number transaction (state_of machine.old)) plus.value }
-    ensures made { IfOk result (λ made. MakesFrom made
-        (model.act verified.now tx.number transaction (Block.Plus plus)) machine.old machine.new) }
-    ensures err { OnErr result (state_of machine.new ≡ state_of machine.old) }
+    requires leads { MayLead verified.now.blocks (transaction.next + 1) }
+    ensures made { MakesFrom result
+        (model.act verified.now tx.number transaction (Block.Plus plus)) machine.old machine.new }
     ensures linked { Linked machine.new }
 {
     let mut streams = machine.streams;
     let subject = active_subject(tx, transaction);
     let value = match machine.value(verified, subject, plus.value, &mut streams) {
         Ok(value) => value,
-        Err(end) => return Ok(Made::Ends(end_by(end))),
+        Err(end) => return Made::Ends(end_by(end)),
     };
     let blocks = blocks_of(verified);
     match plus.parameter {
-        None => Ok(pass_with(machine, blocks, tx, transaction, &streams)),
+        None => pass_with(machine, blocks, tx, transaction, &streams),
         Some(p) => take_value(machine, blocks, tx, transaction, p, value, &streams),
     }
 }
@@ -284,12 +263,10 @@ pub(crate) fn logic(
 ) -> Made
     requires active { IsActive blocks.now machine.old tx transaction }
     requires there { logic.switch < length machine.old.facilities.facilities }
+    requires leads { MayLead blocks.now (transaction.next + 1) }
     ensures made { Enters result tx.number (model.logic blocks.now tx.number transaction logic) machine.old machine.new }
     ensures linked { Linked machine.new }
 {
-    if !may_enter(blocks, transaction.next + 1) {
-        return Made::Stops(Stop::NoBlock);
-    }
     machine.turn_switch(logic);
     machine.enter(tx, transaction, transaction.next + 1);
     Made::Step
@@ -308,6 +285,7 @@ pub(crate) fn save(
     requires own { IsOf verified.now machine.old }
     requires there { save.savevalue < length machine.old.facilities.facilities }
     requires operands { MayEvaluate verified.now (environment_of tx.number transaction (state_of machine.old)) save.value }
+    requires leads { MayLead verified.now.blocks (transaction.next + 1) }
     ensures made { MakesFrom result (model.act verified.now tx.number transaction (Block.Savevalue save)) machine.old machine.new }
     ensures linked { Linked machine.new }
 {
@@ -321,9 +299,6 @@ pub(crate) fn save(
         Ok(new) => new,
         Err(fault) => return Made::Ends(end_by_fault(fault)),
     };
-    if !may_enter(blocks_of(verified), transaction.next + 1) {
-        return Made::Stops(Stop::NoBlock);
-    }
     machine.set_streams(&streams);
     machine.set_savevalue(save.savevalue, new);
     machine.enter(tx, transaction, transaction.next + 1);
@@ -331,18 +306,6 @@ pub(crate) fn save(
 }
 
 // TABLES
-
-/// A TABULATE that leads nowhere: a fault of arithmetic comes before the error stop.
-fn tabulate_nowhere(machine: &Machine, table: u16, value: i64) -> Made
-    requires { table < length machine.now.tables }
-    ensures { Makes result (leads_nowhere (tabulating value (table_at table machine.now.tables)))
-        (state_of machine.now) (state_of machine.now) }
-{
-    match add(machine.tables.get(table).sum(), value) {
-        Ok(_) => Made::Stops(Stop::NoBlock),
-        Err(fault) => Made::Ends(end_by_fault(fault)),
-    }
-}
 
 /// A TABULATE whose value is known, with the streams here: the value is entered into the table, and the transaction enters.
 fn enter_value(
@@ -356,13 +319,11 @@ fn enter_value(
 ) -> Made
     requires active { IsActive blocks.now machine.old tx transaction }
     requires there { table < length machine.old.facilities.facilities }
+    requires leads { MayLead blocks.now (transaction.next + 1) }
     ensures made { Enters result tx.number
         (λ s. model.tabulate blocks.now tx.number transaction table value (state.with_streams streams.now s)) machine.old machine.new }
     ensures linked { Linked machine.new }
 {
-    if !may_enter(blocks, transaction.next + 1) {
-        return tabulate_nowhere(machine, table, value);
-    }
     match machine.tabulate(table, value) {
         Ok(()) => machine.enter(tx, transaction, transaction.next + 1),
         Err(fault) => return Made::Ends(end_by_fault(fault)),
@@ -383,17 +344,16 @@ pub(crate) fn tabulate(
     requires active { IsActive verified.now.blocks machine.old tx transaction }
     requires own { IsOf verified.now machine.old }
     requires there { table < length machine.old.facilities.facilities }
-    requires argument { IfSome (operand_at verified.now.entities table)
+    requires argument { IsSomeAnd (operand_at verified.now.entities table)
         (MayEvaluate verified.now (environment_of tx.number transaction (state_of machine.old))) }
+    requires leads { MayLead verified.now.blocks (transaction.next + 1) }
     ensures made { MakesFrom result (model.act verified.now tx.number transaction (Block.Tabulate table)) machine.old machine.new }
     ensures linked { Linked machine.new }
 {
     let mut streams = machine.streams;
     let subject = active_subject(tx, transaction);
     let entities = verified.object().parts().entities.as_slice();
-    let Some(argument) = operand_at(entities, table) else {
-        return Made::Stops(Stop::UnsetParam);
-    };
+    let argument = operand_at(entities, table).unwrap();
     match machine.value(verified, subject, argument, &mut streams) {
         Ok(value) => {
             let blocks = blocks_of(verified);

@@ -1,7 +1,6 @@
 //! What the active transaction does at its next block.
 
-ghost use Rattle.std.specs.Prelude.{◌≡◌, ◌≤◌, ◌<◌, ◌+◌, pos, ◌≤ℤ◌, [], true, length, OnOk, OnErr, IfOk};
-ghost use Rattle.gw_kinds.specs.Kinds.{block_at};
+ghost use Rattle.std.specs.Prelude.{◌≡◌, ◌≤◌, ◌<◌, ◌+◌, pos, ◌≤ℤ◌, [], true, false, length, OnOk, OnErr, IfOk};
 ghost use Rattle.gw_num.specs.Table.{at};
 ghost use Rattle.gw_step.specs.State as state;
 ghost use Rattle.gw_step.specs.Changes as change;
@@ -10,7 +9,8 @@ ghost use Rattle.gw_step.specs.Placing.{placed};
 ghost use Rattle.gw_machine.specs.View.{state_of};
 ghost use Rattle.gw_step.specs.Operands.{OperandsFit, UnitsFit, MayEvaluate, MayDraw, MayMeet};
 ghost use Rattle.gw_step.specs.Times.{environment_of, environment_of_next};
-ghost use Rattle.gw_entities.specs.Facility.{is_idle as is_idle_now};
+ghost use Rattle.gw_step.specs.Asks.{MayLead, Asks, Leads};
+ghost use Rattle.gw_entities.specs.Facility.{is_idle as is_idle_now, is_owned_by, owns_any};
 ghost use Rattle.gw_machine.specs.Coherence.{Linked, CanBePlaced, IsOf, IsActive, IsPassing};
 ghost use Rattle.gw_scan.specs.Makes.{MakesFrom, Enters};
 
@@ -22,8 +22,7 @@ use crate::passing::{buffer, set_priority};
 use crate::subroutines::{call_subroutine, come_back};
 use gw_blocks::{Block, Fraction, Generate, Operand, Spread, Units};
 use gw_chains::{Memory, Tx};
-use gw_entities::Stop;
-use gw_machine::{Machine, Made, active_subject, block_of, drawn_thousandths, end_by};
+use gw_machine::{Machine, Made, active_subject, drawn_thousandths, end_by};
 use gw_num::Stream;
 use gw_step::{End, Placement};
 use gw_transactions::Transaction;
@@ -34,17 +33,6 @@ pub(crate) fn blocks_of(verified: &Verified) -> &[Block]
     ensures { result.now ≡ verified.now.blocks }
 {
     verified.object().parts().blocks.as_slice()
-}
-
-/// Whether a move may lead to the block of this number: it exists and isn't GENERATE.
-pub(crate) fn may_enter(blocks: &[Block], number: u16) -> bool
-    ensures { result ≡ state.may_enter (block_at blocks.now number) }
-{
-    match block_of(blocks, number) {
-        None => false,
-        Some(Block::Generate(_)) => false,
-        Some(_) => true,
-    }
 }
 
 /// Where a TRANSFER by fraction, the block of this number, leads to when so many thousandths are drawn.
@@ -89,9 +77,9 @@ fn generate_and_arrive(
     ensures err { OnErr result (state_of machine.new ≡ state_of machine.old) }
     ensures linked { Linked machine.new }
 {
-    machine.reserve_arrival()?;
+    let parameters = machine.reserve_arrival()?;
     machine.set_streams(streams);
-    machine.arrive(transaction.next, priority, moment);
+    machine.arrive(transaction.next, priority, moment, parameters);
     machine.enter_marked(tx, transaction);
     Ok(())
 }
@@ -107,6 +95,7 @@ fn generate(
     requires active { IsActive verified.now.blocks machine.old tx transaction }
     requires own { IsOf verified.now machine.old }
     requires operands { MayDraw verified.now (environment_of_next g.priority (state_of machine.old)) g.interval }
+    requires leads { MayLead verified.now.blocks (transaction.next + 1) }
     ensures made { IfOk result (λ made. Enters made tx.number
         (model.generate verified.now tx.number transaction g) machine.old machine.new) }
     ensures err { OnErr result (state_of machine.new ≡ state_of machine.old) }
@@ -123,9 +112,6 @@ fn generate(
     };
     if !machine.may_live(1) {
         return Ok(Made::Ends(End::Live));
-    }
-    if !may_enter(blocks_of(verified), transaction.next + 1) {
-        return Ok(Made::Stops(Stop::NoBlock));
     }
     generate_and_arrive(
         machine,
@@ -205,6 +191,7 @@ fn advance(
     requires active { IsActive verified.now.blocks machine.old tx transaction }
     requires own { IsOf verified.now machine.old }
     requires operands { MayDraw verified.now (environment_of tx.number transaction (state_of machine.old)) time }
+    requires leads { MayLead verified.now.blocks (transaction.next + 1) }
     ensures made { IfOk result (λ made. MakesFrom made
         (model.act verified.now tx.number transaction (Block.Advance time)) machine.old machine.new) }
     ensures err { OnErr result (state_of machine.new ≡ state_of machine.old) }
@@ -216,9 +203,6 @@ fn advance(
         Ok(moment) => moment,
         Err(end) => return Ok(Made::Ends(end)),
     };
-    if !may_enter(blocks_of(verified), transaction.next + 1) {
-        return Ok(Made::Stops(Stop::NoBlock));
-    }
     pass_to(
         machine,
         blocks_of(verified),
@@ -233,7 +217,7 @@ fn advance(
 // FACILITIES
 
 /// SEIZE: the transaction owns an idle facility from now on, and waits for one that another owns.
-#[tactic(auto, unfolding(gw_step::specs::Blocks::effect))]
+#[tactic(auto, unfolding(gw_step::specs::Blocks::effect), using(crate::proofs::Taking::seizes))]
 fn seize(
     machine: &mut Machine,
     verified: &Verified,
@@ -243,6 +227,8 @@ fn seize(
 ) -> Result<Made, Memory>
     requires active { IsActive verified.now.blocks machine.old tx transaction }
     requires there { f < length machine.old.facilities.facilities }
+    requires other { is_owned_by tx.number (change.facility f (state_of machine.old)) ≡ false }
+    requires leads { MayLead verified.now.blocks (transaction.next + 1) }
     ensures made { IfOk result (λ made. MakesFrom made
         (model.meets verified.now tx.number transaction (Block.Seize f) []) machine.old machine.new) }
     ensures err { OnErr result (state_of machine.new ≡ state_of machine.old) }
@@ -252,13 +238,8 @@ fn seize(
         machine.wait_for(f, tx, transaction.priority)?;
         return Ok(Made::Step);
     }
-    if !may_enter(blocks_of(verified), transaction.next + 1) {
-        return Ok(Made::Stops(Stop::NoBlock));
-    }
-    match machine.seize_facility(f, tx.number) {
-        Ok(_) => machine.enter(tx, transaction, transaction.next + 1),
-        Err(stop) => return Ok(Made::Stops(stop)),
-    }
+    machine.seize_facility(f, tx.number);
+    machine.enter(tx, transaction, transaction.next + 1);
     Ok(Made::Step)
 }
 
@@ -292,25 +273,22 @@ fn release(
 ) -> Result<Made, Memory>
     requires active { IsActive blocks.now machine.old tx transaction }
     requires there { f < length machine.old.facilities.facilities }
+    requires owner { is_owned_by tx.number (change.facility f (state_of machine.old)) ≡ true }
+    requires leads { MayLead blocks.now (transaction.next + 1) }
     ensures made { IfOk result (λ made. Enters made tx.number (model.release blocks.now tx.number transaction f) machine.old machine.new) }
     ensures err { OnErr result (state_of machine.new ≡ state_of machine.old) }
     ensures linked { Linked machine.new }
 {
-    if !may_enter(blocks, transaction.next + 1) {
-        return Ok(Made::Stops(Stop::NoBlock));
-    }
     machine.reserve_current(1)?;
-    match machine.release_facility(f, tx.number) {
-        Ok(()) => pass_and_hand_over(machine, blocks, tx, transaction, f),
-        Err(stop) => return Ok(Made::Stops(stop)),
-    }
+    machine.release_facility(f, tx.number);
+    pass_and_hand_over(machine, blocks, tx, transaction, f);
     Ok(Made::Step)
 }
 
 // STORAGES
 
 /// ENTER: units are taken where they are free; else the transaction waits.
-#[tactic(auto, unfolding(gw_step::specs::Blocks::effect))]
+#[tactic(auto, unfolding(gw_step::specs::Blocks::effect), using(crate::proofs::Taking::enters))]
 fn enter_storage(
     machine: &mut Machine,
     verified: &Verified,
@@ -320,6 +298,8 @@ fn enter_storage(
 ) -> Result<Made, Memory>
     requires active { IsActive verified.now.blocks machine.old tx transaction }
     requires units { UnitsFit (length machine.old.facilities.facilities) u }
+    requires whole { u.number ≤ (change.storage u.entity (state_of machine.old)).capacity }
+    requires leads { MayLead verified.now.blocks (transaction.next + 1) }
     ensures made { IfOk result (λ made. MakesFrom made
         (model.meets verified.now tx.number transaction (Block.Enter u) []) machine.old machine.new) }
     ensures err { OnErr result (state_of machine.new ≡ state_of machine.old) }
@@ -329,13 +309,8 @@ fn enter_storage(
         machine.wait_for(u.entity, tx, transaction.priority)?;
         return Ok(Made::Step);
     }
-    if !may_enter(blocks_of(verified), transaction.next + 1) {
-        return Ok(Made::Stops(Stop::NoBlock));
-    }
-    match machine.take(u) {
-        Ok(_) => machine.enter(tx, transaction, transaction.next + 1),
-        Err(stop) => return Ok(Made::Stops(stop)),
-    }
+    machine.take(u);
+    machine.enter(tx, transaction, transaction.next + 1);
     Ok(Made::Step)
 }
 
@@ -362,19 +337,16 @@ fn leave(
 ) -> Result<Made, Memory>
     requires active { IsActive blocks.now machine.old tx transaction }
     requires units { UnitsFit (length machine.old.facilities.facilities) u }
+    requires inside { u.number ≤ (change.storage u.entity (state_of machine.old)).contents.content }
+    requires leads { MayLead blocks.now (transaction.next + 1) }
     ensures made { IfOk result (λ made. Enters made tx.number (model.leave blocks.now tx.number transaction u) machine.old machine.new) }
     ensures err { OnErr result (state_of machine.new ≡ state_of machine.old) }
     ensures linked { Linked machine.new }
 {
-    if !may_enter(blocks, transaction.next + 1) {
-        return Ok(Made::Stops(Stop::NoBlock));
-    }
     let waiting = machine.waiting(u.entity);
     machine.reserve_current(waiting)?;
-    match machine.give_back(u) {
-        Ok(()) => pass_and_admit(machine, blocks, tx, transaction, u.entity),
-        Err(stop) => return Ok(Made::Stops(stop)),
-    }
+    machine.give_back(u);
+    pass_and_admit(machine, blocks, tx, transaction, u.entity);
     Ok(Made::Step)
 }
 
@@ -390,12 +362,10 @@ fn join_queue(
 ) -> Made
     requires active { IsActive blocks.now machine.old tx transaction }
     requires units { UnitsFit (length machine.old.facilities.facilities) u }
+    requires leads { MayLead blocks.now (transaction.next + 1) }
     ensures made { Enters result tx.number (model.join_queue blocks.now tx.number transaction u) machine.old machine.new }
     ensures linked { Linked machine.new }
 {
-    if !may_enter(blocks, transaction.next + 1) {
-        return Made::Stops(Stop::NoBlock);
-    }
     machine.join(u);
     machine.enter(tx, transaction, transaction.next + 1);
     Made::Step
@@ -411,16 +381,13 @@ fn depart(
 ) -> Made
     requires active { IsActive blocks.now machine.old tx transaction }
     requires units { UnitsFit (length machine.old.facilities.facilities) u }
+    requires inside { u.number ≤ (change.queue u.entity (state_of machine.old)).content }
+    requires leads { MayLead blocks.now (transaction.next + 1) }
     ensures made { Enters result tx.number (model.depart blocks.now tx.number transaction u) machine.old machine.new }
     ensures linked { Linked machine.new }
 {
-    if !may_enter(blocks, transaction.next + 1) {
-        return Made::Stops(Stop::NoBlock);
-    }
-    match machine.depart_units(u) {
-        Ok(()) => machine.enter(tx, transaction, transaction.next + 1),
-        Err(stop) => return Made::Stops(stop),
-    }
+    machine.depart_units(u);
+    machine.enter(tx, transaction, transaction.next + 1);
     Made::Step
 }
 
@@ -434,20 +401,18 @@ pub(crate) fn transfer(
     transaction: Transaction,
     target: u16,
 ) -> Made
-    requires { IsActive blocks.now machine.old tx transaction }
+    requires active { IsActive blocks.now machine.old tx transaction }
+    requires leads { MayLead blocks.now target }
     ensures made { Enters result tx.number (model.transfer blocks.now tx.number transaction target) machine.old machine.new }
     ensures linked { Linked machine.new }
 {
-    if !may_enter(blocks, target) {
-        return Made::Stops(Stop::NoBlock);
-    }
     machine.enter(tx, transaction, target);
     Made::Step
 }
 
 /// TRANSFER in fractional mode: thousandths are drawn from the first stream, and the transaction goes to one block or
 /// the other.
-#[tactic(auto, unfolding(gw_step::specs::Blocks::act, gw_step::specs::Blocks::effect))]
+#[tactic(auto, unfolding(gw_step::specs::Blocks::act, gw_step::specs::Blocks::effect), using(crate::proofs::Leading::chosen_leads))]
 fn transfer_by_fraction(
     machine: &mut Machine,
     verified: &Verified,
@@ -455,7 +420,8 @@ fn transfer_by_fraction(
     transaction: Transaction,
     fraction: Fraction,
 ) -> Made
-    requires { IsActive verified.now.blocks machine.old tx transaction }
+    requires active { IsActive verified.now.blocks machine.old tx transaction }
+    requires leads { Leads verified.now.blocks transaction.next (Block.TransferByFraction fraction) }
     ensures made { MakesFrom result
         (model.act verified.now tx.number transaction (Block.TransferByFraction fraction)) machine.old machine.new }
     ensures linked { Linked machine.new }
@@ -463,9 +429,6 @@ fn transfer_by_fraction(
     let mut streams = machine.streams;
     let drawn = drawn_thousandths(1, &mut streams);
     let target = chosen(transaction.next, fraction, drawn);
-    if !may_enter(blocks_of(verified), target) {
-        return Made::Stops(Stop::NoBlock);
-    }
     machine.set_streams(&streams);
     machine.enter(tx, transaction, target);
     Made::Step
@@ -511,6 +474,7 @@ fn terminate(
     requires active { IsActive verified.now.blocks machine.old tx transaction }
     requires own { IsOf verified.now machine.old }
     requires operands { MayEvaluate verified.now (environment_of tx.number transaction (state_of machine.old)) by }
+    requires nothing { owns_any tx.number machine.old.facilities.facilities ≡ false }
     ensures made { IfOk result (λ made. MakesFrom made
         (model.act verified.now tx.number transaction (Block.Terminate by)) machine.old machine.new) }
     ensures err { OnErr result (state_of machine.new ≡ state_of machine.old) }
@@ -524,9 +488,6 @@ fn terminate(
     };
     if by < 0 {
         return Ok(Made::Ends(End::Number));
-    }
-    if machine.facilities.owns_any(tx.number) {
-        return Ok(Made::Stops(Stop::OwnsAtEnd));
     }
     pass_and_leave(machine, verified, tx, transaction, by, &streams)?;
     Ok(Made::Step)
@@ -547,6 +508,8 @@ pub(crate) fn act(
     requires own { IsOf verified.now machine.old }
     requires meet { MayMeet verified.now (state_of machine.old) tx.number transaction block }
     requires operands { OperandsFit (length machine.old.facilities.facilities) block }
+    requires asks { Asks verified.now tx.number (state_of machine.old) block }
+    requires leads { Leads verified.now.blocks transaction.next block }
     ensures made { IfOk result (λ made. MakesFrom made (model.act verified.now tx.number transaction block) machine.old machine.new) }
     ensures err { OnErr result (state_of machine.new ≡ state_of machine.old) }
     ensures linked { Linked machine.new }
@@ -565,11 +528,11 @@ pub(crate) fn act(
         Block::Test(test) => conditions::test(machine, verified, tx, transaction, test),
         Block::Gate(gate) => conditions::gate(machine, verified, tx, transaction, gate),
         Block::Transfer(target) => Ok(transfer(machine, blocks, tx, transaction, target)),
-        Block::TransferToSubroutine(c) => call_subroutine(machine, blocks, tx, transaction, c),
+        Block::TransferToSubroutine(c) => Ok(call_subroutine(machine, blocks, tx, transaction, c)),
         Block::TransferByParameter(p) => Ok(come_back(machine, blocks, tx, transaction, p)),
-        Block::Assign(assign) => assign_parameter(machine, verified, tx, transaction, assign),
-        Block::Plus(plus) => assigning::plus(machine, verified, tx, transaction, plus),
-        Block::Loop(l) => loop_back(machine, blocks, tx, transaction, l),
+        Block::Assign(assign) => Ok(assign_parameter(machine, verified, tx, transaction, assign)),
+        Block::Plus(plus) => Ok(assigning::plus(machine, verified, tx, transaction, plus)),
+        Block::Loop(l) => Ok(loop_back(machine, blocks, tx, transaction, l)),
         Block::Split(s) => split(machine, blocks, tx, transaction, s),
         Block::Assemble(size) => assemble(machine, blocks, tx, transaction, size),
         Block::Link(l) => link(machine, blocks, tx, transaction, l),
@@ -580,7 +543,7 @@ pub(crate) fn act(
         Block::Savevalue(save) => Ok(assigning::save(machine, verified, tx, transaction, save)),
         Block::Tabulate(table) => Ok(tabulate(machine, verified, tx, transaction, table)),
         Block::Mark(None) => Ok(mark(machine, blocks, tx, transaction)),
-        Block::Mark(Some(p)) => mark_parameter(machine, blocks, tx, transaction, p),
+        Block::Mark(Some(p)) => Ok(mark_parameter(machine, blocks, tx, transaction, p)),
         Block::TransferByFraction(fraction) => {
             Ok(transfer_by_fraction(machine, verified, tx, transaction, fraction))
         }

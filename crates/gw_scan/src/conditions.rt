@@ -1,19 +1,19 @@
 //! Blocks that let transactions pass on a condition: TEST and GATE.
 
-ghost use Rattle.std.specs.Prelude.{◌≡◌, ◌≤◌, ◌<◌, [], length, OnOk, OnErr, IfOk};
+ghost use Rattle.std.specs.Prelude.{◌≡◌, ◌≤◌, ◌<◌, ◌+◌, [], length, OnOk, OnErr, IfOk, IfSome};
 ghost use Rattle.gw_step.specs.State as state;
 ghost use Rattle.gw_step.specs.Blocks as model;
 ghost use Rattle.gw_step.specs.Placing.{placed};
+ghost use Rattle.gw_step.specs.Asks.{MayLead};
 ghost use Rattle.gw_step.specs.Operands.{MayEvaluate};
 ghost use Rattle.gw_step.specs.Times.{environment_of};
 ghost use Rattle.gw_machine.specs.View.{state_of};
 ghost use Rattle.gw_machine.specs.Coherence.{Linked, IsOf, IsActive};
 ghost use Rattle.gw_scan.specs.Makes.{MakesFrom, passes_or_retries};
 
-use crate::blocks::{blocks_of, may_enter};
+use crate::blocks::blocks_of;
 use gw_blocks::{Block, Comparison, Gate, Test};
 use gw_chains::{Memory, Tx};
-use gw_entities::Stop;
 use gw_machine::{Machine, Made, active_subject, end_by};
 use gw_num::Stream;
 use gw_step::Placement;
@@ -70,6 +70,7 @@ fn wait_to_retry(
 
 /// After draws that left the streams here, the transaction goes to the next block where it is so, else to the other one;
 /// without another one it waits.
+#[tactic(auto, using(crate::proofs::Leading::led_by_leads))]
 fn pass_or_retry(
     machine: &mut Machine,
     blocks: &[Block],
@@ -79,7 +80,9 @@ fn pass_or_retry(
     so: bool,
     streams: &[Stream; 16],
 ) -> Result<Made, Memory>
-    requires { IsActive blocks.now machine.old tx transaction }
+    requires active { IsActive blocks.now machine.old tx transaction }
+    requires leads { MayLead blocks.now (transaction.next + 1) }
+    requires leads_else { IfSome otherwise (MayLead blocks.now) }
     ensures made { IfOk result (λ made. MakesFrom made (λ s. passes_or_retries blocks.now tx.number transaction otherwise so
         (state.with_streams streams.now s)) machine.old machine.new) }
     ensures err { OnErr result (state_of machine.new ≡ state_of machine.old) }
@@ -90,9 +93,6 @@ fn pass_or_retry(
         return Ok(Made::Step);
     }
     let target = led_by(transaction.next, otherwise, so);
-    if !may_enter(blocks, target) {
-        return Ok(Made::Stops(Stop::NoBlock));
-    }
     machine.set_streams(streams);
     machine.enter(tx, transaction, target);
     Ok(Made::Step)
@@ -111,6 +111,8 @@ pub(crate) fn test(
     requires own { IsOf verified.now machine.old }
     requires left { MayEvaluate verified.now (environment_of tx.number transaction (state_of machine.old)) test.left }
     requires right { MayEvaluate verified.now (environment_of tx.number transaction (state_of machine.old)) test.right }
+    requires leads { MayLead verified.now.blocks (transaction.next + 1) }
+    requires leads_else { IfSome test.otherwise (MayLead verified.now.blocks) }
     ensures made { IfOk result (λ made. MakesFrom made
         (model.act verified.now tx.number transaction (Block.Test test)) machine.old machine.new) }
     ensures err { OnErr result (state_of machine.new ≡ state_of machine.old) }
@@ -149,6 +151,8 @@ pub(crate) fn gate(
 ) -> Result<Made, Memory>
     requires active { IsActive verified.now.blocks machine.old tx transaction }
     requires there { gate.entity < length machine.old.facilities.facilities }
+    requires leads { MayLead verified.now.blocks (transaction.next + 1) }
+    requires leads_else { IfSome gate.otherwise (MayLead verified.now.blocks) }
     ensures made { IfOk result (λ made. MakesFrom made
         (model.meets verified.now tx.number transaction (Block.Gate gate) []) machine.old machine.new) }
     ensures err { OnErr result (state_of machine.new ≡ state_of machine.old) }

@@ -1,7 +1,9 @@
 //! Blocks that make copies of transactions, and those that assemble them: SPLIT and ASSEMBLE.
 
-ghost use Rattle.std.specs.Prelude.{◌≡◌, ◌≤◌, Some, OnOk, OnErr, IfOk};
+ghost use Rattle.std.specs.Prelude.{◌≡◌, ◌≤◌, ◌+◌, Some, false, OnOk, OnErr, IfOk};
 ghost use Rattle.gw_kinds.specs.Exits.{leads_to, goes_or_falls};
+ghost use Rattle.gw_entities.specs.Facility.{owns_any};
+ghost use Rattle.gw_step.specs.Asks.{MayLead};
 ghost use Rattle.gw_step.specs.Changes as change;
 ghost use Rattle.gw_step.specs.Blocks as model;
 ghost use Rattle.gw_step.specs.Placing.{placed};
@@ -9,10 +11,9 @@ ghost use Rattle.gw_machine.specs.View.{state_of, assembly_of};
 ghost use Rattle.gw_machine.specs.Coherence.{Linked, IsActive};
 ghost use Rattle.gw_scan.specs.Makes.{Enters};
 
-use crate::blocks::{may_enter, pass_to, transfer};
+use crate::blocks::{pass_to, transfer};
 use gw_blocks::{Block, Split};
 use gw_chains::{Assembly, Memory, Tx};
-use gw_entities::Stop;
 use gw_machine::{Machine, Made};
 use gw_step::{Assembling, End, Placement};
 use gw_transactions::Transaction;
@@ -59,7 +60,9 @@ pub(crate) fn split(
     transaction: Transaction,
     split: Split,
 ) -> Result<Made, Memory>
-    requires { IsActive blocks.now machine.old tx transaction }
+    requires active { IsActive blocks.now machine.old tx transaction }
+    requires leads { MayLead blocks.now (transaction.next + 1) }
+    requires copies_lead { MayLead blocks.now (leads_to transaction.next (goes_or_falls split.target)) }
     ensures made { IfOk result (λ made. Enters made tx.number (model.split blocks.now tx.number transaction split) machine.old machine.new) }
     ensures err { OnErr result (state_of machine.new ≡ state_of machine.old) }
     ensures linked { Linked machine.new }
@@ -67,13 +70,7 @@ pub(crate) fn split(
     if !machine.may_live(split.copies) {
         return Ok(Made::Ends(End::Live));
     }
-    if !may_enter(blocks, transaction.next + 1) {
-        return Ok(Made::Stops(Stop::NoBlock));
-    }
     let target = copies_go_to(transaction.next, split);
-    if split.copies != 0 && !may_enter(blocks, target) {
-        return Ok(Made::Stops(Stop::NoBlock));
-    }
     pass_and_copy(machine, blocks, tx, transaction, split.copies, target)?;
     Ok(Made::Step)
 }
@@ -88,15 +85,13 @@ fn begin_assembly(
     transaction: Transaction,
     missing: u16,
 ) -> Result<Made, Memory>
-    requires { IsActive blocks.now machine.old tx transaction }
+    requires active { IsActive blocks.now machine.old tx transaction }
+    requires leads { MayLead blocks.now (transaction.next + 1) }
     ensures made { IfOk result (λ made. Enters made tx.number
         (model.assemble_first blocks.now tx.number transaction missing) machine.old machine.new) }
     ensures err { OnErr result (state_of machine.new ≡ state_of machine.old) }
     ensures linked { Linked machine.new }
 {
-    if !may_enter(blocks, transaction.next + 1) {
-        return Ok(Made::Stops(Stop::NoBlock));
-    }
     machine.reserve_assembly()?;
     let begins = Placement::AwaitsSet(Assembling {
         block: transaction.next,
@@ -141,14 +136,12 @@ fn come_to_assembly(
 ) -> Result<Made, Memory>
     requires active { IsActive blocks.now machine.old tx transaction }
     requires there { model.assembly_at transaction.next transaction.set (state_of machine.old) ≡ Some (assembly_of assembly) }
+    requires nothing { owns_any tx.number machine.old.facilities.facilities ≡ false }
     ensures made { IfOk result (λ made. Enters made tx.number
         (model.assemble_other tx.number transaction (assembly_of assembly)) machine.old machine.new) }
     ensures err { OnErr result (state_of machine.new ≡ state_of machine.old) }
     ensures linked { Linked machine.new }
 {
-    if machine.facilities.owns_any(tx.number) {
-        return Ok(Made::Stops(Stop::OwnsAtEnd));
-    }
     pass_and_join(machine, blocks, tx, transaction, assembly)?;
     Ok(Made::Step)
 }
@@ -161,7 +154,9 @@ pub(crate) fn assemble(
     transaction: Transaction,
     size: u16,
 ) -> Result<Made, Memory>
-    requires { IsActive blocks.now machine.old tx transaction }
+    requires active { IsActive blocks.now machine.old tx transaction }
+    requires nothing { owns_any tx.number machine.old.facilities.facilities ≡ false }
+    requires leads { MayLead blocks.now (transaction.next + 1) }
     ensures made { IfOk result (λ made. Enters made tx.number (model.assemble blocks.now tx.number transaction size) machine.old machine.new) }
     ensures err { OnErr result (state_of machine.new ≡ state_of machine.old) }
     ensures linked { Linked machine.new }

@@ -13,11 +13,10 @@ mod spec;
 mod subroutines;
 mod weight;
 
-pub use gw_entities::Stop;
 pub use gw_step::{
-    End, all_jobs_come_to_rest, ends_leave_the_rest, entries_are_within_weight, moments_pass,
-    no_job_meets_an_error_stop, parameters_suffice, slices_reach_the_same, steps_are_determined,
-    typed_states_never_get_stuck, waiters_are_not_forgotten,
+    End, all_jobs_come_to_rest, blocks_are_served, ends_leave_the_rest, entries_are_within_weight,
+    moments_pass, no_job_meets_an_error_stop, parameters_suffice, slices_reach_the_same,
+    steps_are_determined, typed_states_never_get_stuck, waiters_are_not_forgotten,
 };
 pub use sim::{Sim, Status};
 pub use spec::{Spec, StartFault};

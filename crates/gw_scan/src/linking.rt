@@ -1,16 +1,15 @@
 //! Blocks that put transactions on user chains, and those that take them from there: LINK and UNLINK.
 
-ghost use Rattle.std.specs.Prelude.{◌≡◌, ◌<◌, length, OnOk, OnErr, IfOk};
+ghost use Rattle.std.specs.Prelude.{◌≡◌, ◌<◌, ◌+◌, length, OnOk, OnErr, IfOk};
+ghost use Rattle.gw_step.specs.Asks.{MayLead};
 ghost use Rattle.gw_step.specs.Changes as change;
 ghost use Rattle.gw_step.specs.Blocks as model;
 ghost use Rattle.gw_machine.specs.View.{state_of};
 ghost use Rattle.gw_machine.specs.Coherence.{Linked, IsActive};
 ghost use Rattle.gw_scan.specs.Makes.{Enters};
 
-use crate::blocks::may_enter;
 use gw_blocks::{Block, Link, Unlink};
 use gw_chains::{Memory, Tx};
-use gw_entities::Stop;
 use gw_machine::{Machine, Made};
 use gw_step::Placement;
 use gw_transactions::Transaction;
@@ -81,17 +80,13 @@ pub(crate) fn unlink(
 ) -> Result<Made, Memory>
     requires active { IsActive blocks.now machine.old tx transaction }
     requires there { unlink.chain < length machine.old.facilities.facilities }
+    requires leads { MayLead blocks.now (transaction.next + 1) }
+    requires others_lead { MayLead blocks.now unlink.target }
     ensures made { IfOk result (λ made. Enters made tx.number (model.unlink blocks.now tx.number transaction unlink) machine.old machine.new) }
     ensures err { OnErr result (state_of machine.new ≡ state_of machine.old) }
     ensures linked { Linked machine.new }
 {
-    if !may_enter(blocks, transaction.next + 1) {
-        return Ok(Made::Stops(Stop::NoBlock));
-    }
     let count = taken_by(machine, unlink);
-    if count != 0 && !may_enter(blocks, unlink.target) {
-        return Ok(Made::Stops(Stop::NoBlock));
-    }
     pass_and_unlink(machine, blocks, tx, transaction, unlink, count)?;
     Ok(Made::Step)
 }

@@ -1,20 +1,20 @@
 //! Blocks that let other transactions go first: PRIORITY and BUFFER.
 
-ghost use Rattle.std.specs.Prelude.{◌≡◌, if◌then◌else◌, IfSome, OnOk, OnErr, IfOk, is_some};
+ghost use Rattle.std.specs.Prelude.{◌≡◌, ◌+◌, if◌then◌else◌, IfSome, OnOk, OnErr, IfOk, is_some};
 ghost use Rattle.gw_step.specs.State as state;
 ghost use Rattle.gw_step.specs.Changes as change;
 ghost use Rattle.gw_step.specs.Blocks as model;
 ghost use Rattle.gw_step.specs.Placing.{placed};
+ghost use Rattle.gw_step.specs.Asks.{MayLead};
 ghost use Rattle.gw_step.specs.Operands.{MayEvaluate};
 ghost use Rattle.gw_step.specs.Times.{environment_of};
 ghost use Rattle.gw_machine.specs.View.{state_of};
 ghost use Rattle.gw_machine.specs.Coherence.{Linked, CanBePlaced, IsOf, IsActive};
 ghost use Rattle.gw_scan.specs.Makes.{MakesFrom, Enters};
 
-use crate::blocks::{blocks_of, may_enter, pass_to, pass_with_priority};
+use crate::blocks::{blocks_of, pass_to, pass_with_priority};
 use gw_blocks::{Block, Priority};
 use gw_chains::{Memory, Tx};
-use gw_entities::Stop;
 use gw_machine::{Machine, Made, active_subject, end_by};
 use gw_num::Stream;
 use gw_step::{End, Placement};
@@ -53,6 +53,7 @@ pub(crate) fn set_priority(
     requires active { IsActive verified.now.blocks machine.old tx transaction }
     requires own { IsOf verified.now machine.old }
     requires operands { MayEvaluate verified.now (environment_of tx.number transaction (state_of machine.old)) change.value }
+    requires leads { MayLead verified.now.blocks (transaction.next + 1) }
     ensures made { IfOk result (λ made. MakesFrom made
         (model.act verified.now tx.number transaction (Block.Priority change)) machine.old machine.new) }
     ensures err { OnErr result (state_of machine.new ≡ state_of machine.old) }
@@ -68,9 +69,6 @@ pub(crate) fn set_priority(
         return Ok(Made::Ends(End::Number));
     };
     let blocks = blocks_of(verified);
-    if !may_enter(blocks, transaction.next + 1) {
-        return Ok(Made::Stops(Stop::NoBlock));
-    }
     let placement = rests(change.behind);
     pass_with_priority(
         machine,
@@ -91,14 +89,12 @@ pub(crate) fn buffer(
     tx: Tx,
     transaction: Transaction,
 ) -> Result<Made, Memory>
-    requires { IsActive blocks.now machine.old tx transaction }
+    requires active { IsActive blocks.now machine.old tx transaction }
+    requires leads { MayLead blocks.now (transaction.next + 1) }
     ensures made { IfOk result (λ made. Enters made tx.number (model.buffer blocks.now tx.number transaction) machine.old machine.new) }
     ensures err { OnErr result (state_of machine.new ≡ state_of machine.old) }
     ensures linked { Linked machine.new }
 {
-    if !may_enter(blocks, transaction.next + 1) {
-        return Ok(Made::Stops(Stop::NoBlock));
-    }
     let streams = machine.streams;
     pass_to(
         machine,

@@ -1,16 +1,16 @@
 //! The scan: who is active next, and one step.
 
-ghost use Rattle.std.specs.Prelude.{◌≡◌, ◌<◌, ◌+◌, ◌^◌, OnErr, IfOk};
+ghost use Rattle.std.specs.Prelude.{◌≡◌, ◌<◌, ◌+◌, ◌^◌, Some, OnOk, OnErr, IfOk};
 ghost use Rattle.gw_step.specs.Step as model;
 ghost use Rattle.gw_step.specs.Operands.{MayStep};
+ghost use Rattle.gw_step.specs.Asks.{IsServed};
 ghost use Rattle.gw_machine.specs.View.{state_of};
 ghost use Rattle.gw_machine.specs.Coherence.{Linked, IsOf, IsRunning};
-ghost use Rattle.gw_scan.specs.Makes.{MakesFrom, MakesStep};
+ghost use Rattle.gw_scan.specs.Makes.{MakesFrom};
 
 use crate::blocks::{act, blocks_of};
 use gw_blocks::Block;
 use gw_chains::Memory;
-use gw_entities::Stop;
 use gw_machine::{Machine, Made, block_of};
 use gw_step::End;
 use gw_verify::Verified;
@@ -41,6 +41,7 @@ fn scan(machine: &mut Machine, verified: &Verified) -> Result<Made, Memory>
     requires running { IsRunning verified.now.blocks machine.old }
     requires own { IsOf verified.now machine.old }
     requires may { MayStep verified.now (state_of machine.old) }
+    requires served { IsServed verified.now (state_of machine.old) }
     ensures made { IfOk result (λ made. MakesFrom made
         (model.scan verified.now (state_of machine.old).lists.active) machine.old machine.new) }
     ensures err { OnErr result (state_of machine.new ≡ state_of machine.old) }
@@ -51,10 +52,8 @@ fn scan(machine: &mut Machine, verified: &Verified) -> Result<Made, Memory>
         None => return next_active(machine, blocks_of(verified)),
     };
     let transaction = *machine.transactions.get(tx);
-    match block_of(blocks_of(verified), transaction.next) {
-        Some(block) => act(machine, verified, tx, transaction, block),
-        None => Ok(Made::Stops(Stop::NoBlock)),
-    }
+    let block = block_of(blocks_of(verified), transaction.next).unwrap();
+    act(machine, verified, tx, transaction, block)
 }
 
 /// One more step is counted; where it is the last of the budget, the running job ends.
@@ -79,24 +78,20 @@ fn end_by(machine: &mut Machine, end: End)
     machine.ended = Some(end);
 }
 
-/// One step of a running job, or the error stop for which it has none; nothing changes then.
-pub(crate) fn step(
-    machine: &mut Machine,
-    verified: &Verified,
-    budget: u64,
-) -> Result<Option<Stop>, Memory>
+/// One step of a running job; on Memory nothing changes.
+pub(crate) fn step(machine: &mut Machine, verified: &Verified, budget: u64) -> Result<(), Memory>
     requires running { IsRunning verified.now.blocks machine.old }
     requires own { IsOf verified.now machine.old }
     requires may { MayStep verified.now (state_of machine.old) }
     requires runs { (machine.old.ended ≡ None) × (machine.old.steps < 2 ^ 60) }
-    ensures made { IfOk result (λ stop. MakesStep stop verified.now budget (state_of machine.old) (state_of machine.new)) }
+    requires served { IsServed verified.now (state_of machine.old) }
+    ensures made { OnOk result (model.step verified.now budget (state_of machine.old) ≡ Some (state_of machine.new)) }
     ensures err { OnErr result (state_of machine.new ≡ state_of machine.old) }
     ensures linked { Linked machine.new }
 {
     match scan(machine, verified)? {
         Made::Step => count_step(machine, budget),
         Made::Ends(end) => end_by(machine, end),
-        Made::Stops(stop) => return Ok(Some(stop)),
     }
-    Ok(None)
+    Ok(())
 }

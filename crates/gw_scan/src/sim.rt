@@ -1,6 +1,6 @@
 //! One job.
 
-ghost use Rattle.std.specs.Prelude.{◌≡◌, ◌≤◌, ◌<◌, pos, length, sum, IfOk, IfErr, IsOk, OnErr};
+ghost use Rattle.std.specs.Prelude.{◌≡◌, ◌≤◌, ◌<◌, pos, Some, length, sum, IfOk, IfErr, IsOk, OnErr};
 ghost use Rattle.gw_num.specs.Table.{at};
 ghost use Rattle.gw_transactions.specs.Transactions.{here_count};
 ghost use Rattle.gw_step.specs.State.{delay_list, user_chain};
@@ -11,7 +11,7 @@ use crate::scan::step;
 use crate::spec::{Spec, StartFault};
 use crate::weight::certified_weight;
 use gw_chains::Memory;
-use gw_entities::{Facilities, Queues, Savevalues, Stop, Storages, Switches, Tables};
+use gw_entities::{Facilities, Queues, Savevalues, Storages, Switches, Tables};
 use gw_machine::Machine;
 use gw_step::End;
 use std::alloc::Global;
@@ -24,8 +24,6 @@ pub enum Status {
     Running,
     /// A named end stands.
     Ended(End),
-    /// It met an error stop: no named end stands, and it has no further step.
-    Stopped(Stop),
 }
 
 /// A job and its state, which is the one that the job's lone run has after as many steps.
@@ -49,13 +47,13 @@ impl Model for Sim {
 
 impl Sim {
     ghost use Rattle.gw_step.specs.Job.{IsReached};
-    ghost use Rattle.gw_scan.specs.Answers.{Answers, status_at};
+    ghost use Rattle.gw_scan.specs.Answers.{Answers, StaysPaid, status_at};
 
     /// A job before its first step: at clock 0, with one arrival scheduled for each GENERATE block; or with a named end to
     /// which a first arrival came, and nothing scheduled (docs/machine.md). Only want of memory refuses it, as `Memory`,
     /// and hands the spec back.
     pub fn start(alloc: Global, spec: Spec) -> Result<Sim, (Spec, StartFault)>
-        ensures started { IfOk result (λ sim. (sim.job ≡ spec) × (sim.state ≡ start_of spec)) }
+        ensures started { IfOk result (λ sim. (sim.job ≡ spec) × (start_of spec ≡ Some sim.state)) }
         ensures refused { IfErr result (λ e. (e.0 ≡ spec) × (e.1 ≡ StartFault.Memory)) }
     {
         match Machine::start(alloc, spec.verified(), spec.count(), spec.streams()) {
@@ -65,27 +63,28 @@ impl Sim {
     }
 
     /// Makes one step, and answers how the job stands then. On an ended job nothing changes, and its end is answered; that
-    /// takes no memory. Where the job is stuck nothing changes, and the error stop is answered. On `Memory` nothing
-    /// changes, and the step may be tried again.
+    /// takes no memory. A running job always has a step. On `Memory` nothing changes, and the step may be tried again.
+    ///
+    /// While the clock stands, what the state weighs and the entries made so far are together at most what they were.
     pub fn step(&mut self) -> Result<Status, Memory>
         ensures job { self.new.job ≡ self.old.job }
         ensures made { IfOk result (λ status. Answers status self.old.job self.old.state self.new.state) }
         ensures err { OnErr result (self.new.state ≡ self.old.state) }
         ensures ended { IsFinal self.old.state → IsOk result }
         ensures alone { Alone self.new.job self.new.state.steps self.new.state }
+        ensures reached { IsReached self.new }
+        ensures moment { StaysPaid self.old self.new }
     {
         if let Some(end) = self.machine.ended {
             return Ok(Status::Ended(end));
         }
         let verified = self.spec.verified();
         let budget = self.spec.budget();
-        match step(&mut self.machine, verified, budget)? {
-            Some(stop) => Ok(Status::Stopped(stop)),
-            None => Ok(self.status()),
-        }
+        step(&mut self.machine, verified, budget)?;
+        Ok(self.status())
     }
 
-    /// Running, or the named end that stands. It doesn't tell whether the job is stuck: `step` does.
+    /// Running, or the named end that stands. A running job has a further step.
     pub fn status(&self) -> Status
         ensures value { result ≡ status_at self.now.state.ended }
         ensures reached { IsReached self.now }

@@ -1,26 +1,27 @@
 //! Subroutines: transfers to them, and back from them.
 
-ghost use Rattle.std.specs.Prelude.{◌≡◌, ◌<◌, ◌⊎◌, MatchOption, OnErr, IfOk};
+ghost use Rattle.std.specs.Prelude.{◌≡◌, ◌≤◌};
 ghost use Rattle.gw_step.specs.Blocks as model;
+ghost use Rattle.gw_step.specs.Asks.{MayLead, IsReturn};
 ghost use Rattle.gw_step.specs.Operands.{IsParameter};
+ghost use Rattle.gw_transactions.specs.Transactions.{parameter_at};
 ghost use Rattle.gw_machine.specs.View.{state_of};
 ghost use Rattle.gw_machine.specs.Coherence.{Linked, IsActive};
 ghost use Rattle.gw_scan.specs.Makes.{Enters};
 
 use crate::assigning::assign_and_enter;
-use crate::blocks::{may_enter, transfer};
+use crate::blocks::transfer;
 use gw_blocks::{Block, Call};
-use gw_chains::{Memory, Tx};
-use gw_entities::Stop;
+use gw_chains::Tx;
 use gw_machine::{Machine, Made};
 use gw_transactions::Transaction;
 
-/// The number of the block after the one whose number a value is, if a block may have it.
-fn block_after(value: i64) -> Option<u16>
-    ensures { MatchOption result ((model.block_after value ≡ 0) ⊎ (65535 < model.block_after value))
-        (λ number. number ≡ model.block_after value) }
+/// The number of the block after the one whose number a value is.
+fn block_after(value: i64) -> u16
+    requires { (1 ≤ model.block_after value) × (model.block_after value ≤ 4096) }
+    ensures { result ≡ model.block_after value }
 {
-    u16::try_from(value).ok()?.checked_add(1)
+    (value + 1) as u16
 }
 
 /// TRANSFER in subroutine mode: a parameter of the transaction is set to the number of the block, and the transaction
@@ -31,16 +32,13 @@ pub(crate) fn call_subroutine(
     tx: Tx,
     transaction: Transaction,
     call: Call,
-) -> Result<Made, Memory>
+) -> Made
     requires active { IsActive blocks.now machine.old tx transaction }
     requires parameter { IsParameter call.parameter }
-    ensures made { IfOk result (λ made. Enters made tx.number (model.call blocks.now tx.number transaction call) machine.old machine.new) }
-    ensures err { OnErr result (state_of machine.new ≡ state_of machine.old) }
+    requires leads { MayLead blocks.now call.target }
+    ensures made { Enters result tx.number (model.call blocks.now tx.number transaction call) machine.old machine.new }
     ensures linked { Linked machine.new }
 {
-    if !may_enter(blocks, call.target) {
-        return Ok(Made::Stops(Stop::NoBlock));
-    }
     let number = i64::from(transaction.next);
     assign_and_enter(
         machine,
@@ -50,8 +48,8 @@ pub(crate) fn call_subroutine(
         call.target,
         call.parameter,
         number,
-    )?;
-    Ok(Made::Step)
+    );
+    Made::Step
 }
 
 /// TRANSFER in parameter mode: the transaction goes to the block after the one whose number is in a parameter of it.
@@ -62,15 +60,12 @@ pub(crate) fn come_back(
     transaction: Transaction,
     parameter: u8,
 ) -> Made
-    requires { IsActive blocks.now machine.old tx transaction }
+    requires active { IsActive blocks.now machine.old tx transaction }
+    requires parameter { IsParameter parameter }
+    requires set { IsReturn blocks.now (parameter_at tx.number parameter (state_of machine.old).transactions) }
     ensures made { Enters result tx.number (model.come_back blocks.now tx.number transaction parameter) machine.old machine.new }
     ensures linked { Linked machine.new }
 {
-    let Some(value) = machine.transactions.parameter(tx, parameter) else {
-        return Made::Stops(Stop::UnsetParam);
-    };
-    match block_after(value) {
-        Some(number) => transfer(machine, blocks, tx, transaction, number),
-        None => Made::Stops(Stop::NoBlock),
-    }
+    let value = machine.transactions.parameters(tx).get(parameter);
+    transfer(machine, blocks, tx, transaction, block_after(value))
 }

@@ -1,5 +1,5 @@
 -- Arrivals: what a GENERATE does, and the state before the first step.
-use Rattle.std.proofs.Common.{◌≡◌, ℕ, zero, suc, ◌+◌, ◌≤◌, List, [], ◌∷◌, length, map, Some, None, true, false, pos, ◌≤ℤ◌, refl, sym, ap, ◌∙◌, subst, arith}
+use Rattle.std.proofs.Common.{◌≡◌, ℕ, zero, suc, ◌+◌, ◌≤◌, ℤ, List, [], ◌∷◌, length, map, Option, Some, None, true, false, pos, ◌≤ℤ◌, refl, sym, ap, ◌∙◌, subst, arith}
 use Rattle.std.specs.Prelude.{◌<ℤ◌, sum, slice_get, nat_le, IfSome}
 use Rattle.std.proofs.lemmas.List.Elements.{All-nil}
 use Rattle.gw_blocks.specs.declared.parts.Generate.{Generate}
@@ -12,6 +12,7 @@ use Rattle.gw_kinds.specs.Kinds.{block_at, is_generate}
 use Rattle.gw_flow.specs.Codes as codes
 use Rattle.gw_flow.specs.Rows.{Row, is_empty}
 use Rattle.gw_flow.specs.Blocks.{capacity_at}
+use Rattle.gw_code_flow.specs.Environment.{Environment}
 use Rattle.gw_flow.specs.Flow.{own_table, own_row}
 use Rattle.gw_flow.specs.Laws.{FlowHolds}
 use Rattle.gw_num.specs.Table.{at}
@@ -23,14 +24,13 @@ use Rattle.gw_entities.specs.Contents.{empty}
 use Rattle.gw_entities.specs.Facility.{idle, is_owned_by}
 use Rattle.gw_entities.specs.Storage as storages
 use Rattle.gw_step.specs.Numbers.{made_in}
-use Rattle.gw_step.specs.Outcome.{Outcome, Gives, EndsBy, StopsBy}
+use Rattle.gw_step.specs.Outcome.{Outcome, Gives, EndsBy, HasNoCase}
 use Rattle.gw_step.specs.State.{State, with_streams}
 use Rattle.gw_step.specs.Times.{environment_of_next, drawn_moment, parameters_of}
 use Rattle.gw_step.specs.Changes.{arrives}
 use Rattle.gw_step.specs.Blocks.{is_owed, next_arrival, generate}
 use Rattle.gw_step.specs.Start.{nothing, first_moment, first_arrival, first_arrivals, started, start}
 use Rattle.gw_step.specs.Residence.{occurrences}
-use Rattle.gw_step.proofs.Outcomes.{OnGives, on_bind, on_both}
 use Rattle.gw_step.proofs.Nothing.{no_transaction, resides-nothing}
 use Rattle.gw_step.specs.Places.{row_of}
 use Rattle.gw_step.specs.Typing.{IsPlaced, lists_facility, is_member, WellTyped, AreWithinCapacity}
@@ -38,12 +38,12 @@ use Rattle.gw_step.proofs.Balances.{balanced-nothing}
 use Rattle.gw_step.proofs.Residence.{one_if}
 use Rattle.gw_step.proofs.Agreeing.{IsMissing}
 use Rattle.gw_step.proofs.Traces.{all_as_known, Goes, Arrives, Draws, Trace, Done, Then, trace_on, present, arrived}
-use Rattle.gw_step.proofs.Unstopped.{Safe, safe_bind, safe_if, safe_given}
+use Rattle.gw_step.proofs.Unstopped.{Safe, Any, safe_bind, safe_then, safe_if, safe_given}
 use Rattle.gw_step.proofs.Timed.{moment_passes}
 use Rattle.gw_step.proofs.Within.{sum-raised}
 use Rattle.gw_kinds.specs.Exits.{takes_time}
 use Rattle.gw_kinds.specs.declared.ways.Way.TheVariants.{Falls}
-use Rattle.gw_step.proofs.Drawn.{IsSound, IsDrawn, safe_drawn}
+use Rattle.gw_step.proofs.Drawn.{IsSound, AreRead, IsDrawn, safe_drawn}
 use Rattle.gw_step.proofs.Asked.{interval_read}
 use Rattle.gw_step.proofs.AtBlock.{first_may_be_entered}
 use Rattle.gw_step.proofs.Moving.{Acts, Enters, safe_leads, at_first, the_rule, falls_paid}
@@ -151,31 +151,39 @@ pub record Starts (p : Parts) (s : State) : Type 0 where
   pub typed : WellTyped p s
   pub within : AreWithinCapacity s.entities
 
-module _ (p : Parts) (flow : FlowHolds p (own_table p)) where
-  first_typed : (b : ℕ) (block : Block) (s : State) → block_at p.blocks b ≡ Some block → Starts p s → OnGives (Starts p) (first_arrival p b block s)
+module _ (p : Parts) (flow : FlowHolds p (own_table p)) (sound : IsSound p) (read : (b : ℕ) (g : Generate) → block_at p.blocks b ≡ Some (blocks.Generate g) → (env : Environment) → AreRead p env (g.interval.mean ∷ g.interval.half ∷ [])) where
+  -- there is a time for a first arrival, or a named end
+  moment_safe : (b : ℕ) (g : Generate) (s : State) → block_at p.blocks b ≡ Some (blocks.Generate g) → (first : Option ℤ) → Safe Any (first_moment p g s first)
+  moment_safe b g s is (Some time) = tt
+  moment_safe b g s is None =
+      let env = environment_of_next g.priority s in
+      safe_then (IsDrawn s.clock s.streams) Any (drawn_moment p env g.interval s.clock s.streams) (safe_drawn p sound env g.interval s.clock s.streams (read b g is env)) (λ _ _. tt)
+
+  first_typed : (b : ℕ) (block : Block) (s : State) → block_at p.blocks b ≡ Some block → Starts p s → Safe (Starts p) (first_arrival p b block s)
   first_typed b block s =
-      by_arrival (λ x. block_at p.blocks b ≡ Some x → Starts p s → OnGives (Starts p) (first_arrival p b x s))
+      by_arrival (λ x. block_at p.blocks b ≡ Some x → Starts p s → Safe (Starts p) (first_arrival p b x s))
       (λ g is h.
       let row = some_of (own_row p b) (flow.arrivals b (ap is_generate is)) in
       let none = the_rule p b codes.edge_state (is_empty row.0) (blocks.Generate g) row.0 refl (flow.each_row b (blocks.Generate g) row.0 is row.1) in
-      on_bind (Starts p) (first_moment p g s g.first) _ (λ d found. record { typed = arrived p flow (with_streams d.1 s) h.typed b g row.0 g.priority d.0 is row.1 none; within = h.within }))
-      (λ x none is h. subst (OnGives (Starts p)) (sym (none p b s)) h)
+      safe_bind Any (Starts p) (first_moment p g s g.first) _ (moment_safe b g s is g.first)
+      (λ d found. record { typed = arrived p flow (with_streams d.1 s) h.typed b g row.0 g.priority d.0 is row.1 none; within = h.within }))
+      (λ x none is h. subst (Safe (Starts p)) (sym (none p b s)) h)
       block
 
-  firsts_typed : (b : ℕ) (bs : List Block) (s : State) → ((i : ℕ) (block : Block) → slice_get bs i ≡ Some block → block_at p.blocks (b + i) ≡ Some block) → Starts p s → OnGives (Starts p) (first_arrivals p b bs s)
+  firsts_typed : (b : ℕ) (bs : List Block) (s : State) → ((i : ℕ) (block : Block) → slice_get bs i ≡ Some block → block_at p.blocks (b + i) ≡ Some block) → Starts p s → Safe (Starts p) (first_arrivals p b bs s)
   unfolding first_arrivals
   firsts_typed b [] s there h = h
   firsts_typed b (block ∷ rest) s there h =
-      on_both (Starts p) (Starts p) (first_arrival p b block s) (first_arrivals p (b + 1) rest)
+      safe_bind (Starts p) (Starts p) (first_arrival p b block s) (first_arrivals p (b + 1) rest)
       (first_typed b block s (subst (λ k. block_at p.blocks k ≡ Some block) (omega arith) (there 0 block refl)) h)
       (λ t h'. firsts_typed (b + 1) rest t (λ i x is. subst (λ k. block_at p.blocks k ≡ Some x) (omega arith) (there (suc i) x is)) h')
 
-  started_typed : (o : Outcome State) (s : State) → Starts p s → OnGives (Starts p) o → Starts p (started s o)
-  started_typed (Gives t) s h h' = h'
-  started_typed (EndsBy end) s h h' = record { typed = h.typed; within = h.within }
-  started_typed (StopsBy stop) s h h' = h
+  started_typed : (o : Outcome State) (s : State) → Starts p s → Safe (Starts p) o → (first : State) × (started s o ≡ Some first) × Starts p first
+  started_typed (Gives t) s h h' = (t, refl, h')
+  started_typed (EndsBy end) s h h' = (record s { ended = Some end }, refl, record { typed = h.typed; within = h.within })
+  started_typed HasNoCase s h h' = absurd h'
 
-  pub start_typed : (count : ℕ) (streams : List ℕ) → Starts p (start p count streams)
+  pub start_typed : (count : ℕ) (streams : List ℕ) → (first : State) × (start p count streams ≡ Some first) × Starts p first
   start_typed count streams =
       let none : Starts p (nothing p count streams) = record { typed = nothing_typed p count streams; within = nothing_fills p count streams } in
       started_typed (first_arrivals p 1 p.blocks (nothing p count streams)) (nothing p count streams) none

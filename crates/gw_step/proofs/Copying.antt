@@ -23,7 +23,6 @@ use Rattle.gw_transactions.specs.declared.Transaction.{Transaction}
 use Rattle.gw_transactions.specs.Parameters.{no_parameters}
 use Rattle.gw_transactions.specs.Transactions.{LiveTransaction, made_with, attributes_at, live_count}
 use Rattle.gw_entities.specs.Facility.{owns_any}
-use Rattle.gw_entities.specs.declared.stop.Stop.TheVariants.{OwnsAtEnd}
 use Rattle.gw_step.specs.declared.placement.Placement.{Placement}
 use Rattle.gw_step.specs.declared.placement.Placement.TheVariants.{StaysActive, RestsAhead, RestsBehind, AwaitsSet, LeavesModel}
 use Rattle.gw_step.specs.Numbers.{made_in}
@@ -222,7 +221,7 @@ module _ (p : Parts) (s : State) (n : ℕ) (t : Transaction) (k : ℕ) where
       safe_leads p (Enters p k s n) (t.next + 1) _ may (falls_and_rests (blocks.Assemble size) row acts t (AwaitsSet (record { block = t.next; set = t.set; missing = size - 1 })) (unchanged s t) (at_first _ []) may (acts.active, some) refl refl (falls_paid p s n t (blocks.Assemble size) row acts Falls [] refl 0))
   assembles size row acts more (Some a) is =
       let none = the_rule p t.next codes.owns_at_end (length row.facilities == 0) (blocks.Assemble size) row refl acts.flow in
-      safe_test (Enters p k s n) (not (owns_any n s.entities.facilities)) OwnsAtEnd _
+      safe_test (Enters p k s n) (not (owns_any n s.entities.facilities)) _
       (ap not (owns_none s.entities.facilities n (λ f. owner_as p s n t (blocks.Assemble size) row acts f ∙ lists-none row.facilities none f)))
       (joins size row acts none a is)
 

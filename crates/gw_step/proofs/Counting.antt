@@ -1,5 +1,5 @@
 -- What a scan leaves of the counts: the steps, the end and the termination count.
-use Rattle.std.proofs.Common.{◌≡◌, ◌⊎◌, ℕ, ◌+◌, ℤ, pos, ◌<ℤ◌, List, [], ◌∷◌, Option, Some, None, Result, Ok, Err, Bool, true, false, not, if◌then◌else◌, nat_le, ◌==◌, zero, suc, refl, sym, ap, ◌∙◌, subst, arith, inl, inr}
+use Rattle.std.proofs.Common.{◌≡◌, ◌⊎◌, ℕ, ◌+◌, ℤ, pos, ◌<ℤ◌, List, [], ◌∷◌, Option, Some, None, Bool, true, false, not, if◌then◌else◌, nat_le, ◌==◌, zero, suc, refl, sym, ap, ◌∙◌, subst, arith, inl, inr}
 use Rattle.std.specs.Prelude.{int_lt, unwrap_or}
 use Rattle.std.proofs.lemmas.Int.{ints}
 use Rattle.gw_blocks.specs.declared.parts.Generate.{Generate}
@@ -16,8 +16,6 @@ use Rattle.gw_num.specs.Table.{at}
 use Rattle.gw_transactions.specs.declared.Transaction.{Transaction}
 use Rattle.gw_transactions.specs.Transactions.{attributes_at, parameter_at}
 use Rattle.gw_transactions.specs.Transactions.{live_count}
-use Rattle.gw_entities.specs.declared.stop.Stop.{Stop}
-use Rattle.gw_entities.specs.declared.stop.Stop.TheVariants.{NoBlock, OwnsAtEnd, UnsetParam}
 use Rattle.gw_entities.specs.Facility.{seizing, releasing, owns_any}
 use Rattle.gw_entities.specs.Storage.{entering, leaving}
 use Rattle.gw_entities.specs.Queue.{joined, departing}
@@ -25,7 +23,7 @@ use Rattle.gw_entities.specs.Tabulation.{tabulating}
 use Rattle.gw_step.specs.declared.ends.End.{End}
 use Rattle.gw_step.specs.declared.ends.End.TheVariants.{Done, Number, Live}
 use Rattle.gw_step.specs.declared.placement.Placement.{Placement}
-use Rattle.gw_step.specs.Outcome.{Outcome, Gives, EndsBy, StopsBy, ◌>>=◌, or_stop, granted, evaluated}
+use Rattle.gw_step.specs.Outcome.{Outcome, Gives, EndsBy, HasNoCase, ◌>>=◌, case_of, evaluated}
 use Rattle.gw_step.specs.State.{FutureEvent, Assembly, State, may_enter, with_streams, delay_list, user_chain}
 use Rattle.gw_step.specs.Times.{environment_of, environment_of_next, moment_after, drawn_moment}
 use Rattle.gw_step.specs.Changes.{copied, copies_made, assembled, come_to, leaves_chain, entered, enters_and_falls, assigned, arrives, facility, storage, queue, switch, savevalue, put_facility, put_storage, put_queue, put_switch, put_savevalue, table, put_table, end_at}
@@ -58,11 +56,11 @@ counted_on s t u c h = record {
 on_then : {A : Type 0} (P Q : A → Type 0) (o : Outcome A) → OnGives P o → ((a : A) → P a → Q a) → OnGives Q o
 on_then P Q (Gives a) h k = k a h
 on_then P Q (EndsBy end) h k = tt
-on_then P Q (StopsBy stop) h k = tt
+on_then P Q HasNoCase h k = tt
 
-on_granted : {A B : Type 0} (P : B → Type 0) (r : Result A Stop) (f : A → Outcome B) → ((a : A) → OnGives P (f a)) → OnGives P (granted r >>= f)
-on_granted P (Ok a) f h = h a
-on_granted P (Err stop) f h = tt
+on_case : {A B : Type 0} (P : B → Type 0) (r : Option A) (f : A → Outcome B) → ((a : A) → OnGives P (f a)) → OnGives P (case_of r >>= f)
+on_case P (Some a) f h = h a
+on_case P None f h = tt
 
 -- copies change nothing of the counts
 copies_stay : (k n : ℕ) (t : Transaction) (target : ℕ) (s : State) → Stays s (copies_made k n t target s)
@@ -102,8 +100,8 @@ module _ (s : State) where
       (stays-same s)
 
   plus_counted : (p : Parts) (n : ℕ) (t : Transaction) (q : Option ℕ) (value : ℤ) → OnGives Entered (plus p.blocks n t q value s)
-  plus_counted p n t None value = on_test Entered (may_enter (block_at p.blocks (t.next + 1))) NoBlock _ (passed (enters_and_falls n t s) refl refl refl)
-  plus_counted p n t (Some q) value = on_test Entered (may_enter (block_at p.blocks (t.next + 1))) NoBlock _ (passed (enters_and_falls n t (assigned n q value s)) refl refl refl)
+  plus_counted p n t None value = on_test Entered (may_enter (block_at p.blocks (t.next + 1))) _ (passed (enters_and_falls n t s) refl refl refl)
+  plus_counted p n t (Some q) value = on_test Entered (may_enter (block_at p.blocks (t.next + 1))) _ (passed (enters_and_falls n t (assigned n q value s)) refl refl refl)
 
   split_counted : (p : Parts) (n : ℕ) (t : Transaction) (c : Split) → OnGives Entered (split p.blocks n t c s)
   split_counted p n t c =
@@ -111,84 +109,84 @@ module _ (s : State) where
       let u = enters_and_falls n t s in
       let made = counted_on s u (copies_made c.copies n (record t { current = t.next }) target u) (passed u refl refl refl) (copies_stay c.copies n (record t { current = t.next }) target u) in
       on_if Entered (nat_le (live_count s.transactions + c.copies) 65536) _ (EndsBy Live)
-      (on_test Entered (may_enter (block_at p.blocks (t.next + 1))) NoBlock _ (on_if Entered (c.copies == 0) _ _ made (on_test Entered (may_enter (block_at p.blocks target)) NoBlock _ made)))
+      (on_test Entered (may_enter (block_at p.blocks (t.next + 1))) _ (on_if Entered (c.copies == 0) _ _ made (on_test Entered (may_enter (block_at p.blocks target)) _ made)))
       tt
 
   joined_counted : (p : Parts) (n : ℕ) (t : Transaction) (size : ℕ) (o : Option Assembly) → OnGives Entered (assemble_in p.blocks n t size o s)
-  joined_counted p n t size None = on_test Entered (may_enter (block_at p.blocks (t.next + 1))) NoBlock _ (passed (enters_and_falls n t s) refl refl refl)
-  joined_counted p n t size (Some a) = let u = entered n t t.next s in on_test Entered (not (owns_any n s.entities.facilities)) OwnsAtEnd _ (counted_on s u (joined_by_one a u) (passed u refl refl refl) (joined_stays a u))
+  joined_counted p n t size None = on_test Entered (may_enter (block_at p.blocks (t.next + 1))) _ (passed (enters_and_falls n t s) refl refl refl)
+  joined_counted p n t size (Some a) = let u = entered n t t.next s in on_test Entered (not (owns_any n s.entities.facilities)) _ (counted_on s u (joined_by_one a u) (passed u refl refl refl) (joined_stays a u))
 
   assemble_counted : (p : Parts) (n : ℕ) (t : Transaction) (size : ℕ) → OnGives Entered (assemble p.blocks n t size s)
   assemble_counted p n t size =
-      on_if Entered (nat_le size 1) _ _ (on_test Entered (may_enter (block_at p.blocks (t.next + 1))) NoBlock _ (passed (enters_and_falls n t s) refl refl refl)) (joined_counted p n t size (assembly_at t.next t.set s))
+      on_if Entered (nat_le size 1) _ _ (on_test Entered (may_enter (block_at p.blocks (t.next + 1))) _ (passed (enters_and_falls n t s) refl refl refl)) (joined_counted p n t size (assembly_at t.next t.set s))
 
   unlink_counted : (p : Parts) (n : ℕ) (t : Transaction) (u : Unlink) → OnGives Entered (unlink p.blocks n t u s)
   unlink_counted p n t u =
       let v = enters_and_falls n t s in
       let made = counted_on s v (unlinked (taken_by u s) u.chain u.target v) (passed v refl refl refl) (unlinked_stay (taken_by u s) u.chain u.target v) in
-      on_test Entered (may_enter (block_at p.blocks (t.next + 1))) NoBlock _ (on_if Entered (taken_by u s == 0) _ _ made (on_test Entered (may_enter (block_at p.blocks u.target)) NoBlock _ made))
+      on_test Entered (may_enter (block_at p.blocks (t.next + 1))) _ (on_if Entered (taken_by u s == 0) _ _ made (on_test Entered (may_enter (block_at p.blocks u.target)) _ made))
 
   effect_counted : (p : Parts) (n : ℕ) (t : Transaction) (block : Block) (values : List ℤ) → OnGives Entered (effect p n t block values s)
   unfolding effect
   effect_counted p n t (blocks.Generate g) values =
       on_both (Stays s) Entered (next_arrival p t.next g s) _ (arrival_stays p t.next g)
-      (λ u h. on_test Entered (may_enter (block_at p.blocks (t.next + 1))) NoBlock _ (passed (enters_and_falls n (record t { mark = s.clock }) u) h.steps h.ended h.count))
+      (λ u h. on_test Entered (may_enter (block_at p.blocks (t.next + 1))) _ (passed (enters_and_falls n (record t { mark = s.clock }) u) h.steps h.ended h.count))
   effect_counted p n t (blocks.Terminate by) values =
-      on_if Entered (int_lt (the_value values) (pos 0)) (EndsBy Number) _ tt (on_test Entered (not (owns_any n s.entities.facilities)) OwnsAtEnd _ (record { steps = refl; ended = inr refl }))
+      on_if Entered (int_lt (the_value values) (pos 0)) (EndsBy Number) _ tt (on_test Entered (not (owns_any n s.entities.facilities)) _ (record { steps = refl; ended = inr refl }))
   effect_counted p n t (blocks.Advance time) values =
-      on_bind Entered (moment_after s.clock (the_value values)) _ (λ moment _. on_test Entered (may_enter (block_at p.blocks (t.next + 1))) NoBlock _ (passed (enters_and_falls n t s) refl refl refl))
+      on_bind Entered (moment_after s.clock (the_value values)) _ (λ moment _. on_test Entered (may_enter (block_at p.blocks (t.next + 1))) _ (passed (enters_and_falls n t s) refl refl refl))
   effect_counted p n t (blocks.Seize f) values =
-      on_test Entered (may_enter (block_at p.blocks (t.next + 1))) NoBlock _ (on_granted Entered (seizing n (facility f s)) _ (λ r. passed (put_facility f r.1 (enters_and_falls n t s)) refl refl refl))
+      on_test Entered (may_enter (block_at p.blocks (t.next + 1))) _ (on_case Entered (seizing n (facility f s)) _ (λ r. passed (put_facility f r.1 (enters_and_falls n t s)) refl refl refl))
   effect_counted p n t (blocks.Release f) values =
-      on_test Entered (may_enter (block_at p.blocks (t.next + 1))) NoBlock _ (on_granted Entered (releasing n (facility f s)) _
-      (λ r. let u = put_facility f r.1 (enters_and_falls n t s) in counted_on s u _ (passed u refl refl refl) (stays-hand_over p.blocks u f (delay_list f s))))
+      on_test Entered (may_enter (block_at p.blocks (t.next + 1))) _ (on_case Entered (releasing n (facility f s)) _
+      (λ r. let u = put_facility f r (enters_and_falls n t s) in counted_on s u _ (passed u refl refl refl) (stays-hand_over p.blocks u f (delay_list f s))))
   effect_counted p n t (blocks.Enter u) values =
-      on_test Entered (may_enter (block_at p.blocks (t.next + 1))) NoBlock _ (on_granted Entered (entering u.number (storage u.entity s)) _ (λ r. passed (put_storage u.entity r.1 (enters_and_falls n t s)) refl refl refl))
+      on_test Entered (may_enter (block_at p.blocks (t.next + 1))) _ (on_case Entered (entering u.number (storage u.entity s)) _ (λ r. passed (put_storage u.entity r.1 (enters_and_falls n t s)) refl refl refl))
   effect_counted p n t (blocks.Leave u) values =
-      on_test Entered (may_enter (block_at p.blocks (t.next + 1))) NoBlock _ (on_granted Entered (leaving u.number (storage u.entity s)) _
-      (λ r. let v = put_storage u.entity r.1 (enters_and_falls n t s) in counted_on s v _ (passed v refl refl refl) (stays-admission p.blocks u.entity (delay_list u.entity s) v)))
-  effect_counted p n t (blocks.Queue u) values = on_test Entered (may_enter (block_at p.blocks (t.next + 1))) NoBlock _ (passed (put_queue u.entity (joined u.number (queue u.entity s)) (enters_and_falls n t s)) refl refl refl)
+      on_test Entered (may_enter (block_at p.blocks (t.next + 1))) _ (on_case Entered (leaving u.number (storage u.entity s)) _
+      (λ r. let v = put_storage u.entity r (enters_and_falls n t s) in counted_on s v _ (passed v refl refl refl) (stays-admission p.blocks u.entity (delay_list u.entity s) v)))
+  effect_counted p n t (blocks.Queue u) values = on_test Entered (may_enter (block_at p.blocks (t.next + 1))) _ (passed (put_queue u.entity (joined u.number (queue u.entity s)) (enters_and_falls n t s)) refl refl refl)
   effect_counted p n t (blocks.Depart u) values =
-      on_test Entered (may_enter (block_at p.blocks (t.next + 1))) NoBlock _ (on_granted Entered (departing u.number (queue u.entity s)) _ (λ r. passed (put_queue u.entity r.1 (enters_and_falls n t s)) refl refl refl))
+      on_test Entered (may_enter (block_at p.blocks (t.next + 1))) _ (on_case Entered (departing u.number (queue u.entity s)) _ (λ r. passed (put_queue u.entity r (enters_and_falls n t s)) refl refl refl))
   effect_counted p n t (blocks.Assign a) values =
       on_bind Entered (evaluated (answered (put_by a.mode (unwrap_or (parameter_at n a.parameter s.transactions) (pos 0)) (the_value values)))) _
-      (λ new _. on_test Entered (may_enter (block_at p.blocks (t.next + 1))) NoBlock _ (passed (enters_and_falls n t (assigned n a.parameter new s)) refl refl refl))
+      (λ new _. on_test Entered (may_enter (block_at p.blocks (t.next + 1))) _ (passed (enters_and_falls n t (assigned n a.parameter new s)) refl refl refl))
   effect_counted p n t (blocks.Test test) values =
       let to = led_by t.next test.otherwise (passes_test test values) in
-      on_test Entered (may_enter (block_at p.blocks to)) NoBlock _ (passed (entered n t to s) refl refl refl)
+      on_test Entered (may_enter (block_at p.blocks to)) _ (passed (entered n t to s) refl refl refl)
   effect_counted p n t (blocks.Gate gate) values =
       let to = led_by t.next gate.otherwise (is_so gate.condition gate.entity s) in
-      on_test Entered (may_enter (block_at p.blocks to)) NoBlock _ (passed (entered n t to s) refl refl refl)
-  effect_counted p n t (blocks.Transfer target) values = on_test Entered (may_enter (block_at p.blocks target)) NoBlock _ (passed (entered n t target s) refl refl refl)
+      on_test Entered (may_enter (block_at p.blocks to)) _ (passed (entered n t to s) refl refl refl)
+  effect_counted p n t (blocks.Transfer target) values = on_test Entered (may_enter (block_at p.blocks target)) _ (passed (entered n t target s) refl refl refl)
   effect_counted p n t (blocks.TransferByFraction f) values =
-      on_test Entered (may_enter (block_at p.blocks (chosen t.next f (the_value values)))) NoBlock _ (passed (entered n t (chosen t.next f (the_value values)) s) refl refl refl)
+      on_test Entered (may_enter (block_at p.blocks (chosen t.next f (the_value values)))) _ (passed (entered n t (chosen t.next f (the_value values)) s) refl refl refl)
   effect_counted p n t (blocks.TransferToSubroutine c) values =
-      on_test Entered (may_enter (block_at p.blocks c.target)) NoBlock _ (passed (entered n t c.target (assigned n c.parameter (pos t.next) s)) refl refl refl)
+      on_test Entered (may_enter (block_at p.blocks c.target)) _ (passed (entered n t c.target (assigned n c.parameter (pos t.next) s)) refl refl refl)
   effect_counted p n t (blocks.TransferByParameter q) values =
-      on_bind Entered (or_stop (parameter_at n q s.transactions) UnsetParam) _
-      (λ value _. on_test Entered (may_enter (block_at p.blocks (block_after value))) NoBlock _ (passed (entered n t (block_after value) s) refl refl refl))
+      on_bind Entered (case_of (parameter_at n q s.transactions)) _
+      (λ value _. on_test Entered (may_enter (block_at p.blocks (block_after value))) _ (passed (entered n t (block_after value) s) refl refl refl))
   effect_counted p n t (blocks.Loop l) values =
-      on_bind Entered (or_stop (parameter_at n l.parameter s.transactions) UnsetParam) _
+      on_bind Entered (case_of (parameter_at n l.parameter s.transactions)) _
       (λ old _. on_bind Entered (evaluated (answered (difference_of old (pos 1)))) _
-      (λ left _. on_test Entered (may_enter (block_at p.blocks (looped t.next l.target left))) NoBlock _ (passed (entered n t (looped t.next l.target left) (assigned n l.parameter left s)) refl refl refl)))
+      (λ left _. on_test Entered (may_enter (block_at p.blocks (looped t.next l.target left))) _ (passed (entered n t (looped t.next l.target left) (assigned n l.parameter left s)) refl refl refl)))
   effect_counted p n t (blocks.Logic l) values =
-      on_test Entered (may_enter (block_at p.blocks (t.next + 1))) NoBlock _ (passed (put_switch l.switch (turned l.action (switch l.switch s)) (enters_and_falls n t s)) refl refl refl)
+      on_test Entered (may_enter (block_at p.blocks (t.next + 1))) _ (passed (put_switch l.switch (turned l.action (switch l.switch s)) (enters_and_falls n t s)) refl refl refl)
   effect_counted p n t (blocks.Savevalue a) values =
       on_bind Entered (evaluated (answered (put_by a.mode (savevalue a.savevalue s) (the_value values)))) _
-      (λ new _. on_test Entered (may_enter (block_at p.blocks (t.next + 1))) NoBlock _ (passed (put_savevalue a.savevalue new (enters_and_falls n t s)) refl refl refl))
+      (λ new _. on_test Entered (may_enter (block_at p.blocks (t.next + 1))) _ (passed (put_savevalue a.savevalue new (enters_and_falls n t s)) refl refl refl))
   effect_counted p n t (blocks.Tabulate e) values =
       on_bind Entered (evaluated (answered (tabulating (the_value values) (table e s)))) _
-      (λ new _. on_test Entered (may_enter (block_at p.blocks (t.next + 1))) NoBlock _ (passed (put_table e new (enters_and_falls n t s)) refl refl refl))
+      (λ new _. on_test Entered (may_enter (block_at p.blocks (t.next + 1))) _ (passed (put_table e new (enters_and_falls n t s)) refl refl refl))
   effect_counted p n t (blocks.Split c) values = split_counted p n t c
   effect_counted p n t (blocks.Assemble size) values = assemble_counted p n t size
   effect_counted p n t (blocks.Link l) values = passed (entered n t t.next s) refl refl refl
   effect_counted p n t (blocks.Unlink u) values = unlink_counted p n t u
   effect_counted p n t (blocks.Priority a) values =
-      on_if Entered (is_priority (the_value values)) _ (EndsBy Number) (on_test Entered (may_enter (block_at p.blocks (t.next + 1))) NoBlock _ (passed (enters_and_falls n (record t { priority = the_value values }) s) refl refl refl)) tt
-  effect_counted p n t blocks.Buffer values = on_test Entered (may_enter (block_at p.blocks (t.next + 1))) NoBlock _ (passed (enters_and_falls n t s) refl refl refl)
+      on_if Entered (is_priority (the_value values)) _ (EndsBy Number) (on_test Entered (may_enter (block_at p.blocks (t.next + 1))) _ (passed (enters_and_falls n (record t { priority = the_value values }) s) refl refl refl)) tt
+  effect_counted p n t blocks.Buffer values = on_test Entered (may_enter (block_at p.blocks (t.next + 1))) _ (passed (enters_and_falls n t s) refl refl refl)
   effect_counted p n t (blocks.Plus a) values = plus_counted p n t a.parameter (the_value values)
-  effect_counted p n t (blocks.Mark None) values = on_test Entered (may_enter (block_at p.blocks (t.next + 1))) NoBlock _ (passed (enters_and_falls n (record t { mark = s.clock }) s) refl refl refl)
-  effect_counted p n t (blocks.Mark (Some q)) values = on_test Entered (may_enter (block_at p.blocks (t.next + 1))) NoBlock _ (passed (enters_and_falls n t (assigned n q s.clock s)) refl refl refl)
+  effect_counted p n t (blocks.Mark None) values = on_test Entered (may_enter (block_at p.blocks (t.next + 1))) _ (passed (enters_and_falls n (record t { mark = s.clock }) s) refl refl refl)
+  effect_counted p n t (blocks.Mark (Some q)) values = on_test Entered (may_enter (block_at p.blocks (t.next + 1))) _ (passed (enters_and_falls n t (assigned n q s.clock s)) refl refl refl)
 
   meets_counted : (p : Parts) (n : ℕ) (t : Transaction) (block : Block) (values : List ℤ) → OnGives (IsCounted s) (meets p n t block values s)
   meets_counted p n t block values =
@@ -215,8 +213,8 @@ next_counted s (n ∷ ns) = record { steps = refl; ended = inl (refl, refl) }
 scan_counted : (p : Parts) (a : Option ℕ) (s : State) → OnGives (IsCounted s) (scan p a s)
 scan_counted p None s = next_counted s s.lists.current_events
 scan_counted p (Some n) s =
-    on_bind (IsCounted s) (or_stop (attributes_at n s.transactions) NoBlock) (λ t. or_stop (block_at p.blocks t.next) NoBlock >>= λ block. act p n t block s) (λ t _.
-    on_bind (IsCounted s) (or_stop (block_at p.blocks t.next) NoBlock) (λ block. act p n t block s) (λ block _. act_counted p n t block s))
+    on_bind (IsCounted s) (case_of (attributes_at n s.transactions)) (λ t. case_of (block_at p.blocks t.next) >>= λ block. act p n t block s) (λ t _.
+    on_bind (IsCounted s) (case_of (block_at p.blocks t.next)) (λ block. act p n t block s) (λ block _. act_counted p n t block s))
 
 pub is_counted : (p : Parts) (s t : State) → scan p s.lists.active s ≡ Gives t → IsCounted s t
 is_counted p s t h = subst (OnGives (IsCounted s)) h (scan_counted p s.lists.active s)

@@ -1,5 +1,5 @@
 -- What each block does to a well-typed state is a list of elementary changes, and never an error stop.
-use Rattle.std.proofs.Common.{◌≡◌, ◌≢◌, ℕ, suc, ◌+◌, ◌-◌, ◌≤◌, ℤ, pos, ◌+ℤ◌, ◌≤ℤ◌, List, [], ◌∷◌, length, map, Option, Some, None, Result, Ok, Err, Bool, true, false, not, if◌then◌else◌, ◌==◌, ◌||◌, option_map, IsSome, inl, inr, refl, sym, ap, ◌∙◌, subst, arith}
+use Rattle.std.proofs.Common.{◌≡◌, ◌≢◌, ℕ, suc, ◌+◌, ◌-◌, ◌≤◌, ℤ, pos, ◌+ℤ◌, ◌≤ℤ◌, List, [], ◌∷◌, length, map, Option, Some, None, Bool, true, false, not, if◌then◌else◌, ◌==◌, ◌||◌, option_map, IsSome, inl, inr, refl, sym, ap, ◌∙◌, subst, arith}
 use Rattle.std.specs.Prelude.{◌<ℤ◌, int_lt, nat_le, unwrap_or, is_none, ◌&&◌, All, Contains}
 use Rattle.std.specs.Option.{option_map_or, option_flatten}
 use Rattle.std.specs.List.{list_any}
@@ -44,8 +44,6 @@ use Rattle.gw_transactions.specs.declared.Transaction.{Transaction}
 use Rattle.gw_entities.specs.declared.facilities.Facility.{Facility}
 use Rattle.gw_entities.specs.declared.storages.Storage.{Storage}
 use Rattle.gw_entities.specs.declared.contents.Contents.{Contents}
-use Rattle.gw_entities.specs.declared.stop.Stop.{Stop}
-use Rattle.gw_entities.specs.declared.stop.Stop.TheVariants.{NotOwner, AlreadyOwned, TooFew, OverCapacity, OwnsAtEnd, UnsetParam}
 use Rattle.gw_entities.specs.Contents.{holds}
 use Rattle.gw_entities.specs.Facility.{idle, seized, seizing, released, releasing, is_idle, is_owned_by, owns_any}
 use Rattle.gw_entities.specs.Storage as storages
@@ -54,7 +52,7 @@ use Rattle.gw_entities.specs.Tabulation.{Tabulation, tabulating}
 use Rattle.gw_step.specs.Numbers.{made_in}
 use Rattle.gw_step.specs.declared.placement.Placement.{Placement}
 use Rattle.gw_step.specs.declared.placement.Placement.TheVariants.{StaysActive, RestsUntil, JoinsDelayList, JoinsRetryList}
-use Rattle.gw_step.specs.Outcome.{Gives, ◌>>=◌, granted, evaluated}
+use Rattle.gw_step.specs.Outcome.{Gives, ◌>>=◌, case_of, evaluated}
 use Rattle.gw_step.specs.State.{State, delay_list}
 use Rattle.gw_step.specs.Times.{moment_after, parameters_of}
 use Rattle.gw_step.specs.Changes.{entered, assigned, enters_and_falls, facility, storage, queue, switch, savevalue, table, put_facility, put_storage, put_queue, put_switch, put_savevalue, put_table}
@@ -97,31 +95,31 @@ owns_none (f ∷ fs) n h = ap (λ b. b || list_any (is_owned_by n) fs) (h 0) ∙
 -- WHAT ENTITIES ANSWER
 
 -- a facility that n doesn't own is seized where it is idle, and else has to be waited for
-seize_cases : (P : Result (Bool × Facility) Stop → Type 0) (n : ℕ) (f : Facility) → is_owned_by n f ≡ false → (is_idle f ≡ true → P (Ok (true, seized n f))) → P (Ok (false, f)) → P (seizing n f)
+seize_cases : (P : Option (Bool × Facility) → Type 0) (n : ℕ) (f : Facility) → is_owned_by n f ≡ false → (is_idle f ≡ true → P (Some (true, seized n f))) → P (Some (false, f)) → P (seizing n f)
 seize_cases P n f mine free busy = by_tests (is_owned_by n f) (is_idle f) mine refl
   where
-    by_tests : (o i : Bool) → o ≡ false → is_idle f ≡ i → P (if◌then◌else◌ {A = Result (Bool × Facility) Stop} o (Err AlreadyOwned) (if◌then◌else◌ {A = Result (Bool × Facility) Stop} i (Ok (true, seized n f)) (Ok (false, f))))
+    by_tests : (o i : Bool) → o ≡ false → is_idle f ≡ i → P (if◌then◌else◌ {A = Option (Bool × Facility)} o None (if◌then◌else◌ {A = Option (Bool × Facility)} i (Some (true, seized n f)) (Some (false, f))))
     by_tests true i h is = absurd (false≢true (sym h))
     by_tests false true h is = free is
     by_tests false false h is = busy
 
 -- units within the capacity are taken where they are free, and else have to be waited for
-enter_cases : (P : Result (Bool × Storage) Stop → Type 0) (n : ℕ) (e : Storage) → storages.fits_capacity n e ≡ true → (storages.has_room n e ≡ true → P (Ok (true, storages.entered n e))) → P (Ok (false, e)) → P (storages.entering n e)
+enter_cases : (P : Option (Bool × Storage) → Type 0) (n : ℕ) (e : Storage) → storages.fits_capacity n e ≡ true → (storages.has_room n e ≡ true → P (Some (true, storages.entered n e))) → P (Some (false, e)) → P (storages.entering n e)
 enter_cases P n e fits free full = by_tests (storages.fits_capacity n e) (storages.has_room n e) fits refl
   where
-    by_tests : (f r : Bool) → f ≡ true → storages.has_room n e ≡ r → P (if◌then◌else◌ {A = Result (Bool × Storage) Stop} f (if◌then◌else◌ {A = Result (Bool × Storage) Stop} r (Ok (true, storages.entered n e)) (Ok (false, e))) (Err OverCapacity))
+    by_tests : (f r : Bool) → f ≡ true → storages.has_room n e ≡ r → P (if◌then◌else◌ {A = Option (Bool × Storage)} f (if◌then◌else◌ {A = Option (Bool × Storage)} r (Some (true, storages.entered n e)) (Some (false, e))) None)
     by_tests true true h is = free is
     by_tests true false h is = full
     by_tests false r h is = absurd (false≢true h)
 
-released_is : (n : ℕ) (f : Facility) → is_owned_by n f ≡ true → releasing n f ≡ Ok (tt, released f)
-released_is n f h = ap (λ b. if◌then◌else◌ {A = Result (Unit {0} × Facility) Stop} b (Ok (tt, released f)) (Err NotOwner)) h
+released_is : (n : ℕ) (f : Facility) → is_owned_by n f ≡ true → releasing n f ≡ Some (released f)
+released_is n f h = ap (λ b. if◌then◌else◌ {A = Option Facility} b (Some (released f)) None) h
 
-left_is : (n : ℕ) (e : Storage) → holds n e.contents ≡ true → storages.leaving n e ≡ Ok (tt, storages.left n e)
-left_is n e h = ap (λ b. if◌then◌else◌ {A = Result (Unit {0} × Storage) Stop} b (Ok (tt, storages.left n e)) (Err TooFew)) h
+left_is : (n : ℕ) (e : Storage) → holds n e.contents ≡ true → storages.leaving n e ≡ Some (storages.left n e)
+left_is n e h = ap (λ b. if◌then◌else◌ {A = Option Storage} b (Some (storages.left n e)) None) h
 
-departed_is : (n : ℕ) (q : Contents) → holds n q ≡ true → departing n q ≡ Ok (tt, departed n q)
-departed_is n q h = ap (λ b. if◌then◌else◌ {A = Result (Unit {0} × Contents) Stop} b (Ok (tt, departed n q)) (Err TooFew)) h
+departed_is : (n : ℕ) (q : Contents) → holds n q ≡ true → departing n q ≡ Some (departed n q)
+departed_is n q h = ap (λ b. if◌then◌else◌ {A = Option Contents} b (Some (departed n q)) None) h
 
 -- a value of a kind, of each other that is known to be the same
 value_as : (value : Option ℤ) (kind known : Option ParamKind) → known ≡ kind → IsAsKnown kind value → IsAsKnown known value
@@ -244,7 +242,7 @@ module _ (p : Parts) (each_block : (b : ℕ) (block : Block) → block_at p.bloc
       let rule = the_rule p t.next codes.already_owned (not (owns row f)) (blocks.Seize f) row refl acts.flow in
       let mine : is_owned_by n (facility f s) ≡ false = owner_as p s n t (blocks.Seize f) row acts f ∙ not-true (owns row f) rule in
       seize_cases
-      (λ r. Safe (Reaches p k s) (if has_to_wait r then Gives (placed n (JoinsDelayList f) s) else then_placed n (leads p.blocks (t.next + 1) (granted r >>= λ x. stays (put_facility f x.1 (enters_and_falls n t s))))))
+      (λ r. Safe (Reaches p k s) (if has_to_wait r then Gives (placed n (JoinsDelayList f) s) else then_placed n (leads p.blocks (t.next + 1) (case_of r >>= λ x. stays (put_facility f x.1 (enters_and_falls n t s))))))
       n (facility f s) mine
       (λ free.
       safe_placed p k s n _ (safe_leads p (Enters p k s n) (t.next + 1) _ may
@@ -259,7 +257,7 @@ module _ (p : Parts) (each_block : (b : ℕ) (block : Block) → block_at p.bloc
       let u : State = put_facility f (released (facility f s)) (enters_and_falls n t s) in
       let gone = goes p s n t (blocks.Release f) row acts k (made_in k) 0 0 t (t.next + 1) (without_facility f row) u.entities (unchanged s t) (λ q. refl) (at_first _ []) may (balanced-release p n f row s.entities below owned) (falls_paid p s n t (blocks.Release f) row acts Falls [] refl 0) in
       safe_leads p (Enters p k s n) (t.next + 1) _ may
-      (subst (λ r. Safe (Enters p k s n) (granted r >>= λ x. stays (hand_over p.blocks f (delay_list f s) (put_facility f x.1 (enters_and_falls n t s))))) (sym (released_is n (facility f s) owned))
+      (subst (λ r. Safe (Enters p k s n) (case_of r >>= λ x. stays (hand_over p.blocks f (delay_list f s) (put_facility f x (enters_and_falls n t s))))) (sym (released_is n (facility f s) owned))
       (let handed = handed_over p each_block flow k (made_in k) u (change-keeps p flow gone acts.typed) f (delay_list f s) below (idle-released f (enters_and_falls n t s)) (λ m. omega arith) in entered_once p k s n _ (Then gone handed) (omega (arith, sum-raised t.next s.entries, trace-grows p handed))))
 
   -- STORAGES AND QUEUES
@@ -272,7 +270,7 @@ module _ (p : Parts) (each_block : (b : ℕ) (block : Block) → block_at p.bloc
       let fit = good_units p needed.Storage u acts.kinds.entities acts.kinds.constants in
       let rule = the_rule p t.next codes.over_capacity (nat_le u.number (capacity_at p.entities u.entity)) (blocks.Enter u) row refl acts.flow in
       enter_cases
-      (λ r. Safe (Reaches p k s) (if has_to_wait r then Gives (placed n (JoinsDelayList u.entity) s) else then_placed n (leads p.blocks (t.next + 1) (granted r >>= λ x. stays (put_storage u.entity x.1 (enters_and_falls n t s))))))
+      (λ r. Safe (Reaches p k s) (if has_to_wait r then Gives (placed n (JoinsDelayList u.entity) s) else then_placed n (leads p.blocks (t.next + 1) (case_of r >>= λ x. stays (put_storage u.entity x.1 (enters_and_falls n t s))))))
       u.number (storage u.entity s) (ap (nat_le u.number) (acts.typed.sized u.entity) ∙ rule)
       (λ free.
       safe_placed p k s n _ (safe_leads p (Enters p k s n) (t.next + 1) _ may
@@ -294,7 +292,7 @@ module _ (p : Parts) (each_block : (b : ℕ) (block : Block) → block_at p.bloc
       let gone = goes p s n t (blocks.Leave u) row acts k (made_in k) 0 0 t (t.next + 1) (with_units u.entity (units_of row u.entity - u.number) row) v.entities (unchanged s t) (λ q. refl) (at_first _ []) may
       (balanced-storage p n u.entity (units_of row u.entity - u.number) (storages.left u.number (storage u.entity s)) row s.entities kind.0 kind.1 refl (omega (arith, enough, within)) (λ before. omega (arith, before)) (omega arith)) (falls_paid p s n t (blocks.Leave u) row acts Falls [] refl 0) in
       safe_leads p (Enters p k s n) (t.next + 1) _ may
-      (subst (λ r. Safe (Enters p k s n) (granted r >>= λ x. stays (admission p.blocks u.entity (delay_list u.entity s) (put_storage u.entity x.1 (enters_and_falls n t s))))) (sym (left_is u.number (storage u.entity s) (le-leb u.number (storage u.entity s).contents.content (omega (arith, enough, within)))))
+      (subst (λ r. Safe (Enters p k s n) (case_of r >>= λ x. stays (admission p.blocks u.entity (delay_list u.entity s) (put_storage u.entity x (enters_and_falls n t s))))) (sym (left_is u.number (storage u.entity s) (le-leb u.number (storage u.entity s).contents.content (omega (arith, enough, within)))))
       (let admitted = admits p each_block flow k (made_in k) v (change-keeps p flow gone acts.typed) u.entity (delay_list u.entity s) (λ m. omega arith) in entered_once p k s n _ (Then gone admitted) (omega (arith, sum-raised t.next s.entries, trace-grows p admitted))))
 
   pub safe_join : (u : Units) (row : Row) → Acts p s n t (blocks.Queue u) row → Safe (Enters p k s n) (join_queue p.blocks n t u s)
@@ -313,7 +311,7 @@ module _ (p : Parts) (each_block : (b : ℕ) (block : Block) → block_at p.bloc
       let enough = leb-true u.number (units_of row u.entity) (the_rule p t.next codes.too_few_units (nat_le u.number (units_of row u.entity)) (blocks.Depart u) row refl acts.flow) in
       let within : units_of row u.entity ≤ (queue u.entity s).content = subst (λ k. units_of row u.entity ≤ content_of u.entity s.entities k) kind (inside (blocks.Depart u) row acts u.entity) in
       safe_leads p (Enters p k s n) (t.next + 1) _ may
-      (subst (λ r. Safe (Enters p k s n) (granted r >>= λ x. stays (put_queue u.entity x.1 (enters_and_falls n t s)))) (sym (departed_is u.number (queue u.entity s) (le-leb u.number (queue u.entity s).content (omega (arith, enough, within)))))
+      (subst (λ r. Safe (Enters p k s n) (case_of r >>= λ x. stays (put_queue u.entity x (enters_and_falls n t s)))) (sym (departed_is u.number (queue u.entity s) (le-leb u.number (queue u.entity s).content (omega (arith, enough, within)))))
       (just_goes p s n t (blocks.Depart u) row acts k (t.next + 1) (with_units u.entity (units_of row u.entity - u.number) row) (put_queue u.entity (departed u.number (queue u.entity s)) s).entities (λ q. refl) (at_first _ []) may
       (balanced-queue p n u.entity (units_of row u.entity - u.number) (departed u.number (queue u.entity s)) row s.entities kind (omega (arith, enough, within)) (omega arith) (λ h. omega (arith, h))) (falls_paid p s n t (blocks.Depart u) row acts Falls [] refl 0)))
 
@@ -399,7 +397,7 @@ module _ (p : Parts) (each_block : (b : ℕ) (block : Block) → block_at p.bloc
   safe_loop l row acts =
       let number = loop_is_number p (own_table p) t.next l row acts.flow in
       let old = some_of (parameter_at n l.parameter s.transactions) (value_is_set Num (parameter_at n l.parameter s.transactions) (known_value (blocks.Loop l) row acts l.parameter Num number)) in
-      safe_found (Enters p k s n) (parameter_at n l.parameter s.transactions) UnsetParam old.0 _ old.1
+      safe_found (Enters p k s n) (parameter_at n l.parameter s.transactions) old.0 _ old.1
       (safe_bind Any (Enters p k s n) (evaluated (answered (difference_of old.0 (pos 1)))) _ (safe_answered _)
       (λ left _.
       let here : IsAsKnown (kind_of row l.parameter) (Some left) = value_as (Some left) (Some Num) _ number tt in
@@ -452,7 +450,7 @@ module _ (p : Parts) (each_block : (b : ℕ) (block : Block) → block_at p.bloc
       let along : Contains (edges p (own_table p) t.next block row) (move (held.0 + 1) row) =
       Contains-append_left (edges_from t.next block row) [] (move (held.0 + 1) row)
       (subst (λ (o : Option ParamKind). Contains (edges_along t.next (map returns_to (return_blocks o)) row) (move (held.0 + 1) row)) (sym kind.1) (returns_along held.0 t.next row kind.0 held.1)) in
-      safe_found (Enters p k s n) (parameter_at n q s.transactions) UnsetParam (pos held.0) _ held.2
+      safe_found (Enters p k s n) (parameter_at n q s.transactions) (pos held.0) _ held.2
       (subst (λ to. Safe (Enters p k s n) (transfer p.blocks n t to s)) (sym (after_it held.0))
       (goes_to block row acts (held.0 + 1) along (may_come_back p each_block each_return t.next q held.0 row kind.0 acts.is.row_is kind.1 held.1)
       (return_paid p t.next block row acts.is.block_is acts.is.row_is held.0 (subst (λ (o : Option ParamKind). Contains (map returns_to (return_blocks o)) (returns_to held.0)) (sym kind.1) (returns_among held.0 kind.0 held.1)) 0)))
@@ -494,7 +492,7 @@ module _ (p : Parts) (each_block : (b : ℕ) (block : Block) → block_at p.bloc
       safe_if (Enters p k s n) (int_lt value (pos 0)) _ _
       (λ below. tt)
       (λ counts.
-      safe_test (Enters p k s n) (not (owns_any n s.entities.facilities)) OwnsAtEnd _
+      safe_test (Enters p k s n) (not (owns_any n s.entities.facilities)) _
       (ap not (owns_none s.entities.facilities n (λ f. owner_as p s n t (blocks.Terminate by) row acts f ∙ lists-none row.facilities none f)))
       (record {
         entries = suc k;

@@ -34,6 +34,7 @@ pub mod Arriving
 pub mod Safe
 pub mod Reached
 pub mod Suffices
+pub mod Served
 pub mod Calm
 pub mod Sums
 pub mod Weighing

@@ -23,7 +23,7 @@ module _ (j : Job) (fits : JobFits j) where
   -- each state that the lone run has is reached
   reached : (n : ℕ) (s : State) → Alone j n s → IsReached (record { job = j; state = s })
   unfolding after
-  reached zero s h = reached_first j s fits (sym (some_is (start_of j) s h))
+  reached zero s h = reached_first j s fits h
   reached (suc n) s h =
       let last = one_more j (after j n (start_of j)) s h in
       reached_more j last.0 s (reached n last.0 last.1) (ends_are_final j last.0 s last.2) last.2
@@ -119,7 +119,7 @@ steps_are_within_weight j s t fits is =
 -- the lone run has counted its steps
 steps_alone : (j : Job) (n : ℕ) (s : State) → Alone j n s → s.steps ≡ n
 unfolding after
-steps_alone j zero s h = ap (λ (x : State). x.steps) (sym (some_is (start_of j) s h)) ∙ start_steps j
+steps_alone j zero s h = start_steps j s h
 steps_alone j (suc n) s h =
     let last = one_more j (after j n (start_of j)) s h in
     omega (arith, steps_are_counted j last.0 s last.2, steps_alone j n last.0 last.1)

@@ -14,7 +14,6 @@ use Rattle.gw_flow.specs.Laws.{MayPass}
 use Rattle.gw_num.specs.Table.{at}
 use Rattle.gw_num.proofs.Tables.{by_entry}
 use Rattle.gw_transactions.specs.declared.Transaction.{Transaction}
-use Rattle.gw_entities.specs.declared.stop.Stop.TheVariants.{NoBlock}
 use Rattle.gw_entities.specs.Facility.{idle, is_owned_by}
 use Rattle.gw_step.specs.declared.placement.Placement.{Placement}
 use Rattle.gw_step.specs.declared.placement.Placement.TheVariants.{StaysActive}
@@ -52,12 +51,12 @@ pub record Acts (p : Parts) (s : State) (n : ℕ) (t : Transaction) (block : Blo
   pub flow : MayPass p (own_table p) t.next block row
 
 -- a block to which a transaction may go on may be entered
-enterable : (o : Option Block) → IsSomeAnd o (λ block. is_generate (Some block) ≡ false) → may_enter o ≡ true
+pub enterable : (o : Option Block) → IsSomeAnd o (λ block. is_generate (Some block) ≡ false) → may_enter o ≡ true
 enterable None h = absurd h
 enterable (Some block) h = ap not h
 
 pub safe_leads : {A : Type 0} (p : Parts) (P : A → Type 0) (b : ℕ) (o : Outcome A) → MayBeEntered p b → Safe P o → Safe P (leads p.blocks b o)
-safe_leads p P b o may h = safe_test P (may_enter (block_at p.blocks b)) NoBlock o (enterable (block_at p.blocks b) may) h
+safe_leads p P b o may h = safe_test P (may_enter (block_at p.blocks b)) o (enterable (block_at p.blocks b) may) h
 
 -- the first and the second edge of a block
 pub at_first : {A : Type 0} (x : A) (xs : List A) → Contains (x ∷ xs) x

@@ -25,7 +25,7 @@ use Rattle.gw_object.specs.declared.parts.Kind.{Kind}
 use Rattle.gw_object.specs.declared.parts.Kind.TheVariants as kinds
 use Rattle.gw_entities.specs.Table.{initial_setting, initial_value, nothing_entered, tables_of, table_at}
 use Rattle.gw_step.specs.declared.ends.End.{End}
-use Rattle.gw_step.specs.Outcome.{Outcome, Gives, EndsBy, StopsBy}
+use Rattle.gw_step.specs.Outcome.{Outcome, Gives, EndsBy, HasNoCase}
 use Rattle.gw_step.specs.State.{State, with_streams}
 use Rattle.gw_step.specs.Times.{environment_of_next, drawn_moment}
 use Rattle.gw_step.specs.Changes.{newcomer, arrives}
@@ -42,7 +42,7 @@ use Rattle.gw_step.proofs.Bounds.{trace-within, trace-limits, trace-live, writte
 use Rattle.gw_step.proofs.Unstopped.{given}
 use Rattle.gw_step.proofs.Drawn.{IsSound, IsDrawn, AreRead, safe_drawn}
 use Rattle.gw_step.proofs.Asked.{arrival_read}
-use Rattle.gw_step.proofs.Safe.{kinds_of, flow_of, sound_of, reached_in_step, reached_states_are_well_typed}
+use Rattle.gw_step.proofs.Safe.{kinds_of, flow_of, sound_of, reached_in_step, reached_states_are_well_typed, start_is_well_typed, steps_keep_types}
 use Rattle.gw_step.proofs.Operands.{blocks_fit, all-blocks}
 use Rattle.gw_step.specs.Weight.{weight, most_weight}
 use Rattle.gw_step.proofs.Heaviest.{weight_below}
@@ -112,7 +112,7 @@ leads_from j s t (Gives u) b runs is n h =
     subst (Leads j s) same
     (record { bounded = bounded_more j s u b runs (is_counted j.parts s u is) (subst (Numbered j (s.steps + 1)) (sym same) n); steps = counts_more j.budget s u })
 leads_from j s t (EndsBy end) b runs is n h = subst (Leads j s) (some_is _ t h) (record { bounded = bounded_ended j s end b runs; steps = refl })
-leads_from j s t (StopsBy stop) b runs is n h = absurd cc
+leads_from j s t HasNoCase b runs is n h = absurd cc
 
 -- the numbers after a step, by its elementary changes
 numbered_step : (j : Job) (s t : State) → IsReached (record { job = j; state = s }) → Step j s t → Numbered j (s.steps + 1) t
@@ -132,6 +132,7 @@ reached_more j s t r runs next =
     record {
       alone = subst (λ (k : ℕ). Alone j k t) (sym l.steps) (one_more j s.steps s t r.alone next);
       fits = r.fits;
+      typed = steps_keep_types j s t r.fits.checked r.typed next;
       bounded = l.bounded;
     }
 
@@ -301,16 +302,18 @@ record Starts (j : Job) (s : State) : Type 0 where
   bounded : IsBounded j s
   steps : s.steps ≡ 0
 
-starts_from : (j : Job) (k : ℕ) (o : Outcome State) → JobFits j → k ≤ 4096 → OnGives (Begun (length j.parts.blocks) (length j.parts.entities) (pos j.count) k) o → Starts j (started (nothing j.parts j.count j.streams) o)
-starts_from j k (Gives t) fits few b = record { bounded = begun_bounded j k t t.ended fits few b; steps = b.steps }
-starts_from j k (EndsBy end) fits few b = record { bounded = begun_bounded j 0 (nothing j.parts j.count j.streams) (Some end) fits (omega arith) (nothing_begun j fits); steps = refl }
-starts_from j k (StopsBy stop) fits few b = record { bounded = begun_bounded j 0 (nothing j.parts j.count j.streams) None fits (omega arith) (nothing_begun j fits); steps = refl }
+starts_from : (j : Job) (k : ℕ) (s : State) (o : Outcome State) → JobFits j → k ≤ 4096 → OnGives (Begun (length j.parts.blocks) (length j.parts.entities) (pos j.count) k) o → started (nothing j.parts j.count j.streams) o ≡ Some s → Starts j s
+starts_from j k s (Gives t) fits few b is = subst (Starts j) (some_is t s is) (record { bounded = begun_bounded j k t t.ended fits few b; steps = b.steps })
+starts_from j k s (EndsBy end) fits few b is =
+    let none : State = nothing j.parts j.count j.streams in
+    subst (Starts j) (some_is (record none { ended = Some end }) s is) (record { bounded = begun_bounded j 0 none (Some end) fits (omega arith) (nothing_begun j fits); steps = refl })
+starts_from j k s HasNoCase fits few b is = absurd cc
 
-alone_at_start : (j : Job) → Alone j 0 (start_of j)
+alone_at_start : (j : Job) (s : State) → start_of j ≡ Some s → Alone j 0 s
 unfolding after
-alone_at_start j = refl
+alone_at_start j s is = is
 
-pub reached_first : (j : Job) (s : State) → JobFits j → s ≡ start_of j → IsReached (record { job = j; state = s })
+pub reached_first : (j : Job) (s : State) → JobFits j → start_of j ≡ Some s → IsReached (record { job = j; state = s })
 reached_first j s fits is =
     let bs = j.parts.blocks in
     let n = nothing j.parts j.count j.streams in
@@ -319,10 +322,10 @@ reached_first j s fits is =
     let read = arrival_read j.parts sound.entities (kinds_of j.parts fits.checked) (flow_of j.parts fits.checked) in
     let begins = all-blocks (Begins j.parts) bs (λ i block at. record { operands = fit.operands (suc i) block at; interval = λ g same. read (suc i) g (at ∙ ap Some same) }) in
     let b = firsts_begin j.parts sound (length bs) (length j.parts.entities) (pos j.count) 1 bs 0 n (omega arith) (omega arith) begins (nothing_begun j fits) in
-    let starts = starts_from j (length bs + 0) (first_arrivals j.parts 1 bs n) fits (omega (arith, fit.few)) b in
-    subst (λ (t : State). IsReached (record { job = j; state = t })) (sym is)
-    (record {
-      alone = subst (λ (k : ℕ). Alone j k (start_of j)) (sym starts.steps) (alone_at_start j);
+    let starts = starts_from j (length bs + 0) s (first_arrivals j.parts 1 bs n) fits (omega (arith, fit.few)) b is in
+    record {
+      alone = subst (λ (k : ℕ). Alone j k s) (sym starts.steps) (alone_at_start j s is);
       fits = fits;
+      typed = start_is_well_typed j s fits.checked is;
       bounded = starts.bounded;
-    })
+    }

@@ -17,10 +17,9 @@ use Rattle.gw_verify.proofs.AllPass.{kinds_pass, plus_passes, flow_passes}
 use Rattle.gw_num.specs.Table.{at}
 use Rattle.gw_transactions.specs.declared.Transaction.{Transaction}
 use Rattle.gw_transactions.specs.Transactions.{LiveTransaction, attributes_at}
-use Rattle.gw_entities.specs.declared.stop.Stop.TheVariants.{NoBlock}
 use Rattle.gw_step.specs.Numbers.{made_in}
 use Rattle.gw_step.specs.declared.ends.End.TheVariants.{Budget}
-use Rattle.gw_step.specs.Outcome.{Outcome, Gives, EndsBy, StopsBy, evaluated}
+use Rattle.gw_step.specs.Outcome.{Outcome, Gives, EndsBy, HasNoCase, evaluated}
 use Rattle.gw_step.specs.State.{FutureEvent, State, with_streams}
 use Rattle.gw_flow.specs.Values.{operands}
 use Rattle.gw_step.specs.Times.{environment_of}
@@ -31,10 +30,11 @@ use Rattle.gw_step.specs.Residence.{occurrences, active_numbers}
 use Rattle.gw_step.specs.Job.{Job, Step, then_step, after, start_of}
 use Rattle.gw_step.proofs.Outcomes.{choose}
 use Rattle.gw_step.proofs.Rests.{all_come_to_rest}
+use Rattle.gw_step.proofs.Steps.{some_is}
 use Rattle.gw_step.proofs.Residence.{one_if, at_most_one, same_number}
 use Rattle.gw_step.specs.Places.{IsThere}
 use Rattle.gw_step.specs.Typing.{IsPlaced, WellTyped, AreWithinCapacity}
-use Rattle.gw_step.specs.Safety.{RetryingResideOnce, StartIsWellTyped, StepsKeepTypes, WellTypedStatesStep, ReachedStatesAreWellTyped, NoJobIsStuck, AllJobsEnd, StoragesKeepTheirCapacity}
+use Rattle.gw_step.specs.Safety.{RetryingResideOnce, CheckedObjectsStart, StartIsWellTyped, StepsKeepTypes, WellTypedStatesStep, ReachedStatesAreWellTyped, NoJobIsStuck, AllJobsEnd, StoragesKeepTheirCapacity}
 use Rattle.gw_step.proofs.Traces.{place-free, its_chain, present, present_free, Activates, ClockMoves, Woken, Draws, Marks, Change, Trace, Done, Then, trace_on, trace-keeps}
 use Rattle.gw_step.proofs.Bounds.{trace-fills}
 use Rattle.gw_step.proofs.Timed.{TellsTime, values_tell}
@@ -42,13 +42,13 @@ use Rattle.gw_step.proofs.Calm.{Moves, MakesEntry, Calms, Ends, activates_calms,
 use Rattle.gw_step.specs.declared.ends.End.{End}
 use Rattle.gw_step.proofs.Unstopped.{Safe, safe_bind, safe_then, safe_found, safe_given}
 use Rattle.gw_step.proofs.Drawn.{IsSound, Read, safe_operands}
-use Rattle.gw_step.proofs.Asked.{are_read, acts_at}
+use Rattle.gw_step.proofs.Asked.{are_read, arrival_read, acts_at}
 use Rattle.gw_step.proofs.Moving.{Acts, Reaches, safe_placed}
 use Rattle.gw_step.proofs.Calling.{some_of}
 use Rattle.gw_step.proofs.Effects.{safe_call, safe_come_back, safe_comparison, safe_gate, safe_advance, safe_seize, safe_release, safe_enter, safe_leave, safe_join, safe_depart, safe_assign, safe_transfer, safe_fraction, safe_loop, safe_logic, safe_save, safe_mark, safe_plus, safe_tabulate, safe_terminate}
 use Rattle.gw_step.proofs.Copying.{safe_split, safe_assemble, safe_priority, safe_buffer}
 use Rattle.gw_step.proofs.Linking.{safe_link, safe_unlink}
-use Rattle.gw_step.proofs.Arriving.{safe_generate, start_typed}
+use Rattle.gw_step.proofs.Arriving.{Starts, safe_generate, start_typed}
 use Rattle.gw_step.proofs.Attributes.{attributes_of}
 
 -- WHAT IS TO BE MOVED
@@ -127,8 +127,8 @@ module _ (p : Parts) (each_return : All (ReturnsHold p) p.returns) (each_block :
       let at_block = place-free bears.0 t (its_chain (at None s.transactions n) bears.0 None bears.1 free) refl in
       let block = some_of (block_at p.blocks t.next) (subst (IsThere p) at_block placed.there) in
       let acts = acts_at p sound.entities each_block flow s ty n t block.0 active found block.1 in
-      safe_found (Reaches p k s) (attributes_at n s.transactions) NoBlock t _ found
-      (safe_found (Reaches p k s) (block_at p.blocks t.next) NoBlock block.0 _ block.1 (safe_act s n t block.0 acts.0 acts.1))
+      safe_found (Reaches p k s) (attributes_at n s.transactions) t _ found
+      (safe_found (Reaches p k s) (block_at p.blocks t.next) block.0 _ block.1 (safe_act s n t block.0 acts.0 acts.1))
 
   -- a step with no entry and no arrival
   apart : (s t : State) → Trace p k (made_in k) 0 s k (made_in k) 0 t → Moves s t → Reaches p k s t
@@ -162,12 +162,12 @@ module _ (p : Parts) (each_return : All (ReturnsHold p) p.returns) (each_block :
   stepped_traced budget s t (EndsBy end) h is =
       let same : record s { steps = s.steps + 1; ended = Some end } ≡ t = cc in
       subst (Reaches p k s) same (apart s (record s { steps = s.steps + 1; ended = Some end }) (Then (Marks (s.steps + 1) (Some end)) Done) (Ends refl (omega arith)))
-  stepped_traced budget s t (StopsBy stop) h is = absurd h
+  stepped_traced budget s t HasNoCase h is = absurd h
 
   stepped_leads : (budget : ℕ) (s : State) (o : Outcome State) → Safe (Reaches p k s) o → (t : State) × (stepped budget s o ≡ Some t)
   stepped_leads budget s (Gives u) h = (within_budget budget (record u { steps = s.steps + 1 }), refl)
   stepped_leads budget s (EndsBy end) h = (record s { steps = s.steps + 1; ended = Some end }, refl)
-  stepped_leads budget s (StopsBy stop) h = absurd h
+  stepped_leads budget s HasNoCase h = absurd h
 
   -- each step of a well-typed state is a list of elementary changes
   step_traced : (budget : ℕ) (s t : State) → WellTyped p s → step p budget s ≡ Some t → Reaches p k s t
@@ -201,8 +201,21 @@ sound_of p checked = record {
   procedures = λ env q pr may. let came = comes_to p env q pr (kinds_pass p checked) (plus_passes p checked) may in (came.0, came.1);
 }
 
+starts : (j : Job) → Checked j.parts → (first : State) × (start_of j ≡ Some first) × Starts j.parts first
+starts j checked =
+    let sound = sound_of j.parts checked in
+    start_typed j.parts (flow_of j.parts checked) sound (arrival_read j.parts sound.entities (kinds_of j.parts checked) (flow_of j.parts checked)) j.count j.streams
+
+pub checked_objects_start : CheckedObjectsStart
+checked_objects_start j checked = let first = starts j checked in (first.0, first.1)
+
+started_as : (j : Job) (s : State) → Checked j.parts → start_of j ≡ Some s → Starts j.parts s
+started_as j s checked is =
+    let first = starts j checked in
+    subst (Starts j.parts) (some_is first.0 s (sym first.1 ∙ is)) first.2
+
 pub start_is_well_typed : StartIsWellTyped
-start_is_well_typed j checked = (start_typed j.parts (flow_of j.parts checked) j.count j.streams).typed
+start_is_well_typed j s checked is = (started_as j s checked is).typed
 
 -- a step, from so many entries and arrivals
 pub reached_in_step : (j : Job) (k : ℕ) (s t : State) → Checked j.parts → WellTyped j.parts s → Step j s t → Reaches j.parts k s t
@@ -232,9 +245,8 @@ one_more j checked s (Some m) before is = kept_on j checked m s (before m refl) 
 reached : (j : Job) → Checked j.parts → (n : ℕ) (s : State) → after j n (start_of j) ≡ Some s → IsKept j.parts s
 unfolding after
 reached j checked zero s is =
-    let same : start_of j ≡ s = cc in
-    subst (IsKept j.parts) same
-    (record { typed = start_is_well_typed j checked; within = (start_typed j.parts (flow_of j.parts checked) j.count j.streams).within })
+    let first = started_as j s checked is in
+    record { typed = first.typed; within = first.within }
 reached j checked (suc n) s is = one_more j checked s (after j n (start_of j)) (λ m there. reached j checked n m there) is
 
 pub reached_states_are_well_typed : ReachedStatesAreWellTyped
@@ -257,10 +269,11 @@ no_job_is_stuck j n s checked alone stuck =
 
 pub all_jobs_end : AllJobsEnd
 all_jobs_end j checked some =
-    let rest = all_come_to_rest j some in
+    let first = checked_objects_start j checked in
+    let rest = all_come_to_rest j first.0 first.1 some in
     record {
       steps = rest.steps;
       state = rest.state;
       alone = rest.alone;
-      final = ⊎_elim (λ final. final) (λ stuck. absurd (no_job_is_stuck j rest.steps rest.state checked rest.alone stuck.0)) rest.over;
+      final = ⊎_elim (λ final. final) (λ stuck. absurd (no_job_is_stuck j rest.steps rest.state checked rest.alone stuck)) rest.over;
     }

@@ -1,5 +1,5 @@
 -- What each block does to the active transaction: whether it refuses it, and what entering comes to.
-use Rattle.std.specs.Prelude.{ℕ, zero, suc, min, length, ◌+◌, ◌-◌, ◌^◌, ℤ, pos, negsuc, List, [], ◌∷◌, Option, Some, None, Result, Ok, Err, Bool, true, false, not, nat_lt, nat_le, ◌==◌, if◌then◌else◌, int_lt, int_le, unsigned_abs, unwrap_or, is_none, ◌&&◌}
+use Rattle.std.specs.Prelude.{ℕ, zero, suc, min, length, ◌+◌, ◌-◌, ◌^◌, ℤ, pos, negsuc, List, [], ◌∷◌, Option, Some, None, Result, Ok, Bool, true, false, not, nat_lt, nat_le, ◌==◌, if◌then◌else◌, int_lt, int_le, unsigned_abs, unwrap_or, is_none, ◌&&◌}
 use Rattle.std.specs.Ordering.{int_eq}
 use Rattle.std.specs.Option.{option_map_or}
 use Rattle.std.specs.List.{find}
@@ -35,8 +35,6 @@ use Rattle.gw_num.specs.Table.{at}
 use Rattle.gw_transactions.specs.declared.Transaction.{Transaction}
 use Rattle.gw_transactions.specs.Transactions.{attributes_at, parameter_at, live_count}
 use Rattle.gw_entities.specs.declared.storages.Storage.{Storage}
-use Rattle.gw_entities.specs.declared.stop.Stop.{Stop}
-use Rattle.gw_entities.specs.declared.stop.Stop.TheVariants.{NoBlock, OwnsAtEnd, UnsetParam}
 use Rattle.gw_entities.specs.Facility.{is_idle, seized, seizing, releasing, owns_any}
 use Rattle.gw_entities.specs.Storage.{has_room, entered as with_units_entered, entering, leaving}
 use Rattle.gw_entities.specs.Queue.{joined, departing}
@@ -44,7 +42,7 @@ use Rattle.gw_entities.specs.Tabulation.{tabulating}
 use Rattle.gw_step.specs.declared.ends.End.TheVariants.{Number, Live}
 use Rattle.gw_step.specs.declared.placement.Placement.{Placement}
 use Rattle.gw_step.specs.declared.placement.Placement.TheVariants.{StaysActive, RestsUntil, JoinsDelayList, JoinsRetryList, RestsAhead, RestsBehind, AwaitsSet, JoinsChain, LeavesModel}
-use Rattle.gw_step.specs.Outcome.{Outcome, Gives, EndsBy, ◌>>=◌, unless_stopped, or_stop, granted, evaluated}
+use Rattle.gw_step.specs.Outcome.{Outcome, Gives, EndsBy, ◌>>=◌, only_if, case_of, evaluated}
 use Rattle.gw_step.specs.State.{Assembly, State, may_enter, with_streams, delay_list, user_chain}
 use Rattle.gw_step.specs.Times.{environment_of, environment_of_next, moment_after, drawn_moment}
 use Rattle.gw_step.specs.Changes.{entered, enters_and_falls, arrives, copies_made, is_of, assembled, come_to, leaves_chain, called_from, assigned, facility, storage, queue, switch, savevalue, table, put_facility, put_storage, put_queue, put_switch, put_savevalue, put_table, counted}
@@ -53,10 +51,10 @@ use Rattle.gw_step.specs.Placing.{placed}
 -- REFUSAL
 
 -- an entity answers that who asks has to wait
-abbrev pub has_to_wait : {A : Type 0} → Result (Bool × A) Stop → Bool
-has_to_wait (Ok (true, a)) = false
-has_to_wait (Ok (false, a)) = true
-has_to_wait (Err stop) = false
+abbrev pub has_to_wait : {A : Type 0} → Option (Bool × A) → Bool
+has_to_wait (Some (true, a)) = false
+has_to_wait (Some (false, a)) = true
+has_to_wait None = false
 
 -- whether two values compare so
 abbrev pub compares : Comparison → ℤ → ℤ → Bool
@@ -109,7 +107,7 @@ refusal block = JoinsRetryList
 
 -- a transaction goes on to the block of a number, which has to be there
 abbrev pub leads : {A : Type 0} → List Block → ℕ → Outcome A → Outcome A
-leads bs b outcome = unless_stopped (may_enter (block_at bs b)) NoBlock outcome
+leads bs b outcome = only_if (may_enter (block_at bs b)) outcome
 
 -- the state after an entry, where who entered stays active
 abbrev pub stays : State → Outcome (State × Placement)
@@ -154,7 +152,7 @@ advance bs n t time s = moment_after s.clock time >>= λ moment. leads bs (t.nex
 
 -- the effect of SEIZE: the transaction enters and owns the facility from now on
 abbrev pub seize : List Block → ℕ → Transaction → ℕ → State → Outcome (State × Placement)
-seize bs n t f s = leads bs (t.next + 1) (granted (seizing n (facility f s)) >>= λ r. stays (put_facility f r.1 (enters_and_falls n t s)))
+seize bs n t f s = leads bs (t.next + 1) (case_of (seizing n (facility f s)) >>= λ r. stays (put_facility f r.1 (enters_and_falls n t s)))
 
 -- whether a block is a SEIZE of this facility
 abbrev pub is_seize : ℕ → Option Block → Bool
@@ -172,13 +170,13 @@ hand_over bs f (n ∷ ns) s = option_map_or (takes_over bs f n s) (attributes_at
 
 -- the effect of RELEASE: the transaction, its owner, enters and gives the facility up, and it is handed over
 abbrev pub release : List Block → ℕ → Transaction → ℕ → State → Outcome (State × Placement)
-release bs n t f s = leads bs (t.next + 1) (granted (releasing n (facility f s)) >>= λ r. stays (hand_over bs f (delay_list f s) (put_facility f r.1 (enters_and_falls n t s))))
+release bs n t f s = leads bs (t.next + 1) (case_of (releasing n (facility f s)) >>= λ r. stays (hand_over bs f (delay_list f s) (put_facility f r (enters_and_falls n t s))))
 
 -- STORAGES
 
 -- the effect of ENTER: the transaction enters, and units of the storage are taken
 abbrev pub enter : List Block → ℕ → Transaction → Units → State → Outcome (State × Placement)
-enter bs n t u s = leads bs (t.next + 1) (granted (entering u.number (storage u.entity s)) >>= λ r. stays (put_storage u.entity r.1 (enters_and_falls n t s)))
+enter bs n t u s = leads bs (t.next + 1) (case_of (entering u.number (storage u.entity s)) >>= λ r. stays (put_storage u.entity r.1 (enters_and_falls n t s)))
 
 -- the units of a storage that a block asks for, if it is its ENTER
 abbrev pub asked : ℕ → Option Block → Option Units
@@ -208,7 +206,7 @@ admission bs e (n ∷ ns) s = admission bs e ns (looked_at bs e n s)
 -- the effect of LEAVE: the transaction enters, units of the storage are given back, and waiters are admitted
 abbrev pub leave : List Block → ℕ → Transaction → Units → State → Outcome (State × Placement)
 leave bs n t u s =
-    leads bs (t.next + 1) (granted (leaving u.number (storage u.entity s)) >>= λ r. stays (admission bs u.entity (delay_list u.entity s) (put_storage u.entity r.1 (enters_and_falls n t s))))
+    leads bs (t.next + 1) (case_of (leaving u.number (storage u.entity s)) >>= λ r. stays (admission bs u.entity (delay_list u.entity s) (put_storage u.entity r (enters_and_falls n t s))))
 
 -- QUEUES
 
@@ -218,7 +216,7 @@ join_queue bs n t u s = leads bs (t.next + 1) (stays (put_queue u.entity (joined
 
 -- the effect of DEPART: the transaction enters, and units depart from the queue
 abbrev pub depart : List Block → ℕ → Transaction → Units → State → Outcome (State × Placement)
-depart bs n t u s = leads bs (t.next + 1) (granted (departing u.number (queue u.entity s)) >>= λ r. stays (put_queue u.entity r.1 (enters_and_falls n t s)))
+depart bs n t u s = leads bs (t.next + 1) (case_of (departing u.number (queue u.entity s)) >>= λ r. stays (put_queue u.entity r (enters_and_falls n t s)))
 
 -- CONDITIONS
 
@@ -249,7 +247,7 @@ block_after value = if int_lt value (pos 0) then 0 else unsigned_abs value + 1
 
 -- the effect of TRANSFER in parameter mode: the transaction enters and goes to the block after the one whose number is in a parameter of it, which has to be set
 abbrev pub come_back : List Block → ℕ → Transaction → ℕ → State → Outcome (State × Placement)
-come_back bs n t q s = or_stop (parameter_at n q s.transactions) UnsetParam >>= λ value. transfer bs n t (block_after value) s
+come_back bs n t q s = case_of (parameter_at n q s.transactions) >>= λ value. transfer bs n t (block_after value) s
 
 -- PARAMETERS
 
@@ -272,7 +270,7 @@ looped b target left = if int_lt (pos 0) left then target else b + 1
 -- the effect of LOOP: a parameter of the transaction, which has to be set, falls by one, and the transaction enters
 abbrev pub loop : List Block → ℕ → Transaction → Loop → State → Outcome (State × Placement)
 loop bs n t l s =
-    or_stop (parameter_at n l.parameter s.transactions) UnsetParam >>= λ old.
+    case_of (parameter_at n l.parameter s.transactions) >>= λ old.
     evaluated (answered (difference_of old (pos 1))) >>= λ left.
     leads bs (looped t.next l.target left) (stays (entered n t (looped t.next l.target left) (assigned n l.parameter left s)))
 
@@ -314,7 +312,7 @@ assemble_first bs n t missing s = leads bs (t.next + 1) (Gives (enters_and_falls
 
 -- another of a set enters an ASSEMBLE, where the first waits, and is destroyed; it owns nothing
 abbrev pub assemble_other : ℕ → Transaction → Assembly → State → Outcome (State × Placement)
-assemble_other n t a s = unless_stopped (not (owns_any n s.entities.facilities)) OwnsAtEnd (Gives (joined_by_one a (entered n t t.next s), LeavesModel))
+assemble_other n t a s = only_if (not (owns_any n s.entities.facilities)) (Gives (joined_by_one a (entered n t t.next s), LeavesModel))
 
 -- one of a set of this size enters an ASSEMBLE: the assembly of its set has begun, or begins now
 abbrev pub assemble_in : List Block → ℕ → Transaction → ℕ → Option Assembly → State → Outcome (State × Placement)
@@ -395,7 +393,7 @@ tabulate bs n t e value s =
 
 -- the effect of TERMINATE: the transaction, which owns nothing, enters and is destroyed, and the termination count falls, but not by less than 0
 abbrev pub terminate : ℕ → Transaction → ℤ → State → Outcome (State × Placement)
-terminate n t by s = if int_lt by (pos 0) then EndsBy Number else unless_stopped (not (owns_any n s.entities.facilities)) OwnsAtEnd (Gives (counted by (entered n t t.next s), LeavesModel))
+terminate n t by s = if int_lt by (pos 0) then EndsBy Number else only_if (not (owns_any n s.entities.facilities)) (Gives (counted by (entered n t t.next s), LeavesModel))
 
 -- THE STEP OF THE ACTIVE TRANSACTION
 

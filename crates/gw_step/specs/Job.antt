@@ -5,10 +5,9 @@ use Rattle.gw_object.specs.declared.parts.Parts.{Parts}
 use Rattle.gw_object.specs.Grammar.{HasSpelling}
 use Rattle.gw_verify.specs.Checks.{Checked}
 use Rattle.gw_weights.specs.Laws.{Weighted}
-use Rattle.gw_entities.specs.declared.stop.Stop.{Stop}
-use Rattle.gw_step.specs.Outcome.{stop_in}
 use Rattle.gw_step.specs.State.{State}
-use Rattle.gw_step.specs.Step.{step, scan}
+use Rattle.gw_step.specs.Step.{step}
+use Rattle.gw_step.specs.Typing.{WellTyped}
 use Rattle.gw_step.specs.Start.{start}
 use Rattle.gw_step.specs.Numbers.{IsWithin, made_in, AreWithinLimits, AreFewLive}
 use Rattle.gw_step.specs.Weight.{weight, most_weight}
@@ -44,14 +43,10 @@ IsFinal s = IsTrue (is_some s.ended)
 abbrev pub IsStuck : Job → State → Type 0
 IsStuck j s = (s.ended ≡ None) × (step j.parts j.budget s ≡ None)
 
--- the error stop of a state, if it is stuck
-abbrev pub stop_of : Job → State → Option Stop
-stop_of j s = stop_in (scan j.parts s.lists.active s)
-
 -- THE LONE RUN
 
--- the start state
-abbrev pub start_of : Job → State
+-- the start state, if there is one
+abbrev pub start_of : Job → Option State
 start_of j = start j.parts j.count j.streams
 
 -- one step more, if there is one
@@ -59,9 +54,9 @@ abbrev pub then_step : Job → Option State → Option State
 then_step j None = None
 then_step j (Some s) = step j.parts j.budget s
 
--- the state after so many steps, if there are so many
-unfoldable pub after : Job → ℕ → State → Option State
-after j zero s = Some s
+-- the state so many steps after this one, if there is one and there are so many
+unfoldable pub after : Job → ℕ → Option State → Option State
+after j zero s = s
 after j (suc n) s = then_step j (after j n s)
 
 -- the lone run: from the start state, n steps lead to s
@@ -99,8 +94,9 @@ pub record IsBounded (j : Job) (s : State) : Type 0 where
   pub live : AreFewLive s.transactions
   pub weight : weight j.parts s ≤ most_weight
 
--- a state that its job reaches: the lone run has it after as many steps
+-- a state that its job reaches: the lone run has it after as many steps, and it is well-typed
 pub record IsReached (p : Progress) : Type 0 where
   pub alone : Alone p.job p.state.steps p.state
   pub fits : JobFits p.job
+  pub typed : WellTyped p.job.parts p.state
   pub bounded : IsBounded p.job p.state

@@ -9,6 +9,7 @@ pub mod Step
 pub mod Start
 pub mod Numbers
 pub mod Operands
+pub mod Asks
 pub mod Job
 pub mod Laws
 pub mod Residence

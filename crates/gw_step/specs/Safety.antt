@@ -7,15 +7,20 @@ use Rattle.gw_object.specs.Grammar.{HasSpelling}
 use Rattle.gw_kinds.specs.Kinds.{block_at}
 use Rattle.gw_code_flow.specs.Environment.{Environment}
 use Rattle.gw_step.specs.Operands.{MayDraw, MayStep}
+use Rattle.gw_step.specs.Asks.{IsServed}
 use Rattle.gw_verify.specs.Checks.{Checked}
 use Rattle.gw_step.specs.State.{State}
 use Rattle.gw_step.specs.Job.{Job, Step, IsFinal, IsStuck, Alone, start_of}
 use Rattle.gw_step.specs.Residence.{occurrences, occurrences_in}
 use Rattle.gw_step.specs.Typing.{WellTyped, AreWithinCapacity}
 
--- the start state is well-typed
+-- a job of a checked object has a start state
+abbrev pub CheckedObjectsStart : Type 0
+CheckedObjectsStart = (j : Job) → Checked j.parts → (s : State) × (start_of j ≡ Some s)
+
+-- and it is well-typed
 abbrev pub StartIsWellTyped : Type 0
-StartIsWellTyped = (j : Job) → Checked j.parts → WellTyped j.parts (start_of j)
+StartIsWellTyped = (j : Job) (s : State) → Checked j.parts → start_of j ≡ Some s → WellTyped j.parts s
 
 -- each step of a well-typed state leads to a well-typed state
 abbrev pub StepsKeepTypes : Type 0
@@ -32,6 +37,10 @@ ParametersSuffice = (p : Parts) (s : State) → Checked p → HasSpelling p → 
 -- and the interval of a GENERATE asks for no parameter at all
 abbrev pub IntervalsAskForNothing : Type 0
 IntervalsAskForNothing = (p : Parts) (b : ℕ) (g : Generate) (env : Environment) → Checked p → HasSpelling p → block_at p.blocks b ≡ Some (blocks.Generate g) → MayDraw p env g.interval
+
+-- in a well-typed state the active transaction has all that its next block asks for
+abbrev pub BlocksAreServed : Type 0
+BlocksAreServed = (p : Parts) (s : State) → Checked p → WellTyped p s → IsServed p s
 
 -- a state that a job of a checked object reaches is well-typed
 abbrev pub ReachedStatesAreWellTyped : Type 0

@@ -10,7 +10,7 @@ use Rattle.gw_entities.specs.Facility.{idle}
 use Rattle.gw_object.specs.Entities.{capacity_of}
 use Rattle.gw_entities.specs.Storage.{vacant}
 use Rattle.gw_entities.specs.Table.{switches_of, savevalues_of, tables_of}
-use Rattle.gw_step.specs.Outcome.{Outcome, Gives, EndsBy, StopsBy, ◌>>=◌}
+use Rattle.gw_step.specs.Outcome.{Outcome, Gives, EndsBy, HasNoCase, ◌>>=◌}
 use Rattle.gw_step.specs.State.{EntityStates, State, with_streams}
 use Rattle.gw_step.specs.Times.{environment_of_next, drawn_moment}
 use Rattle.gw_step.specs.Changes.{arrives}
@@ -59,12 +59,12 @@ unfoldable pub first_arrivals : Parts → ℕ → List Block → State → Outco
 first_arrivals p b [] s = Gives s
 first_arrivals p b (block ∷ rest) s = first_arrival p b block s >>= first_arrivals p (b + 1) rest
 
--- a named end is the job's end, and then nothing is scheduled
-abbrev pub started : State → Outcome State → State
-started s (Gives t) = t
-started s (EndsBy end) = record s { ended = Some end }
-started s (StopsBy stop) = s
+-- a named end is the job's end, and then nothing is scheduled; where the time of a first arrival has no value there is no start
+abbrev pub started : State → Outcome State → Option State
+started s (Gives t) = Some t
+started s (EndsBy end) = Some (record s { ended = Some end })
+started s HasNoCase = None
 
--- the start state of an object, this termination count and these streams
-abbrev pub start : Parts → ℕ → List ℕ → State
+-- the start state of an object, this termination count and these streams, if there is one
+abbrev pub start : Parts → ℕ → List ℕ → Option State
 start parts count streams = started (nothing parts count streams) (first_arrivals parts 1 parts.blocks (nothing parts count streams))

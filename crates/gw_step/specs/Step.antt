@@ -3,9 +3,8 @@ use Rattle.std.specs.Prelude.{ℕ, ◌+◌, List, [], ◌∷◌, Option, Some, N
 use Rattle.gw_object.specs.declared.parts.Parts.{Parts}
 use Rattle.gw_kinds.specs.Kinds.{block_at}
 use Rattle.gw_transactions.specs.Transactions.{attributes_at}
-use Rattle.gw_entities.specs.declared.stop.Stop.TheVariants.{NoBlock}
 use Rattle.gw_step.specs.declared.ends.End.TheVariants.{NoMoreEvents, Budget}
-use Rattle.gw_step.specs.Outcome.{Outcome, Gives, EndsBy, StopsBy, ◌>>=◌, or_stop}
+use Rattle.gw_step.specs.Outcome.{Outcome, Gives, EndsBy, HasNoCase, ◌>>=◌, case_of}
 use Rattle.gw_step.specs.State.{FutureEvent, State}
 use Rattle.gw_step.specs.Changes.{clock_moves, woken}
 use Rattle.gw_step.specs.Blocks.{act}
@@ -25,7 +24,7 @@ next_active (n ∷ ns) s = Gives (record s { lists = record s.lists { active = S
 -- what a step does, but for the count of steps: the active transaction meets its next block, or another becomes active
 abbrev pub scan : Parts → Option ℕ → State → Outcome State
 scan p None s = next_active s.lists.current_events s
-scan p (Some n) s = or_stop (attributes_at n s.transactions) NoBlock >>= λ t. or_stop (block_at p.blocks t.next) NoBlock >>= λ block. act p n t block s
+scan p (Some n) s = case_of (attributes_at n s.transactions) >>= λ t. case_of (block_at p.blocks t.next) >>= λ block. act p n t block s
 
 -- THE STEP
 
@@ -37,7 +36,7 @@ within_budget budget s = if is_none s.ended && (s.steps == budget) then record s
 abbrev pub stepped : ℕ → State → Outcome State → Option State
 stepped budget s (Gives t) = Some (within_budget budget (record t { steps = s.steps + 1 }))
 stepped budget s (EndsBy end) = Some (record s { steps = s.steps + 1; ended = Some end })
-stepped budget s (StopsBy stop) = None
+stepped budget s HasNoCase = None
 
 -- the one state after a running state; there is none after a final state, nor where it meets an error stop
 unfoldable pub step : Parts → ℕ → State → Option State

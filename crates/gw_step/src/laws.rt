@@ -12,11 +12,13 @@ ghost use Rattle.gw_step.specs.Laws.{
   WaitersAloneEnd,
 };
 ghost use Rattle.gw_step.specs.Safety.{
+  CheckedObjectsStart,
   StartIsWellTyped,
   StepsKeepTypes,
   WellTypedStatesStep,
   ParametersSuffice,
   IntervalsAskForNothing,
+  BlocksAreServed,
   ReachedStatesAreWellTyped,
   NoJobIsStuck,
   AllJobsEnd,
@@ -47,16 +49,17 @@ pub fn slices_reach_the_same()
     ensures alone { SlicesAreAlone }
 {}
 
-/// Each job comes to a named end within its budget, or is stuck at an error stop.
+/// Each job that has a start comes to a named end within its budget, or is stuck at an error stop.
 #[tactic(auto, using(crate::proofs::Rests::all_come_to_rest))]
 pub fn all_jobs_come_to_rest()
     ensures { AllComeToRest }
 {}
 
-/// Typed states never get stuck: the start state of a checked object is well-typed, each step of a well-typed state leads
+/// Typed states never get stuck: a checked object has a start state, which is well-typed, each step of a well-typed state leads
 /// to a well-typed state, and a well-typed state that runs has a step (ours: docs/machine.md, "Well-typed states").
-#[tactic(auto, using(crate::proofs::Safe::start_is_well_typed, crate::proofs::Safe::steps_keep_types, crate::proofs::Safe::well_typed_states_step))]
+#[tactic(auto, using(crate::proofs::Safe::checked_objects_start, crate::proofs::Safe::start_is_well_typed, crate::proofs::Safe::steps_keep_types, crate::proofs::Safe::well_typed_states_step))]
 pub fn typed_states_never_get_stuck()
+    ensures starts { CheckedObjectsStart }
     ensures start { StartIsWellTyped }
     ensures kept { StepsKeepTypes }
     ensures steps { WellTypedStatesStep }
@@ -67,6 +70,15 @@ pub fn typed_states_never_get_stuck()
 pub fn parameters_suffice()
     ensures active { ParametersSuffice }
     ensures arrivals { IntervalsAskForNothing }
+{}
+
+/// In a well-typed state the active transaction has all that its next block asks for: it owns what it releases, not what it
+/// seizes, and nothing where it ends; it has the units that it gives back, and asks for no more than there are; the parameter
+/// is set in which it counts or finds its way back; and wherever the block leads, there is a block that may be entered (ours:
+/// docs/machine.md, "Well-typed states").
+#[tactic(auto, using(crate::proofs::Served::blocks_are_served))]
+pub fn blocks_are_served()
+    ensures { BlocksAreServed }
 {}
 
 /// No job of a checked object meets an error stop: each state that it reaches is well-typed and isn't stuck, no storage

@@ -1,12 +1,13 @@
 -- What the fields tell of the population, before a call and after it.
-use Rattle.std.proofs.Common.{◌≡◌, ℕ, ◌+◌, ◌^◌, ◌<◌, List, length, set, Option, Some, None, option_map, is_some, cond, refl, sym, ap, ◌∙◌, subst, arith}
+use Rattle.std.proofs.Common.{◌≡◌, ◌≢◌, ℕ, zero, suc, ◌+◌, ◌^◌, ◌<◌, List, [], ◌∷◌, get_or, inl, inr, length, set, Option, Some, None, option_map, is_some, cond, refl, sym, ap, ◌∙◌, subst, arith}
+use Rattle.std.proofs.lemmas.Bool.{cases_eq}
 use Rattle.slab.specs.Slab.{Slab, get, Updates, slab_len, with_value}
 use Rattle.gw_chains.specs.declared.tx.Tx.{Tx}
 use Rattle.gw_transactions.specs.declared.Kept.{Kept}
 use Rattle.gw_transactions.specs.declared.Transactions.TheInside.{Inside}
 use Rattle.gw_num.specs.Table.{at, put}
 use Rattle.gw_transactions.specs.Transactions.{Population, LiveTransaction, Holds, IsSound, live_count}
-use Rattle.gw_transactions.specs.Slots.{live_as, by_number, population_of, AreNumbered, AreCounted}
+use Rattle.gw_transactions.specs.Slots.{live_as, by_number, population_of, AreNumbered, AreCounted, AreAlike}
 use Rattle.gw_num.proofs.Tables.{at_some, at-get_or, at_past, put-at, count_by-put}
 use Rattle.gw_transactions.proofs.Slots.{same_slot, own_number, entry_of, by_number-set, by_number-next, numbered-set, numbered-next, at-by_number, at-by_number_free, slot_of, length-by_number, count_by-by_number}
 
@@ -37,31 +38,31 @@ transaction_of p sound tx holds = some_as (at None p.places tx.number) (at None 
 
 -- THE TABLES OF A SLAB
 
-module _ (s : Slab (ℕ × Kept)) (next : ℕ) where
-  slot_of_tx : (number : ℕ) (t : LiveTransaction) → at None (population_of s next).txs number ≡ Some t → (p : ℕ) × (x : Kept) × (get s p ≡ Some (number, x))
+module _ (s : Slab (ℕ × Kept)) (next last : ℕ) where
+  slot_of_tx : (number : ℕ) (t : LiveTransaction) → at None (population_of s next last).txs number ≡ Some t → (p : ℕ) × (x : Kept) × (get s p ≡ Some (number, x))
   slot_of_tx number t there =
       let slot = slot_of (λ place kept. live_as kept) next 0 number s.slots t there in
       (slot.0, slot.1, slot.2)
 
-  slot_at : (number place : ℕ) → at None (population_of s next).places number ≡ Some place → (t : Kept) × (get s place ≡ Some (number, t))
+  slot_at : (number place : ℕ) → at None (population_of s next last).places number ≡ Some place → (t : Kept) × (get s place ≡ Some (number, t))
   slot_at number place there =
       let slot = slot_of (λ place kept. place) next 0 number s.slots place there in
       let here : slot.0 ≡ place = omega (arith, slot.3) in
       (slot.1, ap (get s) (sym here) ∙ slot.2)
 
   module _ (num : AreNumbered s.slots next) where
-    tx-slot : (p number : ℕ) (t : Kept) → get s p ≡ Some (number, t) → at None (population_of s next).txs number ≡ Some (live_as t)
+    tx-slot : (p number : ℕ) (t : Kept) → get s p ≡ Some (number, t) → at None (population_of s next last).txs number ≡ Some (live_as t)
     tx-slot p number t there = at-by_number (λ place kept. live_as kept) next 0 p s.slots (number, t) num there
 
-    place-slot : (p number : ℕ) (t : Kept) → get s p ≡ Some (number, t) → at None (population_of s next).places number ≡ Some p
+    place-slot : (p number : ℕ) (t : Kept) → get s p ≡ Some (number, t) → at None (population_of s next last).places number ≡ Some p
     place-slot p number t there =
         let here : 0 + p ≡ p = omega arith in
         rw here at (at-by_number (λ place kept. place) next 0 p s.slots (number, t) num there)
 
-    pub length-txs : length (population_of s next).txs ≡ next
+    pub length-txs : length (population_of s next last).txs ≡ next
     length-txs = length-by_number (λ place kept. live_as kept) next 0 s.slots num
 
-    sound_from : 0 < next → IsSound (population_of s next)
+    sound_from : 0 < next → IsSound (population_of s next last)
     sound_from begun =
         record {
           begun = omega (arith, length-txs, begun);
@@ -69,7 +70,7 @@ module _ (s : Slab (ℕ × Kept)) (next : ℕ) where
           nobody = at-by_number_free (λ place kept. live_as kept) next 0 0 s.slots (λ p a there zero_is. absurd (omega (arith, zero_is, (num.given p a there).0)));
           lengths = length-by_number (λ place kept. place) next 0 s.slots num ∙ sym length-txs;
           placed = λ number.
-              same_some (at None (population_of s next).places number) (at None (population_of s next).txs number)
+              same_some (at None (population_of s next last).places number) (at None (population_of s next last).txs number)
               (λ place. let slot = slot_at number place.0 place.1 in (live_as slot.0, tx-slot place.0 number slot.0 slot.1))
               (λ t. let slot = slot_of_tx number t.0 t.1 in (slot.0, place-slot slot.0 number slot.1 slot.2));
           below = λ number place there. let slot = slot_at number place there in omega (arith, length-txs, (num.given place (number, slot.0) slot.1).1);
@@ -79,29 +80,54 @@ module _ (s : Slab (ℕ × Kept)) (next : ℕ) where
               ap (λ (x : ℕ × Kept). x.0) (same_slot (m, a.0) (n, b.0) (sym a.1 ∙ b.1));
         }
 
-    live_count-slots : live_count (population_of s next).txs ≡ slab_len s
+    live_count-slots : live_count (population_of s next last).txs ≡ slab_len s
     live_count-slots = count_by-by_number (λ place kept. live_as kept) next 0 s.slots is_some is_some num refl refl (λ p a. refl)
 
-pub sound : (s : Slab (ℕ × Kept)) (created : ℕ) → AreNumbered s.slots (created + 1) → IsSound (population_of s (created + 1))
-sound s created num = sound_from s (created + 1) num (omega arith)
+pub sound : (s : Slab (ℕ × Kept)) (created last : ℕ) → AreNumbered s.slots (created + 1) → IsSound (population_of s (created + 1) last)
+sound s created last num = sound_from s (created + 1) last num (omega arith)
+
+-- AS MANY PARAMETERS
+
+-- one slot is written, or emptied
+pub alike-set : (last : ℕ) (slots : List (Option (ℕ × Kept))) (place : ℕ) (v : Option (ℕ × Kept)) → AreAlike last slots → ((b : ℕ × Kept) → v ≡ Some b → b.1.parameters.last ≡ last) → AreAlike last (set slots place v)
+alike-set last [] place v alike own = alike
+alike-set last (o ∷ slots) zero v alike own = λ q b there. at_first q b there
+  where
+    at_first : (q : ℕ) (b : ℕ × Kept) → get_or (v ∷ slots) q None ≡ Some b → b.1.parameters.last ≡ last
+    at_first zero b there = own b there
+    at_first (suc q) b there = alike (suc q) b there
+alike-set last (o ∷ slots) (suc place) v alike own = λ q b there. later (alike-set last slots place v (λ r a is. alike (suc r) a is) own) q b there
+  where
+    later : AreAlike last (set slots place v) → (q : ℕ) (b : ℕ × Kept) → get_or (o ∷ set slots place v) q None ≡ Some b → b.1.parameters.last ≡ last
+    later rest zero b there = alike zero b there
+    later rest (suc q) b there = rest q b there
+
+-- a slot changes, and the others stay
+pub alike-next : (last place : ℕ) (old new : List (Option (ℕ × Kept))) (n : ℕ) (t : Kept) → AreAlike last old → ((q : ℕ) → q ≢ place → get_or new q None ≡ get_or old q None) → get_or new place None ≡ Some (n, t) → t.parameters.last ≡ last → AreAlike last new
+alike-next last place old new n t alike others changed same =
+    λ q b there.
+    elim (cases_eq q place) [
+      | inl here ↦ ap (λ (a : ℕ × Kept). a.1.parameters.last) (sym (same_slot (n, t) b (sym changed ∙ ap (λ i. get_or new i None) (sym here) ∙ there))) ∙ same
+      | inr other ↦ alike q b (sym (others q other) ∙ there)
+    ]
 
 -- THE POPULATION THAT THE FIELDS SHOW
 
-module _ (inside : Inside) (num : AreNumbered inside.slots.slots (inside.created + 1)) (p : Population) (is : population_of inside.slots (inside.created + 1) ≡ p) where
+module _ (inside : Inside) (num : AreNumbered inside.slots.slots (inside.created + 1)) (p : Population) (is : population_of inside.slots (inside.created + 1) inside.unset.last ≡ p) where
   pub sound_of : IsSound p
-  sound_of = subst IsSound is (sound inside.slots inside.created num)
+  sound_of = subst IsSound is (sound inside.slots inside.created inside.unset.last num)
 
   pub next_is : inside.created + 1 ≡ length p.txs
-  next_is = sym (length-txs inside.slots (inside.created + 1) num) ∙ ap (λ (q : Population). length q.txs) is
+  next_is = sym (length-txs inside.slots (inside.created + 1) inside.unset.last num) ∙ ap (λ (q : Population). length q.txs) is
 
   pub live_is : slab_len inside.slots ≡ live_count p.txs
-  live_is = sym (live_count-slots inside.slots (inside.created + 1) num) ∙ ap (λ (q : Population). live_count q.txs) is
+  live_is = sym (live_count-slots inside.slots (inside.created + 1) inside.unset.last num) ∙ ap (λ (q : Population). live_count q.txs) is
 
   -- the slot of a handle
   pub held : (tx : Tx) → Holds p tx → (t : Kept) × (get inside.slots tx.place ≡ Some (tx.number, t)) × (at None p.txs tx.number ≡ Some (live_as t))
   held tx holds =
-      let slot = slot_at inside.slots (inside.created + 1) tx.number tx.place (subst (λ (q : Population). Holds q tx) (sym is) holds) in
-      (slot.0, slot.1, subst (λ (q : Population). at None q.txs tx.number ≡ Some (live_as slot.0)) is (tx-slot inside.slots (inside.created + 1) num tx.place tx.number slot.0 slot.1))
+      let slot = slot_at inside.slots (inside.created + 1) inside.unset.last tx.number tx.place (subst (λ (q : Population). Holds q tx) (sym is) holds) in
+      (slot.0, slot.1, subst (λ (q : Population). at None q.txs tx.number ≡ Some (live_as slot.0)) is (tx-slot inside.slots (inside.created + 1) inside.unset.last num tx.place tx.number slot.0 slot.1))
 
   -- its value
   pub value_of : (tx : Tx) → Holds p tx → (a : ℕ × Kept) → get inside.slots tx.place ≡ Some a → at None p.txs tx.number ≡ Some (live_as a.1)
@@ -109,7 +135,7 @@ module _ (inside : Inside) (num : AreNumbered inside.slots.slots (inside.created
 
   -- EITHER TABLE
 
-  module _ {Y : Type 0} (entry : ℕ → Kept → Y) (table : Population → List (Option Y)) (is_table : table (population_of inside.slots (inside.created + 1)) ≡ by_number entry (inside.created + 1) 0 inside.slots.slots) where
+  module _ {Y : Type 0} (entry : ℕ → Kept → Y) (table : Population → List (Option Y)) (is_table : table (population_of inside.slots (inside.created + 1) inside.unset.last) ≡ by_number entry (inside.created + 1) 0 inside.slots.slots) where
     was : by_number entry (inside.created + 1) 0 inside.slots.slots ≡ table p
     was = sym is_table ∙ ap table is
 
@@ -145,7 +171,7 @@ module _ (inside : Inside) (num : AreNumbered inside.slots.slots (inside.created
 
   -- HOW MANY ARE AT EACH BLOCK
 
-  pub counted_of : AreCounted inside.here (population_of inside.slots (inside.created + 1)).txs → AreCounted inside.here p.txs
+  pub counted_of : AreCounted inside.here (population_of inside.slots (inside.created + 1) inside.unset.last).txs → AreCounted inside.here p.txs
   counted_of counted = subst (λ (q : Population). AreCounted inside.here q.txs) is counted
 
   -- HOW MANY ARE LIVE
@@ -181,17 +207,21 @@ module _ (inside : Inside) (num : AreNumbered inside.slots.slots (inside.created
     pub written-numbered : AreNumbered (set inside.slots.slots tx.place (Some (was.0, now))) (inside.created + 1)
     written-numbered = numbered-set_of tx (Some (was.0, now)) holds own
 
-    pub written-length : length (population_of (with_value inside.slots tx.place (was.0, now)) (inside.created + 1)).txs ≡ length p.txs
-    written-length = length-txs (with_value inside.slots tx.place (was.0, now)) (inside.created + 1) written-numbered ∙ next_is
+    pub written-length : length (population_of (with_value inside.slots tx.place (was.0, now)) (inside.created + 1) inside.unset.last).txs ≡ length p.txs
+    written-length = length-txs (with_value inside.slots tx.place (was.0, now)) (inside.created + 1) inside.unset.last written-numbered ∙ next_is
 
-    pub written-live : live_count (population_of (with_value inside.slots tx.place (was.0, now)) (inside.created + 1)).txs ≡ live_count p.txs
+    pub written-live : live_count (population_of (with_value inside.slots tx.place (was.0, now)) (inside.created + 1) inside.unset.last).txs ≡ live_count p.txs
     written-live = ap live_count written-txs ∙ live_count-write tx (live_as now) holds
 
     -- as many slots are taken
     pub written-len : slab_len (with_value inside.slots tx.place (was.0, now)) ≡ slab_len inside.slots
-    written-len = sym (live_count-slots (with_value inside.slots tx.place (was.0, now)) (inside.created + 1) written-numbered) ∙ written-live ∙ sym live_is
+    written-len = sym (live_count-slots (with_value inside.slots tx.place (was.0, now)) (inside.created + 1) inside.unset.last written-numbered) ∙ written-live ∙ sym live_is
 
     -- by a change of what was there
     pub written-by : (change : LiveTransaction → LiveTransaction) → live_as now ≡ change (live_as was.1) → by_number (λ place kept. live_as kept) (inside.created + 1) 0 (set inside.slots.slots tx.place (Some (was.0, now))) ≡ put None p.txs tx.number (option_map change (at None p.txs tx.number))
     written-by change is_now =
         written-txs ∙ ap (put None p.txs tx.number) (ap Some is_now ∙ sym (ap (option_map change) (value_of tx holds was there)))
+
+    -- which has as many parameters
+    pub written-alike : AreAlike inside.unset.last inside.slots.slots → now.parameters.last ≡ was.1.parameters.last → AreAlike inside.unset.last (set inside.slots.slots tx.place (Some (was.0, now)))
+    written-alike alike same = alike-set inside.unset.last inside.slots.slots tx.place (Some (was.0, now)) alike (λ b is. ap (λ (a : ℕ × Kept). a.1.parameters.last) (sym (same_slot (was.0, now) b is)) ∙ same ∙ alike tx.place was there)

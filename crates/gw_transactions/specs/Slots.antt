@@ -16,19 +16,20 @@ module _ {X Y : Type 0} (entry : ℕ → X → Y) (next : ℕ) where
 
 -- a transaction that is kept
 abbrev pub live_as : Kept → LiveTransaction
-live_as kept = record { attributes = kept.attributes; parameters = kept.parameters; chain = kept.chain }
+live_as kept = record { attributes = kept.attributes; parameters = kept.parameters.values; chain = kept.chain }
 
 -- what an entry of a slab lists of the transaction that it keeps
 abbrev pub listed_in : ℕ × (ℕ × Kept) → Transaction × Option ℕ
 listed_in entry = listed_as (live_as entry.1.1)
 
--- what the slots and the next number show
-abbrev pub population_of : Slab (ℕ × Kept) → ℕ → Population
-population_of s next =
+-- what the slots, the next number and the greatest number of a parameter show
+abbrev pub population_of : Slab (ℕ × Kept) → ℕ → ℕ → Population
+population_of s next last =
     record {
       txs = by_number (λ place kept. live_as kept) next 0 s.slots;
       places = by_number (λ place kept. place) next 0 s.slots;
       room = s.capacity - slab_len s;
+      last = last;
     }
 
 -- the slots' numbers count from 1 and were given out, and no two slots have the same
@@ -40,3 +41,7 @@ pub record AreNumbered {X : Type 0} (slots : List (Option (ℕ × X))) (next : �
 -- the count of each block is how many have it as their current one
 abbrev pub AreCounted : List ℕ → List (Option LiveTransaction) → Type 0
 AreCounted counts txs = (block : ℕ) → at 0 counts block ≡ here_count block txs
+
+-- each has parameters up to the same number
+abbrev pub AreAlike : ℕ → List (Option (ℕ × Kept)) → Type 0
+AreAlike last slots = (p : ℕ) (a : ℕ × Kept) → slice_index_or slots p None ≡ Some a → a.1.parameters.last ≡ last

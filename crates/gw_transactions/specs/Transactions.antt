@@ -4,7 +4,7 @@ use Rattle.std.specs.Option.{option_map_or, option_flatten}
 use Rattle.gw_chains.specs.declared.tx.Tx.{Tx}
 use Rattle.gw_transactions.specs.declared.Transaction.{Transaction}
 use Rattle.gw_num.specs.Table.{at, put}
-use Rattle.gw_transactions.specs.Parameters.{no_parameters}
+use Rattle.gw_transactions.specs.Parameters.{no_parameters, Numbered}
 
 -- a live transaction
 pub record LiveTransaction : Type 0 where
@@ -63,11 +63,16 @@ with_parameter p value t = record t { parameters = put None t.parameters p (Some
 abbrev pub put_parameter : ℕ → ℕ → ℤ → List (Option LiveTransaction) → List (Option LiveTransaction)
 put_parameter n p value txs = put None txs n (option_map (with_parameter p value) (at None txs n))
 
--- the transactions by number, their places by number, and how many more fit with no allocation
+-- the transactions by number, their places by number, how many more fit with no allocation, and the greatest number of a parameter
 pub record Population : Type 0 where
   pub txs : List (Option LiveTransaction)
   pub places : List (Option ℕ)
   pub room : ℕ
+  pub last : ℕ
+
+-- the parameters of the transaction of a number, as they are kept
+abbrev pub kept_of : ℕ → Population → Numbered
+kept_of n p = record { values = parameters_at n p.txs; last = p.last }
 
 -- the handle is that of a transaction which is there
 abbrev pub Holds : Population → Tx → Type 0

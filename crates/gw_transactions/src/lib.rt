@@ -1,8 +1,10 @@
 //! The transactions of a job: each is kept under a number of its own, and contracts see tables by number.
 #![tactic(auto)]
 
-ghost use Rattle.std.specs.Prelude.{◌≡◌, ◌≤◌, ℕ, None, ◌<◌, ◌+◌, ◌^◌, ◌∷◌, [], length, replicate, IfOk, OnOk, OnErr, IsPermutation};
+ghost use Rattle.std.specs.Prelude.{◌≡◌, ◌≤◌, ℕ, pos, None, Some, ◌<◌, ◌+◌, ◌^◌, ◌∷◌, [], length, replicate, unwrap_or, IfOk, OnOk, OnErr, IsPermutation};
+ghost use Rattle.std.specs.Option.{IsSome};
 ghost use Rattle.gw_num.specs.Table.{at, put};
+ghost use Rattle.gw_transactions.specs.Parameters.{none_of};
 
 mod block_counts;
 mod iter;
@@ -57,6 +59,8 @@ pub struct Transactions {
     created: u64,
     // How many have the block of each number as their current one.
     here: BlockCounts,
+    // The parameters of one of which none is set.
+    unset: Parameters,
     // Where parameters get their memory.
     alloc: Global,
 }
@@ -66,32 +70,39 @@ impl Model for Transactions {
 
     ghost Value = { Population };
 
-    ghost use Rattle.std.specs.Prelude.{◌+◌, ◌≤◌};
+    ghost use Rattle.std.specs.Prelude.{◌≡◌, ◌+◌, ◌≤◌};
     ghost use Rattle.slab.specs.Slab.{slab_len};
-    ghost use Rattle.gw_transactions.specs.Slots.{population_of, AreNumbered, AreCounted};
+    ghost use Rattle.gw_transactions.specs.Parameters.{none_of};
+    ghost use Rattle.gw_transactions.specs.Slots.{population_of, AreNumbered, AreCounted, AreAlike};
 
-    ghost view = { λ t. population_of t.slots (t.created + 1) };
+    ghost view = { λ t. population_of t.slots (t.created + 1) t.unset.last };
 
     ghost invariant = { λ t. AreNumbered t.slots.slots (t.created + 1) × (slab_len t.slots ≤ t.slots.capacity)
-        × AreCounted t.here (population_of t.slots (t.created + 1)).txs };
+        × AreCounted t.here (population_of t.slots (t.created + 1) t.unset.last).txs
+        × AreAlike t.unset.last t.slots.slots × (t.unset ≡ none_of t.unset.last) };
 }
 
 impl Transactions {
-    ghost use Rattle.gw_transactions.specs.Transactions.{Holds, KeepsHandles, KeepsOtherHandles, IsSound, as_made, made_with, attributes_at, put_attributes, chain_of, put_chain, parameter_at, parameters_at, put_parameter, listed, live_count, here_count};
+    ghost use Rattle.gw_transactions.specs.Transactions.{Holds, KeepsHandles, KeepsOtherHandles, IsSound, made_with, attributes_at, put_attributes, chain_of, put_chain, kept_of, put_parameter, listed, live_count, here_count};
 
-    /// None yet: the first number is 1. It takes memory for the counts of `here`, and none for transactions.
+    /// None yet: the first number is 1. Each will have as many parameters. It takes memory for the counts of `here`, and none
+    /// for transactions.
     ///
     /// It fails for want of memory.
-    pub fn new(alloc: Global) -> Result<Self, Memory>
+    pub fn new(alloc: Global, last: u8) -> Result<Self, Memory>
+        requires { last ≤ 64 }
         ensures txs { IfOk result (λ t. t.txs ≡ None ∷ []) }
         ensures places { IfOk result (λ t. t.places ≡ None ∷ []) }
+        ensures last { IfOk result (λ t. t.last ≡ last) }
         ensures sound { IfOk result IsSound }
     {
         let here = BlockCounts::new(alloc)?;
+        let unset = Parameters::unset(alloc, last)?;
         Ok(Transactions {
             slots: Slab::new(alloc),
             created: 0,
             here,
+            unset,
             alloc,
         })
     }
@@ -103,6 +114,7 @@ impl Transactions {
         ensures txs { self.new.txs ≡ self.old.txs }
         ensures places { self.new.places ≡ self.old.places }
         ensures room { OnOk result (more ≤ self.new.room) }
+        ensures last { self.new.last ≡ self.old.last }
         ensures kept { self.old.room ≤ self.new.room }
         ensures refused { OnErr result (self.old.room < more) }
 
@@ -154,12 +166,28 @@ impl Transactions {
         self.here.as_slice()
     }
 
+    /// Parameters for a transaction that is to be made, none of which is set.
+    ///
+    /// It fails for want of memory.
+    pub fn new_parameters(&self) -> Result<Parameters, Memory>
+        ensures { IfOk result (λ made. made ≡ none_of self.now.last) }
+    {
+        self.unset.copy(self.alloc)
+    }
+
+    /// The parameters of a transaction that is still to be made, none of which is set.
+    pub fn unset(&self) -> &Parameters
+        ensures { result.now ≡ none_of self.now.last }
+    {
+        &self.unset
+    }
+
     /// The parameters of the transaction of a handle once more, for so many copies of it.
     ///
     /// It fails for want of memory.
     pub fn parameters_for(&self, tx: Tx, copies: u16) -> Result<Vec<Parameters>, Memory>
         requires { Holds self.now tx }
-        ensures { IfOk result (λ all. all.items ≡ replicate copies (parameters_at tx.number self.now.txs)) }
+        ensures { IfOk result (λ all. all.items ≡ replicate copies (kept_of tx.number self.now)) }
     {
         let parameters = &self.slots[tx.place].1.parameters;
         let mut all = Vec::with_capacity(self.alloc, copies as usize)?;
@@ -169,39 +197,18 @@ impl Transactions {
         Ok(all)
     }
 
-    /// Puts a transaction under the next number, in room that `reserve` made; no parameter of it is set, and it is a member of
-    /// no user chain. Its current block has a number from 0 to 4,096.
-    pub fn insert(&mut self, transaction: Transaction) -> Tx
-        requires room { 0 < self.old.room }
-        requires block { transaction.current ≤ 4096 }
-        requires few { length self.old.txs < 2 ^ 62 }
-        ensures number { result.number ≡ length self.old.txs }
-        ensures txs { self.new.txs ≡ put None self.old.txs (length self.old.txs) (Some (as_made transaction)) }
-        ensures places { self.new.places ≡ put None self.old.places (length self.old.txs) (Some result.place) }
-        ensures room { self.old.room ≤ self.new.room + 1 }
-
-        // What follows for callers.
-        ensures made { length self.new.txs ≡ length self.old.txs + 1 }
-        ensures live { live_count self.new.txs ≡ live_count self.old.txs + 1 }
-        ensures held { Holds self.new result }
-        ensures handles { KeepsHandles self.old self.new }
-        ensures was_sound { IsSound self.old }
-        ensures sound { IsSound self.new }
-    {
-        let parameters = Parameters::new(self.alloc);
-        self.insert_with(transaction, parameters)
-    }
-
     /// Puts a transaction with these parameters under the next number, in room that `reserve` made; it is a member of no user
     /// chain. Its current block has a number from 0 to 4,096.
     pub fn insert_with(&mut self, transaction: Transaction, parameters: Parameters) -> Tx
         requires room { 0 < self.old.room }
         requires block { transaction.current ≤ 4096 }
+        requires parameters { parameters.last ≡ self.old.last }
         requires few { length self.old.txs < 2 ^ 62 }
         ensures number { result.number ≡ length self.old.txs }
-        ensures txs { self.new.txs ≡ put None self.old.txs (length self.old.txs) (Some (made_with parameters transaction)) }
+        ensures txs { self.new.txs ≡ put None self.old.txs (length self.old.txs) (Some (made_with parameters.values transaction)) }
         ensures places { self.new.places ≡ put None self.old.places (length self.old.txs) (Some result.place) }
         ensures room { self.old.room ≤ self.new.room + 1 }
+        ensures last { self.new.last ≡ self.old.last }
 
         // What follows for callers.
         ensures made { length self.new.txs ≡ length self.old.txs + 1 }
@@ -239,6 +246,7 @@ impl Transactions {
         ensures txs { self.new.txs ≡ put_attributes tx.number transaction self.old.txs }
         ensures places { self.new.places ≡ self.old.places }
         ensures room { self.old.room ≤ self.new.room }
+        ensures last { self.new.last ≡ self.old.last }
 
         // What follows for callers.
         ensures made { length self.new.txs ≡ length self.old.txs }
@@ -267,6 +275,7 @@ impl Transactions {
         ensures txs { self.new.txs ≡ put_chain tx.number chain self.old.txs }
         ensures places { self.new.places ≡ self.old.places }
         ensures room { self.old.room ≤ self.new.room }
+        ensures last { self.new.last ≡ self.old.last }
 
         // What follows for callers.
         ensures made { length self.new.txs ≡ length self.old.txs }
@@ -277,34 +286,22 @@ impl Transactions {
         self.slots[tx.place].1.chain = chain;
     }
 
-    /// The value of a parameter of the transaction of a handle, if it is set.
-    pub fn parameter(&self, tx: Tx, number: u8) -> Option<i64>
+    /// The parameters of the transaction of a handle.
+    pub fn parameters(&self, tx: Tx) -> &Parameters
         requires { Holds self.now tx }
-        ensures { result ≡ parameter_at tx.number number self.now.txs }
+        ensures { result.now ≡ kept_of tx.number self.now }
     {
-        self.slots[tx.place].1.parameters.get(number)
+        &self.slots[tx.place].1.parameters
     }
 
-    /// The parameters of the transaction of a handle by their numbers, as far as they are set; those that aren't listed
-    /// aren't set.
-    pub fn parameters(&self, tx: Tx) -> &[Option<i64>]
-        requires { Holds self.now tx }
-        ensures { (number : ℕ) → at None result.now number ≡ parameter_at tx.number number self.now.txs }
-    {
-        self.slots[tx.place].1.parameters.as_slice()
-    }
-
-    /// Sets a parameter, by its number from 1 to 64, of the transaction of a handle.
-    ///
-    /// It fails for want of memory, only where no parameter of it was set before, and then leaves the transactions as they
-    /// were.
-    pub fn assign(&mut self, tx: Tx, number: u8, value: i64) -> Result<(), Memory>
+    /// Sets a parameter of the transaction of a handle.
+    pub fn assign(&mut self, tx: Tx, number: u8, value: i64)
         requires held { Holds self.old tx }
-        requires number { number ≤ 64 }
-        ensures ok { OnOk result (self.new.txs ≡ put_parameter tx.number number value self.old.txs) }
-        ensures err { OnErr result (self.new.txs ≡ self.old.txs) }
+        requires number { (1 ≤ number) × (number ≤ self.old.last) }
+        ensures txs { self.new.txs ≡ put_parameter tx.number number value self.old.txs }
         ensures places { self.new.places ≡ self.old.places }
         ensures room { self.old.room ≤ self.new.room }
+        ensures last { self.new.last ≡ self.old.last }
 
         // What follows for callers.
         ensures made { length self.new.txs ≡ length self.old.txs }
@@ -312,7 +309,7 @@ impl Transactions {
         ensures handles { KeepsHandles self.old self.new }
         ensures sound { IsSound self.new }
     {
-        self.slots[tx.place].1.parameters.set(number, value)
+        self.slots[tx.place].1.parameters.set(number, value);
     }
 
     /// Takes the transaction of a handle out, and answers its attributes. Its number is not given out again.
@@ -322,6 +319,7 @@ impl Transactions {
         ensures txs { self.new.txs ≡ put None self.old.txs tx.number None }
         ensures places { self.new.places ≡ put None self.old.places tx.number None }
         ensures room { self.old.room < self.new.room }
+        ensures last { self.new.last ≡ self.old.last }
 
         // What follows for callers.
         ensures made { length self.new.txs ≡ length self.old.txs }

@@ -1,79 +1,88 @@
 //! The parameters of a transaction.
 
-ghost use Rattle.std.specs.Prelude.{◌≡◌, ◌≤◌, ℕ, Some, None, OnOk, OnErr, IfOk};
+ghost use Rattle.std.specs.Prelude.{◌≡◌, ◌≤◌, ℕ, pos, Some, None, IfOk, unwrap_or};
+ghost use Rattle.std.specs.Option.{IsSome};
 ghost use Rattle.gw_num.specs.Table.{at, put};
-ghost use Rattle.gw_transactions.specs.Parameters.{no_parameters};
+ghost use Rattle.gw_transactions.specs.Parameters.{none_of};
 
 use gw_chains::Memory;
 use std::alloc::Global;
 use std::marker::Model;
 
-/// The greatest number of a parameter: a transaction has at most so many (docs/object-format.md).
-const LAST_PARAMETER: usize = 64;
-
-/// The parameters of a transaction, each by its number from 1 to 64, as far as they are set. They take memory only once
-/// one of them is set.
+/// The parameters of a transaction, each by its number from 1 on, up to the greatest that its object names.
+///
+/// Each has a slot, which is 0 as long as it isn't set. Which are set is kept beside the slots, so that the state can be told
+/// from what is kept; nothing is decided by it.
 #[derive(Debug, Drop)]
 pub struct Parameters {
-    // None, or one for each number from 0 on.
-    values: Vec<Option<i64>>,
+    // The values, from number 1 on.
+    slots: Vec<i64>,
+    // A bit for each slot: whether it is set.
+    mask: u64,
 }
 
 impl Model for Parameters {
-    ghost use Rattle.std.specs.Prelude.{◌≡◌, ◌⊎◌, ℤ, [], List, Option, length};
-    ghost use Rattle.gw_transactions.specs.Parameters.{shown};
+    ghost use Rattle.gw_transactions.specs.Parameters.{Numbered};
 
-    ghost Value = { List (Option ℤ) };
+    ghost Value = { Numbered };
 
-    ghost view = { λ p. shown p.values.items };
+    ghost use Rattle.gw_transactions.specs.Parameters.{shown, AreBare};
 
-    ghost invariant = { λ p. (p.values.items ≡ []) ⊎ (length p.values.items ≡ 65) };
+    ghost view = { λ p. shown p.mask p.slots.items };
+
+    ghost invariant = { λ p. AreBare p.mask p.slots.items };
 }
 
 impl Parameters {
-    /// No parameter is set. It takes no memory.
-    pub(crate) fn new(alloc: Global) -> Parameters
-        ensures { result ≡ no_parameters }
+    /// As many parameters, none of which is set.
+    ///
+    /// It fails for want of memory.
+    pub(crate) fn unset(alloc: Global, last: u8) -> Result<Parameters, Memory>
+        requires { last ≤ 64 }
+        ensures { IfOk result (λ made. made ≡ none_of last) }
     {
-        Parameters {
-            values: Vec::new(alloc),
-        }
+        let slots = vec![in alloc; 0i64; last as usize]?;
+        Ok(Parameters { slots, mask: 0 })
     }
 
-    /// The parameters once more. Where none is set it takes no memory.
+    /// The parameters once more.
     ///
     /// It fails for want of memory.
     pub(crate) fn copy(&self, alloc: Global) -> Result<Parameters, Memory>
         ensures { IfOk result (λ copy. copy ≡ self.now) }
     {
-        let values = Vec::from_slice(alloc, self.values.as_slice())?;
-        Ok(Parameters { values })
+        let slots = Vec::from_slice(alloc, self.slots.as_slice())?;
+        Ok(Parameters {
+            slots,
+            mask: self.mask,
+        })
     }
 
-    /// The value of a parameter, if it is set.
-    pub(crate) fn get(&self, number: u8) -> Option<i64>
-        ensures { result ≡ at None self.now number }
+    /// The value of a parameter that is set.
+    pub fn get(&self, number: u8) -> i64
+        requires { IsSome (at None self.now.values number) }
+        ensures { at None self.now.values number ≡ Some result }
     {
-        self.values.get(number as usize).copied().flatten()
+        self.slots[number as usize - 1]
     }
 
-    /// The parameters by their numbers, as far as they are set; there are none where none was set.
-    pub(crate) fn as_slice(&self) -> &[Option<i64>]
-        ensures { (number : ℕ) → at None result.now number ≡ at None self.now number }
+    /// The value of a parameter; 0 where it isn't set.
+    pub fn get_or_zero(&self, number: u8) -> i64
+        requires { (1 ≤ number) × (number ≤ self.now.last) }
+        ensures { result ≡ unwrap_or (at None self.now.values number) (pos 0) }
     {
-        self.values.as_slice()
+        let slot = number as usize - 1;
+        self.slots[slot]
     }
 
-    /// Sets a parameter, by its number from 1 to 64.
-    ///
-    /// It fails for want of memory, only where none was set before, and then leaves the parameters as they were.
-    pub(crate) fn set(&mut self, number: u8, value: i64) -> Result<(), Memory>
-        requires { number ≤ 64 }
-        ensures ok { OnOk result (self.new ≡ put None self.old number (Some value)) }
-        ensures err { OnErr result (self.new ≡ self.old) }
+    /// Sets a parameter.
+    pub(crate) fn set(&mut self, number: u8, value: i64)
+        requires { (1 ≤ number) × (number ≤ self.old.last) }
+        ensures values { self.new.values ≡ put None self.old.values number (Some value) }
+        ensures last { self.new.last ≡ self.old.last }
     {
-        self.values.resize(LAST_PARAMETER + 1, None)?;
-        self.values[number as usize] = Some(value);
-        Ok(())
+        let place = number as usize - 1;
+        self.slots[place] = value;
+        self.mask |= 1 << place;
     }
 }

@@ -3,8 +3,8 @@
 use super::objects::{AMPLE, accepted, job_of};
 use super::views::{Views, first_wrong_view, run};
 use gw_object::{Memory, read};
-use gw_report::{report, stopped_report};
-use gw_scan::{Sim, Stop};
+use gw_report::report;
+use gw_scan::Sim;
 use std::alloc::Global;
 use std::test::Fail;
 
@@ -162,17 +162,6 @@ fn reported(alloc: Global, bytes: &[u8], budget: u64, steps: u64) -> Result<Vec<
     Ok(report_after(alloc, sim, steps)?)
 }
 
-/// The report of a job as one at an error stop.
-fn report_as_stopped(alloc: Global, sim: Sim) -> Result<Vec<u8>, Memory> {
-    stopped_report(alloc, &sim, Stop::NoBlock)
-}
-
-/// The report of the job of an object before its first step, as one at an error stop.
-fn reported_as_stopped(alloc: Global, bytes: &[u8]) -> Result<Vec<u8>, Fail> {
-    let sim = job(alloc, bytes, 1_000)?;
-    Ok(report_as_stopped(alloc, sim)?)
-}
-
 /// Whether this is the report of the job of an object after so many steps, with a budget of so many.
 fn is_reported(
     alloc: Global,
@@ -262,15 +251,6 @@ fn the_first_example_is_reported_at_its_end_and_on_its_way(rt: HostRuntime) -> R
         ),
     ];
     assert!(rt; wrong_first(rt.alloc(), CASES)?.is_none());
-    Ok(())
-}
-
-#[test]
-fn a_job_at_an_error_stop_is_reported(rt: HostRuntime) -> Result<(), Fail> {
-    let text = reported_as_stopped(rt.alloc(), FIRST)?;
-    let expected = b"END Stopped CLOCK 0 STEPS 0 ENTRIES 0 COUNT 2\n\
-        BLOCK 1 GENERATE 0 0\nBLOCK 2 ADVANCE 0 0\nBLOCK 3 TERMINATE 0 0\n";
-    assert!(rt; text.as_slice() == expected.as_slice());
     Ok(())
 }
 

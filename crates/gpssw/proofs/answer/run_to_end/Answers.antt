@@ -4,9 +4,9 @@ use Rattle.gpssw.proofs.answer.run_to_end.Goals as goal
 
 pub loop-preserved : goal.loop-preserved
 loop-preserved c =
-    let next = went_on c.in_ok-status.status c.loop.sim.job c.loop.sim.state c.step.new.self.state c.in-Running.is c.in_ok-status.ensures.made in
+    let next = went_on c.in_ok-step.field-0 c.loop.sim.job c.loop.sim.state c.step.new.self.state c.in-Running.is c.in_ok-step.ensures.made in
     record {
-      job = c.in_ok-status.ensures.job ∙ c.loop.invariant.job;
+      job = c.in_ok-step.ensures.job ∙ c.loop.invariant.job;
       steps = omega (arith, next.0, c.loop.invariant.steps);
-      running = λ _. next.1;
+      left = λ _. c.in_ok-step.ensures.reached.bounded.runs next.1;
     }

@@ -1,4 +1,4 @@
-use Rattle.std.proofs.Common.{◌≡◌, ◌+◌, ◌<◌, None}
+use Rattle.std.proofs.Common.{◌≡◌, ◌+◌, ◌<◌}
 use Rattle.gpssw.proofs.answer.run_to_end.Given as goal
 
 abbrev pub invariant-loop : goal.invariant-loop
@@ -6,5 +6,5 @@ invariant-loop l =
     record {
       job : l.sim.job ≡ l.initial.sim.job;
       steps : l.sim.state.steps ≡ l.initial.sim.state.steps + l.counter;
-      running : 0 < l.counter → l.sim.state.ended ≡ None;
+      left : 0 < l.counter → l.sim.state.steps < l.sim.job.budget;
     }

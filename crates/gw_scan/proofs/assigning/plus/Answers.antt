@@ -1,4 +1,4 @@
-use Rattle.std.proofs.Common.{rules, ◌≡◌, ℕ, Option, Some, None, IfOk, sym, ap, ◌∙◌, subst}
+use Rattle.std.proofs.Common.{rules, ◌≡◌, ℕ, Option, Some, None, sym, ap, ◌∙◌, subst}
 use Rattle.gw_blocks.specs.declared.parts.Block.TheVariants as blocks
 use Rattle.gw_flow.specs.Values.{Value, operand_value}
 use Rattle.gw_step.specs.Outcome.{Outcome}
@@ -23,8 +23,8 @@ returns-in-Some-clause-made c =
     let made : act c.args.verified.now n t (blocks.Plus c.args.plus) s ≡ then_placed n (plus c.args.verified.now.blocks n t (Some c.in-Some.p) c.in-Ok.value after) =
     act-plus c.args.verified.now n t s c.args.plus c.in-Ok.value c.value.new.streams is
     ∙ ap (λ (q : Option ℕ). then_placed n (plus c.args.verified.now.blocks n t q c.in-Ok.value after)) c.in-Some.is in
-    let taken : IfOk c.take_value.result (λ made. Makes made (then_placed n (plus c.args.verified.now.blocks n t (Some c.in-Some.p) c.in-Ok.value after)) s (state_of c.take_value.new.machine)) = search rules in
-    subst (λ (o : Outcome State). IfOk c.take_value.result (λ made. Makes made o s (state_of c.take_value.new.machine))) (sym made) taken
+    let taken : Makes c.take_value.result (then_placed n (plus c.args.verified.now.blocks n t (Some c.in-Some.p) c.in-Ok.value after)) s (state_of c.take_value.new.machine) = search rules in
+    subst (λ (o : Outcome State). Makes c.take_value.result o s (state_of c.take_value.new.machine)) (sym made) taken
 
 pub returns-in-None-clause-made : goal.returns-in-None-clause-made
 returns-in-None-clause-made c =

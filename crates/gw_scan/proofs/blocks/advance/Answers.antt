@@ -1,10 +1,5 @@
-use Rattle.std.proofs.Common.{rules, ◌≡◌, ◌+◌, Bool, false, Err, ◌∙◌, refl, ap, subst}
-use Rattle.gw_entities.specs.declared.stop.Stop.TheVariants.{NoBlock}
-use Rattle.gw_kinds.specs.Kinds.{block_at}
-use Rattle.gw_step.specs.Outcome.{Gives, unless_stopped}
-use Rattle.gw_step.specs.State.{may_enter, with_streams}
-use Rattle.gw_step.specs.Changes.{enters_and_falls}
-use Rattle.gw_step.specs.Blocks.{until, then_placed}
+use Rattle.std.proofs.Common.{rules, ◌≡◌, Err, ◌∙◌, refl, subst}
+use Rattle.gw_step.specs.Outcome.{Gives}
 use Rattle.gw_step.specs.Times.{environment_of, drawn_moment}
 use Rattle.gw_machine.specs.declared.values.Subject.{Subject}
 use Rattle.gw_machine.specs.View.{state_of}
@@ -28,17 +23,3 @@ made c = search rules
 pub returns-clause-made : goal.returns-clause-made
 returns-clause-made c =
     act-advance c.args.verified.now c.args.tx.number c.args.transaction (state_of c.args.machine.now) c.args.time (Gives (c.in-Ok.moment, c.drawn_moment.new.streams)) (moment_is c) ∙ made c
-
-pub returns-then-not-may_enter-clause-made : goal.returns-then-not-may_enter-clause-made
-returns-then-not-may_enter-clause-made c =
-    let n = c.args.tx.number in
-    let t = c.args.transaction in
-    let s = state_of c.args.machine.now in
-    let streams = c.drawn_moment.new.streams in
-    let is : drawn_moment c.args.verified.now (environment_of n t s) c.args.time s.clock s.streams ≡ Gives (c.in-Ok.moment, streams) =
-    subst (λ (x : Subject). drawn_moment c.args.verified.now (environment_for x s) c.args.time s.clock s.streams ≡ Gives (c.in-Ok.moment, streams)) c.active_subject-subject.ensures c.in-Ok.ensures in
-    let shut : may_enter (block_at c.args.verified.now.blocks (t.next + 1)) ≡ false = search rules in (
-      act-advance c.args.verified.now n t s c.args.time (Gives (c.in-Ok.moment, streams)) is
-          ∙ ap (λ (b : Bool). then_placed n (unless_stopped b NoBlock (Gives (enters_and_falls n t (with_streams streams s), until s.clock c.in-Ok.moment)))) shut,
-      refl,
-    )

@@ -3,18 +3,18 @@ use Rattle.gw_entities.specs.Facility.{is_idle}
 use Rattle.gw_step.specs.State.{State}
 use Rattle.gw_step.specs.Changes.{facility}
 use Rattle.gw_step.proofs.Owning.{idle-released}
-use Rattle.gw_machine.proofs.Steady.{passing-released, released-as}
+use Rattle.gw_machine.proofs.Steady.{passing-released}
 use Rattle.gw_machine.specs.View.{state_of}
 use Rattle.gw_scan.proofs.blocks.release.Goals as goal
 
 pub pass_and_hand_over-requires-clause-passing : goal.pass_and_hand_over-requires-clause-passing
 pass_and_hand_over-requires-clause-passing c =
     let r = c.in_ok-reserve_current.ensures in
-    let e = c.in-Ok.ensures in
+    let e = c.release_facility.ensures in
     let linked = r.linked c.requires.active.steady.linked in
-    passing-released c.args.blocks.now c.args.machine.now c.reserve_current.new.self c.release_facility.new.self c.args.tx c.args.transaction c.args.f c.args.tx.number _ c.requires.active c.requires.there r.state linked r.frame e.made (e.linked linked) e.frame e.table
+    passing-released c.args.blocks.now c.args.machine.now c.reserve_current.new.self c.release_facility.new.self c.args.tx c.args.transaction c.args.f c.requires.active c.requires.there r.state linked r.frame e.state (e.linked linked) e.frame e.table
 
 pub pass_and_hand_over-requires-clause-idle : goal.pass_and_hand_over-requires-clause-idle
 pass_and_hand_over-requires-clause-idle c =
-    ap (λ (s : State). is_idle (facility c.args.f s)) (released-as c.args.f c.args.tx.number _ (state_of c.reserve_current.new.self) (state_of c.release_facility.new.self) c.in-Ok.ensures.made)
+    ap (λ (s : State). is_idle (facility c.args.f s)) c.release_facility.ensures.state
     ∙ idle-released c.args.f (state_of c.reserve_current.new.self)

@@ -1,15 +1,63 @@
-use Rattle.std.proofs.Common.{rules, ◌≡◌, Some}
+use Rattle.std.proofs.Common.{rules, ◌≡◌, Option, Some, None, refl, sym, subst}
+use Rattle.std.specs.Prelude.{IsSome, IsSomeAnd}
+use Rattle.gw_blocks.specs.declared.parts.Block.{Block}
 use Rattle.gw_kinds.specs.Kinds.{block_at}
-use Rattle.gw_transactions.specs.Transactions.{attributes_at}
+use Rattle.gw_transactions.specs.Transactions.{attributes_at, Holds}
+use Rattle.gw_step.specs.Asks.{Asks, Leads}
+use Rattle.gw_step.proofs.Follows.{block_below}
 use Rattle.gw_machine.specs.View.{state_of}
 use Rattle.gw_scan.proofs.scan.scan.Goals as goal
+
+is_there : (P : Block → Type 0) (o : Option Block) → IsSomeAnd o P → IsSome o
+is_there P None h = absurd h
+is_there P (Some block) h = refl
+
+pub unwrap-block-requires : goal.unwrap-block-requires
+unwrap-block-requires c =
+    let n = c.in-Some.tx.number in
+    let t = c.get-transaction.result.now in
+    let active : (state_of c.args.machine.now).lists.active ≡ Some n = search rules in
+    let found : attributes_at n (state_of c.args.machine.now).transactions ≡ Some t = search rules in
+    let is : c.block_of.result ≡ block_at c.args.verified.now.blocks t.next = search rules in
+    subst IsSome (sym is) (is_there _ (block_at c.args.verified.now.blocks t.next) (c.requires.served n t active found))
+
+-- the next block of the active transaction is the one that is met
+there : (c : goal.After-act-arg-1) → block_at c.args.verified.now.blocks c.get-transaction.result.now.next ≡ Some c.unwrap-block.result
+there c = search rules
+
+-- it is there with all that it asks for
+serves : (c : goal.After-act-arg-1) → Asks c.args.verified.now c.in-Some.tx.number (state_of c.args.machine.now) c.unwrap-block.result × Leads c.args.verified.now.blocks c.get-transaction.result.now.next c.unwrap-block.result
+serves c =
+    let n = c.in-Some.tx.number in
+    let t = c.get-transaction.result.now in
+    let active : (state_of c.args.machine.now).lists.active ≡ Some n = search rules in
+    let found : attributes_at n (state_of c.args.machine.now).transactions ≡ Some t = search rules in
+    subst (λ o. IsSomeAnd o (λ block. Asks c.args.verified.now n (state_of c.args.machine.now) block × Leads c.args.verified.now.blocks t.next block)) (there c) (c.requires.served n t active found)
+
+pub act-requires-clause-active : goal.act-requires-clause-active
+act-requires-clause-active c =
+    let running = c.requires.running in
+    let held : Holds c.args.machine.now.transactions c.in-Some.tx = search rules in
+    record {
+      steady = running.steady;
+      few = running.few;
+      runs = running.runs;
+      active = c.in-Some.is;
+      held = held;
+      found = c.get-transaction.ensures.value;
+      next = block_below c.args.verified.now.blocks c.get-transaction.result.now.next c.unwrap-block.result (there c);
+    }
 
 pub act-requires-clause-meet : goal.act-requires-clause-meet
 act-requires-clause-meet c =
     let n = c.in-Some.tx.number in
     let t = c.get-transaction.result.now in
-    let block = c.in-Some-block_of.block in
     let active : (state_of c.args.machine.now).lists.active ≡ Some n = search rules in
     let found : attributes_at n (state_of c.args.machine.now).transactions ≡ Some t = search rules in
-    let there : block_at c.args.verified.now.blocks t.next ≡ Some block = search rules in
-    c.requires.may n t block active found there
+    c.requires.may n t c.unwrap-block.result active found (there c)
+
+pub act-requires-clause-asks : goal.act-requires-clause-asks
+act-requires-clause-asks c = (serves c).0
+
+pub act-requires-clause-leads : goal.act-requires-clause-leads
+act-requires-clause-leads c = (serves c).1

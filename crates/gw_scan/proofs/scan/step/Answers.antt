@@ -3,7 +3,7 @@ use Rattle.gw_step.specs.State.{State}
 use Rattle.gw_step.specs.Step.{within_budget}
 use Rattle.gw_machine.specs.View.{state_of}
 use Rattle.gw_step.proofs.Counting.{is_counted}
-use Rattle.gw_step.proofs.Steps.{step-gives, step-ends, step-stops}
+use Rattle.gw_step.proofs.Steps.{step-gives, step-ends}
 use Rattle.gw_scan.proofs.scan.step.Goals as goal
 
 pub count_step-requires : goal.count_step-requires
@@ -11,12 +11,6 @@ count_step-requires c =
     let old = state_of c.args.machine.now in
     let m = is_counted c.args.verified.now old (state_of c.scan.new.machine) (rw c.in-Step.is at c.in_ok-scan.ensures.made) in
     omega (arith, m.steps, c.requires.runs.1)
-
-pub returns-in-Stops-clause-made : goal.returns-in-Stops-clause-made
-returns-in-Stops-clause-made c =
-    let made = rw c.in-Stops.is at c.in_ok-scan.ensures.made in
-    let s = step-stops c.args.verified.now c.args.budget (state_of c.args.machine.now) c.requires.runs.0 c.in-Stops.stop made.0 in
-    (s.0, s.1, made.1)
 
 pub returns-in-Step-clause-made : goal.returns-in-Step-clause-made
 returns-in-Step-clause-made c =

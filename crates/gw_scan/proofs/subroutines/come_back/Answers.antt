@@ -1,10 +1,11 @@
-use Rattle.std.proofs.Common.{◌≡◌, ◌⊎◌, ◌<◌, rules, refl, sym}
-use Rattle.gw_step.specs.Blocks.{block_after}
+use Rattle.std.proofs.Common.{◌≡◌, rules, Some, subst, to_z, of_z, w64}
+use Rattle.gw_transactions.specs.Transactions.{parameter_at}
 use Rattle.gw_machine.specs.View.{state_of}
-use Rattle.gw_scan.proofs.Nowhere.{leads_nowhere}
+use Rattle.gw_step.specs.Asks.{IsReturn}
+use Rattle.gw_scan.proofs.Leading.{is_number}
 use Rattle.gw_scan.proofs.subroutines.come_back.Goals as goal
 
-pub returns-in-None-clause-made : goal.returns-in-None-clause-made
-returns-in-None-clause-made c =
-    let out : (block_after c.in-Some.value ≡ 0) ⊎ (65535 < block_after c.in-Some.value) = search rules in
-    (leads_nowhere c.args.blocks.now c.args.tx.number c.args.parameter c.args.transaction (state_of c.args.machine.now) c.in-Some.value c.requires.steady.fit.few (sym c.in-Some.ensures) out, refl)
+pub block_after-requires : goal.block_after-requires
+block_after-requires c =
+    let is : parameter_at c.args.tx.number c.args.parameter (state_of c.args.machine.now).transactions ≡ Some (to_z w64 (of_z w64 c.get-value.result)) = search rules in
+    is_number c.args.blocks.now _ c.requires.active.steady.fit.few (subst (IsReturn c.args.blocks.now) is c.requires.set)

@@ -1,16 +1,14 @@
 use Rattle.std.proofs.Common.{refl, ◌≡◌, ℤ, List, Option, subst, sym, None, ◌∙◌, ap, arith, Some}
 use Rattle.std.proofs.lemmas.Grind.{common_steps}
 use Rattle.slab.specs.Slab.{with_value}
-use Rattle.gw_transactions.specs.Transactions.{with_parameter}
+use Rattle.gw_transactions.specs.Transactions.{Population, with_parameter}
 use Rattle.gw_transactions.specs.declared.Kept.{Kept}
 use Rattle.gw_transactions.specs.Slots.{live_as, AreCounted}
 use Rattle.gw_transactions.proofs.Here.{counted-kept}
 use Rattle.std.specs.Int.{w64}
 use Rattle.std.proofs.lemmas.Int.{to_z-of_z}
-use Rattle.gw_chains.proofs.Each.{on_ok, on_err}
 use Rattle.gw_num.specs.Table.{at, put}
-use Rattle.gw_num.proofs.Tables.{at_some, put-at}
-use Rattle.gw_transactions.proofs.Populations.{held, value_of, counted_of, written-txs, written-places, written-numbered, written-length, written-live, written-len, written-by, sound}
+use Rattle.gw_transactions.proofs.Populations.{held, value_of, counted_of, written-txs, written-places, written-numbered, written-length, written-live, written-len, written-by, written-alike, sound}
 use Rattle.gw_transactions.proofs.Transactions.assign.Goals as goal
 
 pub index_mut-requires : goal.index_mut-requires
@@ -29,21 +27,21 @@ invariant_of-self c = (
   omega (arith, c.self.invariant.1, written-len c.self.inside c.self.invariant.0 _ c.self.view_is c.args.tx c.requires.held c.index_mut.result.now c.index_mut.ensures.value (kept c)),
   subst (AreCounted c.self.inside.here) (sym (written-txs c.self.inside c.self.invariant.0 _ c.self.view_is c.args.tx c.requires.held c.index_mut.result.now c.index_mut.ensures.value (kept c)))
       (counted-kept c.self.inside.here _ (counted_of c.self.inside c.self.invariant.0 _ c.self.view_is c.self.invariant.2) c.args.tx.number (live_as c.index_mut.result.now.1) (live_as (kept c)) (there c) refl),
+  written-alike c.self.inside c.self.invariant.0 _ c.self.view_is c.args.tx c.requires.held c.index_mut.result.now c.index_mut.ensures.value (kept c) c.self.invariant.3 c.set.ensures.last,
+  c.self.invariant.4,
 )
 
-pub returns-clause-ok : goal.returns-clause-ok
-returns-clause-ok c =
-    on_ok c.set.result c.set.ensures.ok
-    (λ is. written-by c.self.inside c.self.invariant.0 _ c.self.view_is c.args.tx c.requires.held c.index_mut.result.now c.index_mut.ensures.value (kept c) (with_parameter c.args.number c.args.value)
-    (ap (λ (ps : List (Option ℤ)). record { attributes = c.index_mut.result.now.1.attributes; parameters = ps; chain = c.index_mut.result.now.1.chain })
-    (is ∙ ap (λ (v : ℤ). put None c.index_mut.result.now.1.parameters c.args.number (Some v)) (to_z-of_z w64 c.args.value c.ranges.value))))
+pub set-requires : goal.set-requires
+set-requires c =
+    let alike = c.self.invariant.3 c.args.tx.place c.index_mut.result.now c.index_mut.ensures.value in
+    let last = ap (λ (p : Population). p.last) c.self.view_is in
+    (c.requires.number.0, omega (arith, alike, last, c.requires.number.1))
 
-pub returns-clause-err : goal.returns-clause-err
-returns-clause-err c =
-    on_err c.set.result c.set.ensures.err
-    (λ is. written-txs c.self.inside c.self.invariant.0 _ c.self.view_is c.args.tx c.requires.held c.index_mut.result.now c.index_mut.ensures.value (kept c)
-    ∙ ap (λ t. put None c.args.self.now.txs c.args.tx.number t) (ap (λ (ps : List (Option ℤ)). Some (record { attributes = c.index_mut.result.now.1.attributes; parameters = ps; chain = c.index_mut.result.now.1.chain })) is ∙ sym (there c))
-    ∙ put-at None c.args.self.now.txs c.args.tx.number (at_some c.args.self.now.txs c.args.tx.number (live_as c.index_mut.result.now.1) (there c)))
+pub returns-clause-txs : goal.returns-clause-txs
+returns-clause-txs c =
+    written-by c.self.inside c.self.invariant.0 _ c.self.view_is c.args.tx c.requires.held c.index_mut.result.now c.index_mut.ensures.value (kept c) (with_parameter c.args.number c.args.value)
+    (ap (λ (ps : List (Option ℤ)). record { attributes = c.index_mut.result.now.1.attributes; parameters = ps; chain = c.index_mut.result.now.1.chain })
+    (c.set.ensures.values ∙ ap (λ (v : ℤ). put None c.index_mut.result.now.1.parameters.values c.args.number (Some v)) (to_z-of_z w64 c.args.value c.ranges.value)))
 
 pub returns-clause-places : goal.returns-clause-places
 returns-clause-places c =
@@ -61,4 +59,4 @@ pub returns-clause-handles : goal.returns-clause-handles
 returns-clause-handles c = λ tx holds. ap (λ places. at None places tx.number) (returns-clause-places c) ∙ holds
 
 pub returns-clause-sound : goal.returns-clause-sound
-returns-clause-sound c = sound (with_value c.self.inside.slots c.args.tx.place (c.index_mut.result.now.0, kept c)) c.self.inside.created (invariant_of-self c).0
+returns-clause-sound c = sound (with_value c.self.inside.slots c.args.tx.place (c.index_mut.result.now.0, kept c)) c.self.inside.created c.self.inside.unset.last (invariant_of-self c).0

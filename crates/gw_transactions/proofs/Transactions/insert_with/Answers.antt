@@ -6,7 +6,7 @@ use Rattle.gw_transactions.specs.Slots.{live_as, AreCounted}
 use Rattle.gw_transactions.proofs.Here.{counted-few, counted-insert}
 use Rattle.gw_num.specs.Table.{at, put}
 use Rattle.gw_num.proofs.Tables.{at-put, at-put_past}
-use Rattle.gw_transactions.proofs.Populations.{length-txs, next_is, table-next, numbered-next_of, live_count-insert, counted_of, sound_of, sound}
+use Rattle.gw_transactions.proofs.Populations.{length-txs, next_is, table-next, numbered-next_of, live_count-insert, counted_of, sound_of, alike-next, sound}
 use Rattle.gw_transactions.proofs.Transactions.insert_with.Goals as goal
 
 pub overflow_add-self : goal.overflow_add-self
@@ -32,7 +32,10 @@ invariant_of-self c =
       numbered-next_of c.self.inside c.self.invariant.0 _ c.self.view_is c.insert_reserved-place.new.self c.insert_reserved-place.result (kept c) c.requires.few c.insert_reserved-place.ensures.updates,
       omega (arith, room, c.requires.room, c.insert_reserved-place.ensures.len, c.insert_reserved-place.ensures.capacity),
       subst (AreCounted c.add.new.self) (sym (returns-clause-txs c))
-          (counted-insert c.self.inside.here c.args.self.now.txs (counted_of c.self.inside c.self.invariant.0 _ c.self.view_is c.self.invariant.2) c.add.new.self (made_with c.args.parameters c.args.transaction) c.add.ensures),
+          (counted-insert c.self.inside.here c.args.self.now.txs (counted_of c.self.inside c.self.invariant.0 _ c.self.view_is c.self.invariant.2) c.add.new.self (made_with c.args.parameters.values c.args.transaction) c.add.ensures),
+      alike-next c.self.inside.unset.last c.insert_reserved-place.result c.self.inside.slots.slots c.insert_reserved-place.new.self.slots (c.self.inside.created + 1) (kept c) c.self.invariant.3 c.insert_reserved-place.ensures.updates.others c.insert_reserved-place.ensures.updates.changed
+          (c.requires.parameters ∙ sym (ap (λ (p : Population). p.last) c.self.view_is)),
+      c.self.invariant.4,
     )
 
 pub returns-clause-number : goal.returns-clause-number
@@ -44,11 +47,11 @@ returns-clause-places c =
 
 pub returns-clause-made : goal.returns-clause-made
 returns-clause-made c =
-    omega (arith, next_is c.self.inside c.self.invariant.0 _ c.self.view_is, length-txs c.insert_reserved-place.new.self (c.self.inside.created + 1 + 1) (invariant_of-self c).0)
+    omega (arith, next_is c.self.inside c.self.invariant.0 _ c.self.view_is, length-txs c.insert_reserved-place.new.self (c.self.inside.created + 1 + 1) c.self.inside.unset.last (invariant_of-self c).0)
 
 pub returns-clause-live : goal.returns-clause-live
 returns-clause-live c =
-    ap live_count (returns-clause-txs c) ∙ live_count-insert c.self.inside c.self.invariant.0 _ c.self.view_is (made_with c.args.parameters c.args.transaction)
+    ap live_count (returns-clause-txs c) ∙ live_count-insert c.self.inside c.self.invariant.0 _ c.self.view_is (made_with c.args.parameters.values c.args.transaction)
 
 pub returns-clause-held : goal.returns-clause-held
 returns-clause-held c =
@@ -67,4 +70,4 @@ pub returns-clause-was_sound : goal.returns-clause-was_sound
 returns-clause-was_sound c = sound_of c.self.inside c.self.invariant.0 _ c.self.view_is
 
 pub returns-clause-sound : goal.returns-clause-sound
-returns-clause-sound c = sound c.insert_reserved-place.new.self (c.self.inside.created + 1) (invariant_of-self c).0
+returns-clause-sound c = sound c.insert_reserved-place.new.self (c.self.inside.created + 1) c.self.inside.unset.last (invariant_of-self c).0

@@ -11,7 +11,7 @@ pub returns-clause-listed : goal.returns-clause-listed
 returns-clause-listed c =
     let next = c.self.inside.created + 1 in
     subst (λ (p : Population). IsPermutation (listed p.txs) (map listed_in c.iter.result)) c.self.view_is
-    (subst (λ entries. IsPermutation (listed (population_of c.self.inside.slots next).txs) (map listed_in entries)) (sym c.iter.ensures.rest)
+    (subst (λ entries. IsPermutation (listed (population_of c.self.inside.slots next c.self.inside.unset.last).txs) (map listed_in entries)) (sym c.iter.ensures.rest)
     (listed_slots next 0 0 c.self.inside.slots.slots c.self.invariant.0))
 
 pub returns-clause-len : goal.returns-clause-len

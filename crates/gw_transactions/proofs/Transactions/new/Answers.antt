@@ -1,5 +1,7 @@
-use Rattle.std.proofs.Common.{◌≡◌, is_some, count_by, ap, arith}
+use Rattle.std.proofs.Common.{◌≡◌, ◌∙◌, sym, None, is_some, count_by, ap, arith}
+use Rattle.std.specs.Prelude.{slice_index_or}
 use Rattle.slab.specs.Slab.{slab_len}
+use Rattle.gw_transactions.specs.Parameters.{Numbered, none_of}
 use Rattle.gw_transactions.proofs.Slots.{numbered-none}
 use Rattle.gw_transactions.proofs.Here.{none_counted}
 use Rattle.gw_transactions.proofs.Transactions.new.Goals as goal
@@ -10,4 +12,6 @@ invariant_of-result c =
       numbered-none c.new-2.result.slots c.new-2.ensures.empty,
       omega (arith, len),
       none_counted c.in_ok-here.here 4097 c.new-2.result.slots c.in_ok-here.ensures c.new-2.ensures.empty,
+      λ p a there. let nothing = ap (λ slots. slice_index_or slots p None) (sym c.new-2.ensures.empty) ∙ there in absurd (cc),
+      c.in_ok-unset.ensures ∙ ap none_of (sym (ap (λ (n : Numbered). n.last) c.in_ok-unset.ensures)),
     )

@@ -1,9 +1,8 @@
-use Rattle.std.proofs.Common.{ap, arith, sym, ◌∙◌, option_map}
-use Rattle.std.specs.Prelude.{None}
-use Rattle.std.specs.Option.{option_flatten}
+use Rattle.std.proofs.Common.{ap, arith, sym, ◌∙◌}
+use Rattle.std.specs.Option.{option_map_or}
 use Rattle.std.proofs.lemmas.Grind.{common_steps}
-use Rattle.gw_num.specs.Table.{at}
-use Rattle.gw_transactions.specs.Transactions.{LiveTransaction}
+use Rattle.gw_transactions.specs.Parameters.{no_parameters}
+use Rattle.gw_transactions.specs.Transactions.{LiveTransaction, Population}
 use Rattle.gw_transactions.proofs.Populations.{held, value_of}
 use Rattle.gw_transactions.proofs.Transactions.parameters.Goals as goal
 
@@ -11,6 +10,8 @@ pub index-requires : goal.index-requires
 index-requires c = let slot = held c.self.inside c.self.invariant.0 _ c.self.view_is c.args.tx c.requires in grind (arith, common_steps, slot.1)
 
 pub returns : goal.returns
-returns c = λ number.
-    c.as_slice.ensures number
-    ∙ sym (ap (λ t. option_flatten (option_map (λ (t : LiveTransaction). at None t.parameters number) t)) (value_of c.self.inside c.self.invariant.0 _ c.self.view_is c.args.tx c.requires _ c.index.ensures))
+returns c =
+    ap (λ last. record { values = c.index.result.now.1.parameters.values; last = last })
+    (c.self.invariant.3 c.args.tx.place c.index.result.now c.index.ensures ∙ ap (λ (p : Population). p.last) c.self.view_is)
+    ∙ ap (λ values. record { values = values; last = c.args.self.now.last })
+    (sym (ap (λ t. option_map_or (λ (t : LiveTransaction). t.parameters) t no_parameters) (value_of c.self.inside c.self.invariant.0 _ c.self.view_is c.args.tx c.requires _ c.index.ensures)))

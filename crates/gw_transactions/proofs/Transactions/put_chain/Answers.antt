@@ -6,7 +6,7 @@ use Rattle.gw_transactions.specs.declared.Kept.{Kept}
 use Rattle.gw_transactions.specs.Slots.{live_as, AreCounted}
 use Rattle.gw_transactions.proofs.Here.{counted-kept}
 use Rattle.gw_num.specs.Table.{at}
-use Rattle.gw_transactions.proofs.Populations.{held, value_of, counted_of, written-txs, written-places, written-numbered, written-length, written-live, written-len, written-by, sound}
+use Rattle.gw_transactions.proofs.Populations.{held, value_of, counted_of, written-txs, written-places, written-numbered, written-length, written-live, written-len, written-by, written-alike, sound}
 use Rattle.gw_transactions.proofs.Transactions.put_chain.Goals as goal
 
 pub index_mut-requires : goal.index_mut-requires
@@ -23,6 +23,8 @@ invariant_of-self c = (
   subst (AreCounted c.self.inside.here) (sym (written-txs c.self.inside c.self.invariant.0 _ c.self.view_is c.args.tx c.requires c.index_mut.result.now c.index_mut.ensures.value (kept c)))
       (counted-kept c.self.inside.here _ (counted_of c.self.inside c.self.invariant.0 _ c.self.view_is c.self.invariant.2) c.args.tx.number (live_as c.index_mut.result.now.1) (live_as (kept c))
       (value_of c.self.inside c.self.invariant.0 _ c.self.view_is c.args.tx c.requires _ c.index_mut.ensures.value) refl),
+  written-alike c.self.inside c.self.invariant.0 _ c.self.view_is c.args.tx c.requires c.index_mut.result.now c.index_mut.ensures.value (kept c) c.self.invariant.3 refl,
+  c.self.invariant.4,
 )
 
 pub returns-clause-txs : goal.returns-clause-txs
@@ -45,4 +47,4 @@ pub returns-clause-handles : goal.returns-clause-handles
 returns-clause-handles c = λ tx holds. ap (λ places. at None places tx.number) (returns-clause-places c) ∙ holds
 
 pub returns-clause-sound : goal.returns-clause-sound
-returns-clause-sound c = sound (with_value c.self.inside.slots c.args.tx.place (c.index_mut.result.now.0, kept c)) c.self.inside.created (invariant_of-self c).0
+returns-clause-sound c = sound (with_value c.self.inside.slots c.args.tx.place (c.index_mut.result.now.0, kept c)) c.self.inside.created c.self.inside.unset.last (invariant_of-self c).0

@@ -6,7 +6,7 @@ use Rattle.gw_transactions.proofs.Here.{counted-one, counted-remove}
 use Rattle.gw_transactions.proofs.Slots.{no_slot}
 use Rattle.gw_num.specs.Table.{at}
 use Rattle.gw_num.proofs.Tables.{at-put_other}
-use Rattle.gw_transactions.proofs.Populations.{length-txs, next_is, held, value_of, counted_of, table-set, numbered-set_of, live_count-remove, sound}
+use Rattle.gw_transactions.proofs.Populations.{length-txs, next_is, held, value_of, counted_of, table-set, numbered-set_of, live_count-remove, alike-set, sound}
 use Rattle.gw_transactions.proofs.Transactions.remove.Goals as goal
 
 pub remove-requires : goal.remove-requires
@@ -36,7 +36,7 @@ returns-clause-places c =
 
 pub returns-clause-made : goal.returns-clause-made
 returns-clause-made c =
-    length-txs c.remove.new.self (c.self.inside.created + 1) (numbered c) ∙ next_is c.self.inside c.self.invariant.0 _ c.self.view_is
+    length-txs c.remove.new.self (c.self.inside.created + 1) c.self.inside.unset.last (numbered c) ∙ next_is c.self.inside c.self.invariant.0 _ c.self.view_is
 
 pub returns-clause-live : goal.returns-clause-live
 returns-clause-live c = ap (λ txs. live_count txs + 1) (returns-clause-txs c) ∙ live_count-remove c.self.inside c.self.invariant.0 _ c.self.view_is c.args.tx c.requires
@@ -49,7 +49,7 @@ returns-clause-handles c =
     ∙ holds
 
 pub returns-clause-sound : goal.returns-clause-sound
-returns-clause-sound c = sound c.remove.new.self c.self.inside.created (numbered c)
+returns-clause-sound c = sound c.remove.new.self c.self.inside.created c.self.inside.unset.last (numbered c)
 
 pub invariant_of-self : goal.invariant_of-self
 invariant_of-self c = (
@@ -57,4 +57,6 @@ invariant_of-self c = (
   omega (arith, c.self.invariant.1, c.remove.ensures.len, c.remove.ensures.capacity),
   subst (AreCounted c.take.new.self) (sym (returns-clause-txs c))
       (counted-remove c.self.inside.here c.args.self.now.txs (counted_of c.self.inside c.self.invariant.0 _ c.self.view_is c.self.invariant.2) c.take.new.self c.args.tx.number (live_as c.remove.result.1) (was_there c) c.take.ensures),
+  rw c.remove.ensures.slots (alike-set c.self.inside.unset.last c.self.inside.slots.slots c.args.tx.place None c.self.invariant.3 (λ b e. absurd (no_slot b e))),
+  c.self.invariant.4,
 )

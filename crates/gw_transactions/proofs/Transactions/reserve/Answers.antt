@@ -19,5 +19,5 @@ returns-clause-refused c =
 
 pub returns-clause-sound : goal.returns-clause-sound
 returns-clause-sound c =
-    sound c.reserve.new.self c.self.inside.created
+    sound c.reserve.new.self c.self.inside.created c.self.inside.unset.last
     (subst (λ (s : Slab _). AreNumbered s.slots (c.self.inside.created + 1)) (sym c.reserve.ensures.rest_kept) c.self.invariant.0)

@@ -6,7 +6,7 @@ use Rattle.gw_transactions.specs.declared.Kept.{Kept}
 use Rattle.gw_transactions.specs.Slots.{live_as, AreCounted}
 use Rattle.gw_transactions.proofs.Here.{counted-one, counted-few, counted-set}
 use Rattle.gw_num.specs.Table.{at}
-use Rattle.gw_transactions.proofs.Populations.{held, value_of, counted_of, sound_of, written-txs, written-places, written-numbered, written-length, written-live, written-len, written-by, sound}
+use Rattle.gw_transactions.proofs.Populations.{held, value_of, counted_of, sound_of, written-txs, written-places, written-numbered, written-length, written-live, written-len, written-by, written-alike, sound}
 use Rattle.gw_transactions.proofs.Transactions.set.Goals as goal
 
 pub index-requires : goal.index-requires
@@ -42,6 +42,8 @@ invariant_of-self c =
       subst (AreCounted c.add.new.self) (sym txs)
           (counted-set c.self.inside.here _ (counted_of c.self.inside c.self.invariant.0 _ c.self.view_is c.self.invariant.2) c.take.new.self c.add.new.self c.args.tx.number (live_as c.index.result.now.1) (live_as (kept c))
           (value_of c.self.inside c.self.invariant.0 _ c.self.view_is c.args.tx c.requires.held _ c.index.ensures) c.take.ensures c.add.ensures),
+      written-alike c.self.inside c.self.invariant.0 _ c.self.view_is c.args.tx c.requires.held c.index_mut.result.now c.index_mut.ensures.value (kept c) c.self.invariant.3 refl,
+      c.self.invariant.4,
     )
 
 pub returns-clause-places : goal.returns-clause-places
@@ -60,4 +62,4 @@ pub returns-clause-handles : goal.returns-clause-handles
 returns-clause-handles c = λ tx holds. ap (λ places. at None places tx.number) (returns-clause-places c) ∙ holds
 
 pub returns-clause-sound : goal.returns-clause-sound
-returns-clause-sound c = sound (with_value c.self.inside.slots c.args.tx.place (c.index_mut.result.now.0, kept c)) c.self.inside.created (invariant_of-self c).0
+returns-clause-sound c = sound (with_value c.self.inside.slots c.args.tx.place (c.index_mut.result.now.0, kept c)) c.self.inside.created c.self.inside.unset.last (invariant_of-self c).0

@@ -13,7 +13,7 @@ pub returns-clause-state : goal.returns-clause-state
 returns-clause-state c = search rules
 
 pub returns-clause-linked : goal.returns-clause-linked
-returns-clause-linked c = λ l. linked-entered c.args.self.now _ c.args.tx c.args.transaction c.args.next c.set.ensures.txs c.set.ensures.places c.set.ensures.sound refl refl refl (record { waits = refl; assemblies = refl; chains = refl; facilities = refl; storages = refl; queues = refl; clock = refl }) (returns-clause-state c) c.requires.block.1 c.requires.rank l
+returns-clause-linked c = λ l. linked-entered c.args.self.now _ c.args.tx c.args.transaction c.args.next c.set.ensures.txs c.set.ensures.places c.set.ensures.last c.set.ensures.sound refl refl refl (record { waits = refl; assemblies = refl; chains = refl; facilities = refl; storages = refl; queues = refl; clock = refl }) (returns-clause-state c) c.requires.block.1 c.requires.rank l
 
 pub returns-clause-rank : goal.returns-clause-rank
 returns-clause-rank c =

@@ -13,7 +13,7 @@ returns-clause-state c = search rules
 
 pub returns-clause-linked : goal.returns-clause-linked
 returns-clause-linked c =
-    linked-ranked c.args.self.now _ c.args.tx (record c.args.transaction { priority = c.args.priority }) (c.args.transaction.next + 1) (written c) c.set.ensures.places c.set.ensures.sound
+    linked-ranked c.args.self.now _ c.args.tx (record c.args.transaction { priority = c.args.priority }) (c.args.transaction.next + 1) (written c) c.set.ensures.places c.set.ensures.last c.set.ensures.sound
     c.requires.active c.requires.held refl refl refl (record { waits = refl; assemblies = refl; chains = refl; facilities = refl; storages = refl; queues = refl; clock = refl }) (returns-clause-state c) c.requires.block.1 c.requires.linked
 
 pub returns-clause-rank : goal.returns-clause-rank

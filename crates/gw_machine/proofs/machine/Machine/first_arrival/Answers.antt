@@ -7,22 +7,23 @@ use Rattle.gw_step.specs.Times.{environment_of_next}
 use Rattle.gw_step.proofs.Within.{sum-raised, length-raised}
 use Rattle.gw_step.proofs.Suffices.{intervals_ask_for_nothing}
 use Rattle.gw_machine.proofs.machine.Machine.first_arrival.Goals as goal
+use Rattle.gw_machine.proofs.machine.Machine.first_arrival.Goals.{After-arrive}
 
-scheduled : (c : goal.After-arrive) → c.arrive.new.self.scheduled.items ≡ raised c.args.number c.args.self.now.scheduled.items
+scheduled : (c : After-arrive) → c.arrive.new.self.scheduled.items ≡ raised c.args.number c.args.self.now.scheduled.items
 scheduled c =
     ap (λ (s : State). s.scheduled) c.arrive.ensures.state
-    ∙ ap (raised c.args.number) (ap (λ (s : State). s.scheduled) c.set_streams.ensures.state ∙ ap (λ (s : State). s.scheduled) c.in_ok-reserve_arrival-in-Ok.ensures.state)
+    ∙ ap (raised c.args.number) (ap (λ (s : State). s.scheduled) c.set_streams.ensures.state ∙ ap (λ (s : State). s.scheduled) c.in_ok-parameters-in-Ok.ensures.state)
 
-pub returns-in_ok-reserve_arrival-in-Ok-clause-scheduled : goal.returns-in_ok-reserve_arrival-in-Ok-clause-scheduled
-returns-in_ok-reserve_arrival-in-Ok-clause-scheduled c =
+pub returns-in_ok-parameters-in-Ok-clause-scheduled : goal.returns-in_ok-parameters-in-Ok-clause-scheduled
+returns-in_ok-parameters-in-Ok-clause-scheduled c =
     let is = scheduled c in (
       ap length is ∙ length-raised c.args.number c.args.self.now.scheduled.items c.requires.block,
       omega (arith, ap sum is, sum-raised c.args.number c.args.self.now.scheduled.items),
     )
 
-pub returns-in_ok-reserve_arrival-in-Ok-clause-made_by : goal.returns-in_ok-reserve_arrival-in-Ok-clause-made_by
-returns-in_ok-reserve_arrival-in-Ok-clause-made_by c =
-    let before = ap (λ (s : State). length s.transactions) c.set_streams.ensures.state ∙ ap (λ (s : State). length s.transactions) c.in_ok-reserve_arrival-in-Ok.ensures.state in
+pub returns-in_ok-parameters-in-Ok-clause-made_by : goal.returns-in_ok-parameters-in-Ok-clause-made_by
+returns-in_ok-parameters-in-Ok-clause-made_by c =
+    let before = ap (λ (s : State). length s.transactions) c.set_streams.ensures.state ∙ ap (λ (s : State). length s.transactions) c.in_ok-parameters-in-Ok.ensures.state in
     let after = ap (λ (s : State). length s.transactions) c.arrive.ensures.state ∙ length-put_next None (state_of c.set_streams.new.self).transactions _ in
     omega (arith, before, after)
 

@@ -8,4 +8,4 @@ pub returns-clause-state : goal.returns-clause-state
 returns-clause-state c =
     let m = c.args.self.now in
     ap (λ (queues : List Contents). record (state_of m) { entities = record (entities_of m) { queues = queues } })
-    (joined-table m.queues c.join_queue.new.self c.args.u.entity c.args.u.number c.join_queue.result c.requires.inside c.requires.few c.join_queue.ensures.value c.join_queue.ensures.others)
+    (joined-table m.queues c.join_queue.new.self c.args.u.entity c.args.u.number c.join_queue.ensures.value c.join_queue.ensures.others)

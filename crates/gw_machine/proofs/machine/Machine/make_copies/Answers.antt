@@ -1,6 +1,6 @@
-use Rattle.std.proofs.Common.{rules, ◌≡◌, ◌∙◌, ℕ, suc, List, [], ◌∷◌, ◌++◌, length, replicate, Option, ap, sym, subst, arith}
-use Rattle.std.specs.Prelude.{ℤ}
-use Rattle.gw_step.specs.Times.{parameters_of}
+use Rattle.std.proofs.Common.{rules, ◌≡◌, ◌∙◌, ℕ, suc, List, [], ◌∷◌, ◌++◌, length, replicate, ap, sym, subst, arith}
+use Rattle.gw_transactions.specs.Transactions.{kept_of}
+use Rattle.gw_transactions.specs.Parameters.{Numbered}
 use Rattle.gw_step.specs.Changes.{copies_made}
 use Rattle.gw_machine.specs.View.{state_of}
 use Rattle.gw_machine.proofs.AtCopies.{copies-next, copies-none, popped-same, popped-length}
@@ -19,7 +19,7 @@ loop-for_copy-preserved c =
     record {
       state = ap (copies_made (length front) n t c.args.target) e.state ∙ sym (copies-next (length front) n t c.args.target was)
           ∙ ap (λ (k : ℕ). copies_made k n t c.args.target was) (sym one_more) ∙ old.state;
-      same = popped-same front c.in-Some.for_copy (parameters_of n was) (subst (λ (all : List (List (Option ℤ))). all ≡ replicate (length all) (parameters_of n was)) popped old.same)
+      same = popped-same front c.in-Some.for_copy (kept_of n c.loop-for_copy.self.transactions) (subst (λ (all : List Numbered). all ≡ replicate (length all) (kept_of n c.loop-for_copy.self.transactions)) popped old.same)
           ∙ ap (replicate (length front)) (sym e.same);
       linked = e.linked;
       frame = search (rules, e.frame, old.frame);

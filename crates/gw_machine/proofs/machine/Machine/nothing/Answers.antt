@@ -37,6 +37,7 @@ begins c = record {
   scheduled = search rules;
   transactions = c.in_ok-transactions.ensures.txs;
   sound = c.in_ok-transactions.ensures.sound;
+  last = c.in_ok-transactions.ensures.last;
   active = refl;
   current_events = c.new-4.ensures;
   future_events = c.new-5.ensures;

@@ -22,13 +22,13 @@ written c = search rules
 pub returns-in-Some-clause-state : goal.returns-in-Some-clause-state
 returns-in-Some-clause-state c =
     state-unlinks c.args.self.now c.requires.linked c.args.chain c.args.target c.requires.chain c.in-Some.tx (sym c.in-Some.ensures.first) c.get-member.result.now c.get-member.ensures.value
-    c.set.new.self c.put_chain.new.self (written c) c.set.ensures.places c.put_chain.ensures.txs c.put_chain.ensures.places c.put_chain.ensures.sound
+    c.set.new.self c.put_chain.new.self (written c) c.set.ensures.places c.put_chain.ensures.txs c.put_chain.ensures.places c.set.ensures.last c.put_chain.ensures.last c.put_chain.ensures.sound
     c.insert_behind.new.self (joined c) c.unlink.new.self c.in-Some.ensures.lists
 
 pub returns-in-Some-clause-linked : goal.returns-in-Some-clause-linked
 returns-in-Some-clause-linked c =
     linked-unlinks c.args.self.now c.requires.linked c.args.chain c.args.target c.requires.chain c.in-Some.tx (sym c.in-Some.ensures.first) c.get-member.result.now c.get-member.ensures.value
-    c.set.new.self c.put_chain.new.self (written c) c.set.ensures.places c.put_chain.ensures.txs c.put_chain.ensures.places c.put_chain.ensures.sound
+    c.set.new.self c.put_chain.new.self (written c) c.set.ensures.places c.put_chain.ensures.txs c.put_chain.ensures.places c.set.ensures.last c.put_chain.ensures.last c.put_chain.ensures.sound
     c.insert_behind.new.self (joined c) c.unlink.new.self c.in-Some.ensures.lists
 
 pub returns-in_default-clause-state : goal.returns-in_default-clause-state

@@ -1,4 +1,4 @@
-use Rattle.std.proofs.Common.{rules, ◌≡◌, length, sym, subst}
+use Rattle.std.proofs.Common.{rules, ◌≡◌, Some, length, sym, subst}
 use Rattle.gw_object.specs.declared.parts.Parts.{Parts}
 use Rattle.gw_step.specs.Operands.{BlocksFit}
 use Rattle.gw_step.specs.Job.{start_of}
@@ -7,7 +7,7 @@ use Rattle.gw_step.proofs.Operands.{blocks_fit}
 use Rattle.gw_step.proofs.Reached.{reached_first}
 use Rattle.gw_scan.proofs.sim.Sim.start.Goals as goal
 
-is_start : (c : goal.In-Ok) → state_of c.in-Ok.machine ≡ start_of c.args.spec
+is_start : (c : goal.In-Ok) → start_of c.args.spec ≡ Some (state_of c.in-Ok.machine)
 is_start c = search rules
 
 pub start-requires-clause-fit : goal.start-requires-clause-fit

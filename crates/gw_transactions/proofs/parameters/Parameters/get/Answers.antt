@@ -1,13 +1,18 @@
-use Rattle.std.proofs.Common.{rules, ◌≡◌, ◌∙◌, sym, ap, get_or, ℤ, List, Option, None}
+use Rattle.std.proofs.Common.{◌∙◌, ap, sym, subst, rules, arith}
+use Rattle.std.specs.Prelude.{None}
+use Rattle.std.specs.Option.{IsSome}
 use Rattle.gw_num.specs.Table.{at}
-use Rattle.gw_num.proofs.Tables.{at-get_or}
-use Rattle.gw_transactions.proofs.Shown.{at-shown}
+use Rattle.gw_transactions.specs.Parameters.{Numbered}
+use Rattle.gw_transactions.proofs.Shown.{is_there, value_is}
 use Rattle.gw_transactions.proofs.parameters.Parameters.get.Goals as goal
 
-found : (c : goal.After-flatten) → c.flatten.result ≡ get_or c.self.inside.values.items c.args.number None
-found c = search rules
+pub index-requires : goal.index-requires
+index-requires c =
+    let set = subst (λ (v : Numbered). IsSome (at None v.values c.args.number)) (sym c.self.view_is) c.requires in
+    omega (arith, (is_there c.self.inside.mask c.args.number c.self.inside.slots.items set).1, c.self.inside.slots.ok.0)
 
 pub returns : goal.returns
 returns c =
-    found c ∙ sym (at-get_or None c.self.inside.values.items c.args.number) ∙ at-shown c.self.inside.values.items c.args.number
-    ∙ ap (λ (values : List (Option ℤ)). at None values c.args.number) c.self.view_is
+    let set = subst (λ (v : Numbered). IsSome (at None v.values c.args.number)) (sym c.self.view_is) c.requires in
+    ap (λ (v : Numbered). at None v.values c.args.number) (sym c.self.view_is)
+    ∙ value_is c.self.inside.mask c.args.number c.self.inside.slots.items _ set (search rules)
