@@ -1,0 +1,9 @@
+pub mod Standing
+pub mod Calling
+pub mod Blaming
+pub mod Rows
+pub mod Follows
+pub mod Needing
+pub mod Backs
+pub mod Writing
+pub mod Reached

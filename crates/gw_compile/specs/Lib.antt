@@ -1,0 +1,9 @@
+pub mod Numbers
+pub mod Scope
+pub mod Attributes
+pub mod Value
+pub mod Code
+pub mod Unknown
+pub mod Needs
+pub mod Statements
+pub mod Keeps

@@ -1,0 +1,144 @@
+//! From expressions to instructions.
+
+ghost use Rattle.std.specs.Prelude.{◌≡◌, ◌≤◌, ◌++◌, ◌∷◌, [], None, OnOk, length, string_bytes};
+ghost use Rattle.std.specs.List.{flat_map};
+ghost use Rattle.gw_compile.specs.Code as model;
+ghost use Rattle.gw_compile.specs.Code.{expression_code};
+ghost use Rattle.gw_compile.specs.Scope.{scope_of};
+ghost use Rattle.gw_compile.specs.Unknown.{Judges, if_unknown, if_misfit, first_blame, first_in};
+
+use crate::attributes::attribute_in;
+use crate::faults::CompileFault;
+use crate::locals::{Meaning, name_meaning};
+use crate::numbering::{Callee, Equ, Numbering};
+use gw_code::{Instruction, Sna};
+use gw_text_expressions::Expression;
+
+/// One more instruction.
+pub(crate) fn put<'a>(
+    code: &mut Vec<Instruction>,
+    instruction: Instruction,
+) -> Result<(), CompileFault<'a>>
+    ensures code { OnOk result (code.new.items ≡ code.old.items ++ instruction ∷ []) }
+    ensures fault { Judges None ⊥ result }
+{
+    match code.push(instruction) {
+        Ok(()) => Ok(()),
+        Err(_) => Err(CompileFault::Memory),
+    }
+}
+
+/// The instruction for what a bare name stands for.
+fn name_instruction(named: Meaning) -> Instruction
+    ensures { result ≡ model.name_instruction named }
+{
+    match named {
+        Meaning::Local(local) => Instruction::Get(local),
+        Meaning::Of(Equ::Number(number)) => Instruction::Push(number),
+        Meaning::Of(Equ::Procedure(procedure)) => Instruction::Call(procedure),
+    }
+}
+
+/// The value of what a bare name stands for.
+fn put_name<'a>(
+    code: &mut Vec<Instruction>,
+    named: Option<Meaning>,
+    operand: &'a Expression,
+) -> Result<(), CompileFault<'a>>
+    ensures code { OnOk result (code.new.items ≡ code.old.items ++ model.name_code named) }
+    ensures fault { Judges (if_unknown named operand.now) ⊥ result }
+{
+    match named {
+        Some(named) => put(code, name_instruction(named)),
+        None => Err(CompileFault::Unknown(operand)),
+    }
+}
+
+/// The value of an attribute.
+fn put_attribute<'a>(
+    code: &mut Vec<Instruction>,
+    sna: Option<Sna>,
+    operand: &'a Expression,
+) -> Result<(), CompileFault<'a>>
+    ensures code { OnOk result (code.new.items ≡ code.old.items ++ model.attribute_code sna) }
+    ensures fault { Judges (if_unknown sna operand.now) ⊥ result }
+{
+    match sna {
+        Some(sna) => put(code, Instruction::Value(sna)),
+        None => Err(CompileFault::Unknown(operand)),
+    }
+}
+
+/// The call of a PROCEDURE with so many arguments.
+fn put_call<'a>(
+    code: &mut Vec<Instruction>,
+    callee: Option<Callee>,
+    given: usize,
+    call: &'a Expression,
+) -> Result<(), CompileFault<'a>>
+    ensures code { OnOk result (code.new.items ≡ code.old.items ++ model.call_code callee) }
+    ensures fault { Judges (if_misfit callee given call.now) ⊥ result }
+{
+    match callee {
+        None => Err(CompileFault::Unknown(call)),
+        Some(callee) if given == callee.arguments as usize => {
+            put(code, Instruction::Call(callee.number))
+        }
+        Some(_) => Err(CompileFault::Arguments(call)),
+    }
+}
+
+/// Behind what there is, the code of expressions, in order.
+#[cycle(emission)]
+fn emit_all<'a, N: Numbering>(
+    code: &mut Vec<Instruction>,
+    names: &N,
+    locals: &[&str],
+    expressions: &'a [Expression],
+) -> Result<(), CompileFault<'a>>
+    requires { length locals.now ≤ 32 }
+    ensures code { OnOk result (code.new.items ≡ code.old.items
+        ++ flat_map (expression_code (N.numbers names.now) (scope_of locals.now)) expressions.now) }
+    ensures fault { Judges (first_in (N.numbers names.now) (scope_of locals.now) expressions.now) ⊥ result }
+{
+    for expression in expressions {
+        emit(code, names, locals, expression)?;
+    }
+    Ok(())
+}
+
+/// Behind what there is, the code of an expression.
+#[cycle(emission)]
+pub(crate) fn emit<'a, N: Numbering>(
+    code: &mut Vec<Instruction>,
+    names: &N,
+    locals: &[&str],
+    expression: &'a Expression,
+) -> Result<(), CompileFault<'a>>
+    requires { length locals.now ≤ 32 }
+    ensures code { OnOk result (code.new.items ≡ code.old.items
+        ++ expression_code (N.numbers names.now) (scope_of locals.now) expression.now) }
+    ensures fault { Judges (first_blame (N.numbers names.now) (scope_of locals.now) expression.now) ⊥ result }
+{
+    match expression {
+        Expression::Whole(number) => put(code, Instruction::Push(*number)),
+        Expression::Name(name) => put_name(code, name_meaning(names, locals, name), expression),
+        Expression::Sna(sna) => put_attribute(code, attribute_in(names, sna), expression),
+        Expression::Parentheses(inner) => emit(code, names, locals, inner),
+        Expression::Unary(operator, operand) => {
+            emit(code, names, locals, operand)?;
+            put(code, Instruction::Unary(*operator))
+        }
+        Expression::Binary(operator, left, right) => {
+            emit(code, names, locals, left)?;
+            emit(code, names, locals, right)?;
+            put(code, Instruction::Binary(*operator))
+        }
+        Expression::Call(name, arguments) => {
+            match emit_all(code, names, locals, arguments) {
+                Ok(()) => put_call(code, names.procedure(name), arguments.len(), expression),
+                Err(fault) => Err(fault),
+            }
+        }
+    }
+}

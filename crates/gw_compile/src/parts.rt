@@ -1,0 +1,231 @@
+//! The parts of statements, as instructions.
+
+ghost use Rattle.std.specs.Prelude.{◌≡◌, ◌≤◌, ◌<◌, ◌+◌, ◌++◌, ◌∷◌, [], None, true, if◌then◌else◌};
+ghost use Rattle.std.specs.Prelude.{length, map, slice_set, string_bytes, OnOk, IfOk};
+ghost use Rattle.gw_code.specs.Limits.{most_locals};
+ghost use Rattle.gw_compile.specs.Scope.{scope_of};
+ghost use Rattle.gw_compile.specs.Statements as model;
+ghost use Rattle.gw_compile.specs.Statements.{IsWritten, when};
+ghost use Rattle.gw_compile.specs.Code.{expression_code};
+ghost use Rattle.gw_compile.specs.Unknown.{Judges, first_blame};
+
+use crate::emission::{emit, put};
+use crate::faults::CompileFault;
+use crate::locals::local_of;
+use crate::numbering::Numbering;
+use gw_code::{Back, Instruction, MOST_LOCALS};
+use gw_text_expressions::Expression;
+
+/// How often a WHILE goes round at most, while one activation of its procedure lasts.
+const TURNS: u32 = 10_000;
+
+/// Where a jump leads that leads to what comes next. No code that keeps its limit comes as far as the last such place.
+pub(crate) fn next_place(code: &[Instruction]) -> u16
+    ensures { result ≡ model.target (length code.now) }
+{
+    u16::try_from(code.len()).unwrap_or(u16::MAX)
+}
+
+/// One more jump, whose target isn't known yet; where it stands.
+fn put_jump<'a>(code: &mut Vec<Instruction>, jump: Instruction) -> Result<usize, CompileFault<'a>>
+    ensures code { OnOk result (code.new.items ≡ code.old.items ++ jump ∷ []) }
+    ensures place { IfOk result (λ place. place ≡ length code.old.items) }
+    ensures fault { Judges None ⊥ result }
+{
+    let place = code.len();
+    put(code, jump)?;
+    Ok(place)
+}
+
+/// A jump, where the first branch of an IF leads round the second; where it stands.
+pub(crate) fn put_leap<'a>(
+    code: &mut Vec<Instruction>,
+    skips: bool,
+) -> Result<usize, CompileFault<'a>>
+    ensures code { OnOk result (code.new.items
+        ≡ code.old.items ++ when skips (Instruction.Jump 0 ∷ [])) }
+    ensures place { IfOk result (λ place. place ≡ length code.old.items) }
+    ensures fault { Judges None ⊥ result }
+{
+    if skips {
+        put_jump(code, Instruction::Jump(0))
+    } else {
+        Ok(code.len())
+    }
+}
+
+/// Lets the test at a place lead to what comes next where it is 0.
+pub(crate) fn lead_test_on(code: &mut Vec<Instruction>, at: usize)
+    requires { at < length code.old.items }
+    ensures { code.new.items
+        ≡ slice_set code.old.items at (Instruction.JumpIfZero (model.target (length code.old.items))) }
+{
+    let target = next_place(code);
+    code[at] = Instruction::JumpIfZero(target);
+}
+
+/// Lets the jump at a place lead to what comes next, where there is one.
+pub(crate) fn lead_leap_on(code: &mut Vec<Instruction>, at: usize, skips: bool)
+    requires { skips ≡ true → at < length code.old.items }
+    ensures { code.new.items ≡ (if skips
+        then slice_set code.old.items at (Instruction.Jump (model.target (length code.old.items)))
+        else code.old.items) }
+{
+    if skips {
+        let target = next_place(code);
+        code[at] = Instruction::Jump(target);
+    }
+}
+
+/// The jump back of a WHILE, to its test, where its body goes on.
+pub(crate) fn put_turn<'a>(
+    code: &mut Vec<Instruction>,
+    goes_on: bool,
+    target: u16,
+) -> Result<(), CompileFault<'a>>
+    ensures code { OnOk result (code.new.items ≡ code.old.items
+        ++ when goes_on (Instruction.Back (record { target = target; count = model.turns }) ∷ [])) }
+    ensures fault { Judges None ⊥ result }
+{
+    if goes_on {
+        let count = TURNS;
+        put(code, Instruction::Back(Back { target, count }))
+    } else {
+        Ok(())
+    }
+}
+
+/// One more local.
+fn declare<'a>(locals: &mut Vec<&'a str>, name: &'a String) -> Result<(), CompileFault<'a>>
+    requires { length locals.old.items ≤ 32 }
+    ensures names { OnOk result (scope_of locals.new.items
+        ≡ scope_of locals.old.items ++ string_bytes name.now ∷ []) }
+    ensures room { OnOk result (length locals.new.items ≤ 32) }
+    ensures fault { Judges None (most_locals < length (scope_of locals.old.items) + 1) result }
+{
+    if locals.len() >= MOST_LOCALS as usize {
+        return Err(CompileFault::Limit);
+    }
+    match locals.push(name.as_str()) {
+        Ok(()) => Ok(()),
+        Err(_) => Err(CompileFault::Memory),
+    }
+}
+
+/// More locals, in order.
+pub(crate) fn declare_all<'a>(
+    locals: &mut Vec<&'a str>,
+    names: &'a [String],
+) -> Result<(), CompileFault<'a>>
+    requires { length locals.old.items ≤ 32 }
+    ensures names { OnOk result (scope_of locals.new.items
+        ≡ scope_of locals.old.items ++ map string_bytes names.now) }
+    ensures room { OnOk result (length locals.new.items ≤ 32) }
+    ensures fault { Judges None
+        (most_locals < length (scope_of locals.old.items ++ map string_bytes names.now)) result }
+{
+    for name in names {
+        declare(locals, name)?;
+    }
+    Ok(())
+}
+
+/// The value on top of the stack goes into a local.
+fn put_set<'a>(code: &mut Vec<Instruction>, local: Option<u8>) -> Result<(), CompileFault<'a>>
+    ensures code { OnOk result (code.new.items ≡ code.old.items ++ model.set_code local) }
+    ensures fault { Judges None ⊥ result }
+{
+    match local {
+        Some(local) => put(code, Instruction::Set(local)),
+        None => Ok(()),
+    }
+}
+
+/// Whether a name is a local.
+fn check_target<'a>(local: Option<u8>, name: &'a String) -> Result<(), CompileFault<'a>>
+    ensures { Judges (model.if_no_target local (string_bytes name.now)) ⊥ result }
+{
+    match local {
+        Some(_) => Ok(()),
+        None => Err(CompileFault::Target(name)),
+    }
+}
+
+/// Behind what there is, the code of name = e; a path leads on behind it.
+pub(crate) fn assign<'a, N: Numbering>(
+    code: &mut Vec<Instruction>,
+    names: &N,
+    locals: &[&str],
+    name: &'a String,
+    value: &'a Expression,
+) -> Result<bool, CompileFault<'a>>
+    requires { length locals.now ≤ 32 }
+    ensures written { IfOk result (IsWritten (model.assign_piece (N.numbers names.now)
+        (scope_of locals.now) (length code.old.items) (string_bytes name.now) value.now)
+        code.old.items code.new.items (scope_of locals.now)) }
+    ensures fault { Judges (model.assign_piece (N.numbers names.now)
+        (scope_of locals.now) (length code.old.items) (string_bytes name.now) value.now).blame ⊥ result }
+{
+    let local = local_of(locals, name.as_str());
+    check_target(local, name)?;
+    emit(code, names, locals, value)?;
+    put_set(code, local)?;
+    Ok(true)
+}
+
+/// Behind what there is, the code of the value that is returned: 0 where none is written.
+fn emit_returned<'a, N: Numbering>(
+    code: &mut Vec<Instruction>,
+    names: &N,
+    locals: &[&str],
+    value: &'a Option<Expression>,
+) -> Result<(), CompileFault<'a>>
+    requires { length locals.now ≤ 32 }
+    ensures code { OnOk result (code.new.items ++ Instruction.Return ∷ []
+        ≡ code.old.items ++ (model.return_piece (N.numbers names.now)
+        (scope_of locals.now) (length code.old.items) value.now).code) }
+    ensures fault { Judges (model.return_piece (N.numbers names.now)
+        (scope_of locals.now) (length code.old.items) value.now).blame ⊥ result }
+{
+    match value {
+        Some(value) => emit(code, names, locals, value),
+        None => put(code, Instruction::Push(0)),
+    }
+}
+
+/// Behind what there is, the code of RETURN; no path leads on behind it.
+pub(crate) fn return_value<'a, N: Numbering>(
+    code: &mut Vec<Instruction>,
+    names: &N,
+    locals: &[&str],
+    value: &'a Option<Expression>,
+) -> Result<bool, CompileFault<'a>>
+    requires { length locals.now ≤ 32 }
+    ensures written { IfOk result (IsWritten (model.return_piece (N.numbers names.now)
+        (scope_of locals.now) (length code.old.items) value.now)
+        code.old.items code.new.items (scope_of locals.now)) }
+    ensures fault { Judges (model.return_piece (N.numbers names.now)
+        (scope_of locals.now) (length code.old.items) value.now).blame ⊥ result }
+{
+    emit_returned(code, names, locals, value)?;
+    put(code, Instruction::Return)?;
+    Ok(false)
+}
+
+/// Behind what there is, the code of a test, and a jump whose target isn't known yet; where that stands.
+pub(crate) fn put_test<'a, N: Numbering>(
+    code: &mut Vec<Instruction>,
+    names: &N,
+    locals: &[&str],
+    test: &'a Expression,
+) -> Result<usize, CompileFault<'a>>
+    requires { length locals.now ≤ 32 }
+    ensures code { OnOk result (code.new.items ≡ code.old.items
+        ++ (expression_code (N.numbers names.now) (scope_of locals.now) test.now ++ Instruction.JumpIfZero 0 ∷ [])) }
+    ensures place { IfOk result (λ place. place ≡ length code.old.items
+        + length (expression_code (N.numbers names.now) (scope_of locals.now) test.now)) }
+    ensures fault { Judges (first_blame (N.numbers names.now) (scope_of locals.now) test.now) ⊥ result }
+{
+    emit(code, names, locals, test)?;
+    put_jump(code, Instruction::JumpIfZero(0))
+}
