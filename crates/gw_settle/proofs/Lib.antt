@@ -1,0 +1,17 @@
+pub mod Uniting
+pub mod Joining
+pub mod Ordering
+pub mod Keeping
+pub mod Sending
+pub mod Complete
+pub mod Rows
+pub mod Goods
+pub mod Kept
+pub mod Size
+pub mod Falling
+pub mod Sent
+pub mod Reached
+pub mod Writing
+pub mod Tabled
+pub mod KindsStay
+pub mod Answered

@@ -1,0 +1,58 @@
+-- Two states joined: what is known on both ways into a place.
+use Rattle.std.specs.Prelude.{ℕ, ◌≤◌, List, [], ◌∷◌, ◌++◌, Option, Some, None, Bool, IsTrue, filter, nat_lt, ◌&&◌, if◌then◌else◌, min}
+use Rattle.gw_flow.specs.Rows.{ParamKind, Num, Ret, Row, kind_of, units_of, nonzero, kind_fits, params_fit, units_fit, IsOrdered}
+
+-- the entry with this value for a number, if there is a value
+abbrev pub one : {X : Type 0} → ℕ → Option X → List (ℕ × X)
+one n None = []
+one n (Some v) = (n, v) ∷ []
+
+-- each entry has the value that a function has for its number, or goes
+abbrev pub keep : {X : Type 0} → (ℕ → Option X) → List (ℕ × X) → List (ℕ × X)
+keep f [] = []
+keep f (e ∷ es) = one e.0 (f e.0) ++ keep f es
+
+-- these numbers and those, ascending
+abbrev pub united : List ℕ → List ℕ → List ℕ
+united ns [] = ns
+united ns (m ∷ ms) = filter (λ n. nat_lt n m) ns ++ m ∷ united (filter (λ n. nat_lt m n) ns) ms
+
+-- what a parameter holds on either way: a number on both, or a return on both, to the blocks of either
+abbrev pub joined_kind : Option ParamKind → Option ParamKind → Option ParamKind
+joined_kind (Some Num) (Some Num) = Some Num
+joined_kind (Some (Ret bs)) (Some (Ret cs)) = Some (Ret (united bs cs))
+joined_kind kind other = None
+
+-- a row with a state: the parameters that both have, the row's facilities, and the lesser units
+abbrev pub joined : Row → Row → Row
+joined row state = record {
+  params = keep (λ p. joined_kind (kind_of row p) (kind_of state p)) row.params;
+  facilities = row.facilities;
+  units = keep (λ e. nonzero (min (units_of row e) (units_of state e))) row.units;
+}
+
+-- whether a state has at least what a row knows of parameters and units
+abbrev pub is_within : Row → Row → Bool
+is_within state row = params_fit state.params row.params && units_fit state.units row.units
+
+-- a state has at least what a row knows of parameters and units
+pub record Within (state row : Row) : Type 0 where
+  pub params : (p : ℕ) → IsTrue (kind_fits (kind_of state p) (kind_of row p))
+  pub units : (e : ℕ) → units_of row e ≤ units_of state e
+
+-- a row once a state has come: where there is none it is the state; where the state has what the row knows it stays; else they are joined
+abbrev pub with_state : Row → Option Row → Row
+with_state state None = state
+with_state state (Some row) = if is_within state row then row else joined row state
+
+-- each of the two has what the join knows
+abbrev pub JoinIsBelowBoth : Type 0
+JoinIsBelowBoth = (row state : Row) → Within row (joined row state) × Within state (joined row state)
+
+-- and what both have, the join has
+abbrev pub JoinIsGreatest : Type 0
+JoinIsGreatest = (row state other : Row) → Within row other → Within state other → Within (joined row state) other
+
+-- the lists of a join ascend, and no amount is 0
+abbrev pub JoinIsOrdered : Type 0
+JoinIsOrdered = (row state : Row) → IsOrdered row → IsOrdered state → IsOrdered (joined row state)

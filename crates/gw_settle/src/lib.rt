@@ -1,0 +1,13 @@
+//! The assembler's state table: what is known of a transaction at every block, found from the blocks alone.
+#![tactic(auto)]
+
+pub mod codes;
+mod known;
+pub mod laws;
+mod rounds;
+mod sets;
+mod settling;
+mod table;
+mod written;
+
+pub use settling::settle;

@@ -1,0 +1,143 @@
+//! The state table of an object, found from its entities, procedures and blocks alone.
+
+ghost use Rattle.std.specs.Prelude.{◌≡◌, ◌⊎◌, IfOk, IfErr, Some};
+ghost use Rattle.gw_object.specs.Grammar.{HasSpelling};
+ghost use Rattle.gw_object.specs.Reading.{out_of_memory};
+ghost use Rattle.gw_kinds.specs.Checks.{first_broken};
+ghost use Rattle.gw_kinds.specs.Pass.{KindsPass};
+ghost use Rattle.gw_code_flow.specs.PlusChecks.{PlusPasses};
+ghost use Rattle.gw_flow.specs.Flow.{own_table, flow_checks, FlowPasses};
+ghost use Rattle.gw_settle.specs.Keeps.{IsWell};
+ghost use Rattle.gw_settle.specs.Settles as model;
+
+use crate::codes::LIMIT;
+use crate::rounds::settled_rows;
+use crate::written::{Stop, Written, table_written};
+use gw_flow::check_flow;
+use gw_object::codes::MEMORY;
+use gw_object::{Fault, Object, Parts, Place};
+use std::alloc::{AllocError, Global};
+use std::mem::swap;
+
+/// That memory ran out.
+const OUT_OF_MEMORY: Fault = Fault {
+    code: MEMORY,
+    place: Place::Nowhere,
+};
+
+/// That the table passes a limit.
+const PAST_LIMIT: Fault = Fault {
+    code: LIMIT,
+    place: Place::Nowhere,
+};
+
+/// The fault of a table that can't be written.
+fn fault_of(stop: Stop) -> Fault
+    ensures { model.IsNoFlowFault result }
+{
+    match stop {
+        Stop::Limit => PAST_LIMIT,
+        Stop::Memory => OUT_OF_MEMORY,
+    }
+}
+
+/// The assembler's state table of an object, as an object has it.
+fn table_of(alloc: Global, parts: &Parts) -> Result<Written, Fault>
+    requires { IsWell parts.now }
+    ensures table { IfOk result (λ table. model.IsTableOf parts.now table) }
+    ensures refused { IfErr result model.IsNoFlowFault }
+{
+    match settled_rows(alloc, parts) {
+        Ok(rows) => match table_written(alloc, &rows.blocks, &rows.chains) {
+            Ok(table) => Ok(table),
+            Err(stop) => Err(fault_of(stop)),
+        },
+        Err(AllocError) => Err(OUT_OF_MEMORY),
+    }
+}
+
+/// Parts and a state table that change places.
+fn exchange(parts: &mut Parts, table: &mut Written)
+    ensures parts { parts.new ≡ model.with_table parts.old table.old.returns table.old.states table.old.chain_states }
+    ensures returns { table.new.returns ≡ parts.old.returns }
+    ensures states { table.new.states ≡ parts.old.states }
+    ensures chain_states { table.new.chain_states ≡ parts.old.chain_states }
+{
+    swap(&mut parts.returns, &mut table.returns);
+    swap(&mut parts.states, &mut table.states);
+    swap(&mut parts.chain_states, &mut table.chain_states);
+}
+
+/// The object of parts with the table that they had.
+fn restored(parts: Parts, table: Written) -> Object
+    requires { HasSpelling (model.with_table parts table.returns table.states table.chain_states) }
+    ensures { result ≡ model.with_table parts table.returns table.states table.chain_states }
+{
+    let mut parts = parts;
+    let mut table = table;
+    exchange(&mut parts, &mut table);
+    Object::build(parts).unwrap()
+}
+
+/// An object, if flow passes; else its parts with the table that they had, and the fault.
+fn checked(alloc: Global, settled: Object, table: Written) -> Result<Object, (Object, Fault)>
+    requires kinds { KindsPass settled }
+    requires spelled { HasSpelling (model.with_table settled table.returns table.states table.chain_states) }
+    ensures passed { IfOk result (λ o. (o ≡ settled) × FlowPasses settled (own_table settled)) }
+    ensures unchanged { IfErr result (λ e. e.0 ≡ model.with_table settled table.returns table.states table.chain_states) }
+    ensures refused { IfErr result (λ e. (first_broken (flow_checks settled (own_table settled)) ≡ Some e.1) ⊎ (e.1 ≡ out_of_memory)) }
+{
+    match check_flow(alloc, &settled) {
+        Ok(()) => Ok(settled),
+        Err(fault) => Err((restored(settled.into_parts(), table), fault)),
+    }
+}
+
+/// An object with this table, if flow passes; else as it was, with the fault.
+fn settle_with(alloc: Global, object: Object, table: Written) -> Result<Object, (Object, Fault)>
+    requires well { IsWell object }
+    requires code { PlusPasses object }
+    requires table { model.IsTableOf object table }
+    ensures accepted { IfOk result (λ settled. model.Passes object settled) }
+    ensures code { IfOk result PlusPasses }
+    ensures table { IfOk result (λ settled. model.HasAssemblersTable object settled) }
+    ensures greatest { IfOk result (λ settled. model.IsGreatest object settled) }
+    ensures unchanged { IfErr result (λ e. e.0 ≡ object) }
+    ensures refused { IfErr result (λ e. model.IsRefused object e.1) }
+    ensures complete { IfErr result (λ e. model.IsComplete object e.1) }
+{
+    let mut parts = object.into_parts();
+    let mut table = table;
+    exchange(&mut parts, &mut table);
+    match Object::build(parts) {
+        Ok(settled) => checked(alloc, settled, table),
+        Err((parts, _)) => Err((restored(parts, table), PAST_LIMIT)),
+    }
+}
+
+/// An object, of which kinds and PLUS code pass, with the assembler's state table and return rows in place of its own. The
+/// table is found from the entities, procedures and blocks alone, in rounds over the blocks in ascending order: a block whose
+/// rules hold in its row sends its edges; a target without a row takes the state, else the row keeps what it and the state
+/// both know, and its facilities. The rounds end with one that changes nothing. Return rows are numbered in order of first
+/// sight, and equal sets of blocks share one.
+///
+/// An object that is refused comes back as it was: with 82 Limit at Nowhere where the table passes a limit of the object
+/// format, else with the first fault of [`check_flow`], 20 to 28, or with 8 Memory at Nowhere. Where flow passes with any
+/// table at all, none of 20 to 28 is answered, unless a parameter keeps the return of a TRANSFER to a subroutine and is added
+/// to or subtracted from by an ASSIGN (ours: docs/object-format.md).
+pub fn settle(alloc: Global, object: Object) -> Result<Object, (Object, Fault)>
+    requires kinds { KindsPass object }
+    requires code { PlusPasses object }
+    ensures accepted { IfOk result (λ settled. model.Passes object settled) }
+    ensures code { IfOk result PlusPasses }
+    ensures table { IfOk result (λ settled. model.HasAssemblersTable object settled) }
+    ensures greatest { IfOk result (λ settled. model.IsGreatest object settled) }
+    ensures unchanged { IfErr result (λ e. e.0 ≡ object) }
+    ensures refused { IfErr result (λ e. model.IsRefused object e.1) }
+    ensures complete { IfErr result (λ e. model.IsComplete object e.1) }
+{
+    match table_of(alloc, object.parts()) {
+        Ok(table) => settle_with(alloc, object, table),
+        Err(fault) => Err((object, fault)),
+    }
+}

@@ -1,0 +1,7 @@
+//! Tests of the assembler's state table: objects of a few blocks, built by hand, and what is found out about them.
+#![tactic(auto)]
+
+#[cfg(test)]
+mod models;
+#[cfg(test)]
+mod tables;

@@ -1,0 +1,71 @@
+//! Objects of blocks alone, without a state table.
+
+ghost use Rattle.std.specs.Prelude.{◌≡◌, IfOk};
+ghost use Rattle.gw_kinds.specs.Pass.{KindsPass};
+
+use gw_blocks::Block;
+use gw_flow::check_plus;
+use gw_kinds::check_kinds;
+use gw_object::{Entity, Fault, Items, Kind, Memory, Object, Parts};
+pub(crate) use gw_samples::{
+    add_entity, advance_by, assign, by_fraction, call, empty_parts, generate, generate_by,
+    no_states, number, terminate, time, units,
+};
+use gw_settle::settle;
+use std::alloc::Global;
+use std::test::Fail;
+
+/// A queue Q, a storage S of 3 units and a facility F, in this order.
+fn three_entities(alloc: Global) -> Result<Vec<Entity>, Memory> {
+    let mut entities = Vec::new(alloc);
+    add_entity(alloc, &mut entities, Kind::Queue, b"Q")?;
+    add_entity(alloc, &mut entities, Kind::Storage(3), b"S")?;
+    add_entity(alloc, &mut entities, Kind::Facility, b"F")?;
+    Ok(entities)
+}
+
+/// So many weights of 1.
+fn ones(alloc: Global, count: usize) -> Result<Vec<u32>, Memory> {
+    let mut weights = Vec::new(alloc);
+    for _ in 0..count {
+        weights.push(1)?;
+    }
+    Ok(weights)
+}
+
+/// Gives parts these blocks, three entities, and no state table.
+fn put_blocks(alloc: Global, parts: &mut Parts, blocks: &[Block]) -> Result<(), Memory> {
+    parts.entities = Items::from_vec(three_entities(alloc)?);
+    parts.blocks = Items::from_vec(Vec::from_slice(alloc, blocks)?);
+    parts.states = Items::from_vec(no_states(alloc, blocks.len())?);
+    parts.weights = Items::from_vec(ones(alloc, blocks.len())?);
+    Ok(())
+}
+
+/// The object of these blocks, without a state table.
+pub(crate) fn object_of(alloc: Global, blocks: &[Block]) -> Result<Object, Fail> {
+    let mut parts = empty_parts(alloc, 1);
+    put_blocks(alloc, &mut parts, blocks)?;
+    match Object::build(parts) {
+        Ok(object) => Ok(object),
+        Err(_) => Err(Fail::from("the parts have a spelling")),
+    }
+}
+
+/// What settling an object answers, if kinds and PLUS code pass; else their fault.
+pub(crate) fn settled(alloc: Global, object: Object) -> Result<Object, Fault> {
+    match check_kinds(&object) {
+        Ok(()) => settled_code(alloc, object),
+        Err(fault) => Err(fault),
+    }
+}
+
+/// The same, of an object of which kinds pass.
+fn settled_code(alloc: Global, object: Object) -> Result<Object, Fault>
+    requires { KindsPass object }
+{
+    match check_plus(&object) {
+        Ok(()) => settle(alloc, object).map_err(|refused| refused.1),
+        Err(fault) => Err(fault),
+    }
+}
