@@ -1,5 +1,8 @@
 //! Why an expression or a PROCEDURE isn't compiled.
 
+ghost use Rattle.std.specs.Prelude.{◌≡◌};
+ghost use Rattle.gw_compile.specs.declared.faults.CompileFault.TheVariants as faults;
+
 use gw_text_expressions::Expression;
 use std::alloc::AllocError;
 
@@ -20,6 +23,8 @@ pub enum CompileFault<'a> {
 }
 
 impl From<AllocError> for CompileFault<'_> {
+    ghost from_gives = { λ _ fault. fault ≡ faults.Memory };
+
     fn from(_: AllocError) -> Self {
         CompileFault::Memory
     }
