@@ -62,7 +62,7 @@ size_less n state row zero (Some other ∷ rows) is lt =
 size_less n state row (suc k) (None ∷ rows) is lt = size_less n state row k rows is lt
 size_less n state row (suc k) (Some other ∷ rows) is lt = omega (arith, size_less n state row k rows is lt)
 
-same_rows : (state row : Row) (k : ℕ) (rows : List (Option Row)) → option_flatten (slice_get rows k) ≡ Some row → with_state state (Some row) ≡ row → sent_at state k rows ≡ rows
+pub same_rows : (state row : Row) (k : ℕ) (rows : List (Option Row)) → option_flatten (slice_get rows k) ≡ Some row → with_state state (Some row) ≡ row → sent_at state k rows ≡ rows
 same_rows state row k [] is stays = refl
 same_rows state row zero (None ∷ rows) is stays = absurd (cc)
 same_rows state row zero (Some other ∷ rows) is stays =
@@ -76,7 +76,7 @@ less_to p n state row (targets.Block zero) rows is lt = absurd (let q : None ≡
 less_to p n state row (targets.Block (suc k)) rows is lt = (omega (arith, absent_same state row k rows.blocks is), omega (arith, size_less n state row k rows.blocks is lt))
 less_to p n state row (targets.Chain e) rows is lt = (omega (arith, absent_same state row (chain_place p.entities e) rows.chains is), omega (arith, size_less n state row (chain_place p.entities e) rows.chains is lt))
 
-same_to : (p : Parts) (state row : Row) (to : Target) (rows : TableRows) → as_table p rows to ≡ Some row → with_state state (Some row) ≡ row → sent_to p.entities state to rows ≡ rows
+pub same_to : (p : Parts) (state row : Row) (to : Target) (rows : TableRows) → as_table p rows to ≡ Some row → with_state state (Some row) ≡ row → sent_to p.entities state to rows ≡ rows
 same_to p state row (targets.Block zero) rows is stays = refl
 same_to p state row (targets.Block (suc k)) rows is stays = ap (λ xs. record rows { blocks = xs }) (same_rows state row k rows.blocks is stays)
 same_to p state row (targets.Chain e) rows is stays = ap (λ xs. record rows { chains = xs }) (same_rows state row (chain_place p.entities e) rows.chains is stays)
@@ -147,7 +147,7 @@ idle_if : (stays : Bool) (state row : Row) → is_within state row ≡ stays →
 idle_if true state row is h = within_true state row is
 idle_if false state row is h = absurd (cc)
 
-idle_row : (state : Row) (row : Option Row) → change_of state row ≡ Same → IsSomeAnd row (Within state)
+pub idle_row : (state : Row) (row : Option Row) → change_of state row ≡ Same → IsSomeAnd row (Within state)
 idle_row state None h = absurd (cc)
 idle_row state (Some row) h = idle_if (is_within state row) state row refl h
 
@@ -177,7 +177,7 @@ idle_to p (suc k) rows well kept is b lt =
     (λ (ne : b ≢ k). idle_to p k rows well kept both.0 b (omega arith))
     (cases_eq b k)
 
-none_sent : (p : Parts) (table : Table) (b : ℕ) → block_at p.blocks b ≡ None → IsIdleAt p table b
+pub none_sent : (p : Parts) (table : Table) (b : ℕ) → block_at p.blocks b ≡ None → IsIdleAt p table b
 none_sent p table b is = subst (λ o. All (IsIdle table) (sends_in p table b o (table (targets.Block b)))) (sym is) (All-nil (IsIdle table))
 
 idle_each : (p : Parts) (rows : TableRows) → IsWell p → AreKept p rows → change_to p (length p.blocks) rows ≡ Same → (b : ℕ) → IsIdleAt p (as_table p rows) b

@@ -10,6 +10,8 @@ pub mod Kept
 pub mod Size
 pub mod Falling
 pub mod Sent
+pub mod Marking
+pub mod Sharing
 pub mod Reached
 pub mod Writing
 pub mod Tabled

@@ -92,7 +92,7 @@ stays_is state (suc k) (x ∷ rows) row is within = ap (λ xs. x ∷ xs) (stays_
 
 -- SEVERAL EDGES
 
-followed_by_assoc : (a b c : Change) → followed_by (followed_by a b) c ≡ followed_by a (followed_by b c)
+pub followed_by_assoc : (a b c : Change) → followed_by (followed_by a b) c ≡ followed_by a (followed_by b c)
 followed_by_assoc Same b c = refl
 followed_by_assoc Less Same c = refl
 followed_by_assoc Less Less Same = refl
@@ -115,7 +115,7 @@ sending_more p all rest e start now change h = record {
   shape = shape_sent p e now h.shape;
 }
 
-same_after : (change : Change) → followed_by change Same ≡ change
+pub same_after : (change : Change) → followed_by change Same ≡ change
 same_after Same = refl
 same_after Less = refl
 same_after More = refl

@@ -2,6 +2,8 @@ pub mod Joins
 pub mod Known
 pub mod Rounds
 pub mod Keeps
+pub mod Marks
+pub mod Versions
 pub mod Numbers
 pub mod Written
 pub mod Settles

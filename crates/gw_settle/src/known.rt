@@ -2,7 +2,7 @@
 
 ghost use Rattle.std.specs.Prelude.{◌≡◌, ◌≢◌, ◌<◌, ◌++◌, List, IfOk, IfSome, Some, option_map, All, AllPairs, min};
 ghost use Rattle.gw_flow.specs.Entries.{entry, amount_of};
-ghost use Rattle.gw_flow.specs.Rows.{IsOrdered, KindAscends, Ret, kind_of, units_of, nonzero, nothing_known};
+ghost use Rattle.gw_flow.specs.Rows.{IsOrdered, KindAscends, Ret, kind_of, return_blocks, units_of, nonzero, nothing_known};
 ghost use Rattle.gw_flow.specs.Seen.{amounts_of};
 ghost use Rattle.gw_flow.specs.Viewed.{kind_viewed, params_viewed};
 ghost use Rattle.gw_settle.specs.Joins as model;
@@ -102,6 +102,16 @@ fn kind_lent(kind: &KnownKind) -> ParamKind<'_>
     match kind {
         KnownKind::Num => ParamKind::Num,
         KnownKind::Ret(blocks) => ParamKind::Ret(blocks.as_slice()),
+    }
+}
+
+/// The blocks of a return; none of a number.
+fn blocks_of(kind: &KnownKind) -> &[u16]
+    ensures { result.now ≡ return_blocks (Some (kind_known kind.now)) }
+{
+    match kind {
+        KnownKind::Num => &[],
+        KnownKind::Ret(blocks) => blocks.as_slice(),
     }
 }
 
@@ -319,6 +329,19 @@ impl Known {
         ensures ordered { IsOrdered self.now }
     {
         self.lists.as_ref().params.as_slice()
+    }
+
+    /// The blocks to which a parameter may return, ascending; none where it holds no return.
+    pub(crate) fn callers(&self, parameter: u8) -> &[u16]
+        ensures { result.now ≡ return_blocks (kind_of self.now parameter) }
+    {
+        let params = self.lists.as_ref().params.as_slice();
+        for i in 0..params.len() {
+            if params[i].number == parameter {
+                return blocks_of(&params[i].kind);
+            }
+        }
+        &[]
     }
 
     /// The facilities that are owned, ascending.

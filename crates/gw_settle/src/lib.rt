@@ -4,6 +4,7 @@
 pub mod codes;
 mod known;
 pub mod laws;
+mod returns;
 mod rounds;
 mod sets;
 mod settling;

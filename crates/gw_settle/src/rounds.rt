@@ -1,7 +1,9 @@
 //! The rounds that compute the assembler's state table.
 
-ghost use Rattle.std.specs.Prelude.{◌≡◌, IfOk, None, map, replicate};
+ghost use Rattle.std.specs.Prelude.{◌≡◌, IfOk, None, map, replicate, true};
 ghost use Rattle.gw_settle.specs.Keeps.{IsWell, IsSettled, AreKept};
+ghost use Rattle.gw_settle.specs.Marks.{MarksSuffice};
+ghost use Rattle.gw_settle.specs.Versions.{AreVersions};
 ghost use Rattle.gw_settle.specs.Rounds as model;
 
 use crate::known::Known;
@@ -51,14 +53,40 @@ fn start_chains(alloc: Global, count: usize) -> Result<Vec<Option<Known>>, Memor
     Ok(rows)
 }
 
-/// Visits the blocks in rounds, until one changes nothing.
+/// So many marks, each set.
+fn all_marked(alloc: Global, count: usize) -> Result<Vec<bool>, Memory>
+    ensures { IfOk result (λ marks. marks.items ≡ replicate count true) }
+{
+    let mut marks = Vec::with_capacity(alloc, count)?;
+    for _ in 0..count {
+        marks.push(true)?;
+    }
+    Ok(marks)
+}
+
+/// So many rows' versions: none.
+fn no_versions(alloc: Global, count: usize) -> Result<Vec<u64>, Memory>
+    ensures { IfOk result (λ versions. versions.items ≡ replicate count 0) }
+{
+    let mut versions = Vec::with_capacity(alloc, count)?;
+    for _ in 0..count {
+        versions.push(0)?;
+    }
+    Ok(versions)
+}
+
+/// Visits the blocks that are marked in rounds, until one changes nothing.
 fn settle_rows(
     alloc: Global,
     parts: &Parts,
     blocks: &mut [Option<Known>],
     chains: &mut [Option<Known>],
+    marks: &mut [bool],
+    versions: &mut [u64],
 ) -> Result<(), Memory>
     requires well { IsWell parts.now }
+    requires marks { MarksSuffice parts.now marks.old (model.rows_of blocks.old chains.old) }
+    requires versions { AreVersions versions.old blocks.old }
     requires start { model.rows_of blocks.old chains.old ≡ model.start parts.now }
     ensures table { IfOk result (λ _. model.AreSettled parts.now (model.rows_of blocks.new chains.new)) }
     ensures kept { IfOk result (λ _. AreKept parts.now (model.rows_of blocks.new chains.new)) }
@@ -66,7 +94,7 @@ fn settle_rows(
 {
     'more: loop {
         'less: loop {
-            match round(alloc, parts, blocks, chains)? {
+            match round(alloc, parts, blocks, chains, marks, versions)? {
                 Change::Same => return Ok(()),
                 Change::Less => {}
                 Change::More => break 'less,
@@ -84,6 +112,15 @@ pub(crate) fn settled_rows(alloc: Global, parts: &Parts) -> Result<TableRows, Me
 {
     let mut blocks = start_blocks(alloc, parts.blocks.as_slice())?;
     let mut chains = start_chains(alloc, chains_in(parts.entities.as_slice()))?;
-    settle_rows(alloc, parts, &mut blocks, &mut chains)?;
+    let mut marks = all_marked(alloc, parts.blocks.as_slice().len())?;
+    let mut versions = no_versions(alloc, blocks.len())?;
+    settle_rows(
+        alloc,
+        parts,
+        &mut blocks,
+        &mut chains,
+        &mut marks,
+        &mut versions,
+    )?;
     Ok(TableRows { blocks, chains })
 }

@@ -46,7 +46,7 @@ less-preserved c =
     let rows : new ≡ round c.args.parts.now now = search rules in
     let less : change_to c.args.parts.now (length c.args.parts.now.blocks) now ≡ Less = search rules in
     let falls = fell c.args.parts.now now new Less c.requires.well c.less.invariant.rows rows less in
-    record { rows = reached_next c.args.parts.now now new c.less.invariant.rows rows; absent = omega (arith, falls.0, c.less.invariant.absent) }
+    record { rows = reached_next c.args.parts.now now new c.less.invariant.rows rows; absent = omega (arith, falls.0, c.less.invariant.absent); marks = search rules; versions = search rules }
 
 pub more-smaller : goal.more-smaller
 more-smaller c =
@@ -62,4 +62,4 @@ more-preserved c =
     let now = rows_of c.less.blocks c.less.chains in
     let new = rows_of c.round.new.blocks c.round.new.chains in
     let rows : new ≡ round c.args.parts.now now = search rules in
-    reached_next c.args.parts.now now new c.less.invariant.rows rows
+    record { rows = reached_next c.args.parts.now now new c.less.invariant.rows rows; marks = search rules; versions = search rules }
