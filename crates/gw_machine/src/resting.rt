@@ -17,6 +17,32 @@ use gw_step::{Assembling, Placement};
 impl Machine {
     // ROOM
 
+    /// Makes room to wake the retry list.
+    pub fn reserve_wake(&mut self) -> Result<(), Memory>
+        ensures state { state_of self.new ≡ state_of self.old }
+        ensures linked { Linked self.old → Linked self.new }
+        ensures room { OnOk result (length self.new.waits.retry ≤ self.new.current_events.room) }
+        ensures frame { self.new ≡ record self.old { current_events = self.new.current_events } }
+    {
+        let retrying = self.waits.retrying();
+        if retrying == 0 {
+            return Ok(());
+        }
+        self.current_events.reserve(retrying)
+    }
+
+    /// Makes room to wake the retry list, and to let the active transaction rest for a time.
+    pub fn reserve_time(&mut self) -> Result<(), Memory>
+        ensures state { state_of self.new ≡ state_of self.old }
+        ensures linked { Linked self.old → Linked self.new }
+        ensures wake { OnOk result (length self.new.waits.retry ≤ self.new.current_events.room) }
+        ensures time { OnOk result (0 < self.new.future_events.room) }
+        ensures frame { self.new ≡ record self.old { current_events = self.new.current_events; future_events = self.new.future_events } }
+    {
+        self.reserve_wake()?;
+        self.future_events.reserve(1)
+    }
+
     /// Makes room to wake the retry list, and to let the active transaction rest on the current events chain or for a time.
     pub fn reserve_rest(&mut self) -> Result<(), Memory>
         requires linked { Linked self.old }
@@ -25,8 +51,9 @@ impl Machine {
         ensures room { OnOk result (HasRoom self.new) }
         ensures frame { self.new ≡ record self.old { current_events = self.new.current_events; future_events = self.new.future_events } }
     {
-        self.current_events.reserve(self.waits.retrying() + 1)?;
-        self.future_events.reserve(1)
+        let retrying = self.waits.retrying();
+        self.reserve_time()?;
+        self.current_events.reserve(retrying + 1)
     }
 
     /// Makes room besides for one whom the active transaction calls to the current events chain.
@@ -85,7 +112,7 @@ impl Machine {
     /// Where a block was entered since the retry list was last woken, it is woken.
     fn wake_if_stirred(&mut self)
         requires linked { Linked self.old }
-        requires room { HasRoom self.old }
+        requires room { length self.old.waits.retry ≤ self.old.current_events.room }
         ensures state { state_of self.new ≡ woken_if_stirred (state_of self.old) }
         ensures linked { Linked self.new }
         ensures room { LosesRoom 0 self.old.waits.rooms self.new.waits.rooms × (self.old.waits.retry_room ≤ self.new.waits.retry_room) }
@@ -204,6 +231,31 @@ impl Machine {
 
     // PLACING
 
+    /// The active transaction rests on the future events chain until a time, once the retry list was woken, if a block was
+    /// entered since it was last woken.
+    pub fn place_until(&mut self, tx: Tx, time: i64)
+        requires rests { CanRest self.old tx }
+        requires wake { length self.old.waits.retry ≤ self.old.current_events.room }
+        requires room { 0 < self.old.future_events.room }
+        ensures state { state_of self.new ≡ placed tx.number (Placement.RestsUntil time) (state_of self.old) }
+        ensures linked { Linked self.new }
+    {
+        self.wake_if_stirred();
+        self.rest_until(tx, time);
+    }
+
+    /// The active transaction is destroyed, once the retry list was woken, if a block was entered since it was last woken.
+    #[inline]
+    pub fn place_nowhere(&mut self, tx: Tx)
+        requires rests { CanRest self.old tx }
+        requires wake { length self.old.waits.retry ≤ self.old.current_events.room }
+        ensures state { state_of self.new ≡ placed tx.number Placement.LeavesModel (state_of self.old) }
+        ensures linked { Linked self.new }
+    {
+        self.wake_if_stirred();
+        self.leave_model(tx);
+    }
+
     /// The active transaction, of this priority, is placed: where it doesn't stay active, the retry list is woken before,
     /// if a block was entered since it was last woken.
     pub fn place(&mut self, tx: Tx, priority: i32, placement: Placement)
@@ -216,10 +268,7 @@ impl Machine {
     {
         match placement {
             Placement::StaysActive => {}
-            Placement::RestsUntil(time) => {
-                self.wake_if_stirred();
-                self.rest_until(tx, time);
-            }
+            Placement::RestsUntil(time) => self.place_until(tx, time),
             Placement::JoinsDelayList(entity) => {
                 self.wake_if_stirred();
                 self.join_delay_list(entity, tx, priority);
@@ -244,14 +293,12 @@ impl Machine {
                 self.wake_if_stirred();
                 self.join_chain(tx, link);
             }
-            Placement::LeavesModel => {
-                self.wake_if_stirred();
-                self.leave_model(tx);
-            }
+            Placement::LeavesModel => self.place_nowhere(tx),
         }
     }
 
     /// The active transaction, of this priority, is refused, and waits on the delay list of an entity, behind its peers.
+    #[inline]
     pub fn wait_for(&mut self, entity: u16, tx: Tx, priority: i32) -> Result<(), Memory>
         requires rests { CanRest self.old tx }
         requires rank { priority_of self.old.transactions.txs tx.number ≡ priority }
@@ -260,9 +307,10 @@ impl Machine {
         ensures err { OnErr result (state_of self.new ≡ state_of self.old) }
         ensures linked { Linked self.new }
     {
-        self.reserve_rest()?;
+        self.reserve_wake()?;
         self.reserve_wait(entity)?;
-        self.place(tx, priority, Placement::JoinsDelayList(entity));
+        self.wake_if_stirred();
+        self.join_delay_list(entity, tx, priority);
         Ok(())
     }
 }

@@ -45,6 +45,7 @@ fn spread_from(stream: Stream, mean: i64, half: i64) -> Result<(i64, Stream), Nu
 impl Machine {
     /// A time, in clock units, whose mean and half-range are evaluated for a subject; it is drawn from the first of these
     /// streams.
+    #[inline(always)]
     fn drawn_time(
         &self,
         verified: &Verified,
@@ -70,6 +71,7 @@ impl Machine {
     }
 
     /// The moment that lies a drawn time after the clock, in clock units.
+    #[inline(always)]
     pub fn drawn_moment(
         &self,
         verified: &Verified,

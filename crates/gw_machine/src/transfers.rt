@@ -1,7 +1,7 @@
 //! Hand-over of facilities, and admission to storages.
 
 ghost use Rattle.std.specs.Prelude.{MatchOption, ◌⊎◌, [], ◌≡◌, ◌≤◌, ◌<◌, ◌+◌, ◌^◌, Some, None, true, sum, length, slice_get, option_map};
-ghost use Rattle.std.specs.Option.{option_map_or};
+ghost use Rattle.std.specs.Option.{option_map_or, option_copied};
 ghost use Rattle.gw_num.specs.Table.{at};
 ghost use Rattle.gw_entities.specs.Facility.{idle, seized, is_idle as is_idle_now};
 ghost use Rattle.gw_entities.specs.Storage.{vacant, has_room};
@@ -22,31 +22,31 @@ use gw_chains::Tx;
 use gw_transactions::Transaction;
 
 /// The block of a number, from 1, if there is one.
-pub fn block_of(blocks: &[Block], number: u16) -> Option<Block>
-    ensures { result ≡ block_at blocks.now number }
+pub fn block_of(blocks: &[Block], number: u16) -> Option<&Block>
+    ensures { option_copied result ≡ block_at blocks.now number }
 {
     if number == 0 {
         return None;
     }
-    blocks.get(number as usize - 1).copied()
+    blocks.get(number as usize - 1)
 }
 
 /// Whether it is the SEIZE of this facility.
-fn is_seize(f: u16, block: Option<Block>) -> bool
-    ensures { result ≡ model.is_seize f block }
+fn is_seize(f: u16, block: Option<&Block>) -> bool
+    ensures { result ≡ model.is_seize f (option_copied block.entry) }
 {
     match block {
-        Some(Block::Seize(facility)) => facility == f,
+        Some(Block::Seize(facility)) => *facility == f,
         _ => false,
     }
 }
 
 /// The units of a storage that a block asks for, if it is its ENTER.
-fn asked(e: u16, block: Option<Block>) -> Option<Units>
-    ensures { result ≡ model.asked e block }
+fn asked(e: u16, block: Option<&Block>) -> Option<Units>
+    ensures { result ≡ model.asked e (option_copied block.entry) }
 {
     match block {
-        Some(Block::Enter(units)) if units.entity == e => Some(units),
+        Some(Block::Enter(units)) if units.entity == e => Some(*units),
         _ => None,
     }
 }

@@ -186,6 +186,7 @@ impl Machine {
     }
 
     /// The value of an operand, evaluated for a subject with these streams, or how its evaluation ends.
+    #[inline(always)]
     pub fn value(
         &self,
         verified: &Verified,
@@ -199,9 +200,28 @@ impl Machine {
         ensures { values.operand_value verified.now (environment_for subject (state_of self.now)) operand streams.old ≡
             valued result streams.new }
     {
-        if let Operand::Constant(number) = operand {
-            return Ok(number);
+        match operand {
+            Operand::Constant(number) => Ok(number),
+            _ => self.value_by_source(verified, subject, operand, streams),
         }
+    }
+
+    /// The value of an operand, by what it comes from, evaluated for a subject with these streams, or how its evaluation
+    /// ends.
+    #[inline(never)]
+    fn value_by_source(
+        &self,
+        verified: &Verified,
+        subject: Subject,
+        operand: Operand,
+        streams: &mut [Stream; 16],
+    ) -> Result<i64, PlusEnd>
+        requires own { IsOf verified.now self.now }
+        requires subject { CanEvaluate self.now subject }
+        requires operand { MayEvaluate verified.now (environment_for subject (state_of self.now)) operand }
+        ensures { values.operand_value verified.now (environment_for subject (state_of self.now)) operand streams.old ≡
+            valued result streams.new }
+    {
         let entities = verified.object().parts().entities.as_slice();
         let source = source_of(entities, operand);
         let value = self.source_value(verified, subject, draws_below(operand), source, streams)?;

@@ -11,7 +11,7 @@ ghost use Rattle.gw_step.specs.Operands.{OperandsFit, UnitsFit, MayEvaluate, May
 ghost use Rattle.gw_step.specs.Times.{environment_of, environment_of_next};
 ghost use Rattle.gw_step.specs.Asks.{MayLead, Asks, Leads};
 ghost use Rattle.gw_entities.specs.Facility.{is_idle as is_idle_now, is_owned_by, owns_any};
-ghost use Rattle.gw_machine.specs.Coherence.{Linked, CanBePlaced, IsOf, IsActive, IsPassing};
+ghost use Rattle.gw_machine.specs.Coherence.{Linked, CanBePlaced, CanRest, IsOf, IsActive, IsPassing};
 ghost use Rattle.gw_scan.specs.Makes.{MakesFrom, Enters};
 
 use crate::assigning::{self, assign_parameter, loop_back, mark, mark_parameter, tabulate};
@@ -44,17 +44,6 @@ fn chosen(block: u16, fraction: Fraction, drawn: i64) -> u16
         fraction.target
     } else {
         fraction.otherwise.unwrap_or(block + 1)
-    }
-}
-
-/// A transaction rests until a moment; where that is now it stays active.
-fn until(clock: i64, moment: i64) -> Placement
-    ensures { result ≡ model.until clock moment }
-{
-    if clock < moment {
-        Placement::RestsUntil(moment)
-    } else {
-        Placement::StaysActive
     }
 }
 
@@ -179,6 +168,42 @@ pub(crate) fn pass_to(
     )
 }
 
+/// The active transaction rests until a moment; where that is now it stays active.
+fn rest_until(machine: &mut Machine, tx: Tx, moment: i64)
+    requires rests { CanRest machine.old tx }
+    requires wake { length machine.old.waits.retry ≤ machine.old.current_events.room }
+    requires room { 0 < machine.old.future_events.room }
+    ensures state { state_of machine.new ≡ placed tx.number (model.until machine.old.clock moment) (state_of machine.old) }
+    ensures linked { Linked machine.new }
+{
+    if machine.clock < moment {
+        machine.place_until(tx, moment);
+    }
+}
+
+/// The transaction enters its next block with the streams here, and rests until a moment; where that is now it stays active.
+fn pass_until(
+    machine: &mut Machine,
+    blocks: &[Block],
+    tx: Tx,
+    transaction: Transaction,
+    streams: &[Stream; 16],
+    moment: i64,
+) -> Result<(), Memory>
+    requires active { IsActive blocks.now machine.old tx transaction }
+    ensures ok { OnOk result (state_of machine.new ≡
+        placed tx.number (model.until machine.old.clock moment) (change.enters_and_falls tx.number transaction
+        (state.with_streams streams.now (state_of machine.old)))) }
+    ensures err { OnErr result (state_of machine.new ≡ state_of machine.old) }
+    ensures linked { Linked machine.new }
+{
+    machine.reserve_time()?;
+    machine.set_streams(streams);
+    machine.enter(tx, transaction, transaction.next + 1);
+    rest_until(machine, tx, moment);
+    Ok(())
+}
+
 /// ADVANCE: the transaction rests for a drawn time; where that is 0 it stays active.
 #[tactic(auto, unfolding(gw_step::specs::Blocks::act, gw_step::specs::Blocks::effect))]
 fn advance(
@@ -203,14 +228,8 @@ fn advance(
         Ok(moment) => moment,
         Err(end) => return Ok(Made::Ends(end)),
     };
-    pass_to(
-        machine,
-        blocks_of(verified),
-        tx,
-        transaction,
-        &streams,
-        until(machine.clock, moment),
-    )?;
+    let blocks = blocks_of(verified);
+    pass_until(machine, blocks, tx, transaction, &streams, moment)?;
     Ok(Made::Step)
 }
 
@@ -453,11 +472,11 @@ fn pass_and_leave(
     ensures err { OnErr result (state_of machine.new ≡ state_of machine.old) }
     ensures linked { Linked machine.new }
 {
-    machine.reserve_rest()?;
+    machine.reserve_wake()?;
     machine.set_streams(streams);
     machine.enter(tx, transaction, transaction.next);
     machine.count_down(by);
-    machine.place(tx, transaction.priority, Placement::LeavesModel);
+    machine.place_nowhere(tx);
     Ok(())
 }
 
@@ -497,55 +516,56 @@ fn terminate(
 
 /// What the active transaction does at its next block; on Memory, nothing.
 #[tactic(auto, unfolding(gw_step::specs::Blocks::act, gw_step::specs::Blocks::effect))]
+#[inline(always)]
 pub(crate) fn act(
     machine: &mut Machine,
     verified: &Verified,
     tx: Tx,
     transaction: Transaction,
-    block: Block,
+    block: &Block,
 ) -> Result<Made, Memory>
     requires active { IsActive verified.now.blocks machine.old tx transaction }
     requires own { IsOf verified.now machine.old }
-    requires meet { MayMeet verified.now (state_of machine.old) tx.number transaction block }
-    requires operands { OperandsFit (length machine.old.facilities.facilities) block }
-    requires asks { Asks verified.now tx.number (state_of machine.old) block }
-    requires leads { Leads verified.now.blocks transaction.next block }
-    ensures made { IfOk result (λ made. MakesFrom made (model.act verified.now tx.number transaction block) machine.old machine.new) }
+    requires meet { MayMeet verified.now (state_of machine.old) tx.number transaction block.now }
+    requires operands { OperandsFit (length machine.old.facilities.facilities) block.now }
+    requires asks { Asks verified.now tx.number (state_of machine.old) block.now }
+    requires leads { Leads verified.now.blocks transaction.next block.now }
+    ensures made { IfOk result (λ made. MakesFrom made (model.act verified.now tx.number transaction block.now) machine.old machine.new) }
     ensures err { OnErr result (state_of machine.new ≡ state_of machine.old) }
     ensures linked { Linked machine.new }
 {
     let blocks = blocks_of(verified);
     match block {
-        Block::Generate(g) => generate(machine, verified, tx, transaction, g),
-        Block::Terminate(by) => terminate(machine, verified, tx, transaction, by),
-        Block::Advance(time) => advance(machine, verified, tx, transaction, time),
-        Block::Seize(f) => seize(machine, verified, tx, transaction, f),
-        Block::Release(f) => release(machine, blocks, tx, transaction, f),
-        Block::Enter(units) => enter_storage(machine, verified, tx, transaction, units),
-        Block::Leave(units) => leave(machine, blocks, tx, transaction, units),
-        Block::Queue(units) => Ok(join_queue(machine, blocks, tx, transaction, units)),
-        Block::Depart(units) => Ok(depart(machine, blocks, tx, transaction, units)),
-        Block::Test(test) => conditions::test(machine, verified, tx, transaction, test),
-        Block::Gate(gate) => conditions::gate(machine, verified, tx, transaction, gate),
-        Block::Transfer(target) => Ok(transfer(machine, blocks, tx, transaction, target)),
-        Block::TransferToSubroutine(c) => Ok(call_subroutine(machine, blocks, tx, transaction, c)),
-        Block::TransferByParameter(p) => Ok(come_back(machine, blocks, tx, transaction, p)),
-        Block::Assign(assign) => Ok(assign_parameter(machine, verified, tx, transaction, assign)),
-        Block::Plus(plus) => Ok(assigning::plus(machine, verified, tx, transaction, plus)),
-        Block::Loop(l) => Ok(loop_back(machine, blocks, tx, transaction, l)),
-        Block::Split(s) => split(machine, blocks, tx, transaction, s),
-        Block::Assemble(size) => assemble(machine, blocks, tx, transaction, size),
-        Block::Link(l) => link(machine, blocks, tx, transaction, l),
-        Block::Unlink(u) => unlink(machine, blocks, tx, transaction, u),
-        Block::Priority(p) => set_priority(machine, verified, tx, transaction, p),
+        Block::Generate(g) => generate(machine, verified, tx, transaction, *g),
+        Block::Terminate(by) => terminate(machine, verified, tx, transaction, *by),
+        Block::Advance(time) => advance(machine, verified, tx, transaction, *time),
+        Block::Seize(f) => seize(machine, verified, tx, transaction, *f),
+        Block::Release(f) => release(machine, blocks, tx, transaction, *f),
+        Block::Enter(units) => enter_storage(machine, verified, tx, transaction, *units),
+        Block::Leave(units) => leave(machine, blocks, tx, transaction, *units),
+        Block::Queue(units) => Ok(join_queue(machine, blocks, tx, transaction, *units)),
+        Block::Depart(units) => Ok(depart(machine, blocks, tx, transaction, *units)),
+        Block::Test(test) => conditions::test(machine, verified, tx, transaction, *test),
+        Block::Gate(gate) => conditions::gate(machine, verified, tx, transaction, *gate),
+        Block::Transfer(target) => Ok(transfer(machine, blocks, tx, transaction, *target)),
+        Block::TransferToSubroutine(c) => Ok(call_subroutine(machine, blocks, tx, transaction, *c)),
+        Block::TransferByParameter(p) => Ok(come_back(machine, blocks, tx, transaction, *p)),
+        Block::Assign(assign) => Ok(assign_parameter(machine, verified, tx, transaction, *assign)),
+        Block::Plus(plus) => Ok(assigning::plus(machine, verified, tx, transaction, *plus)),
+        Block::Loop(l) => Ok(loop_back(machine, blocks, tx, transaction, *l)),
+        Block::Split(s) => split(machine, blocks, tx, transaction, *s),
+        Block::Assemble(size) => assemble(machine, blocks, tx, transaction, *size),
+        Block::Link(l) => link(machine, blocks, tx, transaction, *l),
+        Block::Unlink(u) => unlink(machine, blocks, tx, transaction, *u),
+        Block::Priority(p) => set_priority(machine, verified, tx, transaction, *p),
         Block::Buffer => buffer(machine, blocks, tx, transaction),
-        Block::Logic(logic) => Ok(assigning::logic(machine, blocks, tx, transaction, logic)),
-        Block::Savevalue(save) => Ok(assigning::save(machine, verified, tx, transaction, save)),
-        Block::Tabulate(table) => Ok(tabulate(machine, verified, tx, transaction, table)),
+        Block::Logic(logic) => Ok(assigning::logic(machine, blocks, tx, transaction, *logic)),
+        Block::Savevalue(save) => Ok(assigning::save(machine, verified, tx, transaction, *save)),
+        Block::Tabulate(table) => Ok(tabulate(machine, verified, tx, transaction, *table)),
         Block::Mark(None) => Ok(mark(machine, blocks, tx, transaction)),
-        Block::Mark(Some(p)) => Ok(mark_parameter(machine, blocks, tx, transaction, p)),
+        Block::Mark(Some(p)) => Ok(mark_parameter(machine, blocks, tx, transaction, *p)),
         Block::TransferByFraction(fraction) => {
-            Ok(transfer_by_fraction(machine, verified, tx, transaction, fraction))
+            Ok(transfer_by_fraction(machine, verified, tx, transaction, *fraction))
         }
     }
 }

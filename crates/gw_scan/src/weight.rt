@@ -2,6 +2,7 @@
 
 ghost use Rattle.std.specs.Prelude.{◌≡◌, ◌≤◌, ◌<◌, ◌+◌, ◌*◌, ◌^◌, length, sum, sum_by, None};
 ghost use Rattle.std.specs.List.{AllByRecursion};
+ghost use Rattle.std.specs.Option.{option_copied};
 ghost use Rattle.gw_num.specs.Table.{at, tabulate};
 ghost use Rattle.gw_transactions.specs.Transactions.{Holds, live_count};
 ghost use Rattle.gw_kinds.specs.Kinds.{block_at};
@@ -90,11 +91,11 @@ fn still_owed(generate: &Generate, scheduled: u64) -> u32
 }
 
 /// The same of a block: only a GENERATE owes arrivals.
-fn owed_by(block: Option<Block>, scheduled: u64) -> u32
-    ensures { result ≡ model.owed_by block scheduled }
+fn owed_by(block: Option<&Block>, scheduled: u64) -> u32
+    ensures { result ≡ model.owed_by (option_copied block.entry) scheduled }
 {
     match block {
-        Some(Block::Generate(generate)) => still_owed(&generate, scheduled),
+        Some(Block::Generate(generate)) => still_owed(generate, scheduled),
         _ => 0,
     }
 }

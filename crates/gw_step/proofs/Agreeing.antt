@@ -15,7 +15,7 @@ use Rattle.gw_step.specs.Residence.{occurrences, EachResidesOnce}
 use Rattle.gw_step.proofs.Residence.{one_if}
 use Rattle.gw_step.proofs.Within.{Raises}
 use Rattle.gw_step.specs.Places.{row_of}
-use Rattle.gw_step.specs.Typing.{IsPlaced, lists_facility, promised_units, content_of, WaitsFor, is_member, Agree, AreWithinCapacity}
+use Rattle.gw_step.specs.Typing.{IsPlaced, lists_facility, promised_units, content_of, WaitsFor, is_member, Agree, AreWithinCapacity, AreConserved}
 
 -- an assembly waits for one more at least
 abbrev pub IsMissing : Assembly → Type 0
@@ -37,6 +37,7 @@ pub record Balanced (p : Parts) (n : ℕ) (old new : Option Row) (g h : EntitySt
   pub units : (e : ℕ) → promised_units e new + content_of e g (kind_at p.entities e) ≤ promised_units e old + content_of e h (kind_at p.entities e)
   pub sized : (e : ℕ) → (at (vacant 0) h.storages e).capacity ≡ (at (vacant 0) g.storages e).capacity
   pub filled : AreWithinCapacity g → AreWithinCapacity h
+  pub conserved : AreConserved g → AreConserved h
   pub raises : AreWhole (length p.entities) g → Raises g h
 
 module _ (p : Parts) (ts : List (Option LiveTransaction)) (l : Lists) (g : EntityStates) (ty : Agree p ts l g) where

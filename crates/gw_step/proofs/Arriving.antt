@@ -21,6 +21,7 @@ use Rattle.gw_transactions.specs.declared.Transaction.{Transaction}
 use Rattle.gw_transactions.specs.Transactions.{live_count, attributes_at, chain_of}
 use Rattle.gw_entities.specs.declared.contents.Contents.{Contents}
 use Rattle.gw_entities.specs.Contents.{empty}
+use Rattle.gw_entities.specs.Laws.{Begins}
 use Rattle.gw_entities.specs.Facility.{idle, is_owned_by}
 use Rattle.gw_entities.specs.Storage as storages
 use Rattle.gw_step.specs.Numbers.{made_in}
@@ -33,7 +34,7 @@ use Rattle.gw_step.specs.Start.{nothing, first_moment, first_arrival, first_arri
 use Rattle.gw_step.specs.Residence.{occurrences}
 use Rattle.gw_step.proofs.Nothing.{no_transaction, resides-nothing}
 use Rattle.gw_step.specs.Places.{row_of}
-use Rattle.gw_step.specs.Typing.{IsPlaced, lists_facility, is_member, WellTyped, AreWithinCapacity}
+use Rattle.gw_step.specs.Typing.{IsPlaced, lists_facility, is_member, WellTyped, AreWithinCapacity, AreConserved, IsConserved}
 use Rattle.gw_step.proofs.Balances.{balanced-nothing}
 use Rattle.gw_step.proofs.Residence.{one_if}
 use Rattle.gw_step.proofs.Agreeing.{IsMissing}
@@ -145,6 +146,9 @@ module _ (p : Parts) (count : ℕ) (streams : List ℕ) where
 
   pub nothing_fills : AreWithinCapacity (nothing p count streams).entities
   nothing_fills = record { contents = λ e. omega (arith, ap (λ (c : Contents). c.content) (vacant_at p.entities e)) }
+
+  pub nothing_conserved : AreConserved (nothing p count streams).entities
+  nothing_conserved = record { units = λ e. subst IsConserved (sym (vacant_at p.entities e)) (0, Begins, refl) }
 
 -- a state that comes of first arrivals
 pub record Starts (p : Parts) (s : State) : Type 0 where

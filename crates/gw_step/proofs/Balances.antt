@@ -14,13 +14,16 @@ use Rattle.gw_num.proofs.Tables.{at-put, at-put_other, by_entry}
 use Rattle.gw_entities.specs.declared.facilities.Facility.{Facility}
 use Rattle.gw_entities.specs.declared.storages.Storage.{Storage}
 use Rattle.gw_entities.specs.declared.contents.Contents.{Contents}
-use Rattle.gw_entities.specs.Contents.{empty}
+use Rattle.std.specs.Prelude.{IsTrue}
+use Rattle.gw_entities.specs.Contents.{empty, holds, added, taken, contents_after}
+use Rattle.gw_entities.specs.Laws.{ComesIn, GoesOut, Passes}
+use Rattle.gw_entities.proofs.Histories.{units_are_conserved}
 use Rattle.gw_entities.specs.Facility.{idle, seized, released, is_idle, is_owned_by}
 use Rattle.gw_entities.specs.Storage.{vacant}
 use Rattle.gw_entities.specs.Tabulation.{Tabulation}
 use Rattle.gw_entities.specs.Table.{set_switch, set_savevalue, table_at, set_table}
 use Rattle.gw_step.specs.State.{EntityStates}
-use Rattle.gw_step.specs.Typing.{content_of}
+use Rattle.gw_step.specs.Typing.{content_of, IsConserved}
 use Rattle.gw_step.proofs.Owning.{lists-with, lists-with_other, lists-without, lists-without_other, lists-none}
 use Rattle.gw_step.proofs.Within.{raises-same}
 use Rattle.gw_step.proofs.Follows.{raises-seized, raises-released, raises-storage, raises-queue, raises-switch, raises-savevalue, raises-table}
@@ -30,7 +33,7 @@ use Rattle.gw_step.proofs.Agreeing.{Balanced}
 -- ENTITIES LEFT ALONE
 
 pub balanced-same : (p : Parts) (n : ℕ) (row : Option Row) (g : EntityStates) → Balanced p n row row g g
-balanced-same p n row g = record { others = λ f m other. refl; own = λ f h. h; units = λ e. omega arith; sized = λ e. refl; filled = λ w. w; raises = λ w. raises-same g }
+balanced-same p n row g = record { others = λ f m other. refl; own = λ f h. h; units = λ e. omega arith; sized = λ e. refl; filled = λ w. w; conserved = λ w. w; raises = λ w. raises-same g }
 
 pub balanced-nothing : (p : Parts) (n : ℕ) (row : Row) (g : EntityStates) → Balanced p n (Some row) (Some row) g g
 balanced-nothing p n row g = balanced-same p n (Some row) g
@@ -43,6 +46,7 @@ balanced-parameters p n row state g facilities units = record {
   units = λ e. omega (arith, ap (λ us. amount_of us e) units);
   sized = λ e. refl;
   filled = λ w. w;
+  conserved = λ w. w;
   raises = λ w. raises-same g;
 }
 
@@ -60,6 +64,7 @@ balanced-switch p n l on row g there = record {
   units = λ e. omega (arith, apart_from_settings (set_switch l on g.switches) g.savevalues g.tables g e (kind_at p.entities e));
   sized = λ e. refl;
   filled = λ w. record { contents = w.contents };
+  conserved = λ w. record { units = w.units };
   raises = λ w. raises-switch l on g (omega (arith, there, w.switches));
 }
 
@@ -70,6 +75,7 @@ balanced-savevalue p n x value row g there = record {
   units = λ e. omega (arith, apart_from_settings g.switches (set_savevalue x value g.savevalues) g.tables g e (kind_at p.entities e));
   sized = λ e. refl;
   filled = λ w. record { contents = w.contents };
+  conserved = λ w. record { units = w.units };
   raises = λ w. raises-savevalue x value g (omega (arith, there, w.savevalues));
 }
 
@@ -80,6 +86,7 @@ balanced-table p n t v row g there more = record {
   units = λ e. omega (arith, apart_from_settings g.switches g.savevalues (set_table t v g.tables) g e (kind_at p.entities e));
   sized = λ e. refl;
   filled = λ w. record { contents = w.contents };
+  conserved = λ w. record { units = w.units };
   raises = λ w. raises-table t v g (omega (arith, there, w.tables)) more;
 }
 
@@ -91,12 +98,13 @@ balanced-fits p n old state row g h balance fits = record {
   units = λ e. omega (arith, balance.units e, fits.units e);
   sized = balance.sized;
   filled = balance.filled;
+  conserved = balance.conserved;
   raises = balance.raises;
 }
 
 -- who owns nothing ends
 pub balanced-end : (p : Parts) (n : ℕ) (row : Row) (g : EntityStates) → ((f : ℕ) → owns row f ≡ false) → Balanced p n (Some row) None g g
-balanced-end p n row g none = record { others = λ f m other. refl; own = λ f is. is ∙ none f; units = λ e. omega arith; sized = λ e. refl; filled = λ w. w; raises = λ w. raises-same g }
+balanced-end p n row g none = record { others = λ f m other. refl; own = λ f is. is ∙ none f; units = λ e. omega arith; sized = λ e. refl; filled = λ w. w; conserved = λ w. w; raises = λ w. raises-same g }
 
 -- who arrives holds nothing
 no_units : (us : List (ℕ × ℕ)) (e : ℕ) → (length us == 0) ≡ true → amount_of us e ≡ 0
@@ -113,6 +121,7 @@ balanced-arrival p n row g h =
       units = λ e. omega (arith, no_units row.units e both.1);
       sized = λ e. refl;
       filled = λ w. record { contents = w.contents };
+      conserved = λ w. record { units = w.units };
       raises = λ w. raises-same g;
     }
 
@@ -124,6 +133,7 @@ balanced-copy p n state row g facilities units fits = record {
   units = λ e. omega (arith, fits.units e, ap (λ us. amount_of us e) units);
   sized = λ e. refl;
   filled = λ w. w;
+  conserved = λ w. w;
   raises = λ w. raises-same g;
 }
 
@@ -162,6 +172,7 @@ balanced-seize p n f row g below free =
       units = λ e. omega (arith, apart_from_facilities (put idle g.facilities f v) g e (kind_at p.entities e));
       sized = λ e. refl;
       filled = λ w. record { contents = w.contents };
+      conserved = λ w. record { units = w.units };
       raises = λ w. raises-seized f n g (omega (arith, below, w.facilities));
     }
 
@@ -179,6 +190,7 @@ balanced-release p n f row g below owned =
       units = λ e. omega (arith, apart_from_facilities (put idle g.facilities f v) g e (kind_at p.entities e));
       sized = λ e. refl;
       filled = λ w. record { contents = w.contents };
+      conserved = λ w. record { units = w.units };
       raises = λ w. raises-released f g (omega (arith, below, w.facilities));
     }
 
@@ -190,11 +202,21 @@ units_here e k row = amount-with_entry e k row.units e ∙ rw (eq-eqb e e refl) 
 units_apart : (e k : ℕ) (row : Row) (d : ℕ) → d ≢ e → units_of (with_units e k row) d ≡ units_of row d
 units_apart e k row d apart = amount-with_entry e k row.units d ∙ rw (ne_eqb e d (λ same. apart (sym same))) refl
 
+-- units that come in or go out are conserved, and so are they while time passes
+pub came_in : (n : ℕ) (c : Contents) → IsConserved c → IsConserved (added n c)
+came_in n c was = let now = ComesIn n was.1 in (was.0, now, units_are_conserved _ _ now)
+
+pub went_out : (n : ℕ) (c : Contents) → IsTrue (holds n c) → IsConserved c → IsConserved (taken n c)
+went_out n c there was = let now = GoesOut n there was.1 in (was.0 + n, now, units_are_conserved _ _ now)
+
+pub time_passed : (dt : ℕ) (c : Contents) → IsConserved c → IsConserved (contents_after dt c)
+time_passed dt c was = let now = Passes dt was.1 in (was.0, now, units_are_conserved _ _ now)
+
 -- a storage of which a row promises so many units
 pub balanced-storage : (p : Parts) (n e k : ℕ) (v : Storage) (row : Row) (g : EntityStates) (capacity : ℕ) → kind_at p.entities e ≡ Some (kinds.Storage capacity) → v.capacity ≡ (at (vacant 0) g.storages e).capacity
-    → k + (at (vacant 0) g.storages e).contents.content ≤ units_of row e + v.contents.content → ((at (vacant 0) g.storages e).contents.content ≤ (at (vacant 0) g.storages e).capacity → v.contents.content ≤ v.capacity) → v.contents.entries ≤ (at (vacant 0) g.storages e).contents.entries + 2 ^ 20
+    → k + (at (vacant 0) g.storages e).contents.content ≤ units_of row e + v.contents.content → ((at (vacant 0) g.storages e).contents.content ≤ (at (vacant 0) g.storages e).capacity → v.contents.content ≤ v.capacity) → (IsConserved (at (vacant 0) g.storages e).contents → IsConserved v.contents) → v.contents.entries ≤ (at (vacant 0) g.storages e).contents.entries + 2 ^ 20
     → Balanced p n (Some row) (Some (with_units e k row)) g (record g { storages = put (vacant 0) g.storages e v })
-balanced-storage p n e k v row g capacity kind same less within more = record {
+balanced-storage p n e k v row g capacity kind same less within conserves more = record {
   others = λ f m other. refl;
   own = λ f is. is;
   units = λ d. elim (cases_eq d e) [
@@ -205,6 +227,7 @@ balanced-storage p n e k v row g capacity kind same less within more = record {
   ];
   sized = by_entry (vacant 0) g.storages e v (λ j (x : Storage). x.capacity ≡ (at (vacant 0) g.storages j).capacity) same (λ j apart. refl);
   filled = λ w. record { contents = by_entry (vacant 0) g.storages e v (λ j (x : Storage). x.contents.content ≤ x.capacity) (within (w.contents e)) (λ j apart. w.contents j) };
+  conserved = λ w. record { units = by_entry (vacant 0) g.storages e v (λ j (x : Storage). IsConserved x.contents) (conserves (w.units e)) (λ j apart. w.units j) };
   raises = λ w. raises-storage e v g (omega (arith, kind_below p.entities e (kinds.Storage capacity) kind, w.storages)) more;
 }
   where
@@ -230,6 +253,7 @@ balanced-queue p n e k v row g kind less more inside = record {
   ];
   sized = λ j. refl;
   filled = λ w. record { contents = w.contents };
+  conserved = λ w. record { units = w.units };
   raises = λ w. raises-queue e v g (omega (arith, kind_below p.entities e kinds.Queue kind, w.queues)) more inside;
 }
   where

@@ -26,7 +26,8 @@ use Rattle.gw_step.proofs.Within.{raises-same, mark_from, within-entered, within
 use Rattle.gw_step.proofs.Follows.{block_below, within-clock}
 use Rattle.gw_step.proofs.Placed.{placed_at-leaves}
 use Rattle.gw_step.specs.Times.{parameters_of}
-use Rattle.gw_step.specs.Typing.{AreWithinCapacity}
+use Rattle.gw_step.specs.Typing.{AreWithinCapacity, AreConserved, IsConserved}
+use Rattle.gw_step.proofs.Balances.{time_passed}
 use Rattle.gw_step.proofs.Agreeing.{AreWhole}
 use Rattle.gw_step.proofs.Attributes.{number_below, attributes-parameter, is_some-attributes, is_some-parameter, is_some-chain}
 
@@ -71,6 +72,35 @@ change-fills p (Marks steps ended) w = w
 pub trace-fills : (p : Parts) {en ar c en' ar' c' : ℕ} {s t : State} → Trace p en ar c s en' ar' c' t → AreWithinCapacity s.entities → AreWithinCapacity t.entities
 trace-fills p Done w = w
 trace-fills p (Then x xs) w = trace-fills p xs (change-fills p x w)
+
+-- NO UNIT IS LOST
+
+conserved-later : (time : ℕ) (g : EntityStates) → AreConserved g → AreConserved (time_passes time g)
+conserved-later time g w = record {
+  units = λ e. subst (λ (x : Storage). IsConserved x.contents) (sym (storages-later time g.storages e)) (time_passed time _ (w.units e));
+}
+
+change-conserves : (p : Parts) {en ar c en' ar' c' : ℕ} {s t : State} → Change p en ar c s en' ar' c' t → AreConserved s.entities → AreConserved t.entities
+change-conserves p (Goes n to t u block row state h is same here known along may balance pays) w = balance.conserved w
+change-conserves p (EntersLast n t block row is here pays) w = w
+change-conserves p (GoesWith n to q value t block row state is here known along may balance pays) w = w
+change-conserves p (Arrives b g row priority time block is none later passes owed few) w = w
+change-conserves p (Rests {s = s} n placement may settles) w = subst AreConserved (sym (placed_at-leaves n placement s).entities) w
+change-conserves p (Called e n here below) w = w
+change-conserves p (Copied n target b t u block row state found mark known block_is row_is along may facilities units few pays) w = w
+change-conserves p (Assembled a is) w = w
+change-conserves p (Comes a is more) w = w
+change-conserves p (Unlinked c target n t ns members row is found members_is row_is fits may below pays) w = w
+change-conserves p Woken w = w
+change-conserves p (Activates n ns nobody first) w = w
+change-conserves p (ClockMoves {s = s} e es is) w = conserved-later (unsigned_abs (e.time -ℤ s.clock)) s.entities w
+change-conserves p (Draws streams same) w = w
+change-conserves p (Counts by) w = w
+change-conserves p (Marks steps ended) w = w
+
+pub trace-conserves : (p : Parts) {en ar c en' ar' c' : ℕ} {s t : State} → Trace p en ar c s en' ar' c' t → AreConserved s.entities → AreConserved t.entities
+trace-conserves p Done w = w
+trace-conserves p (Then x xs) w = trace-conserves p xs (change-conserves p x w)
 
 -- NUMBERS
 

@@ -26,7 +26,7 @@ use Rattle.gw_step.proofs.Outcomes.{choose, by_option}
 use Rattle.gw_step.proofs.Residence.{one_if, same_number, occurrences-joined, occurrences-without}
 use Rattle.gw_step.proofs.Follows.{asked-enter}
 use Rattle.gw_step.specs.Typing.{IsPlaced, WellTyped}
-use Rattle.gw_step.proofs.Balances.{balanced-seize, balanced-storage}
+use Rattle.gw_step.proofs.Balances.{balanced-seize, balanced-storage, came_in}
 use Rattle.gw_step.proofs.Traces.{IsAt, place-free, its_chain, its_parameters, waiting_free, IsPresent, Goes, Called, Trace, Done, Then, trace_on, trace-keeps}
 use Rattle.gw_step.proofs.AtBlock.{first_may_be_entered, is_storage, kind_below}
 use Rattle.gw_step.proofs.Operands.{good_units}
@@ -102,7 +102,7 @@ module _ (p : Parts) (each_block : (b : ℕ) (block : Block) → block_at p.bloc
       record {
         trace = Then (Called u.entity w waits (kind_below p.entities u.entity (kinds.Storage kind.0) kind.1))
             (Then (Goes w (t.next + 1) t t (blocks.Enter u) found.0 (with_units u.entity (units_of found.0 u.entity + u.number) found.0) (put_storage u.entity (storages.entered u.number (storage u.entity s)) s).entities found.1 (unchanged (called_from u.entity w s) t) (called_is_present u.entity w s) (its_parameters p s ty w t (blocks.Enter u) found.0 found.1) (at_first _ []) (first_may_be_entered p t.next _ [] holds.exits)
-            (balanced-storage p w u.entity (units_of found.0 u.entity + u.number) (storages.entered u.number (storage u.entity s)) found.0 s.entities kind.0 kind.1 refl (omega arith) (λ _. leb-true _ _ free) (omega (arith, (good_units p needed.Storage u holds.entities holds.constants).number))) (first_paid p t.next (blocks.Enter u) found.0 there found.1.row_is Falls [] refl 0)) Done);
+            (balanced-storage p w u.entity (units_of found.0 u.entity + u.number) (storages.entered u.number (storage u.entity s)) found.0 s.entities kind.0 kind.1 refl (omega arith) (λ _. leb-true _ _ free) (came_in u.number _) (omega (arith, (good_units p needed.Storage u holds.entities holds.constants).number))) (first_paid p t.next (blocks.Enter u) found.0 there found.1.row_is Falls [] refl 0)) Done);
         left = λ m. omega (arith, occurrences-without m w old waits, ap (occurrences m) (at-put [] s.lists.delay_lists u.entity (without w old)));
       }
 

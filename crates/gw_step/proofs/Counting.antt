@@ -1,4 +1,4 @@
--- What a scan leaves of the counts: the steps, the end and the termination count.
+-- What a scan leaves of the counts: the steps, the end and the termination count; and of whether something has stirred.
 use Rattle.std.proofs.Common.{◌≡◌, ◌⊎◌, ℕ, ◌+◌, ℤ, pos, ◌<ℤ◌, List, [], ◌∷◌, Option, Some, None, Bool, true, false, not, if◌then◌else◌, nat_le, ◌==◌, zero, suc, refl, sym, ap, ◌∙◌, subst, arith, inl, inr}
 use Rattle.std.specs.Prelude.{int_lt, unwrap_or}
 use Rattle.std.proofs.lemmas.Int.{ints}
@@ -26,12 +26,14 @@ use Rattle.gw_step.specs.declared.placement.Placement.{Placement}
 use Rattle.gw_step.specs.Outcome.{Outcome, Gives, EndsBy, HasNoCase, ◌>>=◌, case_of, evaluated}
 use Rattle.gw_step.specs.State.{FutureEvent, Assembly, State, may_enter, with_streams, delay_list, user_chain}
 use Rattle.gw_step.specs.Times.{environment_of, environment_of_next, moment_after, drawn_moment}
-use Rattle.gw_step.specs.Changes.{copied, copies_made, assembled, come_to, leaves_chain, entered, enters_and_falls, assigned, arrives, facility, storage, queue, switch, savevalue, put_facility, put_storage, put_queue, put_switch, put_savevalue, table, put_table, end_at}
-use Rattle.gw_step.specs.Placing.{placed}
+use Rattle.gw_step.specs.Changes.{copied, copies_made, assembled, come_to, leaves_chain, entered, enters_and_falls, assigned, arrives, facility, storage, queue, switch, savevalue, put_facility, put_storage, put_queue, put_switch, put_savevalue, table, put_table, end_at, woken}
+use Rattle.gw_step.specs.declared.placement.Placement.TheVariants.{StaysActive}
+use Rattle.gw_step.specs.Placing.{placed, woken_if_stirred}
+use Rattle.gw_step.specs.Typing.{IsWoken}
 use Rattle.gw_step.specs.Blocks.{refuses, refusal, is_owed, next_arrival, chosen, passes_test, is_so, led_by, block_after, put_by, looped, turned, the_value, plus, split, assembly_at, joined_by_one, first_unlinked, unlinked, taken_by, unlink, assemble_in, assemble, is_priority, effect, then_placed, meets, act}
 use Rattle.gw_step.specs.Step.{next_event, next_active, scan}
 use Rattle.gw_step.proofs.Outcomes.{OnGives, on_bind, on_test, on_if, on_both, choose, by_option}
-use Rattle.gw_step.proofs.Placed.{placed-leaves}
+use Rattle.gw_step.proofs.Placed.{Leaves, placed-leaves}
 use Rattle.gw_step.proofs.Follows.{Stays, stays-same, stays-then, stays-hand_over, stays-admission}
 
 -- from s to t the steps stay, and so do the end and the termination count, or the count brings the end
@@ -39,17 +41,41 @@ pub record IsCounted (s t : State) : Type 0 where
   pub steps : t.steps ≡ s.steps
   pub ended : ((t.ended ≡ s.ended) × (t.count ≡ s.count)) ⊎ (t.ended ≡ end_at t.count)
 
-counted_same : (s t : State) → Stays s t → IsCounted s t
+counted_same : (s t : State) → Leaves s t → IsCounted s t
 counted_same s t h = record { steps = h.steps; ended = inl (h.ended, h.count) }
 
-counted_on : (s t u : State) → IsCounted s t → Stays t u → IsCounted s u
-counted_on s t u c h = record {
-  steps = h.steps ∙ c.steps;
+counted_then : (s t u : State) → IsCounted s t → u.steps ≡ t.steps → u.ended ≡ t.ended → u.count ≡ t.count → IsCounted s u
+counted_then s t u c steps ended count = record {
+  steps = steps ∙ c.steps;
   ended = elim c.ended [
-    | inl same ↦ inl (h.ended ∙ same.0, h.count ∙ same.1)
-    | inr brought ↦ inr (h.ended ∙ brought ∙ ap end_at (sym h.count))
+    | inl same ↦ inl (ended ∙ same.0, count ∙ same.1)
+    | inr brought ↦ inr (ended ∙ brought ∙ ap end_at (sym count))
   ];
 }
+
+-- an entry counts so, and who is active stays so
+record Enters (s t : State) : Type 0 where
+  counted : IsCounted s t
+  active : t.lists.active ≡ s.lists.active
+
+enters_on : (s t u : State) → Enters s t → Stays t u → Enters s u
+enters_on s t u e h = record { counted = counted_then s t u e.counted h.steps h.ended h.count; active = h.active ∙ e.active }
+
+-- a scan counts so, and where nobody is active then the retry list was woken since the last entry
+record Scans (s t : State) : Type 0 where
+  counted : IsCounted s t
+  woken : IsWoken t
+
+-- who is placed and doesn't stay active wakes the retry list
+stirs_no_more : (s : State) → (woken_if_stirred s).stir ≡ false
+stirs_no_more s = choose (λ (t : State). t.stir ≡ false) s.stir (woken s) s (λ _. refl) (λ is. is)
+
+some_is_active : (n : ℕ) (s : State) → s.lists.active ≡ Some n → IsWoken s
+some_is_active n s active none = let never : Some n ≡ None = sym active ∙ none in absurd cc
+
+placed_wakes : (n : ℕ) (placement : Placement) (s : State) → s.lists.active ≡ Some n → IsWoken (placed n placement s)
+placed_wakes n StaysActive s active = some_is_active n s active
+placed_wakes n placement s active = λ _. stirs_no_more s
 
 -- BLOCKS
 
@@ -66,11 +92,11 @@ on_case P None f h = tt
 copies_stay : (k n : ℕ) (t : Transaction) (target : ℕ) (s : State) → Stays s (copies_made k n t target s)
 unfolding copies_made
 copies_stay zero n t target s = stays-same s
-copies_stay (suc k) n t target s = let h = copies_stay k n t target (copied n t target s) in record { clock = h.clock; count = h.count; steps = h.steps; ended = h.ended }
+copies_stay (suc k) n t target s = let h = copies_stay k n t target (copied n t target s) in record { clock = h.clock; count = h.count; steps = h.steps; ended = h.ended; active = h.active }
 
 -- nor does who comes to an assembly
 joined_stays : (a : Assembly) (s : State) → Stays s (joined_by_one a s)
-joined_stays a s = choose (Stays s) (nat_le a.missing 1) (assembled a s) (come_to a s) (λ _. record { clock = refl; count = refl; steps = refl; ended = refl }) (λ _. record { clock = refl; count = refl; steps = refl; ended = refl })
+joined_stays a s = choose (Stays s) (nat_le a.missing 1) (assembled a s) (come_to a s) (λ _. record { clock = refl; count = refl; steps = refl; ended = refl; active = refl }) (λ _. record { clock = refl; count = refl; steps = refl; ended = refl; active = refl })
 
 -- nor do members that leave a user chain
 unlinked_stay : (k c target : ℕ) (s : State) → Stays s (unlinked k c target s)
@@ -82,142 +108,152 @@ unlinked_stay (suc k) c target s =
   where
     first_stays : (ms : List ℕ) → Stays s (first_unlinked c target ms s)
     first_stays [] = stays-same s
-    first_stays (n ∷ ns) = by_option (Stays s) (attributes_at n s.transactions) (λ t. leaves_chain c target n t s) s (λ t there. record { clock = refl; count = refl; steps = refl; ended = refl }) (λ none. stays-same s)
+    first_stays (n ∷ ns) = by_option (Stays s) (attributes_at n s.transactions) (λ t. leaves_chain c target n t s) s (λ t there. record { clock = refl; count = refl; steps = refl; ended = refl; active = refl }) (λ none. stays-same s)
 
 module _ (s : State) where
   abbrev Entered : State × Placement → Type 0
-  Entered e = IsCounted s e.0
+  Entered e = Enters s e.0
 
   -- it passes, and an entity changes
-  passed : (t : State) → t.steps ≡ s.steps → t.ended ≡ s.ended → t.count ≡ s.count → IsCounted s t
-  passed t steps ended count = record { steps = steps; ended = inl (ended, count) }
+  passed : (t : State) → t.steps ≡ s.steps → t.ended ≡ s.ended → t.count ≡ s.count → t.lists.active ≡ s.lists.active → Enters s t
+  passed t steps ended count active = record { counted = record { steps = steps; ended = inl (ended, count) }; active = active }
 
   arrival_stays : (p : Parts) (b : ℕ) (g : Generate) → OnGives (Stays s) (next_arrival p b g s)
   arrival_stays p b g =
       on_if (Stays s) (is_owed g.limit (at 0 s.scheduled b)) _ (Gives s)
       (on_bind (Stays s) (drawn_moment p (environment_of_next g.priority s) g.interval s.clock s.streams) _
-      (λ d _. on_if (Stays s) (nat_le (live_count s.transactions + 1) 65536) (Gives (arrives b g.priority d.0 (with_streams d.1 s))) (EndsBy Live) (record { clock = refl; count = refl; steps = refl; ended = refl }) tt))
+      (λ d _. on_if (Stays s) (nat_le (live_count s.transactions + 1) 65536) (Gives (arrives b g.priority d.0 (with_streams d.1 s))) (EndsBy Live) (record { clock = refl; count = refl; steps = refl; ended = refl; active = refl }) tt))
       (stays-same s)
 
   plus_counted : (p : Parts) (n : ℕ) (t : Transaction) (q : Option ℕ) (value : ℤ) → OnGives Entered (plus p.blocks n t q value s)
-  plus_counted p n t None value = on_test Entered (may_enter (block_at p.blocks (t.next + 1))) _ (passed (enters_and_falls n t s) refl refl refl)
-  plus_counted p n t (Some q) value = on_test Entered (may_enter (block_at p.blocks (t.next + 1))) _ (passed (enters_and_falls n t (assigned n q value s)) refl refl refl)
+  plus_counted p n t None value = on_test Entered (may_enter (block_at p.blocks (t.next + 1))) _ (passed (enters_and_falls n t s) refl refl refl refl)
+  plus_counted p n t (Some q) value = on_test Entered (may_enter (block_at p.blocks (t.next + 1))) _ (passed (enters_and_falls n t (assigned n q value s)) refl refl refl refl)
 
   split_counted : (p : Parts) (n : ℕ) (t : Transaction) (c : Split) → OnGives Entered (split p.blocks n t c s)
   split_counted p n t c =
       let target = leads_to t.next (goes_or_falls c.target) in
       let u = enters_and_falls n t s in
-      let made = counted_on s u (copies_made c.copies n (record t { current = t.next }) target u) (passed u refl refl refl) (copies_stay c.copies n (record t { current = t.next }) target u) in
+      let made = enters_on s u (copies_made c.copies n (record t { current = t.next }) target u) (passed u refl refl refl refl) (copies_stay c.copies n (record t { current = t.next }) target u) in
       on_if Entered (nat_le (live_count s.transactions + c.copies) 65536) _ (EndsBy Live)
       (on_test Entered (may_enter (block_at p.blocks (t.next + 1))) _ (on_if Entered (c.copies == 0) _ _ made (on_test Entered (may_enter (block_at p.blocks target)) _ made)))
       tt
 
   joined_counted : (p : Parts) (n : ℕ) (t : Transaction) (size : ℕ) (o : Option Assembly) → OnGives Entered (assemble_in p.blocks n t size o s)
-  joined_counted p n t size None = on_test Entered (may_enter (block_at p.blocks (t.next + 1))) _ (passed (enters_and_falls n t s) refl refl refl)
-  joined_counted p n t size (Some a) = let u = entered n t t.next s in on_test Entered (not (owns_any n s.entities.facilities)) _ (counted_on s u (joined_by_one a u) (passed u refl refl refl) (joined_stays a u))
+  joined_counted p n t size None = on_test Entered (may_enter (block_at p.blocks (t.next + 1))) _ (passed (enters_and_falls n t s) refl refl refl refl)
+  joined_counted p n t size (Some a) = let u = entered n t t.next s in on_test Entered (not (owns_any n s.entities.facilities)) _ (enters_on s u (joined_by_one a u) (passed u refl refl refl refl) (joined_stays a u))
 
   assemble_counted : (p : Parts) (n : ℕ) (t : Transaction) (size : ℕ) → OnGives Entered (assemble p.blocks n t size s)
   assemble_counted p n t size =
-      on_if Entered (nat_le size 1) _ _ (on_test Entered (may_enter (block_at p.blocks (t.next + 1))) _ (passed (enters_and_falls n t s) refl refl refl)) (joined_counted p n t size (assembly_at t.next t.set s))
+      on_if Entered (nat_le size 1) _ _ (on_test Entered (may_enter (block_at p.blocks (t.next + 1))) _ (passed (enters_and_falls n t s) refl refl refl refl)) (joined_counted p n t size (assembly_at t.next t.set s))
 
   unlink_counted : (p : Parts) (n : ℕ) (t : Transaction) (u : Unlink) → OnGives Entered (unlink p.blocks n t u s)
   unlink_counted p n t u =
       let v = enters_and_falls n t s in
-      let made = counted_on s v (unlinked (taken_by u s) u.chain u.target v) (passed v refl refl refl) (unlinked_stay (taken_by u s) u.chain u.target v) in
+      let made = enters_on s v (unlinked (taken_by u s) u.chain u.target v) (passed v refl refl refl refl) (unlinked_stay (taken_by u s) u.chain u.target v) in
       on_test Entered (may_enter (block_at p.blocks (t.next + 1))) _ (on_if Entered (taken_by u s == 0) _ _ made (on_test Entered (may_enter (block_at p.blocks u.target)) _ made))
 
   effect_counted : (p : Parts) (n : ℕ) (t : Transaction) (block : Block) (values : List ℤ) → OnGives Entered (effect p n t block values s)
   unfolding effect
   effect_counted p n t (blocks.Generate g) values =
       on_both (Stays s) Entered (next_arrival p t.next g s) _ (arrival_stays p t.next g)
-      (λ u h. on_test Entered (may_enter (block_at p.blocks (t.next + 1))) _ (passed (enters_and_falls n (record t { mark = s.clock }) u) h.steps h.ended h.count))
+      (λ u h. on_test Entered (may_enter (block_at p.blocks (t.next + 1))) _ (passed (enters_and_falls n (record t { mark = s.clock }) u) h.steps h.ended h.count h.active))
   effect_counted p n t (blocks.Terminate by) values =
-      on_if Entered (int_lt (the_value values) (pos 0)) (EndsBy Number) _ tt (on_test Entered (not (owns_any n s.entities.facilities)) _ (record { steps = refl; ended = inr refl }))
+      on_if Entered (int_lt (the_value values) (pos 0)) (EndsBy Number) _ tt (on_test Entered (not (owns_any n s.entities.facilities)) _ (record { counted = record { steps = refl; ended = inr refl }; active = refl }))
   effect_counted p n t (blocks.Advance time) values =
-      on_bind Entered (moment_after s.clock (the_value values)) _ (λ moment _. on_test Entered (may_enter (block_at p.blocks (t.next + 1))) _ (passed (enters_and_falls n t s) refl refl refl))
+      on_bind Entered (moment_after s.clock (the_value values)) _ (λ moment _. on_test Entered (may_enter (block_at p.blocks (t.next + 1))) _ (passed (enters_and_falls n t s) refl refl refl refl))
   effect_counted p n t (blocks.Seize f) values =
-      on_test Entered (may_enter (block_at p.blocks (t.next + 1))) _ (on_case Entered (seizing n (facility f s)) _ (λ r. passed (put_facility f r.1 (enters_and_falls n t s)) refl refl refl))
+      on_test Entered (may_enter (block_at p.blocks (t.next + 1))) _ (on_case Entered (seizing n (facility f s)) _ (λ r. passed (put_facility f r.1 (enters_and_falls n t s)) refl refl refl refl))
   effect_counted p n t (blocks.Release f) values =
       on_test Entered (may_enter (block_at p.blocks (t.next + 1))) _ (on_case Entered (releasing n (facility f s)) _
-      (λ r. let u = put_facility f r (enters_and_falls n t s) in counted_on s u _ (passed u refl refl refl) (stays-hand_over p.blocks u f (delay_list f s))))
+      (λ r. let u = put_facility f r (enters_and_falls n t s) in enters_on s u _ (passed u refl refl refl refl) (stays-hand_over p.blocks u f (delay_list f s))))
   effect_counted p n t (blocks.Enter u) values =
-      on_test Entered (may_enter (block_at p.blocks (t.next + 1))) _ (on_case Entered (entering u.number (storage u.entity s)) _ (λ r. passed (put_storage u.entity r.1 (enters_and_falls n t s)) refl refl refl))
+      on_test Entered (may_enter (block_at p.blocks (t.next + 1))) _ (on_case Entered (entering u.number (storage u.entity s)) _ (λ r. passed (put_storage u.entity r.1 (enters_and_falls n t s)) refl refl refl refl))
   effect_counted p n t (blocks.Leave u) values =
       on_test Entered (may_enter (block_at p.blocks (t.next + 1))) _ (on_case Entered (leaving u.number (storage u.entity s)) _
-      (λ r. let v = put_storage u.entity r (enters_and_falls n t s) in counted_on s v _ (passed v refl refl refl) (stays-admission p.blocks u.entity (delay_list u.entity s) v)))
-  effect_counted p n t (blocks.Queue u) values = on_test Entered (may_enter (block_at p.blocks (t.next + 1))) _ (passed (put_queue u.entity (joined u.number (queue u.entity s)) (enters_and_falls n t s)) refl refl refl)
+      (λ r. let v = put_storage u.entity r (enters_and_falls n t s) in enters_on s v _ (passed v refl refl refl refl) (stays-admission p.blocks u.entity (delay_list u.entity s) v)))
+  effect_counted p n t (blocks.Queue u) values = on_test Entered (may_enter (block_at p.blocks (t.next + 1))) _ (passed (put_queue u.entity (joined u.number (queue u.entity s)) (enters_and_falls n t s)) refl refl refl refl)
   effect_counted p n t (blocks.Depart u) values =
-      on_test Entered (may_enter (block_at p.blocks (t.next + 1))) _ (on_case Entered (departing u.number (queue u.entity s)) _ (λ r. passed (put_queue u.entity r (enters_and_falls n t s)) refl refl refl))
+      on_test Entered (may_enter (block_at p.blocks (t.next + 1))) _ (on_case Entered (departing u.number (queue u.entity s)) _ (λ r. passed (put_queue u.entity r (enters_and_falls n t s)) refl refl refl refl))
   effect_counted p n t (blocks.Assign a) values =
       on_bind Entered (evaluated (answered (put_by a.mode (unwrap_or (parameter_at n a.parameter s.transactions) (pos 0)) (the_value values)))) _
-      (λ new _. on_test Entered (may_enter (block_at p.blocks (t.next + 1))) _ (passed (enters_and_falls n t (assigned n a.parameter new s)) refl refl refl))
+      (λ new _. on_test Entered (may_enter (block_at p.blocks (t.next + 1))) _ (passed (enters_and_falls n t (assigned n a.parameter new s)) refl refl refl refl))
   effect_counted p n t (blocks.Test test) values =
       let to = led_by t.next test.otherwise (passes_test test values) in
-      on_test Entered (may_enter (block_at p.blocks to)) _ (passed (entered n t to s) refl refl refl)
+      on_test Entered (may_enter (block_at p.blocks to)) _ (passed (entered n t to s) refl refl refl refl)
   effect_counted p n t (blocks.Gate gate) values =
       let to = led_by t.next gate.otherwise (is_so gate.condition gate.entity s) in
-      on_test Entered (may_enter (block_at p.blocks to)) _ (passed (entered n t to s) refl refl refl)
-  effect_counted p n t (blocks.Transfer target) values = on_test Entered (may_enter (block_at p.blocks target)) _ (passed (entered n t target s) refl refl refl)
+      on_test Entered (may_enter (block_at p.blocks to)) _ (passed (entered n t to s) refl refl refl refl)
+  effect_counted p n t (blocks.Transfer target) values = on_test Entered (may_enter (block_at p.blocks target)) _ (passed (entered n t target s) refl refl refl refl)
   effect_counted p n t (blocks.TransferByFraction f) values =
-      on_test Entered (may_enter (block_at p.blocks (chosen t.next f (the_value values)))) _ (passed (entered n t (chosen t.next f (the_value values)) s) refl refl refl)
+      on_test Entered (may_enter (block_at p.blocks (chosen t.next f (the_value values)))) _ (passed (entered n t (chosen t.next f (the_value values)) s) refl refl refl refl)
   effect_counted p n t (blocks.TransferToSubroutine c) values =
-      on_test Entered (may_enter (block_at p.blocks c.target)) _ (passed (entered n t c.target (assigned n c.parameter (pos t.next) s)) refl refl refl)
+      on_test Entered (may_enter (block_at p.blocks c.target)) _ (passed (entered n t c.target (assigned n c.parameter (pos t.next) s)) refl refl refl refl)
   effect_counted p n t (blocks.TransferByParameter q) values =
       on_bind Entered (case_of (parameter_at n q s.transactions)) _
-      (λ value _. on_test Entered (may_enter (block_at p.blocks (block_after value))) _ (passed (entered n t (block_after value) s) refl refl refl))
+      (λ value _. on_test Entered (may_enter (block_at p.blocks (block_after value))) _ (passed (entered n t (block_after value) s) refl refl refl refl))
   effect_counted p n t (blocks.Loop l) values =
       on_bind Entered (case_of (parameter_at n l.parameter s.transactions)) _
       (λ old _. on_bind Entered (evaluated (answered (difference_of old (pos 1)))) _
-      (λ left _. on_test Entered (may_enter (block_at p.blocks (looped t.next l.target left))) _ (passed (entered n t (looped t.next l.target left) (assigned n l.parameter left s)) refl refl refl)))
+      (λ left _. on_test Entered (may_enter (block_at p.blocks (looped t.next l.target left))) _ (passed (entered n t (looped t.next l.target left) (assigned n l.parameter left s)) refl refl refl refl)))
   effect_counted p n t (blocks.Logic l) values =
-      on_test Entered (may_enter (block_at p.blocks (t.next + 1))) _ (passed (put_switch l.switch (turned l.action (switch l.switch s)) (enters_and_falls n t s)) refl refl refl)
+      on_test Entered (may_enter (block_at p.blocks (t.next + 1))) _ (passed (put_switch l.switch (turned l.action (switch l.switch s)) (enters_and_falls n t s)) refl refl refl refl)
   effect_counted p n t (blocks.Savevalue a) values =
       on_bind Entered (evaluated (answered (put_by a.mode (savevalue a.savevalue s) (the_value values)))) _
-      (λ new _. on_test Entered (may_enter (block_at p.blocks (t.next + 1))) _ (passed (put_savevalue a.savevalue new (enters_and_falls n t s)) refl refl refl))
+      (λ new _. on_test Entered (may_enter (block_at p.blocks (t.next + 1))) _ (passed (put_savevalue a.savevalue new (enters_and_falls n t s)) refl refl refl refl))
   effect_counted p n t (blocks.Tabulate e) values =
       on_bind Entered (evaluated (answered (tabulating (the_value values) (table e s)))) _
-      (λ new _. on_test Entered (may_enter (block_at p.blocks (t.next + 1))) _ (passed (put_table e new (enters_and_falls n t s)) refl refl refl))
+      (λ new _. on_test Entered (may_enter (block_at p.blocks (t.next + 1))) _ (passed (put_table e new (enters_and_falls n t s)) refl refl refl refl))
   effect_counted p n t (blocks.Split c) values = split_counted p n t c
   effect_counted p n t (blocks.Assemble size) values = assemble_counted p n t size
-  effect_counted p n t (blocks.Link l) values = passed (entered n t t.next s) refl refl refl
+  effect_counted p n t (blocks.Link l) values = passed (entered n t t.next s) refl refl refl refl
   effect_counted p n t (blocks.Unlink u) values = unlink_counted p n t u
   effect_counted p n t (blocks.Priority a) values =
-      on_if Entered (is_priority (the_value values)) _ (EndsBy Number) (on_test Entered (may_enter (block_at p.blocks (t.next + 1))) _ (passed (enters_and_falls n (record t { priority = the_value values }) s) refl refl refl)) tt
-  effect_counted p n t blocks.Buffer values = on_test Entered (may_enter (block_at p.blocks (t.next + 1))) _ (passed (enters_and_falls n t s) refl refl refl)
+      on_if Entered (is_priority (the_value values)) _ (EndsBy Number) (on_test Entered (may_enter (block_at p.blocks (t.next + 1))) _ (passed (enters_and_falls n (record t { priority = the_value values }) s) refl refl refl refl)) tt
+  effect_counted p n t blocks.Buffer values = on_test Entered (may_enter (block_at p.blocks (t.next + 1))) _ (passed (enters_and_falls n t s) refl refl refl refl)
   effect_counted p n t (blocks.Plus a) values = plus_counted p n t a.parameter (the_value values)
-  effect_counted p n t (blocks.Mark None) values = on_test Entered (may_enter (block_at p.blocks (t.next + 1))) _ (passed (enters_and_falls n (record t { mark = s.clock }) s) refl refl refl)
-  effect_counted p n t (blocks.Mark (Some q)) values = on_test Entered (may_enter (block_at p.blocks (t.next + 1))) _ (passed (enters_and_falls n t (assigned n q s.clock s)) refl refl refl)
+  effect_counted p n t (blocks.Mark None) values = on_test Entered (may_enter (block_at p.blocks (t.next + 1))) _ (passed (enters_and_falls n (record t { mark = s.clock }) s) refl refl refl refl)
+  effect_counted p n t (blocks.Mark (Some q)) values = on_test Entered (may_enter (block_at p.blocks (t.next + 1))) _ (passed (enters_and_falls n t (assigned n q s.clock s)) refl refl refl refl)
 
-  meets_counted : (p : Parts) (n : ℕ) (t : Transaction) (block : Block) (values : List ℤ) → OnGives (IsCounted s) (meets p n t block values s)
-  meets_counted p n t block values =
-      on_if (IsCounted s) (refuses n block values s) (Gives (placed n (refusal block) s)) (then_placed n (effect p n t block values s))
-      (counted_same s _ (placed-leaves n (refusal block) s).stays)
-      (on_both Entered (IsCounted s) (effect p n t block values s) _ (effect_counted p n t block values) (λ e h. counted_on s e.0 _ h (placed-leaves n e.1 e.0).stays))
+  meets_scans : (p : Parts) (n : ℕ) (t : Transaction) (block : Block) (values : List ℤ) → s.lists.active ≡ Some n → OnGives (Scans s) (meets p n t block values s)
+  meets_scans p n t block values active =
+      on_if (Scans s) (refuses n block values s) (Gives (placed n (refusal block) s)) (then_placed n (effect p n t block values s))
+      (record { counted = counted_same s _ (placed-leaves n (refusal block) s); woken = placed_wakes n (refusal block) s active })
+      (on_both Entered (Scans s) (effect p n t block values s) _ (effect_counted p n t block values) (λ e h.
+      let left = placed-leaves n e.1 e.0 in
+      record { counted = counted_then s e.0 _ h.counted left.steps left.ended left.count; woken = placed_wakes n e.1 e.0 (h.active ∙ active) }))
 
-act_counted : (p : Parts) (n : ℕ) (t : Transaction) (block : Block) (s : State) → OnGives (IsCounted s) (act p n t block s)
+act_scans : (p : Parts) (n : ℕ) (t : Transaction) (block : Block) (s : State) → s.lists.active ≡ Some n → OnGives (Scans s) (act p n t block s)
 unfolding act
-act_counted p n t block s =
-    on_bind (IsCounted s) (evaluated (operands p (environment_of n t s) block s.streams)) _
-    (λ read _. on_then (IsCounted (with_streams read.1 s)) (IsCounted s) (meets p n t block read.0 (with_streams read.1 s)) (meets_counted (with_streams read.1 s) p n t block read.0) (λ u h. record { steps = h.steps; ended = h.ended }))
+act_scans p n t block s active =
+    on_bind (Scans s) (evaluated (operands p (environment_of n t s) block s.streams)) _
+    (λ read _. on_then (Scans (with_streams read.1 s)) (Scans s) (meets p n t block read.0 (with_streams read.1 s)) (meets_scans (with_streams read.1 s) p n t block read.0 active)
+    (λ u h. record { counted = record { steps = h.counted.steps; ended = h.counted.ended }; woken = h.woken }))
 
 -- THE SCAN
 
-event_counted : (s : State) (es : List FutureEvent) → OnGives (IsCounted s) (next_event es s)
-event_counted s [] = tt
-event_counted s (e ∷ es) = record { steps = refl; ended = inl (refl, refl) }
+event_scans : (s : State) (es : List FutureEvent) → OnGives (Scans s) (next_event es s)
+event_scans s [] = tt
+event_scans s (e ∷ es) = record { counted = record { steps = refl; ended = inl (refl, refl) }; woken = λ _. refl }
 
-next_counted : (s : State) (ns : List ℕ) → OnGives (IsCounted s) (next_active ns s)
-next_counted s [] = event_counted s s.lists.future_events
-next_counted s (n ∷ ns) = record { steps = refl; ended = inl (refl, refl) }
+next_scans : (s : State) (ns : List ℕ) → OnGives (Scans s) (next_active ns s)
+next_scans s [] = event_scans s s.lists.future_events
+next_scans s (n ∷ ns) = record { counted = record { steps = refl; ended = inl (refl, refl) }; woken = λ none. absurd cc }
 
-scan_counted : (p : Parts) (a : Option ℕ) (s : State) → OnGives (IsCounted s) (scan p a s)
-scan_counted p None s = next_counted s s.lists.current_events
-scan_counted p (Some n) s =
-    on_bind (IsCounted s) (case_of (attributes_at n s.transactions)) (λ t. case_of (block_at p.blocks t.next) >>= λ block. act p n t block s) (λ t _.
-    on_bind (IsCounted s) (case_of (block_at p.blocks t.next)) (λ block. act p n t block s) (λ block _. act_counted p n t block s))
+scan_scans : (p : Parts) (a : Option ℕ) (s : State) → s.lists.active ≡ a → OnGives (Scans s) (scan p a s)
+scan_scans p None s active = next_scans s s.lists.current_events
+scan_scans p (Some n) s active =
+    on_bind (Scans s) (case_of (attributes_at n s.transactions)) (λ t. case_of (block_at p.blocks t.next) >>= λ block. act p n t block s) (λ t _.
+    on_bind (Scans s) (case_of (block_at p.blocks t.next)) (λ block. act p n t block s) (λ block _. act_scans p n t block s active))
+
+scanned : (p : Parts) (s t : State) → scan p s.lists.active s ≡ Gives t → Scans s t
+scanned p s t h = subst (OnGives (Scans s)) h (scan_scans p s.lists.active s refl)
 
 pub is_counted : (p : Parts) (s t : State) → scan p s.lists.active s ≡ Gives t → IsCounted s t
-is_counted p s t h = subst (OnGives (IsCounted s)) h (scan_counted p s.lists.active s)
+is_counted p s t h = (scanned p s t h).counted
+
+-- where a scan leaves nobody active, the retry list was woken since the last entry
+pub is_woken : (p : Parts) (s t : State) → scan p s.lists.active s ≡ Gives t → IsWoken t
+is_woken p s t h = (scanned p s t h).woken
 
 -- where no named end stands, the count is still above 0
 still_counts : (count : ℤ) → end_at count ≡ None → pos 0 <ℤ count

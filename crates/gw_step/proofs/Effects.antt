@@ -66,7 +66,7 @@ use Rattle.gw_step.specs.Places.{block_of, row_of}
 use Rattle.gw_step.specs.Typing.{IsAsKnown, promised_units, content_of, awaited, WaitsFor}
 use Rattle.gw_step.proofs.Owning.{lists-none}
 use Rattle.gw_step.proofs.Operands.{good_units}
-use Rattle.gw_step.proofs.Balances.{balanced-nothing, balanced-parameters, balanced-switch, balanced-savevalue, balanced-table, balanced-seize, balanced-release, balanced-storage, balanced-queue}
+use Rattle.gw_step.proofs.Balances.{balanced-nothing, balanced-parameters, balanced-switch, balanced-savevalue, balanced-table, balanced-seize, balanced-release, balanced-storage, balanced-queue, came_in, went_out}
 use Rattle.gw_step.proofs.Traces.{its_place, its_parameters, EntersLast, Counts, Done, Then, change-keeps, present, Rested, credited, Paid, Settles, its_row}
 use Rattle.gw_step.proofs.Unstopped.{Safe, Any, safe_bind, safe_test, safe_if, safe_found, safe_answered, safe_given}
 use Rattle.gw_step.proofs.AtBlock.{first_may_be_entered, second_may_be_entered, led_to, named_below, is_storage, is_queue}
@@ -275,7 +275,7 @@ module _ (p : Parts) (each_block : (b : ℕ) (block : Block) → block_at p.bloc
       (λ free.
       safe_placed p k s n _ (safe_leads p (Enters p k s n) (t.next + 1) _ may
       (just_goes p s n t (blocks.Enter u) row acts k (t.next + 1) (with_units u.entity (units_of row u.entity + u.number) row) (put_storage u.entity (storages.entered u.number (storage u.entity s)) s).entities (λ q. refl) (at_first _ []) may
-      (balanced-storage p n u.entity (units_of row u.entity + u.number) (storages.entered u.number (storage u.entity s)) row s.entities kind.0 kind.1 refl (omega arith) (λ _. leb-true _ _ free) (omega (arith, fit.number))) (falls_paid p s n t (blocks.Enter u) row acts Falls [] refl 0))))
+      (balanced-storage p n u.entity (units_of row u.entity + u.number) (storages.entered u.number (storage u.entity s)) row s.entities kind.0 kind.1 refl (omega arith) (λ _. leb-true _ _ free) (came_in u.number _) (omega (arith, fit.number))) (falls_paid p s n t (blocks.Enter u) row acts Falls [] refl 0))))
       (refused p k s n (JoinsDelayList u.entity) acts.active tt (acts.active, asks (blocks.Enter u) row acts u.entity refl, fit.entity) refl (omega arith))
 
   -- what a storage holds of the units that a row promises
@@ -290,7 +290,7 @@ module _ (p : Parts) (each_block : (b : ℕ) (block : Block) → block_at p.bloc
       let within = held u row (kind_at p.entities u.entity) kind.0 kind.1 (inside (blocks.Leave u) row acts u.entity) in
       let v : State = put_storage u.entity (storages.left u.number (storage u.entity s)) (enters_and_falls n t s) in
       let gone = goes p s n t (blocks.Leave u) row acts k (made_in k) 0 0 t (t.next + 1) (with_units u.entity (units_of row u.entity - u.number) row) v.entities (unchanged s t) (λ q. refl) (at_first _ []) may
-      (balanced-storage p n u.entity (units_of row u.entity - u.number) (storages.left u.number (storage u.entity s)) row s.entities kind.0 kind.1 refl (omega (arith, enough, within)) (λ before. omega (arith, before)) (omega arith)) (falls_paid p s n t (blocks.Leave u) row acts Falls [] refl 0) in
+      (balanced-storage p n u.entity (units_of row u.entity - u.number) (storages.left u.number (storage u.entity s)) row s.entities kind.0 kind.1 refl (omega (arith, enough, within)) (λ before. omega (arith, before)) (went_out u.number _ (le-leb u.number (storage u.entity s).contents.content (omega (arith, enough, within)))) (omega arith)) (falls_paid p s n t (blocks.Leave u) row acts Falls [] refl 0) in
       safe_leads p (Enters p k s n) (t.next + 1) _ may
       (subst (λ r. Safe (Enters p k s n) (case_of r >>= λ x. stays (admission p.blocks u.entity (delay_list u.entity s) (put_storage u.entity x (enters_and_falls n t s))))) (sym (left_is u.number (storage u.entity s) (le-leb u.number (storage u.entity s).contents.content (omega (arith, enough, within)))))
       (let admitted = admits p each_block flow k (made_in k) v (change-keeps p flow gone acts.typed) u.entity (delay_list u.entity s) (λ m. omega arith) in entered_once p k s n _ (Then gone admitted) (omega (arith, sum-raised t.next s.entries, trace-grows p admitted))))

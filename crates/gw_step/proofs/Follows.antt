@@ -43,12 +43,13 @@ pub record Stays (s t : State) : Type 0 where
   pub count : t.count ≡ s.count
   pub steps : t.steps ≡ s.steps
   pub ended : t.ended ≡ s.ended
+  pub active : t.lists.active ≡ s.lists.active
 
 pub stays-same : (s : State) → Stays s s
-stays-same s = record { clock = refl; count = refl; steps = refl; ended = refl }
+stays-same s = record { clock = refl; count = refl; steps = refl; ended = refl; active = refl }
 
 pub stays-then : (s t u : State) → Stays s t → Stays t u → Stays s u
-stays-then s t u a b = record { clock = b.clock ∙ a.clock; count = b.count ∙ a.count; steps = b.steps ∙ a.steps; ended = b.ended ∙ a.ended }
+stays-then s t u a b = record { clock = b.clock ∙ a.clock; count = b.count ∙ a.count; steps = b.steps ∙ a.steps; ended = b.ended ∙ a.ended; active = b.active ∙ a.active }
 
 -- BLOCKS
 
@@ -262,7 +263,7 @@ module _ (bs : List Block) (es en ar : ℕ) where
       (λ none. w)
 
 stays-enters : (n : ℕ) (t : Transaction) (s : State) (u : Units) → Stays s (enters_if_free n t s u)
-stays-enters n t s u = choose (Stays s) (storages.has_room u.number (storage u.entity s)) (put_storage u.entity (storages.entered u.number (storage u.entity s)) (enters_and_falls n t (called_from u.entity n s))) s (λ free. record { clock = refl; count = refl; steps = refl; ended = refl }) (λ full. stays-same s)
+stays-enters n t s u = choose (Stays s) (storages.has_room u.number (storage u.entity s)) (put_storage u.entity (storages.entered u.number (storage u.entity s)) (enters_and_falls n t (called_from u.entity n s))) s (λ free. record { clock = refl; count = refl; steps = refl; ended = refl; active = refl }) (λ full. stays-same s)
 
 stays-looked_at : (bs : List Block) (e n : ℕ) (s : State) → Stays s (looked_at bs e n s)
 stays-looked_at bs e n s =
@@ -274,7 +275,7 @@ pub stays-hand_over : (bs : List Block) (u : State) (f : ℕ) (ns : List ℕ) �
 stays-hand_over bs u f [] = stays-same u
 stays-hand_over bs u f (m ∷ ms) =
     by_option (Stays u) (attributes_at m u.transactions) (takes_over bs f m u) u
-    (λ v live. choose (Stays u) (is_seize f (block_at bs v.next)) (put_facility f (seized m (facility f u)) (enters_and_falls m v (called_from f m u))) u (λ is. record { clock = refl; count = refl; steps = refl; ended = refl }) (λ not. stays-same u))
+    (λ v live. choose (Stays u) (is_seize f (block_at bs v.next)) (put_facility f (seized m (facility f u)) (enters_and_falls m v (called_from f m u))) u (λ is. record { clock = refl; count = refl; steps = refl; ended = refl; active = refl }) (λ not. stays-same u))
     (λ none. stays-same u)
 
 pub stays-admission : (bs : List Block) (e : ℕ) (ns : List ℕ) (s : State) → Stays s (admission bs e ns s)

@@ -6,25 +6,30 @@ use Rattle.gw_step.specs.State.{State}
 use Rattle.gw_step.specs.Changes.{woken}
 use Rattle.gw_step.specs.Placing.{placed_at, woken_if_stirred, placed}
 use Rattle.gw_step.proofs.Outcomes.{choose}
-use Rattle.gw_step.proofs.Follows.{Stays, stays-same, stays-then}
 
 -- all but the lists, the transactions, and whether something has stirred
 pub record Leaves (s t : State) : Type 0 where
-  pub stays : Stays s t
+  pub clock : t.clock ≡ s.clock
+  pub count : t.count ≡ s.count
+  pub steps : t.steps ≡ s.steps
+  pub ended : t.ended ≡ s.ended
   pub entries : t.entries ≡ s.entries
   pub entities : t.entities ≡ s.entities
   pub scheduled : t.scheduled ≡ s.scheduled
 
 leaves-same : (s : State) → Leaves s s
-leaves-same s = record { stays = stays-same s; entries = refl; entities = refl; scheduled = refl }
+leaves-same s = record { clock = refl; count = refl; steps = refl; ended = refl; entries = refl; entities = refl; scheduled = refl }
 
 leaves-then : (s t u : State) → Leaves s t → Leaves t u → Leaves s u
-leaves-then s t u a b = record { stays = stays-then s t u a.stays b.stays; entries = b.entries ∙ a.entries; entities = b.entities ∙ a.entities; scheduled = b.scheduled ∙ a.scheduled }
+leaves-then s t u a b = record { clock = b.clock ∙ a.clock; count = b.count ∙ a.count; steps = b.steps ∙ a.steps; ended = b.ended ∙ a.ended; entries = b.entries ∙ a.entries; entities = b.entities ∙ a.entities; scheduled = b.scheduled ∙ a.scheduled }
 
 -- where lists, transactions and what has stirred alone are others
 leaves-rest : (s t : State) → t ≡ record s { lists = t.lists; transactions = t.transactions; stir = t.stir } → Leaves s t
 leaves-rest s t is = record {
-  stays = record { clock = ap (λ (u : State). u.clock) is; count = ap (λ (u : State). u.count) is; steps = ap (λ (u : State). u.steps) is; ended = ap (λ (u : State). u.ended) is };
+  clock = ap (λ (u : State). u.clock) is;
+  count = ap (λ (u : State). u.count) is;
+  steps = ap (λ (u : State). u.steps) is;
+  ended = ap (λ (u : State). u.ended) is;
   entries = ap (λ (u : State). u.entries) is;
   entities = ap (λ (u : State). u.entities) is;
   scheduled = ap (λ (u : State). u.scheduled) is;

@@ -2,7 +2,7 @@
 use Rattle.gw_kinds.specs.Kinds.{block_at, is_none_or, has_good_constants}
 use Rattle.gw_code_flow.specs.Environment.{Environment}
 use Rattle.gw_transactions.specs.Transactions.{LiveTransaction, live_count}
-use Rattle.std.proofs.Common.{◌≡◌, ℕ, zero, suc, ◌+◌, ◌≤◌, ℤ, pos, ◌≤ℤ◌, List, [], ◌∷◌, map, length, replicate, Option, Some, None, IfSome, refl, sym, ap, ◌∙◌, subst, arith, ◌<◌}
+use Rattle.std.proofs.Common.{false, ◌≡◌, ℕ, zero, suc, ◌+◌, ◌≤◌, ℤ, pos, ◌≤ℤ◌, List, [], ◌∷◌, map, length, replicate, Option, Some, None, IfSome, refl, sym, ap, ◌∙◌, subst, arith, ◌<◌}
 use Rattle.std.specs.Prelude.{sum, int_le, nat_lt, IfSome, IsTrue}
 use Rattle.std.specs.List.{AllByRecursion}
 use Rattle.std.proofs.lemmas.Bool.{and_parts, ltb-true}
@@ -36,9 +36,11 @@ use Rattle.gw_step.specs.Operands.{OperandsFit}
 use Rattle.gw_step.specs.Job.{Job, JobFits, IsBounded, IsReached, Step, Alone, after, then_step, start_of}
 use Rattle.gw_step.proofs.Outcomes.{OnGives, on_both}
 use Rattle.gw_step.proofs.Within.{sum-raised, within-arrives, within-streams, within-more, within-ended}
-use Rattle.gw_step.proofs.Counting.{IsCounted, is_counted, runs_still}
+use Rattle.gw_step.proofs.Counting.{IsCounted, is_counted, is_woken, runs_still}
 use Rattle.gw_step.proofs.Traces.{KeepStreams}
-use Rattle.gw_step.proofs.Bounds.{trace-within, trace-limits, trace-live, written-live}
+use Rattle.gw_step.proofs.Bounds.{trace-within, trace-limits, trace-live, trace-conserves, written-live}
+use Rattle.gw_step.proofs.Arriving.{nothing_conserved}
+use Rattle.gw_step.specs.Typing.{AreConserved, IsWoken}
 use Rattle.gw_step.proofs.Unstopped.{given}
 use Rattle.gw_step.proofs.Drawn.{IsSound, IsDrawn, AreRead, safe_drawn}
 use Rattle.gw_step.proofs.Asked.{arrival_read}
@@ -61,11 +63,12 @@ record Numbered (j : Job) (k : ℕ) (t : State) : Type 0 where
   numbers : IsWithin (length j.parts.blocks) (length j.parts.entities) k (made_in k) t
   limits : AreWithinLimits j.parts.blocks t.scheduled
   live : AreFewLive t.transactions
+  conserved : AreConserved t.entities
   weight : weight j.parts t ≤ most_weight
 
 -- what one step keeps of them
-bounded_more : (j : Job) (s u : State) → IsBounded j s → s.ended ≡ None → IsCounted s u → Numbered j (s.steps + 1) (within_budget j.budget (record u { steps = s.steps + 1 })) → IsBounded j (within_budget j.budget (record u { steps = s.steps + 1 }))
-bounded_more j s u b runs c =
+bounded_more : (j : Job) (s u : State) → IsBounded j s → s.ended ≡ None → IsCounted s u → IsWoken u → Numbered j (s.steps + 1) (within_budget j.budget (record u { steps = s.steps + 1 })) → IsBounded j (within_budget j.budget (record u { steps = s.steps + 1 }))
+bounded_more j s u b runs c woken =
     by_budget (λ (v : State). Numbered j (s.steps + 1) v → IsBounded j v) j.budget (record u { steps = s.steps + 1 })
     (λ _ same n. record {
       steps = omega (arith, b.runs runs);
@@ -74,6 +77,8 @@ bounded_more j s u b runs c =
       numbers = n.numbers;
       limits = n.limits;
       live = n.live;
+      conserved = n.conserved;
+      woken = λ none. woken none;
       weight = n.weight;
     })
     (λ other n. record {
@@ -83,6 +88,8 @@ bounded_more j s u b runs c =
       numbers = n.numbers;
       limits = n.limits;
       live = n.live;
+      conserved = n.conserved;
+      woken = λ none. woken none;
       weight = n.weight;
     })
 
@@ -98,6 +105,8 @@ bounded_ended j s end b runs =
       numbers = within-ended bs es (s.steps + 1) (made_in (s.steps + 1)) s (within-more bs es s.steps (made_in s.steps) s b.numbers (s.steps + 1) (made_in (s.steps + 1)) (omega arith) (omega arith)) (s.steps + 1) (Some end);
       limits = b.limits;
       live = b.live;
+      conserved = b.conserved;
+      woken = λ none. b.woken none;
       weight = b.weight;
     }
 
@@ -110,7 +119,7 @@ leads_from : (j : Job) (s t : State) (o : Outcome State) → IsBounded j s → s
 leads_from j s t (Gives u) b runs is n h =
     let same = some_is _ t h in
     subst (Leads j s) same
-    (record { bounded = bounded_more j s u b runs (is_counted j.parts s u is) (subst (Numbered j (s.steps + 1)) (sym same) n); steps = counts_more j.budget s u })
+    (record { bounded = bounded_more j s u b runs (is_counted j.parts s u is) (is_woken j.parts s u is) (subst (Numbered j (s.steps + 1)) (sym same) n); steps = counts_more j.budget s u })
 leads_from j s t (EndsBy end) b runs is n h = subst (Leads j s) (some_is _ t h) (record { bounded = bounded_ended j s end b runs; steps = refl })
 leads_from j s t HasNoCase b runs is n h = absurd cc
 
@@ -123,6 +132,7 @@ numbered_step j s t r next =
       numbers = within-more (length j.parts.blocks) (length j.parts.entities) x.entries x.arrivals t (trace-within j.parts x.trace r.bounded.numbers) (s.steps + 1) (made_in (s.steps + 1)) (omega (arith, x.few_entries)) (omega (arith, x.few_arrivals));
       limits = trace-limits j.parts x.trace r.bounded.limits;
       live = live;
+      conserved = trace-conserves j.parts x.trace r.bounded.conserved;
       weight = weight_below j.parts r.fits.spelled t live;
     }
 
@@ -150,6 +160,8 @@ record Begun (bs es : ℕ) (count : ℤ) (k : ℕ) (t : State) : Type 0 where
   first : (b : ℕ) → at 0 t.scheduled b ≤ 1
   none : (b : ℕ) → k < b → at 0 t.scheduled b ≡ 0
   live : live_count t.transactions ≤ k
+  conserved : AreConserved t.entities
+  stir : t.stir ≡ false
 
 begun_more : (bs es : ℕ) (count : ℤ) (k l : ℕ) (t : State) → k ≤ l → Begun bs es count k t → Begun bs es count l t
 begun_more bs es count k l t le b = record {
@@ -162,6 +174,8 @@ begun_more bs es count k l t le b = record {
   first = b.first;
   none = λ c above. b.none c (omega (arith, above, le));
   live = omega (arith, b.live, le);
+  conserved = b.conserved;
+  stir = b.stir;
 }
 
 begun_arrives : (bs es : ℕ) (count : ℤ) (k : ℕ) (s : State) (b : ℕ) (priority time : ℤ) (streams : List ℕ) → b ≡ suc k → b ≤ bs → pos 0 ≤ℤ time → KeepStreams s.streams streams → Begun bs es count k s → Begun bs es count (suc k) (arrives b priority time (with_streams streams s))
@@ -175,6 +189,8 @@ begun_arrives bs es count k s b priority time streams here block least keeps h =
   first = by_entry 0 s.scheduled b (at 0 s.scheduled b + 1) (λ c n. n ≤ 1) (omega (arith, h.none b (omega (arith, here)))) (λ c apart. h.first c);
   none = by_entry 0 s.scheduled b (at 0 s.scheduled b + 1) (λ c n. suc k < c → n ≡ 0) (λ above. absurd (omega (arith, here, above))) (λ c apart above. h.none c (omega (arith, above)));
   live = omega (arith, h.live, written-live s.transactions (length s.transactions) (Some (newcomer b priority s)));
+  conserved = h.conserved;
+  stir = h.stir;
 }
 
 first-later : (p : Parts) → IsSound p → (g : Generate) (s : State) (o : Option ℤ) → s.clock ≡ pos 0 → IfSome o (λ time. pos 0 ≤ℤ time) → ((env : Environment) → AreRead p env (g.interval.mean ∷ g.interval.half ∷ [])) → OnGives (IsDrawn (pos 0) s.streams) (first_moment p g s o)
@@ -271,6 +287,8 @@ nothing_begun j fits =
       first = λ b. omega (arith, at-replicate {X = ℕ} 0 (bs + 1) b);
       none = λ b above. at-replicate {X = ℕ} 0 (bs + 1) b;
       live = omega arith;
+      conserved = nothing_conserved j.parts j.count j.streams;
+      stir = refl;
     }
 
 -- a first arrival is within any limit
@@ -291,6 +309,8 @@ begun_bounded j k t end fits few b =
           (record { entries = w.entries; entity_entries = w.entity_entries; made = omega (arith, b.made, few); scheduled = omega (arith, b.scheduled, few); marked = w.marked; whole = w.whole; clock = w.clock; future = w.future });
       limits = record { arrivals = λ c g is. within_limit g.limit (at 0 t.scheduled c) (b.first c) (and_parts (is_none_or g.first (int_le (pos 0))) (is_none_or g.limit (nat_lt 0)) (constants c g is)).1 };
       live = live;
+      conserved = b.conserved;
+      woken = λ _. b.stir;
       weight = weight_below j.parts fits.spelled (record t { ended = end }) live;
     }
   where

@@ -380,7 +380,7 @@ module _ (p : Parts) where
   change-later (GoesWith n to q value t block row state is here known along may balance pays) w = omega (arith, ints)
   change-later (Arrives b g row priority time block is none later passes owed few) w = omega (arith, ints)
   change-later (Copied n target b t u block row state found mark known block_is row_is along may facilities units few pays) w = omega (arith, ints)
-  change-later (Rests {s = s} n placement may settles) w = subst (λ z. s.clock ≤ℤ z) (sym (placed_at-leaves n placement s).stays.clock) (omega (arith, ints))
+  change-later (Rests {s = s} n placement may settles) w = subst (λ z. s.clock ≤ℤ z) (sym (placed_at-leaves n placement s).clock) (omega (arith, ints))
   change-later (Called e n here below) w = omega (arith, ints)
   change-later (Assembled a is) w = omega (arith, ints)
   change-later (Comes a is more) w = omega (arith, ints)

@@ -7,7 +7,7 @@ use Rattle.gw_verify.specs.Checks.{Checked}
 use Rattle.gw_weights.specs.Laws.{Weighted}
 use Rattle.gw_step.specs.State.{State}
 use Rattle.gw_step.specs.Step.{step}
-use Rattle.gw_step.specs.Typing.{WellTyped}
+use Rattle.gw_step.specs.Typing.{WellTyped, AreConserved, IsWoken}
 use Rattle.gw_step.specs.Start.{start}
 use Rattle.gw_step.specs.Numbers.{IsWithin, made_in, AreWithinLimits, AreFewLive}
 use Rattle.gw_step.specs.Weight.{weight, most_weight}
@@ -92,6 +92,8 @@ pub record IsBounded (j : Job) (s : State) : Type 0 where
   pub numbers : IsWithin (length j.parts.blocks) (length j.parts.entities) s.steps (made_in s.steps) s
   pub limits : AreWithinLimits j.parts.blocks s.scheduled
   pub live : AreFewLive s.transactions
+  pub conserved : AreConserved s.entities
+  pub woken : IsWoken s
   pub weight : weight j.parts s ≤ most_weight
 
 -- a state that its job reaches: the lone run has it after as many steps, and it is well-typed

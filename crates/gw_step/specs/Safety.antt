@@ -10,9 +10,9 @@ use Rattle.gw_step.specs.Operands.{MayDraw, MayStep}
 use Rattle.gw_step.specs.Asks.{IsServed}
 use Rattle.gw_verify.specs.Checks.{Checked}
 use Rattle.gw_step.specs.State.{State}
-use Rattle.gw_step.specs.Job.{Job, Step, IsFinal, IsStuck, Alone, start_of}
+use Rattle.gw_step.specs.Job.{Job, JobFits, Step, IsFinal, IsStuck, Alone, start_of}
 use Rattle.gw_step.specs.Residence.{occurrences, occurrences_in}
-use Rattle.gw_step.specs.Typing.{WellTyped, AreWithinCapacity}
+use Rattle.gw_step.specs.Typing.{WellTyped, AreWithinCapacity, AreConserved, IsWoken}
 
 -- a job of a checked object has a start state
 abbrev pub CheckedObjectsStart : Type 0
@@ -64,6 +64,14 @@ AllJobsEnd = (j : Job) → Checked j.parts → 0 < j.budget → Ending j
 -- in no state that a job of a checked object reaches a storage holds more than its capacity
 abbrev pub StoragesKeepTheirCapacity : Type 0
 StoragesKeepTheirCapacity = (j : Job) (n : ℕ) (s : State) → Checked j.parts → Alone j n s → AreWithinCapacity s.entities
+
+-- in no state that a job reaches a storage has lost a unit
+abbrev pub StoragesLoseNoUnit : Type 0
+StoragesLoseNoUnit = (j : Job) (n : ℕ) (s : State) → JobFits j → Alone j n s → AreConserved s.entities
+
+-- in each state that a job reaches and in which nobody is active, the retry list was woken since the last entry
+abbrev pub RestingStatesAreWoken : Type 0
+RestingStatesAreWoken = (j : Job) (n : ℕ) (s : State) → JobFits j → Alone j n s → IsWoken s
 
 -- who resides on the retry list in a state that a job of a checked object reaches resides there once, and nowhere else
 abbrev pub RetryingResideOnce : Type 0

@@ -1,5 +1,5 @@
 -- Well-typed states: who resides where, who owns what, and what is inside the entities is what the state table says of each transaction's place.
-use Rattle.std.specs.Prelude.{◌≡◌, ℕ, ◌≤◌, ℤ, pos, sum_by, List, [], Option, Some, None, IsSome, IfSome, Bool, true, false, if◌then◌else◌, ◌==◌, All}
+use Rattle.std.specs.Prelude.{◌≡◌, ℕ, ◌+◌, ◌≤◌, ℤ, pos, sum_by, List, [], Option, Some, None, IsSome, IfSome, Bool, true, false, if◌then◌else◌, ◌==◌, All}
 use Rattle.std.specs.Option.{option_map_or}
 use Rattle.gw_object.specs.declared.parts.Kind.{Kind}
 use Rattle.gw_object.specs.declared.parts.Kind.TheVariants as kinds
@@ -13,7 +13,9 @@ use Rattle.gw_flow.specs.Blocks.{capacity_at}
 use Rattle.gw_flow.specs.Flow.{own_table}
 use Rattle.gw_num.specs.Table.{at}
 use Rattle.gw_transactions.specs.Transactions.{LiveTransaction, chain_of}
+use Rattle.gw_entities.specs.declared.contents.Contents.{Contents}
 use Rattle.gw_entities.specs.Contents.{empty}
+use Rattle.gw_entities.specs.Laws.{HasHistory}
 use Rattle.gw_entities.specs.Facility.{idle, is_owned_by}
 use Rattle.gw_entities.specs.Storage.{vacant}
 use Rattle.gw_step.specs.State.{Assembly, Lists, EntityStates, State}
@@ -110,3 +112,15 @@ WellTyped p s = Agree p s.transactions s.lists s.entities
 -- no storage holds more than its capacity
 pub record AreWithinCapacity (entities : EntityStates) : Type 0 where
   pub contents : (e : ℕ) → (at (vacant 0) entities.storages e).contents.content ≤ (at (vacant 0) entities.storages e).capacity
+
+-- contents with a history: so many units went out in all, and those that came in are they and those inside
+abbrev pub IsConserved : Contents → Type 0
+IsConserved c = (out : ℕ) × HasHistory c out × (c.entries ≡ out + c.content)
+
+-- no unit of a storage is lost
+pub record AreConserved (entities : EntityStates) : Type 0 where
+  pub units : (e : ℕ) → IsConserved (at (vacant 0) entities.storages e).contents
+
+-- where nobody is active, no block was entered since the retry list was last woken
+abbrev pub IsWoken : State → Type 0
+IsWoken s = s.lists.active ≡ None → s.stir ≡ false

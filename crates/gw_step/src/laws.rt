@@ -24,6 +24,8 @@ ghost use Rattle.gw_step.specs.Safety.{
   AllJobsEnd,
   StoragesKeepTheirCapacity,
   RetryingResideOnce,
+  StoragesLoseNoUnit,
+  RestingStatesAreWoken,
 };
 ghost use Rattle.gw_step.specs.Moments.{EntriesArePaid, EntriesAreWithinWeight, StepsAreWithinWeight, MomentsPass};
 
@@ -97,6 +99,14 @@ pub fn no_job_meets_an_error_stop()
 pub fn waiters_are_not_forgotten()
     ensures once { RetryingResideOnce }
     ensures ends { WaitersAloneEnd }
+{}
+
+/// In each state that a job of an accepted object reaches, the units that entered a storage are those that left it and those
+/// inside; and where nobody is active, the retry list was woken since the last entry of a block (ours: docs/machine.md).
+#[tactic(auto, using(crate::proofs::Moment::storages_lose_no_unit, crate::proofs::Moment::resting_states_are_woken))]
+pub fn reached_states_keep_their_bounds()
+    ensures units { StoragesLoseNoUnit }
+    ensures woken { RestingStatesAreWoken }
 {}
 
 /// The moment bound: between two states of one clock moment that a job of an accepted object reaches, its block entries, by

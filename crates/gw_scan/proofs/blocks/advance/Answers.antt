@@ -14,10 +14,10 @@ pub returns-in-Err-clause-made : goal.returns-in-Err-clause-made
 returns-in-Err-clause-made c =
     (act-advance c.args.verified.now c.args.tx.number c.args.transaction (state_of c.args.machine.now) c.args.time (drawn (Err c.in-Err.end) c.drawn_moment.new.streams) (ended_is c), refl)
 
-moment_is : (c : goal.In_ok-pass_to) → drawn_moment c.args.verified.now (environment_of c.args.tx.number c.args.transaction (state_of c.args.machine.now)) c.args.time c.args.machine.now.clock c.args.machine.now.streams ≡ Gives (c.in-Ok.moment, c.drawn_moment.new.streams)
+moment_is : (c : goal.In_ok-pass_until) → drawn_moment c.args.verified.now (environment_of c.args.tx.number c.args.transaction (state_of c.args.machine.now)) c.args.time c.args.machine.now.clock c.args.machine.now.streams ≡ Gives (c.in-Ok.moment, c.drawn_moment.new.streams)
 moment_is c = subst (λ (x : Subject). drawn_moment c.args.verified.now (environment_for x (state_of c.args.machine.now)) c.args.time c.args.machine.now.clock c.args.machine.now.streams ≡ Gives (c.in-Ok.moment, c.drawn_moment.new.streams)) c.active_subject-subject.ensures c.in-Ok.ensures
 
-made : (c : goal.In_ok-pass_to) → advanced c.args.verified.now c.args.tx.number c.args.transaction (state_of c.args.machine.now) (c.in-Ok.moment, c.drawn_moment.new.streams) ≡ Gives (state_of c.pass_to.new.machine)
+made : (c : goal.In_ok-pass_until) → advanced c.args.verified.now c.args.tx.number c.args.transaction (state_of c.args.machine.now) (c.in-Ok.moment, c.drawn_moment.new.streams) ≡ Gives (state_of c.pass_until.new.machine)
 made c = search rules
 
 pub returns-clause-made : goal.returns-clause-made

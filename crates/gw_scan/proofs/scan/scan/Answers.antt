@@ -1,5 +1,5 @@
-use Rattle.std.proofs.Common.{rules, ◌≡◌, Option, Some, None, refl, sym, subst}
-use Rattle.std.specs.Prelude.{IsSome, IsSomeAnd}
+use Rattle.std.proofs.Common.{rules, Bor, ◌≡◌, ◌∙◌, ap, Option, Some, None, refl, sym, subst}
+use Rattle.std.specs.Prelude.{IsSome, IsSomeAnd, option_copied}
 use Rattle.gw_blocks.specs.declared.parts.Block.{Block}
 use Rattle.gw_kinds.specs.Kinds.{block_at}
 use Rattle.gw_transactions.specs.Transactions.{attributes_at, Holds}
@@ -12,21 +12,27 @@ is_there : (P : Block → Type 0) (o : Option Block) → IsSomeAnd o P → IsSom
 is_there P None h = absurd h
 is_there P (Some block) h = refl
 
+is_lent : (o : Option (Bor Block)) → IsSome (option_copied o) → IsSome o
+is_lent None h = h
+is_lent (Some block) h = refl
+
 pub unwrap-block-requires : goal.unwrap-block-requires
 unwrap-block-requires c =
     let n = c.in-Some.tx.number in
     let t = c.get-transaction.result.now in
     let active : (state_of c.args.machine.now).lists.active ≡ Some n = search rules in
     let found : attributes_at n (state_of c.args.machine.now).transactions ≡ Some t = search rules in
-    let is : c.block_of.result ≡ block_at c.args.verified.now.blocks t.next = search rules in
-    subst IsSome (sym is) (is_there _ (block_at c.args.verified.now.blocks t.next) (c.requires.served n t active found))
+    let is : option_copied c.block_of.result ≡ block_at c.args.verified.now.blocks t.next = search rules in
+    is_lent c.block_of.result (subst IsSome (sym is) (is_there _ (block_at c.args.verified.now.blocks t.next) (c.requires.served n t active found)))
 
 -- the next block of the active transaction is the one that is met
-there : (c : goal.After-act-arg-1) → block_at c.args.verified.now.blocks c.get-transaction.result.now.next ≡ Some c.unwrap-block.result
-there c = search rules
+there : (c : goal.After-act-arg-1) → block_at c.args.verified.now.blocks c.get-transaction.result.now.next ≡ Some c.unwrap-block.result.now
+there c =
+    let is : option_copied c.block_of.result ≡ block_at c.args.verified.now.blocks c.get-transaction.result.now.next = search rules in
+    sym is ∙ ap option_copied c.unwrap-block.ensures
 
 -- it is there with all that it asks for
-serves : (c : goal.After-act-arg-1) → Asks c.args.verified.now c.in-Some.tx.number (state_of c.args.machine.now) c.unwrap-block.result × Leads c.args.verified.now.blocks c.get-transaction.result.now.next c.unwrap-block.result
+serves : (c : goal.After-act-arg-1) → Asks c.args.verified.now c.in-Some.tx.number (state_of c.args.machine.now) c.unwrap-block.result.now × Leads c.args.verified.now.blocks c.get-transaction.result.now.next c.unwrap-block.result.now
 serves c =
     let n = c.in-Some.tx.number in
     let t = c.get-transaction.result.now in
@@ -45,7 +51,7 @@ act-requires-clause-active c =
       active = c.in-Some.is;
       held = held;
       found = c.get-transaction.ensures.value;
-      next = block_below c.args.verified.now.blocks c.get-transaction.result.now.next c.unwrap-block.result (there c);
+      next = block_below c.args.verified.now.blocks c.get-transaction.result.now.next c.unwrap-block.result.now (there c);
     }
 
 pub act-requires-clause-meet : goal.act-requires-clause-meet
@@ -54,7 +60,7 @@ act-requires-clause-meet c =
     let t = c.get-transaction.result.now in
     let active : (state_of c.args.machine.now).lists.active ≡ Some n = search rules in
     let found : attributes_at n (state_of c.args.machine.now).transactions ≡ Some t = search rules in
-    c.requires.may n t c.unwrap-block.result active found (there c)
+    c.requires.may n t c.unwrap-block.result.now active found (there c)
 
 pub act-requires-clause-asks : goal.act-requires-clause-asks
 act-requires-clause-asks c = (serves c).0

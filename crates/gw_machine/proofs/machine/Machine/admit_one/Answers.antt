@@ -1,7 +1,10 @@
-use Rattle.std.proofs.Common.{rules, ◌≡◌, ◌+◌}
+use Rattle.std.proofs.Common.{rules, ◌≡◌, ◌+◌, Some, arith}
 use Rattle.gw_num.specs.Table.{at}
 use Rattle.gw_machine.specs.View.{state_of}
-use Rattle.gw_step.specs.Blocks.{looked_at}
+use Rattle.gw_blocks.specs.declared.parts.Block.TheVariants as blocks
+use Rattle.gw_kinds.specs.Kinds.{block_at}
+use Rattle.gw_step.specs.Blocks.{asked, looked_at}
+use Rattle.gw_step.proofs.Follows.{asked-enter, block_below}
 use Rattle.gw_machine.proofs.Walks.{steady-looked_at}
 use Rattle.gw_machine.proofs.machine.Machine.admit_one.Goals as goal
 
@@ -11,3 +14,11 @@ state_is c = search rules
 pub returns-in-Some-clause-steady : goal.returns-in-Some-clause-steady
 returns-in-Some-clause-steady c =
     steady-looked_at c.args.blocks.now c.args.self.now c.args.e c.requires.there (c.args.self.now.steps + 1) c.requires.steady (at 0 c.args.self.now.waits.places c.args.e) c.args.tx c.requires.waiter c.enter_if_free.new.self (state_is c) c.enter_if_free.ensures.linked c.enter_if_free.ensures.frame.1
+
+pub enter_if_free-requires-clause-block : goal.enter_if_free-requires-clause-block
+enter_if_free-requires-clause-block c =
+    let bs = c.args.blocks.now in
+    let next = c.get-transaction.result.now.next in
+    let is : asked c.args.e (block_at bs next) ≡ Some c.in-Some.units = search rules in
+    let below = block_below bs next (blocks.Enter c.in-Some.units) (asked-enter c.args.e (block_at bs next) c.in-Some.units is).0 in
+    (omega (arith, below, c.requires.steady.within.whole.entries), omega (arith, below, c.requires.steady.fit.few))

@@ -11,8 +11,8 @@ use Rattle.gw_verify.proofs.AllPass.{kinds_pass}
 use Rattle.gw_machine.specs.View.{state_of}
 use Rattle.gw_machine.specs.Evaluating.{environment_for}
 use Rattle.gw_machine.proofs.Evaluating.{source_fits}
-use Rattle.gw_machine.proofs.machine.Machine.value.Goals as goal
-use Rattle.gw_machine.proofs.machine.Machine.value.Goals.{After-source_of-source}
+use Rattle.gw_machine.proofs.machine.Machine.value_by_source.Goals as goal
+use Rattle.gw_machine.proofs.machine.Machine.value_by_source.Goals.{After-source_of-source}
 
 parts_are : (c : After-source_of-source) → c.parts.result.now ≡ c.args.verified.now
 parts_are c = c.parts.ensures.value ∙ c.object.ensures.value
