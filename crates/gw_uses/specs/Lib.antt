@@ -1,0 +1,4 @@
+pub mod Mentions
+pub mod Locals
+pub mod Statements
+pub mod Sites

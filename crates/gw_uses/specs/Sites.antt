@@ -1,0 +1,32 @@
+-- What all statements of a text use, with their places.
+use Rattle.std.specs.Prelude.{ℕ, ◌+◌, List, [], ◌∷◌, ◌++◌, map}
+use Rattle.gw_text.specs.declared.model.Statement.{Statement}
+use Rattle.gw_uses.specs.declared.sites.Site.{Site}
+use Rattle.gw_uses.specs.Mentions.{Mention, mention}
+use Rattle.gw_uses.specs.Statements.{in_statement}
+
+-- what is used, and where
+pub record Mentioned : Type 0 where
+  -- the statement, from 0
+  pub statement : ℕ
+  -- the line on which that begins
+  pub line : ℕ
+  -- what it uses
+  pub what : Mention
+
+-- what is used at this place
+abbrev pub at_place : ℕ → ℕ → Mention → Mentioned
+at_place statement line what = record { statement = statement; line = line; what = what }
+
+-- what a site says
+abbrev pub said : Site → Mentioned
+said site = at_place site.statement site.line (mention site.used)
+
+-- what all these statements use, of which the first has this number
+abbrev pub mentioned_from : ℕ → List Statement → List Mentioned
+mentioned_from i [] = []
+mentioned_from i (s ∷ ss) = map (at_place i s.line) (in_statement s) ++ mentioned_from (i + 1) ss
+
+-- what the statements of a text use, in its order
+abbrev pub mentioned_in : List Statement → List Mentioned
+mentioned_in statements = mentioned_from 0 statements
