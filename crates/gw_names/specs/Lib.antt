@@ -1,1 +1,9 @@
+pub mod Codes
+pub mod Ledger
 pub mod Known
+pub mod Places
+pub mod Sights
+pub mod Sighting
+pub mod Judgement
+pub mod Naming
+pub mod Laws

@@ -1,39 +1,67 @@
-//! The names of entities, by kind.
+//! What is kept of entities, by kind and name.
 
-ghost use Rattle.std.specs.Prelude.{◌≡◌, string_bytes};
+ghost use Rattle.std.specs.Prelude.{◌≡◌, ℕ, List, ◌∷◌, [], None, OnOk, string_bytes};
+ghost use Rattle.gw_kinds.specs.declared.entities.EntityKind.{EntityKind};
 ghost use Rattle.gw_names.specs.Known as known;
+ghost use Rattle.gw_names.specs.Places as model;
 
+use crate::maps::set;
 use gw_kinds::EntityKind;
 use indexmap::IndexMap;
+use std::alloc::{AllocError, Global};
 
-/// The numbers of entities by their names, from 0, for each kind in the order in which they were seen first.
+/// Something of each entity by its name, for each kind.
 #[derive(Drop)]
-pub struct EntityNames {
+pub struct ByKind<T> {
     /// Facilities.
-    pub facilities: IndexMap<String, u16>,
+    pub facilities: IndexMap<String, T>,
     /// Storages.
-    pub storages: IndexMap<String, u16>,
+    pub storages: IndexMap<String, T>,
     /// Queues.
-    pub queues: IndexMap<String, u16>,
+    pub queues: IndexMap<String, T>,
     /// Logic switches.
-    pub switches: IndexMap<String, u16>,
+    pub switches: IndexMap<String, T>,
     /// Savevalues.
-    pub savevalues: IndexMap<String, u16>,
+    pub savevalues: IndexMap<String, T>,
     /// Tables.
-    pub tables: IndexMap<String, u16>,
+    pub tables: IndexMap<String, T>,
     /// User chains.
-    pub chains: IndexMap<String, u16>,
+    pub chains: IndexMap<String, T>,
     /// Variables.
-    pub variables: IndexMap<String, u16>,
+    pub variables: IndexMap<String, T>,
     /// Boolean variables.
-    pub boolean_variables: IndexMap<String, u16>,
+    pub boolean_variables: IndexMap<String, T>,
     /// Functions.
-    pub functions: IndexMap<String, u16>,
+    pub functions: IndexMap<String, T>,
 }
 
-impl EntityNames {
-    /// The number of the entity of a kind and a name, if it is known.
-    pub(crate) fn get(&self, kind: EntityKind, name: &String) -> Option<u16>
+/// The numbers of entities by their names, from 0, in the order in which they were seen first.
+pub type EntityNames = ByKind<u16>;
+
+/// The statements, from 0, that declare entities, by their names.
+pub type Declarations = ByKind<usize>;
+
+impl<T: Copy + Drop> ByKind<T> {
+    /// Nothing is kept yet.
+    pub(crate) fn new(alloc: Global) -> ByKind<T>
+        ensures { (kind : EntityKind) (name : List ℕ) → known.entity_of result kind name ≡ None }
+    {
+        ByKind {
+            facilities: IndexMap::new(alloc),
+            storages: IndexMap::new(alloc),
+            queues: IndexMap::new(alloc),
+            switches: IndexMap::new(alloc),
+            savevalues: IndexMap::new(alloc),
+            tables: IndexMap::new(alloc),
+            chains: IndexMap::new(alloc),
+            variables: IndexMap::new(alloc),
+            boolean_variables: IndexMap::new(alloc),
+            functions: IndexMap::new(alloc),
+        }
+    }
+
+    /// What is kept of the entity of a kind and a name, if it is known.
+    pub fn get(&self, kind: EntityKind, name: &String) -> Option<T>
         ensures { result ≡ known.entity_of self.now kind (string_bytes name.now) }
     {
         match kind {
@@ -48,6 +76,31 @@ impl EntityNames {
             EntityKind::BooleanVariable => self.boolean_variables.get(name.as_str()).copied(),
             EntityKind::Function => self.functions.get(name.as_str()).copied(),
             EntityKind::StorageOrQueue => None,
+        }
+    }
+
+    /// From now on this is kept of the entity of a kind and a name.
+    pub(crate) fn set(
+        &mut self,
+        kind: EntityKind,
+        name: &String,
+        value: T,
+    ) -> Result<(), AllocError>
+        ensures { OnOk result (model.AddsEntities ((known.key kind (string_bytes name.now), value) ∷ [])
+            (known.entity_of self.old) (known.entity_of self.new)) }
+    {
+        match kind {
+            EntityKind::Facility => set(&mut self.facilities, name, value),
+            EntityKind::Storage => set(&mut self.storages, name, value),
+            EntityKind::Queue => set(&mut self.queues, name, value),
+            EntityKind::Switch => set(&mut self.switches, name, value),
+            EntityKind::Savevalue => set(&mut self.savevalues, name, value),
+            EntityKind::Table => set(&mut self.tables, name, value),
+            EntityKind::Chain => set(&mut self.chains, name, value),
+            EntityKind::Variable => set(&mut self.variables, name, value),
+            EntityKind::BooleanVariable => set(&mut self.boolean_variables, name, value),
+            EntityKind::Function => set(&mut self.functions, name, value),
+            EntityKind::StorageOrQueue => Ok(()),
         }
     }
 }

@@ -1,8 +1,26 @@
 //! The names of a model text, and the numbers that they have in the object which it becomes.
 #![tactic(auto)]
 
+pub mod codes;
+mod declarations;
 mod entities;
+mod equs;
+mod judgement;
+mod known;
+mod labels;
+pub mod laws;
+mod ledger;
+mod maps;
 mod names;
+mod parameters;
+mod sights;
 
-pub use entities::EntityNames;
+pub use entities::{ByKind, Declarations, EntityNames};
+pub use gw_uses::{Use, put_uses, put_uses_of_operand, put_uses_of_procedure};
+pub use judgement::check_uses;
+pub use known::{Known, known_names};
+pub use labels::is_block;
+pub use ledger::{Ledger, Noted};
+pub use maps::set;
 pub use names::Names;
+pub use sights::Sighted;

@@ -90,14 +90,19 @@ fn makes(alloc: Global, names: &Names, row: &Row) -> Result<bool, Fail> {
     Ok(view_of(kind.as_ref()) == *due)
 }
 
+/// The place, from 0, of the first row that makes another entity by these names.
+fn wrong_entity_by(alloc: Global, names: &Names, rows: &[Row]) -> Result<Option<usize>, Fail> {
+    let mut holds = Vec::new(alloc);
+    for row in rows {
+        holds.push(makes(alloc, names, row)?)?;
+    }
+    Ok(first_wrong(&holds))
+}
+
 /// The place, from 0, of the first row that makes another entity.
 fn wrong_entity(alloc: Global, rows: &[Row]) -> Result<Option<usize>, Fail> {
     let names = names(alloc)?;
-    let mut holds = Vec::new(alloc);
-    for row in rows {
-        holds.push(makes(alloc, &names, row)?)?;
-    }
-    Ok(first_wrong(&holds))
+    wrong_entity_by(alloc, &names, rows)
 }
 
 #[test]

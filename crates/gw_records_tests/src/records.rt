@@ -185,14 +185,19 @@ fn becomes(alloc: Global, names: &Names, row: &Row) -> Result<bool, Fail> {
     Ok(record_of(names, &procedures, first(&model)?) == *record)
 }
 
+/// The place, from 0, of the first row that becomes another record by these names.
+fn wrong_record_by(alloc: Global, names: &Names, rows: &[Row]) -> Result<Option<usize>, Fail> {
+    let mut holds = Vec::new(alloc);
+    for row in rows {
+        holds.push(becomes(alloc, names, row)?)?;
+    }
+    Ok(first_wrong(&holds))
+}
+
 /// The place, from 0, of the first row that becomes another record.
 fn wrong_record(alloc: Global, rows: &[Row]) -> Result<Option<usize>, Fail> {
     let names = names(alloc)?;
-    let mut holds = Vec::new(alloc);
-    for row in rows {
-        holds.push(becomes(alloc, &names, row)?)?;
-    }
-    Ok(first_wrong(&holds))
+    wrong_record_by(alloc, &names, rows)
 }
 
 #[test]

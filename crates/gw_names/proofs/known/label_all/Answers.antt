@@ -1,0 +1,18 @@
+use Rattle.gw_names.proofs.known.label_all.Goals as goal
+
+pub returns : goal.returns
+returns c = record {
+  uses = record {
+    entity = c.requires.entity;
+    sighted = c.requires.sighted;
+    declared = c.requires.declared;
+    declaration = c.requires.declaration;
+    parameter = c.requires.parameter;
+  };
+  places = record {
+    block = c.in_ok-known.ensures;
+    procedure = c.in_ok-known-2.ensures;
+    equ = c.in_ok-known-3.ensures;
+    equ_number = c.in_ok-known-4.ensures;
+  };
+}

@@ -1,0 +1,109 @@
+//! Which statement declares a name.
+
+ghost use Rattle.std.specs.Prelude.{◌≡◌, OnOk, IfOk, ℕ, List};
+ghost use Rattle.gw_names.specs.Known.{found_in, entity_of};
+ghost use Rattle.gw_names.specs.Places as model;
+ghost use Rattle.gw_names.specs.Places.{Adds, AddsEntities, named};
+
+use crate::entities::Declarations;
+use crate::maps::{set, set_label};
+use gw_text::{Body, Statement, Word};
+use gw_uses::declared_kind;
+use indexmap::IndexMap;
+use std::alloc::{AllocError, Global};
+
+/// The entity that a statement declares, if it does, has this place from now on.
+fn declare(
+    declarations: &mut Declarations,
+    place: usize,
+    statement: &Statement,
+) -> Result<(), AllocError>
+    ensures { OnOk result (AddsEntities (named (model.declared_entity statement.now) place)
+        (entity_of declarations.old) (entity_of declarations.new)) }
+{
+    match (declared_kind(statement.word), &statement.label) {
+        (Some(kind), Some(label)) => declarations.set(kind, label, place),
+        _ => Ok(()),
+    }
+}
+
+/// The entities that statements declare have their places from now on: each that of its last one.
+pub(crate) fn declare_all(
+    declarations: &mut Declarations,
+    statements: &[Statement],
+) -> Result<(), AllocError>
+    ensures { OnOk result (AddsEntities (model.places_from model.declared_entity 0 statements.now)
+        (entity_of declarations.old) (entity_of declarations.new)) }
+{
+    for i in 0..statements.len() {
+        declare(declarations, i, &statements[i])?;
+    }
+    Ok(())
+}
+
+/// Whether a word is EQU.
+#[tactic(auto, unfolding(crate::specs::Places::is_equ))]
+pub(crate) fn is_equ(word: Word) -> bool
+    ensures { result ≡ model.is_equ word }
+{
+    matches!(word, Word::Equ)
+}
+
+/// The EQU that a statement is, if it is one, has this place from now on.
+fn set_equ(
+    equs: &mut IndexMap<String, usize>,
+    place: usize,
+    statement: &Statement,
+) -> Result<(), AllocError>
+    ensures { OnOk result (Adds (named (model.declared_equ statement.now) place) (found_in equs.old) (found_in equs.new)) }
+{
+    if is_equ(statement.word) {
+        set_label(equs, &statement.label, place)
+    } else {
+        Ok(())
+    }
+}
+
+/// The places of the EQUs: of each name the last one.
+pub(crate) fn equs_in(
+    alloc: Global,
+    statements: &[Statement],
+) -> Result<IndexMap<String, usize>, AllocError>
+    ensures { IfOk result (λ equs. (name : List ℕ) → found_in equs name ≡ model.equ_of statements.now name) }
+{
+    let mut equs = IndexMap::new(alloc);
+    for i in 0..statements.len() {
+        set_equ(&mut equs, i, &statements[i])?;
+    }
+    Ok(equs)
+}
+
+/// The PROCEDURE that a statement has, if it has one, has this place from now on.
+fn set_procedure(
+    procedures: &mut IndexMap<String, usize>,
+    place: usize,
+    statement: &Statement,
+) -> Result<(), AllocError>
+    ensures { OnOk result (Adds (named (model.declared_procedure statement.now) place)
+        (found_in procedures.old) (found_in procedures.new)) }
+{
+    match &statement.body {
+        Body::Procedure(procedure) => set(procedures, &procedure.name, place),
+        Body::Nothing | Body::Points(_) => Ok(()),
+    }
+}
+
+/// The places of the PROCEDUREs: of each name the last one.
+pub(crate) fn procedures_in(
+    alloc: Global,
+    statements: &[Statement],
+) -> Result<IndexMap<String, usize>, AllocError>
+    ensures { IfOk result (λ procedures. (name : List ℕ)
+        → found_in procedures name ≡ model.procedure_of statements.now name) }
+{
+    let mut procedures = IndexMap::new(alloc);
+    for i in 0..statements.len() {
+        set_procedure(&mut procedures, i, &statements[i])?;
+    }
+    Ok(procedures)
+}

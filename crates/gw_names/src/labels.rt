@@ -1,0 +1,73 @@
+//! The numbers of blocks.
+
+ghost use Rattle.std.specs.Prelude.{◌≡◌, OnOk, IfOk, ℕ, List};
+ghost use Rattle.gw_names.specs.Known.{found_in};
+ghost use Rattle.gw_names.specs.Places as model;
+ghost use Rattle.gw_names.specs.Places.{Adds};
+
+use crate::maps::set_label;
+use gw_text::{Statement, Word};
+use indexmap::IndexMap;
+use std::alloc::{AllocError, Global};
+
+/// Whether a statement of this word is a block.
+#[tactic(auto, unfolding(crate::specs::Places::is_block))]
+pub fn is_block(word: Word) -> bool
+    ensures { result ≡ model.is_block word }
+{
+    match word {
+        Word::Storage
+        | Word::Variable
+        | Word::BVariable
+        | Word::Equ
+        | Word::Function
+        | Word::Table
+        | Word::Initial
+        | Word::Rmult
+        | Word::Start
+        | Word::Simulate
+        | Word::Procedure => false,
+        _ => true,
+    }
+}
+
+/// The number behind this one; the last one that 16 bits hold stays.
+#[tactic(auto, unfolding(crate::specs::Places::next_block))]
+fn next_block(number: u16) -> u16
+    ensures { result ≡ model.next_block number }
+{
+    if number < 65535 { number + 1 } else { 65535 }
+}
+
+/// Counts a statement, if it is a block, and gives its number to its label.
+fn count(
+    blocks: &mut IndexMap<String, u16>,
+    number: u16,
+    statement: &Statement,
+) -> Result<u16, AllocError>
+    ensures counted { IfOk result (λ after. after ≡ model.counted number statement.now) }
+    ensures added { OnOk result (Adds (model.block_label number statement.now) (found_in blocks.old) (found_in blocks.new)) }
+{
+    if is_block(statement.word) {
+        let number = next_block(number);
+        set_label(blocks, &statement.label, number)?;
+        Ok(number)
+    } else {
+        Ok(number)
+    }
+}
+
+/// The numbers of blocks by their labels, from 1: of each label the last one's.
+pub(crate) fn blocks_in(
+    alloc: Global,
+    statements: &[Statement],
+) -> Result<IndexMap<String, u16>, AllocError>
+    ensures { IfOk result (λ blocks. (label : List ℕ) → found_in blocks label ≡ model.block_of statements.now label) }
+{
+    let mut blocks = IndexMap::new(alloc);
+    let mut number = 0;
+    for i in 0..statements.len() {
+        number = count(&mut blocks, number, &statements[i])?;
+    }
+    Ok(blocks)
+}

@@ -1,0 +1,175 @@
+//! The numbers of parameters that have names.
+
+ghost use Rattle.std.specs.Prelude.{◌≡◌, ◌<◌, ◌++◌, ◌∷◌, [], None, Some, length, map, slice_get, OnOk, IfOk, string_bytes};
+ghost use Rattle.std.specs.Str.{bytes_eq};
+ghost use Rattle.gw_uses.specs.Mentions.{mention};
+ghost use Rattle.gw_uses.specs.Sites.{said};
+ghost use Rattle.gw_names.specs.Known.{found_in};
+ghost use Rattle.gw_names.specs.Ledger.{with_notes};
+ghost use Rattle.gw_names.specs.Sights as model;
+ghost use Rattle.gw_names.specs.Sighting.{HaveNumbers, names_of};
+
+use crate::codes;
+use crate::ledger::Ledger;
+use crate::maps::found;
+use gw_uses::{Site, Use};
+use indexmap::IndexMap;
+use std::alloc::{AllocError, Global};
+
+/// The highest number of a parameter.
+const MOST_PARAMETERS: u8 = 64;
+
+/// Whether a use is of the parameter of this number.
+fn uses_number(used: Use<'_>, number: u8) -> bool
+    ensures { result ≡ model.uses_number number (mention used.entry) }
+{
+    match used {
+        Use::ParameterNumber(used) => used == number,
+        _ => false,
+    }
+}
+
+/// Whether a text uses the parameter of this number.
+fn is_used(sites: &[Site<'_>], number: u8) -> bool
+    ensures { result ≡ model.is_used (map said sites.now) number }
+{
+    for i in 0..sites.len() {
+        let site = sites[i];
+        if uses_number(site.used, number) {
+            return true;
+        }
+    }
+    false
+}
+
+/// One more number, if it is free.
+fn put_free(free: &mut Vec<u8>, is_used: bool, number: u8) -> Result<(), AllocError>
+    ensures { OnOk result (free.new.items ≡ free.old.items ++ model.unless_used is_used number) }
+{
+    if is_used {
+        return Ok(());
+    }
+    match free.push(number) {
+        Ok(()) => Ok(()),
+        Err(_) => Err(AllocError),
+    }
+}
+
+/// The numbers from 1 to 64 that a text doesn't use, ascending.
+fn free_numbers(alloc: Global, sites: &[Site<'_>]) -> Result<Vec<u8>, AllocError>
+    ensures { IfOk result (λ free. free.items ≡ model.free_numbers (map said sites.now)) }
+{
+    let mut free = Vec::new(alloc);
+    for below in 0..MOST_PARAMETERS {
+        let number = below + 1;
+        put_free(&mut free, is_used(sites, number), number)?;
+    }
+    Ok(free)
+}
+
+/// One more parameter, which wasn't seen yet.
+fn add(
+    parameters: &mut IndexMap<String, u8>,
+    free: &[u8],
+    name: &String,
+    number: u8,
+) -> Result<(), AllocError>
+    requires new { found_in parameters.old (string_bytes name.now) ≡ None }
+    requires number { slice_get free.now (length (names_of parameters.old)) ≡ Some number }
+    requires given { HaveNumbers free.now parameters.old }
+    ensures given { OnOk result (HaveNumbers free.now parameters.new) }
+    ensures names { OnOk result (names_of parameters.new ≡ names_of parameters.old ++ string_bytes name.now ∷ []) }
+{
+    let _ = free;
+    let name = name.clone()?;
+    parameters.insert(name, number)?;
+    Ok(())
+}
+
+/// A parameter is seen: where it is a new one, it gets the next of the free numbers. 82 Limit where none is left.
+fn see(
+    parameters: &mut IndexMap<String, u8>,
+    ledger: &mut Ledger,
+    free: &[u8],
+    line: u32,
+    name: &String,
+) -> Result<(), AllocError>
+    requires given { HaveNumbers free.now parameters.old }
+    ensures given { OnOk result (HaveNumbers free.now parameters.new) }
+    ensures names { OnOk result (names_of parameters.new
+        ≡ model.with_sight model.parameter_in bytes_eq (length free.now) (names_of parameters.old) (string_bytes name.now)) }
+    ensures ledger { OnOk result (ledger.new.least ≡ with_notes ledger.old.least
+        (model.unplaced model.parameter_in bytes_eq (length free.now) (names_of parameters.old) line (string_bytes name.now))) }
+{
+    if found(parameters, name).is_some() {
+        Ok(())
+    } else if parameters.len() < free.len() {
+        let number = free[parameters.len()];
+        add(parameters, free, name, number)
+    } else {
+        ledger.note(line, codes::LIMIT);
+        Ok(())
+    }
+}
+
+/// What is used is seen, if it is a named parameter.
+fn see_site(
+    parameters: &mut IndexMap<String, u8>,
+    ledger: &mut Ledger,
+    free: &[u8],
+    line: u32,
+    used: Use<'_>,
+) -> Result<(), AllocError>
+    requires given { HaveNumbers free.now parameters.old }
+    ensures given { OnOk result (HaveNumbers free.now parameters.new) }
+    ensures names { OnOk result (names_of parameters.new
+        ≡ model.with_pick model.parameter_in bytes_eq (length free.now) (names_of parameters.old) (model.parameter_in (mention used.entry))) }
+    ensures ledger { OnOk result (ledger.new.least ≡ with_notes ledger.old.least
+        (model.unplaced_pick model.parameter_in bytes_eq (length free.now) (names_of parameters.old) line (model.parameter_in (mention used.entry)))) }
+{
+    match used {
+        Use::Parameter(name) => see(parameters, ledger, free, line, name),
+        _ => Ok(()),
+    }
+}
+
+/// All parameters that a text names are seen, where these numbers are free.
+fn see_sites(
+    parameters: &mut IndexMap<String, u8>,
+    ledger: &mut Ledger,
+    free: &[u8],
+    sites: &[Site<'_>],
+) -> Result<(), AllocError>
+    requires given { HaveNumbers free.now parameters.old }
+    ensures given { OnOk result (HaveNumbers free.now parameters.new) }
+    ensures names { OnOk result (names_of parameters.new
+        ≡ model.seen_after model.parameter_in bytes_eq (length free.now) (names_of parameters.old) (map said sites.now)) }
+    ensures ledger { OnOk result (ledger.new.least ≡ with_notes ledger.old.least
+        (model.limits_after model.parameter_in bytes_eq (length free.now) (names_of parameters.old) (map said sites.now))) }
+{
+    for i in 0..sites.len() {
+        let site = sites[i];
+        see_site(parameters, ledger, free, site.line, site.used)?;
+    }
+    Ok(())
+}
+
+/// The numbers of a text's parameters by name: in order of first sight the lowest ones that the text doesn't use. 82 Limit at
+/// the line of the first sight of one for which none is left.
+pub(crate) fn parameters_in(
+    alloc: Global,
+    sites: &[Site<'_>],
+    ledger: &mut Ledger,
+) -> Result<IndexMap<String, u8>, AllocError>
+    ensures given { IfOk result (HaveNumbers (model.free_numbers (map said sites.now))) }
+    ensures names { IfOk result (λ parameters. names_of parameters ≡ model.seen_after model.parameter_in bytes_eq
+        (length (model.free_numbers (map said sites.now))) [] (map said sites.now)) }
+    ensures ledger { OnOk result (ledger.new.least ≡ with_notes ledger.old.least
+        (model.limits_after model.parameter_in bytes_eq
+        (length (model.free_numbers (map said sites.now))) [] (map said sites.now))) }
+{
+    let free = free_numbers(alloc, sites)?;
+    let mut parameters = IndexMap::new(alloc);
+    see_sites(&mut parameters, ledger, free.as_slice(), sites)?;
+    Ok(parameters)
+}
