@@ -1,0 +1,7 @@
+use Rattle.std.proofs.Common.{◌≡◌, ◌∙◌, ap}
+use Rattle.gw_records.specs.Records.{record_of}
+use Rattle.gw_pieces.specs.Numbers.{numbers_of}
+use Rattle.gw_pieces.proofs.blocks.record_at.Goals as goal
+
+pub returns : goal.returns
+returns c = c.record_of.ensures ∙ ap (λ numbers. record_of (numbers_of c.args.names.now) numbers c.args.statement.now) c.numbers_for-first.ensures

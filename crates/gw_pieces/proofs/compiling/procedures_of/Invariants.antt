@@ -1,0 +1,11 @@
+use Rattle.std.proofs.Common.{◌≡◌, take, None}
+use Rattle.gw_pieces.specs.Numbers.{numbers_of}
+use Rattle.gw_pieces.specs.Sources.{AreCompiled}
+use Rattle.gw_pieces.proofs.compiling.procedures_of.Given as goal
+
+-- where nothing is noted, the procedures so far are those of the origins so far
+abbrev pub invariant-loop-place : goal.invariant-loop-place
+invariant-loop-place l = record {
+  clear : l.ledger.least ≡ None → l.fn.ledger.least ≡ None;
+  compiled : l.ledger.least ≡ None → AreCompiled (numbers_of l.names) l.text.statements.items (take l.place l.order) l.procedures.items;
+}

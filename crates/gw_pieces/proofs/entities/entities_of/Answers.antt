@@ -1,0 +1,25 @@
+use Rattle.std.proofs.Common.{◌≡◌, length, refl, arith}
+use Rattle.std.proofs.lemmas.Option.{slice_get_read}
+use Rattle.gw_pieces.specs.Numbers.{numbers_of}
+use Rattle.gw_pieces.proofs.Sighting.{one_more_sighted, all_sighted}
+use Rattle.gw_pieces.proofs.entities.entities_of.Goals as goal
+
+pub loop-number-preserved : goal.loop-number-preserved
+loop-number-preserved c =
+    let h = c.loop-number.invariant in
+    let grown = c.in_ok-put_entity.ensures in
+    let sighted = c.args.sighted.now in
+    let i = c.loop-number.number in
+    let s = c.index-sighted-number.result in
+    let at = slice_get_read sighted (length sighted) i s refl (omega (arith, c.loop-number-test.true, c.loop-number.auto.number-end)) c.index-sighted-number.is in
+    record {
+      savevalues = h.savevalues;
+      switches = h.switches;
+      clear = λ none. h.clear (grown none).0;
+      entities = λ none. one_more_sighted (numbers_of c.args.names.now) c.args.order.now c.args.text.now.statements.items sighted i s at c.loop-number.entities.items c.put_entity.new.entities.items (grown none).1 (h.entities (grown none).0);
+    }
+
+pub returns : goal.returns
+returns c none =
+    let h = c.loop-number.invariant in
+    (h.clear none, all_sighted (numbers_of c.args.names.now) c.args.order.now c.args.text.now.statements.items c.args.sighted.now c.loop-number.number (omega (arith, c.loop-number-test.false)) c.loop-number.entities.items (h.entities none))

@@ -1,0 +1,126 @@
+-- The entities of a model text.
+use Rattle.std.specs.Prelude.{◌≡◌, ℕ, ℤ, pos, List, [], ◌∷◌, ◌++◌, Option, Some, None, Bool, true, false, not, slice_get, string_bytes, unwrap_or}
+use Rattle.std.specs.List.{flat_map}
+use Rattle.gw_num.specs.Arithmetic.{is_zero}
+use Rattle.gw_blocks.specs.declared.parts.Numbered.{Numbered}
+use Rattle.gw_blocks.specs.declared.parts.Operand.{Operand}
+use Rattle.gw_kinds.specs.declared.entities.EntityKind.{EntityKind}
+use Rattle.gw_kinds.specs.declared.entities.EntityKind.TheVariants as needed
+use Rattle.gw_object.specs.declared.parts.Entity.{Entity}
+use Rattle.gw_object.specs.declared.parts.Kind.{Kind}
+use Rattle.gw_object.specs.declared.parts.Kind.TheVariants as kinds
+use Rattle.gw_text_expressions.specs.declared.model.EntityValue.{EntityValue}
+use Rattle.gw_text_expressions.specs.declared.model.EntityValue.TheVariants as values
+use Rattle.gw_text_expressions.specs.declared.model.Sna.{Sna}
+use Rattle.gw_text_expressions.specs.declared.model.Sna.TheVariants.{OfEntity}
+use Rattle.gw_text_statements.specs.declared.model.Operand.{Operand as Text}
+use Rattle.gw_text_statements.specs.declared.model.Operand.TheVariants as texts
+use Rattle.gw_text_tokens.specs.declared.words.Word.{Word}
+use Rattle.gw_text_tokens.specs.declared.words.Word.TheVariants as words
+use Rattle.gw_text.specs.declared.model.Statement.{Statement}
+use Rattle.gw_compile.specs.Numbers.{Numbers}
+use Rattle.gw_records.specs.Entities.{entity_kind}
+use Rattle.gw_names.specs.Known.{Key}
+use Rattle.gw_names.specs.declared.sights.Sighted.{Sighted}
+use Rattle.gw_names.specs.Places.{last_of, declaration_of}
+use Rattle.gw_pieces.specs.declared.origins.Origin.{Origin}
+use Rattle.gw_pieces.specs.Origins.{numbers_for}
+use Rattle.gw_pieces.specs.Numbers.{with_source}
+use Rattle.gw_pieces.specs.Settings.{number_in}
+
+-- INITIAL
+
+-- the savevalue of which an attribute is
+abbrev pub savevalue_of : Sna → Option (List ℕ)
+savevalue_of (OfEntity values.Savevalue name) = Some (string_bytes name)
+savevalue_of sna = None
+
+-- and the switch
+abbrev pub switch_of : Sna → Option (List ℕ)
+switch_of (OfEntity values.Switch name) = Some (string_bytes name)
+switch_of sna = None
+
+-- the savevalue that an operand of INITIAL is
+abbrev pub savevalue_in : Option Text → Option (List ℕ)
+savevalue_in (Some (texts.Sna sna)) = savevalue_of sna
+savevalue_in operand = None
+
+-- and the switch
+abbrev pub switch_in : Option Text → Option (List ℕ)
+switch_in (Some (texts.Sna sna)) = switch_of sna
+switch_in operand = None
+
+-- what an INITIAL sets, by the name in its first operand
+abbrev pub set_by : Word → Option (List ℕ) → Statement → List (List ℕ × ℤ)
+set_by words.Initial (Some name) s = (name, number_in (slice_get s.operands.items 1)) ∷ []
+set_by word name s = []
+
+-- the initial value that a statement gives to a savevalue
+abbrev pub savevalue_by : Statement → List (List ℕ × ℤ)
+savevalue_by s = set_by s.word (savevalue_in (slice_get s.operands.items 0)) s
+
+-- and to a switch
+abbrev pub switch_by : Statement → List (List ℕ × ℤ)
+switch_by s = set_by s.word (switch_in (slice_get s.operands.items 0)) s
+
+-- the initial values that statements give to savevalues
+abbrev pub savevalues_in : List Statement → List (List ℕ × ℤ)
+savevalues_in ss = flat_map savevalue_by ss
+
+-- and to switches
+abbrev pub switches_in : List Statement → List (List ℕ × ℤ)
+switches_in ss = flat_map switch_by ss
+
+-- the initial value by the last INITIAL, or 0
+abbrev pub initial_of : List (List ℕ × ℤ) → List ℕ → ℤ
+initial_of set name = unwrap_or (last_of set name) (pos 0)
+
+-- KINDS
+
+-- what an entity is that needs no declaration
+abbrev pub undeclared_kind : List Statement → EntityKind → List ℕ → Kind
+undeclared_kind ss needed.Queue name = kinds.Queue
+undeclared_kind ss needed.Switch name = kinds.Switch (not (is_zero (initial_of (switches_in ss) name)))
+undeclared_kind ss needed.Savevalue name = kinds.Savevalue (initial_of (savevalues_in ss) name)
+undeclared_kind ss needed.Chain name = kinds.Chain
+undeclared_kind ss kind name = kinds.Facility
+
+-- one more entity, of which this is so, stands behind others
+abbrev pub GrowsBy : (Entity → Type 0) → List Entity → List Entity → Type 0
+GrowsBy P old new = (e : Entity) × P e × (new ≡ old ++ e ∷ [])
+
+module _ (n : Numbers) (order : List Origin) (ss : List Statement) where
+  -- what a declaration makes of an entity
+  abbrev pub IsDeclaredKind : ℕ → Kind → Type 0
+  IsDeclaredKind i kind =
+      (s : Statement) × (slice_get ss i ≡ Some s)
+      × ((source : Numbered → Operand) × (entity_kind (with_source n source) (numbers_for (with_source n source) order s i) s ≡ Some kind))
+
+  -- what an entity is: by its declaration, if there is one
+  abbrev pub IsKindBy : Option ℕ → EntityKind → List ℕ → Kind → Type 0
+  IsKindBy None needed name kind = kind ≡ undeclared_kind ss needed name
+  IsKindBy (Some i) needed name kind = IsDeclaredKind i kind
+
+  -- an entity of an object is one that was sighted in the text
+  pub record IsSightedAs (sighted : Sighted) (e : Entity) : Type 0 where
+    pub name : e.name ≡ string_bytes sighted.name
+    pub kind : IsKindBy sighted.declaration sighted.kind (string_bytes sighted.name) e.kind
+
+  -- so is each of these, one by one
+  abbrev pub AreSightedAs : List Sighted → List Entity → Type 0
+  AreSightedAs [] [] = Unit {0}
+  AreSightedAs (s ∷ sighted) (e ∷ es) = IsSightedAs s e × AreSightedAs sighted es
+  AreSightedAs [] (e ∷ es) = ⊥
+  AreSightedAs (s ∷ sighted) [] = ⊥
+
+  -- an entity of an object is the one of a kind and a name of the text
+  pub record IsEntityOf (entity : Key) (e : Entity) : Type 0 where
+    pub name : e.name ≡ entity.name
+    pub kind : IsKindBy (declaration_of ss entity) entity.kind entity.name e.kind
+
+  -- the entities of an object are those of a text, one by one
+  abbrev pub AreEntitiesOf : List Key → List Entity → Type 0
+  AreEntitiesOf [] [] = Unit {0}
+  AreEntitiesOf (k ∷ ks) (e ∷ es) = IsEntityOf k e × AreEntitiesOf ks es
+  AreEntitiesOf [] (e ∷ es) = ⊥
+  AreEntitiesOf (k ∷ ks) [] = ⊥

@@ -1,0 +1,10 @@
+pub mod Numbers
+pub mod Origins
+pub mod Sources
+pub mod Blocks
+pub mod Clear
+pub mod Naming
+pub mod Settings
+pub mod Entities
+pub mod Pieces
+pub mod Making

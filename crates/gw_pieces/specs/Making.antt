@@ -1,0 +1,56 @@
+-- What is made of a model text, before it is an object.
+use Rattle.std.specs.Prelude.{◌≡◌, ◌⊎◌, List}
+use Rattle.gw_blocks.specs.declared.parts.Block.{Block}
+use Rattle.gw_code.specs.declared.parts.Procedure.{Procedure}
+use Rattle.gw_object.specs.declared.parts.Entity.{Entity}
+use Rattle.gw_object.specs.declared.fault.Fault.{Fault}
+use Rattle.gw_object.specs.Reading.{out_of_memory}
+use Rattle.gw_names.specs.declared.ledger.Noted.{Noted}
+use Rattle.gw_names.specs.Ledger.{as_fault}
+use Rattle.gw_text.specs.declared.model.Statement.{Statement}
+use Rattle.gw_compile.specs.Numbers.{Numbers}
+use Rattle.gw_blocks.specs.declared.parts.Numbered.{Numbered}
+use Rattle.gw_blocks.specs.declared.parts.Operand.{Operand}
+use Rattle.gw_names.specs.declared.known.Known.{Known}
+use Rattle.gw_names.specs.declared.names.Names.{Names}
+use Rattle.gw_names.specs.declared.sights.Sighted.{Sighted}
+use Rattle.gw_pieces.specs.declared.naming.Meanings.{Meanings}
+use Rattle.gw_pieces.specs.Numbers.{with_source}
+use Rattle.gw_pieces.specs.declared.origins.Origin.{Origin}
+use Rattle.gw_names.specs.Sights.{entities_of}
+use Rattle.gw_pieces.specs.Entities.{AreSightedAs, AreEntitiesOf}
+use Rattle.gw_pieces.specs.Pieces.{NumbersText, HasCode, IsNamed}
+
+-- entities, procedures and blocks are those that statements become, where these entities were sighted
+pub record HasAll (n : Numbers) (order : List Origin) (ss : List Statement) (sighted : List Sighted) (entities : List Entity) (procedures : List Procedure) (blocks : List Block) : Type 0 where
+  pub sights : AreSightedAs n order ss sighted entities
+  pub code : HasCode n order ss procedures blocks
+
+-- the same, whatever is evaluated for attributes in the end, as long as the names stay the same
+abbrev pub HasAllBy : Numbers → List Origin → List Statement → List Sighted → List Entity → List Procedure → List Block → Type 0
+HasAllBy n order ss sighted entities procedures blocks = (source : Numbered → Operand) × HasAll (with_source n source) order ss sighted entities procedures blocks
+
+-- names are those that are known, with these meanings
+pub record NamesOf (known : Known) (meanings : Meanings) (names : Names) : Type 0 where
+  pub entities : names.entities ≡ known.entities
+  pub blocks : names.blocks ≡ known.blocks
+  pub parameters : names.parameters ≡ known.parameters
+  pub procedures : names.procedures ≡ meanings.procedures
+  pub equs : names.equs ≡ meanings.equs
+
+-- entities, procedures and blocks are those that statements become
+pub record AreMade (ss : List Statement) (entities : List Entity) (procedures : List Procedure) (blocks : List Block) : Type 0 where
+  pub numbers : Numbers
+  pub order : List Origin
+  pub names : NumbersText numbers order ss
+  pub each_entity : AreEntitiesOf numbers order ss (entities_of ss) entities
+  pub code : HasCode numbers order ss procedures blocks
+
+-- and no name of the statements is refused
+pub record AreMadeNamed (ss : List Statement) (entities : List Entity) (procedures : List Procedure) (blocks : List Block) : Type 0 where
+  pub made : AreMade ss entities procedures blocks
+  pub named : IsNamed ss
+
+-- a text isn't made: some of it is refused at a line, or memory ran out
+abbrev pub IsNotMade : Fault → Type 0
+IsNotMade fault = ((note : Noted) × (fault ≡ as_fault note)) ⊎ (fault ≡ out_of_memory)

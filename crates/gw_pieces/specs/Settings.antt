@@ -1,0 +1,57 @@
+-- What START, RMULT and INITIAL set.
+use Rattle.std.specs.Prelude.{ℕ, ◌^◌, nat_lt, ℤ, pos, negsuc, List, [], ◌∷◌, Option, Some, None, Bool, ◌==◌, if◌then◌else◌, slice_get}
+use Rattle.gw_text_statements.specs.declared.model.Operand.{Operand}
+use Rattle.gw_text_statements.specs.declared.model.Operand.TheVariants as texts
+use Rattle.gw_text_tokens.specs.declared.words.Word.{Word}
+use Rattle.gw_text_tokens.specs.declared.words.Word.TheVariants as words
+use Rattle.gw_text.specs.declared.model.Statement.{Statement}
+
+-- the number that is written, or 0
+abbrev pub number_in : Option Operand → ℤ
+number_in (Some (texts.Whole z)) = z
+number_in (Some texts.Missing) = pos 0
+number_in (Some (texts.Name name)) = pos 0
+number_in (Some (texts.Fraction thousandths)) = pos 0
+number_in (Some (texts.Sna sna)) = pos 0
+number_in (Some (texts.Expression e)) = pos 0
+number_in None = pos 0
+
+-- a number without a sign, or 0
+abbrev pub natural : ℤ → ℕ
+natural (pos n) = n
+natural (negsuc n) = 0
+
+-- START
+
+-- the count of a statement, if it is a START, or else this
+abbrev pub count_by : Word → Statement → ℕ → ℕ
+count_by words.Start s otherwise = natural (number_in (slice_get s.operands.items 0))
+count_by word s otherwise = otherwise
+
+-- the termination count: that of the first START, or 1
+abbrev pub count_in : List Statement → ℕ
+count_in [] = 1
+count_in (s ∷ ss) = count_by s.word s (count_in ss)
+
+-- RMULT
+
+-- a number that 32 bits hold without a sign, or 0
+abbrev pub natural_32 : ℤ → ℕ
+natural_32 z = if nat_lt (natural z) (2 ^ 32) then natural z else 0
+
+-- the seed that a statement gives to a stream, from 0; 0 for none
+abbrev pub seed_by_word : Word → Statement → ℕ → ℕ
+seed_by_word words.Rmult s stream = natural_32 (number_in (slice_get s.operands.items stream))
+seed_by_word word s stream = 0
+
+abbrev pub seed_by : Statement → ℕ → ℕ
+seed_by s stream = seed_by_word s.word s stream
+
+-- the later of two seeds, where it is one
+abbrev pub later : ℕ → ℕ → ℕ
+later earlier seed = if seed == 0 then earlier else seed
+
+-- the seed of a stream by these statements, where it was this before
+abbrev pub seed_from : ℕ → List Statement → ℕ → ℕ
+seed_from seed [] stream = seed
+seed_from seed (s ∷ ss) stream = seed_from (later seed (seed_by s stream)) ss stream

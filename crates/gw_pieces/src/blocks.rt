@@ -1,0 +1,216 @@
+//! The blocks of a model text.
+
+ghost use Rattle.std.specs.Prelude.{◌≡◌, ◌++◌, ◌∷◌, [], OnOk, IfOk, IsSome, option_to_list, string_bytes};
+ghost use Rattle.gw_pieces.specs.Blocks as model;
+ghost use Rattle.gw_pieces.specs.Clear.{StaysClear};
+ghost use Rattle.gw_pieces.specs.Origins as numbers;
+ghost use Rattle.gw_pieces.specs.Numbers.{numbers_of};
+
+use crate::origins::{Origin, expression_at, place_of, whole_call};
+use gw_blocks::Block;
+use gw_compile::{Callee, Numbering};
+use gw_names::{Ledger, Names, codes, is_block};
+use gw_records::record_of;
+use gw_text::{Body, Expression, Model, Statement, Word};
+use std::alloc::{AllocError, Global};
+
+/// The numbers of the procedures that the operands of a statement become which are expressions: those stand at the first two
+/// positions.
+#[derive(Clone, Copy)]
+pub(crate) struct Numbers {
+    /// Of the first operand.
+    pub(crate) first: Option<u16>,
+    /// Of the second.
+    pub(crate) second: Option<u16>,
+}
+
+/// Whether a word is VARIABLE or BVARIABLE.
+fn is_variable(word: Word) -> bool
+    ensures { result ≡ numbers.is_variable word }
+{
+    matches!(word, Word::Variable | Word::BVariable)
+}
+
+/// A number that 16 bits hold.
+fn in_16_bits(place: usize) -> Option<u16>
+    ensures { result ≡ numbers.in_16_bits place }
+{
+    u16::try_from(place).ok()
+}
+
+/// The number of the procedure that comes from a position of a statement.
+fn own_number(order: &[Origin], statement: usize, operand: usize) -> Option<u16>
+    ensures { result ≡ numbers.own_number order.now statement operand }
+{
+    match place_of(order, Origin { statement, operand }) {
+        Some(place) => in_16_bits(place),
+        None => None,
+    }
+}
+
+/// The number of a procedure without arguments.
+fn if_without_arguments(callee: Callee) -> Option<u16>
+    ensures { result ≡ numbers.if_without_arguments callee }
+{
+    if callee.arguments == 0 {
+        Some(callee.number)
+    } else {
+        None
+    }
+}
+
+/// The number of the PROCEDURE that is called as a whole, without arguments.
+fn number_called(names: &Names, name: &String) -> Option<u16>
+    ensures { result ≡ numbers.number_called (numbers_of names.now) (string_bytes name.now) }
+{
+    match names.procedure(name) {
+        Some(callee) => if_without_arguments(callee),
+        None => None,
+    }
+}
+
+/// The number of the procedure of an expression: that of a PROCEDURE that it calls as a whole, or its own.
+fn number_by(
+    names: &Names,
+    own: Option<u16>,
+    is_variable: bool,
+    expression: &Expression,
+) -> Option<u16>
+    ensures { result ≡ numbers.number_by (numbers_of names.now) own is_variable (numbers.whole_call expression.now) }
+{
+    if is_variable {
+        return own;
+    }
+    match whole_call(expression) {
+        Some(name) => number_called(names, name),
+        None => own,
+    }
+}
+
+/// The number of the procedure that the operand at a position of a statement becomes.
+fn number_for(
+    names: &Names,
+    order: &[Origin],
+    statement: &Statement,
+    number: usize,
+    position: usize,
+) -> Option<u16>
+    ensures { result ≡ numbers.number_for (numbers_of names.now) order.now statement.now number position }
+{
+    let own = own_number(order, number, position);
+    let is_variable = is_variable(statement.word);
+    match &statement.body {
+        Body::Procedure(_) => None,
+        _ => match expression_at(statement, position) {
+            Some(expression) => number_by(names, own, is_variable, expression),
+            None => None,
+        },
+    }
+}
+
+/// The numbers of the procedures that the operands of a statement become.
+pub(crate) fn numbers_for(
+    names: &Names,
+    order: &[Origin],
+    statement: &Statement,
+    number: usize,
+) -> Numbers
+    ensures { result.first ∷ result.second ∷ []
+        ≡ numbers.numbers_for (numbers_of names.now) order.now statement.now number }
+{
+    Numbers {
+        first: number_for(names, order, statement, number, 0),
+        second: number_for(names, order, statement, number, 1),
+    }
+}
+
+/// The record of a block statement.
+fn record_at(names: &Names, order: &[Origin], statement: &Statement, number: usize) -> Option<Block>
+    ensures { result ≡ model.record_at (numbers_of names.now) order.now statement.now number }
+{
+    let Numbers { first, second } = numbers_for(names, order, statement, number);
+    let procedures = [first, second];
+    record_of(names, &procedures, statement)
+}
+
+/// Takes note that nothing can be made of the statement on a line. (Where a name isn't known, that was noted when the names were looked
+/// at.)
+pub(crate) fn note_none(ledger: &mut Ledger, line: u32)
+    ensures { StaysClear ledger.old ledger.new ⊥ }
+{
+    if ledger.is_clear() {
+        ledger.note(line, codes::NAME);
+    }
+}
+
+/// The record of a block statement, behind others; one of which there is none is noted.
+fn put_record(
+    blocks: &mut Vec<Block>,
+    block: Option<Block>,
+    statement: &Statement,
+    ledger: &mut Ledger,
+) -> Result<(), AllocError>
+    ensures blocks { OnOk result (blocks.new.items ≡ blocks.old.items ++ option_to_list block) }
+    ensures ledger { OnOk result (StaysClear ledger.old ledger.new (IsSome block)) }
+{
+    match block {
+        Some(block) => blocks.push(block).map_err(|_| AllocError),
+        None => {
+            note_none(ledger, statement.line);
+            Ok(())
+        }
+    }
+}
+
+/// A statement's record, if it is a block, behind others; one of which there is none is noted.
+fn put_block(
+    blocks: &mut Vec<Block>,
+    names: &Names,
+    order: &[Origin],
+    statement: &Statement,
+    number: usize,
+    ledger: &mut Ledger,
+) -> Result<(), AllocError>
+    ensures blocks { OnOk result (blocks.new.items
+        ≡ blocks.old.items ++ model.block_at (numbers_of names.now) order.now statement.now number) }
+    ensures ledger { OnOk result (StaysClear ledger.old ledger.new
+        (model.IsRecorded (numbers_of names.now) order.now statement.now number)) }
+{
+    if is_block(statement.word) {
+        put_record(
+            blocks,
+            record_at(names, order, statement, number),
+            statement,
+            ledger,
+        )
+    } else {
+        Ok(())
+    }
+}
+
+/// The records of the block statements, in order; those of which there is none are noted.
+pub(crate) fn blocks_of(
+    alloc: Global,
+    names: &Names,
+    text: &Model,
+    order: &[Origin],
+    ledger: &mut Ledger,
+) -> Result<Vec<Block>, AllocError>
+    ensures blocks { IfOk result (λ blocks. blocks.items
+        ≡ model.blocks_from (numbers_of names.now) order.now 0 text.now.statements.items) }
+    ensures ledger { OnOk result (StaysClear ledger.old ledger.new
+        (model.AllRecorded (numbers_of names.now) order.now 0 text.now.statements.items)) }
+{
+    let mut blocks = Vec::new(alloc);
+    for number in 0..text.statements.len() {
+        put_block(
+            &mut blocks,
+            names,
+            order,
+            &text.statements[number],
+            number,
+            ledger,
+        )?;
+    }
+    Ok(blocks)
+}

@@ -1,0 +1,167 @@
+//! The procedures of a model text.
+
+ghost use Rattle.std.specs.Prelude.{◌≡◌, ◌≤◌, length, OnOk, IfOk, MatchResult};
+ghost use Rattle.gw_object.specs.declared.limits.TheConstants.{MOST_PROCEDURES};
+ghost use Rattle.gw_compile.specs.Keeps.{IsCompiledProcedure};
+ghost use Rattle.gw_pieces.specs.Clear.{StaysClear, IsNoted};
+ghost use Rattle.gw_pieces.specs.Sources.{IsFromExpression, IsProcedureOf, ComesFrom, AreCompiled, Grows};
+ghost use Rattle.gw_pieces.specs.Numbers.{numbers_of};
+
+use crate::origins::{Origin, expression_at};
+use gw_code::Procedure;
+use gw_compile::{CompileFault, compile, compile_procedure};
+use gw_names::{Ledger, Names, codes};
+use gw_object::MOST_PROCEDURES;
+use gw_text::{Body, Model, Procedure as TextProcedure, Statement};
+use std::alloc::{AllocError, Global};
+
+/// Why nothing is compiled.
+#[derive(Clone, Copy)]
+enum Blamed {
+    /// A limit is exceeded.
+    Limit,
+    /// A name isn't known.
+    Name,
+    /// Memory ran out.
+    Memory,
+}
+
+/// What is to blame.
+fn blamed_of(fault: CompileFault<'_>) -> Blamed {
+    match fault {
+        CompileFault::Limit => Blamed::Limit,
+        CompileFault::Memory => Blamed::Memory,
+        CompileFault::Unknown(_) | CompileFault::Arguments(_) | CompileFault::Target(_) => {
+            Blamed::Name
+        }
+    }
+}
+
+/// The procedure of a PROCEDURE, where those before it are compiled.
+fn from_procedure(
+    alloc: Global,
+    names: &Names,
+    procedures: &[Procedure],
+    procedure: &TextProcedure,
+) -> Result<Procedure, Blamed>
+    ensures { IfOk result (IsCompiledProcedure (numbers_of names.now) procedures.now procedure.now) }
+{
+    match compile_procedure(alloc, names, procedures, procedure) {
+        Ok(procedure) => Ok(procedure),
+        Err(fault) => Err(blamed_of(fault)),
+    }
+}
+
+/// The procedure of the expression at a position of a statement, where those before it are compiled.
+fn from_expression(
+    alloc: Global,
+    names: &Names,
+    procedures: &[Procedure],
+    statement: &Statement,
+    operand: usize,
+) -> Result<Procedure, Blamed>
+    ensures { IfOk result (IsFromExpression (numbers_of names.now) procedures.now statement.now operand) }
+{
+    match expression_at(statement, operand) {
+        Some(expression) => match compile(alloc, names, procedures, expression) {
+            Ok(procedure) => Ok(procedure),
+            Err(fault) => Err(blamed_of(fault)),
+        },
+        None => Err(Blamed::Name),
+    }
+}
+
+/// The procedure of a position of a statement, where those before it are compiled.
+fn procedure_of(
+    alloc: Global,
+    names: &Names,
+    procedures: &[Procedure],
+    statement: &Statement,
+    operand: usize,
+) -> Result<Procedure, Blamed>
+    ensures { IfOk result (IsProcedureOf (numbers_of names.now) procedures.now statement.now operand) }
+{
+    match &statement.body {
+        Body::Procedure(procedure) => from_procedure(alloc, names, procedures, procedure),
+        Body::Nothing => from_expression(alloc, names, procedures, statement, operand),
+        Body::Points(_) => from_expression(alloc, names, procedures, statement, operand),
+    }
+}
+
+/// Takes note of why nothing is compiled. (Where a name isn't known, that was noted when the names were looked at.)
+fn note_blamed(ledger: &mut Ledger, line: u32, blamed: Blamed) -> Result<(), AllocError>
+    ensures { OnOk result (IsNoted ledger.new) }
+{
+    match blamed {
+        Blamed::Limit => {
+            ledger.note(line, codes::LIMIT);
+            Ok(())
+        }
+        Blamed::Name => {
+            if ledger.is_clear() {
+                ledger.note(line, codes::NAME);
+            }
+            Ok(())
+        }
+        Blamed::Memory => Err(AllocError),
+    }
+}
+
+/// Compiles what comes from a position of a statement, behind others, or notes why it isn't compiled.
+fn put_procedure(
+    alloc: Global,
+    names: &Names,
+    procedures: &mut Vec<Procedure>,
+    statement: &Statement,
+    operand: usize,
+    ledger: &mut Ledger,
+) -> Result<(), AllocError>
+    ensures { OnOk result (StaysClear ledger.old ledger.new
+        (Grows (IsProcedureOf (numbers_of names.now) procedures.old.items statement.now operand)
+        procedures.old.items procedures.new.items)) }
+{
+    match procedure_of(alloc, names, procedures, statement, operand) {
+        Ok(procedure) => procedures.push(procedure).map_err(|_| AllocError),
+        Err(blamed) => note_blamed(ledger, statement.line, blamed),
+    }
+}
+
+/// The same for an origin.
+fn put_procedure_from(
+    alloc: Global,
+    names: &Names,
+    procedures: &mut Vec<Procedure>,
+    text: &Model,
+    origin: Origin,
+    ledger: &mut Ledger,
+) -> Result<(), AllocError>
+    ensures { OnOk result (StaysClear ledger.old ledger.new
+        (Grows (ComesFrom (numbers_of names.now) text.now.statements.items origin)
+        procedures.old.items procedures.new.items)) }
+{
+    match text.statements.get(origin.statement) {
+        Some(statement) => {
+            put_procedure(alloc, names, procedures, statement, origin.operand, ledger)
+        }
+        None => note_blamed(ledger, 0, Blamed::Name),
+    }
+}
+
+/// The procedures of these origins, in order; what isn't compiled is noted. (More origins than an object has procedures are
+/// noted elsewhere.)
+pub(crate) fn procedures_of(
+    alloc: Global,
+    names: &Names,
+    text: &Model,
+    order: &[Origin],
+    ledger: &mut Ledger,
+) -> Result<Vec<Procedure>, AllocError>
+    ensures { IfOk result (λ procedures. StaysClear ledger.old ledger.new
+        (length order.now ≤ MOST_PROCEDURES → AreCompiled (numbers_of names.now) text.now.statements.items order.now procedures.items)) }
+{
+    let mut procedures = Vec::new(alloc);
+    for place in 0..order.len().min(MOST_PROCEDURES) {
+        put_procedure_from(alloc, names, &mut procedures, text, order[place], ledger)?;
+    }
+    Ok(procedures)
+}

@@ -1,0 +1,15 @@
+//! What a model text becomes, piece by piece: the procedures, entities and blocks of an object (docs/model-text.md).
+#![tactic(auto)]
+
+mod blocks;
+mod compiling;
+mod entities;
+mod initials;
+pub mod laws;
+mod naming;
+mod order;
+mod origins;
+mod pieces;
+mod settings;
+
+pub use pieces::parts_of;

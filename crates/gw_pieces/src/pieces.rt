@@ -1,0 +1,377 @@
+//! The parts of the object that a model text becomes.
+
+ghost use Rattle.std.specs.Prelude.{◌≡◌, ◌≤◌, [], length, IfOk, IfErr, OnOk};
+ghost use Rattle.gw_object.specs.Reading.{out_of_memory};
+ghost use Rattle.gw_object.specs.declared.limits.TheConstants.{MOST_PROCEDURES};
+ghost use Rattle.gw_names.specs.Judgement.{refusals_in};
+ghost use Rattle.gw_names.specs.Naming.{Knows};
+ghost use Rattle.gw_pieces.specs.Clear.{StaysClear};
+ghost use Rattle.gw_pieces.specs.Making as making;
+ghost use Rattle.gw_pieces.specs.Naming.{OfEach, IsCallee, IsMeant};
+ghost use Rattle.gw_pieces.specs.Numbers.{numbers_of};
+ghost use Rattle.gw_pieces.specs.Pieces.{HasCode, IsMadeOf};
+
+use crate::blocks::blocks_of;
+use crate::compiling::procedures_of;
+use crate::entities::entities_of;
+use crate::naming::{Meanings, meanings_of};
+use crate::order::ordered;
+use crate::origins::{Origin, origins_of};
+use crate::settings::{count_of, seeds_of};
+use gw_blocks::Block;
+use gw_code::Procedure;
+use gw_names::{Known, Ledger, Names, Sighted, check_uses, codes, known_names};
+use gw_object::codes::MEMORY;
+use gw_object::{Entity, Fault, Items, MOST_PROCEDURES, Parts, Place, TableState, chains_in};
+use gw_text::Model;
+use std::alloc::{AllocError, Global};
+
+/// That memory ran out.
+const OUT_OF_MEMORY: Fault = Fault {
+    code: MEMORY,
+    place: Place::Nowhere,
+};
+
+/// The line of the statement of an origin.
+fn line_of(text: &Model, origin: Origin) -> u32 {
+    match text.statements.get(origin.statement) {
+        Some(statement) => statement.line,
+        None => 0,
+    }
+}
+
+/// Notes the first origin that is one too many.
+fn note_surplus(text: &Model, origins: &[Origin], ledger: &mut Ledger)
+    ensures { StaysClear ledger.old ledger.new (length origins.now ≤ MOST_PROCEDURES) }
+{
+    if origins.len() > MOST_PROCEDURES {
+        ledger.note(line_of(text, origins[MOST_PROCEDURES]), codes::LIMIT);
+    }
+}
+
+/// The origins in the order of their procedures, or, where there are too many, in that of the text.
+fn placed(
+    alloc: Global,
+    text: &Model,
+    known: &Known,
+    origins: Vec<Origin>,
+) -> Result<Vec<Origin>, AllocError> {
+    if origins.len() > MOST_PROCEDURES {
+        Ok(origins)
+    } else {
+        ordered(alloc, text, known, &origins)
+    }
+}
+
+/// The origins in the order of their procedures. One that is too many is noted.
+fn order_of(
+    alloc: Global,
+    text: &Model,
+    known: &Known,
+    ledger: &mut Ledger,
+) -> Result<Vec<Origin>, AllocError>
+    ensures { IfOk result (λ order. StaysClear ledger.old ledger.new (length order.items ≤ MOST_PROCEDURES)) }
+{
+    let origins = origins_of(alloc, known, text)?;
+    let order = placed(alloc, text, known, origins)?;
+    note_surplus(text, &order, ledger);
+    Ok(order)
+}
+
+/// The procedures and the blocks that are made of a model text.
+#[derive(Drop)]
+struct Code {
+    procedures: Vec<Procedure>,
+    blocks: Vec<Block>,
+}
+
+/// The procedures and the blocks of a model text. What can't be made is noted.
+fn code_of(
+    alloc: Global,
+    text: &Model,
+    names: &Names,
+    order: &[Origin],
+    ledger: &mut Ledger,
+) -> Result<Code, AllocError>
+    ensures { IfOk result (λ code. StaysClear ledger.old ledger.new
+        (length order.now ≤ MOST_PROCEDURES → HasCode (numbers_of names.now) order.now text.now.statements.items code.procedures.items code.blocks.items)) }
+{
+    let procedures = procedures_of(alloc, names, text, order, ledger)?;
+    let blocks = blocks_of(alloc, names, text, order, ledger)?;
+    Ok(Code { procedures, blocks })
+}
+
+/// The same, where the names get these entities.
+fn code_with(
+    alloc: Global,
+    text: &Model,
+    names: &mut Names,
+    entities: Vec<Entity>,
+    order: &[Origin],
+    ledger: &mut Ledger,
+) -> Result<Code, AllocError>
+    ensures names { names.new ≡ record names.old { list = entities } }
+    ensures made { IfOk result (λ code. StaysClear ledger.old ledger.new
+        (length order.now ≤ MOST_PROCEDURES → HasCode (numbers_of (record names.old { list = entities })) order.now text.now.statements.items
+        code.procedures.items code.blocks.items)) }
+{
+    names.list = entities;
+    code_of(alloc, text, names, order, ledger)
+}
+
+/// The same, and first the entities, which the names get. What can't be made is noted.
+fn code_and_entities(
+    alloc: Global,
+    text: &Model,
+    names: &mut Names,
+    order: &[Origin],
+    sighted: &[Sighted],
+    ledger: &mut Ledger,
+) -> Result<Code, AllocError>
+    ensures made { IfOk result (λ code. StaysClear ledger.old ledger.new
+        (length order.now ≤ MOST_PROCEDURES → making.HasAllBy (numbers_of names.old) order.now text.now.statements.items sighted.now
+        names.new.list.items code.procedures.items code.blocks.items)) }
+{
+    let entities = entities_of(alloc, names, text, order, sighted, ledger)?;
+    code_with(alloc, text, names, entities, order, ledger)
+}
+
+/// What is made of a model text.
+#[derive(Drop)]
+struct Pieces {
+    entities: Vec<Entity>,
+    procedures: Vec<Procedure>,
+    blocks: Vec<Block>,
+}
+
+/// What is made where names are known.
+fn pieces_by(
+    alloc: Global,
+    text: &Model,
+    names: Names,
+    order: &[Origin],
+    sighted: &[Sighted],
+    ledger: &mut Ledger,
+) -> Result<Pieces, AllocError>
+    ensures { IfOk result (λ pieces. StaysClear ledger.old ledger.new
+        (length order.now ≤ MOST_PROCEDURES → making.HasAllBy (numbers_of names) order.now text.now.statements.items sighted.now
+        pieces.entities.items pieces.procedures.items pieces.blocks.items)) }
+{
+    let mut names = names;
+    match code_and_entities(alloc, text, &mut names, order, sighted, ledger) {
+        Ok(Code { procedures, blocks }) => {
+            let Names { list, .. } = names;
+            Ok(Pieces {
+                entities: list,
+                procedures,
+                blocks,
+            })
+        }
+        Err(AllocError) => Err(AllocError),
+    }
+}
+
+/// The numbers of all names but entities' lists, and the entities that were sighted.
+fn names_with(known: Known, meanings: Meanings, none: Vec<Entity>) -> (Names, Vec<Sighted>)
+    requires { none.items ≡ [] }
+    ensures names { making.NamesOf known meanings result.0 }
+    ensures sighted { result.1 ≡ known.sighted }
+{
+    let Known {
+        entities,
+        sighted,
+        blocks,
+        parameters,
+        ..
+    } = known;
+    let Meanings { procedures, equs } = meanings;
+    let names = Names {
+        entities,
+        list: none,
+        blocks,
+        parameters,
+        procedures,
+        equs,
+    };
+    (names, sighted)
+}
+
+/// The origins of the procedures, in order, and what the names of PROCEDUREs and EQUs stand for.
+#[derive(Drop)]
+struct Ordered {
+    order: Vec<Origin>,
+    meanings: Meanings,
+}
+
+/// The origins of the procedures of a model text whose names are known, in order. One that is too many is noted.
+fn ordered_by(
+    alloc: Global,
+    text: &Model,
+    known: &Known,
+    ledger: &mut Ledger,
+) -> Result<Ordered, AllocError>
+    requires { Knows text.now.statements.items known.now }
+    ensures few { IfOk result (λ o. StaysClear ledger.old ledger.new (length o.order.items ≤ MOST_PROCEDURES)) }
+    ensures procedures { IfOk result (λ o.
+        OfEach (IsCallee text.now.statements.items o.order.items) o.meanings.procedures) }
+    ensures equs { IfOk result (λ o.
+        OfEach (IsMeant text.now.statements.items o.order.items) o.meanings.equs) }
+{
+    let order = order_of(alloc, text, known, ledger)?;
+    let meanings = meanings_of(alloc, text, known, &order)?;
+    Ok(Ordered { order, meanings })
+}
+
+/// The same, once all uses of names are judged; those that are refused are noted.
+fn judged(
+    alloc: Global,
+    text: &Model,
+    known: &Known,
+    ledger: &mut Ledger,
+) -> Result<Ordered, AllocError>
+    requires { Knows text.now.statements.items known.now }
+    ensures few { IfOk result (λ o. StaysClear ledger.old ledger.new (length o.order.items ≤ MOST_PROCEDURES)) }
+    ensures named { OnOk result (StaysClear ledger.old ledger.new (refusals_in text.now.statements.items ≡ [])) }
+    ensures procedures { IfOk result (λ o.
+        OfEach (IsCallee text.now.statements.items o.order.items) o.meanings.procedures) }
+    ensures equs { IfOk result (λ o.
+        OfEach (IsMeant text.now.statements.items o.order.items) o.meanings.equs) }
+{
+    check_uses(alloc, known, text.statements.as_slice(), ledger)?;
+    ordered_by(alloc, text, known, ledger)
+}
+
+/// What is made of a model text whose names are known, where its procedures have these origins, in order. What can't be made is
+/// noted.
+fn pieces_with(
+    alloc: Global,
+    text: &Model,
+    known: Known,
+    ordered: Ordered,
+    ledger: &mut Ledger,
+) -> Result<Pieces, AllocError>
+    requires known { Knows text.now.statements.items known }
+    requires procedures { OfEach (IsCallee text.now.statements.items ordered.order.items) ordered.meanings.procedures }
+    requires equs { OfEach (IsMeant text.now.statements.items ordered.order.items) ordered.meanings.equs }
+    ensures { IfOk result (λ pieces. StaysClear ledger.old ledger.new
+        (length ordered.order.items ≤ MOST_PROCEDURES → making.AreMade text.now.statements.items
+        pieces.entities.items pieces.procedures.items pieces.blocks.items)) }
+{
+    let Ordered { order, meanings } = ordered;
+    let (names, sighted) = names_with(known, meanings, Vec::new(alloc));
+    pieces_by(alloc, text, names, &order, &sighted, ledger)
+}
+
+/// What is made of a model text whose names are known. What can't be made is noted.
+fn pieces_known(
+    alloc: Global,
+    text: &Model,
+    known: Known,
+    ledger: &mut Ledger,
+) -> Result<Pieces, AllocError>
+    requires { Knows text.now.statements.items known }
+    ensures made { IfOk result (λ pieces. StaysClear ledger.old ledger.new (making.AreMade text.now.statements.items
+        pieces.entities.items pieces.procedures.items pieces.blocks.items)) }
+    ensures named { OnOk result (StaysClear ledger.old ledger.new (refusals_in text.now.statements.items ≡ [])) }
+{
+    match judged(alloc, text, &known, ledger) {
+        Ok(ordered) => pieces_with(alloc, text, known, ordered, ledger),
+        Err(AllocError) => Err(AllocError),
+    }
+}
+
+/// What is made of a model text. What can't be made is noted.
+fn pieces_of(alloc: Global, text: &Model, ledger: &mut Ledger) -> Result<Pieces, AllocError>
+    ensures { IfOk result (λ pieces. StaysClear ledger.old ledger.new (making.AreMadeNamed text.now.statements.items
+        pieces.entities.items pieces.procedures.items pieces.blocks.items)) }
+{
+    match known_names(alloc, text.statements.as_slice(), ledger) {
+        Ok(known) => pieces_known(alloc, text, known, ledger),
+        Err(AllocError) => Err(AllocError),
+    }
+}
+
+/// So many rows of a state table, none of which is there.
+fn no_rows(alloc: Global, count: usize) -> Result<Vec<Option<TableState>>, AllocError> {
+    let mut rows = Vec::with_capacity(alloc, count)?;
+    for _ in 0..count {
+        rows.push(None).map_err(|_| AllocError)?;
+    }
+    Ok(rows)
+}
+
+/// What an object has beside the pieces: its seeds, and for blocks and user chains rows of which none is there and the least
+/// weights.
+#[derive(Drop)]
+struct Rest {
+    seeds: Vec<u32>,
+    states: Vec<Option<TableState>>,
+    chain_states: Vec<Option<TableState>>,
+    weights: Vec<u32>,
+    chain_weights: Vec<u32>,
+}
+
+/// What an object of so many blocks and user chains has beside its pieces.
+fn rest_of(alloc: Global, text: &Model, blocks: usize, chains: usize) -> Result<Rest, AllocError> {
+    Ok(Rest {
+        seeds: seeds_of(alloc, text.statements.as_slice())?,
+        states: no_rows(alloc, blocks)?,
+        chain_states: no_rows(alloc, chains)?,
+        weights: vec![in alloc; 1; blocks]?,
+        chain_weights: vec![in alloc; 1; chains]?,
+    })
+}
+
+/// The parts of an object of these pieces.
+fn parts_with(alloc: Global, count: u64, pieces: Pieces, rest: Rest) -> Parts
+    ensures count { result.count ≡ count }
+    ensures entities { result.entities ≡ pieces.entities.items }
+    ensures procedures { result.procedures ≡ pieces.procedures.items }
+    ensures blocks { result.blocks ≡ pieces.blocks.items }
+{
+    Parts {
+        seeds: Items::from_vec(rest.seeds),
+        count,
+        entities: Items::from_vec(pieces.entities),
+        procedures: Items::from_vec(pieces.procedures),
+        blocks: Items::from_vec(pieces.blocks),
+        returns: Items::from_vec(Vec::new(alloc)),
+        states: Items::from_vec(rest.states),
+        chain_states: Items::from_vec(rest.chain_states),
+        weights: Items::from_vec(rest.weights),
+        chain_weights: Items::from_vec(rest.chain_weights),
+    }
+}
+
+/// The parts of an object of a text's pieces.
+fn completed(alloc: Global, text: &Model, pieces: Pieces) -> Result<Parts, Fault>
+    requires { making.AreMadeNamed text.now.statements.items
+        pieces.entities.items pieces.procedures.items pieces.blocks.items }
+    ensures made { IfOk result (IsMadeOf text.now.statements.items) }
+    ensures refused { IfErr result (λ fault. fault ≡ out_of_memory) }
+{
+    let blocks = pieces.blocks.len();
+    let chains = chains_in(pieces.entities.as_slice());
+    let count = count_of(text.statements.as_slice());
+    match rest_of(alloc, text, blocks, chains) {
+        Ok(rest) => Ok(parts_with(alloc, count, pieces, rest)),
+        Err(AllocError) => Err(OUT_OF_MEMORY),
+    }
+}
+
+/// The parts of the object that a model text becomes: its seeds and count, entities, procedures and blocks, without a state
+/// table, and with the least weights. A text of which some can't be made is refused at the first line at fault, with the lowest
+/// code there: 80 Name, 81 Storage, 82 Limit (ours: docs/refusals.md); or with 8 Memory, at Nowhere.
+pub fn parts_of(alloc: Global, text: &Model) -> Result<Parts, Fault>
+    ensures made { IfOk result (IsMadeOf text.now.statements.items) }
+    ensures refused { IfErr result making.IsNotMade }
+{
+    let mut ledger = Ledger::new();
+    match pieces_of(alloc, text, &mut ledger) {
+        Ok(pieces) => match ledger.first() {
+            Some(fault) => Err(fault),
+            None => completed(alloc, text, pieces),
+        },
+        Err(AllocError) => Err(OUT_OF_MEMORY),
+    }
+}
