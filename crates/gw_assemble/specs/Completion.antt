@@ -1,0 +1,48 @@
+-- From the parts of an object to one that is accepted.
+use Rattle.std.specs.Prelude.{◌≡◌, ◌⊎◌, Option, Some}
+use Rattle.gw_object.specs.declared.fault.Fault.{Fault}
+use Rattle.gw_object.specs.declared.parts.Parts.{Parts}
+use Rattle.gw_object.specs.Grammar.{HasSpelling}
+use Rattle.gw_object.specs.Reading.{out_of_memory}
+use Rattle.gw_kinds.specs.Checks.{first_broken}
+use Rattle.gw_kinds.specs.Pass.{KindsPass}
+use Rattle.gw_code_flow.specs.PlusChecks.{PlusPasses}
+use Rattle.gw_settle.specs.Settles.{Passes, HasAssemblersTable, past_limit, IsRefused, IsComplete}
+use Rattle.gw_weighing.specs.Raising.{DifferInWeights}
+use Rattle.gw_verify.specs.Checks.{first_checks, fault_of, Accepted}
+
+-- an object has a spelling, and the verifier accepts it
+pub record IsAccepted (p : Parts) : Type 0 where
+  pub spelled : HasSpelling p
+  pub accepted : Accepted p
+
+-- an object is another one with the assembler's state table, with which kinds, PLUS code and flow pass, and with other weights
+pub record IsCompletion (p q : Parts) : Type 0 where
+  pub settled : Parts
+  pub passes : Passes p settled
+  pub code : PlusPasses settled
+  pub table : HasAssemblersTable p settled
+  pub weights : DifferInWeights settled q
+
+-- a limit of the object format is passed
+abbrev pub PassesLimit : Parts → Fault → Type 0
+PassesLimit p fault = (fault ≡ past_limit) × ¬ HasSpelling p
+
+-- kinds or PLUS code refuse
+abbrev pub BreaksFirst : Parts → Fault → Type 0
+BreaksFirst p fault = first_broken (first_checks p) ≡ Some fault
+
+-- there is no state table: the refusal is that of settling, so where flow passes with any table it is none of flow's
+pub record HasNoTable (p : Parts) (fault : Fault) : Type 0 where
+  pub kinds : KindsPass p
+  pub code : PlusPasses p
+  pub settling : IsRefused p fault
+  pub complete : IsComplete p fault
+
+-- the weights that are found are no certificate
+abbrev pub HasNoWeights : Parts → Fault → Type 0
+HasNoWeights p fault = (q : Parts) × IsCompletion p q × (fault_of q ≡ Some fault)
+
+-- why there is no completion: the first of these that refuses, or want of memory
+abbrev pub HasNoCompletion : Parts → Fault → Type 0
+HasNoCompletion p fault = PassesLimit p fault ⊎ (BreaksFirst p fault ⊎ (HasNoTable p fault ⊎ (HasNoWeights p fault ⊎ (fault ≡ out_of_memory))))

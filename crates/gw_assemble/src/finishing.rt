@@ -1,0 +1,99 @@
+//! From the parts of an object to one that the verifier accepts.
+
+ghost use Rattle.std.specs.Prelude.{◌≡◌, ◌⊎◌, IfOk, IfErr, Some};
+ghost use Rattle.gw_object.specs.Grammar.{HasSpelling};
+ghost use Rattle.gw_object.specs.Reading.{out_of_memory};
+ghost use Rattle.gw_kinds.specs.Checks.{Finds};
+ghost use Rattle.gw_kinds.specs.Pass.{KindsPass};
+ghost use Rattle.gw_code_flow.specs.PlusChecks.{PlusPasses};
+ghost use Rattle.gw_settle.specs.Settles.{Passes, HasAssemblersTable};
+ghost use Rattle.gw_object.specs.declared.parts.Parts.{Parts};
+ghost use Rattle.gw_verify.specs.Checks.{first_checks, fault_of};
+ghost use Rattle.gw_weighing.specs.Raising.{DifferInWeights};
+ghost use Rattle.gw_assemble.specs.Completion.{IsAccepted, IsCompletion, HasNoCompletion};
+
+use gw_flow::check_plus;
+use gw_kinds::check_kinds;
+use gw_object::codes::MEMORY;
+use gw_object::{Fault, Object, Parts, Place};
+use gw_settle::settle;
+use gw_verify::{Verified, verify};
+use gw_weighing::weigh;
+use std::alloc::Global;
+
+/// What the assembler makes passes a limit of the object format.
+const LIMIT: u16 = 82;
+
+/// That memory ran out.
+const OUT_OF_MEMORY: Fault = Fault {
+    code: MEMORY,
+    place: Place::Nowhere,
+};
+
+/// That a limit of the object format is passed.
+const PAST_LIMIT: Fault = Fault {
+    code: LIMIT,
+    place: Place::Nowhere,
+};
+
+/// The first fault of kinds and of PLUS code, if there is one.
+fn check_first(object: &Object) -> Result<(), Fault>
+    ensures found { Finds result (first_checks object.now) }
+    ensures kinds { IfOk result (λ _. KindsPass object.now) }
+    ensures code { IfOk result (λ _. PlusPasses object.now) }
+{
+    check_kinds(object)?;
+    check_plus(object)
+}
+
+/// A settled object with the weights that it gets, if it is accepted.
+fn weighed(alloc: Global, settled: Object) -> Result<Verified, Fault>
+    requires { KindsPass settled }
+    ensures accepted { IfOk result (λ v. DifferInWeights settled v) }
+    ensures verified { IfOk result IsAccepted }
+    ensures refused { IfErr result (λ fault. ((q : Parts) × DifferInWeights settled q × (fault_of q ≡ Some fault)) ⊎ (fault ≡ out_of_memory)) }
+{
+    match weigh(alloc, settled) {
+        Ok(object) => match verify(alloc, object) {
+            Ok(verified) => Ok(verified),
+            Err((_, fault)) => Err(fault),
+        },
+        Err(_) => Err(OUT_OF_MEMORY),
+    }
+}
+
+/// An object of which kinds and PLUS code pass, with the state table and the weights that it gets, if it is accepted.
+fn settled(alloc: Global, object: Object) -> Result<Verified, Fault>
+    requires kinds { KindsPass object }
+    requires code { PlusPasses object }
+    ensures accepted { IfOk result (λ v. IsCompletion object v) }
+    ensures verified { IfOk result IsAccepted }
+    ensures refused { IfErr result (HasNoCompletion object) }
+{
+    match settle(alloc, object) {
+        Ok(object) => weighed(alloc, object),
+        Err((_, fault)) => Err(fault),
+    }
+}
+
+/// An object with the state table and the weights that it gets, if it is accepted.
+fn completed(alloc: Global, object: Object) -> Result<Verified, Fault>
+    ensures accepted { IfOk result (λ v. IsCompletion object v) }
+    ensures verified { IfOk result IsAccepted }
+    ensures refused { IfErr result (HasNoCompletion object) }
+{
+    check_first(&object)?;
+    settled(alloc, object)
+}
+
+/// The object of these parts with the assembler's state table and weights, if it is accepted.
+pub(crate) fn finish(alloc: Global, parts: Parts) -> Result<Verified, Fault>
+    ensures accepted { IfOk result (λ v. IsCompletion parts v) }
+    ensures verified { IfOk result IsAccepted }
+    ensures refused { IfErr result (HasNoCompletion parts) }
+{
+    match Object::build(parts) {
+        Ok(object) => completed(alloc, object),
+        Err(_) => Err(PAST_LIMIT),
+    }
+}

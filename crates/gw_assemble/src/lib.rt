@@ -1,0 +1,7 @@
+//! The assembler: a model text becomes an object that the verifier accepts (docs/model-text.md).
+#![tactic(auto)]
+
+mod assembling;
+mod finishing;
+
+pub use assembling::assemble;
