@@ -1,13 +1,19 @@
 -- The answer to a front of the bytes that is one byte longer than an object is the answer to all of them.
-use Rattle.std.proofs.Common.{◌≡◌, ◌≤◌, ◌+◌, ℕ, List, length, take, nat_lt, Bool, true, false, Option, Some, None, IfSome, Err, arith, refl, sym, ap, ◌∙◌}
+use Rattle.std.proofs.Common.{◌≡◌, ◌≤◌, ◌+◌, ◌<◌, ℕ, List, length, take, nat_lt, Bool, true, false, Option, Some, None, IfSome, Err, inl, inr, arith, refl, sym, subst, ap, ◌∙◌}
 use Rattle.std.proofs.lemmas.List.{take_all, length-take-le}
 use Rattle.std.proofs.lemmas.Bool.Decides.{nat_tests}
+use Rattle.gw_object.specs.declared.fault.Fault.{Fault}
 use Rattle.gw_object.specs.declared.fault.Place.TheVariants.{Byte}
 use Rattle.gw_object.specs.Codes.{limit}
 use Rattle.gw_object.specs.declared.limits.TheConstants.{MOST_BYTES}
 use Rattle.gw_object.specs.Reading.{first_fault}
-use Rattle.gpssw.specs.Answer.{IsAnswer, job_of}
-use Rattle.gpssw.specs.Output.{AnswersReader}
+use Rattle.gw_text_tokens.specs.Codes.{length_fault}
+use Rattle.gw_object.specs.declared.fault.Place.TheVariants.{Line}
+use Rattle.gpssw.specs.Answer.{IsAnswer, IsCheck, job_of, object_of}
+use Rattle.gpssw.specs.Assembly.{IsAssembly, IsRefusedText, HasStatements}
+use Rattle.gpssw.specs.Output.{AnswersReader, answering}
+use Rattle.gpssw.specs.declared.words.Command.{Command}
+use Rattle.gpssw.specs.declared.words.Command.TheVariants.{Run, Check, Asm}
 
 too_long : (bytes : List ℕ) → nat_lt MOST_BYTES (length bytes) ≡ true → first_fault bytes ≡ Err (record { code = limit; place = Byte 0 })
 unfolding first_fault
@@ -31,8 +37,37 @@ same_job : (seed count : ℕ) (bytes : List ℕ) → job_of seed count (take (MO
 unfolding job_of
 same_job seed count bytes = rw (same_fault bytes, job_of) refl
 
+same_object : (bytes : List ℕ) → object_of (take (MOST_BYTES + 1) bytes) ≡ object_of bytes
+unfolding object_of
+same_object bytes = rw (same_fault bytes, object_of) refl
+
+-- a front of a text that is too long is too long
+front_too_long : (bytes : List ℕ) → MOST_BYTES < length bytes → MOST_BYTES < length (take (MOST_BYTES + 1) bytes)
+front_too_long bytes long = let front : length (take (MOST_BYTES + 1) bytes) ≡ MOST_BYTES + 1 = length-take-le (MOST_BYTES + 1) bytes (omega (arith, long)) in omega (arith, front)
+
+-- the refusal of a front of a text that is too long is that of the text
+refused_whole : (bytes : List ℕ) (fault : Fault) → MOST_BYTES < length bytes → IsRefusedText (take (MOST_BYTES + 1) bytes) fault → IsRefusedText bytes fault
+refused_whole bytes fault long h = record { long = λ _. h.long (front_too_long bytes long); within = λ short. absurd (omega (arith, long, short)) }
+
+assembly_of_long : (bytes text : List ℕ) (status : ℕ) → MOST_BYTES < length bytes → IsAssembly (take (MOST_BYTES + 1) bytes) text status → IsAssembly bytes text status
+assembly_of_long bytes text status long (inl h) = let front = front_too_long bytes long in let within = h.1.within in absurd (omega (arith, front, within))
+assembly_of_long bytes text status long (inr h) = inr (h.0, (h.1.0, refused_whole bytes h.1.0 long h.1.1, h.1.2))
+
+assembly_of_front : (bytes text : List ℕ) (status : ℕ) → IsAssembly (take (MOST_BYTES + 1) bytes) text status → IsAssembly bytes text status
+assembly_of_front bytes text status answer = cases (nat_lt MOST_BYTES (length bytes))
+    (λ long. assembly_of_long bytes text status (grind (arith, nat_tests, long)) answer)
+    (λ short.
+    let within : length bytes ≤ MOST_BYTES + 1 = grind (arith, nat_tests, short) in
+    subst (λ bs. IsAssembly bs text status) (take_all (MOST_BYTES + 1) bytes within) answer)
+
+-- the answer of a command to such a front is that to all of the bytes
+of_front : (command : Command) (bytes text : List ℕ) (status : ℕ) → answering command (take (MOST_BYTES + 1) bytes) text status → answering command bytes text status
+of_front (Run seed count) bytes text status answer = rw (same_job seed count bytes) at answer
+of_front Check bytes text status answer = rw (same_object bytes) at answer
+of_front Asm bytes text status answer = assembly_of_front bytes text status answer
+
 -- what answers the bytes that were read answers the reader
-pub answers_reader : (seed count : ℕ) (known : Option (List ℕ)) (input text : List ℕ) (status : ℕ) → IfSome known (λ bytes. input ≡ take (MOST_BYTES + 1) bytes)
-    → IsAnswer seed count input text status → AnswersReader seed count known text status
-answers_reader seed count None input text status h answer = (input, tt, answer)
-answers_reader seed count (Some bytes) input text status h answer = (bytes, refl, rw (ap (job_of seed count) h ∙ same_job seed count bytes) at answer)
+pub answers_reader : (command : Command) (known : Option (List ℕ)) (input text : List ℕ) (status : ℕ) → IfSome known (λ bytes. input ≡ take (MOST_BYTES + 1) bytes)
+    → answering command input text status → AnswersReader (answering command) known text status
+answers_reader command None input text status h answer = (input, tt, answer)
+answers_reader command (Some bytes) input text status h answer = (bytes, refl, of_front command bytes text status (subst (λ bs. answering command bs text status) h answer))

@@ -1,10 +1,11 @@
--- What a run of an object comes to: a text and a status.
-use Rattle.std.specs.Prelude.{◌≡◌, ℕ, List, [], ◌∷◌, Option, Some, None, Result, Ok, Err, MatchResult, ◌==◌, if◌then◌else◌}
+-- What checking and running an object come to: a text and a status.
+use Rattle.std.specs.Prelude.{◌≡◌, ℕ, List, [], ◌∷◌, ◌++◌, length, codes, Option, Some, None, Result, Ok, Err, MatchResult, ◌==◌, if◌then◌else◌}
+use Rattle.std.specs.Fmt.{decimal}
 use Rattle.std.specs.Option.{option_map}
 use Rattle.gw_object.specs.declared.fault.Fault.{Fault}
 use Rattle.gw_object.specs.declared.parts.Parts.{Parts}
 use Rattle.gw_object.specs.Reading.{first_fault}
-use Rattle.gw_verify.specs.Checks.{fault_of}
+use Rattle.gw_verify.specs.Checks.{fault_of, heaviest}
 use Rattle.gw_step.specs.State.{State}
 use Rattle.gw_step.specs.Job.{Job, Alone, IsFinal}
 use Rattle.gw_scan.specs.Making.{spec_fault, job_from}
@@ -55,3 +56,20 @@ Concludes j text status = (status ≡ ended) × Ends j text
 abbrev pub IsAnswer : ℕ → ℕ → List ℕ → List ℕ → ℕ → Type 0
 IsAnswer seed count bytes text status =
     MatchResult (job_of seed count bytes) (λ j. Concludes j text status) (λ fault. (status ≡ refused) × (text ≡ refusal_line fault))
+
+-- an accepted object: how many blocks and procedures it has, and the greatest weight of a block
+abbrev pub accepted_text : ℕ → ℕ → ℕ → List ℕ
+accepted_text blocks procedures weight =
+    codes "accepted " ++ decimal blocks ++ codes " blocks " ++ decimal procedures ++ codes " procedures weight " ++ decimal weight
+
+abbrev pub accepted_line : Parts → List ℕ
+accepted_line p = accepted_text (length p.blocks) (length p.procedures) (heaviest p.weights) ++ codes "\n"
+
+-- the accepted object that these bytes spell; or the refusal of the first that refuses: reading or verifying
+unfoldable pub object_of : List ℕ → Result Parts Fault
+object_of bytes = first_fault bytes >>= verified
+
+-- the text and the status for these bytes where they are checked: the line of the accepted object, or the refusal line and the status of a refusal
+abbrev pub IsCheck : List ℕ → List ℕ → ℕ → Type 0
+IsCheck bytes text status =
+    MatchResult (object_of bytes) (λ p. (status ≡ ended) × (text ≡ accepted_line p)) (λ fault. (status ≡ refused) × (text ≡ refusal_line fault))

@@ -2,6 +2,7 @@ pub mod Words
 pub mod Status
 pub mod Refusal
 pub mod Answer
+pub mod Assembly
 pub mod Finding
 pub mod Output
 pub mod Input

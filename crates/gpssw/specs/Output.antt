@@ -5,8 +5,9 @@ use Rattle.gpssw.specs.declared.fault.ProgramFault.{ProgramFault}
 use Rattle.gpssw.specs.declared.fault.ProgramFault.TheVariants.{Read, Write, Memory}
 use Rattle.gpssw.specs.Status.{failed, no_memory}
 use Rattle.gpssw.specs.declared.words.Command.{Command}
-use Rattle.gpssw.specs.declared.words.Command.TheVariants.{Run}
-use Rattle.gpssw.specs.Answer.{IsAnswer}
+use Rattle.gpssw.specs.declared.words.Command.TheVariants.{Run, Check, Asm}
+use Rattle.gpssw.specs.Answer.{IsAnswer, IsCheck}
+use Rattle.gpssw.specs.Assembly.{IsAssembly}
 
 -- the line on wrong words
 abbrev pub usage_line : List ℕ
@@ -30,25 +31,31 @@ Fails Memory result old new = Writes memory_line no_memory result old new
 Fails Read result old new = (result ≡ failed) × Keeps old new
 Fails Write result old new = (result ≡ failed) × Keeps old new
 
--- the text and the status that answer the bytes of a reader; where those aren't known, some bytes
-abbrev pub AnswersReader : ℕ → ℕ → Option (List ℕ) → List ℕ → ℕ → Type 0
-AnswersReader seed count known text status = (bytes : List ℕ) × IfSome known (λ xs. xs ≡ bytes) × IsAnswer seed count bytes text status
+-- what answers bytes: a text and a status
+abbrev pub Answering : Type 1
+Answering = List ℕ → List ℕ → ℕ → Type 0
 
--- what a run writes: the answer to the bytes that it reads; where memory ran out, its line; where a read failed, nothing
-abbrev pub IsOutput : ℕ → ℕ → Option (List ℕ) → List ℕ → ℕ → Type 0
-IsOutput seed count known text status =
-    AnswersReader seed count known text status
+-- the text and the status that answer the bytes of a reader; where those aren't known, some bytes
+abbrev pub AnswersReader : Answering → Option (List ℕ) → List ℕ → ℕ → Type 0
+AnswersReader Answers known text status = (bytes : List ℕ) × IfSome known (λ xs. xs ≡ bytes) × Answers bytes text status
+
+-- what a command writes: the answer to the bytes that it reads; where memory ran out, its line; where a read failed, nothing
+abbrev pub IsOutput : Answering → Option (List ℕ) → List ℕ → ℕ → Type 0
+IsOutput Answers known text status =
+    AnswersReader Answers known text status
     ⊎ (((text ≡ memory_line) × (status ≡ no_memory))
     ⊎ ((text ≡ []) × (status ≡ failed)))
 
--- a run writes its output
-abbrev pub Runs : ℕ → ℕ → Option (List ℕ) → ℕ → Option (List ℕ) → Option (List ℕ) → Type 0
-Runs seed count known result old new = (text : List ℕ) × (status : ℕ) × IsOutput seed count known text status × Writes text status result old new
+-- a command writes its output
+abbrev pub Responds : Answering → Option (List ℕ) → ℕ → Option (List ℕ) → Option (List ℕ) → Type 0
+Responds Answers known result old new = (text : List ℕ) × (status : ℕ) × IsOutput Answers known text status × Writes text status result old new
 
 -- the answer is written whole, and its status answered
-abbrev pub WritesAnswer : ℕ → ℕ → Option (List ℕ) → ℕ → Option (List ℕ) → Option (List ℕ) → Type 0
-WritesAnswer seed count known result old new = (text : List ℕ) × AnswersReader seed count known text result × Appends old new text
+abbrev pub WritesAnswer : Answering → Option (List ℕ) → ℕ → Option (List ℕ) → Option (List ℕ) → Type 0
+WritesAnswer Answers known result old new = (text : List ℕ) × AnswersReader Answers known text result × Appends old new text
 
--- what a command does
-abbrev pub Does : Command → Option (List ℕ) → ℕ → Option (List ℕ) → Option (List ℕ) → Type 0
-Does (Run seed count) known result old new = Runs seed count known result old new
+-- what a command answers
+abbrev pub answering : Command → Answering
+answering (Run seed count) = IsAnswer seed count
+answering Check = IsCheck
+answering Asm = IsAssembly

@@ -9,6 +9,8 @@ use Rattle.gw_kinds.specs.Names as kinds
 use Rattle.gw_code_flow.specs.Names as plus
 use Rattle.gw_flow.specs.Names as flow
 use Rattle.gw_weights.specs.Names as weights
+use Rattle.gw_text_tokens.specs.Names as texts
+use Rattle.gw_names.specs.Codes as assembler
 use Rattle.gw_scan.specs.declared.spec.StartFault.{StartFault}
 use Rattle.gw_scan.specs.declared.spec.StartFault.TheVariants.{Seed, Count, Budget, Memory}
 
@@ -21,10 +23,10 @@ making_name code =
     else if code == 53 then codes "Memory"
     else codes "Unknown"
 
--- the name of a code: of an object, of kinds, of PLUS code, of flow, of weights, or of a job's making
+-- the name of a code: of an object, of kinds, of PLUS code, of flow, of weights, of a model text, of the assembler, or of a job's making
 abbrev pub code_name : ℕ → List ℕ
 code_name code =
-    unwrap_or (object.name_of code) (unwrap_or (kinds.name_of code) (unwrap_or (plus.name_of code) (unwrap_or (flow.name_of code) (unwrap_or (weights.name_of code) (making_name code)))))
+    unwrap_or (object.name_of code) (unwrap_or (kinds.name_of code) (unwrap_or (plus.name_of code) (unwrap_or (flow.name_of code) (unwrap_or (weights.name_of code) (unwrap_or (texts.name_of code) (unwrap_or (assembler.name_of code) (making_name code)))))))
 
 -- what stands before the numbers of a place: its kind in lower case
 abbrev pub place_front : Place → List ℕ

@@ -5,7 +5,7 @@ use Rattle.std.specs.Char.{is_ascii_digit}
 use Rattle.std.specs.Str.{bytes_eq}
 use Rattle.std.specs.Str.Parse.{digits_value}
 use Rattle.gpssw.specs.declared.words.Command.{Command}
-use Rattle.gpssw.specs.declared.words.Command.TheVariants.{Run}
+use Rattle.gpssw.specs.declared.words.Command.TheVariants.{Run, Check, Asm}
 
 -- decimal digits alone, one or more
 abbrev pub is_number : List ℕ → Bool
@@ -20,10 +20,14 @@ run_of None count = None
 run_of (Some seed) None = None
 run_of (Some seed) (Some count) = Some (Run seed count)
 
--- the command that these words name: `run`, a seed below 2^32 and a count below 2^64
+-- the command that one word names: `asm` or `check`
+abbrev pub command_named : List ℕ → Option Command
+command_named name = if bytes_eq name (codes "asm") then Some Asm else if bytes_eq name (codes "check") then Some Check else None
+
+-- the command that these words name: `asm`, `check`, or `run`, a seed below 2^32 and a count below 2^64
 abbrev pub command_in : List (List ℕ) → Option Command
 command_in [] = None
-command_in (name ∷ []) = None
+command_in (name ∷ []) = command_named name
 command_in (name ∷ seed ∷ []) = None
 command_in (name ∷ seed ∷ count ∷ []) =
     if bytes_eq name (codes "run") then run_of (number_below (2 ^ 32) seed) (number_below (2 ^ 64) count) else None

@@ -1,20 +1,27 @@
 //! From the bytes of an object to a text and a status.
 
-ghost use Rattle.std.specs.Prelude.{◌≡◌, OnOk, IfOk};
+ghost use Rattle.std.specs.Prelude.{◌≡◌, OnOk, IfOk, Some};
 ghost use Rattle.gw_step.specs.Job.{Alone, IsFinal};
-ghost use Rattle.gpssw.specs.Status.{refused as refused_status};
+ghost use Rattle.gw_object.specs.Grammar.{spelling};
+ghost use Rattle.gpssw.specs.Status.{ended as ended_status, refused as refused_status};
 ghost use Rattle.gpssw.specs.Refusal.{refusal_line};
 ghost use Rattle.gw_object.specs.Reading.{first_fault};
-ghost use Rattle.gpssw.specs.Answer.{verified, job_made, job_of, Concludes, IsAnswer};
+ghost use Rattle.gpssw.specs.Answer.{verified, job_made, job_of, object_of, accepted_line, accepted_text, Concludes, IsAnswer, IsCheck};
+ghost use Rattle.gpssw.specs.Assembly.{IsAssembly, IsWorkOf};
+ghost use Rattle.gpssw.specs.Output.{answering};
 ghost use Rattle.gpssw.specs.Finding.{FindsJob};
 
 use crate::refusal::Refusal;
 use crate::status::{ENDED, REFUSED};
-use gw_object::{Memory, Object, codes, read};
+use crate::words::Command;
+use gw_assemble::assemble;
+use gw_object::{Fault, Memory, Object, codes, read, write};
 use gw_report::report;
 use gw_scan::{Sim, Spec, Status};
+use gw_text::{Model, parse};
 use gw_verify::{Verified, verify};
 use std::alloc::Global;
+use std::fmt;
 
 /// At most how many steps a run makes.
 pub const BUDGET: u64 = 1_000_000_000;
@@ -140,13 +147,123 @@ fn spec_of(alloc: Global, seed: u32, count: u64, input: &[u8]) -> Result<Spec, N
     spec_with(verified, seed, count)
 }
 
-/// The text that is to be written for these bytes, this seed and this count, and the status.
-pub fn answer_to(alloc: Global, seed: u32, count: u64, input: &[u8]) -> Result<Answer, Memory>
+/// The text that is to be written where these bytes are run with this seed and this count, and the status.
+fn run_of(alloc: Global, seed: u32, count: u64, input: &[u8]) -> Result<Answer, Memory>
     ensures { IfOk result (λ a. IsAnswer seed count input.now a.text.items a.status) }
 {
     match spec_of(alloc, seed, count, input) {
         Ok(spec) => answer_of_job(alloc, spec),
         Err(NoJob::Refused(refusal)) => refused(alloc, refusal),
         Err(NoJob::OutOfMemory) => Err(Memory),
+    }
+}
+
+/// The accepted object that the bytes spell.
+#[tactic(auto, unfolding(crate::specs::Answer::object_of))]
+fn accepted_in(alloc: Global, input: &[u8]) -> Result<Verified, NoJob>
+    ensures { FindsJob result (object_of input.now) }
+{
+    let object = object_in(alloc, input)?;
+    verified_object(alloc, object)
+}
+
+/// An accepted object, which prints as `accepted N blocks P procedures weight W`, of which W is the greatest weight of a block.
+#[derive(Drop)]
+struct Acceptance {
+    blocks: u16,
+    procedures: u16,
+    weight: u32,
+}
+
+impl fmt::Display for Acceptance {
+    ghost output = { λ a. Some (accepted_text a.blocks a.procedures a.weight) };
+
+    fn fmt<W: fmt::Write>(&self, f: &mut fmt::Formatter<W>) -> fmt::Result {
+        let blocks = self.blocks;
+        let procedures = self.procedures;
+        let weight = self.weight;
+        write!(
+            f,
+            "accepted {blocks} blocks {procedures} procedures weight {weight}"
+        )
+    }
+}
+
+/// The line of an accepted object, and the status.
+fn accepted(alloc: Global, verified: &Verified) -> Result<Answer, Memory>
+    ensures { IfOk result (λ a. (a.status ≡ ended_status) × (a.text.items ≡ accepted_line verified.now)) }
+{
+    let acceptance = Acceptance {
+        blocks: verified.blocks(),
+        procedures: verified.procedures(),
+        weight: verified.heaviest(),
+    };
+    let line = format!(in alloc; "{acceptance}\n")?;
+    Ok(Answer {
+        text: Vec::from_slice(alloc, line.as_bytes())?,
+        status: ENDED,
+    })
+}
+
+/// The text that is to be written where these bytes are checked, and the status.
+fn check_of(alloc: Global, input: &[u8]) -> Result<Answer, Memory>
+    ensures { IfOk result (λ a. IsCheck input.now a.text.items a.status) }
+{
+    match accepted_in(alloc, input) {
+        Ok(verified) => accepted(alloc, &verified),
+        Err(NoJob::Refused(refusal)) => refused(alloc, refusal),
+        Err(NoJob::OutOfMemory) => Err(Memory),
+    }
+}
+
+/// The line of a refusal of a model text, or of its assembly; or that memory ran out.
+fn refused_text(alloc: Global, fault: Fault) -> Result<Answer, Memory>
+    ensures { IfOk result (λ a. (a.status ≡ refused_status) × (a.text.items ≡ refusal_line fault)) }
+{
+    if fault.code == codes::MEMORY {
+        Err(Memory)
+    } else {
+        refused(alloc, Refusal(fault))
+    }
+}
+
+/// The spelling of an accepted object, and the status.
+fn spelled(alloc: Global, verified: &Verified) -> Result<Answer, Memory>
+    ensures { IfOk result (λ a. (a.status ≡ ended_status) × (a.text.items ≡ spelling verified.now)) }
+{
+    Ok(Answer {
+        text: write(alloc, verified.object())?,
+        status: ENDED,
+    })
+}
+
+/// What the statements of a model text come to, and the status.
+fn work_of(alloc: Global, model: &Model) -> Result<Answer, Memory>
+    ensures { IfOk result (λ a. IsWorkOf model.now.statements.items a.text.items a.status) }
+{
+    match assemble(alloc, model) {
+        Ok(verified) => spelled(alloc, &verified),
+        Err(fault) => refused_text(alloc, fault),
+    }
+}
+
+/// The text that is to be written where these bytes are assembled, and the status.
+fn assembly_of(alloc: Global, input: &[u8]) -> Result<Answer, Memory>
+    ensures { IfOk result (λ a. IsAssembly input.now a.text.items a.status) }
+{
+    match parse(alloc, input) {
+        Ok(model) => work_of(alloc, &model),
+        Err(fault) => refused_text(alloc, fault),
+    }
+}
+
+/// The text that is to be written for a command and these bytes, and the status.
+pub fn answer_to(alloc: Global, command: Command, input: &[u8]) -> Result<Answer, Memory>
+    ensures { IfOk result (λ a. answering command input.now a.text.items a.status) }
+{
+    match command {
+        Command::Asm => assembly_of(alloc, input),
+        Command::Check => check_of(alloc, input),
+        Command::Run { seed, count } => run_of(alloc, seed, count, input),
     }
 }

@@ -6,8 +6,10 @@ ghost use Rattle.gpssw.specs.Refusal.{code_name, making_name as name_of_making, 
 use gw_code_flow::codes as plus_codes;
 use gw_flow::codes as flow_codes;
 use gw_kinds::codes as kinds_codes;
+use gw_names::codes as names_codes;
 use gw_object::{Fault, Place, codes as object_codes};
 use gw_scan::StartFault;
+use gw_text::codes as text_codes;
 use gw_weights::codes as weights_codes;
 use std::fmt;
 
@@ -49,6 +51,12 @@ fn name(code: u16) -> &'static str
         return name;
     }
     if let Some(name) = weights_codes::name(code) {
+        return name;
+    }
+    if let Some(name) = text_codes::name(code) {
+        return name;
+    }
+    if let Some(name) = names_codes::name(code) {
         return name;
     }
     making_name(code)

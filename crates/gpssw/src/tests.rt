@@ -1,6 +1,6 @@
 //! The program over readers and writers of memory, and over such as fail.
 
-use crate::program::{dispatch, run};
+use crate::program::{asm, check, dispatch, run};
 use crate::refusal::Refusal;
 use crate::words::{Command, command_of};
 use gw_object::{Fault, Place};
@@ -123,6 +123,63 @@ fn generate_advance_terminate_ends_at_clock_23(rt: HostRuntime) -> Result<(), Fa
     Ok(())
 }
 
+/// What `asm` writes of a text, and its status.
+fn assembled(alloc: Global, text: &[u8]) -> (Vec<u8>, u8) {
+    let mut reader = Input::new(text);
+    let mut writer = Output::new(Vec::new(alloc));
+    let status = asm(alloc, &mut reader, &mut writer);
+    (writer.into_inner(), status)
+}
+
+#[test]
+fn generate_advance_terminate_assembles_to_97_bytes(rt: HostRuntime) -> Result<(), Fail> {
+    let (object, status) = assembled(
+        rt.alloc(),
+        b" GENERATE 10\n ADVANCE 3\n TERMINATE 1\n START 2\n",
+    );
+    assert_eq!(rt; object.as_slice(), FIRST);
+    assert_eq!(rt; status, 0);
+    Ok(())
+}
+
+#[test]
+fn texts_are_refused_at_a_line_or_a_block(rt: HostRuntime) -> Result<(), Fail> {
+    let cases: [(&[u8], &[u8]); 4] = [
+        (b"FOO 1\n", b"refused 71 Word at line 1\n"),
+        (
+            b" GENERATE 10\n TRANSFER ,NOWHERE\n TERMINATE 1\n",
+            b"refused 80 Name at line 2\n",
+        ),
+        (
+            b" GENERATE 10\n ENTER S\n TERMINATE\n",
+            b"refused 81 Storage at line 2\n",
+        ),
+        (
+            b" GENERATE 10\n RELEASE F\n TERMINATE 1\n",
+            b"refused 22 NotOwner at block 2\n",
+        ),
+    ];
+    for (text, line) in cases {
+        let (said, status) = assembled(rt.alloc(), text);
+        assert_eq!(rt; said.as_slice(), line);
+        assert_eq!(rt; status, 1);
+    }
+    Ok(())
+}
+
+#[test]
+fn an_accepted_object_is_told_by_its_blocks_and_weight(rt: HostRuntime) -> Result<(), Fail> {
+    let mut reader = Input::new(FIRST);
+    let mut writer = Output::new(Vec::new(rt.alloc()));
+    let status = check(rt.alloc(), &mut reader, &mut writer);
+    assert_eq!(rt;
+        writer.into_inner().as_slice(),
+        b"accepted 3 blocks 0 procedures weight 2\n".as_slice()
+    );
+    assert_eq!(rt; status, 0);
+    Ok(())
+}
+
 #[test]
 fn refusals_are_one_line_and_status_1(rt: HostRuntime) -> Result<(), Fail> {
     let cases: [(&[u8], u32, u64, &[u8]); 4] = [
@@ -182,6 +239,8 @@ fn places_are_printed_by_kind_and_numbers(rt: HostRuntime) -> Result<(), Fail> {
         (40, Place::Edge(2, 3), "refused 40 WeightEdge at edge 2 3"),
         (41, Place::Block(4), "refused 41 ChainWeight at block 4"),
         (42, Place::Block(1), "refused 42 ArrivalWeight at block 1"),
+        (72, Place::Line(2), "refused 72 Operand at line 2"),
+        (82, Place::Line(66), "refused 82 Limit at line 66"),
     ];
     for (code, place, text) in cases {
         let refusal = Refusal(Fault { code, place });
@@ -267,8 +326,8 @@ fn other_words_write_the_usage_line_and_read_nothing(rt: HostRuntime) -> Result<
         &["run"],
         &["run", "0"],
         &["run", "0", "0", "0"],
-        &["asm"],
-        &["check"],
+        &["asm", "0"],
+        &["check", "0", "0"],
         &["pool", "2", "7"],
         &["Run", "0", "0"],
         &["", "0", "0"],
