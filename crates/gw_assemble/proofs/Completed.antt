@@ -9,7 +9,7 @@ use Rattle.gw_verify.proofs.AllPass.{is_checked, kinds_pass, plus_passes}
 use Rattle.gw_settle.specs.Settles.{with_table}
 use Rattle.gw_text.specs.declared.model.Statement.{Statement}
 use Rattle.gw_pieces.specs.Pieces.{IsMadeOf}
-use Rattle.gw_pieces.proofs.Computing.{operands_compute}
+use Rattle.gw_pieces.proofs.Computing.{all_compute}
 use Rattle.gw_assemble.specs.Completion.{IsCompletion}
 use Rattle.gw_assemble.specs.Assembly.{Assembles}
 
@@ -25,7 +25,7 @@ module _ (ss : List Statement) (before p : Parts) where
     named = made.named;
     numbers = made.numbers;
     order = made.order;
-    pieces = record { names = made.pieces.names; entities = made.pieces.entities; code = made.pieces.code; count = made.pieces.count };
+    pieces = record { names = made.pieces.names; entities = made.pieces.entities; code = made.pieces.code; count = made.pieces.count; seeds = made.pieces.seeds };
   }
 
   -- and with other weights
@@ -34,7 +34,7 @@ module _ (ss : List Statement) (before p : Parts) where
     named = made.named;
     numbers = made.numbers;
     order = made.order;
-    pieces = record { names = made.pieces.names; entities = made.pieces.entities; code = made.pieces.code; count = made.pieces.count };
+    pieces = record { names = made.pieces.names; entities = made.pieces.entities; code = made.pieces.code; count = made.pieces.count; seeds = made.pieces.seeds };
   }
 
   made_still : IsMadeOf ss before → IsCompletion before p → IsMadeOf ss p
@@ -49,7 +49,7 @@ module _ (ss : List Statement) (before p : Parts) where
       let checked = is_checked p accepted in
       record {
         made = still;
-        computes = operands_compute still.numbers still.order ss p fits (kinds_pass p checked) (plus_passes p checked) still.pieces;
+        computes = all_compute still.numbers still.order ss p fits (kinds_pass p checked) (plus_passes p checked) still.pieces;
         before = before;
         made_before = made;
         completion = completion;

@@ -43,7 +43,7 @@ pub(crate) fn declare_all(
 
 /// Whether a word is EQU.
 #[tactic(auto, unfolding(crate::specs::Places::is_equ))]
-pub(crate) fn is_equ(word: Word) -> bool
+pub fn is_equ(word: Word) -> bool
     ensures { result ≡ model.is_equ word }
 {
     matches!(word, Word::Equ)

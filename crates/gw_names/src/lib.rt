@@ -15,12 +15,13 @@ mod names;
 mod parameters;
 mod sights;
 
+pub use declarations::is_equ;
 pub use entities::{ByKind, Declarations, EntityNames};
 pub use gw_uses::{Use, put_uses, put_uses_of_operand, put_uses_of_procedure};
 pub use judgement::check_uses;
 pub use known::{Known, known_names};
 pub use labels::is_block;
 pub use ledger::{Ledger, Noted};
-pub use maps::set;
+pub use maps::{found, set};
 pub use names::Names;
 pub use sights::Sighted;

@@ -1,11 +1,25 @@
 -- In an object that passes, the operands of statements that are expressions are computed by their procedures.
-use Rattle.std.proofs.Common.{◌≡◌, ◌≤◌, ◌<◌, ◌+◌, ◌++◌, ℕ, zero, suc, List, [], ◌∷◌, length, Option, Some, None, Bool, true, false, slice_get, min, Ok, String, Global, arith, refl, sym, ap, subst, ◌∙◌}
-use Rattle.std.specs.Prelude.{option_and_then, string_bytes, ◌==◌, ◌&&◌, nat_le}
+use Rattle.std.proofs.Common.{◌≡◌, ◌≤◌, ◌+◌, ℕ, ℤ, suc, List, [], ◌∷◌, Option, Some, None, Bool, true, false, slice_get, Ok, String, Global, arith, refl, sym, ap, subst, ◌∙◌}
+use Rattle.std.specs.Prelude.{pos, option_map, option_and_then, string_bytes, ◌==◌, ◌&&◌, nat_le}
 use Rattle.std.proofs.lemmas.Option.{slice_get_within}
 use Rattle.std.proofs.lemmas.Bool.Decides.{nat_tests}
 use Rattle.gw_object.specs.declared.parts.Parts.{Parts}
+use Rattle.gw_object.specs.declared.parts.Function.{Function}
+use Rattle.gw_object.specs.declared.parts.Kind.{Kind}
+use Rattle.gw_object.specs.declared.parts.Kind.TheVariants as kinds
+use Rattle.gw_object.specs.declared.parts.Point.{Point}
+use Rattle.gw_object.specs.declared.parts.Table.{Table}
+use Rattle.gw_blocks.specs.declared.parts.Numbered.{Numbered}
+use Rattle.gw_blocks.specs.declared.parts.Operand.{Operand}
+use Rattle.gw_blocks.specs.declared.parts.Operand.TheVariants as parts
+use Rattle.gw_text_statements.specs.declared.model.Operand.{Operand as Text}
+use Rattle.gw_text_statements.specs.declared.model.Operand.TheVariants as texts
+use Rattle.gw_text_tokens.specs.declared.words.Word.TheVariants as words
+use Rattle.gw_records.specs.Entities.{kind_of, points_in}
+use Rattle.gw_records.specs.Operands.{whole_in, number_in as number_in_text}
+use Rattle.gw_records.specs.Records.{of_two, of_three}
+use Rattle.gw_pieces.specs.Numbers.{with_source}
 use Rattle.gw_object.specs.Grammar.{HasSpelling}
-use Rattle.gw_code.specs.Grammar.{ProcedureFits}
 use Rattle.gw_code.specs.declared.parts.Procedure.{Procedure}
 use Rattle.gw_kinds.specs.Pass.{KindsPass}
 use Rattle.gw_code_flow.specs.Code.{procedure_at, arguments_of}
@@ -27,10 +41,11 @@ use Rattle.gw_compile.specs.Keeps.{SpeakOf, IsCompiled, IsCompiledProcedure}
 use Rattle.gw_compile.specs.Value.{outcome_with, with_value, value_of, values_of, call_value}
 use Rattle.gw_compile.specs.Unknown.{count}
 use Rattle.gw_pieces.specs.declared.origins.Origin.{Origin}
-use Rattle.gw_pieces.specs.Origins.{expression_at, whole_call, is_variable, same_origin, place_from, place_in, in_16_bits, own_number, if_without_arguments, number_called, number_by, number_in, number_for}
-use Rattle.gw_pieces.specs.Sources.{IsFromExpression, IsProcedureOf, IsProcedureOfBody, ComesFrom, AreCompiled}
-use Rattle.gw_pieces.specs.Naming.{number_at, StandsAt, IsCallee, IsEquOf, IsMeant}
-use Rattle.gw_pieces.specs.Pieces.{HasPieces, Computes, OperandsCompute, OperandsComputeWherePassed}
+use Rattle.gw_pieces.specs.Origins.{expression_in, expression_at, whole_call, is_variable, same_origin, place_from, place_in, in_16_bits, own_number, if_without_arguments, number_called, number_by, number_in, number_for, numbers_for}
+use Rattle.gw_pieces.specs.Sources.{IsFromExpression, IsProcedureOf, IsProcedureOfBody}
+use Rattle.gw_pieces.specs.Naming.{number_at, IsCallee, IsEquOf}
+use Rattle.gw_pieces.proofs.Meanings.{callee_is, equ_is}
+use Rattle.gw_pieces.specs.Pieces.{HasPieces, Computes, OperandsCompute, IsEvaluated, ByProcedure, DeclarationsCompute, EquationsCompute, AllCompute, AllComputeWherePassed}
 
 -- one thing isn't two
 same : {A : Type 0} (o : Option A) (x y : A) → o ≡ Some x → o ≡ Some y → x ≡ y
@@ -75,7 +90,7 @@ found k q (o ∷ origins) origin h = cases (same_origin o origin)
     let later = found (k + 1) q origins origin e in
     (suc later.0, omega (arith, later.1), later.2))
 
-module _ (n : Numbers) (order : List Origin) (ss : List Statement) (p : Parts) (fits : HasSpelling p) (kinds : KindsPass p) (plus : PlusPasses p) (pieces : HasPieces n order ss p) where
+module _ (n : Numbers) (order : List Origin) (ss : List Statement) (p : Parts) (fits : HasSpelling p) (kinds_pass : KindsPass p) (plus : PlusPasses p) (pieces : HasPieces n order ss p) where
   -- a procedure that comes from the origin at a place
   record Comes (place : ℕ) (s : Statement) : Type 0 where
     procedure : Procedure
@@ -112,7 +127,7 @@ module _ (n : Numbers) (order : List Origin) (ss : List Statement) (p : Parts) (
 
   -- the arguments of a procedure are few
   few : (q : ℕ) (pr : Procedure) → procedure_at p q ≡ Some pr → pr.arguments ≤ 32
-  few q pr there = let f = ((code_holds p fits kinds).procedures q pr there).0 in omega (arith, f.arguments, f.locals)
+  few q pr there = let f = ((code_holds p fits kinds_pass).procedures q pr there).0 in omega (arith, f.arguments, f.locals)
 
   arguments_are : (q : ℕ) (pr : Procedure) → procedure_at p q ≡ Some pr → arguments_of (procedure_at p q) ≡ pr.arguments
   arguments_are q pr there = rw there refl
@@ -135,13 +150,13 @@ module _ (n : Numbers) (order : List Origin) (ss : List Statement) (p : Parts) (
 
   pub speaks : SpeakOf n p
   speaks = record {
-    calls = λ name c h. callee_speaks name c (pieces.names.callees name c h);
-    equs = λ name q h. equ_speaks name q (pieces.names.equs name (equs.Procedure q) h);
+    calls = λ name c h. callee_speaks name c (callee_is ss order name c (sym (pieces.names.callees name) ∙ h));
+    equs = λ name q h. equ_speaks name q (equ_is ss order name (equs.Procedure q) (sym (pieces.names.equs name) ∙ h));
   }
 
   -- what is compiled from an expression computes it
   computed : (q : ℕ) (before : List Procedure) (e : Expression) (pr : Procedure) → procedure_at p q ≡ Some pr → IsCompiled n before e pr → Computes n p e q
-  computed q before e pr there compiled = record { procedure = pr; there = there; value = λ env set. compiled.value p env q fits kinds plus speaks there set }
+  computed q before e pr there compiled = record { procedure = pr; there = there; value = λ env set. compiled.value p env q fits kinds_pass plus speaks there set }
 
   -- an operand with a procedure of its own
   own : (i : ℕ) (s : Statement) (k : ℕ) (e : Expression) (q : ℕ) → slice_get ss i ≡ Some s → ((b : Body) × (s.body ≡ b) × ((pr : TextProcedure) → b ≡ bodies.Procedure pr → ⊥)) → expression_at s k ≡ Some e → own_number order i k ≡ Some q → Computes n p e q
@@ -189,7 +204,7 @@ module _ (n : Numbers) (order : List Origin) (ss : List Statement) (p : Parts) (
   of_number c name e q there h comes_to = cases (c.arguments == 0)
       (λ none.
       let number : c.number ≡ q = let x = rw none at h in cc in
-      let is = pieces.names.callees name c there in
+      let is = callee_is ss order name c (sym (pieces.names.callees name) ∙ there) in
       let place : c.number ≡ is.place = is.number ∙ within is.place is.stands.origin is.stands.there in
       let here = comes is.place is.stands.origin is.statement is.stands.there is.stands.statement in
       record {
@@ -235,5 +250,115 @@ module _ (n : Numbers) (order : List Origin) (ss : List Statement) (p : Parts) (
   pub operands : OperandsCompute n order ss p
   operands i s k e q at there number = by_statement i s k e q at there s.body refl (rw there at number)
 
-pub operands_compute : OperandsComputeWherePassed
-operands_compute n order ss p fits kinds plus pieces = operands n order ss p fits kinds plus pieces
+  -- DECLARATIONS
+
+  made_by : (make : ℕ → Kind) (o : Option ℕ) (kind : Kind) → option_map make o ≡ Some kind → (q : ℕ) × (o ≡ Some q) × (kind ≡ make q)
+  made_by make None kind h = absurd cc
+  made_by make (Some q) kind h = let e : make q ≡ kind = cc in (q, refl, sym e)
+
+  module _ (i : ℕ) (s : Statement) (e : Expression) (kind : Kind) (source : Numbered → Operand) (at : slice_get ss i ≡ Some s) (there : expression_at s 0 ≡ Some e) where
+    abbrev own_of : Option ℕ
+    own_of = number_for n order s i 0
+
+    abbrev makes : Word → List Text → Body → Option Kind
+    makes word l b = kind_of (with_source n source) (numbers_for (with_source n source) order s i) word l b
+
+    evaluated : (word : Word) (q : ℕ) → own_of ≡ Some q → ByProcedure word q kind → IsEvaluated n p e (ByProcedure word) kind
+    evaluated word q own by = record { number = q; kind_is = by; computes = operands i s 0 e q at there own }
+
+    as_variable : (l : List Text) (b : Body) → makes words.Variable l b ≡ Some kind → option_map kinds.Variable own_of ≡ Some kind
+    as_variable [] b h = absurd cc
+    as_variable (o ∷ []) b h = h
+    as_variable (o ∷ x ∷ l) b h = absurd cc
+
+    as_boolean : (l : List Text) (b : Body) → makes words.BVariable l b ≡ Some kind → option_map kinds.BooleanVariable own_of ≡ Some kind
+    as_boolean [] b h = absurd cc
+    as_boolean (o ∷ []) b h = h
+    as_boolean (o ∷ x ∷ l) b h = absurd cc
+
+    table_with : (q : ℕ) (l : Option ℤ) (w c : Option ℕ) → of_three (λ l w c. kinds.Table (record { argument = parts.Procedure q; limit = l; width = w; classes = c })) l w c ≡ Some kind → ByProcedure words.Table q kind
+    table_with q (Some l) (Some w) (Some c) h =
+        let t : Table = record { argument = parts.Procedure q; limit = l; width = w; classes = c } in
+        let is : kinds.Table t ≡ kind = cc in
+        (t, sym is, refl)
+    table_with q None w c h = absurd cc
+    table_with q (Some l) None c h = absurd cc
+    table_with q (Some l) (Some w) None h = absurd cc
+
+    table_by : (limit width classes : Text) (o : Option ℕ) → option_and_then (λ a. of_three (λ l w c. kinds.Table (record { argument = a; limit = l; width = w; classes = c })) (whole_in (pos 0) limit) (number_in_text 4294967295 width) (number_in_text 65535 classes)) (option_map parts.Procedure o) ≡ Some kind
+        → (q : ℕ) × (o ≡ Some q) × ByProcedure words.Table q kind
+    table_by limit width classes None h = absurd cc
+    table_by limit width classes (Some q) h = (q, refl, table_with q (whole_in (pos 0) limit) (number_in_text 4294967295 width) (number_in_text 65535 classes) h)
+
+    as_table : (l : List Text) (b : Body) → expression_in (slice_get l 0) ≡ Some e → makes words.Table l b ≡ Some kind → (q : ℕ) × (own_of ≡ Some q) × ByProcedure words.Table q kind
+    as_table [] b is h = absurd cc
+    as_table (texts.Missing ∷ l) b is h = absurd cc
+    as_table (texts.Name name ∷ l) b is h = absurd cc
+    as_table (texts.Whole z ∷ l) b is h = absurd cc
+    as_table (texts.Fraction t ∷ l) b is h = absurd cc
+    as_table (texts.Sna sna ∷ l) b is h = absurd cc
+    as_table (texts.Expression x ∷ []) b is h = absurd cc
+    as_table (texts.Expression x ∷ limit ∷ []) b is h = absurd cc
+    as_table (texts.Expression x ∷ limit ∷ width ∷ []) b is h = absurd cc
+    as_table (texts.Expression x ∷ limit ∷ width ∷ classes ∷ []) b is h = table_by limit width classes own_of h
+    as_table (texts.Expression x ∷ limit ∷ width ∷ classes ∷ y ∷ l) b is h = absurd cc
+
+    function_by : (o : Option ℕ) (points : Option (List Point)) → of_two (λ a ps. kinds.Function (record { argument = a; points = ps })) (option_map parts.Procedure o) points ≡ Some kind → (q : ℕ) × (o ≡ Some q) × ByProcedure words.Function q kind
+    function_by None points h = absurd cc
+    function_by (Some q) None h = absurd cc
+    function_by (Some q) (Some ps) h =
+        let f : Function = record { argument = parts.Procedure q; points = ps } in
+        let is : kinds.Function f ≡ kind = cc in
+        (q, refl, (f, sym is, refl))
+
+    as_function : (l : List Text) (b : Body) → expression_in (slice_get l 0) ≡ Some e → makes words.Function l b ≡ Some kind → (q : ℕ) × (own_of ≡ Some q) × ByProcedure words.Function q kind
+    as_function [] b is h = absurd cc
+    as_function (texts.Missing ∷ l) b is h = absurd cc
+    as_function (texts.Name name ∷ l) b is h = absurd cc
+    as_function (texts.Whole z ∷ l) b is h = absurd cc
+    as_function (texts.Fraction t ∷ l) b is h = absurd cc
+    as_function (texts.Sna sna ∷ l) b is h = absurd cc
+    as_function (texts.Expression x ∷ []) b is h = function_by own_of (points_in b) h
+    as_function (texts.Expression x ∷ y ∷ l) b is h = absurd cc
+
+  variables : DeclarationsCompute words.Variable n order ss p
+  variables i s e kind source at word there h =
+      let m = made_by kinds.Variable (number_for n order s i 0) kind (as_variable i s e kind source at there s.operands.items s.body (subst (λ w. makes i s e kind source at there w s.operands.items s.body ≡ Some kind) word h)) in
+      evaluated i s e kind source at there words.Variable m.0 m.1 m.2
+
+  boolean_variables : DeclarationsCompute words.BVariable n order ss p
+  boolean_variables i s e kind source at word there h =
+      let m = made_by kinds.BooleanVariable (number_for n order s i 0) kind (as_boolean i s e kind source at there s.operands.items s.body (subst (λ w. makes i s e kind source at there w s.operands.items s.body ≡ Some kind) word h)) in
+      evaluated i s e kind source at there words.BVariable m.0 m.1 m.2
+
+  tables : DeclarationsCompute words.Table n order ss p
+  tables i s e kind source at word there h =
+      let m = as_table i s e kind source at there s.operands.items s.body there (subst (λ w. makes i s e kind source at there w s.operands.items s.body ≡ Some kind) word h) in
+      evaluated i s e kind source at there words.Table m.0 m.1 m.2
+
+  functions : DeclarationsCompute words.Function n order ss p
+  functions i s e kind source at word there h =
+      let m = as_function i s e kind source at there s.operands.items s.body there (subst (λ w. makes i s e kind source at there w s.operands.items s.body ≡ Some kind) word h) in
+      evaluated i s e kind source at there words.Function m.0 m.1 m.2
+
+  -- EQUS
+
+  equations : EquationsCompute n order ss p
+  unfolding comes
+  equations name q h =
+      let is = equ_is ss order name (equs.Procedure q) (sym (pieces.names.equs name) ∙ h) in
+      let here = comes is.place is.stands.origin is.statement is.stands.there is.stands.statement in
+      let number : q ≡ is.place = is.number ∙ within is.place is.stands.origin is.stands.there in
+      let from = by_nothing is.statement.body here.before is.statement is.stands.origin.operand here.procedure is.body here.compiled in
+      record {
+        equ = is;
+        expression = from.0;
+        there = from.1;
+        computes = computed q here.before from.0 here.procedure (subst (λ x. procedure_at p x ≡ Some here.procedure) (sym number) here.there) from.2;
+      }
+
+  pub all : AllCompute n order ss p
+  all = record { operands = operands; variables = variables; boolean_variables = boolean_variables; tables = tables; functions = functions; equations = equations }
+
+pub all_compute : AllComputeWherePassed
+all_compute n order ss p fits kinds_pass plus pieces = all n order ss p fits kinds_pass plus pieces

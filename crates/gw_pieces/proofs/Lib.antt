@@ -1,8 +1,14 @@
 pub mod Computing
 pub mod Rows
 pub mod Walks
-pub mod Names
+pub mod Succeeding
 pub mod Compiled
 pub mod Sighting
 pub mod Noted
+pub mod Noting
+pub mod Meanings
+pub mod Searching
+pub mod Reasoning
+pub mod Seeding
+pub mod Visiting
 pub mod Made

@@ -1,9 +1,8 @@
 -- What is made by names that are known is what the statements become.
-use Rattle.std.proofs.Common.{◌≡◌, ◌∙◌, ℕ, List, [], ◌∷◌, map, Option, ap, sym, subst, string_bytes}
+use Rattle.std.proofs.Common.{◌≡◌, ◌∙◌, ℕ, List, [], ◌∷◌, map, Option, ap, subst, string_bytes}
 use Rattle.gw_blocks.specs.declared.parts.Block.{Block}
 use Rattle.gw_code.specs.declared.parts.Procedure.{Procedure}
 use Rattle.gw_object.specs.declared.parts.Entity.{Entity}
-use Rattle.gw_kinds.specs.declared.entities.EntityKind.{EntityKind}
 use Rattle.gw_text.specs.declared.model.Statement.{Statement}
 use Rattle.gw_compile.specs.Numbers.{Numbers}
 use Rattle.gw_names.specs.declared.known.Known.{Known}
@@ -17,10 +16,10 @@ use Rattle.gw_names.specs.Sights.{entities_of}
 use Rattle.gw_pieces.specs.declared.naming.Meanings.{Meanings}
 use Rattle.gw_pieces.specs.declared.origins.Origin.{Origin}
 use Rattle.gw_pieces.specs.Numbers.{numbers_of, with_source}
-use Rattle.gw_pieces.specs.Naming.{OfEach, IsCallee, IsMeant}
-use Rattle.gw_pieces.specs.Entities.{IsKindBy, IsSightedAs, AreSightedAs, AreEntitiesOf}
+use Rattle.gw_pieces.specs.Order.{order_in}
+use Rattle.gw_pieces.specs.Entities.{IsKindBy, AreSightedAs, AreEntitiesOf}
 use Rattle.gw_pieces.specs.Pieces.{NumbersText}
-use Rattle.gw_pieces.specs.Making.{HasAllBy, NamesOf, AreMade}
+use Rattle.gw_pieces.specs.Making.{HasAllBy, NamesOf, AreMeanings, AreMade}
 
 abbrev declaration : Sighted → Option ℕ
 declaration s = s.declaration
@@ -46,20 +45,25 @@ sighted_are n order ss (s ∷ sighted) (k ∷ ks) (e ∷ es) keys declared h =
     (record { name = h.0.name ∙ name; kind = of_name }, sighted_are n order ss sighted ks es others rest h.1)
 
 module _ (ss : List Statement) (order : List Origin) (known : Known) (meanings : Meanings) (names : Names) (named : NamesOf known meanings names) (knows : Knows ss known)
-    (callees : OfEach (IsCallee ss order) meanings.procedures) (equs : OfEach (IsMeant ss order) meanings.equs) where
+    (is : order ≡ order_in ss) (meant : AreMeanings ss order meanings) where
+  -- names have the numbers that the text gives them
+  pub names_are : NumbersText (numbers_of names) order ss
+  names_are = record {
+    ordered = is;
+    entities = λ kind name. ap (λ x. entity_of x kind name) named.entities ∙ knows.uses.entity kind name;
+    labels = λ label. ap (λ x. found_in x label) named.blocks ∙ knows.places.block label;
+    parameters = λ name. ap (λ x. found_in x name) named.parameters ∙ knows.uses.parameter name;
+    callees = λ name. ap (λ x. found_in x name) named.procedures ∙ meant.procedures name;
+    equs = λ name. ap (λ x. found_in x name) named.equs ∙ meant.equs name;
+  }
+
   pub are_made : (es : List Entity) (procedures : List Procedure) (blocks : List Block) → HasAllBy (numbers_of names) order ss known.sighted.items es procedures blocks → AreMade ss es procedures blocks
   are_made es procedures blocks h =
       let n = with_source (numbers_of names) h.0 in
       record {
         numbers = n;
         order = order;
-        names = record {
-          entities = λ kind name. ap (λ x. entity_of x kind name) named.entities ∙ knows.uses.entity kind name;
-          labels = λ label. ap (λ x. found_in x label) named.blocks ∙ knows.places.block label;
-          parameters = λ name. ap (λ x. found_in x name) named.parameters ∙ knows.uses.parameter name;
-          callees = λ name c is. callees name c (sym (ap (λ x. found_in x name) named.procedures) ∙ is);
-          equs = λ name e is. equs name e (sym (ap (λ x. found_in x name) named.equs) ∙ is);
-        };
+        names = record { ordered = is; entities = names_are.entities; labels = names_are.labels; parameters = names_are.parameters; callees = names_are.callees; equs = names_are.equs };
         each_entity = sighted_are n order ss known.sighted.items (entities_of ss) es knows.uses.sighted knows.uses.declared h.1.sights;
         code = h.1.code;
       }

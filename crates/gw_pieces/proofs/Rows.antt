@@ -1,5 +1,5 @@
 -- A call that is whole, by its arguments as they lie in memory.
-use Rattle.std.proofs.Common.{◌≡◌, suc, length, refl, ap, ◌∙◌, List, Option, Some, None, Vec, Global}
+use Rattle.std.proofs.Common.{◌≡◌, suc, length, refl, ap, ◌∙◌, Some, None, Vec, Global}
 use Rattle.std.specs.Prelude.{string_bytes, if◌then◌else◌, ◌==◌}
 use Rattle.std.specs.declared.string.String.{String}
 use mathlib.Core.Former.{Count}

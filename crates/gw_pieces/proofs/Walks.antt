@@ -1,5 +1,5 @@
 -- Walks over the statements of a text, one statement after the other.
-use Rattle.std.proofs.Common.{◌≡◌, ℕ, zero, suc, ◌+◌, List, [], ◌∷◌, ◌++◌, Option, Some, None, slice_get, refl, sym, ap, subst, ◌∙◌, append_assoc, drop, length, get_or, ◌<◌, arith}
+use Rattle.std.proofs.Common.{◌≡◌, ℕ, zero, suc, ◌+◌, List, [], ◌∷◌, ◌++◌, Some, None, slice_get, refl, sym, ap, subst, ◌∙◌, append_assoc, drop, length, get_or, ◌<◌, ◌≤◌, arith}
 use Rattle.std.proofs.lemmas.Option.{slice_get_read}
 use Rattle.gw_blocks.specs.declared.parts.Block.{Block}
 use Rattle.gw_text.specs.declared.model.Statement.{Statement}
@@ -21,6 +21,15 @@ split_at xs i x h =
 -- what was read at a place stands there
 pub read_at : {A : Type 0} (xs ys : List A) (i : ℕ) (x : A) → ys ≡ xs → i < length ys → ((d : A) → x ≡ get_or ys i d) → slice_get xs i ≡ Some x
 read_at xs ys i x same below is = subst (λ zs. slice_get zs i ≡ Some x) same (slice_get_read ys (length ys) i x refl below (is x))
+
+past : {A : Type 0} (xs : List A) (i : ℕ) → length xs ≤ i → slice_get xs i ≡ None
+past [] i h = refl
+past (x ∷ xs) zero h = absurd (omega (arith, h))
+past (x ∷ xs) (suc i) h = past xs i (omega (arith, h))
+
+-- and behind the end nothing does
+pub none_at : {A : Type 0} (xs ys : List A) (i : ℕ) → ys ≡ xs → length ys ≤ i → slice_get xs i ≡ None
+none_at xs ys i same behind_all = subst (λ zs. slice_get zs i ≡ None) same (past ys i behind_all)
 
 module _ (n : Numbers) (order : List Origin) (ss : List Statement) (i : ℕ) (s : Statement) (at : slice_get ss i ≡ Some s) where
   pub next_block : (before after whole : List Block) → after ≡ before ++ block_at n order s i → before ++ blocks_from n order i (drop i ss) ≡ whole → after ++ blocks_from n order (i + 1) (drop (i + 1) ss) ≡ whole

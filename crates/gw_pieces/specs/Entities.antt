@@ -1,5 +1,5 @@
 -- The entities of a model text.
-use Rattle.std.specs.Prelude.{◌≡◌, ℕ, ℤ, pos, List, [], ◌∷◌, ◌++◌, Option, Some, None, Bool, true, false, not, slice_get, string_bytes, unwrap_or}
+use Rattle.std.specs.Prelude.{◌≡◌, ℕ, ℤ, pos, List, [], ◌∷◌, ◌++◌, Option, Some, None, not, slice_get, string_bytes, unwrap_or}
 use Rattle.std.specs.List.{flat_map}
 use Rattle.gw_num.specs.Arithmetic.{is_zero}
 use Rattle.gw_blocks.specs.declared.parts.Numbered.{Numbered}
@@ -9,7 +9,6 @@ use Rattle.gw_kinds.specs.declared.entities.EntityKind.TheVariants as needed
 use Rattle.gw_object.specs.declared.parts.Entity.{Entity}
 use Rattle.gw_object.specs.declared.parts.Kind.{Kind}
 use Rattle.gw_object.specs.declared.parts.Kind.TheVariants as kinds
-use Rattle.gw_text_expressions.specs.declared.model.EntityValue.{EntityValue}
 use Rattle.gw_text_expressions.specs.declared.model.EntityValue.TheVariants as values
 use Rattle.gw_text_expressions.specs.declared.model.Sna.{Sna}
 use Rattle.gw_text_expressions.specs.declared.model.Sna.TheVariants.{OfEntity}

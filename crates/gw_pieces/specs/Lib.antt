@@ -7,4 +7,7 @@ pub mod Naming
 pub mod Settings
 pub mod Entities
 pub mod Pieces
+pub mod Order
+pub mod Notes
+pub mod Reasons
 pub mod Making

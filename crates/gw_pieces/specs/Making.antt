@@ -1,12 +1,13 @@
 -- What is made of a model text, before it is an object.
-use Rattle.std.specs.Prelude.{◌≡◌, ◌⊎◌, List}
+use Rattle.std.specs.Prelude.{◌≡◌, ◌⊎◌, ℕ, List, Option, Some, None}
 use Rattle.gw_blocks.specs.declared.parts.Block.{Block}
 use Rattle.gw_code.specs.declared.parts.Procedure.{Procedure}
 use Rattle.gw_object.specs.declared.parts.Entity.{Entity}
 use Rattle.gw_object.specs.declared.fault.Fault.{Fault}
 use Rattle.gw_object.specs.Reading.{out_of_memory}
 use Rattle.gw_names.specs.declared.ledger.Noted.{Noted}
-use Rattle.gw_names.specs.Ledger.{as_fault}
+use Rattle.gw_names.specs.Ledger.{as_fault, with_notes}
+use Rattle.gw_names.specs.Judgement.{refusals_in}
 use Rattle.gw_text.specs.declared.model.Statement.{Statement}
 use Rattle.gw_compile.specs.Numbers.{Numbers}
 use Rattle.gw_blocks.specs.declared.parts.Numbered.{Numbered}
@@ -17,7 +18,12 @@ use Rattle.gw_names.specs.declared.sights.Sighted.{Sighted}
 use Rattle.gw_pieces.specs.declared.naming.Meanings.{Meanings}
 use Rattle.gw_pieces.specs.Numbers.{with_source}
 use Rattle.gw_pieces.specs.declared.origins.Origin.{Origin}
-use Rattle.gw_names.specs.Sights.{entities_of}
+use Rattle.gw_names.specs.Sights.{entities_of, limits_in}
+use Rattle.gw_pieces.specs.Notes.{NotesMore}
+use Rattle.gw_pieces.specs.Order.{order_in}
+use Rattle.gw_pieces.specs.Naming.{callee_of, equ_meant}
+use Rattle.gw_pieces.specs.Reasons.{CodeLimit, PieceMissing, surplus_in}
+use Rattle.gw_names.specs.Known.{found_in}
 use Rattle.gw_pieces.specs.Entities.{AreSightedAs, AreEntitiesOf}
 use Rattle.gw_pieces.specs.Pieces.{NumbersText, HasCode, IsNamed}
 
@@ -51,6 +57,30 @@ pub record AreMadeNamed (ss : List Statement) (entities : List Entity) (procedur
   pub made : AreMade ss entities procedures blocks
   pub named : IsNamed ss
 
--- a text isn't made: some of it is refused at a line, or memory ran out
-abbrev pub IsNotMade : Fault → Type 0
-IsNotMade fault = ((note : Noted) × (fault ≡ as_fault note)) ⊎ (fault ≡ out_of_memory)
+-- what the names of PROCEDUREs and EQUs stand for is known, where the procedures have these origins, in order
+pub record AreMeanings (ss : List Statement) (order : List Origin) (meanings : Meanings) : Type 0 where
+  pub procedures : (name : List ℕ) → found_in meanings.procedures name ≡ callee_of ss order name
+  pub equs : (name : List ℕ) → found_in meanings.equs name ≡ equ_meant ss order name
+
+-- what was noted goes on with what the pieces of a text lack
+pub record NotesPieces (ss : List Statement) (before after : Option Noted) : Type 0 where
+  pub numbers : Numbers
+  pub names : NumbersText numbers (order_in ss) ss
+  pub notes : NotesMore (CodeLimit numbers (order_in ss) ss) (PieceMissing numbers (order_in ss) ss) before after
+
+-- the first refusal behind those of names and of a procedure too many
+abbrev pub noted_of_names : List Statement → Option Noted → Option Noted
+noted_of_names ss before = with_notes (with_notes before (refusals_in ss)) (surplus_in ss (order_in ss))
+
+abbrev pub noted_of_text : List Statement → Option Noted → Option Noted
+noted_of_text ss before = noted_of_names ss (with_notes before (limits_in ss))
+
+-- a text is refused at a line: by the first of the refusals of its names, of a procedure too many, and of what its pieces lack
+pub record IsRefusedAtLine (ss : List Statement) (fault : Fault) : Type 0 where
+  pub note : Noted
+  pub first : NotesPieces ss (noted_of_text ss None) (Some note)
+  pub answer : fault ≡ as_fault note
+
+-- a text isn't made: it is refused at a line, or memory ran out
+abbrev pub IsNotMade : List Statement → Fault → Type 0
+IsNotMade ss fault = IsRefusedAtLine ss fault ⊎ (fault ≡ out_of_memory)

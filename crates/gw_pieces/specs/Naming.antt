@@ -1,31 +1,74 @@
 -- What the names of PROCEDUREs and EQUs stand for, where the procedures have these origins, in order.
-use Rattle.std.specs.Prelude.{◌≡◌, ℕ, min, length, List, Option, Some, slice_get, option_map, string_bytes, Bool, if◌then◌else◌}
-use Rattle.std.specs.Str.{bytes_eq}
-use Rattle.std.specs.declared.string.String.{String}
-use Rattle.indexmap.specs.IndexMap.{IndexMap}
+use Rattle.std.specs.Prelude.{◌≡◌, ℕ, ◌+◌, ℤ, min, length, List, [], ◌∷◌, ◌++◌, Option, Some, None, slice_get, option_and_then, string_bytes, true, if◌then◌else◌}
+use Rattle.std.specs.Option.{option_or}
 use Rattle.gw_text_plus.specs.declared.model.Procedure.{Procedure as TextProcedure}
-use Rattle.gw_text_tokens.specs.declared.words.Word.TheVariants as words
+use Rattle.gw_text.specs.declared.model.Body.{Body}
 use Rattle.gw_text.specs.declared.model.Body.TheVariants as bodies
 use Rattle.gw_text.specs.declared.model.Statement.{Statement}
 use Rattle.gw_compile.specs.declared.numbering.Callee.{Callee}
 use Rattle.gw_compile.specs.declared.numbering.Equ.{Equ}
 use Rattle.gw_compile.specs.declared.numbering.Equ.TheVariants.{Number, Procedure}
-use Rattle.gw_names.specs.declared.known.Known.{Known}
-use Rattle.gw_names.specs.Known.{found_in}
-use Rattle.gw_names.specs.Places.{equ_number_of}
+use Rattle.gw_names.specs.Places.{is_equ, label_of, named, last_of, equ_number_of}
 use Rattle.gw_pieces.specs.declared.origins.Origin.{Origin}
-
--- this is so of each name in a map
-abbrev pub OfEach : {X Y S : Type 0} → (List ℕ → X → Type 0) → IndexMap (String Y) X S → Type 0
-OfEach P m = (name : List ℕ) (x : _) → found_in m name ≡ Some x → P name x
-
--- it is known which EQUs are numbers
-abbrev pub KnowsNumbers : List Statement → Known → Type 0
-KnowsNumbers ss known = (name : List ℕ) → found_in known.equ_numbers name ≡ equ_number_of ss name
 
 -- a number of a procedure, as 16 bits hold it
 abbrev pub number_at : ℕ → ℕ
 number_at place = min place 65535
+
+-- MEANINGS
+
+-- what these give names, one after the other, of which the first has this place
+abbrev pub entries_from : {A X : Type 0} → (A → ℕ → List (List ℕ × X)) → ℕ → List A → List (List ℕ × X)
+entries_from entry i [] = []
+entries_from entry i (x ∷ xs) = entry x i ++ entries_from entry (i + 1) xs
+
+-- the PROCEDURE of a statement is called by the number of its procedure, with as many arguments as it has
+abbrev pub callee_of_body : Body → ℕ → List (List ℕ × Callee)
+callee_of_body (bodies.Procedure pr) place = (string_bytes pr.name, record { number = number_at place; arguments = min (length pr.arguments.items) 255 }) ∷ []
+callee_of_body bodies.Nothing place = []
+callee_of_body (bodies.Points points) place = []
+
+abbrev pub callee_of_statement : Option Statement → ℕ → List (List ℕ × Callee)
+callee_of_statement None place = []
+callee_of_statement (Some s) place = callee_of_body s.body place
+
+abbrev pub callee_of_origin : List Statement → Origin → ℕ → List (List ℕ × Callee)
+callee_of_origin ss o place = callee_of_statement (slice_get ss o.statement) place
+
+-- what the name of a PROCEDURE stands for
+abbrev pub callee_of : List Statement → List Origin → List ℕ → Option Callee
+callee_of ss order name = last_of (entries_from (callee_of_origin ss) 0 order) name
+
+-- an EQU stands for its procedure
+abbrev pub equ_of_body : Body → Statement → ℕ → List (List ℕ × Equ)
+equ_of_body bodies.Nothing s place = if is_equ s.word then named (label_of s) (Procedure (number_at place)) else []
+equ_of_body (bodies.Procedure pr) s place = []
+equ_of_body (bodies.Points points) s place = []
+
+abbrev pub equ_of_statement : Option Statement → ℕ → List (List ℕ × Equ)
+equ_of_statement None place = []
+equ_of_statement (Some s) place = equ_of_body s.body s place
+
+abbrev pub equ_of_origin : List Statement → Origin → ℕ → List (List ℕ × Equ)
+equ_of_origin ss o place = equ_of_statement (slice_get ss o.statement) place
+
+-- or for the number that it is
+abbrev pub numbered : Option (List ℕ) → Option ℤ → List (List ℕ × Equ)
+numbered name None = []
+numbered name (Some z) = named name (Number z)
+
+abbrev pub equ_of_number : (List ℕ → Option ℤ) → Statement → ℕ → List (List ℕ × Equ)
+equ_of_number numbers s i = if is_equ s.word then numbered (label_of s) (option_and_then numbers (label_of s)) else []
+
+-- what a name stands for, where these names are numbers
+abbrev pub equ_by : (List ℕ → Option ℤ) → List Statement → List Origin → List ℕ → Option Equ
+equ_by numbers ss order name = option_or (last_of (entries_from (equ_of_number numbers) 0 ss) name) (last_of (entries_from (equ_of_origin ss) 0 order) name)
+
+-- what the name of an EQU stands for
+abbrev pub equ_meant : List Statement → List Origin → List ℕ → Option Equ
+equ_meant ss order name = equ_by (equ_number_of ss) ss order name
+
+-- WHAT THEY ARE
 
 -- the origin at a place of an order, and its statement
 pub record StandsAt (ss : List Statement) (order : List Origin) (place : ℕ) (s : Statement) : Type 0 where
@@ -50,8 +93,8 @@ pub record IsEquOf (ss : List Statement) (order : List Origin) (name : List ℕ)
   pub statement : Statement
   pub stands : StandsAt ss order place statement
   pub body : statement.body ≡ bodies.Nothing
-  pub word : statement.word ≡ words.Equ
-  pub label : option_map string_bytes statement.label ≡ Some name
+  pub word : is_equ statement.word ≡ true
+  pub label : label_of statement ≡ Some name
   pub number : q ≡ number_at place
 
 -- a name stands for the number that its EQU is, or its EQU becomes a procedure

@@ -1,10 +1,14 @@
 -- What a model text becomes, piece by piece.
-use Rattle.std.specs.Prelude.{◌≡◌, ℕ, ℤ, List, [], ◌++◌, Option, Some, slice_get, replicate, length, None}
+use Rattle.std.specs.Prelude.{◌≡◌, ℕ, List, [], Some, slice_get}
 use Rattle.gw_blocks.specs.declared.parts.Block.{Block}
+use Rattle.gw_blocks.specs.declared.parts.Numbered.{Numbered}
+use Rattle.gw_blocks.specs.declared.parts.Operand.{Operand}
+use Rattle.gw_blocks.specs.declared.parts.Operand.TheVariants as operands
 use Rattle.gw_code.specs.declared.parts.Procedure.{Procedure}
-use Rattle.gw_object.specs.declared.fault.Fault.{Fault}
-use Rattle.gw_object.specs.declared.fault.Place.TheVariants.{Line}
-use Rattle.gw_object.specs.declared.parts.Entity.{Entity}
+use Rattle.gw_object.specs.declared.parts.Function.{Function}
+use Rattle.gw_object.specs.declared.parts.Kind.{Kind}
+use Rattle.gw_object.specs.declared.parts.Kind.TheVariants as kinds
+use Rattle.gw_object.specs.declared.parts.Table.{Table}
 use Rattle.gw_object.specs.declared.parts.Parts.{Parts}
 use Rattle.gw_object.specs.Grammar.{HasSpelling}
 use Rattle.gw_kinds.specs.declared.entities.EntityKind.{EntityKind}
@@ -15,33 +19,37 @@ use Rattle.gw_code_flow.specs.Laws.{HasSet}
 use Rattle.gw_code_flow.specs.Outcome.{outcome_of}
 use Rattle.gw_code_flow.specs.PlusChecks.{PlusPasses}
 use Rattle.gw_text_expressions.specs.declared.model.Expression.{Expression}
+use Rattle.gw_text_tokens.specs.declared.words.Word.{Word}
+use Rattle.gw_text_tokens.specs.declared.words.Word.TheVariants as words
 use Rattle.gw_text.specs.declared.model.Statement.{Statement}
-use Rattle.gw_compile.specs.declared.numbering.Callee.{Callee}
-use Rattle.gw_compile.specs.declared.numbering.Equ.{Equ}
+use Rattle.gw_compile.specs.declared.numbering.Equ.TheVariants as equs
+use Rattle.gw_records.specs.Entities.{entity_kind}
+use Rattle.gw_pieces.specs.Numbers.{with_source}
 use Rattle.gw_compile.specs.Numbers.{Numbers}
 use Rattle.gw_compile.specs.Value.{value_of}
-use Rattle.gw_names.specs.declared.ledger.Noted.{Noted}
 use Rattle.gw_names.specs.Judgement.{refusals_in}
 use Rattle.gw_names.specs.Known.{key}
 use Rattle.gw_names.specs.Places.{block_of}
 use Rattle.gw_names.specs.Sights.{entities_of, number_among, parameter_of, limits_in}
 use Rattle.gw_pieces.specs.declared.origins.Origin.{Origin}
-use Rattle.gw_pieces.specs.Origins.{expression_at, number_for}
+use Rattle.gw_pieces.specs.Origins.{expression_at, number_for, numbers_for}
 use Rattle.gw_pieces.specs.Blocks.{blocks_from, AllRecorded}
 use Rattle.gw_pieces.specs.Entities.{AreEntitiesOf}
-use Rattle.gw_pieces.specs.Naming.{IsCallee, IsMeant}
-use Rattle.gw_pieces.specs.Settings.{count_in}
+use Rattle.gw_pieces.specs.Naming.{callee_of, equ_meant, IsEquOf}
+use Rattle.gw_pieces.specs.Order.{order_in}
+use Rattle.gw_pieces.specs.Settings.{count_in, seeds_in}
 use Rattle.gw_pieces.specs.Sources.{AreCompiled}
 
 -- NAMES
 
--- names have the numbers that the text gives them: entities and parameters in order of first sight, labels those of their blocks, and PROCEDUREs and EQUs by the origins of the procedures
+-- names have the numbers that the text gives them: entities and parameters in order of first sight, labels those of their blocks, and PROCEDUREs and EQUs by the order of the procedures
 pub record NumbersText (n : Numbers) (order : List Origin) (ss : List Statement) : Type 0 where
   pub entities : (kind : EntityKind) (name : List ℕ) → n.entity kind name ≡ number_among (entities_of ss) (key kind name)
   pub labels : (label : List ℕ) → n.block label ≡ block_of ss label
   pub parameters : (name : List ℕ) → n.parameter name ≡ parameter_of ss name
-  pub callees : (name : List ℕ) (c : Callee) → n.procedure name ≡ Some c → IsCallee ss order name c
-  pub equs : (name : List ℕ) (e : Equ) → n.equ name ≡ Some e → IsMeant ss order name e
+  pub ordered : order ≡ order_in ss
+  pub callees : (name : List ℕ) → n.procedure name ≡ callee_of ss order name
+  pub equs : (name : List ℕ) → n.equ name ≡ equ_meant ss order name
 
 -- PIECES
 
@@ -59,6 +67,7 @@ pub record HasPieces (n : Numbers) (order : List Origin) (ss : List Statement) (
   pub entities : AreEntitiesOf n order ss (entities_of ss) p.entities
   pub code : HasCode n order ss p.procedures p.blocks
   pub count : p.count ≡ count_in ss
+  pub seeds : p.seeds ≡ seeds_in ss
 
 -- no name of statements is refused
 pub record IsNamed (ss : List Statement) : Type 0 where
@@ -86,8 +95,49 @@ OperandsCompute n order ss p =
     (i : ℕ) (s : Statement) (k : ℕ) (e : Expression) (q : ℕ)
     → slice_get ss i ≡ Some s → expression_at s k ≡ Some e → number_for n order s i k ≡ Some q → Computes n p e q
 
+-- an entity is evaluated by a procedure that computes an expression, where procedures make such entities
+pub record IsEvaluated (n : Numbers) (p : Parts) (e : Expression) (by : ℕ → Kind → Type 0) (kind : Kind) : Type 0 where
+  pub number : ℕ
+  pub kind_is : by number kind
+  pub computes : Computes n p e number
+
+-- a variable is its procedure, and a table or a function evaluates one for its argument
+abbrev pub ByProcedure : Word → ℕ → Kind → Type 0
+ByProcedure words.Variable q kind = kind ≡ kinds.Variable q
+ByProcedure words.BVariable q kind = kind ≡ kinds.BooleanVariable q
+ByProcedure words.Table q kind = (t : Table) × (kind ≡ kinds.Table t) × (t.argument ≡ operands.Procedure q)
+ByProcedure words.Function q kind = (f : Function) × (kind ≡ kinds.Function f) × (f.argument ≡ operands.Procedure q)
+ByProcedure word q kind = ⊥
+
+-- what a declaration with this word and an expression makes of an entity is evaluated by a procedure that computes the expression
+abbrev pub DeclarationsCompute : Word → Numbers → List Origin → List Statement → Parts → Type 0
+DeclarationsCompute word n order ss p =
+    (i : ℕ) (s : Statement) (e : Expression) (kind : Kind) (source : Numbered → Operand)
+    → slice_get ss i ≡ Some s → s.word ≡ word → expression_at s 0 ≡ Some e
+    → entity_kind (with_source n source) (numbers_for (with_source n source) order s i) s ≡ Some kind
+    → IsEvaluated n p e (ByProcedure word) kind
+
+-- the name of an EQU that is no number stands for a procedure that computes its expression
+pub record IsEquation (n : Numbers) (order : List Origin) (ss : List Statement) (p : Parts) (name : List ℕ) (q : ℕ) : Type 0 where
+  pub equ : IsEquOf ss order name q
+  pub expression : Expression
+  pub there : expression_at equ.statement equ.stands.origin.operand ≡ Some expression
+  pub computes : Computes n p expression q
+
+abbrev pub EquationsCompute : Numbers → List Origin → List Statement → Parts → Type 0
+EquationsCompute n order ss p = (name : List ℕ) (q : ℕ) → n.equ name ≡ Some (equs.Procedure q) → IsEquation n order ss p name q
+
+-- each expression of a text is computed: of an operand, of a VARIABLE or BVARIABLE, of the argument of a TABLE or FUNCTION, and of an EQU
+pub record AllCompute (n : Numbers) (order : List Origin) (ss : List Statement) (p : Parts) : Type 0 where
+  pub operands : OperandsCompute n order ss p
+  pub variables : DeclarationsCompute words.Variable n order ss p
+  pub boolean_variables : DeclarationsCompute words.BVariable n order ss p
+  pub tables : DeclarationsCompute words.Table n order ss p
+  pub functions : DeclarationsCompute words.Function n order ss p
+  pub equations : EquationsCompute n order ss p
+
 -- so it is in an object whose kinds and PLUS code pass
-abbrev pub OperandsComputeWherePassed : Type 0
-OperandsComputeWherePassed =
+abbrev pub AllComputeWherePassed : Type 0
+AllComputeWherePassed =
     (n : Numbers) (order : List Origin) (ss : List Statement) (p : Parts)
-    → HasSpelling p → KindsPass p → PlusPasses p → HasPieces n order ss p → OperandsCompute n order ss p
+    → HasSpelling p → KindsPass p → PlusPasses p → HasPieces n order ss p → AllCompute n order ss p

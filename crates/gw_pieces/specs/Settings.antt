@@ -1,10 +1,11 @@
 -- What START, RMULT and INITIAL set.
-use Rattle.std.specs.Prelude.{ℕ, ◌^◌, nat_lt, ℤ, pos, negsuc, List, [], ◌∷◌, Option, Some, None, Bool, ◌==◌, if◌then◌else◌, slice_get}
+use Rattle.std.specs.Prelude.{ℕ, zero, suc, ◌+◌, ◌^◌, nat_lt, take, ℤ, pos, negsuc, List, [], ◌∷◌, Option, Some, None, ◌==◌, if◌then◌else◌, slice_get}
 use Rattle.gw_text_statements.specs.declared.model.Operand.{Operand}
 use Rattle.gw_text_statements.specs.declared.model.Operand.TheVariants as texts
 use Rattle.gw_text_tokens.specs.declared.words.Word.{Word}
 use Rattle.gw_text_tokens.specs.declared.words.Word.TheVariants as words
 use Rattle.gw_text.specs.declared.model.Statement.{Statement}
+use Rattle.gw_pieces.specs.declared.settings.TheConstants.{SEEDS}
 
 -- the number that is written, or 0
 abbrev pub number_in : Option Operand → ℤ
@@ -55,3 +56,21 @@ later earlier seed = if seed == 0 then earlier else seed
 abbrev pub seed_from : ℕ → List Statement → ℕ → ℕ
 seed_from seed [] stream = seed
 seed_from seed (s ∷ ss) stream = seed_from (later seed (seed_by s stream)) ss stream
+
+-- the seeds of so many streams, from this one on
+abbrev pub seeds_from : List Statement → ℕ → ℕ → List ℕ
+seeds_from ss stream zero = []
+seeds_from ss stream (suc n) = seed_from 0 ss stream ∷ seeds_from ss (stream + 1) n
+
+-- how many of these come up to the last that isn't 0, where those from this place on are left
+abbrev pub used_from : ℕ → ℕ → List ℕ → ℕ
+used_from place used [] = used
+used_from place used (seed ∷ seeds) = used_from (place + 1) (if seed == 0 then used else place + 1) seeds
+
+-- seeds without those of 0 at the end
+abbrev pub without_zeros : List ℕ → List ℕ
+without_zeros seeds = take (used_from 0 0 seeds) seeds
+
+-- the seeds of a text: of each stream that of the last RMULT that gives one
+abbrev pub seeds_in : List Statement → List ℕ
+seeds_in ss = without_zeros (seeds_from ss 0 SEEDS)

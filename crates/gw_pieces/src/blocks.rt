@@ -4,14 +4,16 @@ ghost use Rattle.std.specs.Prelude.{◌≡◌, ◌++◌, ◌∷◌, [], OnOk, If
 ghost use Rattle.gw_pieces.specs.Blocks as model;
 ghost use Rattle.gw_pieces.specs.Clear.{StaysClear};
 ghost use Rattle.gw_pieces.specs.Origins as numbers;
+ghost use Rattle.gw_pieces.specs.Notes.{NotesMore, Never, or_missing, unless_piece};
 ghost use Rattle.gw_pieces.specs.Numbers.{numbers_of};
+ghost use Rattle.gw_pieces.specs.Reasons.{BlockMissing, least_after_block};
 
-use crate::origins::{Origin, expression_at, place_of, whole_call};
+use crate::origins::{Origin, expression_at, is_variable, place_of, whole_call};
 use gw_blocks::Block;
 use gw_compile::{Callee, Numbering};
 use gw_names::{Ledger, Names, codes, is_block};
 use gw_records::record_of;
-use gw_text::{Body, Expression, Model, Statement, Word};
+use gw_text::{Body, Expression, Model, Statement};
 use std::alloc::{AllocError, Global};
 
 /// The numbers of the procedures that the operands of a statement become which are expressions: those stand at the first two
@@ -22,13 +24,6 @@ pub(crate) struct Numbers {
     pub(crate) first: Option<u16>,
     /// Of the second.
     pub(crate) second: Option<u16>,
-}
-
-/// Whether a word is VARIABLE or BVARIABLE.
-fn is_variable(word: Word) -> bool
-    ensures { result ≡ numbers.is_variable word }
-{
-    matches!(word, Word::Variable | Word::BVariable)
 }
 
 /// A number that 16 bits hold.
@@ -136,7 +131,8 @@ fn record_at(names: &Names, order: &[Origin], statement: &Statement, number: usi
 /// Takes note that nothing can be made of the statement on a line. (Where a name isn't known, that was noted when the names were looked
 /// at.)
 pub(crate) fn note_none(ledger: &mut Ledger, line: u32)
-    ensures { StaysClear ledger.old ledger.new ⊥ }
+    ensures clear { StaysClear ledger.old ledger.new ⊥ }
+    ensures notes { ledger.new.least ≡ or_missing ledger.old.least line }
 {
     if ledger.is_clear() {
         ledger.note(line, codes::NAME);
@@ -152,6 +148,7 @@ fn put_record(
 ) -> Result<(), AllocError>
     ensures blocks { OnOk result (blocks.new.items ≡ blocks.old.items ++ option_to_list block) }
     ensures ledger { OnOk result (StaysClear ledger.old ledger.new (IsSome block)) }
+    ensures notes { OnOk result (ledger.new.least ≡ unless_piece block ledger.old.least statement.now.line) }
 {
     match block {
         Some(block) => blocks.push(block).map_err(|_| AllocError),
@@ -175,6 +172,8 @@ fn put_block(
         ≡ blocks.old.items ++ model.block_at (numbers_of names.now) order.now statement.now number) }
     ensures ledger { OnOk result (StaysClear ledger.old ledger.new
         (model.IsRecorded (numbers_of names.now) order.now statement.now number)) }
+    ensures notes { OnOk result (ledger.new.least
+        ≡ least_after_block (numbers_of names.now) order.now statement.now number ledger.old.least) }
 {
     if is_block(statement.word) {
         put_record(
@@ -200,6 +199,9 @@ pub(crate) fn blocks_of(
         ≡ model.blocks_from (numbers_of names.now) order.now 0 text.now.statements.items) }
     ensures ledger { OnOk result (StaysClear ledger.old ledger.new
         (model.AllRecorded (numbers_of names.now) order.now 0 text.now.statements.items)) }
+    ensures notes { OnOk result (NotesMore Never
+        (BlockMissing (numbers_of names.now) order.now text.now.statements.items)
+        ledger.old.least ledger.new.least) }
 {
     let mut blocks = Vec::new(alloc);
     for number in 0..text.statements.len() {

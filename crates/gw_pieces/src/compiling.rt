@@ -1,11 +1,16 @@
 //! The procedures of a model text.
 
-ghost use Rattle.std.specs.Prelude.{◌≡◌, ◌≤◌, length, OnOk, IfOk, MatchResult};
+ghost use Rattle.std.specs.Prelude.{◌≡◌, ◌≤◌, ◌⊎◌, length, OnOk, IfOk, IfErr, MatchResult};
 ghost use Rattle.gw_object.specs.declared.limits.TheConstants.{MOST_PROCEDURES};
-ghost use Rattle.gw_compile.specs.Keeps.{IsCompiledProcedure};
+ghost use Rattle.gw_compile.specs.Keeps.{IsCompiledProcedure, ExceedsLimits};
+ghost use Rattle.gw_compile.specs.Statements.{body_of};
+ghost use Rattle.gw_names.specs.Codes.{name_fault, limit_fault};
 ghost use Rattle.gw_pieces.specs.Clear.{StaysClear, IsNoted};
 ghost use Rattle.gw_pieces.specs.Sources.{IsFromExpression, IsProcedureOf, ComesFrom, AreCompiled, Grows};
+ghost use Rattle.gw_pieces.specs.Notes.{NotesMore, IsFor};
 ghost use Rattle.gw_pieces.specs.Numbers.{numbers_of};
+ghost use Rattle.gw_pieces.specs.Reasons.{IsTooLong, Exceeds, IsBlamed, LacksExpression, NamesUnknown, LacksCode};
+ghost use Rattle.gw_pieces.specs.Reasons.{blamed_by, least_after, Explains, OriginLimit, OriginMissing, CodeLimit, ProcedureMissing};
 
 use crate::origins::{Origin, expression_at};
 use gw_code::Procedure;
@@ -17,7 +22,7 @@ use std::alloc::{AllocError, Global};
 
 /// Why nothing is compiled.
 #[derive(Clone, Copy)]
-enum Blamed {
+pub(crate) enum Blamed {
     /// A limit is exceeded.
     Limit,
     /// A name isn't known.
@@ -27,7 +32,9 @@ enum Blamed {
 }
 
 /// What is to blame.
-fn blamed_of(fault: CompileFault<'_>) -> Blamed {
+fn blamed_of(fault: CompileFault<'_>) -> Blamed
+    ensures { result ≡ blamed_by fault.entry }
+{
     match fault {
         CompileFault::Limit => Blamed::Limit,
         CompileFault::Memory => Blamed::Memory,
@@ -44,7 +51,10 @@ fn from_procedure(
     procedures: &[Procedure],
     procedure: &TextProcedure,
 ) -> Result<Procedure, Blamed>
-    ensures { IfOk result (IsCompiledProcedure (numbers_of names.now) procedures.now procedure.now) }
+    ensures compiled { IfOk result (IsCompiledProcedure (numbers_of names.now) procedures.now procedure.now) }
+    ensures blamed { IfErr result (λ b. Explains b
+        (ExceedsLimits (body_of (numbers_of names.now) procedure.now))
+        (IsBlamed (body_of (numbers_of names.now) procedure.now).blame)) }
 {
     match compile_procedure(alloc, names, procedures, procedure) {
         Ok(procedure) => Ok(procedure),
@@ -60,7 +70,10 @@ fn from_expression(
     statement: &Statement,
     operand: usize,
 ) -> Result<Procedure, Blamed>
-    ensures { IfOk result (IsFromExpression (numbers_of names.now) procedures.now statement.now operand) }
+    ensures compiled { IfOk result (IsFromExpression (numbers_of names.now) procedures.now statement.now operand) }
+    ensures blamed { IfErr result (λ b. Explains b
+        (IsTooLong (numbers_of names.now) statement.now operand)
+        (LacksExpression statement.now operand ⊎ NamesUnknown (numbers_of names.now) statement.now operand)) }
 {
     match expression_at(statement, operand) {
         Some(expression) => match compile(alloc, names, procedures, expression) {
@@ -79,7 +92,10 @@ fn procedure_of(
     statement: &Statement,
     operand: usize,
 ) -> Result<Procedure, Blamed>
-    ensures { IfOk result (IsProcedureOf (numbers_of names.now) procedures.now statement.now operand) }
+    ensures compiled { IfOk result (IsProcedureOf (numbers_of names.now) procedures.now statement.now operand) }
+    ensures blamed { IfErr result (λ b. Explains b
+        (Exceeds (numbers_of names.now) statement.now operand)
+        (LacksCode (numbers_of names.now) statement.now operand)) }
 {
     match &statement.body {
         Body::Procedure(procedure) => from_procedure(alloc, names, procedures, procedure),
@@ -90,7 +106,8 @@ fn procedure_of(
 
 /// Takes note of why nothing is compiled. (Where a name isn't known, that was noted when the names were looked at.)
 fn note_blamed(ledger: &mut Ledger, line: u32, blamed: Blamed) -> Result<(), AllocError>
-    ensures { OnOk result (IsNoted ledger.new) }
+    ensures noted { OnOk result (IsNoted ledger.new) }
+    ensures notes { OnOk result (ledger.new.least ≡ least_after blamed ledger.old.least line) }
 {
     match blamed {
         Blamed::Limit => {
@@ -116,9 +133,13 @@ fn put_procedure(
     operand: usize,
     ledger: &mut Ledger,
 ) -> Result<(), AllocError>
-    ensures { OnOk result (StaysClear ledger.old ledger.new
+    ensures grown { OnOk result (StaysClear ledger.old ledger.new
         (Grows (IsProcedureOf (numbers_of names.now) procedures.old.items statement.now operand)
         procedures.old.items procedures.new.items)) }
+    ensures notes { OnOk result (NotesMore
+        (IsFor (Exceeds (numbers_of names.now) statement.now operand) statement.now.line limit_fault)
+        (IsFor (LacksCode (numbers_of names.now) statement.now operand) statement.now.line name_fault)
+        ledger.old.least ledger.new.least) }
 {
     match procedure_of(alloc, names, procedures, statement, operand) {
         Ok(procedure) => procedures.push(procedure).map_err(|_| AllocError),
@@ -135,9 +156,13 @@ fn put_procedure_from(
     origin: Origin,
     ledger: &mut Ledger,
 ) -> Result<(), AllocError>
-    ensures { OnOk result (StaysClear ledger.old ledger.new
+    ensures grown { OnOk result (StaysClear ledger.old ledger.new
         (Grows (ComesFrom (numbers_of names.now) text.now.statements.items origin)
         procedures.old.items procedures.new.items)) }
+    ensures notes { OnOk result (NotesMore
+        (OriginLimit (numbers_of names.now) text.now.statements.items origin)
+        (OriginMissing (numbers_of names.now) text.now.statements.items origin)
+        ledger.old.least ledger.new.least) }
 {
     match text.statements.get(origin.statement) {
         Some(statement) => {
@@ -156,8 +181,12 @@ pub(crate) fn procedures_of(
     order: &[Origin],
     ledger: &mut Ledger,
 ) -> Result<Vec<Procedure>, AllocError>
-    ensures { IfOk result (λ procedures. StaysClear ledger.old ledger.new
+    ensures compiled { IfOk result (λ procedures. StaysClear ledger.old ledger.new
         (length order.now ≤ MOST_PROCEDURES → AreCompiled (numbers_of names.now) text.now.statements.items order.now procedures.items)) }
+    ensures notes { OnOk result (NotesMore
+        (CodeLimit (numbers_of names.now) order.now text.now.statements.items)
+        (ProcedureMissing (numbers_of names.now) order.now text.now.statements.items)
+        ledger.old.least ledger.new.least) }
 {
     let mut procedures = Vec::new(alloc);
     for place in 0..order.len().min(MOST_PROCEDURES) {

@@ -6,7 +6,9 @@ ghost use Rattle.gw_names.specs.Known.{Key, key, found_in};
 ghost use Rattle.gw_names.specs.Places.{last_of, declaration_of};
 ghost use Rattle.gw_pieces.specs.Clear.{StaysClear};
 ghost use Rattle.gw_pieces.specs.Entities as model;
+ghost use Rattle.gw_pieces.specs.Notes.{NotesMore, Never, unless_piece};
 ghost use Rattle.gw_pieces.specs.Numbers.{numbers_of};
+ghost use Rattle.gw_pieces.specs.Reasons.{DeclarationMissing, EntityMissing};
 ghost use Rattle.gw_pieces.specs.Origins as numbers;
 ghost use Rattle.gw_records.specs.Entities.{entity_kind};
 
@@ -29,8 +31,11 @@ fn declared_kind(
     number: usize,
     ledger: &mut Ledger,
 ) -> Result<Kind, AllocError>
-    ensures { IfOk result (λ kind. StaysClear ledger.old ledger.new
+    ensures kind { IfOk result (λ kind. StaysClear ledger.old ledger.new
         (entity_kind (numbers_of names.now) (numbers.numbers_for (numbers_of names.now) order.now statement.now number) statement.now ≡ Some kind)) }
+    ensures notes { OnOk result (ledger.new.least ≡ unless_piece
+        (entity_kind (numbers_of names.now) (numbers.numbers_for (numbers_of names.now) order.now statement.now number) statement.now)
+        ledger.old.least statement.now.line) }
 {
     let Numbers { first, second } = numbers_for(names, order, statement, number);
     let procedures = [first, second];
@@ -73,9 +78,12 @@ fn kind_of_sighted(
         ≡ last_of (model.savevalues_in text.now.statements.items) x }
     requires switches { (x : List ℕ) → found_in initials.now.switches x
         ≡ last_of (model.switches_in text.now.statements.items) x }
-    ensures { IfOk result (λ kind. StaysClear ledger.old ledger.new
+    ensures kind { IfOk result (λ kind. StaysClear ledger.old ledger.new
         (model.IsKindBy (numbers_of names.now) order.now text.now.statements.items sighted.now.declaration
         sighted.now.kind (string_bytes sighted.now.name) kind)) }
+    ensures notes { OnOk result (NotesMore Never
+        (DeclarationMissing (numbers_of names.now) order.now text.now.statements.items sighted.now.declaration)
+        ledger.old.least ledger.new.least) }
 {
     match sighted.declaration {
         Some(number) => match text.statements.get(number) {
@@ -104,9 +112,12 @@ fn put_entity(
         ≡ last_of (model.savevalues_in text.now.statements.items) x }
     requires switches { (x : List ℕ) → found_in initials.now.switches x
         ≡ last_of (model.switches_in text.now.statements.items) x }
-    ensures { OnOk result (StaysClear ledger.old ledger.new (model.GrowsBy
+    ensures grown { OnOk result (StaysClear ledger.old ledger.new (model.GrowsBy
         (model.IsSightedAs (numbers_of names.now) order.now text.now.statements.items sighted.now)
         entities.old.items entities.new.items)) }
+    ensures notes { OnOk result (NotesMore Never
+        (DeclarationMissing (numbers_of names.now) order.now text.now.statements.items sighted.now.declaration)
+        ledger.old.least ledger.new.least) }
 {
     let kind = kind_of_sighted(alloc, names, text, order, initials, sighted, ledger)?;
     let name = Items::from_vec(Vec::from_slice(alloc, sighted.name.as_bytes())?);
@@ -122,8 +133,11 @@ pub(crate) fn entities_of(
     sighted: &[Sighted],
     ledger: &mut Ledger,
 ) -> Result<Vec<Entity>, AllocError>
-    ensures { IfOk result (λ entities. StaysClear ledger.old ledger.new (model.AreSightedAs
+    ensures sighted { IfOk result (λ entities. StaysClear ledger.old ledger.new (model.AreSightedAs
         (numbers_of names.now) order.now text.now.statements.items sighted.now entities.items)) }
+    ensures notes { OnOk result (NotesMore Never
+        (EntityMissing (numbers_of names.now) order.now text.now.statements.items sighted.now)
+        ledger.old.least ledger.new.least) }
 {
     let initials = Initials::of(alloc, text.statements.as_slice())?;
     let mut entities = Vec::new(alloc);

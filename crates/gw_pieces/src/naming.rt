@@ -1,16 +1,14 @@
 //! What the names of PROCEDUREs and EQUs stand for, once their procedures have numbers.
 
-ghost use Rattle.std.specs.Prelude.{◌≡◌, ◌<◌, OnOk, IfOk, List, min, length, option_map, string_bytes};
-ghost use Rattle.gw_text.specs.declared.model.Statement.{Statement};
-ghost use Rattle.gw_pieces.specs.declared.origins.Origin.{Origin};
+ghost use Rattle.std.specs.Prelude.{◌≡◌, OnOk, IfOk, ℕ, List, Some, min, length, string_bytes};
 ghost use Rattle.gw_names.specs.Known.{found_in};
+ghost use Rattle.gw_names.specs.Places.{Adds, label_of, named};
 ghost use Rattle.gw_pieces.specs.Naming as model;
-ghost use Rattle.gw_pieces.specs.Naming.{KnowsNumbers, OfEach, IsCallee, IsMeant, StandsAt};
 
 use crate::origins::Origin;
 use gw_compile::{Callee, Equ};
-use gw_names::{Known, set};
-use gw_text::{Body, Model, Procedure, Statement, Word};
+use gw_names::{Known, found, is_equ, set};
+use gw_text::{Body, Model, Procedure, Statement};
 use indexmap::IndexMap;
 use std::alloc::{AllocError, Global};
 
@@ -40,53 +38,33 @@ fn arguments_of(procedure: &Procedure) -> u8
 /// What a PROCEDURE stands for that becomes the procedure at this place.
 fn put_callee(
     procedures: &mut IndexMap<String, Callee>,
-    statement: &Statement,
+    body: &Body,
     place: usize,
 ) -> Result<(), AllocError>
-    ensures { OnOk result ((ss : List Statement) (order : List Origin) → StandsAt ss order place statement.now
-        → OfEach (IsCallee ss order) procedures.old → OfEach (IsCallee ss order) procedures.new) }
+    ensures { OnOk result (Adds (model.callee_of_body body.now place) (found_in procedures.old) (found_in procedures.new)) }
 {
-    match &statement.body {
+    match body {
         Body::Procedure(procedure) => {
             let number = number_at(place);
             let arguments = arguments_of(procedure);
             set(procedures, &procedure.name, Callee { number, arguments })
         }
-        _ => Ok(()),
+        Body::Nothing | Body::Points(_) => Ok(()),
     }
 }
 
-/// What an EQU stands for that becomes the procedure at this place.
-fn put_equ(
-    equs: &mut IndexMap<String, Equ>,
-    statement: &Statement,
-    place: usize,
-) -> Result<(), AllocError>
-    ensures { OnOk result ((ss : List Statement) (order : List Origin) → StandsAt ss order place statement.now
-        → OfEach (IsMeant ss order) equs.old → OfEach (IsMeant ss order) equs.new) }
-{
-    match (&statement.body, &statement.label) {
-        (Body::Nothing, Some(name)) if statement.word == Word::Equ => {
-            set(equs, name, Equ::Procedure(number_at(place)))
-        }
-        _ => Ok(()),
-    }
-}
-
-/// The PROCEDURE of the origin at this place, if it is one, by its number.
-fn put_callee_at(
+/// The PROCEDURE of an origin, if it is one, which becomes the procedure at this place.
+fn put_callee_of(
     procedures: &mut IndexMap<String, Callee>,
     text: &Model,
-    order: &[Origin],
+    origin: Origin,
     place: usize,
 ) -> Result<(), AllocError>
-    requires { place < length order.now }
-    ensures { OnOk result (OfEach (IsCallee text.now.statements.items order.now) procedures.old
-        → OfEach (IsCallee text.now.statements.items order.now) procedures.new) }
+    ensures { OnOk result (Adds (model.callee_of_origin text.now.statements.items origin place)
+        (found_in procedures.old) (found_in procedures.new)) }
 {
-    let origin = order[place];
     match text.statements.get(origin.statement) {
-        Some(statement) => put_callee(procedures, statement, place),
+        Some(statement) => put_callee(procedures, &statement.body, place),
         None => Ok(()),
     }
 }
@@ -97,27 +75,60 @@ fn put_callees(
     text: &Model,
     order: &[Origin],
 ) -> Result<(), AllocError>
-    ensures { OnOk result (OfEach (IsCallee text.now.statements.items order.now) procedures.old
-        → OfEach (IsCallee text.now.statements.items order.now) procedures.new) }
+    ensures { OnOk result (Adds (model.entries_from (model.callee_of_origin text.now.statements.items) 0 order.now)
+        (found_in procedures.old) (found_in procedures.new)) }
 {
-    for place in 0..order.len() {
-        put_callee_at(procedures, text, order, place)?;
+    for i in 0..order.len() {
+        put_callee_of(procedures, text, order[i], i)?;
     }
     Ok(())
 }
 
-/// The EQU of the origin at this place, if it is one, by its number.
-fn put_equ_at(
+/// What a statement that has a name stands for, if it has one.
+fn put_named(
     equs: &mut IndexMap<String, Equ>,
-    text: &Model,
-    order: &[Origin],
+    statement: &Statement,
+    equ: Equ,
+) -> Result<(), AllocError>
+    ensures { OnOk result (Adds (named (label_of statement.now) equ) (found_in equs.old) (found_in equs.new)) }
+{
+    match &statement.label {
+        Some(name) => set(equs, name, equ),
+        None => Ok(()),
+    }
+}
+
+/// What an EQU stands for that becomes the procedure at this place.
+fn put_equ(
+    equs: &mut IndexMap<String, Equ>,
+    statement: &Statement,
     place: usize,
 ) -> Result<(), AllocError>
-    requires { place < length order.now }
-    ensures { OnOk result (OfEach (IsMeant text.now.statements.items order.now) equs.old
-        → OfEach (IsMeant text.now.statements.items order.now) equs.new) }
+    ensures { OnOk result (Adds (model.equ_of_body statement.now.body statement.now place)
+        (found_in equs.old) (found_in equs.new)) }
 {
-    let origin = order[place];
+    match &statement.body {
+        Body::Nothing => {
+            if is_equ(statement.word) {
+                put_named(equs, statement, Equ::Procedure(number_at(place)))
+            } else {
+                Ok(())
+            }
+        }
+        Body::Procedure(_) | Body::Points(_) => Ok(()),
+    }
+}
+
+/// The EQU of an origin, if it is one, which becomes the procedure at this place.
+fn put_equ_of(
+    equs: &mut IndexMap<String, Equ>,
+    text: &Model,
+    origin: Origin,
+    place: usize,
+) -> Result<(), AllocError>
+    ensures { OnOk result (Adds (model.equ_of_origin text.now.statements.items origin place)
+        (found_in equs.old) (found_in equs.new)) }
+{
     match text.statements.get(origin.statement) {
         Some(statement) => put_equ(equs, statement, place),
         None => Ok(()),
@@ -130,54 +141,48 @@ fn put_equs(
     text: &Model,
     order: &[Origin],
 ) -> Result<(), AllocError>
-    ensures { OnOk result (OfEach (IsMeant text.now.statements.items order.now) equs.old
-        → OfEach (IsMeant text.now.statements.items order.now) equs.new) }
+    ensures { OnOk result (Adds (model.entries_from (model.equ_of_origin text.now.statements.items) 0 order.now)
+        (found_in equs.old) (found_in equs.new)) }
 {
-    for place in 0..order.len() {
-        put_equ_at(equs, text, order, place)?;
+    for i in 0..order.len() {
+        put_equ_of(equs, text, order[i], i)?;
     }
     Ok(())
 }
 
-/// The EQU of a name, if it is one that is a number.
-fn number_of(known: &Known, name: &String) -> Option<Equ>
-    ensures { result ≡ option_map Equ.Number (found_in known.now.equ_numbers (string_bytes name.now)) }
-{
-    match known.equ_numbers.get(name.as_str()) {
-        Some(number) => Some(Equ::Number(*number)),
-        None => None,
-    }
-}
-
-/// The number that a name stands for, if it is that of an EQU that is a number.
-fn put_number(
+/// The number that the name of a statement is, if it is one.
+fn put_number_of(
     equs: &mut IndexMap<String, Equ>,
     known: &Known,
     name: &String,
 ) -> Result<(), AllocError>
-    ensures { OnOk result ((ss : List Statement) (order : List Origin) → KnowsNumbers ss known.now
-        → OfEach (IsMeant ss order) equs.old → OfEach (IsMeant ss order) equs.new) }
+    ensures { OnOk result (Adds (model.numbered (Some (string_bytes name.now)) (found_in known.now.equ_numbers (string_bytes name.now)))
+        (found_in equs.old) (found_in equs.new)) }
 {
-    match number_of(known, name) {
-        Some(equ) => set(equs, name, equ),
+    match found(&known.equ_numbers, name) {
+        Some(number) => set(equs, name, Equ::Number(number)),
         None => Ok(()),
     }
 }
 
 /// The EQU that a statement is, if it is one that is a number.
-fn put_number_of(
+fn put_number(
     equs: &mut IndexMap<String, Equ>,
     known: &Known,
     statement: &Statement,
+    place: usize,
 ) -> Result<(), AllocError>
-    ensures { OnOk result ((ss : List Statement) (order : List Origin) → KnowsNumbers ss known.now
-        → OfEach (IsMeant ss order) equs.old → OfEach (IsMeant ss order) equs.new) }
+    ensures { OnOk result (Adds (model.equ_of_number (found_in known.now.equ_numbers) statement.now place)
+        (found_in equs.old) (found_in equs.new)) }
 {
     match &statement.label {
-        Some(name) => match statement.word {
-            Word::Equ => put_number(equs, known, name),
-            _ => Ok(()),
-        },
+        Some(name) => {
+            if is_equ(statement.word) {
+                put_number_of(equs, known, name)
+            } else {
+                Ok(())
+            }
+        }
         None => Ok(()),
     }
 }
@@ -188,11 +193,11 @@ fn put_numbers(
     known: &Known,
     statements: &[Statement],
 ) -> Result<(), AllocError>
-    ensures { OnOk result ((ss : List Statement) (order : List Origin) → KnowsNumbers ss known.now
-        → OfEach (IsMeant ss order) equs.old → OfEach (IsMeant ss order) equs.new) }
+    ensures { OnOk result (Adds (model.entries_from (model.equ_of_number (found_in known.now.equ_numbers)) 0 statements.now)
+        (found_in equs.old) (found_in equs.new)) }
 {
-    for statement in statements {
-        put_number_of(equs, known, statement)?;
+    for i in 0..statements.len() {
+        put_number(equs, known, &statements[i], i)?;
     }
     Ok(())
 }
@@ -204,10 +209,10 @@ pub(crate) fn meanings_of(
     known: &Known,
     order: &[Origin],
 ) -> Result<Meanings, AllocError>
-    requires { KnowsNumbers text.now.statements.items known.now }
-    ensures procedures { IfOk result (λ m.
-        OfEach (IsCallee text.now.statements.items order.now) m.procedures) }
-    ensures equs { IfOk result (λ m. OfEach (IsMeant text.now.statements.items order.now) m.equs) }
+    ensures procedures { IfOk result (λ m. (name : List ℕ)
+        → found_in m.procedures name ≡ model.callee_of text.now.statements.items order.now name) }
+    ensures equs { IfOk result (λ m. (name : List ℕ) → found_in m.equs name
+        ≡ model.equ_by (found_in known.now.equ_numbers) text.now.statements.items order.now name) }
 {
     let mut procedures = IndexMap::new(alloc);
     put_callees(&mut procedures, text, order)?;

@@ -1,102 +1,183 @@
 //! The order of the procedures: that of the text, but what one calls comes before it.
 
+ghost use Rattle.std.specs.Prelude.{◌≡◌, ◌++◌, ◌∷◌, [], OnOk, IfOk, slice_get, set, true, option_and_then, option_to_list, string_bytes};
+ghost use Rattle.std.specs.List.{flat_map};
+ghost use Rattle.gw_uses.specs.Mentions.{mention, mentions};
+ghost use Rattle.gw_pieces.specs.Order as model;
+ghost use Rattle.gw_pieces.specs.Order.{lookup_by, lookup_of, ordered_by, search_of, search_to};
+ghost use Rattle.gw_pieces.specs.Origins as operands;
+ghost use Rattle.gw_pieces.specs.Origins.{place_in};
+
 use crate::origins::{Origin, expression_at, place_of, whole_call};
 use gw_kinds::EntityKind;
-use gw_names::Known;
+use gw_names::{Known, found};
 use gw_text::{Body, EntityValue, Model, Operand, Sna, Statement};
 use gw_uses::{Use, put_uses_of_operand, put_uses_of_procedure};
 use std::alloc::{AllocError, Global};
 
 /// What the order is found from.
 #[derive(Clone, Copy)]
-struct Text<'a> {
+pub(crate) struct Text<'a> {
     /// The statements.
-    model: &'a Model,
+    pub(crate) model: &'a Model,
     /// Their names.
-    known: &'a Known,
+    pub(crate) known: &'a Known,
     /// Where procedures come from, in the order of the text.
-    origins: &'a [Origin],
+    pub(crate) origins: &'a [Origin],
 }
 
 /// The order, while it is found.
 #[derive(Drop)]
-struct Order {
+pub(crate) struct Order {
     /// Which origins were come to.
-    visited: Vec<bool>,
+    pub(crate) visited: Vec<bool>,
     /// The origins of the procedures that have their numbers, in order.
-    done: Vec<Origin>,
+    pub(crate) done: Vec<Origin>,
 }
 
-/// The origin of a variable.
-fn origin_of_variable(known: &Known, kind: EntityKind, name: &String) -> Option<Origin> {
-    let number = known.entities.get(kind, name)?;
-    let statement = known.sighted.get(number as usize)?.declaration?;
-    Some(Origin {
-        statement,
-        operand: 0,
-    })
+/// The origin of a PROCEDURE, an EQU or a variable by its statement. (It is none of those at hand where an EQU is a number.)
+fn origin_of(statement: Option<usize>) -> Option<Origin>
+    ensures { result ≡ model.of_statement statement }
+{
+    match statement {
+        Some(statement) => Some(Origin {
+            statement,
+            operand: 0,
+        }),
+        None => None,
+    }
 }
 
-/// The origin of an EQU. (It is none of those at hand where the EQU is a number.)
-fn origin_of_equ(known: &Known, name: &String) -> Option<Origin> {
-    let statement = *known.equs.get(name.as_str())?;
-    Some(Origin {
-        statement,
-        operand: 0,
-    })
-}
-
-/// The origin of a PROCEDURE.
-fn origin_of_procedure(known: &Known, name: &String) -> Option<Origin> {
-    let statement = *known.procedures.get(name.as_str())?;
-    Some(Origin {
-        statement,
-        operand: 0,
-    })
-}
-
-/// The origin of what the argument of a FUNCTION calls.
-fn origin_of_argument(known: &Known, argument: &Operand, statement: usize) -> Option<Origin> {
-    match argument {
-        Operand::Name(name) => origin_of_equ(known, name),
-        Operand::Sna(Sna::OfEntity(EntityValue::Variable, name)) => {
-            origin_of_variable(known, EntityKind::Variable, name)
-        }
-        Operand::Sna(Sna::OfEntity(EntityValue::BVariable, name)) => {
-            origin_of_variable(known, EntityKind::BooleanVariable, name)
-        }
-        Operand::Expression(expression) => match whole_call(expression) {
-            Some(name) => origin_of_procedure(known, name),
-            None => Some(Origin {
-                statement,
-                operand: 0,
-            }),
+/// The origin of a variable that an attribute is.
+fn origin_of_attribute(text: &Text<'_>, sna: &Sna) -> Option<Origin>
+    ensures { result ≡ model.of_attribute (lookup_of text.now) sna.now }
+{
+    let declarations = &text.known.declarations;
+    match sna {
+        Sna::OfEntity(value, name) => match *value {
+            EntityValue::Variable => origin_of(declarations.get(EntityKind::Variable, name)),
+            EntityValue::BVariable => origin_of(declarations.get(
+                EntityKind::BooleanVariable,
+                name,
+            )),
+            _ => None,
         },
         _ => None,
     }
 }
 
-/// The origin of what a FUNCTION calls for its argument.
-fn origin_of_function(text: &Text<'_>, name: &String) -> Option<Origin> {
-    let number = text.known.entities.get(EntityKind::Function, name)?;
-    let statement = text.known.sighted.get(number as usize)?.declaration?;
-    let argument = text.model.statements.get(statement)?.operands.get(0)?;
-    origin_of_argument(text.known, argument, statement)
+/// The origin of what the argument of the FUNCTION calls that is this statement.
+fn origin_of_argument(text: &Text<'_>, argument: &Operand, statement: usize) -> Option<Origin>
+    ensures { result ≡ model.of_argument (lookup_of text.now) statement (Some argument.now) }
+{
+    match argument {
+        Operand::Name(name) => origin_of(found(&text.known.equs, name)),
+        Operand::Sna(sna) => origin_of_attribute(text, sna),
+        Operand::Expression(expression) => match whole_call(expression) {
+            Some(name) => origin_of(found(&text.known.procedures, name)),
+            None => Some(Origin {
+                statement,
+                operand: 0,
+            }),
+        },
+        Operand::Missing | Operand::Whole(_) | Operand::Fraction(_) => None,
+    }
+}
+
+/// The origin of what a FUNCTION calls for its argument, by its statement.
+fn origin_of_function(text: &Text<'_>, statement: Option<usize>) -> Option<Origin>
+    ensures { result ≡ model.of_function (lookup_of text.now) statement }
+{
+    match statement {
+        Some(number) => match text.model.statements.get(number) {
+            Some(statement) => match statement.operands.get(0) {
+                Some(argument) => origin_of_argument(text, argument, number),
+                None => None,
+            },
+            None => None,
+        },
+        None => None,
+    }
+}
+
+/// The origin of what an entity calls.
+fn origin_of_entity(text: &Text<'_>, kind: EntityKind, name: &String) -> Option<Origin>
+    ensures { result ≡ model.of_entity (lookup_of text.now) kind (string_bytes name.now) }
+{
+    let declarations = &text.known.declarations;
+    match kind {
+        EntityKind::Function => origin_of_function(text, declarations.get(kind, name)),
+        EntityKind::Variable => origin_of(declarations.get(kind, name)),
+        EntityKind::BooleanVariable => origin_of(declarations.get(kind, name)),
+        _ => None,
+    }
 }
 
 /// The origin of what is called by a use.
-fn called_by(text: &Text<'_>, used: &Use<'_>) -> Option<Origin> {
+fn called_by(text: &Text<'_>, used: Use<'_>) -> Option<Origin>
+    ensures { result ≡ model.origin_called (lookup_of text.now) (mention used.entry) }
+{
     match used {
-        Use::Entity(EntityKind::Function, name) => origin_of_function(text, name),
-        Use::Entity(kind, name) => match kind {
-            EntityKind::Variable | EntityKind::BooleanVariable => {
-                origin_of_variable(text.known, *kind, name)
-            }
-            _ => None,
-        },
-        Use::Equ(name) => origin_of_equ(text.known, name),
-        Use::Call(name, _) => origin_of_procedure(text.known, name),
-        _ => None,
+        Use::Entity(kind, name) => origin_of_entity(text, kind, name),
+        Use::Equ(name) => origin_of(found(&text.known.equs, name)),
+        Use::Call(name, _) => origin_of(found(&text.known.procedures, name)),
+        Use::Parameter(_) | Use::ParameterNumber(_) | Use::Label(_) | Use::Target(_) => None,
+    }
+}
+
+/// Its place among the origins.
+fn place_called(text: &Text<'_>, used: Use<'_>) -> Option<usize>
+    ensures { result ≡ option_and_then (place_in text.now.origins.now)
+        (model.origin_called (lookup_of text.now) (mention used.entry)) }
+{
+    match called_by(text, used) {
+        Some(origin) => place_of(text.origins, origin),
+        None => None,
+    }
+}
+
+/// The place of what is called by a use, behind others.
+fn put_callee(callees: &mut Vec<usize>, text: &Text<'_>, used: Use<'_>) -> Result<(), AllocError>
+    ensures { OnOk result (callees.new.items
+        ≡ callees.old.items ++ model.place_called (lookup_of text.now) (mention used.entry)) }
+{
+    match place_called(text, used) {
+        Some(place) => callees.push(place).map_err(|_| AllocError),
+        None => Ok(()),
+    }
+}
+
+/// The places of those that are called by these uses, behind others.
+fn put_callees(
+    callees: &mut Vec<usize>,
+    text: &Text<'_>,
+    uses: &[Use<'_>],
+) -> Result<(), AllocError>
+    ensures { OnOk result (callees.new.items
+        ≡ callees.old.items ++ flat_map (model.place_called (lookup_of text.now)) (mentions uses.now)) }
+{
+    for i in 0..uses.len() {
+        put_callee(callees, text, uses[i])?;
+    }
+    Ok(())
+}
+
+/// What the expression at a position of a statement uses, in order.
+fn uses_of_operand<'a>(
+    alloc: Global,
+    statement: &'a Statement,
+    operand: usize,
+) -> Result<Vec<Use<'a>>, AllocError>
+    ensures { IfOk result (λ uses. mentions uses.items
+        ≡ model.in_operand (operands.expression_at statement.now operand)) }
+{
+    let mut uses = Vec::new(alloc);
+    match expression_at(statement, operand) {
+        Some(expression) => {
+            put_uses_of_operand(&mut uses, expression)?;
+            Ok(uses)
+        }
+        None => Ok(uses),
     }
 }
 
@@ -105,20 +186,25 @@ fn uses_of<'a>(
     alloc: Global,
     statement: &'a Statement,
     operand: usize,
-) -> Result<Vec<Use<'a>>, AllocError> {
-    let mut uses = Vec::new(alloc);
+) -> Result<Vec<Use<'a>>, AllocError>
+    ensures { IfOk result (λ uses. mentions uses.items
+        ≡ model.mentions_by statement.now.body statement.now operand) }
+{
     match &statement.body {
-        Body::Procedure(procedure) => put_uses_of_procedure(&mut uses, procedure)?,
-        _ => match expression_at(statement, operand) {
-            Some(expression) => put_uses_of_operand(&mut uses, expression)?,
-            None => {}
-        },
+        Body::Procedure(procedure) => {
+            let mut uses = Vec::new(alloc);
+            put_uses_of_procedure(&mut uses, procedure)?;
+            Ok(uses)
+        }
+        Body::Nothing => uses_of_operand(alloc, statement, operand),
+        Body::Points(_) => uses_of_operand(alloc, statement, operand),
     }
-    Ok(uses)
 }
 
 /// The places of the origins of what is called at an origin, in order of first sight.
-fn callees_of(alloc: Global, text: &Text<'_>, origin: Origin) -> Result<Vec<usize>, AllocError> {
+fn callees_of(alloc: Global, text: &Text<'_>, origin: Origin) -> Result<Vec<usize>, AllocError>
+    ensures { IfOk result (λ callees. callees.items ≡ model.places_called (lookup_of text.now) origin) }
+{
     let mut callees = Vec::new(alloc);
     match text.model.statements.get(origin.statement) {
         Some(statement) => {
@@ -130,22 +216,31 @@ fn callees_of(alloc: Global, text: &Text<'_>, origin: Origin) -> Result<Vec<usiz
     }
 }
 
-/// The places of those that are called by these uses, behind others.
-fn put_callees(
-    callees: &mut Vec<usize>,
-    text: &Text<'_>,
-    uses: &[Use<'_>],
-) -> Result<(), AllocError> {
-    for used in uses {
-        match called_by(text, used) {
-            Some(origin) => match place_of(text.origins, origin) {
-                Some(place) => callees.push(place).map_err(|_| AllocError)?,
-                None => {}
-            },
-            None => {}
-        }
+/// The origin at a place, unless it was come to.
+fn unvisited(visited: &[bool], origins: &[Origin], place: usize) -> Option<Origin>
+    ensures { result ≡ model.unvisited (slice_get visited.now place) (slice_get origins.now place) }
+{
+    match visited.get(place) {
+        Some(true) => None,
+        Some(false) => origins.get(place).copied(),
+        None => None,
     }
-    Ok(())
+}
+
+/// The origin at a place is come to.
+fn mark(visited: &mut Vec<bool>, place: usize)
+    ensures { visited.new.items ≡ set visited.old.items place true }
+{
+    if place < visited.len() {
+        visited[place] = true;
+    }
+}
+
+/// An origin gets its place behind others.
+fn put_origin(done: &mut Vec<Origin>, origin: Origin) -> Result<(), AllocError>
+    ensures { OnOk result (done.new.items ≡ done.old.items ++ origin ∷ []) }
+{
+    done.push(origin).map_err(|_| AllocError)
 }
 
 /// Gives the procedure of the origin at a place its number, after those that it calls, unless it was come to before. It goes at
@@ -157,18 +252,37 @@ fn visit(
     order: &mut Order,
     place: usize,
     depth: usize,
-) -> Result<(), AllocError> {
-    match (order.visited.get_mut(place), text.origins.get(place)) {
-        (Some(visited), Some(origin)) if !*visited => {
-            *visited = true;
-            if depth > 0 {
-                let callees = callees_of(alloc, text, *origin)?;
-                visit_all(alloc, text, order, &callees, depth - 1)?;
-            }
-            order.done.push(*origin).map_err(|_| AllocError)
+) -> Result<(), AllocError>
+    ensures { OnOk result (search_of order.new ≡ model.visit_with (lookup_of text.now)
+        (search_to (lookup_of text.now) depth) (search_of order.old) place) }
+{
+    match unvisited(&order.visited, text.origins, place) {
+        Some(origin) => {
+            mark(&mut order.visited, place);
+            visit_callees(alloc, text, order, origin, depth)?;
+            put_origin(&mut order.done, origin)
         }
-        _ => Ok(()),
+        None => Ok(()),
     }
+}
+
+/// The same for what an origin calls, in order.
+#[cycle(order)]
+fn visit_callees(
+    alloc: Global,
+    text: &Text<'_>,
+    order: &mut Order,
+    origin: Origin,
+    depth: usize,
+) -> Result<(), AllocError>
+    ensures { OnOk result (search_of order.new ≡ search_to (lookup_of text.now) depth
+        (search_of order.old) (model.places_called (lookup_of text.now) origin)) }
+{
+    if depth == 0 {
+        return Ok(());
+    }
+    let callees = callees_of(alloc, text, origin)?;
+    visit_all(alloc, text, order, &callees, depth - 1)
 }
 
 /// The same for the origins at these places, in order.
@@ -179,15 +293,20 @@ fn visit_all(
     order: &mut Order,
     places: &[usize],
     depth: usize,
-) -> Result<(), AllocError> {
-    for place in places {
-        visit(alloc, text, order, *place, depth)?;
+) -> Result<(), AllocError>
+    ensures { OnOk result (search_of order.new ≡ model.visit_each (lookup_of text.now)
+        (search_to (lookup_of text.now) depth) (search_of order.old) places.now) }
+{
+    for i in 0..places.len() {
+        visit(alloc, text, order, places[i], depth)?;
     }
     Ok(())
 }
 
 /// The same for all origins, in the order of the text.
-fn visit_each(alloc: Global, text: &Text<'_>, order: &mut Order) -> Result<(), AllocError> {
+fn visit_each(alloc: Global, text: &Text<'_>, order: &mut Order) -> Result<(), AllocError>
+    ensures { OnOk result (search_of order.new ≡ model.search_all (lookup_of text.now) (search_of order.old)) }
+{
     for place in 0..text.origins.len() {
         visit(alloc, text, order, place, text.origins.len())?;
     }
@@ -201,7 +320,10 @@ pub(crate) fn ordered(
     model: &Model,
     known: &Known,
     origins: &[Origin],
-) -> Result<Vec<Origin>, AllocError> {
+) -> Result<Vec<Origin>, AllocError>
+    ensures { IfOk result (λ order. order.items
+        ≡ ordered_by (lookup_by known.now model.now.statements.items origins.now)) }
+{
     let text = Text {
         model,
         known,

@@ -1,10 +1,13 @@
 //! What of a model text becomes procedures.
 
-ghost use Rattle.std.specs.Prelude.{◌≡◌, option_map, string_bytes};
+ghost use Rattle.std.specs.Prelude.{◌≡◌, ◌++◌, OnOk, IfOk, option_map, string_bytes};
 ghost use Rattle.std.specs.Option.{option_copied};
+ghost use Rattle.gw_names.specs.Known.{found_in};
+ghost use Rattle.gw_names.specs.Places.{label_of};
+ghost use Rattle.gw_pieces.specs.Order as order;
 ghost use Rattle.gw_pieces.specs.Origins as model;
 
-use gw_names::Known;
+use gw_names::{Known, found, is_equ};
 use gw_text::{Body, Expression, Model, Operand, Statement, Word};
 use std::alloc::{AllocError, Global};
 
@@ -17,8 +20,12 @@ pub(crate) struct Origin {
     pub(crate) operand: usize,
 }
 
-/// How many operands of a statement may be expressions: they are the first ones.
-const MOST_EXPRESSIONS: usize = 2;
+/// Whether a word is VARIABLE or BVARIABLE.
+pub(crate) fn is_variable(word: Word) -> bool
+    ensures { result ≡ model.is_variable word }
+{
+    matches!(word, Word::Variable | Word::BVariable)
+}
 
 /// The name of the PROCEDURE that an expression calls as a whole, without arguments: no procedure of its own is made of it.
 pub(crate) fn whole_call(expression: &Expression) -> Option<&String>
@@ -46,51 +53,83 @@ pub(crate) fn expression_at(statement: &Statement, operand: usize) -> Option<&Ex
     }
 }
 
-/// Whether a statement is an EQU that is a number.
-fn is_number(known: &Known, statement: &Statement) -> bool {
+/// Whether a statement has the name of a number.
+fn is_number(known: &Known, statement: &Statement) -> bool
+    ensures { result ≡ order.is_number (found_in known.now.equ_numbers) (label_of statement.now) }
+{
     match &statement.label {
-        Some(name) => known.equ_numbers.get(name.as_str()).is_some(),
+        Some(name) => found(&known.equ_numbers, name).is_some(),
         None => false,
     }
 }
 
 /// Whether an operand is an expression, but no whole call without arguments.
-fn is_own_expression(statement: &Statement, operand: usize) -> bool {
+fn is_own(statement: &Statement, operand: usize) -> bool
+    ensures { result ≡ order.is_own (model.expression_at statement.now operand) }
+{
     match expression_at(statement, operand) {
         Some(expression) => whole_call(expression).is_none(),
         None => false,
     }
 }
 
-/// Whether a procedure comes from this position of a statement.
-fn is_origin(known: &Known, statement: &Statement, operand: usize) -> bool {
-    match (&statement.body, statement.word) {
-        (Body::Procedure(_), _) => operand == 0,
-        (_, Word::Equ) => operand == 0
-            && !is_number(known, statement)
-            && expression_at(statement, operand).is_some(),
-        (_, Word::Variable | Word::BVariable) => expression_at(statement, operand).is_some(),
-        _ => is_own_expression(statement, operand),
+/// Whether a procedure comes from this position of a statement that has no PROCEDURE.
+fn is_operand_origin(known: &Known, statement: &Statement, operand: usize) -> bool
+    ensures { result ≡ order.is_operand_origin (found_in known.now.equ_numbers) statement.now operand }
+{
+    if is_equ(statement.word) {
+        operand == 0 && !is_number(known, statement) && expression_at(statement, operand).is_some()
+    } else if is_variable(statement.word) {
+        expression_at(statement, operand).is_some()
+    } else {
+        is_own(statement, operand)
     }
 }
 
-/// The origins in a statement, behind others.
+/// Whether a procedure comes from this position of a statement.
+fn is_origin(known: &Known, statement: &Statement, operand: usize) -> bool
+    ensures { result ≡ order.is_origin (found_in known.now.equ_numbers) statement.now operand }
+{
+    match &statement.body {
+        Body::Procedure(_) => operand == 0,
+        Body::Nothing | Body::Points(_) => is_operand_origin(known, statement, operand),
+    }
+}
+
+/// The origin at a position of a statement, if it is one, behind others.
+fn put_origin(
+    origins: &mut Vec<Origin>,
+    known: &Known,
+    statement: &Statement,
+    number: usize,
+    operand: usize,
+) -> Result<(), AllocError>
+    ensures { OnOk result (origins.new.items ≡ origins.old.items
+        ++ order.origin_if (found_in known.now.equ_numbers) statement.now number operand) }
+{
+    if is_origin(known, statement, operand) {
+        let origin = Origin {
+            statement: number,
+            operand,
+        };
+        origins.push(origin).map_err(|_| AllocError)
+    } else {
+        Ok(())
+    }
+}
+
+/// The origins in a statement, behind others: expressions are its first two operands.
 fn put_origins(
     origins: &mut Vec<Origin>,
     known: &Known,
     statement: &Statement,
     number: usize,
-) -> Result<(), AllocError> {
-    for operand in 0..MOST_EXPRESSIONS {
-        if is_origin(known, statement, operand) {
-            let origin = Origin {
-                statement: number,
-                operand,
-            };
-            origins.push(origin).map_err(|_| AllocError)?;
-        }
-    }
-    Ok(())
+) -> Result<(), AllocError>
+    ensures { OnOk result (origins.new.items ≡ origins.old.items
+        ++ order.origins_of (found_in known.now.equ_numbers) statement.now number) }
+{
+    put_origin(origins, known, statement, number, 0)?;
+    put_origin(origins, known, statement, number, 1)
 }
 
 /// The origins of procedures in a model text, in the order of the text.
@@ -98,7 +137,10 @@ pub(crate) fn origins_of(
     alloc: Global,
     known: &Known,
     model: &Model,
-) -> Result<Vec<Origin>, AllocError> {
+) -> Result<Vec<Origin>, AllocError>
+    ensures { IfOk result (λ origins. origins.items
+        ≡ order.origins_from (found_in known.now.equ_numbers) 0 model.now.statements.items) }
+{
     let mut origins = Vec::new(alloc);
     for number in 0..model.statements.len() {
         put_origins(&mut origins, known, &model.statements[number], number)?;

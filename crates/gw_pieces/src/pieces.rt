@@ -1,15 +1,19 @@
 //! The parts of the object that a model text becomes.
 
-ghost use Rattle.std.specs.Prelude.{◌≡◌, ◌≤◌, [], length, IfOk, IfErr, OnOk};
+ghost use Rattle.std.specs.Prelude.{◌≡◌, ◌≤◌, [], length, slice_get, IfOk, IfErr, OnOk};
 ghost use Rattle.gw_object.specs.Reading.{out_of_memory};
 ghost use Rattle.gw_object.specs.declared.limits.TheConstants.{MOST_PROCEDURES};
 ghost use Rattle.gw_names.specs.Judgement.{refusals_in};
+ghost use Rattle.gw_names.specs.Ledger.{with_notes};
 ghost use Rattle.gw_names.specs.Naming.{Knows};
 ghost use Rattle.gw_pieces.specs.Clear.{StaysClear};
 ghost use Rattle.gw_pieces.specs.Making as making;
-ghost use Rattle.gw_pieces.specs.Naming.{OfEach, IsCallee, IsMeant};
+ghost use Rattle.gw_pieces.specs.Notes.{NotesMore};
 ghost use Rattle.gw_pieces.specs.Numbers.{numbers_of};
+ghost use Rattle.gw_pieces.specs.Order.{lookup_by, order_by, order_in};
 ghost use Rattle.gw_pieces.specs.Pieces.{HasCode, IsMadeOf};
+ghost use Rattle.gw_pieces.specs.Reasons as reasons;
+ghost use Rattle.gw_pieces.specs.Settings.{seeds_in};
 
 use crate::blocks::blocks_of;
 use crate::compiling::procedures_of;
@@ -33,7 +37,9 @@ const OUT_OF_MEMORY: Fault = Fault {
 };
 
 /// The line of the statement of an origin.
-fn line_of(text: &Model, origin: Origin) -> u32 {
+fn line_of(text: &Model, origin: Origin) -> u32
+    ensures { result ≡ reasons.line_of (slice_get text.now.statements.items origin.statement) }
+{
     match text.statements.get(origin.statement) {
         Some(statement) => statement.line,
         None => 0,
@@ -42,7 +48,9 @@ fn line_of(text: &Model, origin: Origin) -> u32 {
 
 /// Notes the first origin that is one too many.
 fn note_surplus(text: &Model, origins: &[Origin], ledger: &mut Ledger)
-    ensures { StaysClear ledger.old ledger.new (length origins.now ≤ MOST_PROCEDURES) }
+    ensures few { StaysClear ledger.old ledger.new (length origins.now ≤ MOST_PROCEDURES) }
+    ensures notes { ledger.new.least
+        ≡ with_notes ledger.old.least (reasons.surplus_in text.now.statements.items origins.now) }
 {
     if origins.len() > MOST_PROCEDURES {
         ledger.note(line_of(text, origins[MOST_PROCEDURES]), codes::LIMIT);
@@ -55,7 +63,10 @@ fn placed(
     text: &Model,
     known: &Known,
     origins: Vec<Origin>,
-) -> Result<Vec<Origin>, AllocError> {
+) -> Result<Vec<Origin>, AllocError>
+    ensures { IfOk result (λ order. order.items
+        ≡ order_by (lookup_by known.now text.now.statements.items origins.items)) }
+{
     if origins.len() > MOST_PROCEDURES {
         Ok(origins)
     } else {
@@ -70,7 +81,11 @@ fn order_of(
     known: &Known,
     ledger: &mut Ledger,
 ) -> Result<Vec<Origin>, AllocError>
-    ensures { IfOk result (λ order. StaysClear ledger.old ledger.new (length order.items ≤ MOST_PROCEDURES)) }
+    requires { Knows text.now.statements.items known.now }
+    ensures few { IfOk result (λ order. StaysClear ledger.old ledger.new (length order.items ≤ MOST_PROCEDURES)) }
+    ensures notes { OnOk result (ledger.new.least
+        ≡ with_notes ledger.old.least (reasons.surplus_in text.now.statements.items (order_in text.now.statements.items))) }
+    ensures order { IfOk result (λ order. order.items ≡ order_in text.now.statements.items) }
 {
     let origins = origins_of(alloc, known, text)?;
     let order = placed(alloc, text, known, origins)?;
@@ -93,8 +108,12 @@ fn code_of(
     order: &[Origin],
     ledger: &mut Ledger,
 ) -> Result<Code, AllocError>
-    ensures { IfOk result (λ code. StaysClear ledger.old ledger.new
+    ensures made { IfOk result (λ code. StaysClear ledger.old ledger.new
         (length order.now ≤ MOST_PROCEDURES → HasCode (numbers_of names.now) order.now text.now.statements.items code.procedures.items code.blocks.items)) }
+    ensures notes { OnOk result (NotesMore
+        (reasons.CodeLimit (numbers_of names.now) order.now text.now.statements.items)
+        (reasons.CodeOrBlockMissing (numbers_of names.now) order.now text.now.statements.items)
+        ledger.old.least ledger.new.least) }
 {
     let procedures = procedures_of(alloc, names, text, order, ledger)?;
     let blocks = blocks_of(alloc, names, text, order, ledger)?;
@@ -114,6 +133,10 @@ fn code_with(
     ensures made { IfOk result (λ code. StaysClear ledger.old ledger.new
         (length order.now ≤ MOST_PROCEDURES → HasCode (numbers_of (record names.old { list = entities })) order.now text.now.statements.items
         code.procedures.items code.blocks.items)) }
+    ensures notes { OnOk result (NotesMore
+        (reasons.CodeLimit (numbers_of names.old) order.now text.now.statements.items)
+        (reasons.CodeOrBlockMissing (numbers_of names.old) order.now text.now.statements.items)
+        ledger.old.least ledger.new.least) }
 {
     names.list = entities;
     code_of(alloc, text, names, order, ledger)
@@ -131,6 +154,10 @@ fn code_and_entities(
     ensures made { IfOk result (λ code. StaysClear ledger.old ledger.new
         (length order.now ≤ MOST_PROCEDURES → making.HasAllBy (numbers_of names.old) order.now text.now.statements.items sighted.now
         names.new.list.items code.procedures.items code.blocks.items)) }
+    ensures notes { OnOk result (NotesMore
+        (reasons.CodeLimit (numbers_of names.old) order.now text.now.statements.items)
+        (reasons.AnyMissing (numbers_of names.old) order.now text.now.statements.items sighted.now)
+        ledger.old.least ledger.new.least) }
 {
     let entities = entities_of(alloc, names, text, order, sighted, ledger)?;
     code_with(alloc, text, names, entities, order, ledger)
@@ -153,9 +180,13 @@ fn pieces_by(
     sighted: &[Sighted],
     ledger: &mut Ledger,
 ) -> Result<Pieces, AllocError>
-    ensures { IfOk result (λ pieces. StaysClear ledger.old ledger.new
+    ensures made { IfOk result (λ pieces. StaysClear ledger.old ledger.new
         (length order.now ≤ MOST_PROCEDURES → making.HasAllBy (numbers_of names) order.now text.now.statements.items sighted.now
         pieces.entities.items pieces.procedures.items pieces.blocks.items)) }
+    ensures notes { OnOk result (NotesMore
+        (reasons.CodeLimit (numbers_of names) order.now text.now.statements.items)
+        (reasons.AnyMissing (numbers_of names) order.now text.now.statements.items sighted.now)
+        ledger.old.least ledger.new.least) }
 {
     let mut names = names;
     match code_and_entities(alloc, text, &mut names, order, sighted, ledger) {
@@ -212,10 +243,10 @@ fn ordered_by(
 ) -> Result<Ordered, AllocError>
     requires { Knows text.now.statements.items known.now }
     ensures few { IfOk result (λ o. StaysClear ledger.old ledger.new (length o.order.items ≤ MOST_PROCEDURES)) }
-    ensures procedures { IfOk result (λ o.
-        OfEach (IsCallee text.now.statements.items o.order.items) o.meanings.procedures) }
-    ensures equs { IfOk result (λ o.
-        OfEach (IsMeant text.now.statements.items o.order.items) o.meanings.equs) }
+    ensures notes { OnOk result (ledger.new.least
+        ≡ with_notes ledger.old.least (reasons.surplus_in text.now.statements.items (order_in text.now.statements.items))) }
+    ensures order { IfOk result (λ o. o.order.items ≡ order_in text.now.statements.items) }
+    ensures meanings { IfOk result (λ o. making.AreMeanings text.now.statements.items o.order.items o.meanings) }
 {
     let order = order_of(alloc, text, known, ledger)?;
     let meanings = meanings_of(alloc, text, known, &order)?;
@@ -232,10 +263,9 @@ fn judged(
     requires { Knows text.now.statements.items known.now }
     ensures few { IfOk result (λ o. StaysClear ledger.old ledger.new (length o.order.items ≤ MOST_PROCEDURES)) }
     ensures named { OnOk result (StaysClear ledger.old ledger.new (refusals_in text.now.statements.items ≡ [])) }
-    ensures procedures { IfOk result (λ o.
-        OfEach (IsCallee text.now.statements.items o.order.items) o.meanings.procedures) }
-    ensures equs { IfOk result (λ o.
-        OfEach (IsMeant text.now.statements.items o.order.items) o.meanings.equs) }
+    ensures notes { OnOk result (ledger.new.least ≡ making.noted_of_names text.now.statements.items ledger.old.least) }
+    ensures order { IfOk result (λ o. o.order.items ≡ order_in text.now.statements.items) }
+    ensures meanings { IfOk result (λ o. making.AreMeanings text.now.statements.items o.order.items o.meanings) }
 {
     check_uses(alloc, known, text.statements.as_slice(), ledger)?;
     ordered_by(alloc, text, known, ledger)
@@ -251,11 +281,12 @@ fn pieces_with(
     ledger: &mut Ledger,
 ) -> Result<Pieces, AllocError>
     requires known { Knows text.now.statements.items known }
-    requires procedures { OfEach (IsCallee text.now.statements.items ordered.order.items) ordered.meanings.procedures }
-    requires equs { OfEach (IsMeant text.now.statements.items ordered.order.items) ordered.meanings.equs }
-    ensures { IfOk result (λ pieces. StaysClear ledger.old ledger.new
+    requires meanings { making.AreMeanings text.now.statements.items ordered.order.items ordered.meanings }
+    requires order { ordered.order.items ≡ order_in text.now.statements.items }
+    ensures made { IfOk result (λ pieces. StaysClear ledger.old ledger.new
         (length ordered.order.items ≤ MOST_PROCEDURES → making.AreMade text.now.statements.items
         pieces.entities.items pieces.procedures.items pieces.blocks.items)) }
+    ensures notes { OnOk result (making.NotesPieces text.now.statements.items ledger.old.least ledger.new.least) }
 {
     let Ordered { order, meanings } = ordered;
     let (names, sighted) = names_with(known, meanings, Vec::new(alloc));
@@ -273,6 +304,8 @@ fn pieces_known(
     ensures made { IfOk result (λ pieces. StaysClear ledger.old ledger.new (making.AreMade text.now.statements.items
         pieces.entities.items pieces.procedures.items pieces.blocks.items)) }
     ensures named { OnOk result (StaysClear ledger.old ledger.new (refusals_in text.now.statements.items ≡ [])) }
+    ensures notes { OnOk result (making.NotesPieces text.now.statements.items
+        (making.noted_of_names text.now.statements.items ledger.old.least) ledger.new.least) }
 {
     match judged(alloc, text, &known, ledger) {
         Ok(ordered) => pieces_with(alloc, text, known, ordered, ledger),
@@ -282,8 +315,10 @@ fn pieces_known(
 
 /// What is made of a model text. What can't be made is noted.
 fn pieces_of(alloc: Global, text: &Model, ledger: &mut Ledger) -> Result<Pieces, AllocError>
-    ensures { IfOk result (λ pieces. StaysClear ledger.old ledger.new (making.AreMadeNamed text.now.statements.items
+    ensures made { IfOk result (λ pieces. StaysClear ledger.old ledger.new (making.AreMadeNamed text.now.statements.items
         pieces.entities.items pieces.procedures.items pieces.blocks.items)) }
+    ensures notes { OnOk result (making.NotesPieces text.now.statements.items
+        (making.noted_of_text text.now.statements.items ledger.old.least) ledger.new.least) }
 {
     match known_names(alloc, text.statements.as_slice(), ledger) {
         Ok(known) => pieces_known(alloc, text, known, ledger),
@@ -312,7 +347,9 @@ struct Rest {
 }
 
 /// What an object of so many blocks and user chains has beside its pieces.
-fn rest_of(alloc: Global, text: &Model, blocks: usize, chains: usize) -> Result<Rest, AllocError> {
+fn rest_of(alloc: Global, text: &Model, blocks: usize, chains: usize) -> Result<Rest, AllocError>
+    ensures { IfOk result (λ rest. rest.seeds.items ≡ seeds_in text.now.statements.items) }
+{
     Ok(Rest {
         seeds: seeds_of(alloc, text.statements.as_slice())?,
         states: no_rows(alloc, blocks)?,
@@ -325,6 +362,7 @@ fn rest_of(alloc: Global, text: &Model, blocks: usize, chains: usize) -> Result<
 /// The parts of an object of these pieces.
 fn parts_with(alloc: Global, count: u64, pieces: Pieces, rest: Rest) -> Parts
     ensures count { result.count ≡ count }
+    ensures seeds { result.seeds ≡ rest.seeds.items }
     ensures entities { result.entities ≡ pieces.entities.items }
     ensures procedures { result.procedures ≡ pieces.procedures.items }
     ensures blocks { result.blocks ≡ pieces.blocks.items }
@@ -364,7 +402,7 @@ fn completed(alloc: Global, text: &Model, pieces: Pieces) -> Result<Parts, Fault
 /// code there: 80 Name, 81 Storage, 82 Limit (ours: docs/refusals.md); or with 8 Memory, at Nowhere.
 pub fn parts_of(alloc: Global, text: &Model) -> Result<Parts, Fault>
     ensures made { IfOk result (IsMadeOf text.now.statements.items) }
-    ensures refused { IfErr result making.IsNotMade }
+    ensures refused { IfErr result (making.IsNotMade text.now.statements.items) }
 {
     let mut ledger = Ledger::new();
     match pieces_of(alloc, text, &mut ledger) {

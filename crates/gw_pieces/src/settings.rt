@@ -7,7 +7,7 @@ use gw_text::{Operand, Statement, Word};
 use std::alloc::{AllocError, Global};
 
 /// How many seeds RMULT has.
-const SEEDS: usize = 7;
+pub(crate) const SEEDS: usize = 7;
 
 /// The number that is written at a position; 0 where none is.
 pub(crate) fn number_at(operands: &[Operand], position: usize) -> i64
@@ -74,17 +74,45 @@ fn seed_of(statements: &[Statement], stream: usize) -> u32
     seed
 }
 
-/// The seeds of the streams from the first on, without those of 0 at the end.
-pub(crate) fn seeds_of(alloc: Global, statements: &[Statement]) -> Result<Vec<u32>, AllocError> {
+/// The seed of a stream, from 0, behind others.
+fn put_seed(seeds: &mut Vec<u32>, statements: &[Statement], stream: usize) -> Result<(), AllocError>
+    ensures { OnOk result (seeds.new.items ≡ seeds.old.items ++ model.seed_from 0 statements.now stream ∷ []) }
+{
+    seeds
+        .push(seed_of(statements, stream))
+        .map_err(|_| AllocError)
+}
+
+/// The seeds of all streams.
+fn all_seeds(alloc: Global, statements: &[Statement]) -> Result<Vec<u32>, AllocError>
+    ensures { IfOk result (λ seeds. seeds.items ≡ model.seeds_from statements.now 0 SEEDS) }
+{
     let mut seeds = Vec::new(alloc);
-    let mut length = 0;
     for stream in 0..SEEDS {
-        let seed = seed_of(statements, stream);
-        seeds.push(seed).map_err(|_| AllocError)?;
-        if seed != 0 {
-            length = seeds.len();
+        put_seed(&mut seeds, statements, stream)?;
+    }
+    Ok(seeds)
+}
+
+/// How many seeds there are up to the last that isn't 0.
+fn used(seeds: &[u32]) -> usize
+    ensures used { result ≡ model.used_from 0 0 seeds.now }
+{
+    let mut used = 0;
+    for i in 0..seeds.len() {
+        if seeds[i] != 0 {
+            used = i + 1;
         }
     }
-    seeds.truncate(length);
+    used
+}
+
+/// The seeds of the streams from the first on, without those of 0 at the end.
+pub(crate) fn seeds_of(alloc: Global, statements: &[Statement]) -> Result<Vec<u32>, AllocError>
+    ensures { IfOk result (λ seeds. seeds.items ≡ model.seeds_in statements.now) }
+{
+    let mut seeds = all_seeds(alloc, statements)?;
+    let used = used(&seeds);
+    seeds.truncate(used);
     Ok(seeds)
 }

@@ -1,6 +1,7 @@
-use Rattle.std.proofs.Common.{◌≡◌, length, refl, arith}
+use Rattle.std.proofs.Common.{length, refl, arith}
 use Rattle.std.proofs.lemmas.Option.{slice_get_read}
 use Rattle.gw_pieces.specs.Numbers.{numbers_of}
+use Rattle.gw_pieces.proofs.Noting.{further, ends_with, after_block}
 use Rattle.gw_pieces.proofs.Walks.{next_block, next_recorded}
 use Rattle.gw_pieces.proofs.blocks.blocks_of.Goals as goal
 
@@ -17,4 +18,5 @@ loop-number-preserved c =
       blocks = next_block n order ss i s at c.loop-number.blocks.items c.put_block.new.blocks.items _ c.in_ok-put_block.ensures.blocks h.blocks;
       clear = λ least. h.clear (c.in_ok-put_block.ensures.ledger least).0;
       recorded = λ least. next_recorded n order ss i s at (c.in_ok-put_block.ensures.ledger least).1 (h.recorded (c.in_ok-put_block.ensures.ledger least).0);
+      notes = further _ _ _ h.notes (ends_with _ _ _ c.in_ok-put_block.ensures.notes (after_block n order ss i s at _));
     }

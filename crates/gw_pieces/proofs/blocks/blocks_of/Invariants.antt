@@ -1,6 +1,8 @@
 use Rattle.std.proofs.Common.{◌≡◌, ◌++◌, drop, None}
+use Rattle.gw_pieces.specs.Notes.{Never, NotesMore}
 use Rattle.gw_pieces.specs.Numbers.{numbers_of}
 use Rattle.gw_pieces.specs.Blocks.{blocks_from, AllRecorded}
+use Rattle.gw_pieces.specs.Reasons.{BlockMissing}
 use Rattle.gw_pieces.proofs.blocks.blocks_of.Given as goal
 
 -- the blocks are those of the statements so far, and each of these is recorded where nothing is noted
@@ -9,4 +11,5 @@ invariant-loop-number l = record {
   blocks : l.blocks.items ++ blocks_from (numbers_of l.names) l.order l.number (drop l.number l.text.statements.items) ≡ blocks_from (numbers_of l.names) l.order 0 l.text.statements.items;
   clear : l.ledger.least ≡ None → l.fn.ledger.least ≡ None;
   recorded : l.ledger.least ≡ None → AllRecorded (numbers_of l.names) l.order l.number (drop l.number l.text.statements.items) → AllRecorded (numbers_of l.names) l.order 0 l.text.statements.items;
+  notes : NotesMore Never (BlockMissing (numbers_of l.names) l.order l.text.statements.items) l.fn.ledger.least l.ledger.least;
 }

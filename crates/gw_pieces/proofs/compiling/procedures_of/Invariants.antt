@@ -1,4 +1,6 @@
 use Rattle.std.proofs.Common.{◌≡◌, take, None}
+use Rattle.gw_pieces.specs.Notes.{NotesMore}
+use Rattle.gw_pieces.specs.Reasons.{CodeLimit, ProcedureMissing}
 use Rattle.gw_pieces.specs.Numbers.{numbers_of}
 use Rattle.gw_pieces.specs.Sources.{AreCompiled}
 use Rattle.gw_pieces.proofs.compiling.procedures_of.Given as goal
@@ -8,4 +10,5 @@ abbrev pub invariant-loop-place : goal.invariant-loop-place
 invariant-loop-place l = record {
   clear : l.ledger.least ≡ None → l.fn.ledger.least ≡ None;
   compiled : l.ledger.least ≡ None → AreCompiled (numbers_of l.names) l.text.statements.items (take l.place l.order) l.procedures.items;
+  notes : NotesMore (CodeLimit (numbers_of l.names) l.order l.text.statements.items) (ProcedureMissing (numbers_of l.names) l.order l.text.statements.items) l.fn.ledger.least l.ledger.least;
 }

@@ -1,13 +1,15 @@
-use Rattle.std.proofs.Common.{◌≡◌, length, refl, arith}
+use Rattle.std.proofs.Common.{length, refl, arith}
 use Rattle.std.proofs.lemmas.Option.{slice_get_read}
 use Rattle.gw_pieces.specs.Numbers.{numbers_of}
+use Rattle.gw_pieces.proofs.Noting.{further}
+use Rattle.gw_pieces.proofs.Reasoning.{at_sight}
 use Rattle.gw_pieces.proofs.Sighting.{one_more_sighted, all_sighted}
 use Rattle.gw_pieces.proofs.entities.entities_of.Goals as goal
 
 pub loop-number-preserved : goal.loop-number-preserved
 loop-number-preserved c =
     let h = c.loop-number.invariant in
-    let grown = c.in_ok-put_entity.ensures in
+    let grown = c.in_ok-put_entity.ensures.grown in
     let sighted = c.args.sighted.now in
     let i = c.loop-number.number in
     let s = c.index-sighted-number.result in
@@ -17,9 +19,10 @@ loop-number-preserved c =
       switches = h.switches;
       clear = λ none. h.clear (grown none).0;
       entities = λ none. one_more_sighted (numbers_of c.args.names.now) c.args.order.now c.args.text.now.statements.items sighted i s at c.loop-number.entities.items c.put_entity.new.entities.items (grown none).1 (h.entities (grown none).0);
+      notes = further _ _ _ h.notes (at_sight (numbers_of c.args.names.now) c.args.order.now c.args.text.now.statements.items sighted i s at _ _ c.in_ok-put_entity.ensures.notes);
     }
 
-pub returns : goal.returns
-returns c none =
+pub returns-clause-sighted : goal.returns-clause-sighted
+returns-clause-sighted c none =
     let h = c.loop-number.invariant in
     (h.clear none, all_sighted (numbers_of c.args.names.now) c.args.order.now c.args.text.now.statements.items c.args.sighted.now c.loop-number.number (omega (arith, c.loop-number-test.false)) c.loop-number.entities.items (h.entities none))

@@ -1,5 +1,5 @@
-use Rattle.std.proofs.Common.{rules, ◌≡◌, ◌∙◌, sym, ap, length, true, false, Some, None, refl}
-use Rattle.std.specs.Prelude.{◌==◌, string_bytes}
+use Rattle.std.proofs.Common.{rules, ◌≡◌, ◌∙◌, sym, ap, length, true, false, refl}
+use Rattle.std.specs.Prelude.{◌==◌}
 use Rattle.gw_pieces.specs.Origins.{whole_call}
 use Rattle.gw_pieces.proofs.Rows.{whole_of_call}
 use Rattle.gw_pieces.proofs.origins.whole_call.Goals as goal
