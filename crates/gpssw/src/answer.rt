@@ -17,7 +17,7 @@ use crate::words::Command;
 use gw_assemble::assemble;
 use gw_object::{Fault, Memory, Object, codes, read, write};
 use gw_report::report;
-use gw_scan::{Sim, Spec, Status};
+use gw_scan::{Sim, Spec, StartFault, Status};
 use gw_text::{Model, parse};
 use gw_verify::{Verified, verify};
 use std::alloc::Global;
@@ -124,14 +124,15 @@ fn verified_object(alloc: Global, object: Object) -> Result<Verified, NoJob>
 }
 
 /// A job with this one seed and this count; 0 means the object's own.
-fn spec_with(verified: Verified, seed: u32, count: u64) -> Result<Spec, NoJob>
+fn spec_with(alloc: Global, verified: Verified, seed: u32, count: u64) -> Result<Spec, NoJob>
     ensures found { FindsJob result (job_made seed count verified) }
     ensures budget { IfOk result (λ spec. spec.budget ≡ BUDGET) }
 {
     let given = [seed];
     let seeds: &[u32] = if seed == 0 { &[] } else { &given };
-    match Spec::new(verified, seeds, count, BUDGET) {
+    match Spec::new(alloc, verified, seeds, count, BUDGET) {
         Ok(spec) => Ok(spec),
+        Err((_, StartFault::Memory)) => Err(NoJob::OutOfMemory),
         Err((_, fault)) => Err(NoJob::Refused(Refusal::from(fault))),
     }
 }
@@ -144,7 +145,7 @@ fn spec_of(alloc: Global, seed: u32, count: u64, input: &[u8]) -> Result<Spec, N
 {
     let object = object_in(alloc, input)?;
     let verified = verified_object(alloc, object)?;
-    spec_with(verified, seed, count)
+    spec_with(alloc, verified, seed, count)
 }
 
 /// The text that is to be written where these bytes are run with this seed and this count, and the status.

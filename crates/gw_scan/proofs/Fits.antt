@@ -1,12 +1,17 @@
 -- A job of seeds, a count and a budget in range has its numbers in range.
-use Rattle.std.proofs.Common.{◌≡◌, ℕ, zero, suc, ◌+◌, ◌≤◌, ◌<◌, ◌^◌, List, [], ◌∷◌, length, Bool, true, false, if◌then◌else◌, ◌==◌, refl, sym, subst, arith}
+use Rattle.std.proofs.Common.{◌≡◌, ℕ, zero, suc, ◌+◌, ◌≤◌, ◌<◌, ◌^◌, List, [], ◌∷◌, length, None, Bool, true, false, if◌then◌else◌, ◌==◌, refl, sym, subst, arith}
 use Rattle.std.specs.Prelude.{nat_le, slice_index_or}
 use Rattle.std.specs.List.{All, AllByRecursion, list_all}
+use Rattle.std.proofs.lemmas.Bool.Decides.{nat_tests}
 use Rattle.std.proofs.lemmas.Bool.{leb-true, eqb-false, and_parts}
 use Rattle.std.proofs.lemmas.List.Elements.{All-from_get_or, recursion_from_All}
 use Rattle.std.proofs.lemmas.List.FromFn.{length-map-range_with_len, get_or-map-range_with_len}
 use Rattle.gw_step.specs.Job.{seed_at, streams_of}
-use Rattle.gw_scan.specs.Making.{seeds_fit, seeds_or, count_or}
+use Rattle.gw_scan.specs.Making.{seeds_fit, spec_fault, seeds_or, count_or}
+
+-- seeds, a count and a budget of which nothing is refused are in range
+pub in_range : (seeds : List ℕ) (count budget : ℕ) → spec_fault seeds count budget ≡ None → (seeds_fit seeds ≡ true) × (count ≤ 2 ^ 40) × (0 < budget) × (budget ≤ 2 ^ 40)
+in_range seeds count budget none = grind (arith, nat_tests)
 
 tested : (seeds : List ℕ) → list_all (λ seed. nat_le seed 2147483646) seeds ≡ true → AllByRecursion (λ seed. seed ≤ 2147483646) seeds
 tested [] e = tt

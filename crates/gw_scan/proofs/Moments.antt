@@ -1,7 +1,7 @@
 -- While the clock stands, a step is paid by what the state weighs.
 use Rattle.std.proofs.Common.{◌≡◌, None, arith}
 use Rattle.gw_step.specs.State.{State}
-use Rattle.gw_step.specs.Job.{Job, Progress, IsReached, Step}
+use Rattle.gw_step.specs.Job.{Job, IsReached, Step}
 use Rattle.gw_step.proofs.LeftByEnds.{steps_are_counted}
 use Rattle.gw_step.proofs.Reached.{reached_more}
 use Rattle.gw_step.proofs.Moment.{entries_are_paid}

@@ -1,9 +1,9 @@
 -- Making a job of an object: which seeds, counts and budgets are refused, and what is made.
-use Rattle.std.specs.Prelude.{ℕ, ◌^◌, List, [], ◌∷◌, length, Option, Some, None, Bool, nat_le, nat_lt, ◌==◌, ◌&&◌, ◌||◌, if◌then◌else◌}
+use Rattle.std.specs.Prelude.{ℕ, ◌^◌, List, [], ◌∷◌, length, Option, Some, None, unwrap_or, Bool, nat_le, nat_lt, ◌==◌, ◌&&◌, ◌||◌, if◌then◌else◌}
 use Rattle.std.specs.List.{list_all}
 use Rattle.gw_object.specs.declared.parts.Parts.{Parts}
 use Rattle.gw_scan.specs.declared.spec.StartFault.{StartFault}
-use Rattle.gw_scan.specs.declared.spec.StartFault.TheVariants.{Seed, Count, Budget}
+use Rattle.gw_scan.specs.declared.spec.StartFault.TheVariants.{Seed, Count, Budget, Memory}
 use Rattle.gw_step.specs.Job.{Job, streams_of}
 
 -- at most 16 seeds, each at most 2147483646
@@ -18,6 +18,10 @@ spec_fault seeds count budget =
     else if (budget == 0) || nat_lt (2 ^ 40) budget then Some Budget
     else None)
     else Some Seed
+
+-- why no job is made: the first refusal that applies, or want of memory where none does
+abbrev pub refusal_of : List ℕ → ℕ → ℕ → StartFault
+refusal_of seeds count budget = unwrap_or (spec_fault seeds count budget) Memory
 
 -- the seeds that are given, or the object's own where none is
 abbrev pub seeds_or : List ℕ → List ℕ → List ℕ

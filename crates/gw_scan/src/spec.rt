@@ -1,14 +1,17 @@
 //! What a job runs.
 
-ghost use Rattle.std.specs.Prelude.{◌≡◌, ◌≤◌, ◌<◌, nat_le, slice_index_or, IfOk, IfErr, Some, None};
+ghost use Rattle.std.specs.Prelude.{◌≡◌, ◌≤◌, ◌<◌, nat_le, slice_index_or, Decides, IfOk, IfErr, None};
 ghost use Rattle.std.specs.List.{All, list_all};
 ghost use Rattle.gw_step.specs.Job as job;
 ghost use Rattle.gw_scan.specs.Making as model;
 
+use gw_chains::Memory;
 use gw_num::Stream;
-use gw_object::{GREATEST_SEED, MOST_SEEDS};
+use gw_object::{GREATEST_SEED, MOST_SEEDS, Parts};
 use gw_verify::Verified;
+use std::alloc::Global;
 use std::marker::Model;
+use std::sync::Arc;
 
 /// Why a job can't be made of an object, or can't be started, each with the code of its refusal (ours: docs/refusals.md).
 #[derive(Clone, Copy, Debug, PartialEq, Eq)]
@@ -27,10 +30,10 @@ pub enum StartFault {
 const GREATEST: u64 = 1 << 40;
 
 /// What a job runs: an object that the verifier accepted, the seeds of its 16 streams, the termination count, and the
-/// budget, which is at most how many steps it makes.
+/// budget, which is at most how many steps it makes. The object is shared by all specs that were made of one another.
 #[derive(Debug, Drop)]
 pub struct Spec {
-    verified: Verified,
+    verified: Arc<Verified, Global>,
     streams: [Stream; 16],
     count: u64,
     budget: u64,
@@ -111,43 +114,72 @@ fn seeds_fit(seeds: &[u32]) -> bool
     seeds.len() <= MOST_SEEDS && are_seeds(seeds)
 }
 
+/// Why no job is made with these seeds, this count and this budget, if it is so: the first refusal that applies.
+fn fault_of(seeds: &[u32], count: u64, budget: u64) -> Option<StartFault>
+    ensures { result ≡ model.spec_fault seeds.now count budget }
+{
+    if !seeds_fit(seeds) {
+        Some(StartFault::Seed)
+    } else if count > GREATEST {
+        Some(StartFault::Count)
+    } else if budget == 0 || budget > GREATEST {
+        Some(StartFault::Budget)
+    } else {
+        None
+    }
+}
+
 impl Spec {
     ghost use Rattle.gw_verify.specs.Checks.{Checked};
     ghost use Rattle.gw_step.specs.Job.{JobFits};
-    ghost use Rattle.gw_scan.specs.Making.{job_from, spec_fault};
+    ghost use Rattle.gw_scan.specs.Making.{job_from, spec_fault, refusal_of};
 
     /// A job of this object, with at most `budget` steps. An empty list of seeds, and a count of 0, mean the object's own;
     /// a seed of 0, or none, is the stream's own number, from 1 (ours: docs/machine.md).
     ///
     /// It hands the object back with the first of these that applies: `Seed` for more than 16 seeds or one above
-    /// 2147483646, `Count` for a count above 2^40, `Budget` for a budget of 0 or above 2^40. It takes no memory.
+    /// 2147483646, `Count` for a count above 2^40, `Budget` for a budget of 0 or above 2^40, and last `Memory`: it takes
+    /// the memory in which the object is shared.
     pub fn new(
+        alloc: Global,
         verified: Verified,
         seeds: &[u32],
         count: u64,
         budget: u64,
     ) -> Result<Spec, (Verified, StartFault)>
-        ensures made { IfOk result (λ spec. (spec ≡ job_from verified seeds.now count budget) ×
-            (spec_fault seeds.now count budget ≡ None)) }
-        ensures refused { IfErr result (λ e. (e.0 ≡ verified) × (spec_fault seeds.now count budget ≡ Some e.1)) }
+        ensures made { IfOk result (λ spec. spec ≡ job_from verified seeds.now count budget) }
+        ensures in_range { IfOk result (λ _. spec_fault seeds.now count budget ≡ None) }
+        ensures back { IfErr result (λ e. e.0 ≡ verified) }
+        ensures refused { IfErr result (λ e. e.1 ≡ refusal_of seeds.now count budget) }
     {
-        if !seeds_fit(seeds) {
-            return Err((verified, StartFault::Seed));
-        }
-        if count > GREATEST {
-            return Err((verified, StartFault::Count));
-        }
-        if budget == 0 || budget > GREATEST {
-            return Err((verified, StartFault::Budget));
+        if let Some(fault) = fault_of(seeds, count, budget) {
+            return Err((verified, fault));
         }
         let parts = verified.object().parts();
         let streams = streams_of(seeds_or(seeds, parts.seeds.as_slice()));
         let count = count_or(count, parts.count);
+        match Arc::new(alloc, verified) {
+            Ok(verified) => Ok(Spec {
+                verified,
+                streams,
+                count,
+                budget,
+            }),
+            Err(refused) => Err((refused.value, StartFault::Memory)),
+        }
+    }
+
+    /// The same job once more. The object isn't copied: the two share it. `Memory` comes only where 2^63 - 1 specs share it
+    /// already.
+    pub fn share(&self) -> Result<Spec, Memory>
+        ensures { IfOk result (λ spec. spec ≡ self.now) }
+    {
+        let verified = Arc::try_clone(&self.verified)?;
         Ok(Spec {
             verified,
-            streams,
-            count,
-            budget,
+            streams: self.streams,
+            count: self.count,
+            budget: self.budget,
         })
     }
 
@@ -157,6 +189,13 @@ impl Spec {
         ensures fits { JobFits self.now }
     {
         &self.verified
+    }
+
+    /// The parts of its object.
+    fn parts(&self) -> &Parts
+        ensures { result.now ≡ self.now.parts }
+    {
+        self.verified().object().parts()
     }
 
     /// Its 16 streams, each at its seed, from the first on.
@@ -181,4 +220,32 @@ impl Spec {
     {
         self.budget
     }
+}
+
+impl PartialEq for Spec {
+    ghost use Rattle.std.specs.Cmp.{partial_equiv_from_equiv};
+    ghost use Rattle.gw_same.specs.Jobs.{same_job};
+    ghost use Rattle.gw_same.proofs.Jobs.{job_equivalence};
+
+    ghost eq = { same_job };
+
+    ghost laws = { partial_equiv_from_equiv job_equivalence };
+
+    /// Whether they are the same job: parts of the object, seeds, count and budget. What is compared quickly goes before the
+    /// object. It takes no memory.
+    fn eq(&self, other: &Spec) -> bool
+        ensures value { result ≡ same_job self.now other.now }
+        ensures decides { Decides result (self.now ≡ other.now) }
+    {
+        self.budget == other.budget
+            && self.count == other.count
+            && self.streams == other.streams
+            && *self.parts() == *other.parts()
+    }
+}
+
+impl Eq for Spec {
+    ghost use Rattle.gw_same.proofs.Jobs.{job_equivalence};
+
+    ghost laws = { job_equivalence };
 }

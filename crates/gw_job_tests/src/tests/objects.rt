@@ -206,7 +206,9 @@ pub(super) fn seeded_object(
 
 /// The job of an object before its first step, with the object's own seeds and termination count.
 pub(super) fn job_of(alloc: Global, verified: Verified, budget: u64) -> Result<Sim, Fail> {
-    let spec = Spec::new(verified, &[], 0, budget).ok().ok_or("a spec")?;
+    let spec = Spec::new(alloc, verified, &[], 0, budget)
+        .ok()
+        .ok_or("a spec")?;
     Ok(Sim::start(alloc, spec).ok().ok_or("a job")?)
 }
 

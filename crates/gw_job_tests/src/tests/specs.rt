@@ -1,12 +1,14 @@
-//! What a job is made of, and what is refused.
+//! What a job is made of, what is refused, and which specs are the same job.
 
-use super::blocks::THREE_BLOCKS;
-use super::objects::{AMPLE, object, seeded_object};
+use super::blocks::*;
+use super::objects::{AMPLE, job_of_blocks, object, seeded_object};
+use gw_blocks::Block;
 use gw_num::Stream;
 use gw_object::Memory;
-use gw_scan::{Spec, StartFault};
+use gw_scan::{Sim, Spec, StartFault};
 use gw_verify::Verified;
 use std::alloc::Global;
+use std::marker::{Send, Sync};
 use std::test::Fail;
 
 /// Why a spec was refused, if it was, and of how many blocks the object then is that came back.
@@ -28,7 +30,7 @@ fn refusal(
     budget: u64,
 ) -> Result<Option<(StartFault, u16)>, Fail> {
     let verified = object(alloc, 2, THREE_BLOCKS)?;
-    Ok(fault_of(Spec::new(verified, seeds, count, budget)))
+    Ok(fault_of(Spec::new(alloc, verified, seeds, count, budget)))
 }
 
 /// The place, from 0, of the first of these with which another job of the three blocks is made, or refused.
@@ -77,13 +79,23 @@ fn streams_at(alloc: Global, seeds: &[u32]) -> Result<Vec<Stream>, Memory> {
     Ok(streams)
 }
 
-/// Whether the job of an object with seeds 5, 0 and 9 and a count of 2, with this given, has streams at these seeds and this
-/// count.
+/// Seeds, a termination count, a budget and the blocks of an object.
+type Making<'a> = (&'a [u32], u64, u64, &'a [Block]);
+
+/// The spec of an object of these blocks with seeds 5, 0 and 9 and a count of 2, where the rest is given.
+fn spec_of(alloc: Global, making: Making) -> Result<Spec, Fail> {
+    let (seeds, count, budget, blocks) = making;
+    let verified = seeded_object(alloc, &[5, 0, 9], 2, blocks)?;
+    Ok(
+        Spec::new(alloc, verified, seeds, count, budget)
+            .ok()
+            .ok_or("a spec")?,
+    )
+}
+
+/// Whether the job of the three blocks with this given has streams at these seeds and this count.
 fn job_has(alloc: Global, given: (&[u32], u64), seeds: &[u32], count: u64) -> Result<bool, Fail> {
-    let verified = seeded_object(alloc, &[5, 0, 9], 2, THREE_BLOCKS)?;
-    let spec = Spec::new(verified, given.0, given.1, AMPLE)
-        .ok()
-        .ok_or("a spec")?;
+    let spec = spec_of(alloc, (given.0, given.1, AMPLE, THREE_BLOCKS))?;
     let streams = streams_at(alloc, seeds)?;
     Ok(spec.count() == count && spec.streams().as_slice() == streams.as_slice())
 }
@@ -94,5 +106,83 @@ fn given_seeds_and_count_go_before_the_objects_own(rt: HostRuntime) -> Result<()
     const GIVEN: &[u32] = &[1, 8, 3, 4, 5, 6, 7, 8, 9, 10, 11, 12, 13, 14, 15, 16];
     assert!(rt; job_has(rt.alloc(), (&[], 0), OWN, 2)?);
     assert!(rt; job_has(rt.alloc(), (&[0, 8], 3), GIVEN, 3)?);
+    Ok(())
+}
+
+// EQUAL SPECS
+
+/// GENERATE 10 / ADVANCE 4 / TERMINATE 1.
+const LONGER: &[Block] = &[generate!(10, None, None, 0), advance!(4), terminate!(1)];
+
+/// Whether a spec is the one that is so made.
+fn is_made_so(alloc: Global, spec: &Spec, making: Making) -> Result<bool, Fail> {
+    let other = spec_of(alloc, making)?;
+    Ok(*spec == other)
+}
+
+/// The place, from 0, of the first of these of which it is told wrong whether the spec is so made.
+fn wrong_equality(
+    alloc: Global,
+    spec: &Spec,
+    cases: &[(Making, bool)],
+) -> Result<Option<usize>, Fail> {
+    for i in 0..cases.len() {
+        let (making, equal) = cases[i];
+        if is_made_so(alloc, spec, making)? != equal {
+            return Ok(Some(i));
+        }
+    }
+    Ok(None)
+}
+
+/// The same for the spec of the three blocks with nothing given.
+fn wrong_making(alloc: Global, cases: &[(Making, bool)]) -> Result<Option<usize>, Fail> {
+    let spec = spec_of(alloc, (&[], 0, AMPLE, THREE_BLOCKS))?;
+    wrong_equality(alloc, &spec, cases)
+}
+
+#[test]
+fn specs_are_equal_where_they_are_the_same_job(rt: HostRuntime) -> Result<(), Fail> {
+    // Seeds and counts are compared as they result, and not as they are given.
+    const CASES: &[(Making<'static>, bool)] = &[
+        ((&[], 0, AMPLE, THREE_BLOCKS), true),
+        ((&[5, 2, 9, 4, 0, 6], 2, AMPLE, THREE_BLOCKS), true),
+        ((&[5, 0, 8], 0, AMPLE, THREE_BLOCKS), false),
+        ((&[], 3, AMPLE, THREE_BLOCKS), false),
+        ((&[], 0, AMPLE - 1, THREE_BLOCKS), false),
+        ((&[], 0, AMPLE, LONGER), false),
+    ];
+    assert!(rt; wrong_making(rt.alloc(), CASES)?.is_none());
+    Ok(())
+}
+
+/// Whether what a spec shares is the same job.
+fn shares_itself(spec: &Spec) -> Result<bool, Fail> {
+    let shared = spec.share()?;
+    Ok(shared == *spec)
+}
+
+#[test]
+fn a_shared_spec_is_the_same_job(rt: HostRuntime) -> Result<(), Fail> {
+    let spec = spec_of(rt.alloc(), (&[1, 8], 3, AMPLE, THREE_BLOCKS))?;
+    assert!(rt; shares_itself(&spec)?);
+    Ok(())
+}
+
+// THREADS
+
+/// What is handed over may be sent to another thread.
+fn may_be_sent<T: Send>(_value: &T) {}
+
+/// What is handed over may be used by several threads at once.
+fn may_be_shared<T: Sync>(_value: &T) {}
+
+/// That it is proved is all: a spec or a job that belonged to one thread couldn't be handed over.
+#[test]
+fn specs_and_jobs_may_be_sent_to_threads(rt: HostRuntime) -> Result<(), Fail> {
+    let sim = job_of_blocks(rt.alloc(), 2, THREE_BLOCKS)?;
+    may_be_sent::<Sim>(&sim);
+    may_be_sent::<Spec>(sim.spec());
+    may_be_shared::<Spec>(sim.spec());
     Ok(())
 }
