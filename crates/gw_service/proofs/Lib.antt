@@ -1,0 +1,15 @@
+pub mod Rows
+pub mod Private
+pub mod Alike
+pub mod Passes
+pub mod Grounds
+pub mod Replays
+pub mod Changing
+pub mod Listing
+pub mod Totals
+pub mod Limits
+pub mod History
+pub mod Reaching
+pub mod Staying
+pub mod Kept
+pub mod Nexts
