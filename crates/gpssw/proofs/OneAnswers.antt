@@ -5,7 +5,7 @@ use Rattle.gw_step.specs.State.{State}
 use Rattle.gw_step.specs.Job.{Job, Progress, start_of}
 use Rattle.gw_report.specs.Report.{report_of}
 use Rattle.gpssw.specs.Status.{refused}
-use Rattle.gpssw.specs.Refusal.{refusal_line}
+use Rattle.gw_verdicts.specs.Refusal.{refusal_line}
 use Rattle.gpssw.specs.Answer.{Ends, Concludes, job_of}
 use Rattle.gpssw.specs.Laws.{OneAnswer}
 use Rattle.gpssw.proofs.Endings.{one_ending, final_has_no_step}

@@ -7,7 +7,7 @@ use Rattle.gpssw.specs.declared.answer.Answer.{Answer}
 use Rattle.gpssw.specs.declared.fault.ProgramFault.{ProgramFault}
 use Rattle.gpssw.specs.declared.fault.ProgramFault.TheVariants.{Read, Write, Memory}
 use Rattle.gpssw.specs.Status.{ended, refused, failed, no_memory}
-use Rattle.gpssw.specs.Refusal.{refusal_line}
+use Rattle.gw_verdicts.specs.Refusal.{refusal_line}
 use Rattle.gpssw.specs.Answer.{Concludes, job_of, object_of, accepted_line}
 use Rattle.gpssw.specs.Assembly.{IsAssembly, IsWorkOf}
 use Rattle.gpssw.specs.Output.{Answering, AnswersReader, memory_line, answering, Writes, Fails, Responds, WritesAnswer}

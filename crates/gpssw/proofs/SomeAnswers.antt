@@ -9,7 +9,7 @@ use Rattle.gw_verify.proofs.AllPass.{is_checked}
 use Rattle.gw_scan.specs.Making.{spec_fault, job_from}
 use Rattle.gw_step.specs.Job.{Job}
 use Rattle.gpssw.specs.Status.{refused, run_budget}
-use Rattle.gpssw.specs.Refusal.{refusal_line, start_refusal}
+use Rattle.gw_verdicts.specs.Refusal.{refusal_line, start_refusal}
 use Rattle.gpssw.specs.Answer.{◌>>=◌, Concludes, job_of, unless, verified, job_made, seeds_given}
 use Rattle.gpssw.specs.Laws.{SomeAnswer}
 use Rattle.gpssw.proofs.Conclusions.{job_concludes}

@@ -11,7 +11,8 @@ use Rattle.gw_step.specs.Job.{Job, Alone, IsFinal}
 use Rattle.gw_scan.specs.Making.{spec_fault, job_from}
 use Rattle.gw_report.specs.Report.{report_of}
 use Rattle.gpssw.specs.Status.{ended, refused, run_budget}
-use Rattle.gpssw.specs.Refusal.{refusal_line, start_refusal}
+use Rattle.gw_verdicts.specs.Acceptance.{accepted_text}
+use Rattle.gw_verdicts.specs.Refusal.{refusal_line, start_refusal}
 
 -- the seed list that a seed stands for: 0 means the object's own
 abbrev pub seeds_given : ℕ → List ℕ
@@ -57,11 +58,7 @@ abbrev pub IsAnswer : ℕ → ℕ → List ℕ → List ℕ → ℕ → Type 0
 IsAnswer seed count bytes text status =
     MatchResult (job_of seed count bytes) (λ j. Concludes j text status) (λ fault. (status ≡ refused) × (text ≡ refusal_line fault))
 
--- an accepted object: how many blocks and procedures it has, and the greatest weight of a block
-abbrev pub accepted_text : ℕ → ℕ → ℕ → List ℕ
-accepted_text blocks procedures weight =
-    codes "accepted " ++ decimal blocks ++ codes " blocks " ++ decimal procedures ++ codes " procedures weight " ++ decimal weight
-
+-- the line of an accepted object
 abbrev pub accepted_line : Parts → List ℕ
 accepted_line p = accepted_text (length p.blocks) (length p.procedures) (heaviest p.weights) ++ codes "\n"
 

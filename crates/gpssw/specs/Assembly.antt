@@ -11,7 +11,7 @@ use Rattle.gw_text.specs.Reading.{StandOn, IsRefusedAt}
 use Rattle.gw_text.specs.declared.model.Statement.{Statement}
 use Rattle.gw_assemble.specs.Assembly.{Assembles, IsRefusal}
 use Rattle.gpssw.specs.Status.{ended, refused}
-use Rattle.gpssw.specs.Refusal.{refusal_line}
+use Rattle.gw_verdicts.specs.Refusal.{refusal_line}
 
 -- statements that a text of these bytes has
 pub record HasStatements (bytes : List ℕ) (statements : List Statement) : Type 0 where

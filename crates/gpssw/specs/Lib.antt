@@ -1,6 +1,5 @@
 pub mod Words
 pub mod Status
-pub mod Refusal
 pub mod Answer
 pub mod Assembly
 pub mod Finding

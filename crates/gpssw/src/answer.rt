@@ -4,14 +4,13 @@ ghost use Rattle.std.specs.Prelude.{◌≡◌, OnOk, IfOk, Some};
 ghost use Rattle.gw_step.specs.Job.{Alone, IsFinal};
 ghost use Rattle.gw_object.specs.Grammar.{spelling};
 ghost use Rattle.gpssw.specs.Status.{ended as ended_status, refused as refused_status};
-ghost use Rattle.gpssw.specs.Refusal.{refusal_line};
+ghost use Rattle.gw_verdicts.specs.Refusal.{refusal_line};
 ghost use Rattle.gw_object.specs.Reading.{first_fault};
-ghost use Rattle.gpssw.specs.Answer.{verified, job_made, job_of, object_of, accepted_line, accepted_text, Concludes, IsAnswer, IsCheck};
+ghost use Rattle.gpssw.specs.Answer.{verified, job_made, job_of, object_of, accepted_line, Concludes, IsAnswer, IsCheck};
 ghost use Rattle.gpssw.specs.Assembly.{IsAssembly, IsWorkOf};
 ghost use Rattle.gpssw.specs.Output.{answering};
 ghost use Rattle.gpssw.specs.Finding.{FindsJob};
 
-use crate::refusal::Refusal;
 use crate::status::{ENDED, REFUSED};
 use crate::words::Command;
 use gw_assemble::assemble;
@@ -19,9 +18,9 @@ use gw_object::{Fault, Memory, Object, codes, read, write};
 use gw_report::report;
 use gw_scan::{Sim, Spec, StartFault, Status};
 use gw_text::{Model, parse};
+use gw_verdicts::{Acceptance, Refusal};
 use gw_verify::{Verified, verify};
 use std::alloc::Global;
-use std::fmt;
 
 /// At most how many steps a run makes.
 pub const BUDGET: u64 = 1_000_000_000;
@@ -166,28 +165,6 @@ fn accepted_in(alloc: Global, input: &[u8]) -> Result<Verified, NoJob>
 {
     let object = object_in(alloc, input)?;
     verified_object(alloc, object)
-}
-
-/// An accepted object, which prints as `accepted N blocks P procedures weight W`, of which W is the greatest weight of a block.
-#[derive(Drop)]
-struct Acceptance {
-    blocks: u16,
-    procedures: u16,
-    weight: u32,
-}
-
-impl fmt::Display for Acceptance {
-    ghost output = { λ a. Some (accepted_text a.blocks a.procedures a.weight) };
-
-    fn fmt<W: fmt::Write>(&self, f: &mut fmt::Formatter<W>) -> fmt::Result {
-        let blocks = self.blocks;
-        let procedures = self.procedures;
-        let weight = self.weight;
-        write!(
-            f,
-            "accepted {blocks} blocks {procedures} procedures weight {weight}"
-        )
-    }
 }
 
 /// The line of an accepted object, and the status.

@@ -7,7 +7,6 @@ pub mod input;
 pub mod laws;
 pub mod output;
 pub mod program;
-pub mod refusal;
 pub mod status;
 #[cfg(test)]
 mod tests;

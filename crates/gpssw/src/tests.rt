@@ -1,10 +1,10 @@
 //! The program over readers and writers of memory, and over such as fail.
 
 use crate::program::{asm, check, dispatch, run};
-use crate::refusal::Refusal;
 use crate::words::{Command, command_of};
 use gw_object::{Fault, Place};
 use gw_streams::{Input, Output};
+use gw_verdicts::Refusal;
 use std::alloc::{AllocError, Global};
 use std::io;
 use std::io::{ErrorKind, Read, Write};

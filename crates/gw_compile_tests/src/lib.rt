@@ -1,5 +1,5 @@
-//! Tests of compiled expressions and PROCEDUREs: texts are read, compiled, checked and evaluated, and what they come to was
-//! worked out by hand.
+//! Tests of compiled expressions, and of PROCEDUREs at their limits: texts are read, compiled, checked and evaluated, and what they
+//! come to was worked out by hand.
 #![tactic(auto)]
 
 #[cfg(test)]
@@ -12,5 +12,3 @@ mod models;
 mod names;
 #[cfg(test)]
 mod outcomes;
-#[cfg(test)]
-mod statements;

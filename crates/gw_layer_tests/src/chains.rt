@@ -108,40 +108,6 @@ fn future_events_chain_goes_by_time(rt: HostRuntime) -> Result<(), Fail> {
     Ok(())
 }
 
-/// A chain on which so many are scheduled, by turns for 1 and for 2.
-fn by_turns(alloc: Global, count: u64) -> Result<Fec, Memory> {
-    let mut chain = Fec::new(alloc);
-    for number in 0..count {
-        chain.reserve(1)?;
-        chain.schedule(tx(number), 1 + (number % 2) as i64);
-    }
-    Ok(chain)
-}
-
-/// How many are scheduled for a time.
-fn scheduled_for(chain: &Fec, time: i64) -> usize {
-    let mut count = 0usize;
-    for event in chain.iter() {
-        if event.time == time {
-            count = count.saturating_add(1);
-        }
-    }
-    count
-}
-
-#[test]
-fn each_future_event_is_gone_through(rt: HostRuntime) -> Result<(), Fail> {
-    // More than are recent.
-    let chain = by_turns(rt.alloc(), 1201)?;
-    let counts = [
-        scheduled_for(&chain, 0),
-        scheduled_for(&chain, 1),
-        scheduled_for(&chain, 2),
-    ];
-    assert!(rt; counts == [0, 601, 600]);
-    Ok(())
-}
-
 /// Puts a transaction on the delay list of an entity.
 fn wait(waits: &mut Waits, entity: u16, number: u64, priority: i32) -> Result<(), Memory>
     requires { entity < length waits.old.lists }
@@ -149,15 +115,6 @@ fn wait(waits: &mut Waits, entity: u16, number: u64, priority: i32) -> Result<()
 {
     waits.reserve_wait(entity, 1)?;
     waits.push_wait(entity, tx(number), priority);
-    Ok(())
-}
-
-/// Puts these on the retry list, by number and priority.
-fn retry(waits: &mut Waits, waiters: &[(u64, i32)]) -> Result<(), Memory> {
-    for (number, priority) in waiters {
-        waits.reserve_retry(1)?;
-        waits.push_retry(tx(*number), *priority);
-    }
     Ok(())
 }
 
@@ -217,74 +174,11 @@ fn delay_lists_keep_their_entities_apart(rt: HostRuntime) -> Result<(), Fail> {
     Ok(())
 }
 
-/// Passes the member to which the walk over a delay list has come, or takes it out; its number, if there is one.
-fn go_on(waits: &mut Waits, entity: u16, is_taken: bool) -> Option<u64>
-    requires { entity < length waits.old.lists }
-    ensures { length waits.new.lists ≡ length waits.old.lists }
-{
-    let waiter = waits.current(entity)?;
-    if is_taken {
-        waits.take(entity);
-    } else {
-        waits.pass(entity);
-    }
-    Some(waiter.number)
-}
-
-/// Which answers are right of a walk over a list with 1 to 5 that takes out 2 and 3 and ends at 5, and of the next walk.
-fn two_walks(waits: &mut Waits) -> [bool; 10]
-    requires { 1 < length waits.old.lists }
-{
-    waits.start_walk(1);
-    let first = [
-        go_on(waits, 1, false) == Some(1),
-        go_on(waits, 1, true) == Some(2),
-        go_on(waits, 1, true) == Some(3),
-        go_on(waits, 1, false) == Some(4),
-        is_list(waits, 1, &[1, 4, 5]),
-    ];
-    waits.start_walk(1);
-    [
-        first_wrong(&first).is_none(),
-        go_on(waits, 1, false) == Some(1),
-        go_on(waits, 1, false) == Some(4),
-        go_on(waits, 1, true) == Some(5),
-        go_on(waits, 1, true).is_none(),
-        is_list(waits, 1, &[1, 4]),
-        waits.waiter(1, 0) == Some(tx(1)),
-        remove(waits, 1, 0),
-        is_list(waits, 1, &[4]),
-        waits.len() == 1,
-    ]
-}
-
-#[test]
-fn a_walk_takes_out_whom_it_is_told(rt: HostRuntime) -> Result<(), Fail> {
-    let mut waits = Waits::new(rt.alloc(), 2)?;
-    for number in 1..6 {
-        waits.reserve_wait(1, 1)?;
-        waits.push_wait(1, tx(number), 0);
-    }
-    assert!(rt; first_wrong(&two_walks(&mut waits)).is_none());
-    Ok(())
-}
-
 /// Moves the whole retry list to a chain; whether it was left empty.
 fn wake(waits: &mut Waits, chain: &mut Cec) -> Result<bool, Memory> {
     chain.reserve(waits.retrying())?;
     waits.wake_all(chain);
     Ok(waits.retrying() == 0)
-}
-
-#[test]
-fn waking_goes_in_order_and_behind_peers(rt: HostRuntime) -> Result<(), Fail> {
-    let mut chain = chain_of(rt.alloc(), &[(1, 0, false), (2, 5, false)])?;
-    let mut waits = Waits::new(rt.alloc(), 0)?;
-    waits.reserve(3)?;
-    retry(&mut waits, &[(3, 0), (4, 5), (5, 0)])?;
-    let are_woken = wake(&mut waits, &mut chain)?;
-    assert!(rt; are_woken && leave_in_order(&mut chain, &[2, 4, 1, 3, 5]));
-    Ok(())
 }
 
 /// Puts a transaction at the front of a user chain, or at its back.

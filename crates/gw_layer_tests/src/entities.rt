@@ -4,7 +4,7 @@ ghost use Rattle.std.specs.Prelude.{◌≡◌, ◌<◌, length, IfOk};
 ghost use Rattle.gw_entities.specs.Facility.{is_owned_by};
 ghost use Rattle.gw_entities.specs.Table.{facility_at};
 
-use crate::models::{built, first_wrong, parts, three_entities};
+use crate::models::{built, parts, three_entities};
 use gw_entities::{Average, Contents, Facilities, Facility, Queues, Storage, Storages};
 use gw_object::Object;
 use std::alloc::Global;
@@ -358,34 +358,6 @@ fn a_facility_is_its_owners_until_it_is_released(rt: HostRuntime) -> Result<(), 
 }
 
 #[test]
-fn a_facility_owned_all_the_time_has_utilisation_1(rt: HostRuntime) -> Result<(), Fail> {
-    const STEPS: &[FacilityStep] = &[
-        FacilityStep::Seize(1, true),
-        FacilityStep::Pass(8),
-        FacilityStep::Reads(Some(1), 1, 8, (1, 0)),
-        FacilityStep::Release(1),
-        FacilityStep::Pass(4),
-        FacilityStep::Reads(None, 1, 8, (0, 666)),
-    ];
-    assert!(rt; wrong_facility_step(rt.alloc(), STEPS)?.is_none());
-    Ok(())
-}
-
-#[test]
-fn a_storage_of_3_that_is_always_full_has_average_3(rt: HostRuntime) -> Result<(), Fail> {
-    const STEPS: &[StorageStep] = &[
-        StorageStep::Enter(3, true),
-        StorageStep::Pass(10),
-        StorageStep::Leave(1),
-        StorageStep::Enter(1, true),
-        StorageStep::Pass(10),
-        StorageStep::Reads(3, 3, 4, 60, (3, 0)),
-    ];
-    assert!(rt; wrong_storage_step(rt.alloc(), STEPS)?.is_none());
-    Ok(())
-}
-
-#[test]
 fn a_storage_holds_no_more_than_its_capacity(rt: HostRuntime) -> Result<(), Fail> {
     const STEPS: &[StorageStep] = &[
         StorageStep::Enter(2, true),
@@ -398,19 +370,6 @@ fn a_storage_holds_no_more_than_its_capacity(rt: HostRuntime) -> Result<(), Fail
 }
 
 #[test]
-fn a_queue_of_one_unit_for_half_the_time_has_average_one_half(rt: HostRuntime) -> Result<(), Fail> {
-    const STEPS: &[QueueStep] = &[
-        QueueStep::Join(1),
-        QueueStep::Pass(4),
-        QueueStep::Depart(1),
-        QueueStep::Pass(4),
-        QueueStep::Reads(0, 1, 1, 4, (0, 500)),
-    ];
-    assert!(rt; wrong_queue_step(rt.alloc(), STEPS)?.is_none());
-    Ok(())
-}
-
-#[test]
 fn a_queue_counts_units(rt: HostRuntime) -> Result<(), Fail> {
     const STEPS: &[QueueStep] = &[
         QueueStep::Join(5),
@@ -419,26 +378,6 @@ fn a_queue_counts_units(rt: HostRuntime) -> Result<(), Fail> {
         QueueStep::Reads(3, 5, 6, 0, (0, 0)),
     ];
     assert!(rt; wrong_queue_step(rt.alloc(), STEPS)?.is_none());
-    Ok(())
-}
-
-/// Which entities of that object are what they are by their numbers.
-fn entities_by_number(alloc: Global) -> Result<[bool; 4], Fail> {
-    let facility = OneFacility::new(alloc)?;
-    let storage = OneStorage::new(alloc)?;
-    let queue = OneQueue::new(alloc)?;
-    Ok([
-        facility.facilities.get(2).owner.is_none(),
-        storage.storages.get(0).capacity == 0,
-        storage.storages.get(1).capacity == 3,
-        queue.queues.get(1).content == 0,
-    ])
-}
-
-#[test]
-fn each_entity_has_the_number_of_the_object(rt: HostRuntime) -> Result<(), Fail> {
-    let are_right = entities_by_number(rt.alloc())?;
-    assert!(rt; first_wrong(&are_right).is_none());
     Ok(())
 }
 

@@ -1,9 +1,8 @@
 //! Fields of a format, spelled by hand.
 
-use gw_fields::codes::{LIMIT, NOT_CANONICAL, TAG, TRUNCATED};
+use gw_fields::codes::TAG;
 use gw_fields::{
-    Bad, Memory, Plain, ReadError, Spelled, put_count, put_listed, read_count, read_listed,
-    room_after_count, room_after_listed,
+    Memory, Plain, ReadError, Spelled, read_listed, room_after_count, room_after_listed,
 };
 use std::alloc::Global;
 use std::test::Fail;
@@ -27,63 +26,6 @@ fn numbers_stand_with_their_highest_byte_first(rt: HostRuntime) -> Result<(), Fa
         \xff\xff\xff\xfe\xff\xff\xff\xff\xff\xff\xff\xfd";
     assert!(rt; bytes.as_slice() == expected.as_slice());
     Ok(())
-}
-
-/// The number that these bytes begin with, and how many bytes are after it.
-fn number_of(alloc: Global, bytes: &[u8]) -> Option<(i32, usize)> {
-    let (number, rest) = i32::read(alloc, bytes).ok()?;
-    Some((number, rest.len()))
-}
-
-#[test]
-fn a_number_is_read_in_twos_complement(rt: HostRuntime) {
-    assert_eq!(rt;
-        number_of(rt.alloc(), b"\xff\xff\xff\xfe\x09"),
-        Some((-2, 1))
-    );
-}
-
-/// A count, and no count.
-fn counts(alloc: Global) -> Result<Vec<u8>, Memory> {
-    let mut out = Vec::new(alloc);
-    put_count(&mut out, 254)?;
-    put_count(&mut out, 255)?;
-    Some(7u8).put(&mut out)?;
-    None::<u8>.put(&mut out)?;
-    put_listed::<Plain<u16>>(&mut out, &[1, 258])?;
-    Ok(out)
-}
-
-#[test]
-fn counts_are_short_below_255_and_stand_before_lists(rt: HostRuntime) -> Result<(), Fail> {
-    let bytes = counts(rt.alloc())?;
-    let expected = b"\xfe\xff\0\0\0\xff\x01\x07\0\x02\0\x01\x01\x02";
-    assert!(rt; bytes.as_slice() == expected.as_slice());
-    Ok(())
-}
-
-/// The count of 1 to 300 that these bytes begin with and how many are after it, or the fault and how many are left.
-fn count_of(alloc: Global, bytes: &[u8]) -> Result<(usize, usize), Option<(u16, usize)>> {
-    match read_count(alloc, bytes, 1, 300) {
-        Ok((count, rest)) => Ok((count, rest.len())),
-        Err(ReadError::Wrong(Bad { code, left })) => Err(Some((code, left))),
-        Err(ReadError::OutOfMemory) => Err(None),
-    }
-}
-
-/// Whether each of these bytes begins with this count, or has this fault.
-fn are_read_so(alloc: Global) -> bool {
-    count_of(alloc, b"\x05\x09") == Ok((5, 1))
-        && count_of(alloc, b"\xff\0\0\x01\x2c") == Ok((300, 0))
-        && count_of(alloc, b"\xff\0\0\x01\x2d\0") == Err(Some((LIMIT, 6)))
-        && count_of(alloc, b"\xff\0\0\0\xfe") == Err(Some((NOT_CANONICAL, 5)))
-        && count_of(alloc, b"\0") == Err(Some((LIMIT, 1)))
-        && count_of(alloc, b"\xff\0\0") == Err(Some((TRUNCATED, 3)))
-}
-
-#[test]
-fn a_count_has_one_form_and_two_limits(rt: HostRuntime) {
-    assert!(rt; are_read_so(rt.alloc()));
 }
 
 /// Whether two numbers behind their count are read, with a byte after them; and what lists and flags are not.

@@ -21,8 +21,6 @@ mod objects;
 #[cfg(test)]
 mod parameters;
 #[cfg(test)]
-mod settings;
-#[cfg(test)]
 mod streams;
 #[cfg(test)]
 mod transactions;

@@ -2,15 +2,14 @@
 
 ghost use Rattle.std.specs.Prelude.{◌≡◌, length, IfOk};
 
-use gw_blocks::{Block, Spread, Units};
+use gw_blocks::{Block, Units};
 use gw_object::{
     Entity, Fault, Items, Kind, Memory, Object, Parts, Place, ReturnRow, TableKind, TableParameter,
     TableState,
 };
 pub(crate) use gw_samples::{
-    add_entity, advance, advance_by, assign, back, by_fraction, call, compare, constant_time,
-    empty_parts, entity, first_wrong, gate, generate, generate_by, link, logic, loop_to, no_states,
-    number, of, procedure, push, save, split, terminate, units, unlink, value, value_of,
+    add_entity, advance, assign, by_fraction, constant_time, empty_parts, entity, first_wrong,
+    generate, generate_by, link, no_states, number, of, push, split, terminate, units, unlink,
 };
 use gw_verify::verify;
 use std::alloc::Global;
@@ -23,12 +22,6 @@ pub(crate) const S: u16 = 1;
 
 pub(crate) const Q: u16 = 2;
 
-/// A GENERATE of no transactions.
-pub(crate) const LIMITED_TO_0: Block = generate!(10, None, Some(0), 0);
-
-/// A constant time of 10.
-pub(crate) const TEN: Spread = constant_time!(10, 0);
-
 pub(crate) const TERMINATE: Block = terminate!(1);
 
 pub(crate) const ADVANCE: Block = advance!(10);
@@ -37,9 +30,6 @@ pub(crate) const GENERATE: Block = generate!(10, None, None, 0);
 
 /// A GENERATE of one transaction, at clock 0.
 pub(crate) const LIMITED_TO_1: Block = generate!(0, None, Some(1), 0);
-
-/// A GENERATE of any number of transactions, all at clock 0.
-pub(crate) const UNBOUNDED: Block = generate!(0, None, None, 0);
 
 /// The entities F, S, of this capacity, and Q.
 pub(crate) fn three_entities(alloc: Global, capacity: u32) -> Result<Vec<Entity>, Memory>
@@ -99,21 +89,6 @@ fn parameters_knowing(alloc: Global, known: Known) -> Result<Vec<TableParameter>
     Ok(parameters)
 }
 
-/// The parameters of these numbers, each of which holds a number, as an object has them.
-pub(crate) fn numeric_parameters(
-    alloc: Global,
-    numbers: &[u8],
-) -> Result<Vec<TableParameter>, Memory> {
-    let mut parameters = Vec::new(alloc);
-    for number in numbers {
-        parameters.push(TableParameter {
-            number: *number,
-            kind: TableKind::Num,
-        })?;
-    }
-    Ok(parameters)
-}
-
 /// A row that knows these parameters and nothing else, as an object has it.
 pub(crate) fn state_of_parameters(alloc: Global, parameters: Vec<TableParameter>) -> TableState {
     TableState {
@@ -134,18 +109,6 @@ pub(crate) fn state_if(alloc: Global, known: Option<Known>) -> Result<Option<Tab
         Some(known) => Ok(Some(state_knowing(alloc, known)?)),
         None => Ok(None),
     }
-}
-
-/// Rows that know these parameters, for each block that has one.
-pub(crate) fn states_knowing(
-    alloc: Global,
-    rows: &[Option<Known>],
-) -> Result<Vec<Option<TableState>>, Memory> {
-    let mut states = Vec::new(alloc);
-    for known in rows {
-        states.push(state_if(alloc, *known)?)?;
-    }
-    Ok(states)
 }
 
 /// The blocks of each return row.
@@ -264,27 +227,7 @@ pub(crate) fn model(
     built(model_parts(alloc, capacity, blocks, states)?)
 }
 
-pub(crate) fn at_row(code: u16, row: u16) -> Option<Fault> {
-    let place = Place::Row(row);
-    Some(Fault { code, place })
-}
-
 pub(crate) fn at_block(code: u16, block: u16) -> Option<Fault> {
     let place = Place::Block(block);
-    Some(Fault { code, place })
-}
-
-pub(crate) fn at_chain(code: u16, entity: u16) -> Option<Fault> {
-    let place = Place::Chain(entity);
-    Some(Fault { code, place })
-}
-
-pub(crate) fn at_edge(code: u16, from: u16, to: u16) -> Option<Fault> {
-    let place = Place::Edge(from, to);
-    Some(Fault { code, place })
-}
-
-pub(crate) fn at_byte(code: u16, byte: u32) -> Option<Fault> {
-    let place = Place::Byte(byte);
     Some(Fault { code, place })
 }

@@ -1,7 +1,7 @@
 //! Arithmetic and streams of random numbers: that the rules are those meant.
 
 use crate::models::first_wrong;
-use gw_num::{NumFault, Stream, add, div, mul, neg, pow, rem, sub};
+use gw_num::{NumFault, Stream, add, mul, neg, sub};
 use std::test::Fail;
 
 const LEAST: i64 = i64::MIN;
@@ -12,8 +12,6 @@ const GREATEST: i64 = i64::MAX;
 type Answer = Result<i64, NumFault>;
 
 const NUMBER: Answer = Err(NumFault::Number);
-
-const ZERO_DIVISOR: Answer = Err(NumFault::ZeroDivisor);
 
 /// The place, from 0, of the first answer that is not the one beside it.
 fn wrong_answer(answers: &[(Answer, Answer)]) -> Option<usize> {
@@ -41,64 +39,6 @@ fn sums_differences_and_products_are_exact(rt: HostRuntime) {
     assert!(rt; wrong_answer(&answers).is_none());
 }
 
-/// The place, from 0, of the first two numbers that have another quotient or remainder.
-fn wrong_division(divisions: &[(i64, i64, Answer, Answer)]) -> Option<usize> {
-    for i in 0..divisions.len() {
-        let (a, b, quotient, remainder) = divisions[i];
-        if div(a, b) != quotient || rem(a, b) != remainder {
-            return Some(i);
-        }
-    }
-    None
-}
-
-#[test]
-fn division_rounds_toward_zero(rt: HostRuntime) {
-    const DIVISIONS: &[(i64, i64, Answer, Answer)] = &[
-        (7, 2, Ok(3), Ok(1)),
-        (-7, 2, Ok(-3), Ok(-1)),
-        (7, -2, Ok(-3), Ok(1)),
-        (-7, -2, Ok(3), Ok(-1)),
-        (6, 3, Ok(2), Ok(0)),
-        (LEAST, -1, NUMBER, Ok(0)),
-        (0, 0, ZERO_DIVISOR, ZERO_DIVISOR),
-        (1, 0, ZERO_DIVISOR, ZERO_DIVISOR),
-    ];
-    assert!(rt; wrong_division(DIVISIONS).is_none());
-}
-
-/// The place, from 0, of the first base and exponent that have another power.
-fn wrong_power(powers: &[(i64, i64, Answer)]) -> Option<usize> {
-    for i in 0..powers.len() {
-        let (base, exponent, power) = powers[i];
-        if pow(base, exponent) != power {
-            return Some(i);
-        }
-    }
-    None
-}
-
-#[test]
-fn powers_are_exact_for_every_exponent(rt: HostRuntime) {
-    const POWERS: &[(i64, i64, Answer)] = &[
-        (2, 10, Ok(1024)),
-        (-3, 3, Ok(-27)),
-        (0, 0, Ok(1)),
-        (2, 62, Ok(4_611_686_018_427_387_904)),
-        (2, 63, NUMBER),
-        (-2, 63, Ok(LEAST)),
-        (3_037_000_499, 2, Ok(9_223_372_030_926_249_001)),
-        (1, -1, NUMBER),
-        (-1, -1, NUMBER),
-        (1, GREATEST, Ok(1)),
-        (0, GREATEST, Ok(0)),
-        (-1, GREATEST, Ok(-1)),
-        (-1, GREATEST - 1, Ok(1)),
-        (2, GREATEST, NUMBER),
-    ];
-    assert!(rt; wrong_power(POWERS).is_none());
-}
-
 /// Which of the first draws of each kind are those of seed 1.
 fn draws_of_seed_1(seed_1: Stream) -> [bool; 9] {
     let mut numbers = seed_1;
@@ -123,16 +63,6 @@ fn seed_1_gives_48271_and_182605794(rt: HostRuntime) -> Result<(), Fail> {
     let seed_1 = Stream::new(1).ok_or("1 is a seed")?;
     assert!(rt; first_wrong(&draws_of_seed_1(seed_1)).is_none());
     Ok(())
-}
-
-#[test]
-fn seeds_are_1_to_2147483646(rt: HostRuntime) {
-    let are_right = [
-        Stream::new(0).is_none(),
-        Stream::new(2_147_483_646).is_some(),
-        Stream::new(2_147_483_647).is_none(),
-    ];
-    assert!(rt; first_wrong(&are_right).is_none());
 }
 
 /// Which times without a range or with a fault are the ones due, and whether they left the stream where it was.

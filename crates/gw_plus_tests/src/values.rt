@@ -8,7 +8,7 @@ use crate::models::*;
 use gw_chains::{Tx, UserChains};
 use gw_code::{Instruction, Procedure, Sna};
 use gw_entities::{Facilities, Queues, Savevalues, Storages, Switches, Tables};
-use gw_num::{Binary, Unary};
+use gw_num::Binary;
 use gw_object::{Memory, Object};
 use gw_plus::{Env, PlusEnd, eval};
 use gw_transactions::{Parameters, Transaction, Transactions};
@@ -228,31 +228,6 @@ fn wrong_binary(
 }
 
 #[test]
-fn values_are_pushed_kept_in_locals_and_dropped(rt: HostRuntime) -> Result<(), Fail> {
-    const CASES: &[(&'static [Instruction], Outcome)] = &[
-        (&[push!(42), RET], Ok(42)),
-        // Locals that are no arguments begin as 0.
-        (&[Instruction::Get(1), RET], Ok(0)),
-        (
-            &[
-                push!(9),
-                Instruction::Set(1),
-                push!(8),
-                Instruction::Set(0),
-                Instruction::Get(1),
-                RET,
-            ],
-            Ok(9),
-        ),
-        (&[push!(1), push!(2), Instruction::Pop, RET], Ok(1)),
-        // RET takes the value on top.
-        (&[push!(1), push!(2), RET], Ok(2)),
-    ];
-    assert!(rt; wrong_outcome(rt.alloc(), CASES)?.is_none());
-    Ok(())
-}
-
-#[test]
 fn attributes_are_read(rt: HostRuntime) -> Result<(), Fail> {
     const CASES: &[(&'static [Instruction], Outcome)] = &[
         (&[Instruction::Value(Sna::Parameter(1)), RET], Ok(5)),
@@ -276,13 +251,6 @@ fn attributes_are_read(rt: HostRuntime) -> Result<(), Fail> {
 }
 
 #[test]
-fn members_of_a_user_chain_are_read(rt: HostRuntime) -> Result<(), Fail> {
-    const CODE: &[Instruction] = &[value_of!(ChainMembers, 10), RET];
-    assert!(rt; outcome_of(rt.alloc(), CODE)? == Ok(2));
-    Ok(())
-}
-
-#[test]
 fn operators_take_the_lower_value_on_the_left(rt: HostRuntime) -> Result<(), Fail> {
     const CASES: &[(i64, Binary, i64, Outcome)] = &[
         (7, Binary::Add, 5, Ok(12)),
@@ -297,193 +265,5 @@ fn operators_take_the_lower_value_on_the_left(rt: HostRuntime) -> Result<(), Fai
         (i64::MAX, Binary::Add, 1, Err(PlusEnd::Number)),
     ];
     assert!(rt; wrong_binary(rt.alloc(), CASES)?.is_none());
-    Ok(())
-}
-
-#[test]
-fn comparisons_and_conjunctions_are_1_or_0(rt: HostRuntime) -> Result<(), Fail> {
-    const CASES: &[(i64, Binary, i64, Outcome)] = &[
-        (5, Binary::Equal, 5, Ok(1)),
-        (5, Binary::Equal, 7, Ok(0)),
-        (5, Binary::NotEqual, 7, Ok(1)),
-        (5, Binary::NotEqual, 5, Ok(0)),
-        (7, Binary::Greater, 5, Ok(1)),
-        (5, Binary::Greater, 5, Ok(0)),
-        (5, Binary::GreaterOrEqual, 5, Ok(1)),
-        (4, Binary::GreaterOrEqual, 5, Ok(0)),
-        (4, Binary::Less, 5, Ok(1)),
-        (5, Binary::Less, 5, Ok(0)),
-        (5, Binary::LessOrEqual, 5, Ok(1)),
-        (6, Binary::LessOrEqual, 5, Ok(0)),
-        (-2, Binary::And, 3, Ok(1)),
-        (2, Binary::And, 0, Ok(0)),
-        (0, Binary::Or, -3, Ok(1)),
-        (0, Binary::Or, 0, Ok(0)),
-    ];
-    assert!(rt; wrong_binary(rt.alloc(), CASES)?.is_none());
-    Ok(())
-}
-
-#[test]
-fn one_value_is_negated_or_denied(rt: HostRuntime) -> Result<(), Fail> {
-    const CASES: &[(&'static [Instruction], Outcome)] = &[
-        (&[push!(7), Instruction::Unary(Unary::Negate), RET], Ok(-7)),
-        (
-            &[push!(i64::MIN), Instruction::Unary(Unary::Negate), RET],
-            Err(PlusEnd::Number),
-        ),
-        (&[push!(7), Instruction::Unary(Unary::Not), RET], Ok(0)),
-        (&[push!(0), Instruction::Unary(Unary::Not), RET], Ok(1)),
-    ];
-    assert!(rt; wrong_outcome(rt.alloc(), CASES)?.is_none());
-    Ok(())
-}
-
-#[test]
-fn jumps_lead_on(rt: HostRuntime) -> Result<(), Fail> {
-    const CASES: &[(&'static [Instruction], Outcome)] = &[
-        (
-            &[
-                push!(0),
-                Instruction::JumpIfZero(4),
-                push!(1),
-                Instruction::Jump(5),
-                push!(2),
-                RET,
-            ],
-            Ok(2),
-        ),
-        (
-            &[
-                push!(3),
-                Instruction::JumpIfZero(4),
-                push!(1),
-                Instruction::Jump(5),
-                push!(2),
-                RET,
-            ],
-            Ok(1),
-        ),
-    ];
-    assert!(rt; wrong_outcome(rt.alloc(), CASES)?.is_none());
-    Ok(())
-}
-
-/// The sum of 1, 2, 3 and 4, in a loop that goes back three times, where it may go back so often.
-fn sum_of_four(alloc: Global, most: u32) -> Result<Outcome, Fail> {
-    let code = [
-        Instruction::Get(0),
-        push!(1),
-        Instruction::Binary(Binary::Add),
-        Instruction::Set(0),
-        Instruction::Get(1),
-        Instruction::Get(0),
-        Instruction::Binary(Binary::Add),
-        Instruction::Set(1),
-        Instruction::Get(0),
-        push!(4),
-        Instruction::Binary(Binary::Less),
-        Instruction::JumpIfZero(13),
-        back!(0, most),
-        Instruction::Get(1),
-        RET,
-    ];
-    outcome_of(alloc, &code)
-}
-
-#[test]
-fn a_loop_goes_back_as_often_as_it_may(rt: HostRuntime) -> Result<(), Fail> {
-    let are_right = [
-        sum_of_four(rt.alloc(), 3)? == Ok(10),
-        sum_of_four(rt.alloc(), 2)? == Err(PlusEnd::LoopLimit),
-    ];
-    assert!(rt; first_wrong(&are_right).is_none());
-    Ok(())
-}
-
-#[test]
-fn a_call_takes_its_arguments_in_order(rt: HostRuntime) -> Result<(), Fail> {
-    const CASES: &[(&'static [Instruction], Outcome)] = &[
-        (&[push!(10), push!(3), Instruction::Call(0), RET], Ok(7)),
-        // The value below the arguments stays.
-        (
-            &[
-                push!(100),
-                push!(10),
-                push!(3),
-                Instruction::Call(0),
-                Instruction::Binary(Binary::Add),
-                RET,
-            ],
-            Ok(107),
-        ),
-        // An end in a procedure that is called is an end of the whole.
-        (
-            &[push!(i64::MIN), push!(1), Instruction::Call(0), RET],
-            Err(PlusEnd::Number),
-        ),
-    ];
-    assert!(rt; wrong_outcome(rt.alloc(), CASES)?.is_none());
-    Ok(())
-}
-
-#[test]
-fn a_variable_is_what_its_procedure_gives(rt: HostRuntime) -> Result<(), Fail> {
-    const CASES: &[(&'static [Instruction], Outcome)] = &[
-        (&[value_of!(VariableValue, 5), RET], Ok(5)),
-        // A boolean variable asks whether it is 0.
-        (&[value_of!(BooleanValue, 6), RET], Ok(1)),
-        (&[value_of!(BooleanValue, 7), RET], Ok(0)),
-        // The value below stays.
-        (
-            &[
-                push!(100),
-                value_of!(VariableValue, 5),
-                Instruction::Binary(Binary::Subtract),
-                RET,
-            ],
-            Ok(95),
-        ),
-    ];
-    assert!(rt; wrong_outcome(rt.alloc(), CASES)?.is_none());
-    Ok(())
-}
-
-/// The place, from 0, of the first of these arguments, which P1 is, at which the function has another value.
-fn wrong_function(alloc: Global, cases: &[(i64, Outcome)]) -> Result<Option<usize>, Fail> {
-    for i in 0..cases.len() {
-        let (argument, outcome) = cases[i];
-        let code = [value_of!(FunctionValue, 8), RET];
-        if outcome_with(alloc, argument, &code)? != outcome {
-            return Ok(Some(i));
-        }
-    }
-    Ok(None)
-}
-
-#[test]
-fn a_function_has_the_value_of_the_first_point_that_is_not_below(
-    rt: HostRuntime,
-) -> Result<(), Fail> {
-    const CASES: &[(i64, Outcome)] = &[
-        (i64::MIN, Ok(10)),
-        (-1, Ok(10)),
-        (0, Ok(10)),
-        (1, Ok(-20)),
-        (5, Ok(-20)),
-        (6, Ok(30)),
-        (9, Ok(30)),
-        // Above the last point it has that one's value.
-        (10, Ok(30)),
-        (i64::MAX, Ok(30)),
-    ];
-    assert!(rt; wrong_function(rt.alloc(), CASES)?.is_none());
-    Ok(())
-}
-
-#[test]
-fn a_function_of_a_variable_is_at_the_variables_value(rt: HostRuntime) -> Result<(), Fail> {
-    const CODE: &[Instruction] = &[value_of!(FunctionValue, 9), RET];
-    assert!(rt; outcome_with(rt.alloc(), 9, CODE)? == Ok(-20));
     Ok(())
 }

@@ -216,8 +216,3 @@ pub(super) fn job_of(alloc: Global, verified: Verified, budget: u64) -> Result<S
 pub(super) fn job_of_blocks(alloc: Global, count: u64, blocks: &[Block]) -> Result<Sim, Fail> {
     job_of(alloc, object(alloc, count, blocks)?, AMPLE)
 }
-
-/// The job of an object of these parts before its first step.
-pub(super) fn job_of_parts(alloc: Global, parts: Parts) -> Result<Sim, Fail> {
-    job_of(alloc, accepted(alloc, built(parts)?)?, AMPLE)
-}

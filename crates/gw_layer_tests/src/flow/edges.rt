@@ -9,10 +9,7 @@ ghost use Rattle.gw_kinds.specs.Kinds.{block_at};
 use crate::flow::tables::*;
 use crate::models::*;
 use gw_blocks::{Block, Units};
-use gw_flow::{
-    AbsState, Amount, Edge, Parameter, ParameterKind, StateParts, Target, is_used, out_edges,
-};
-use gw_kinds::Who;
+use gw_flow::{AbsState, Amount, Edge, Parameter, ParameterKind, StateParts, Target, out_edges};
 use gw_object::{Fault, Items, Memory, Object, ReturnRow};
 use std::alloc::Global;
 use std::test::Fail;
@@ -167,81 +164,12 @@ fn leads(alloc: Global, block: Block, row: Row, expected: &[Expected]) -> Result
     }
 }
 
-/// The fault of the rules of a block, the second of three, in a state as a row says it, if it has one.
-fn broken(alloc: Global, block: Block, row: Row) -> Result<Option<Fault>, Fail> {
-    Ok(edges(alloc, block, row)?.err())
-}
-
 #[test]
 fn seize_adds_its_facility_in_its_place(rt: HostRuntime) -> Result<(), Fail> {
     let held = [units!(Q, 1)];
     let carried = [amount(Q, 1)];
     let edges = [to(3, &[F, G], &carried)];
     let leads = leads(rt.alloc(), Block::Seize(F), row(&[G], &held), &edges)?;
-    assert!(rt; leads);
-    Ok(())
-}
-
-#[test]
-fn release_takes_its_facility_away(rt: HostRuntime) -> Result<(), Fail> {
-    let held = [units!(S, 2)];
-    let carried = [amount(S, 2)];
-    let edges = [to(3, &[G], &carried)];
-    let leads = leads(rt.alloc(), Block::Release(F), row(&[F, G], &held), &edges)?;
-    assert!(rt; leads);
-    Ok(())
-}
-
-#[test]
-fn enter_and_queue_add_their_units(rt: HostRuntime) -> Result<(), Fail> {
-    let held = [units!(S, 2), units!(Q, 1)];
-    let row = row(&[F], &held);
-    let entered = [amount(S, 5), amount(Q, 1)];
-    let queued = [amount(S, 2), amount(Q, 5)];
-    let is_entered = leads(
-        rt.alloc(),
-        Block::Enter(units!(S, 3)),
-        row,
-        &[to(3, &[F], &entered)],
-    )?;
-    let is_queued = leads(
-        rt.alloc(),
-        Block::Queue(units!(Q, 4)),
-        row,
-        &[to(3, &[F], &queued)],
-    )?;
-    assert!(rt; is_entered && is_queued);
-    Ok(())
-}
-
-#[test]
-fn leave_and_depart_take_their_units_away(rt: HostRuntime) -> Result<(), Fail> {
-    let held = [units!(S, 3), units!(Q, 1)];
-    let row = row(&[], &held);
-    let left = [amount(S, 1), amount(Q, 1)];
-    let departed = [amount(S, 3)];
-    let is_left = leads(
-        rt.alloc(),
-        Block::Leave(units!(S, 2)),
-        row,
-        &[to(3, &[], &left)],
-    )?;
-    let is_departed = leads(
-        rt.alloc(),
-        Block::Depart(units!(Q, 1)),
-        row,
-        &[to(3, &[], &departed)],
-    )?;
-    assert!(rt; is_left && is_departed);
-    Ok(())
-}
-
-#[test]
-fn transfer_carries_all_to_its_target(rt: HostRuntime) -> Result<(), Fail> {
-    let held = [units!(S, 1)];
-    let carried = [amount(S, 1)];
-    let edges = [to(4095, &[F], &carried)];
-    let leads = leads(rt.alloc(), Block::Transfer(4095), row(&[F], &held), &edges)?;
     assert!(rt; leads);
     Ok(())
 }
@@ -254,27 +182,6 @@ fn transfer_by_fraction_leads_first_the_other_way(rt: HostRuntime) -> Result<(),
     let is_to_next_first = leads(rt.alloc(), by_fraction!(500, None, 9), row, &to_next)?;
     let is_to_other_first = leads(rt.alloc(), by_fraction!(500, Some(8), 7), row, &to_other)?;
     assert!(rt; is_to_next_first && is_to_other_first);
-    Ok(())
-}
-
-#[test]
-fn terminate_leads_nowhere_and_advance_to_the_next(rt: HostRuntime) -> Result<(), Fail> {
-    let held = [units!(Q, 7)];
-    let row = row(&[], &held);
-    let carried = [amount(Q, 7)];
-    let to_next = [to(3, &[], &carried)];
-    let is_nowhere = leads(rt.alloc(), TERMINATE, row, &[])?;
-    let is_next = leads(rt.alloc(), ADVANCE, row, &to_next)?;
-    assert!(rt; is_nowhere && is_next);
-    Ok(())
-}
-
-#[test]
-fn the_rules_of_a_block_go_before_its_edges(rt: HostRuntime) -> Result<(), Fail> {
-    let row = row(&[F], &[]);
-    let arrival = broken(rt.alloc(), GENERATE, row)?;
-    let seized = broken(rt.alloc(), Block::Seize(F), row)?;
-    assert!(rt; arrival == at_block(25, 2) && seized == at_block(21, 2));
     Ok(())
 }
 
@@ -297,9 +204,4 @@ fn the_lists_of_a_state_ascend_and_hold_no_amount_of_0(rt: HostRuntime) -> Resul
     ];
     assert!(rt; are_right == [true; 5]);
     Ok(())
-}
-
-#[test]
-fn no_copies_go_nowhere(rt: HostRuntime) {
-    assert!(rt; is_used(Who::Itself) && is_used(Who::Copies(1)) && !is_used(Who::Copies(0)));
 }

@@ -1,0 +1,249 @@
+//! What is done with a source, and what comes of it.
+
+use crate::bytes::put_hex;
+use crate::jobs::{Making, go_on, job_of, put_report, put_trace, put_view};
+use crate::objects::{Kind, Source, assembled, model_of, object_of, verified_of};
+use crate::rows::{put_number, put_row_at, put_weights};
+use crate::stop::Stop;
+use crate::words::{number, number_u32, place};
+use gw_object::write;
+use gw_scan::Sim;
+use gw_verdicts::{Acceptance, Refusal};
+use std::alloc::{AllocError, Global};
+
+/// More steps than any job makes.
+const ALL: u64 = 1 << 41;
+
+/// Reads a text or an object: how many statements, or bytes, it has.
+fn read_source(alloc: Global, out: &mut Vec<u8>, source: &Source) -> Result<(), Stop> {
+    match source.kind {
+        Kind::Text if source.splices.is_empty() && source.patches.is_empty() => {
+            let model = model_of(alloc, source)?;
+            put_number(
+                alloc,
+                out,
+                b"read, statements ",
+                model.statements.len() as u64,
+            )?;
+        }
+        _ => {
+            let object = object_of(alloc, source)?;
+            let bytes = write(alloc, &object)?;
+            put_number(alloc, out, b"read, bytes ", bytes.len() as u64)?;
+        }
+    }
+    out.push(b'\n')?;
+    Ok(())
+}
+
+/// Assembles a text.
+fn assemble_source(alloc: Global, out: &mut Vec<u8>, source: &Source) -> Result<(), Stop> {
+    let _object = assembled(alloc, source)?;
+    out.extend_from_slice(b"assembled\n")?;
+    Ok(())
+}
+
+/// Verifies an object.
+fn check_source(alloc: Global, out: &mut Vec<u8>, source: &Source) -> Result<(), Stop> {
+    let verified = verified_of(alloc, source)?;
+    let acceptance = Acceptance {
+        blocks: verified.blocks(),
+        procedures: verified.procedures(),
+        weight: verified.heaviest(),
+    };
+    let line = format!(in alloc; "{acceptance}\n")?;
+    out.extend_from_slice(line.as_bytes())?;
+    Ok(())
+}
+
+/// The bytes of an object from one place to another.
+fn show_bytes(
+    alloc: Global,
+    out: &mut Vec<u8>,
+    source: &Source,
+    from: usize,
+    to: usize,
+) -> Result<(), Stop> {
+    let object = object_of(alloc, source)?;
+    let bytes = write(alloc, &object)?;
+    match bytes.as_slice().get(from..to) {
+        Some(part) => {
+            put_hex(out, part)?;
+            out.push(b'\n')?;
+            Ok(())
+        }
+        None => Err(Stop::Unknown),
+    }
+}
+
+/// The weights of an object.
+fn show_weights(alloc: Global, out: &mut Vec<u8>, source: &Source) -> Result<(), Stop> {
+    let object = object_of(alloc, source)?;
+    put_weights(alloc, out, object.parts())?;
+    Ok(())
+}
+
+/// The row of a block or of a user chain.
+fn show_row(alloc: Global, out: &mut Vec<u8>, source: &Source, name: &[u8]) -> Result<(), Stop> {
+    let object = object_of(alloc, source)?;
+    put_row_at(alloc, out, &object, name)
+}
+
+/// Runs a job to its end, and reports it.
+fn run_job(
+    alloc: Global,
+    out: &mut Vec<u8>,
+    sim: &mut Sim,
+    words: &[&[u8]],
+) -> Result<(), AllocError> {
+    go_on(sim, ALL)?;
+    put_report(alloc, out, sim, words)
+}
+
+/// Makes so many steps of a job, and shows its state.
+fn view_job(
+    alloc: Global,
+    out: &mut Vec<u8>,
+    sim: &mut Sim,
+    steps: u64,
+    words: &[&[u8]],
+) -> Result<(), AllocError> {
+    go_on(sim, steps)?;
+    put_view(alloc, out, sim, words)
+}
+
+/// Makes some steps of a job, and then shows how it stands after each of so many more.
+fn trace_job(
+    alloc: Global,
+    out: &mut Vec<u8>,
+    sim: &mut Sim,
+    first: u64,
+    last: u64,
+) -> Result<(), AllocError> {
+    go_on(sim, first.saturating_sub(1))?;
+    put_trace(
+        alloc,
+        out,
+        sim,
+        last.saturating_add(1).saturating_sub(first),
+    )
+}
+
+/// What is done with a job.
+fn act_on_job(
+    alloc: Global,
+    out: &mut Vec<u8>,
+    sim: &mut Sim,
+    act: &JobAct,
+) -> Result<(), AllocError> {
+    match act {
+        JobAct::Run(words) => run_job(alloc, out, sim, words),
+        JobAct::View(steps, words) => view_job(alloc, out, sim, *steps, words),
+        JobAct::Trace(first, last) => trace_job(alloc, out, sim, *first, *last),
+    }
+}
+
+/// Something to do with a job. Words are those with which the lines begin that are asked for.
+#[derive(Drop)]
+enum JobAct<'a> {
+    /// Run it to its end, and report it.
+    Run(&'a [&'a [u8]]),
+    /// Show its state after so many steps.
+    View(u64, &'a [&'a [u8]]),
+    /// Show how it stands from one step to another one.
+    Trace(u64, u64),
+}
+
+/// Makes the job of a source, and acts on it.
+fn with_job(
+    alloc: Global,
+    out: &mut Vec<u8>,
+    source: &Source,
+    making: Making,
+    act: &JobAct,
+) -> Result<(), Stop> {
+    let mut sim = job_of(alloc, source, making)?;
+    act_on_job(alloc, out, &mut sim, act)?;
+    Ok(())
+}
+
+/// Acts on the job of an object's own seeds and count.
+fn with_own_job(
+    alloc: Global,
+    out: &mut Vec<u8>,
+    source: &Source,
+    budget: u64,
+    act: &JobAct,
+) -> Result<(), Stop> {
+    let making = Making {
+        seed: 0,
+        count: 0,
+        budget,
+    };
+    with_job(alloc, out, source, making, act)
+}
+
+/// Does what the words ask for, and appends what comes of it.
+///
+/// - `read`: reads the text, or the object;
+/// - `asm`: assembles the text;
+/// - `check`: verifies the object;
+/// - `weights`: the weights of the object;
+/// - `row PLACE`: the row of a block or of a user chain;
+/// - `bytes FROM TO`: a part of the object's spelling;
+/// - `run SEED COUNT [WORD ..]`: the report of the job's run, or its lines that begin with these words;
+/// - `view STEPS [WORD ..]`: the same of the job after so many steps, with a line of how it stands and one of who is active;
+/// - `trace FIRST LAST`: a line of how the job stands after each of these steps.
+fn act(
+    alloc: Global,
+    out: &mut Vec<u8>,
+    source: &Source,
+    budget: u64,
+    words: &[&[u8]],
+) -> Result<(), Stop> {
+    match words {
+        [b"read"] => read_source(alloc, out, source),
+        [b"asm"] => assemble_source(alloc, out, source),
+        [b"check"] => check_source(alloc, out, source),
+        [b"weights"] => show_weights(alloc, out, source),
+        [b"row", row] => show_row(alloc, out, source, row),
+        [b"bytes", from, to] => { show_bytes(alloc, out, source, place(from)?, place(to)?) }
+        [b"run", seed, count, asked @ ..] => {
+            let making = Making {
+                seed: number_u32(seed)?,
+                count: number(count)?,
+                budget,
+            };
+            with_job(alloc, out, source, making, &JobAct::Run(asked))
+        }
+        [b"view", steps, asked @ ..] => {
+            let act = JobAct::View(number(steps)?, asked);
+            with_own_job(alloc, out, source, budget, &act)
+        }
+        [b"trace", first, last] => {
+            let act = JobAct::Trace(number(first)?, number(last)?);
+            with_own_job(alloc, out, source, budget, &act)
+        }
+        _ => Err(Stop::Unknown),
+    }
+}
+
+/// Appends what comes of an act: its text; or the line of its refusal.
+pub fn answer(
+    alloc: Global,
+    out: &mut Vec<u8>,
+    source: &Source,
+    budget: u64,
+    words: &[&[u8]],
+) -> Result<(), AllocError> {
+    match act(alloc, out, source, budget, words) {
+        Ok(()) => Ok(()),
+        Err(Stop::Refused(fault)) => {
+            let refusal = Refusal(fault);
+            let line = format!(in alloc; "{refusal}\n")?;
+            out.extend_from_slice(line.as_bytes())
+        }
+        Err(Stop::Unknown) => out.extend_from_slice(b"the script asks for what there isn't\n"),
+        Err(Stop::Memory) => Err(AllocError),
+    }
+}
