@@ -1,0 +1,4 @@
+pub mod Stored
+pub mod Kept
+pub mod Running
+pub mod Holding

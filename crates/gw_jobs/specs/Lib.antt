@@ -1,0 +1,10 @@
+-- WHAT A ROW HOLDS
+pub mod Holding
+pub mod Running
+-- PASSES, TASKS AND RECEIPTS
+pub mod Passes
+-- THE STORED JOURNAL, AND THE TABLE
+pub mod Journal
+pub mod Table
+-- WHAT THE CALLS ANSWER
+pub mod Answers

@@ -1,0 +1,18 @@
+//! The job table: the jobs of many users, the tasks in which workers own them, and the replies that users get (ours: docs/service.md).
+#![tactic(auto)]
+
+mod journal;
+mod pass;
+mod ready;
+mod replies;
+mod row;
+mod rows;
+mod submission;
+mod table;
+mod task;
+
+pub use gw_service::{JobFault, Progress, State};
+pub use pass::Pass;
+pub use replies::{Reply, Returned};
+pub use table::Table;
+pub use task::{Slice, Task};

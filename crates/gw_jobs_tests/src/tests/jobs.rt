@@ -1,0 +1,132 @@
+//! The jobs of the tests, and what users and workers do with them.
+
+use gw_jobs::{JobFault, Pass, Returned, State, Table, Task};
+use gw_object::read;
+use gw_scan::Spec;
+use gw_verify::verify;
+use std::alloc::Global;
+use std::test::Fail;
+
+/// GENERATE 10 / ADVANCE 3 / TERMINATE 1, with a termination count of 2: 14 steps.
+pub(super) const FIRST: &[u8] = b"\
+    GPSO\0\x01\0\0\0\0\0\0\0\0\x02\0\0\x03\
+    \x01\0\0\0\0\0\0\0\0\x0a\0\0\0\0\0\0\0\0\0\0\0\0\0\0\0\
+    \x03\0\0\0\0\0\0\0\0\x03\0\0\0\0\0\0\0\0\0\
+    \x02\0\0\0\0\0\0\0\0\x01\
+    \0\x01\0\0\0\x01\0\0\0\x01\0\0\0\
+    \0\0\0\x02\0\0\0\x01\0\0\0\x01";
+
+/// GENERATE ,,,2 / QUEUE L / SEIZE F / DEPART L / ADVANCE 4 / RELEASE F / TERMINATE 1, with a termination count of 2: 23 steps.
+pub(super) const QUEUEING: &[u8] = b"\
+    GPSO\0\x01\0\0\0\0\0\0\0\0\x02\x02\x03\x01L\x01\x01F\0\x07\
+    \x01\0\0\0\0\0\0\0\0\0\0\0\0\0\0\0\0\0\0\0\x01\0\0\0\x02\0\0\0\0\
+    \x08\0\0\0\0\0\x01\
+    \x04\0\x01\
+    \x09\0\0\0\0\0\x01\
+    \x03\0\0\0\0\0\0\0\0\x04\0\0\0\0\0\0\0\0\0\
+    \x05\0\x01\
+    \x02\0\0\0\0\0\0\0\0\x01\
+    \0\x01\0\0\0\
+    \x01\0\0\0\
+    \x01\0\0\x01\0\0\0\0\0\x01\
+    \x01\0\x01\0\x01\x01\0\0\0\0\0\x01\
+    \x01\0\x01\0\x01\0\
+    \x01\0\x01\0\x01\0\
+    \x01\0\0\0\
+    \0\0\0\x05\0\0\0\x04\0\0\0\x03\0\0\0\x02\0\0\0\x01\0\0\0\x02\0\0\0\x01";
+
+/// GENERATE -1,,,1 / TERMINATE 1, with a termination count of 1: its start ends it.
+pub(super) const ENDED: &[u8] = b"\
+    GPSO\0\x01\0\0\0\0\0\0\0\0\x01\0\0\x02\
+    \x01\0\xff\xff\xff\xff\xff\xff\xff\xff\0\0\0\0\0\0\0\0\0\0\x01\0\0\0\x01\0\0\0\0\
+    \x02\0\0\0\0\0\0\0\0\x01\
+    \0\x01\0\0\0\x01\0\0\0\
+    \0\0\0\x02\0\0\0\x01";
+
+/// More steps than any job makes here.
+const AMPLE: u64 = 1_000_000_000;
+
+/// The spec of an object that is spelled so.
+pub(super) fn spec_of(alloc: Global, bytes: &[u8]) -> Result<Spec, Fail> {
+    let object = read(alloc, bytes).ok().ok_or("an object")?;
+    let verified = verify(alloc, object).ok().ok_or("an accepted object")?;
+    Ok(
+        Spec::new(alloc, verified, &[], 0, AMPLE)
+            .ok()
+            .ok_or("a spec")?,
+    )
+}
+
+/// A pass of this user for this slot and a job of that object.
+pub(super) fn pass_for(alloc: Global, user: u64, slot: u32, bytes: &[u8]) -> Result<Pass, Fail> {
+    Ok(Pass::of(user, slot, spec_of(alloc, bytes)?))
+}
+
+/// Submits a job of that object: its slot, or why it is refused.
+pub(super) fn submit(
+    alloc: Global,
+    table: &mut Table,
+    user: u64,
+    bytes: &[u8],
+) -> Result<Result<u32, JobFault>, Fail> {
+    let spec = spec_of(alloc, bytes)?;
+    match table.submit(alloc, user, spec) {
+        Ok(pass) => Ok(Ok(pass.slot())),
+        Err((_, fault)) => Ok(Err(fault)),
+    }
+}
+
+/// The next task, if a job is ready.
+pub(super) fn next_task(table: &mut Table) -> Option<Task> {
+    match table.take() {
+        Ok(next) => next,
+        Err(_) => None,
+    }
+}
+
+/// The slot, the user, the steps, and whether the row is ended and was cancelled.
+pub(super) type Told = (u32, u64, u64, bool, bool);
+
+/// What a receipt tells.
+fn parts_of(returned: &Returned) -> Told {
+    (
+        returned.slot(),
+        returned.user(),
+        returned.steps(),
+        returned.ended(),
+        returned.cancelled(),
+    )
+}
+
+/// What is told of a task that is given back, or nothing where it comes back.
+pub(super) fn told(table: &mut Table, task: Task) -> Option<Told> {
+    match table.give_back(task) {
+        Ok(returned) => Some(parts_of(&returned)),
+        Err(stray) => {
+            drop(stray);
+            None
+        }
+    }
+}
+
+/// What is told of a task that is given back after a slice.
+pub(super) fn told_after(table: &mut Table, mut task: Task, steps: u32) -> Option<Told> {
+    let made = task.run_slice(steps).is_ok();
+    if made { told(table, task) } else { None }
+}
+
+/// How the job of a pass stands, and its steps; or why that isn't told.
+pub(super) fn polled(table: &Table, pass: &Pass) -> Result<(State, u64), JobFault> {
+    match table.poll(pass) {
+        Ok(progress) => Ok((progress.state, progress.steps)),
+        Err(fault) => Err(fault),
+    }
+}
+
+/// Why the job of a pass isn't collected, if it isn't.
+pub(super) fn refusal(alloc: Global, table: &Table, pass: &Pass) -> Option<JobFault> {
+    match table.collect(alloc, pass) {
+        Ok(_) => None,
+        Err(fault) => Some(fault),
+    }
+}

@@ -1,0 +1,80 @@
+//! A job in slices, beside that of another user.
+
+use super::jobs::*;
+use gw_jobs::{Pass, Table};
+use gw_object::Memory;
+use gw_report::report;
+use gw_scan::{Sim, Status};
+use std::alloc::Global;
+use std::test::Fail;
+
+/// Makes all steps of a job.
+fn run(sim: &mut Sim) -> Result<(), Memory> {
+    for _ in 0..1000 {
+        if sim.step()? != Status::Running {
+            break;
+        }
+    }
+    Ok(())
+}
+
+/// The report of a job that runs alone.
+fn alone(alloc: Global, bytes: &[u8]) -> Result<Vec<u8>, Fail> {
+    let spec = spec_of(alloc, bytes)?;
+    let mut sim = Sim::start(alloc, spec).ok().ok_or("a job")?;
+    run(&mut sim)?;
+    Ok(report(alloc, &sim)?)
+}
+
+/// Takes the next task, makes a slice with it and gives it back; or answers that no job is ready.
+fn work(table: &mut Table, steps: u32) -> bool {
+    match next_task(table) {
+        Some(task) => told_after(table, task, steps).is_some(),
+        None => false,
+    }
+}
+
+/// Works until no job is ready.
+fn work_all(table: &mut Table, steps: u32) {
+    for _ in 0..1000 {
+        if !work(table, steps) {
+            break;
+        }
+    }
+}
+
+/// Whether the job of a pass is collected with this report, after 23 steps.
+fn is_collected(alloc: Global, table: &Table, pass: &Pass, due: &[u8]) -> bool {
+    match table.collect(alloc, pass) {
+        Ok(reply) => reply.steps == 23 && reply.report.as_slice() == due,
+        Err(_) => false,
+    }
+}
+
+/// Whether a table that makes slices of so many steps reports the job of user 1 so, beside one of user 2.
+fn reports_so(alloc: Global, table: &mut Table, steps: u32, due: &[u8]) -> Result<bool, Fail> {
+    let _ = submit(alloc, table, 2, FIRST)?;
+    let _ = submit(alloc, table, 1, QUEUEING)?;
+    work_all(table, steps);
+    let pass = pass_for(alloc, 1, 1, QUEUEING)?;
+    Ok(is_collected(alloc, table, &pass, due))
+}
+
+/// The same of a table of its own.
+fn reports_in(alloc: Global, steps: u32, due: &[u8]) -> Result<bool, Fail> {
+    let mut table = Table::new(alloc)?;
+    reports_so(alloc, &mut table, steps, due)
+}
+
+#[test]
+fn slices_give_the_report_of_the_lone_run(rt: HostRuntime) -> Result<(), Fail> {
+    let due = alone(rt.alloc(), QUEUEING)?;
+    assert!(rt;
+        due.as_slice()
+            .starts_with(b"END Done CLOCK 8 STEPS 23 ENTRIES 14 ")
+    );
+    assert!(rt; reports_in(rt.alloc(), 1, due.as_slice())?);
+    assert!(rt; reports_in(rt.alloc(), 7, due.as_slice())?);
+    assert!(rt; reports_in(rt.alloc(), 1_000_000, due.as_slice())?);
+    Ok(())
+}
