@@ -1,0 +1,4 @@
+-- THE PROGRESS BOARD
+pub mod Board
+-- SHARES OF A TABLE'S BOOKS
+pub mod Shares

@@ -1,0 +1,5 @@
+//! Tests of the progress board and of shares: worked rows, and threads that publish and read side by side.
+#![tactic(auto)]
+
+#[cfg(test)]
+mod tests;
