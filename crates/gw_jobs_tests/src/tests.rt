@@ -2,6 +2,9 @@
 
 mod cancels;
 mod jobs;
+mod journal;
 mod limits;
+mod refusals;
 mod slices;
 mod starts;
+mod strangers;

@@ -5,14 +5,6 @@ use gw_jobs::{JobFault, Pass, State, Table, Task};
 use std::alloc::Global;
 use std::test::Fail;
 
-/// Cancels the job of a pass: why it isn't, if it isn't.
-fn cancel(table: &mut Table, pass: &Pass) -> Option<JobFault> {
-    match table.cancel(pass) {
-        Ok(()) => None,
-        Err(fault) => Some(fault),
-    }
-}
-
 /// Whether a job is cancelled while this task is out, and is told so once the task is back, with the 5 steps that it made.
 fn returns_cancelled(table: &mut Table, pass: &Pass, task: Task) -> bool {
     let while_out = table.out() == 1 && cancel(table, pass).is_none() && table.out() == 1;

@@ -130,3 +130,29 @@ pub(super) fn refusal(alloc: Global, table: &Table, pass: &Pass) -> Option<JobFa
         Err(fault) => Some(fault),
     }
 }
+
+/// Cancels the job of a pass: why it isn't, if it isn't.
+pub(super) fn cancel(table: &mut Table, pass: &Pass) -> Option<JobFault> {
+    match table.cancel(pass) {
+        Ok(()) => None,
+        Err(fault) => Some(fault),
+    }
+}
+
+/// Takes the next task, makes a slice with it and gives it back; or answers that no job is ready.
+pub(super) fn work(table: &mut Table, steps: u32) -> bool {
+    match next_task(table) {
+        Some(task) => told_after(table, task, steps).is_some(),
+        None => false,
+    }
+}
+
+/// Takes tasks so many times, and gives each back as it is.
+pub(super) fn turn(table: &mut Table, times: u32) -> bool {
+    for _ in 0..times {
+        if !work(table, 0) {
+            return false;
+        }
+    }
+    true
+}

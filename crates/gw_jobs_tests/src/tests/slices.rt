@@ -26,14 +26,6 @@ fn alone(alloc: Global, bytes: &[u8]) -> Result<Vec<u8>, Fail> {
     Ok(report(alloc, &sim)?)
 }
 
-/// Takes the next task, makes a slice with it and gives it back; or answers that no job is ready.
-fn work(table: &mut Table, steps: u32) -> bool {
-    match next_task(table) {
-        Some(task) => told_after(table, task, steps).is_some(),
-        None => false,
-    }
-}
-
 /// Works until no job is ready.
 fn work_all(table: &mut Table, steps: u32) {
     for _ in 0..1000 {
