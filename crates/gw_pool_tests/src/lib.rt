@@ -1,4 +1,4 @@
-//! Tests of the progress board and of shares: worked rows, and threads that publish and read side by side.
+//! Tests of the progress board and of shares: worked examples, and threads that publish and read side by side.
 #![tactic(auto)]
 
 #[cfg(test)]
