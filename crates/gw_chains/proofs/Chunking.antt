@@ -1,6 +1,6 @@
 -- A list in chunks: where a newcomer belongs, and what changes of it where one chunk does.
-use Rattle.std.proofs.Common.{◌≡◌, ◌∙◌, ℕ, zero, suc, ◌+◌, ◌-◌, ◌<◌, ◌≤◌, List, [], ◌∷◌, ◌++◌, length, take, drop, set, get_or, Bool, true, false, true≢false, refl, sym, ap, subst, arith, append_assoc, inl, inr, if◌then◌else◌}
-use Rattle.std.specs.Prelude.{insert, All}
+use Rattle.std.proofs.Common.{◌≡◌, ◌∙◌, Option, ℕ, zero, suc, ◌+◌, ◌-◌, ◌<◌, ◌≤◌, List, [], ◌∷◌, ◌++◌, length, take, drop, set, get_or, Bool, true, false, true≢false, refl, sym, ap, subst, arith, append_assoc, inl, inr}
+use Rattle.std.specs.Prelude.{insert, All, AllPairs}
 use Rattle.std.specs.List.{AllByRecursion}
 use Rattle.std.specs.List.Sorted.{IsPartitionedBy}
 use Rattle.std.specs.declared.collections.VecDeque.{VecDeque}
@@ -9,8 +9,9 @@ use Rattle.std.proofs.lemmas.List.{length-append}
 use Rattle.std.proofs.lemmas.List.Edits.{get_or-insert_below, get_or-insert_at, get_or-insert_above, length-insert}
 use Rattle.std.proofs.Math.ListN.{get_or-append}
 use Rattle.std.proofs.Math.Seq.{get_or-append_seam}
-use Rattle.gw_chains.specs.Chain.{placed_behind}
+use Rattle.gw_chains.specs.Newcomers.{host, with_newcomer, IsHostLast}
 use Rattle.gw_chains.specs.Chunks.{all_of, begins_in, IsChunk}
+use Rattle.gw_chains.proofs.Newcoming.{newcomer_past, newcomer_within, host_past, host_within}
 
 module _ {A : Type 0} (p : A → Bool) where
   -- a list begins as its first does
@@ -31,35 +32,32 @@ module _ {A : Type 0} (p : A → Bool) where
       sym (ap p (get_or-append xs ys d i (omega arith)))
       ∙ parts i j d le (omega (arith, length-append xs ys)) (ap p (get_or-append xs ys d j within) ∙ h)
 
-  -- where one passes, all before it do
-  all_before : (front : List A) (z : A) (zs : List A) → IsPartitionedBy p (front ++ z ∷ zs) → p z ≡ true → AllByRecursion (λ y. p y ≡ true) front
-  all_before [] z zs parts passes = tt
-  all_before (y ∷ ys) z zs parts passes = (
-    parts 0 (suc (length ys)) z (omega arith) (omega (arith, length-append ys (z ∷ zs))) (ap p (get_or-append_seam ys z zs z) ∙ passes),
-    all_before ys z zs (parted_rest y (ys ++ z ∷ zs) parts) passes,
-  )
+module _ {A : Type 0} (R : A → A → Type 0) where
+  -- the parts of a list in an order
+  pub pairs_back : (xs ys : List A) → AllPairs R (xs ++ ys) → AllPairs R ys
+  pairs_back [] ys pairs = pairs
+  pairs_back (x ∷ xs) ys pairs = pairs_back xs ys (λ a b d lt below. pairs (suc a) (suc b) d (omega arith) (omega arith))
 
-  pub front_passes : (front chunk back : List A) → IsPartitionedBy p (front ++ (chunk ++ back)) → begins_in p chunk ≡ true → AllByRecursion (λ y. p y ≡ true) front
-  front_passes front [] back parts begins = absurd (true≢false (sym begins))
-  front_passes front (z ∷ zs) back parts begins = all_before front z (zs ++ back) parts begins
+  pub pairs_front : (xs ys : List A) → AllPairs R (xs ++ ys) → AllPairs R xs
+  pairs_front xs ys pairs = λ a b d lt below.
+      subst (λ z. R (get_or xs a d) z) (get_or-append xs ys d b below)
+      (subst (λ z. R z (get_or (xs ++ ys) b d)) (get_or-append xs ys d a (omega (arith, below, lt)))
+      (pairs a b d lt (omega (arith, below, length-append xs ys))))
 
-  -- a newcomer goes behind those that all pass
-  goes_behind : (x : A) (front back : List A) → AllByRecursion (λ y. p y ≡ true) front → placed_behind p x (front ++ back) ≡ front ++ placed_behind p x back
-  goes_behind x [] back all = refl
-  goes_behind x (y ∷ ys) back all = rw (all.0) (ap (λ zs. y ∷ zs) (goes_behind x ys back all.1))
+module _ {A : Type 0} (goes : A → A → Bool) (x : A) where
+  -- where one goes first, all before it do, and none of them takes a newcomer in
+  all_before : (front : List A) (z : A) (zs : List A) → IsPartitionedBy (λ y. goes y x) (front ++ z ∷ zs) → IsHostLast goes x (front ++ z ∷ zs) → goes z x ≡ true → AllByRecursion (λ y. (goes y x ≡ true) × (goes x y ≡ false)) front
+  all_before [] z zs parts last passes = tt
+  all_before (y ∷ ys) z zs parts last passes =
+      let there : goes (get_or (ys ++ z ∷ zs) (length ys) z) x ≡ true = ap (λ w. goes w x) (get_or-append_seam ys z zs z) ∙ passes in
+      let within : suc (length ys) < length (y ∷ (ys ++ z ∷ zs)) = omega (arith, length-append ys (z ∷ zs)) in (
+        (parts 0 (suc (length ys)) z (omega arith) within there, last 0 (suc (length ys)) z (omega arith) within there),
+        all_before ys z zs (parted_rest (λ w. goes w x) y (ys ++ z ∷ zs) parts) (λ a b d lt below. last (suc a) (suc b) d (omega arith) (omega arith)) passes,
+      )
 
-  -- and before those of whom the first fails
-  goes_ahead : (x : A) (back : List A) → begins_in p back ≡ false → placed_behind p x back ≡ x ∷ back
-  goes_ahead x [] fails = refl
-  goes_ahead x (z ∷ zs) fails = rw fails refl
-
-  pub goes_within : (x : A) (front back : List A) → begins_in p back ≡ false → placed_behind p x (front ++ back) ≡ placed_behind p x front ++ back
-  goes_within x [] back fails = goes_ahead x back fails
-  goes_within x (y ∷ ys) back fails = case (p y) (goes_within x ys back fails)
-    where
-      case : (b : Bool) → placed_behind p x (ys ++ back) ≡ placed_behind p x ys ++ back → (if b then y ∷ placed_behind p x (ys ++ back) else x ∷ y ∷ (ys ++ back)) ≡ (if b then y ∷ placed_behind p x ys else x ∷ y ∷ ys) ++ back
-      case true same = ap (λ ws. y ∷ ws) same
-      case false same = refl
+  pub front_passes : (front chunk back : List A) → IsPartitionedBy (λ y. goes y x) (front ++ (chunk ++ back)) → IsHostLast goes x (front ++ (chunk ++ back)) → begins_in (λ y. goes y x) chunk ≡ true → AllByRecursion (λ y. (goes y x ≡ true) × (goes x y ≡ false)) front
+  front_passes front [] back parts last begins = absurd (true≢false (sym begins))
+  front_passes front (z ∷ zs) back parts last begins = all_before front z (zs ++ back) parts last begins
 
 -- one more of which P holds
 pub All-inserted : {A : Type 0} (P : A → Type 0) (xs : List A) (i : ℕ) (x : A) → i ≤ length xs → P x → All P xs → All P (insert xs i x)
@@ -125,22 +123,6 @@ module _ {X Z : Type 0} where
         first (x ∷ xs) some fails = fails
     back_begins (c ∷ cs) (suc n) d chunks fails = back_begins cs n d (λ k e below. chunks (suc k) e (omega arith)) (λ below. fails (omega arith))
 
-    -- a newcomer belongs in the last chunk that begins before it, or in the first
-    pub placed_in : (x : X) (cs : List (VecDeque X Z)) (i : ℕ) (d : VecDeque X Z) → i < length cs → All IsChunk cs → IsPartitionedBy p (all_of cs) → (0 < i → begins_in p (get_or cs i d).items ≡ true) → (suc i < length cs → begins_in p (get_or cs (suc i) d).items ≡ false) →
-        all_of (take i cs) ++ (placed_behind p x (get_or cs i d).items ++ all_of (drop (suc i) cs)) ≡ placed_behind p x (all_of cs)
-    placed_in x cs i d within chunks parts behind before =
-        let front = all_of (take i cs) in
-        let chunk = (get_or cs i d).items in
-        let back = all_of (drop (suc i) cs) in
-        let whole = around cs i d within in
-        ap (λ ws. front ++ ws) (sym (goes_within p x chunk back (back_begins cs (suc i) d chunks before)))
-        ∙ sym (goes_behind p x front (chunk ++ back) (passing i behind (subst (IsPartitionedBy p) whole parts)))
-        ∙ ap (placed_behind p x) (sym whole)
-      where
-        passing : (j : ℕ) → (0 < j → begins_in p (get_or cs i d).items ≡ true) → IsPartitionedBy p (all_of (take j cs) ++ ((get_or cs i d).items ++ all_of (drop (suc i) cs))) → AllByRecursion (λ y. p y ≡ true) (all_of (take j cs))
-        passing zero behind parts = tt
-        passing (suc j) behind parts = front_passes p (all_of (take (suc j) cs)) (get_or cs i d).items (all_of (drop (suc i) cs)) parts (behind (omega arith))
-
     pub chunk_parted : (cs : List (VecDeque X Z)) (i : ℕ) (d : VecDeque X Z) → i < length cs → IsPartitionedBy p (all_of cs) → IsPartitionedBy p (get_or cs i d).items
     chunk_parted cs i d within parts =
         let front = all_of (take i cs) in
@@ -148,13 +130,74 @@ module _ {X Z : Type 0} where
         let back = all_of (drop (suc i) cs) in
         parted_front p chunk back (parted_back p front (chunk ++ back) (subst (IsPartitionedBy p) (around cs i d within) parts))
 
-    -- the same, as it stands where any d may be read in the chunk's place
-    pub inserted_in : (x : X) (cs ds : List (VecDeque X Z)) (i n : ℕ) → n ≡ i + 1 → i < length cs → All IsChunk cs → IsPartitionedBy p (all_of cs) → ((d : VecDeque X Z) → 0 < i → begins_in p (get_or cs i d).items ≡ true) → ((d : VecDeque X Z) → n < length cs → begins_in p (get_or cs n d).items ≡ false) → ((d : VecDeque X Z) → all_of ds ≡ all_of (take i cs) ++ (placed_behind p x (get_or cs i d).items ++ all_of (drop n cs))) →
-        all_of ds ≡ placed_behind p x (all_of cs)
-    inserted_in x [] ds i n next within chunks parts behind before is = absurd (omega (arith, within))
-    inserted_in x (c ∷ cs) ds i n next within chunks parts behind before is =
-        let one : n ≡ suc i = omega (arith, next) in
+  module _ (goes : X → X → Bool) (x : X) where
+    pub chunk_last : (cs : List (VecDeque X Z)) (i : ℕ) (d : VecDeque X Z) → i < length cs → IsHostLast goes x (all_of cs) → IsHostLast goes x (get_or cs i d).items
+    chunk_last cs i d within last =
+        let R : X → X → Type 0 = λ y z. goes z x ≡ true → goes x y ≡ false in
+        let front = all_of (take i cs) in
+        let chunk = (get_or cs i d).items in
+        let back = all_of (drop (suc i) cs) in
+        pairs_front R chunk back (pairs_back R front (chunk ++ back) (subst (IsHostLast goes x) (around cs i d within) last))
+
+    -- a newcomer belongs in the last chunk that begins before it, or in the first
+    record Belongs (cs : List (VecDeque X Z)) (i : ℕ) (d : VecDeque X Z) : Type 0 where
+      within : i < length cs
+      whole : all_of cs ≡ all_of (take i cs) ++ ((get_or cs i d).items ++ all_of (drop (suc i) cs))
+      past : AllByRecursion (λ y. (goes y x ≡ true) × (goes x y ≡ false)) (all_of (take i cs))
+      ahead : begins_in (λ y. goes y x) (all_of (drop (suc i) cs)) ≡ false
+
+    belongs : (cs : List (VecDeque X Z)) (i : ℕ) (d : VecDeque X Z) → i < length cs → All IsChunk cs → IsPartitionedBy (λ y. goes y x) (all_of cs) → IsHostLast goes x (all_of cs) → (0 < i → begins_in (λ y. goes y x) (get_or cs i d).items ≡ true) → (suc i < length cs → begins_in (λ y. goes y x) (get_or cs (suc i) d).items ≡ false) → Belongs cs i d
+    belongs cs i d within chunks parts last behind before = record {
+      within = within;
+      whole = around cs i d within;
+      past = passing i behind (subst (IsPartitionedBy (λ y. goes y x)) (around cs i d within) parts) (subst (IsHostLast goes x) (around cs i d within) last);
+      ahead = back_begins (λ y. goes y x) cs (suc i) d chunks before;
+    }
+      where
+        passing : (j : ℕ) → (0 < j → begins_in (λ y. goes y x) (get_or cs i d).items ≡ true) → IsPartitionedBy (λ y. goes y x) (all_of (take j cs) ++ ((get_or cs i d).items ++ all_of (drop (suc i) cs))) → IsHostLast goes x (all_of (take j cs) ++ ((get_or cs i d).items ++ all_of (drop (suc i) cs))) → AllByRecursion (λ y. (goes y x ≡ true) × (goes x y ≡ false)) (all_of (take j cs))
+        passing zero behind parts last = tt
+        passing (suc j) behind parts last = front_passes goes x (all_of (take (suc j) cs)) (get_or cs i d).items (all_of (drop (suc i) cs)) parts last (behind (omega arith))
+
+    placed_in : (unite : X → X → X) (cs : List (VecDeque X Z)) (i : ℕ) (d : VecDeque X Z) → Belongs cs i d → all_of (take i cs) ++ (with_newcomer goes unite x (get_or cs i d).items ++ all_of (drop (suc i) cs)) ≡ with_newcomer goes unite x (all_of cs)
+    placed_in unite cs i d b =
+        let front = all_of (take i cs) in
+        let chunk = (get_or cs i d).items in
+        let back = all_of (drop (suc i) cs) in
+        ap (λ ws. front ++ ws) (sym (newcomer_within goes x unite chunk back b.ahead))
+        ∙ sym (newcomer_past goes x unite front (chunk ++ back) b.past)
+        ∙ ap (with_newcomer goes unite x) (sym b.whole)
+
+    host_in : (cs : List (VecDeque X Z)) (i : ℕ) (d : VecDeque X Z) → Belongs cs i d → host goes x (get_or cs i d).items ≡ host goes x (all_of cs)
+    host_in cs i d b =
+        let front = all_of (take i cs) in
+        let chunk = (get_or cs i d).items in
+        let back = all_of (drop (suc i) cs) in
+        sym (host_within goes x chunk back b.ahead) ∙ sym (host_past goes x front (chunk ++ back) b.past) ∙ ap (host goes x) (sym b.whole)
+
+    -- what is known of a newcomer's chunk, where any d may be read in its place
+    pub record Chosen (cs : List (VecDeque X Z)) (i n : ℕ) : Type 0 where
+      pub next : n ≡ i + 1
+      pub within : i < length cs
+      pub chunks : All IsChunk cs
+      pub parts : IsPartitionedBy (λ y. goes y x) (all_of cs)
+      pub last : IsHostLast goes x (all_of cs)
+      pub behind : (d : VecDeque X Z) → 0 < i → begins_in (λ y. goes y x) (get_or cs i d).items ≡ true
+      pub before : (d : VecDeque X Z) → n < length cs → begins_in (λ y. goes y x) (get_or cs n d).items ≡ false
+
+    chosen_belongs : (cs : List (VecDeque X Z)) (i n : ℕ) (d : VecDeque X Z) → Chosen cs i n → Belongs cs i d
+    chosen_belongs cs i n d c =
+        let one : n ≡ suc i = omega (arith, c.next) in
+        belongs cs i d c.within c.chunks c.parts c.last (c.behind d) (subst (λ m. m < length cs → begins_in (λ y. goes y x) (get_or cs m d).items ≡ false) one (c.before d))
+
+    pub inserted_in : (unite : X → X → X) (cs ds : List (VecDeque X Z)) (i n : ℕ) → Chosen cs i n → ((d : VecDeque X Z) → all_of ds ≡ all_of (take i cs) ++ (with_newcomer goes unite x (get_or cs i d).items ++ all_of (drop n cs))) → all_of ds ≡ with_newcomer goes unite x (all_of cs)
+    inserted_in unite [] ds i n chosen is = absurd (omega (arith, chosen.within))
+    inserted_in unite (c ∷ cs) ds i n chosen is =
+        let one : n ≡ suc i = omega (arith, chosen.next) in
         let chunk = get_or (c ∷ cs) i c in
         is c
-        ∙ ap (λ m. all_of (take i (c ∷ cs)) ++ (placed_behind p x chunk.items ++ all_of (drop m (c ∷ cs)))) one
-        ∙ placed_in x (c ∷ cs) i c within chunks parts (behind c) (subst (λ m. m < length (c ∷ cs) → begins_in p (get_or (c ∷ cs) m c).items ≡ false) one (before c))
+        ∙ ap (λ m. all_of (take i (c ∷ cs)) ++ (with_newcomer goes unite x chunk.items ++ all_of (drop m (c ∷ cs)))) one
+        ∙ placed_in unite (c ∷ cs) i c (chosen_belongs (c ∷ cs) i n c chosen)
+
+    pub host_inserted : (cs : List (VecDeque X Z)) (i n : ℕ) (found : Option X) → Chosen cs i n → ((d : VecDeque X Z) → found ≡ host goes x (get_or cs i d).items) → found ≡ host goes x (all_of cs)
+    host_inserted [] i n found chosen is = absurd (omega (arith, chosen.within))
+    host_inserted (c ∷ cs) i n found chosen is = is c ∙ host_in (c ∷ cs) i c (chosen_belongs (c ∷ cs) i n c chosen)

@@ -3,4 +3,8 @@ pub mod Places
 pub mod Turning
 pub mod Finding
 mod Merging
+pub mod Newcoming
 pub mod Chunking
+pub mod Linking
+pub mod Joining
+pub mod Leaving

@@ -98,7 +98,7 @@ module _ {A : Type 0} where
 
   -- ORDER OF A LIST THAT A NEWCOMER JOINED
 
-  pairs_cons : (R : A → A → Type 0) (x : A) (xs : List A) → All (R x) xs → AllPairs R xs → AllPairs R (x ∷ xs)
+  pub pairs_cons : (R : A → A → Type 0) (x : A) (xs : List A) → All (R x) xs → AllPairs R xs → AllPairs R (x ∷ xs)
   pairs_cons R x xs all pairs zero zero d lt below = absurd (omega (arith, lt))
   pairs_cons R x xs all pairs zero (suc b) d lt below = all b d (omega arith)
   pairs_cons R x xs all pairs (suc a) zero d lt below = absurd (omega (arith, lt))
@@ -107,7 +107,7 @@ module _ {A : Type 0} where
   pub pairs_rest : (R : A → A → Type 0) (x : A) (xs : List A) → AllPairs R (x ∷ xs) → AllPairs R xs
   pairs_rest R x xs pairs a b d lt below = pairs (suc a) (suc b) d (omega arith) (omega arith)
 
-  pairs_first : (R : A → A → Type 0) (x : A) (xs : List A) → AllPairs R (x ∷ xs) → All (R x) xs
+  pub pairs_first : (R : A → A → Type 0) (x : A) (xs : List A) → AllPairs R (x ∷ xs) → All (R x) xs
   pairs_first R x xs pairs b d below = pairs zero (suc b) d (omega arith) (omega arith)
 
   all_placed : (P : A → Type 0) (p : A → Bool) (x : A) (xs : List A) → P x → All P xs → All P (placed_behind p x xs)

@@ -41,6 +41,6 @@ abbrev pub begins_in : {A : Type 0} → (A → Bool) → List A → Bool
 begins_in p [] = false
 begins_in p (x ∷ xs) = p x
 
--- how many more fit beside so many, where so many spare chunks and so much room for chunks are left
-abbrev pub room_beside : ℕ → ℕ → ℕ → ℕ
-room_beside members spare chunks = min (min spare chunks) (2 ^ 62 - members)
+-- how many more fit beside so many, where there is room for so many links, spare chunks and chunks
+abbrev pub room_beside : ℕ → ℕ → ℕ → ℕ → ℕ
+room_beside members links spare chunks = min (min links (min spare chunks)) (2 ^ 62 - members)

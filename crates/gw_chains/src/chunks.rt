@@ -1,10 +1,11 @@
 //! A list that is kept in an order, in chunks, so that a newcomer among tens of thousands moves few of them.
 
-ghost use Rattle.std.specs.Prelude.{◌≡◌, ◌≤◌, ◌<◌, ◌+◌, ◌-◌, [], ◌∷◌, ◌++◌, Bool, true, false, All, length, take, drop, slice_index_or, option_to_list, option_copied, ◌⊎◌, IfSome, OnOk, OnErr};
-ghost use Rattle.std.specs.List.Sorted.{IsPartitionedBy};
+ghost use Rattle.std.specs.Prelude.{◌≡◌, ◌≤◌, ◌<◌, ◌+◌, ◌-◌, [], ◌∷◌, ◌++◌, Bool, true, false, All, length, take, drop, slice_index_or, option_to_list, option_copied, ◌⊎◌, IfSome, OnSome, OnOk, OnErr};
+ghost use Rattle.std.specs.List.Sorted.{IsPartitionedBy, IsPartitionPoint};
 ghost use Rattle.std.specs.VecDeque.{deque_len, deque_capacity};
 ghost use Rattle.std.specs.declared.collections.VecDeque.{VecDeque as DeclaredQueue};
-ghost use Rattle.gw_chains.specs.Chain.{placed_behind, first, rest};
+ghost use Rattle.gw_chains.specs.Chain.{first, rest};
+ghost use Rattle.gw_chains.specs.Newcomers.{host, with_newcomer, IsHostLast};
 ghost use Rattle.gw_chains.specs.Chunks.{most_in_chunk, all_of, items_of, begins_in, IsChunk, IsSpare};
 
 use crate::Memory;
@@ -19,9 +20,15 @@ pub(crate) const MOST_IN_CHUNK: usize = 128;
 pub(crate) trait Placed: Copy + Drop {
     ghost goes_first: { Self → Self → Bool };
 
-    /// Whether it goes ahead of a newcomer.
-    fn goes_first(self, newcomer: Self) -> bool
-        ensures { result ≡ goes_first self newcomer };
+    ghost with_guest: { Self → Self → Self };
+
+    /// Whether it goes ahead of another. Two that do so of each other are alike.
+    fn goes_first(self, other: Self) -> bool
+        ensures { result ≡ goes_first self other };
+
+    /// It with a newcomer, its like, which it takes in.
+    fn take_in(self, newcomer: Self) -> Self
+        ensures { result ≡ with_guest self newcomer };
 }
 
 /// Whether the first of a chunk goes ahead of a newcomer.
@@ -62,16 +69,61 @@ fn place_of<T: Placed>(chunks: &VecDeque<VecDeque<T>>, newcomer: T) -> usize
     low
 }
 
-/// Puts a newcomer at its place in a chunk, where there is room.
-fn join<T: Placed>(chunk: &mut VecDeque<T>, newcomer: T)
+/// The place in a chunk behind all that go ahead of a newcomer; it looks at the last first.
+fn place_in<T: Placed>(chunk: &VecDeque<T>, newcomer: T) -> usize
+    requires { IsPartitionedBy (λ y. T.goes_first y newcomer) chunk.now.items }
+    ensures within { result ≤ deque_len chunk.now }
+    ensures place { IsPartitionPoint (λ y. T.goes_first y newcomer ≡ true) (λ y. T.goes_first y newcomer ≡ false) chunk.now.items result }
+{
+    if let Some(last) = chunk.back() {
+        if last.goes_first(newcomer) {
+            return chunk.len();
+        }
+    }
+    chunk.partition_point(|y| y.goes_first(newcomer))
+}
+
+/// The like of a newcomer in a chunk, if one is there, where the newcomer's place is this one.
+fn host_before<T: Placed>(chunk: &VecDeque<T>, place: usize, newcomer: T) -> Option<T>
+    requires within { place ≤ deque_len chunk.now }
+    requires place { IsPartitionPoint (λ y. T.goes_first y newcomer ≡ true) (λ y. T.goes_first y newcomer ≡ false) chunk.now.items place }
+    requires last { IsHostLast T.goes_first newcomer chunk.now.items }
+    ensures host { result ≡ host T.goes_first newcomer chunk.now.items }
+    ensures before { OnSome result (0 < place) }
+{
+    if place == 0 {
+        return None;
+    }
+    let before = chunk[place - 1];
+    if newcomer.goes_first(before) {
+        Some(before)
+    } else {
+        None
+    }
+}
+
+/// Puts a newcomer at its place in a chunk, where there is room. If its like is there, that takes it in, and is answered as
+/// it was.
+fn join<T: Placed>(chunk: &mut VecDeque<T>, newcomer: T) -> Option<T>
     requires order { IsPartitionedBy (λ y. T.goes_first y newcomer) chunk.old.items }
+    requires last { IsHostLast T.goes_first newcomer chunk.old.items }
     requires room { deque_len chunk.old < deque_capacity chunk.old }
-    ensures items { chunk.new.items ≡ placed_behind (λ y. T.goes_first y newcomer) newcomer chunk.old.items }
-    ensures len { deque_len chunk.new ≡ deque_len chunk.old + 1 }
+    ensures host { result ≡ host T.goes_first newcomer chunk.old.items }
+    ensures items { chunk.new.items ≡ with_newcomer T.goes_first T.with_guest newcomer chunk.old.items }
+    ensures len { (deque_len chunk.old ≤ deque_len chunk.new) × (deque_len chunk.new ≤ deque_len chunk.old + 1) }
     ensures capacity { deque_capacity chunk.old ≤ deque_capacity chunk.new }
 {
-    let place = chunk.partition_point(|y| y.goes_first(newcomer));
-    insert_reserved(chunk, place, newcomer);
+    let place = place_in(chunk, newcomer);
+    match host_before(chunk, place, newcomer) {
+        Some(host) => {
+            chunk[place - 1] = host.take_in(newcomer);
+            Some(host)
+        }
+        None => {
+            insert_reserved(chunk, place, newcomer);
+            None
+        }
+    }
 }
 
 /// Moves the upper half of a full chunk to a spare one.
@@ -90,69 +142,81 @@ fn split<T: Placed>(lower: &mut VecDeque<T>, upper: &mut VecDeque<T>)
     }
 }
 
-/// Puts a newcomer at its place in a chunk. Where that is full then, its upper half comes back, in what was a spare chunk.
+/// Puts a newcomer at its place in a chunk, and answers its like as it was, if one is there. Where the chunk is full then, its
+/// upper half comes back, in what was a spare chunk.
 fn join_and_split<T: Placed>(
     chunk: &mut VecDeque<T>,
     spare: &mut Vec<VecDeque<T>>,
     newcomer: T,
-) -> Option<VecDeque<T>>
+) -> (Option<T>, Option<VecDeque<T>>)
     requires order { IsPartitionedBy (λ y. T.goes_first y newcomer) chunk.old.items }
+    requires last { IsHostLast T.goes_first newcomer chunk.old.items }
     requires chunk { IsChunk chunk.old }
     requires spare { (0 < length spare.old.items) × All IsSpare spare.old.items }
-    ensures items { chunk.new.items ++ items_of result ≡ placed_behind (λ y. T.goes_first y newcomer) newcomer chunk.old.items }
+    ensures host { result.0 ≡ host T.goes_first newcomer chunk.old.items }
+    ensures items { chunk.new.items ++ items_of result.1 ≡ with_newcomer T.goes_first T.with_guest newcomer chunk.old.items }
     ensures chunk { IsChunk chunk.new }
-    ensures upper { IfSome result IsChunk }
+    ensures upper { IfSome result.1 IsChunk }
     ensures spare { All IsSpare spare.new.items }
-    ensures left { length spare.old.items ≤ length spare.new.items + length (option_to_list result) }
+    ensures left { length spare.old.items ≤ length spare.new.items + length (option_to_list result.1) }
 {
-    join(chunk, newcomer);
+    let host = join(chunk, newcomer);
     if chunk.len() < MOST_IN_CHUNK {
-        return None;
+        return (host, None);
     }
     match spare.pop() {
         Some(mut upper) => {
             split(chunk, &mut upper);
-            Some(upper)
+            (host, Some(upper))
         }
         None => unreachable!(),
     }
 }
 
-/// Puts a newcomer at its place in the chunk of this place.
+/// Puts a newcomer at its place in the chunk of this place, and answers its like as it was, if one is there.
 fn insert_at<T: Placed>(
     chunks: &mut VecDeque<VecDeque<T>>,
     spare: &mut Vec<VecDeque<T>>,
     place: usize,
     newcomer: T,
-)
+) -> Option<T>
     requires within { place < deque_len chunks.old }
     requires order { (d : DeclaredQueue T Global) → IsPartitionedBy (λ y. T.goes_first y newcomer) (slice_index_or chunks.old.items place d).items }
+    requires last { (d : DeclaredQueue T Global) → IsHostLast T.goes_first newcomer (slice_index_or chunks.old.items place d).items }
     requires chunks { All IsChunk chunks.old.items }
     requires room { deque_len chunks.old < deque_capacity chunks.old }
     requires spare { (0 < length spare.old.items) × All IsSpare spare.old.items }
+    ensures host { (d : DeclaredQueue T Global) → result ≡ host T.goes_first newcomer (slice_index_or chunks.old.items place d).items }
     ensures items { (d : DeclaredQueue T Global) → all_of chunks.new.items ≡ all_of (take place chunks.old.items)
-        ++ (placed_behind (λ y. T.goes_first y newcomer) newcomer (slice_index_or chunks.old.items place d).items ++ all_of (drop (place + 1) chunks.old.items)) }
+        ++ (with_newcomer T.goes_first T.with_guest newcomer (slice_index_or chunks.old.items place d).items ++ all_of (drop (place + 1) chunks.old.items)) }
     ensures chunks { All IsChunk chunks.new.items }
     ensures spare { All IsSpare spare.new.items }
     ensures room { deque_capacity chunks.old - deque_len chunks.old ≤ deque_capacity chunks.new - deque_len chunks.new + 1 }
     ensures left { length spare.old.items ≤ length spare.new.items + 1 }
 {
-    if let Some(upper) = join_and_split(&mut chunks[place], spare, newcomer) {
-        insert_reserved(chunks, place + 1, upper);
+    let (host, upper) = join_and_split(&mut chunks[place], spare, newcomer);
+    match upper {
+        Some(upper) => {
+            insert_reserved(chunks, place + 1, upper);
+            host
+        }
+        None => host,
     }
 }
 
-/// Puts a newcomer at its place.
+/// Puts a newcomer at its place. If its like is there, that takes it in, and is answered as it was.
 pub(crate) fn insert<T: Placed>(
     chunks: &mut VecDeque<VecDeque<T>>,
     spare: &mut Vec<VecDeque<T>>,
     newcomer: T,
-)
+) -> Option<T>
     requires order { IsPartitionedBy (λ y. T.goes_first y newcomer) (all_of chunks.old.items) }
+    requires last { IsHostLast T.goes_first newcomer (all_of chunks.old.items) }
     requires chunks { All IsChunk chunks.old.items }
     requires room { deque_len chunks.old < deque_capacity chunks.old }
     requires spare { (0 < length spare.old.items) × All IsSpare spare.old.items }
-    ensures items { all_of chunks.new.items ≡ placed_behind (λ y. T.goes_first y newcomer) newcomer (all_of chunks.old.items) }
+    ensures host { result ≡ host T.goes_first newcomer (all_of chunks.old.items) }
+    ensures items { all_of chunks.new.items ≡ with_newcomer T.goes_first T.with_guest newcomer (all_of chunks.old.items) }
     ensures chunks { All IsChunk chunks.new.items }
     ensures spare { All IsSpare spare.new.items }
     ensures room { deque_capacity chunks.old - deque_len chunks.old ≤ deque_capacity chunks.new - deque_len chunks.new + 1 }
@@ -160,9 +224,10 @@ pub(crate) fn insert<T: Placed>(
 {
     if chunks.is_empty() {
         begin(chunks, spare, newcomer);
+        None
     } else {
         let place = place_of(chunks, newcomer);
-        insert_at(chunks, spare, place, newcomer);
+        insert_at(chunks, spare, place, newcomer)
     }
 }
 
@@ -222,6 +287,27 @@ pub(crate) fn pop_first<T: Placed>(
         }
     }
     first
+}
+
+/// Puts another in the place of the first of a chunk.
+fn replace_front<T: Placed>(chunk: &mut VecDeque<T>, other: T)
+    requires { 0 < deque_len chunk.old }
+    ensures items { chunk.new.items ≡ other ∷ drop 1 chunk.old.items }
+    ensures len { deque_len chunk.new ≡ deque_len chunk.old }
+    ensures capacity { deque_capacity chunk.new ≡ deque_capacity chunk.old }
+{
+    chunk[0] = other;
+}
+
+/// Puts another in the place of the first, which is there.
+pub(crate) fn set_front<T: Placed>(chunks: &mut VecDeque<VecDeque<T>>, other: T)
+    requires some { 0 < length (all_of chunks.old.items) }
+    requires chunks { All IsChunk chunks.old.items }
+    ensures items { all_of chunks.new.items ≡ other ∷ rest (all_of chunks.old.items) }
+    ensures chunks { All IsChunk chunks.new.items }
+    ensures room { (deque_len chunks.new ≡ deque_len chunks.old) × (deque_capacity chunks.new ≡ deque_capacity chunks.old) }
+{
+    replace_front(&mut chunks[0], other);
 }
 
 /// The first, if there is one.

@@ -1,60 +1,57 @@
 //! The future events chain.
 
-ghost use Rattle.std.specs.Prelude.{◌≡◌, ◌≤◌, ◌<◌, ◌+◌, [], length, if◌then◌else◌, option_map, is_some, OnOk, OnErr, IsPermutation, option_copied, option_to_list, ◌++◌, true, false, IfNone};
+ghost use Rattle.std.specs.Prelude.{◌≡◌, ◌≤◌, ◌<◌, ◌+◌, [], length, if◌then◌else◌, option_map, is_some, OnOk, OnErr, IsPermutation};
 ghost use Rattle.std.specs.Iterator.{YieldsFirstRef, item_count};
 ghost use Rattle.gw_chains.specs.Chain.{in_time, due, first, rest};
-ghost use Rattle.std.specs.VecDeque.Iter.{deque_iter_rest};
-ghost use Rattle.gw_chains.specs.Chunks.{all_of, rest_of};
 ghost use Rattle.gw_chains.specs.declared.tx.Event.{Event};
 
-use crate::chunks::{Placed, front, insert, pop_first, reserve};
+use crate::bucket::{Bucket, Link};
+use crate::buckets::{first_time, insert_event, next_bucket, next_event, pop_event, reserve_links};
+use crate::chunks::reserve;
 use crate::tx::MOST;
 use crate::{Event, Memory, Tx};
+use slab::Slab;
 use std::alloc::Global;
 use std::collections::{VecDeque, vec_deque};
 use std::marker::Model;
-
-impl Placed for Event {
-    ghost use Rattle.std.specs.Prelude.{int_le};
-
-    ghost goes_first = { λ one other. int_le one.time other.time };
-
-    fn goes_first(self, newcomer: Event) -> bool {
-        self.time <= newcomer.time
-    }
-}
 
 /// The future events chain: the transactions that wait for a clock time, by that time, and those
 /// of one time in the order in which they were scheduled (GPSS World Reference Manual, "The
 /// Transaction Scheduler").
 ///
-/// It is kept in chunks, so that a newcomer among tens of thousands moves few of them.
+/// It is kept in buckets, one for each time that occurs, whose events are linked to one another: so a newcomer among tens of
+/// thousands moves nobody, or few buckets where its time is new.
 #[derive(Debug, Drop)]
 pub struct Fec {
-    chunks: VecDeque<VecDeque<Event>>,
+    // The buckets, in chunks.
+    chunks: VecDeque<VecDeque<Bucket>>,
     // What a chunk becomes that is split.
-    spare: Vec<VecDeque<Event>>,
+    spare: Vec<VecDeque<Bucket>>,
+    links: Slab<Link>,
     scheduled: usize,
 }
 
 impl Model for Fec {
     ghost use Rattle.std.specs.Prelude.{◌≡◌, ◌≤◌, ◌-◌, ◌^◌, All, length};
     ghost use Rattle.std.specs.VecDeque.{deque_len, deque_capacity};
-    ghost use Rattle.gw_chains.specs.Chain.{Chain, IsInTime};
+    ghost use Rattle.slab.specs.Slab.{get, slab_len};
+    ghost use Rattle.gw_chains.specs.Chain.{Chain};
     ghost use Rattle.gw_chains.specs.Chunks.{all_of, room_beside, IsChunk, IsSpare};
+    ghost use Rattle.gw_chains.specs.Buckets.{events_of, total, AreBuckets};
     ghost use Rattle.gw_chains.specs.declared.tx.Event.{Event};
 
     ghost Value = { Chain Event };
 
-    ghost invariant = { λ c. IsInTime (λ (e : Event). e.time) (all_of c.chunks.items)
+    ghost invariant = { λ c. AreBuckets (get c.links) (all_of c.chunks.items)
         × All IsChunk c.chunks.items
         × All IsSpare c.spare.items
-        × (c.scheduled ≡ length (all_of c.chunks.items))
+        × (c.scheduled ≡ length (events_of (get c.links) (all_of c.chunks.items)))
+        × (c.scheduled ≡ total (all_of c.chunks.items))
         × (c.scheduled ≤ 2 ^ 62) };
 
     ghost view = { λ c. record {
-      items = all_of c.chunks.items;
-      room = room_beside c.scheduled (length c.spare.items) (deque_capacity c.chunks - deque_len c.chunks);
+      items = events_of (get c.links) (all_of c.chunks.items);
+      room = room_beside c.scheduled (c.links.capacity - slab_len c.links) (length c.spare.items) (deque_capacity c.chunks - deque_len c.chunks);
     } };
 }
 
@@ -66,6 +63,7 @@ impl Fec {
         Fec {
             chunks: VecDeque::new(alloc),
             spare: Vec::new(alloc),
+            links: Slab::new(alloc),
             scheduled: 0,
         }
     }
@@ -80,6 +78,7 @@ impl Fec {
         if MOST - self.scheduled < more {
             return Err(Memory);
         }
+        reserve_links(&mut self.links, more)?;
         reserve(&mut self.chunks, &mut self.spare, more)
     }
 
@@ -90,7 +89,8 @@ impl Fec {
             self.new.items ≡ in_time (λ e. e.time) newcomer self.old.items }
         ensures room { self.old.room ≤ self.new.room + 1 }
     {
-        insert(&mut self.chunks, &mut self.spare, Event { tx, time });
+        let event = Event { tx, time };
+        insert_event(&mut self.chunks, &mut self.spare, &mut self.links, event);
         self.scheduled += 1;
     }
 
@@ -98,8 +98,7 @@ impl Fec {
     pub fn first_time(&self) -> Option<i64>
         ensures { result ≡ option_map (λ e. e.time) (first self.now.items) }
     {
-        let event = front(&self.chunks)?;
-        Some(event.time)
+        first_time(&self.chunks)
     }
 
     /// Takes the first, if it is scheduled for `time`, in clock units, or earlier.
@@ -113,7 +112,7 @@ impl Fec {
         if time < self.first_time()? {
             return None;
         }
-        let event = pop_first(&mut self.chunks, &mut self.spare)?;
+        let event = pop_event(&mut self.chunks, &mut self.spare, &mut self.links)?;
         self.scheduled -= 1;
         Some(event.tx)
     }
@@ -123,6 +122,9 @@ impl Fec {
         ensures { IsPermutation self.now.items result }
     {
         Events {
+            links: &self.links,
+            left: 0,
+            at: 0,
             chunk: None,
             chunks: self.chunks.iter(),
         }
@@ -139,20 +141,27 @@ impl Fec {
 /// The members of a future events chain, in no particular order. Contracts see those that are still to come.
 #[derive(Drop)]
 pub struct Events<'a> {
-    // Those of the chunk that was begun, and the chunks behind it.
-    chunk: Option<vec_deque::Iter<'a, Event>>,
-    chunks: vec_deque::Iter<'a, VecDeque<Event>>,
+    links: &'a Slab<Link>,
+    // How many of a bucket that was begun are left, and the link of their first.
+    left: usize,
+    at: usize,
+    // The buckets of the chunk that was begun, and the chunks behind it.
+    chunk: Option<vec_deque::Iter<'a, Bucket>>,
+    chunks: vec_deque::Iter<'a, VecDeque<Bucket>>,
 }
 
 impl<'a> Model for Events<'a> {
     ghost use Rattle.std.specs.Prelude.{List, ◌++◌};
     ghost use Rattle.std.specs.VecDeque.Iter.{deque_iter_rest};
+    ghost use Rattle.slab.specs.Slab.{get};
     ghost use Rattle.gw_chains.specs.Chunks.{all_of, rest_of};
+    ghost use Rattle.gw_chains.specs.Buckets.{run, events_at, events_of};
     ghost use Rattle.gw_chains.specs.declared.tx.Event.{Event};
 
     ghost Value = { List Event };
 
-    ghost view = { λ it. rest_of it.chunk ++ all_of (deque_iter_rest it.chunks) };
+    ghost view = { λ it. events_at (get it.links.now) (run (get it.links.now) it.left it.at)
+        ++ events_of (get it.links.now) (rest_of it.chunk ++ all_of (deque_iter_rest it.chunks)) };
 }
 
 impl<'a> Iterator for Events<'a> {
@@ -164,38 +173,16 @@ impl<'a> Iterator for Events<'a> {
 
     fn next(&mut self) -> Option<&'a Event> {
         loop {
-            if let Some(event) = next_of(&mut self.chunk) {
+            if let Some(event) = next_event(self.links, &mut self.left, &mut self.at) {
                 return Some(event);
             }
-            if !begin_next(&mut self.chunk, &mut self.chunks) {
-                return None;
+            match next_bucket(&mut self.chunk, &mut self.chunks) {
+                Some(bucket) => {
+                    self.left = bucket.count;
+                    self.at = bucket.first;
+                }
+                None => return None,
             }
         }
-    }
-}
-
-/// The next of a chunk that was begun, if there is one.
-fn next_of<'a>(chunk: &mut Option<vec_deque::Iter<'a, Event>>) -> Option<&'a Event>
-    ensures items { rest_of chunk.old ≡ option_to_list (option_copied result) ++ rest_of chunk.new }
-    ensures end { IfNone result (rest_of chunk.old ≡ []) }
-{
-    chunk.as_mut()?.next()
-}
-
-/// Begins the next chunk, if there is one.
-fn begin_next<'a>(
-    chunk: &mut Option<vec_deque::Iter<'a, Event>>,
-    chunks: &mut vec_deque::Iter<'a, VecDeque<Event>>,
-) -> bool
-    ensures begun { result ≡ true → all_of (deque_iter_rest chunks.old) ≡ rest_of chunk.new ++ all_of (deque_iter_rest chunks.new) }
-    ensures fewer { result ≡ true → length (deque_iter_rest chunks.old) ≡ length (deque_iter_rest chunks.new) + 1 }
-    ensures end { result ≡ false → (all_of (deque_iter_rest chunks.old) ≡ []) × (rest_of chunk.new ≡ rest_of chunk.old) × (deque_iter_rest chunks.new ≡ []) }
-{
-    match chunks.next() {
-        Some(next) => {
-            *chunk = Some(next.iter());
-            true
-        }
-        None => false,
     }
 }

@@ -5,6 +5,8 @@
 #![tactic(auto)]
 
 mod assemblies;
+mod bucket;
+mod buckets;
 mod cec;
 mod chunks;
 mod delay_list;

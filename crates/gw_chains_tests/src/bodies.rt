@@ -65,7 +65,7 @@ fn plain_chain_goes_by_time(rt: HostRuntime) -> Result<(), Fail> {
 }
 
 #[test]
-fn chain_in_chunks_goes_by_time(rt: HostRuntime) -> Result<(), Fail> {
+fn chain_in_buckets_goes_by_time(rt: HostRuntime) -> Result<(), Fail> {
     let answers = answers_to(rt.alloc(), Fec::new(rt.alloc()), &few_calls())?;
     let wanted = few_answers();
     assert!(rt; answers.as_slice() == wanted.as_slice());
@@ -107,9 +107,52 @@ fn many_leave_a_plain_chain_by_time(rt: HostRuntime) -> Result<(), Fail> {
 }
 
 #[test]
-fn many_leave_a_chain_in_chunks_by_time(rt: HostRuntime) -> Result<(), Fail> {
+fn many_leave_a_chain_in_buckets_by_time(rt: HostRuntime) -> Result<(), Fail> {
     let calls = calls_by_turns(rt.alloc(), 600)?;
     let answers = answers_to(rt.alloc(), Fec::new(rt.alloc()), calls.as_slice())?;
     assert!(rt; leave_by_turns(answers.as_slice()));
+    Ok(())
+}
+
+/// The calls by which 600 are scheduled, each for a time of its own, and then leave: number n for 7 n modulo 601.
+fn calls_at_many_times(alloc: Global) -> Result<Vec<EventCall>, Memory> {
+    let mut calls = Vec::new(alloc);
+    for number in 0..600u64 {
+        calls.push(schedule(number, (7 * number % 601) as i64))?;
+    }
+    for _ in 0..600u64 {
+        calls.push(EventCall::PopDue(600))?;
+    }
+    Ok(calls)
+}
+
+/// Whether the last 600 of these answers are that they left by their times: 86 t modulo 601 for the time t, since 7 times 86
+/// is 1 modulo 601, and nobody for the time 594, which would be that of number 600.
+fn leave_at_many_times(answers: &[Option<Tx>]) -> bool {
+    if answers.len() != 1200 {
+        return false;
+    }
+    for i in 0..600usize {
+        let time = if i < 594 { i as u64 } else { i as u64 + 1 };
+        if answers[600 + i] != Some(tx(86 * time % 601)) {
+            return false;
+        }
+    }
+    true
+}
+
+#[test]
+fn many_leave_a_plain_chain_at_many_times(rt: HostRuntime) -> Result<(), Fail> {
+    let calls = calls_at_many_times(rt.alloc())?;
+    let answers = answers_to(rt.alloc(), plain::Fec::new(rt.alloc()), calls.as_slice())?;
+    assert!(rt; leave_at_many_times(answers.as_slice()));
+    Ok(())
+}
+
+#[test]
+fn many_leave_a_chain_in_buckets_at_many_times(rt: HostRuntime) -> Result<(), Fail> {
+    let calls = calls_at_many_times(rt.alloc())?;
+    let answers = answers_to(rt.alloc(), Fec::new(rt.alloc()), calls.as_slice())?;
+    assert!(rt; leave_at_many_times(answers.as_slice()));
     Ok(())
 }

@@ -1,9 +1,13 @@
-use Rattle.std.proofs.Common.{rules, ◌∙◌, arith}
-use Rattle.std.proofs.lemmas.List.Sorted.{IsPartitionPoint-from_clause}
-use Rattle.gw_chains.proofs.Places.{insert-placed_behind}
+use Rattle.std.proofs.Common.{◌∙◌, ◌-◌, ap, arith, set}
+use Rattle.gw_chains.proofs.Newcoming.{newcomer-hosted, newcomer-unhosted}
 use Rattle.gw_chains.proofs.chunks.join.Goals as goal
 
-pub returns-clause-items : goal.returns-clause-items
-returns-clause-items g c =
+pub returns-in-Some-clause-items : goal.returns-in-Some-clause-items
+returns-in-Some-clause-items g c =
+    ap (set c.args.chunk.now.items (c.place_in-place.result - 1)) c.take_in.ensures
+    ∙ newcomer-hosted g.T.Placed.goes_first c.args.newcomer g.T.Placed.with_guest c.args.chunk.now.items c.place_in-place.result c.in-Some.host (c.in-Some.ensures.before) (omega (arith, c.args.chunk.now.ok.0, c.place_in-place.ensures.within)) c.place_in-place.ensures.place c.requires.last c.in-Some.ensures.host
+
+pub returns-in-None-clause-items : goal.returns-in-None-clause-items
+returns-in-None-clause-items g c =
     c.insert_reserved.ensures.items
-    ∙ insert-placed_behind (λ y. g.T.Placed.goes_first y c.args.newcomer) c.args.newcomer c.args.chunk.now.items c.partition_point-place.result (omega (arith, c.args.chunk.now.ok.0, c.partition_point-place.ensures.bound)) (IsPartitionPoint-from_clause (λ y. g.T.Placed.goes_first y c.args.newcomer) c.args.chunk.now.items c.partition_point-place.result c.partition_point-place.ensures.partitioned c.requires.order (λ a r q k. search rules))
+    ∙ newcomer-unhosted g.T.Placed.goes_first c.args.newcomer g.T.Placed.with_guest c.args.chunk.now.items c.place_in-place.result (omega (arith, c.args.chunk.now.ok.0, c.place_in-place.ensures.within)) c.place_in-place.ensures.place c.requires.last c.in-None.ensures.host

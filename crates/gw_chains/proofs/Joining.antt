@@ -1,0 +1,306 @@
+-- Events in buckets: a newcomer joins them.
+use Rattle.std.proofs.Common.{◌≡◌, ◌≢◌, ◌∙◌, ℕ, zero, suc, ◌+◌, ◌-◌, ◌^◌, ◌<◌, ◌≤◌, min, List, [], ◌∷◌, ◌++◌, Option, Some, None, IsSome, is_some, Bool, true, false, if◌then◌else◌, refl, sym, ap, subst, arith, append_assoc, inl, inr, get_or}
+use Rattle.std.proofs.lemmas.Bool.{cases_eq, cases_order}
+use Rattle.std.proofs.lemmas.Grind.{common_steps}
+use Rattle.std.proofs.lemmas.Int.{ints}
+use Rattle.std.specs.Prelude.{All, AllPairs, int_le, ◌<ℤ◌, ◌==◌}
+use Rattle.std.specs.List.{AllByRecursion}
+use Rattle.std.specs.List.Sorted.{IsPartitionedBy}
+use Rattle.gw_chains.specs.Chain.{placed_behind, in_time}
+use Rattle.gw_chains.specs.Chunks.{begins_in}
+use Rattle.gw_chains.specs.Newcomers.{host, with_newcomer, IsHostLast}
+use Rattle.gw_chains.specs.Buckets.{once, times, last_or, Links, run, links_of, event_at, events_at, events_of, total, alone, one_if_there, linked_to, linked_behind, IsBucket, AreBuckets}
+use Rattle.gw_chains.specs.declared.bucket.Bucket.{Bucket}
+use Rattle.gw_chains.specs.declared.bucket.Link.{Link}
+use Rattle.gw_chains.specs.declared.tx.Event.{Event}
+use Rattle.std.proofs.lemmas.List.Elements.{All-head, All-tail, All-cons, All-nil}
+use Rattle.gw_chains.proofs.Places.{pairs_cons, pairs_first, pairs_rest}
+use Rattle.gw_chains.proofs.Linking.{goes, unite, upto, once-same, once-other, times-append, last_in_run, Alike, run-same, links-same, events-same, events-append, buckets-same, bucket-same, was_other, run_alone, alone_is_bucket, run-longer, kept_events, placed_past, placed_first, all_upto, AreLed, led_back, led_front, begins_at, rest_fails, host_within_links}
+
+-- WHAT IS LINKED, AND WHAT ISN'T
+
+module _ (S : Links) (j : ℕ) where
+  linked_at : (b : Bucket) (k : ℕ) → k ≡ b.last → linked_behind (Some b) j S k ≡ linked_to j (S k)
+  linked_at b k same = grind (arith, common_steps)
+
+  linked_off : (b : Bucket) (k : ℕ) → k ≢ b.last → linked_behind (Some b) j S k ≡ S k
+  linked_off b k other = grind (arith, common_steps)
+
+  unlinked : (h : Option Bucket) (k : ℕ) → ((b : Bucket) → h ≡ Some b → k ≢ b.last) → linked_behind h j S k ≡ S k
+  unlinked None k other = refl
+  unlinked (Some b) k other = linked_off b k (other b refl)
+
+  same_event : (o : Option Link) → event_at (linked_to j o) ≡ event_at o
+  same_event None = refl
+  same_event (Some l) = refl
+
+  event_linked : (h : Option Bucket) (k : ℕ) → event_at (linked_behind h j S k) ≡ event_at (S k)
+  event_linked None k = refl
+  event_linked (Some b) k = elim (cases_eq k b.last) [
+    | inl same ↦ ap event_at (linked_at b k same) ∙ same_event (S k)
+    | inr other ↦ ap event_at (linked_off b k other)
+  ]
+
+  same_some : (o : Option Link) → is_some (linked_to j o) ≡ is_some o
+  same_some None = refl
+  same_some (Some l) = refl
+
+  some_linked : (h : Option Bucket) (k : ℕ) → is_some (linked_behind h j S k) ≡ is_some (S k)
+  some_linked None k = refl
+  some_linked (Some b) k = elim (cases_eq k b.last) [
+    | inl same ↦ ap is_some (linked_at b k same) ∙ same_some (S k)
+    | inr other ↦ ap is_some (linked_off b k other)
+  ]
+
+-- LISTS
+
+last_appended : (d x : ℕ) (xs : List ℕ) → last_or d (xs ++ x ∷ []) ≡ x
+last_appended d x [] = refl
+last_appended d x (y ∷ ys) = last_appended y x ys
+
+all_appended : {A : Type 0} (P : A → Type 0) (xs : List A) (x : A) → AllByRecursion P xs → P x → AllByRecursion P (xs ++ x ∷ [])
+all_appended P [] x all this = (this, tt)
+all_appended P (y ∷ ys) x all this = (all.0, all_appended P ys x all.1 this)
+
+-- THE NEWCOMER
+
+module _ (S T : Links) (e : Event) (j x : ℕ) (vacant : S j ≡ None) (there : T j ≡ Some (record { event = e; next = x })) where
+  -- what buckets are after the newcomer
+  pub record Joined (bs ws : List Bucket) : Type 0 where
+    pub events : events_of T ws ≡ in_time (λ (y : Event). y.time) e (events_of S bs)
+    pub links : (i : ℕ) → times i (links_of T ws) ≡ times i (links_of S bs) + once i j
+    pub each : AllByRecursion (IsBucket T) ws
+    pub many : total ws ≡ total bs + 1
+
+  -- the newcomer stands before all buckets
+  stands_first : (bs : List Bucket) → AreLed S (links_of S bs) → AllByRecursion (IsBucket S) bs → ((k : ℕ) → k ≢ j → T k ≡ S k) → begins_in (upto e) (events_of S bs) ≡ false → Joined bs (alone e j ∷ bs)
+  stands_first bs led each others fails =
+      let alike : Alike S T (links_of S bs) = λ k some. others k (was_other S T e j x vacant there k (led.leads k some)) in
+      let same = links-same S T bs alike in
+      let whole : links_of T (alone e j ∷ bs) ≡ j ∷ links_of S bs = ap (λ zs. zs ++ links_of T bs) (run_alone S T e j x vacant there) ∙ ap (λ zs. j ∷ zs) same in
+      record {
+        events =
+            ap (events_at T) whole
+            ∙ ap (λ o. event_at o ++ events_at T (links_of S bs)) there
+            ∙ ap (λ zs. e ∷ zs) (events-same S T (links_of S bs) (λ k some. ap event_at (alike k some)))
+            ∙ sym (placed_first (upto e) e (events_of S bs) fails);
+        links = λ i. omega (arith, ap (times i) whole);
+        each = (alone_is_bucket S T e j x vacant there, buckets-same S T bs alike each);
+        many = omega arith;
+      }
+
+  longer : (l n m k : ℕ) → 0 < n → m ≡ n + 1 → T l ≡ linked_to j (S l) → ((i : ℕ) → i ≢ j → i ≢ l → T i ≡ S i) → last_or k (run S n k) ≡ l → ((i : ℕ) → 0 < times i (run S n k) → IsSome (S i)) → times l (run S n k) ≤ 1 → run T m k ≡ run S n k ++ j ∷ []
+  longer l zero m k some one linked others last leads single = absurd (omega (arith, some))
+  longer l (suc n) m k some one linked others last leads single =
+      let two : suc (suc n) ≡ m = omega (arith, one) in
+      subst (λ i. run T i k ≡ run S (suc n) k ++ j ∷ []) two (run-longer S T e j x vacant there l n k linked others last leads single)
+
+  -- a bucket takes the newcomer in
+  taken_in : (b : Bucket) (bs : List Bucket) → AreLed S (links_of S (b ∷ bs)) → AllByRecursion (IsBucket S) (b ∷ bs) → All (λ (c : Bucket). b.time <ℤ c.time) bs → total (b ∷ bs) < 2 ^ 62 → int_le b.time e.time ≡ true → int_le e.time b.time ≡ true → ((k : ℕ) → k ≢ j → T k ≡ linked_behind (Some b) j S k) → Joined (b ∷ bs) (unite b (alone e j) ∷ bs)
+  taken_in b bs led each later few upto_e from_e linked =
+      let here = run S b.count b.first in
+      let back = links_of S bs in
+      let m = min (b.count + 1) (2 ^ 64 - 1) in
+      let more : m ≡ b.count + 1 = omega (arith, few) in
+      let led_here = led_front S here back led in
+      let led_later = led_back S here back led in
+      let within : 0 < times b.last here = last_in_run S b.count b.first b.last each.0.some each.0.last in
+      let not_new : b.last ≢ j = was_other S T e j x vacant there b.last (led_here.leads b.last within) in
+      let others : (i : ℕ) → i ≢ j → i ≢ b.last → T i ≡ S i = λ i old other. linked i old ∙ linked_off S j b i other in
+      let run_here : run T m b.first ≡ here ++ j ∷ [] =
+      longer b.last b.count m b.first each.0.some more (linked b.last not_new ∙ linked_at S j b b.last refl) others each.0.last led_here.leads (led_here.single b.last) in
+      let apart : (k : ℕ) → 0 < times k back → k ≢ b.last =
+      λ k some same. absurd (omega (arith, led.single b.last, times-append b.last here back, within, subst (λ i. 0 < times i back) same some)) in
+      let alike : Alike S T back = λ k some. others k (was_other S T e j x vacant there k (led_later.leads k some)) (apart k some) in
+      let whole : links_of T (unite b (alone e j) ∷ bs) ≡ (here ++ j ∷ []) ++ back = ap (λ zs. zs ++ links_of T bs) run_here ∙ ap (λ zs. (here ++ j ∷ []) ++ zs) (links-same S T bs alike) in
+      let kept = λ (k : ℕ) (old : k ≢ j). ap event_at (linked k old) ∙ event_linked S j (Some b) k in
+      let old = events_at S here in
+      let shown : events_at T (here ++ j ∷ []) ≡ old ++ e ∷ [] =
+      events-append T here (j ∷ []) ∙ ap (λ zs. zs ++ events_at T (j ∷ [])) (kept_events S T e j x vacant there here kept led_here.leads) ∙ ap (λ o. old ++ (event_at o ++ [])) there in
+      let fails = rest_fails S e b bs led_later each.1 later from_e in
+      record {
+        events =
+            ap (events_at T) whole
+            ∙ events-append T (here ++ j ∷ []) back
+            ∙ ap (λ zs. zs ++ events_at T back) shown
+            ∙ ap (λ zs. (old ++ e ∷ []) ++ zs) (kept_events S T e j x vacant there back kept led_later.leads)
+            ∙ append_assoc old (e ∷ []) (events_of S bs)
+            ∙ sym (
+            ap (placed_behind (upto e) e) (events-append S here back)
+            ∙ placed_past (upto e) e old (events_of S bs) (all_upto e b.time old upto_e each.0.alike)
+            ∙ ap (λ zs. old ++ zs) (placed_first (upto e) e (events_of S bs) fails)
+            );
+        links = λ i. omega (arith, ap (times i) whole, times-append i (here ++ j ∷ []) back, times-append i here (j ∷ []), times-append i here back);
+        each = (
+          record {
+            some = omega (arith, more);
+            last = ap (last_or b.first) run_here ∙ last_appended b.first j here;
+            alike = subst (AllByRecursion (λ (y : Event). y.time ≡ b.time)) (sym (ap (events_at T) run_here ∙ shown)) (all_appended (λ (y : Event). y.time ≡ b.time) old e each.0.alike (grind (arith, ints)));
+          },
+          buckets-same S T bs alike each.1,
+        );
+        many = omega (arith, more);
+      }
+
+  -- the newcomer goes past a bucket
+  goes_past : (b : Bucket) (bs ws : List Bucket) → AreLed S (links_of S (b ∷ bs)) → AllByRecursion (IsBucket S) (b ∷ bs) → int_le b.time e.time ≡ true → ((k : ℕ) → k ≢ j → T k ≡ linked_behind (host goes (alone e j) bs) j S k) → Joined bs ws → Joined (b ∷ bs) (b ∷ ws)
+  goes_past b bs ws led each upto_e linked joined =
+      let here = run S b.count b.first in
+      let back = links_of S bs in
+      let led_here = led_front S here back led in
+      let apart : (k : ℕ) → 0 < times k here → (c : Bucket) → host goes (alone e j) bs ≡ Some c → k ≢ c.last =
+      λ k some c found same.
+      absurd (omega (arith, led.single c.last, times-append c.last here back, host_within_links S (alone e j) bs c each.1 found, subst (λ i. 0 < times i here) same some)) in
+      let alike : Alike S T here =
+      λ k some.
+      linked k (was_other S T e j x vacant there k (led_here.leads k some))
+      ∙ unlinked S j (host goes (alone e j) bs) k (apart k some) in
+      let same = run-same S T b.count b.first alike in
+      let old = events_at S here in
+      record {
+        events =
+            ap (λ zs. events_at T (zs ++ links_of T ws)) same
+            ∙ events-append T here (links_of T ws)
+            ∙ ap (λ zs. zs ++ events_of T ws) (events-same S T here (λ k some. ap event_at (alike k some)))
+            ∙ ap (λ zs. old ++ zs) joined.events
+            ∙ sym (placed_past (upto e) e old (events_of S bs) (all_upto e b.time old upto_e each.0.alike))
+            ∙ ap (placed_behind (upto e) e) (sym (events-append S here back));
+        links = λ i. omega (arith, ap (λ zs. times i (zs ++ links_of T ws)) same, times-append i here (links_of T ws), times-append i here back, joined.links i);
+        each = (bucket-same S T b alike each.0, joined.each);
+        many = omega (arith, joined.many);
+      }
+
+  later_than : (b : Bucket) (bs : List Bucket) → AllPairs (λ (a b : Bucket). a.time <ℤ b.time) (b ∷ bs) → All (λ (c : Bucket). b.time <ℤ c.time) bs
+  later_than b bs order = λ k d below. order 0 (suc k) d (omega arith) (omega arith)
+
+  pub joined : (bs : List Bucket) → AreLed S (links_of S bs) → AllByRecursion (IsBucket S) bs → AllPairs (λ (a b : Bucket). a.time <ℤ b.time) bs → total bs < 2 ^ 62 → ((k : ℕ) → k ≢ j → T k ≡ linked_behind (host goes (alone e j) bs) j S k) → Joined bs (with_newcomer goes unite (alone e j) bs)
+  joined [] led each order few linked = stands_first [] led each linked refl
+  joined (b ∷ bs) led each order few linked =
+      by_test (int_le b.time e.time) (int_le e.time b.time) refl refl linked
+      (λ here. joined bs (led_back S (run S b.count b.first) (links_of S bs) led) each.1 (λ i k d lt below. order (suc i) (suc k) d (omega arith) (omega arith)) (omega (arith, few)) here)
+    where
+      by_test : (p q : Bool) → int_le b.time e.time ≡ p → int_le e.time b.time ≡ q → ((k : ℕ) → k ≢ j → T k ≡ linked_behind (if p then (if q then Some b else host goes (alone e j) bs) else None) j S k) → (((k : ℕ) → k ≢ j → T k ≡ linked_behind (host goes (alone e j) bs) j S k) → Joined bs (with_newcomer goes unite (alone e j) bs)) → Joined (b ∷ bs) (if p then (if q then unite b (alone e j) ∷ bs else b ∷ with_newcomer goes unite (alone e j) bs) else alone e j ∷ b ∷ bs)
+      by_test true true upto_e from_e link rest = taken_in b bs led each (later_than b bs order) few upto_e from_e link
+      by_test true false upto_e from_e link rest = goes_past b bs (with_newcomer goes unite (alone e j) bs) led each upto_e link (rest link)
+      by_test false q upto_e from_e link rest = stands_first (b ∷ bs) led each link (begins_at S (λ t. int_le t e.time) b.count b.first b.time (links_of S bs) each.0.some (led_front S (run S b.count b.first) (links_of S bs) led).leads each.0.alike ∙ upto_e)
+
+-- THE ORDER OF BUCKETS
+
+abbrev pub Before : Bucket → Bucket → Type 0
+Before a b = a.time <ℤ b.time
+
+pub parted_by_time : (n : Bucket) (bs : List Bucket) → AllPairs Before bs → IsPartitionedBy (λ y. goes y n) bs
+parted_by_time n bs order i j d le within passes =
+    elim (cases_order i j) [
+      | inl same ↦ subst (λ m. goes (get_or bs m d) n ≡ true) (sym same) passes
+      | inr (inl under) ↦ falls (get_or bs i d) (get_or bs j d) (order i j d under within) passes
+      | inr (inr over) ↦ absurd (omega arith)
+    ]
+  where
+    falls : (a b : Bucket) → Before a b → goes b n ≡ true → goes a n ≡ true
+    falls a b under passes = grind (arith, ints)
+
+pub host_is_last : (n : Bucket) (bs : List Bucket) → AllPairs Before bs → IsHostLast goes n bs
+host_is_last n bs order i j d lt within passes = falls (get_or bs i d) (get_or bs j d) (order i j d lt within) passes
+  where
+    falls : (a b : Bucket) → Before a b → goes b n ≡ true → goes n a ≡ false
+    falls a b under passes = grind (arith, ints)
+
+all_with : (a n : Bucket) (bs : List Bucket) → Before a n → All (Before a) bs → All (Before a) (with_newcomer goes unite n bs)
+all_with a n [] this all = All-cons (Before a) n [] this all
+all_with a n (b ∷ bs) this all = by_test (goes b n) (goes n b) (all_with a n bs this (All-tail (Before a) b bs all))
+  where
+    here : Before a b
+    here = All-head (Before a) b bs all
+
+    by_test : (p q : Bool) → All (Before a) (with_newcomer goes unite n bs) → All (Before a) (if p then (if q then unite b n ∷ bs else b ∷ with_newcomer goes unite n bs) else n ∷ b ∷ bs)
+    by_test true true later = All-cons (Before a) (unite b n) bs here (All-tail (Before a) b bs all)
+    by_test true false later = All-cons (Before a) b (with_newcomer goes unite n bs) here later
+    by_test false q later = All-cons (Before a) n (b ∷ bs) this all
+
+order_with : (n : Bucket) (bs : List Bucket) → AllPairs Before bs → AllPairs Before (with_newcomer goes unite n bs)
+order_with n [] order = pairs_cons Before n [] (All-nil (Before n)) order
+order_with n (b ∷ bs) order = by_test (goes b n) (goes n b) refl refl (order_with n bs (pairs_rest Before b bs order))
+  where
+    above : (a b c : Bucket) → Before a b → Before b c → Before a c
+    above a b c one other = grind (arith, ints)
+
+    ahead : goes b n ≡ true → goes n b ≡ false → Before b n
+    ahead one other = grind (arith, ints)
+
+    behind : goes b n ≡ false → Before n b
+    behind fails = grind (arith, ints)
+
+    by_test : (p q : Bool) → goes b n ≡ p → goes n b ≡ q → AllPairs Before (with_newcomer goes unite n bs) → AllPairs Before (if p then (if q then unite b n ∷ bs else b ∷ with_newcomer goes unite n bs) else n ∷ b ∷ bs)
+    by_test true true upto_n from_n later = pairs_cons Before (unite b n) bs (pairs_first Before b bs order) (pairs_rest Before b bs order)
+    by_test true false upto_n from_n later = pairs_cons Before b (with_newcomer goes unite n bs) (all_with b n bs (ahead upto_n from_n) (pairs_first Before b bs order)) later
+    by_test false q upto_n from_n later =
+        pairs_cons Before n (b ∷ bs) (All-cons (Before n) b bs (behind upto_n) (λ k d below. above n b (get_or bs k d) (behind upto_n) (pairs_first Before b bs order k d below))) order
+
+-- ALL THAT IS KNOWN OF BUCKETS
+
+abbrev one_if : Bool → ℕ
+one_if b = if b then 1 else 0
+
+leads_somewhere : (o : Option Link) (t : ℕ) → t ≡ one_if_there o → 0 < t → IsSome o
+leads_somewhere None t is some = absurd (omega (arith, is, some))
+leads_somewhere (Some l) t is some = refl
+
+at_most_once : (o : Option Link) (t : ℕ) → t ≡ one_if_there o → t ≤ 1
+at_most_once None t is = omega (arith, is)
+at_most_once (Some l) t is = omega (arith, is)
+
+pub led_of : (S : Links) (bs : List Bucket) → AreBuckets S bs → AreLed S (links_of S bs)
+led_of S bs are = record {
+  leads = λ i some. leads_somewhere (S i) (times i (links_of S bs)) (are.owned i) some;
+  single = λ i. at_most_once (S i) (times i (links_of S bs)) (are.owned i);
+}
+
+-- the last link of a host leads somewhere
+pub host_leads : (S : Links) (n : Bucket) (bs : List Bucket) (h : Bucket) → AreBuckets S bs → host goes n bs ≡ Some h → IsSome (S h.last)
+host_leads S n bs h are is = (led_of S bs are).leads h.last (host_within_links S n bs h are.each is)
+
+-- what becomes of buckets that an event joins
+pub record Inserted (S T : Links) (e : Event) (bs ws : List Bucket) : Type 0 where
+  pub events : events_of T ws ≡ in_time (λ (y : Event). y.time) e (events_of S bs)
+  pub buckets : AreBuckets T ws
+  pub many : total ws ≡ total bs + 1
+
+module _ (S S1 T : Links) (e : Event) (j x : ℕ) (vacant : S j ≡ None) (here : S1 j ≡ Some (record { event = e; next = x })) (same : (k : ℕ) → k ≢ j → S1 k ≡ S k) where
+  linked_alike : (h : Option Bucket) (k : ℕ) → k ≢ j → linked_behind h j S1 k ≡ linked_behind h j S k
+  linked_alike None k other = same k other
+  linked_alike (Some b) k other = ap (λ o. if k == b.last then linked_to j o else o) (same k other)
+
+  pub inserted : (bs : List Bucket) → AreBuckets S bs → total bs < 2 ^ 62 → ((k : ℕ) → T k ≡ linked_behind (host goes (alone e j) bs) j S1 k) → Inserted S T e bs (with_newcomer goes unite (alone e j) bs)
+  inserted bs are few linked =
+      let led = led_of S bs are in
+      let there : T j ≡ Some (record { event = e; next = x }) =
+      linked j
+      ∙ unlinked S1 j (host goes (alone e j) bs) j (λ b found clash. vacant_last b (host_leads S (alone e j) bs b are found) clash)
+      ∙ here in
+      let after = λ (k : ℕ) (other : k ≢ j). linked k ∙ linked_alike (host goes (alone e j) bs) k other in
+      let done = joined S T e j x vacant there bs led are.each are.order few after in
+      record {
+        events = done.events;
+        buckets = record {
+          order = order_with (alone e j) bs are.order;
+          each = done.each;
+          owned = λ i. elim (cases_eq i j) [
+            | inl is ↦
+                let none : times i (links_of S bs) ≡ 0 = are.owned i ∙ ap one_if_there (ap S is ∙ vacant) in
+                let one : one_if_there (T i) ≡ 1 = ap one_if_there (ap T is ∙ there) in
+                omega (arith, done.links i, none, one, once-same i j (sym is))
+            | inr other ↦
+                let as_before : one_if_there (T i) ≡ one_if_there (S i) = ap (λ b. one_if b) (ap is_some (after i other) ∙ some_linked S j (host goes (alone e j) bs) i) in
+                omega (arith, done.links i, are.owned i, as_before, once-other i j (λ clash. other (sym clash)))
+          ];
+        };
+        many = done.many;
+      }
+    where
+      none : (o : Option Link) → IsSome o → o ≡ None → ⊥
+      none None is e = cc
+      none (Some l) is e = cc
+
+      vacant_last : (b : Bucket) → IsSome (S b.last) → j ≡ b.last → ⊥
+      vacant_last b some clash = none (S b.last) some (ap S (sym clash) ∙ vacant)

@@ -1,0 +1,212 @@
+//! Events in buckets: all of one time stand in one bucket, each linked to the next. The buckets lie in chunks, and the links
+//! in a slab.
+
+ghost use Rattle.std.specs.Prelude.{◌≡◌, ◌≤◌, ◌<◌, ◌+◌, ◌-◌, ◌^◌, ℕ, [], ◌++◌, All, Some, IfSome, IfNone, option_copied, option_to_list, option_map, length, true, false, OnOk, OnErr};
+ghost use Rattle.std.specs.VecDeque.{deque_len, deque_capacity};
+ghost use Rattle.std.specs.VecDeque.Iter.{deque_iter_rest};
+ghost use Rattle.slab.specs.Slab.{get, slab_len, ContainsKey, HasRoomFor};
+ghost use Rattle.gw_chains.specs.Chain.{in_time, first, rest};
+ghost use Rattle.gw_chains.specs.Chunks.{all_of, rest_of, IsChunk, IsSpare};
+ghost use Rattle.gw_chains.specs.Buckets.{run, events_at, events_of, total, alone, linked_behind, without_first_link, AreBuckets};
+
+use crate::bucket::{Bucket, Link};
+use crate::chunks::{front, insert, pop_first, set_front};
+use crate::{Event, Memory};
+use slab::Slab;
+use std::collections::{VecDeque, vec_deque};
+
+/// Links another behind the last of a bucket, if there is one.
+fn link_behind(links: &mut Slab<Link>, host: Option<Bucket>, next: usize)
+    requires { IfSome host (λ b. ContainsKey links.old b.last) }
+    ensures links { (k : ℕ) → get links.new k ≡ linked_behind host next (get links.old) k }
+    ensures room { (slab_len links.new ≡ slab_len links.old) × (links.new.capacity ≡ links.old.capacity) }
+{
+    if let Some(bucket) = host {
+        links[bucket.last].next = next;
+    }
+}
+
+/// The bucket of an event alone, whose link is this one.
+fn alone(event: Event, link: usize) -> Bucket
+    ensures { result ≡ alone event link }
+{
+    Bucket {
+        time: event.time,
+        first: link,
+        last: link,
+        count: 1,
+    }
+}
+
+/// Puts an event behind all that are scheduled for its time or earlier. There is room.
+pub(crate) fn insert_event(
+    chunks: &mut VecDeque<VecDeque<Bucket>>,
+    spare: &mut Vec<VecDeque<Bucket>>,
+    links: &mut Slab<Link>,
+    event: Event,
+)
+    requires buckets { AreBuckets (get links.old) (all_of chunks.old.items) }
+    requires few { total (all_of chunks.old.items) < 2 ^ 62 }
+    requires chunks { All IsChunk chunks.old.items }
+    requires room { deque_len chunks.old < deque_capacity chunks.old }
+    requires spare { (0 < length spare.old.items) × All IsSpare spare.old.items }
+    requires links { HasRoomFor links.old 1 }
+    ensures events { events_of (get links.new) (all_of chunks.new.items) ≡ in_time (λ e. e.time) event (events_of (get links.old) (all_of chunks.old.items)) }
+    ensures buckets { AreBuckets (get links.new) (all_of chunks.new.items) }
+    ensures total { total (all_of chunks.new.items) ≡ total (all_of chunks.old.items) + 1 }
+    ensures chunks { All IsChunk chunks.new.items }
+    ensures spare { All IsSpare spare.new.items }
+    ensures room { deque_capacity chunks.old - deque_len chunks.old ≤ deque_capacity chunks.new - deque_len chunks.new + 1 }
+    ensures left { length spare.old.items ≤ length spare.new.items + 1 }
+    ensures links { (slab_len links.new ≡ slab_len links.old + 1) × (links.new.capacity ≡ links.old.capacity) }
+{
+    let link = links.insert_reserved(Link { event, next: 0 });
+    let host = insert(chunks, spare, alone(event, link));
+    link_behind(links, host, link);
+}
+
+/// Makes room for the links of so many more events.
+pub(crate) fn reserve_links(links: &mut Slab<Link>, more: usize) -> Result<(), Memory>
+    ensures slots { links.new.slots ≡ links.old.slots }
+    ensures room { OnOk result (more ≤ links.new.capacity - slab_len links.new) }
+    ensures kept { links.old.capacity ≤ links.new.capacity }
+    ensures refused { OnErr result (links.old.capacity - slab_len links.old < more) }
+{
+    if more == 0 {
+        return Ok(());
+    }
+    links.reserve(more)
+}
+
+/// The time of the first event, in clock units, if there is one.
+pub(crate) fn first_time(chunks: &VecDeque<VecDeque<Bucket>>) -> Option<i64>
+    requires { All IsChunk chunks.now.items }
+    ensures { result ≡ option_map (λ b. b.time) (first (all_of chunks.now.items)) }
+{
+    let bucket = front(chunks)?;
+    Some(bucket.time)
+}
+
+/// The first bucket, which is this one, loses its first link, behind which `next` is.
+fn shorten(
+    chunks: &mut VecDeque<VecDeque<Bucket>>,
+    spare: &mut Vec<VecDeque<Bucket>>,
+    bucket: Bucket,
+    next: usize,
+)
+    requires first { Some bucket ≡ first (all_of chunks.old.items) }
+    requires chunks { All IsChunk chunks.old.items }
+    requires spare { All IsSpare spare.old.items }
+    ensures items { all_of chunks.new.items ≡ without_first_link next (all_of chunks.old.items) }
+    ensures chunks { All IsChunk chunks.new.items }
+    ensures spare { All IsSpare spare.new.items }
+    ensures room { deque_capacity chunks.old - deque_len chunks.old ≤ deque_capacity chunks.new - deque_len chunks.new }
+    ensures kept { length spare.old.items ≤ length spare.new.items }
+{
+    if 1 < bucket.count {
+        let shorter = Bucket {
+            first: next,
+            count: bucket.count - 1,
+            ..bucket
+        };
+        set_front(chunks, shorter);
+    } else {
+        let _ = pop_first(chunks, spare);
+    }
+}
+
+/// Takes the first event, if there is one.
+pub(crate) fn pop_event(
+    chunks: &mut VecDeque<VecDeque<Bucket>>,
+    spare: &mut Vec<VecDeque<Bucket>>,
+    links: &mut Slab<Link>,
+) -> Option<Event>
+    requires buckets { AreBuckets (get links.old) (all_of chunks.old.items) }
+    requires chunks { All IsChunk chunks.old.items }
+    requires spare { All IsSpare spare.old.items }
+    ensures first { result ≡ first (events_of (get links.old) (all_of chunks.old.items)) }
+    ensures rest { events_of (get links.new) (all_of chunks.new.items) ≡ rest (events_of (get links.old) (all_of chunks.old.items)) }
+    ensures buckets { AreBuckets (get links.new) (all_of chunks.new.items) }
+    ensures total { total (all_of chunks.new.items) + length (option_to_list result) ≡ total (all_of chunks.old.items) }
+    ensures chunks { All IsChunk chunks.new.items }
+    ensures spare { All IsSpare spare.new.items }
+    ensures room { deque_capacity chunks.old - deque_len chunks.old ≤ deque_capacity chunks.new - deque_len chunks.new }
+    ensures kept { length spare.old.items ≤ length spare.new.items }
+    ensures links { (slab_len links.new ≤ slab_len links.old) × (links.new.capacity ≡ links.old.capacity) }
+{
+    let bucket = *front(chunks)?;
+    let link = links.remove(bucket.first);
+    shorten(chunks, spare, bucket, link.next);
+    Some(link.event)
+}
+
+/// The next of so many events, each linked to the next, if one is left.
+pub(crate) fn next_event<'a>(
+    links: &'a Slab<Link>,
+    left: &mut usize,
+    at: &mut usize,
+) -> Option<&'a Event>
+    ensures events { events_at (get links.now) (run (get links.now) left.old at.old)
+        ≡ option_to_list (option_copied result) ++ events_at (get links.now) (run (get links.now) left.new at.new) }
+    ensures end { IfNone result (left.new ≡ 0) }
+{
+    if *left == 0 {
+        return None;
+    }
+    match links.get(*at) {
+        Some(link) => {
+            *left -= 1;
+            *at = link.next;
+            Some(&link.event)
+        }
+        None => {
+            *left = 0;
+            None
+        }
+    }
+}
+
+/// The next bucket of a chunk that was begun, if there is one.
+fn next_of<'a>(chunk: &mut Option<vec_deque::Iter<'a, Bucket>>) -> Option<&'a Bucket>
+    ensures items { rest_of chunk.old ≡ option_to_list (option_copied result) ++ rest_of chunk.new }
+    ensures end { IfNone result (rest_of chunk.old ≡ []) }
+{
+    chunk.as_mut()?.next()
+}
+
+/// Begins the next chunk, if there is one.
+fn begin_next<'a>(
+    chunk: &mut Option<vec_deque::Iter<'a, Bucket>>,
+    chunks: &mut vec_deque::Iter<'a, VecDeque<Bucket>>,
+) -> bool
+    ensures begun { result ≡ true → all_of (deque_iter_rest chunks.old) ≡ rest_of chunk.new ++ all_of (deque_iter_rest chunks.new) }
+    ensures fewer { result ≡ true → length (deque_iter_rest chunks.old) ≡ length (deque_iter_rest chunks.new) + 1 }
+    ensures end { result ≡ false → (all_of (deque_iter_rest chunks.old) ≡ []) × (rest_of chunk.new ≡ rest_of chunk.old) × (deque_iter_rest chunks.new ≡ []) }
+{
+    match chunks.next() {
+        Some(next) => {
+            *chunk = Some(next.iter());
+            true
+        }
+        None => false,
+    }
+}
+
+/// The next bucket, in the chunk that was begun or in the next, if there is one.
+pub(crate) fn next_bucket<'a>(
+    chunk: &mut Option<vec_deque::Iter<'a, Bucket>>,
+    chunks: &mut vec_deque::Iter<'a, VecDeque<Bucket>>,
+) -> Option<&'a Bucket>
+    ensures items { rest_of chunk.old ++ all_of (deque_iter_rest chunks.old)
+        ≡ option_to_list (option_copied result) ++ (rest_of chunk.new ++ all_of (deque_iter_rest chunks.new)) }
+    ensures end { IfNone result (rest_of chunk.old ++ all_of (deque_iter_rest chunks.old) ≡ []) }
+{
+    loop {
+        if let Some(bucket) = next_of(chunk) {
+            return Some(bucket);
+        }
+        if !begin_next(chunk, chunks) {
+            return None;
+        }
+    }
+}
