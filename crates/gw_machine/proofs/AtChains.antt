@@ -17,7 +17,7 @@ use Rattle.gw_num.specs.Table.{at, put}
 use Rattle.gw_num.proofs.Tables.{put-at}
 use Rattle.gw_transactions.specs.declared.Transaction.{Transaction}
 use Rattle.gw_transactions.specs.Transactions.{LiveTransaction, Population, attributes_at, put_attributes, put_chain, Holds, IsSound}
-use Rattle.gw_machine.specs.declared.machine.Machine.{Machine}
+use Rattle.gw_machine.specs.Configuration.{Configuration}
 use Rattle.gw_step.specs.State.{State, priority_of, user_chain}
 use Rattle.gw_step.specs.Changes.{linked, joins_chain, leaves_chain}
 use Rattle.gw_step.specs.Blocks.{first_unlinked, unlinked}
@@ -36,11 +36,11 @@ use Rattle.gw_machine.proofs.AtSets.{priority-found}
 -- WHAT IS KEPT
 
 -- a machine with another active transaction, with transactions, a current events chain and user chains that are others
-abbrev pub with_others : Machine → Option Tx → Population → Chain Member → chain_lists.Linked → Machine
-with_others m active q cs us = record m { active = active; transactions = q; current_events = cs; chains = us }
+abbrev pub with_others : Configuration → Option Tx → Population → Chain Member → chain_lists.Linked → Configuration
+with_others m active q cs us = record m { active = active; transactions = q; last = q.last; current_events = cs; chains = us }
 
 -- where each handle of those is held, and the others are carried
-linked-others : (m : Machine) (active : Option Tx) (q : Population) (cs : Chain Member) (us : chain_lists.Linked) → Linked m → Carries Every m.transactions q → IsSound q → IfSome active (Holds q) → AllByRecursion (IsRanked q) cs.items
+linked-others : (m : Configuration) (active : Option Tx) (q : Population) (cs : Chain Member) (us : chain_lists.Linked) → Linked m → Carries Every m.transactions q → IsSound q → IfSome active (Holds q) → AllByRecursion (IsRanked q) cs.items
     → ((c : ℕ) → c < length m.facilities.facilities → AllByRecursion (Holds q) (at [] us.lists c)) → length us.lists ≡ length m.chains.lists → ResidesOnce (state_of (with_others m active q cs us)) → Linked (with_others m active q cs us)
 linked-others m active q cs us l c sound is_active ranked held as_many_chains resides =
     let p = m.transactions in
@@ -57,16 +57,15 @@ linked-others m active q cs us l c sound is_active ranked held as_many_chains re
       chained = as_many_chains ∙ l.chained;
       sound = sound;
       blocks = c.blocks l.blocks;
-      last = c.last ∙ l.last;
       resides = resides;
       timed = timed-kept m (with_others m active q cs us) refl refl refl refl l.timed;
     }
 
 -- other rooms of the user chains leave a machine as it was
-pub state-roomed : (m : Machine) (us : chain_lists.Linked) → us.lists ≡ m.chains.lists → state_of (record m { chains = us }) ≡ state_of m
+pub state-roomed : (m : Configuration) (us : chain_lists.Linked) → us.lists ≡ m.chains.lists → state_of (record m { chains = us }) ≡ state_of m
 state-roomed m us lists = ap (λ (xs : List (List Tx)). record (state_of m) { lists = record (lists_of m) { user_chains = map (map handle_number) xs } }) lists
 
-pub linked-roomed : (m : Machine) → Linked m → (us : chain_lists.Linked) → us.lists ≡ m.chains.lists → Linked (record m { chains = us })
+pub linked-roomed : (m : Configuration) → Linked m → (us : chain_lists.Linked) → us.lists ≡ m.chains.lists → Linked (record m { chains = us })
 linked-roomed m l us lists = record {
   active = l.active;
   current_events = l.current_events;
@@ -79,7 +78,6 @@ linked-roomed m l us lists = record {
   chained = rw lists l.chained;
   sound = l.sound;
   blocks = l.blocks;
-  last = l.last;
   resides = subst ResidesOnce (sym (state-roomed m us lists)) l.resides;
   timed = timed-kept m (record m { chains = us }) refl refl refl refl l.timed;
 }
@@ -102,7 +100,7 @@ all-joined P Fifo tx (x ∷ xs) p h = (h.0, all-joined P Fifo tx xs p h.1)
 all-joined P Lifo tx xs p h = (p, h)
 
 -- the active transaction joins a user chain
-module _ (m : Machine) (tx : Tx) (link : Link) (order : LinkOrder) (is : link.order ≡ order) (r : CanRest m tx) (there : link.chain < length m.facilities.facilities)
+module _ (m : Configuration) (tx : Tx) (link : Link) (order : LinkOrder) (is : link.order ≡ order) (l : Linked m) (r : CanRest m tx) (there : link.chain < length m.facilities.facilities)
     (q : Population) (ts : q.txs ≡ put_chain tx.number (Some link.chain) m.transactions.txs) (ps : q.places ≡ m.transactions.places) (ls : q.last ≡ m.transactions.last) (sound : IsSound q)
     (us : chain_lists.Linked) (changes : us.lists ≡ changed link.chain (joined_at order tx) m.chains.lists) where
   pub state-joins : state_of (with_others m None q m.current_events us) ≡ joins_chain tx.number link (state_of m)
@@ -115,7 +113,6 @@ module _ (m : Machine) (tx : Tx) (link : Link) (order : LinkOrder) (is : link.or
 
   pub linked-joins : Linked (with_others m None q m.current_events us)
   linked-joins =
-      let l = r.linked in
       let p = m.transactions in
       let c = carries-chain p q tx.number (Some link.chain) ts ps ls in
       let carried = λ (xs : List Tx). handles_carried Every p q c xs (every handle_number xs) in
@@ -148,7 +145,7 @@ none-first : (xs : List Tx) → first xs ≡ None → xs ≡ []
 none-first [] is = refl
 none-first (x ∷ xs) is = absurd cc
 
-module _ (m : Machine) (l : Linked m) (c target : ℕ) (there : c < length m.facilities.facilities) where
+module _ (m : Configuration) (l : Linked m) (c target : ℕ) (there : c < length m.facilities.facilities) where
   -- nobody is there to leave
   module _ (us : chain_lists.Linked) (changes : us.lists ≡ changed c rest m.chains.lists) (none : first (at [] m.chains.lists c) ≡ None) where
     pub lists-empty : us.lists ≡ m.chains.lists

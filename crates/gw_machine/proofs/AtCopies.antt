@@ -13,7 +13,7 @@ use Rattle.gw_chains.specs.declared.assemblies.Assembly.{Assembly as HeldAssembl
 use Rattle.gw_transactions.specs.declared.Transaction.{Transaction}
 use Rattle.gw_transactions.specs.Parameters.{no_parameters}
 use Rattle.gw_transactions.specs.Transactions.{LiveTransaction, made_with, with_attributes, put_attributes, attributes_at, Population, Holds, IsSound}
-use Rattle.gw_machine.specs.declared.machine.Machine.{Machine}
+use Rattle.gw_machine.specs.Configuration.{Configuration}
 use Rattle.gw_step.specs.State.{FutureEvent, Assembly, State, priority_of, priority_in}
 use Rattle.gw_step.specs.Times.{parameters_of}
 use Rattle.gw_step.specs.Residence.{ResidesOnce, occurrences}
@@ -32,7 +32,7 @@ number_of x = x.tx.number
 
 -- A COPY
 
-module _ (m : Machine) (l : Linked m) (n : ℕ) (t : Transaction) (block : t.current ≤ 4096) (target : ℕ) (tx : Tx) (q : Population)
+module _ (m : Configuration) (l : Linked m) (n : ℕ) (t : Transaction) (block : t.current ≤ 4096) (target : ℕ) (tx : Tx) (q : Population)
     (ts : q.txs ≡ with_copy n t target (state_of m)) (ps : q.places ≡ put None m.transactions.places (length m.transactions.txs) (Some tx.place)) (ls : q.last ≡ m.transactions.last) (ns : tx.number ≡ length m.transactions.txs)
     (cs : List Member) (joined : cs ≡ behind (λ (x : Member). x.priority) (record { tx = tx; priority = t.priority }) m.current_events.items) where
   abbrev newcomer : Member
@@ -60,7 +60,7 @@ module _ (m : Machine) (l : Linked m) (n : ℕ) (t : Transaction) (block : t.cur
       ∙ ap (λ k. behind (priority_of q.txs) k (map member_number m.current_events.items)) ns)
       ∙ ap (λ (xs : List (Option LiveTransaction)). record (state_of m) { transactions = xs; lists = record (lists_of m) { current_events = behind (priority_of xs) (length m.transactions.txs) (map member_number m.current_events.items) } }) ts
 
-  pub linked-copied : (new : Machine) → new.transactions ≡ q → IsSound q → new.active ≡ m.active → new.current_events.items ≡ cs → new.future_events.items ≡ m.future_events.items → Keeps m new → state_of new ≡ copied n t target (state_of m) → Linked new
+  pub linked-copied : (new : Configuration) → new.transactions ≡ q → IsSound q → new.active ≡ m.active → new.current_events.items ≡ cs → new.future_events.items ≡ m.future_events.items → Keeps m new → state_of new ≡ copied n t target (state_of m) → Linked new
   linked-copied new is_q sound a c fs k is =
       let p = m.transactions in
       record {
@@ -75,7 +75,6 @@ module _ (m : Machine) (l : Linked m) (n : ℕ) (t : Transaction) (block : t.cur
         chained = rw (k.chains, k.facilities) l.chained;
         sound = rw is_q sound;
         blocks = rw is_q (carries.blocks l.blocks);
-        last = rw is_q (carries.last ∙ l.last);
         resides = subst ResidesOnce (sym is) (resides-copied n t target (state_of m) l.resides);
         timed = timed-kept m new k.facilities k.storages k.queues k.clock l.timed;
       }
@@ -121,7 +120,7 @@ popped-length (y ∷ ys) last = ap suc (popped-length ys last)
 -- ANOTHER PRIORITY
 
 -- the active transaction, which is on no chain, enters with another priority
-pub linked-ranked : (m new : Machine) (tx : Tx) (t : Transaction) (next : ℕ)
+pub linked-ranked : (m new : Configuration) (tx : Tx) (t : Transaction) (next : ℕ)
     → new.transactions.txs ≡ put_attributes tx.number (record t { current = t.next; next = next }) m.transactions.txs → new.transactions.places ≡ m.transactions.places → new.transactions.last ≡ m.transactions.last → IsSound new.transactions
     → m.active ≡ Some tx → Holds m.transactions tx → new.active ≡ m.active → new.current_events.items ≡ m.current_events.items → new.future_events.items ≡ m.future_events.items → Keeps m new
     → state_of new ≡ entered tx.number t next (state_of m) → t.next ≤ 4096 → Linked m → Linked new
@@ -151,7 +150,6 @@ linked-ranked m new tx t next ts ps ls sound is_active held a cs fs k is block l
       chained = rw (k.chains, k.facilities) l.chained;
       sound = sound;
       blocks = c.blocks l.blocks;
-      last = c.last ∙ l.last;
       resides = subst ResidesOnce (sym is) (resides-entered n t next (state_of m) l.resides);
       timed = timed-kept m new k.facilities k.storages k.queues k.clock l.timed;
     }

@@ -10,12 +10,12 @@ use Rattle.gw_chains.specs.Chain.{placed_behind}
 use Rattle.gw_chains.specs.declared.tx.Tx.{Tx}
 use Rattle.gw_chains.specs.declared.tx.Member.{Member}
 use Rattle.gw_chains.specs.declared.assemblies.Assembly.{Assembly as HeldAssembly}
-use Rattle.gw_machine.specs.declared.machine.Machine.{Machine}
+use Rattle.gw_machine.specs.Configuration.{Configuration}
 use Rattle.gw_step.specs.declared.placement.Assembling.{Assembling}
-use Rattle.gw_step.specs.State.{State, Assembly, priority_of, without}
+use Rattle.gw_step.specs.State.{State, Assembly, FutureEvent, priority_of, without}
 use Rattle.gw_step.specs.Residence.{ResidesOnce, occurrences, occurrences_in}
-use Rattle.gw_step.specs.Changes.{awaits_set}
-use Rattle.gw_machine.specs.View.{state_of, lists_of, member_number, assembly_of}
+use Rattle.gw_step.specs.Changes.{awaits_set, numbers}
+use Rattle.gw_machine.specs.View.{state_of, lists_of, event_of, member_number, assembly_of}
 use Rattle.gw_machine.specs.Coherence.{Linked, IsRanked, IsHeldBy, CanRest}
 use Rattle.gw_step.proofs.Lists.{all_placed, all_map, map-placed}
 use Rattle.gw_step.proofs.Residence.{one_if, at_most_one, same_number, other_number, occurrences-without, resides-awaits}
@@ -26,7 +26,7 @@ use Rattle.gw_machine.proofs.Due.{agree}
 -- OTHER MEMBERS
 
 -- other members of the current events chain, and other assemblies, each of whose handles is held
-pub linked-members : (m new : Machine) → new.transactions ≡ m.transactions → IfSome new.active (Holds m.transactions) → AllByRecursion (IsRanked m.transactions) new.current_events.items → new.future_events ≡ m.future_events → new.waits ≡ m.waits → AllByRecursion (IsHeldBy m.transactions) new.assemblies.items → new.chains ≡ m.chains
+pub linked-members : (m new : Configuration) → new.transactions ≡ m.transactions → IfSome new.active (Holds m.transactions) → AllByRecursion (IsRanked m.transactions) new.current_events.items → new.future_events ≡ m.future_events → new.waits ≡ m.waits → AllByRecursion (IsHeldBy m.transactions) new.assemblies.items → new.chains ≡ m.chains
     → new.facilities ≡ m.facilities → new.storages ≡ m.storages → new.queues ≡ m.queues → new.clock ≡ m.clock → ResidesOnce (state_of new) → Linked m → Linked new
 linked-members m new ts a cs fs w sets chs fac sto que clock resides l = record {
   active = rw ts a;
@@ -40,14 +40,13 @@ linked-members m new ts a cs fs w sets chs fac sto que clock resides l = record 
   chained = rw (chs, fac) l.chained;
   sound = rw ts l.sound;
   blocks = rw ts l.blocks;
-  last = rw ts l.last;
   resides = resides;
   timed = timed-kept m new fac sto que clock l.timed;
 }
 
 -- THE CURRENT EVENTS CHAIN
 
-module _ (m : Machine) (tx : Tx) (priority : ℤ) (r : CanRest m tx) (rank : priority_of m.transactions.txs tx.number ≡ priority) (passes : ℤ → ℤ → Bool) (cs : List Member)
+module _ (m : Configuration) (tx : Tx) (priority : ℤ) (l : Linked m) (r : CanRest m tx) (rank : priority_of m.transactions.txs tx.number ≡ priority) (passes : ℤ → ℤ → Bool) (cs : List Member)
     (joined : cs ≡ placed_behind (λ (y : Member). passes priority y.priority) (record { tx = tx; priority = priority }) m.current_events.items) where
   abbrev rank_of : ℕ → ℤ
   rank_of = priority_of m.transactions.txs
@@ -57,7 +56,7 @@ module _ (m : Machine) (tx : Tx) (priority : ℤ) (r : CanRest m tx) (rank : pri
 
   -- the members' priorities are those of their numbers
   same_places : AllByRecursion (λ (y : Member). passes priority y.priority ≡ passes (rank_of tx.number) (rank_of (member_number y))) m.current_events.items
-  same_places = all_map (λ y. y.priority ≡ rank_of (member_number y)) (λ y. passes priority y.priority ≡ passes (rank_of tx.number) (rank_of (member_number y))) m.current_events.items (λ y h. rw (rank, h) refl) (agree m.transactions m.current_events.items r.linked.current_events)
+  same_places = all_map (λ y. y.priority ≡ rank_of (member_number y)) (λ y. passes priority y.priority ≡ passes (rank_of tx.number) (rank_of (member_number y))) m.current_events.items (λ y h. rw (rank, h) refl) (agree m.transactions m.current_events.items l.current_events)
 
   -- who was active rests at its place
   abbrev rests_there : State
@@ -68,12 +67,12 @@ module _ (m : Machine) (tx : Tx) (priority : ℤ) (r : CanRest m tx) (rank : pri
       ap (λ (ns : List ℕ). record (state_of m) { lists = record (lists_of m) { active = None; current_events = ns } })
       (ap (map member_number) joined ∙ map-placed member_number (λ (y : Member). passes priority y.priority) (λ k. passes (rank_of tx.number) (rank_of k)) newcomer m.current_events.items same_places)
 
-  pub linked-joined : (new : Machine) → new.transactions ≡ m.transactions → new.active ≡ None → new.current_events.items ≡ cs → new.future_events ≡ m.future_events → new.waits ≡ m.waits → new.assemblies ≡ m.assemblies → new.chains ≡ m.chains
+  pub linked-joined : (new : Configuration) → new.transactions ≡ m.transactions → new.active ≡ None → new.current_events.items ≡ cs → new.future_events ≡ m.future_events → new.waits ≡ m.waits → new.assemblies ≡ m.assemblies → new.chains ≡ m.chains
       → new.facilities ≡ m.facilities → new.storages ≡ m.storages → new.queues ≡ m.queues → new.clock ≡ m.clock → ResidesOnce (state_of new) → Linked new
   linked-joined new ts a c fs w sets chs fac sto que clock resides =
       linked-members m new ts (rw a tt)
-      (rw (c, joined) (all_placed (IsRanked m.transactions) (λ (y : Member). passes priority y.priority) newcomer m.current_events.items (record { held = r.held; rank = rank }) r.linked.current_events))
-      fs w (rw sets r.linked.assemblies) chs fac sto que clock resides r.linked
+      (rw (c, joined) (all_placed (IsRanked m.transactions) (λ (y : Member). passes priority y.priority) newcomer m.current_events.items (record { held = r.held; rank = rank }) l.current_events))
+      fs w (rw sets l.assemblies) chs fac sto que clock resides l
 
 -- ASSEMBLIES
 
@@ -85,7 +84,7 @@ all-appended : (P : HeldAssembly → Type 0) (xs : List HeldAssembly) (x : HeldA
 all-appended P [] x h p = (p, tt)
 all-appended P (y ∷ ys) x h p = (h.0, all-appended P ys x h.1 p)
 
-module _ (m : Machine) (tx : Tx) (a : Assembling) (r : CanRest m tx) (sets : List HeldAssembly) (begun : sets ≡ m.assemblies.items ++ record { block = a.block; set = a.set; first = tx; missing = a.missing } ∷ []) where
+module _ (m : Configuration) (tx : Tx) (a : Assembling) (l : Linked m) (r : CanRest m tx) (sets : List HeldAssembly) (begun : sets ≡ m.assemblies.items ++ record { block = a.block; set = a.set; first = tx; missing = a.missing } ∷ []) where
   abbrev first : HeldAssembly
   first = record { block = a.block; set = a.set; first = tx; missing = a.missing }
 
@@ -93,12 +92,12 @@ module _ (m : Machine) (tx : Tx) (a : Assembling) (r : CanRest m tx) (sets : Lis
   state-awaits =
       ap (λ (xs : List Assembly). record (state_of m) { lists = record (lists_of m) { active = None; assemblies = xs } }) (ap (map assembly_of) begun ∙ map-appended m.assemblies.items first)
 
-  pub linked-awaits : (new : Machine) → new.transactions ≡ m.transactions → new.active ≡ None → new.current_events ≡ m.current_events → new.future_events ≡ m.future_events → new.waits ≡ m.waits → new.assemblies.items ≡ sets → new.chains ≡ m.chains
+  pub linked-awaits : (new : Configuration) → new.transactions ≡ m.transactions → new.active ≡ None → new.current_events ≡ m.current_events → new.future_events ≡ m.future_events → new.waits ≡ m.waits → new.assemblies.items ≡ sets → new.chains ≡ m.chains
       → new.facilities ≡ m.facilities → new.storages ≡ m.storages → new.queues ≡ m.queues → new.clock ≡ m.clock → state_of new ≡ awaits_set tx.number a (state_of m) → Linked new
   linked-awaits new ts none cs fs w is_sets chs fac sto que clock is =
-      linked-members m new ts (rw none tt) (rw cs r.linked.current_events) fs w
-      (rw (is_sets, begun) (all-appended (IsHeldBy m.transactions) m.assemblies.items first r.linked.assemblies r.held)) chs fac sto que clock
-      (subst ResidesOnce (sym is) (resides-awaits tx.number a (state_of m) (ap (option_map (λ (x : Tx). x.number)) r.active) r.linked.resides)) r.linked
+      linked-members m new ts (rw none tt) (rw cs l.current_events) fs w
+      (rw (is_sets, begun) (all-appended (IsHeldBy m.transactions) m.assemblies.items first l.assemblies r.held)) chs fac sto que clock
+      (subst ResidesOnce (sym is) (resides-awaits tx.number a (state_of m) (ap (option_map (λ (x : Tx). x.number)) r.active) l.resides)) l
 
 -- HOW MANY
 
@@ -138,12 +137,21 @@ as_few (suc k) xs once below =
           omega (arith, rest, length-without k xs some)
     ]
 
--- no more are on the retry list than were ever made
-pub few-retry : (m : Machine) → Linked m → length m.waits.retry ≤ 2 ^ 62
-few-retry m l =
-    let ns = map member_number m.waits.retry in
-    let each : (n : ℕ) → occurrences n ns ≤ one_if (is_some (at None m.transactions.txs n)) = λ n. (let all : occurrences_in (state_of m).lists n ≡ one_if (is_some (at None m.transactions.txs n)) = l.resides n in omega (arith, all)) in
+-- numbers that reside in some list of a machine are no more than were ever made
+few-in : (m : Configuration) → Linked m → (ns : List ℕ) → ((n : ℕ) → occurrences n ns ≤ occurrences_in (state_of m).lists n) → length ns ≤ 2 ^ 62
+few-in m l ns within =
+    let each : (n : ℕ) → occurrences n ns ≤ one_if (is_some (at None m.transactions.txs n)) = λ n. (let all : occurrences_in (state_of m).lists n ≡ one_if (is_some (at None m.transactions.txs n)) = l.resides n in omega (arith, all, within n)) in
     let few = as_few (length m.transactions.txs) ns
     (λ n. omega (arith, each n, at_most_one (is_some (at None m.transactions.txs n))))
     (λ n from. let none : one_if (is_some (at None m.transactions.txs n)) ≡ 0 = ap (λ o. one_if (is_some o)) (at_past None m.transactions.txs n from) in omega (arith, each n, none)) in
-    omega (arith, few, length-map m.waits.retry member_number, l.sound.few)
+    omega (arith, few, l.sound.few)
+
+-- so are those on the retry list
+pub few-retry : (m : Configuration) → Linked m → length m.waits.retry ≤ 2 ^ 62
+few-retry m l = omega (arith, few-in m l (map member_number m.waits.retry) (λ n. omega arith), length-map m.waits.retry member_number)
+
+-- and those on the future events chain
+pub few-events : (m : Configuration) → Linked m → length m.future_events.items ≤ 2 ^ 62
+few-events m l =
+    let events = length-map (map event_of m.future_events.items) (λ (e : FutureEvent). e.number) ∙ length-map m.future_events.items event_of in
+    omega (arith, few-in m l (numbers (lists_of m).future_events) (λ n. omega arith), events)

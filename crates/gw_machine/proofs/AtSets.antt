@@ -9,7 +9,7 @@ use Rattle.gw_chains.specs.declared.tx.Member.{Member}
 use Rattle.gw_chains.specs.declared.assemblies.Assembly.{Assembly as HeldAssembly}
 use Rattle.gw_transactions.specs.declared.Transaction.{Transaction}
 use Rattle.gw_transactions.specs.Transactions.{LiveTransaction, Holds, attributes_at}
-use Rattle.gw_machine.specs.declared.machine.Machine.{Machine}
+use Rattle.gw_machine.specs.Configuration.{Configuration}
 use Rattle.gw_step.specs.State.{Assembly, State, priority_of, priority_in}
 use Rattle.gw_step.specs.Residence.{ResidesOnce}
 use Rattle.gw_step.specs.Changes.{is_of, assembled, one_fewer, come_to}
@@ -95,7 +95,7 @@ pub more-come : (a : Assembly) (s : State) → 1 < a.missing → joined_by_one a
 more-come a s more = ap (λ b. if b then assembled a s else come_to a s) (lt-leb a.missing 1 more)
 
 -- an assembly is found as its state's is
-pub assembly-found : (m : Machine) (block set : ℕ) → option_map assembly_of (find (is_held_of block set) m.assemblies.items) ≡ assembly_at block set (state_of m)
+pub assembly-found : (m : Configuration) (block set : ℕ) → option_map assembly_of (find (is_held_of block set) m.assemblies.items) ≡ assembly_at block set (state_of m)
 assembly-found m block set = sym (find-map assembly_of (is_of block set) m.assemblies.items)
 
 -- what is found passes
@@ -118,7 +118,7 @@ own-found block set xs (Some a) is =
 pub priority-found : (ts : List (Option LiveTransaction)) (n : ℕ) (t : Transaction) → attributes_at n ts ≡ Some t → priority_of ts n ≡ t.priority
 priority-found ts n t h = let u = bearer_at ts n t h in ap priority_in u.1 ∙ ap (λ (a : Transaction). a.priority) u.2
 
-module _ (m : Machine) (l : Linked m) (a : HeldAssembly) (there : assembly_at a.block a.set (state_of m) ≡ Some (assembly_of a)) where
+module _ (m : Configuration) (l : Linked m) (a : HeldAssembly) (there : assembly_at a.block a.set (state_of m) ≡ Some (assembly_of a)) where
   abbrev found : Option HeldAssembly
   found = find (is_held_of a.block a.set) m.assemblies.items
 
@@ -149,7 +149,7 @@ module _ (m : Machine) (l : Linked m) (a : HeldAssembly) (there : assembly_at a.
         ∙ ap (λ (xs : List Assembly). record (assembled (assembly_of a) (state_of m)) { lists = record (assembled (assembly_of a) (state_of m)).lists { assemblies = xs } })
         (ap (map assembly_of) left ∙ map-without_first assembly_of (is_of a.block a.set) m.assemblies.items)
 
-    pub linked-assembled : (new : Machine) → new.transactions ≡ m.transactions → new.active ≡ m.active → new.current_events.items ≡ cs → new.future_events ≡ m.future_events → new.waits ≡ m.waits → new.assemblies.items ≡ sets → new.chains ≡ m.chains
+    pub linked-assembled : (new : Configuration) → new.transactions ≡ m.transactions → new.active ≡ m.active → new.current_events.items ≡ cs → new.future_events ≡ m.future_events → new.waits ≡ m.waits → new.assemblies.items ≡ sets → new.chains ≡ m.chains
         → new.facilities ≡ m.facilities → new.storages ≡ m.storages → new.queues ≡ m.queues → new.clock ≡ m.clock → state_of new ≡ assembled (assembly_of a) (state_of m) → Linked new
     linked-assembled new ts active c fs w s chs fac sto que clock now =
         linked-members m new ts (rw active l.active)
@@ -167,7 +167,7 @@ module _ (m : Machine) (l : Linked m) (a : HeldAssembly) (there : assembly_at a.
         ap (λ (xs : List Assembly). record (state_of m) { lists = record (lists_of m) { assemblies = xs } })
         (ap (map assembly_of) changed ∙ map-with_first_changed assembly_of (is_of a.block a.set) fewer one_fewer (λ x. refl) m.assemblies.items)
 
-    pub linked-come : (new : Machine) → new.transactions ≡ m.transactions → new.active ≡ m.active → new.current_events ≡ m.current_events → new.future_events ≡ m.future_events → new.waits ≡ m.waits → new.assemblies.items ≡ sets → new.chains ≡ m.chains
+    pub linked-come : (new : Configuration) → new.transactions ≡ m.transactions → new.active ≡ m.active → new.current_events ≡ m.current_events → new.future_events ≡ m.future_events → new.waits ≡ m.waits → new.assemblies.items ≡ sets → new.chains ≡ m.chains
         → new.facilities ≡ m.facilities → new.storages ≡ m.storages → new.queues ≡ m.queues → new.clock ≡ m.clock → state_of new ≡ come_to (assembly_of a) (state_of m) → Linked new
     linked-come new ts active cs fs w s chs fac sto que clock now =
         linked-members m new ts (rw active l.active) (rw cs l.current_events) fs w

@@ -16,7 +16,7 @@ use Rattle.gw_entities.specs.Storage.{vacant}
 use Rattle.gw_entities.specs.Table.{FacilityTable, StorageTable, QueueTable, switches_of, savevalues_of, tables_of, initial_setting, initial_value, nothing_entered}
 use Rattle.gw_entities.specs.Tabulation.{Tabulation}
 use Rattle.gw_step.proofs.Nothing.{no_transaction, resides-nothing}
-use Rattle.gw_machine.specs.declared.machine.Machine.{Machine}
+use Rattle.gw_machine.specs.Configuration.{Configuration}
 use Rattle.gw_step.specs.Start.{nothing}
 use Rattle.gw_step.specs.State.{State}
 use Rattle.gw_step.specs.Residence.{ResidesOnce}
@@ -25,15 +25,14 @@ use Rattle.gw_machine.specs.Coherence.{AreInBlocks, Linked, IsOf}
 use Rattle.gw_machine.specs.Evaluating.{IsReadable}
 
 -- what the parts of such a machine are
-pub record Begins (p : Parts) (n : ℕ) (ss : List ℕ) (m : Machine) : Type 0 where
+pub record Begins (p : Parts) (n : ℕ) (ss : List ℕ) (m : Configuration) : Type 0 where
   pub clock : m.clock ≡ pos 0
   pub count : m.count ≡ pos n
   pub steps : m.steps ≡ 0
   pub streams : m.streams ≡ ss
-  pub scheduled : m.scheduled.items ≡ replicate (length p.blocks + 1) 0
+  pub scheduled : m.scheduled ≡ replicate (length p.blocks + 1) 0
   pub transactions : m.transactions.txs ≡ None ∷ []
   pub sound : IsSound m.transactions
-  pub last : m.transactions.last ≡ 64
   pub active : m.active ≡ None
   pub current_events : m.current_events.items ≡ []
   pub future_events : m.future_events.items ≡ []
@@ -48,7 +47,7 @@ pub record Begins (p : Parts) (n : ℕ) (ss : List ℕ) (m : Machine) : Type 0 w
   pub switches : m.switches ≡ switches_of p.entities
   pub savevalues : m.savevalues ≡ savevalues_of p.entities
   pub tables : m.tables ≡ tables_of p.entities
-  pub entries : m.entries.items ≡ replicate (length p.blocks + 1) 0
+  pub entries : m.entries ≡ replicate (length p.blocks + 1) 0
   pub ended : m.ended ≡ None
 
 -- lists with no member
@@ -60,7 +59,7 @@ empties number (suc n) = ap (λ xs. [] ∷ xs) (empties number n)
 nobody_in : AreInBlocks (None ∷ [])
 nobody_in n = rw (no_transaction n) tt
 
-module _ (p : Parts) (count : ℕ) (streams : List ℕ) (m : Machine) (b : Begins p count streams m) where
+module _ (p : Parts) (count : ℕ) (streams : List ℕ) (m : Configuration) (b : Begins p count streams m) where
   entities : length m.facilities.facilities ≡ length p.entities
   entities = ap (λ (f : FacilityTable). length f.facilities) b.facilities ∙ length-map p.entities (λ _. idle)
 
@@ -90,7 +89,6 @@ module _ (p : Parts) (count : ℕ) (streams : List ℕ) (m : Machine) (b : Begin
     chained = rw b.chains (length-replicate (length p.entities) [] ∙ sym entities);
     sound = b.sound;
     blocks = rw b.transactions nobody_in;
-    last = b.last;
     resides = subst ResidesOnce (sym state-nothing) (resides-nothing p count streams);
     timed = record { facilities = rw (b.facilities, b.clock) refl; storages = rw (b.storages, b.clock) refl; queues = rw (b.queues, b.clock) refl };
   }
@@ -102,15 +100,13 @@ module _ (p : Parts) (count : ℕ) (streams : List ℕ) (m : Machine) (b : Begin
     switches = ap (λ (xs : List Bool). length xs) b.switches ∙ length-map p.entities (λ (e : Entity). initial_setting e.kind) ∙ sym entities;
     savevalues = ap (λ (xs : List ℤ). length xs) b.savevalues ∙ length-map p.entities (λ (e : Entity). initial_value e.kind) ∙ sym entities;
     tables = ap (λ (xs : List Tabulation). length xs) b.tables ∙ length-map p.entities (λ (e : Entity). nothing_entered e.kind) ∙ sym entities;
-    chains = linked-nothing.chained;
     entries = omega (arith, ap sum b.entries, sum_by-replicate 0 (λ (x : ℕ). x) (length p.blocks + 1) refl);
     clock = rw b.clock (grind (arith, ints));
-    sound = b.sound;
   }
 
 -- a machine in that state has what the first arrivals ask for, of the blocks of its object
-module _ (p : Parts) (count : ℕ) (streams : List ℕ) (m : Machine) (is : state_of m ≡ nothing p count streams) where
-  pub nothing-few : (length m.transactions.txs < 2 ^ 50) × (sum m.scheduled.items < 2 ^ 50)
+module _ (p : Parts) (count : ℕ) (streams : List ℕ) (m : Configuration) (is : state_of m ≡ nothing p count streams) where
+  pub nothing-few : (length m.transactions.txs < 2 ^ 50) × (sum m.scheduled < 2 ^ 50)
   nothing-few =
       let none = ap (λ (s : State). length s.transactions) is in
       let scheduled = ap (λ (s : State). sum s.scheduled) is ∙ sum_by-replicate 0 (λ (x : ℕ). x) (length p.blocks + 1) refl in
@@ -119,5 +115,5 @@ module _ (p : Parts) (count : ℕ) (streams : List ℕ) (m : Machine) (is : stat
   pub nothing-own : IsOf p m
   nothing-own = ap (λ (s : State). length s.entities.facilities) is ∙ length-map p.entities (λ _. idle)
 
-  pub nothing-blocks : length m.scheduled.items ≡ length p.blocks + 1
+  pub nothing-blocks : length m.scheduled ≡ length p.blocks + 1
   nothing-blocks = ap (λ (s : State). length s.scheduled) is ∙ length-replicate (length p.blocks + 1) 0

@@ -11,7 +11,7 @@ use Rattle.gw_transactions.specs.declared.Transaction.{Transaction}
 use Rattle.gw_transactions.specs.Transactions.{LiveTransaction, Population, put_attributes, put_parameter, Holds, IsSound}
 use Rattle.gw_num.proofs.Tables.{at-put, set-put, at-get_or_any, at-map}
 use Rattle.gw_transactions.proofs.Populations.{transaction_of}
-use Rattle.gw_machine.specs.declared.machine.Machine.{Machine}
+use Rattle.gw_machine.specs.Configuration.{Configuration}
 use Rattle.gw_step.specs.State.{FutureEvent, Assembly, priority_of, raised, delay_list, user_chain}
 use Rattle.gw_step.specs.Residence.{ResidesOnce, occurrences}
 use Rattle.gw_step.specs.Changes.{entered, assigned, destroyed, rests_until, arrives}
@@ -28,11 +28,11 @@ raised_is counts place was within is =
     ∙ ap (λ n. put 0 counts place (n + 1)) (is ∙ sym (at-get_or_any 0 was counts place within))
 
 -- the delay list of an entity, as the machine keeps it
-pub delay_list-at : (m : Machine) (e : ℕ) → delay_list e (state_of m) ≡ map member_number (at [] m.waits.lists e)
+pub delay_list-at : (m : Configuration) (e : ℕ) → delay_list e (state_of m) ≡ map member_number (at [] m.waits.lists e)
 delay_list-at m e = at-map (map member_number) [] m.waits.lists e
 
 -- and a user chain
-pub user_chain-at : (m : Machine) (c : ℕ) → user_chain c (state_of m) ≡ map handle_number (at [] m.chains.lists c)
+pub user_chain-at : (m : Configuration) (c : ℕ) → user_chain c (state_of m) ≡ map handle_number (at [] m.chains.lists c)
 user_chain-at m c = at-map (map handle_number) [] m.chains.lists c
 
 -- the future events chain with one more member
@@ -40,7 +40,7 @@ pub events-in_time : (tx : Tx) (time : ℤ) (xs : List Event) → map event_of (
 events-in_time tx time xs = map-placed event_of (λ (y : Event). int_le y.time time) (λ (y : FutureEvent). int_le y.time time) (record { tx = tx; time = time }) xs (all_same (λ (y : Event). int_le y.time time) xs)
 
 -- what these changes leave as it was: who waits, who is on a user chain, the entities and the clock
-pub record Keeps (m new : Machine) : Type 0 where
+pub record Keeps (m new : Configuration) : Type 0 where
   pub waits : new.waits ≡ m.waits
   pub assemblies : new.assemblies.items ≡ m.assemblies.items
   pub chains : new.chains ≡ m.chains
@@ -49,7 +49,7 @@ pub record Keeps (m new : Machine) : Type 0 where
   pub queues : new.queues ≡ m.queues
   pub clock : new.clock ≡ m.clock
 
-pub timed-kept : (m new : Machine) → new.facilities ≡ m.facilities → new.storages ≡ m.storages → new.queues ≡ m.queues → new.clock ≡ m.clock → IsTimed m → IsTimed new
+pub timed-kept : (m new : Configuration) → new.facilities ≡ m.facilities → new.storages ≡ m.storages → new.queues ≡ m.queues → new.clock ≡ m.clock → IsTimed m → IsTimed new
 timed-kept m new f s q c h = record { facilities = rw (f, c) h.facilities; storages = rw (s, c) h.storages; queues = rw (q, c) h.queues }
 
 -- the members of a list by priority
@@ -57,7 +57,7 @@ abbrev number_of : Member → ℕ
 number_of x = x.tx.number
 
 -- the members of a machine's lists after a change of its transactions that carries every handle
-pub linked-carried : (m new : Machine) → Carries Every m.transactions new.transactions → IsSound new.transactions → new.active ≡ m.active → new.current_events.items ≡ m.current_events.items → new.future_events.items ≡ m.future_events.items → Keeps m new → ResidesOnce (state_of new) → Linked m → Linked new
+pub linked-carried : (m new : Configuration) → Carries Every m.transactions new.transactions → IsSound new.transactions → new.active ≡ m.active → new.current_events.items ≡ m.current_events.items → new.future_events.items ≡ m.future_events.items → Keeps m new → ResidesOnce (state_of new) → Linked m → Linked new
 linked-carried m new c sound a cs fs k resides l =
     let carried = λ (xs : List Member). members_carried Every m.transactions new.transactions c xs (every number_of xs) in
     record {
@@ -72,12 +72,11 @@ linked-carried m new c sound a cs fs k resides l =
       chained = rw (k.chains, k.facilities) l.chained;
       sound = sound;
       blocks = c.blocks l.blocks;
-      last = c.last ∙ l.last;
       resides = resides;
       timed = timed-kept m new k.facilities k.storages k.queues k.clock l.timed;
     }
 
-pub linked-entered : (m new : Machine) (tx : Tx) (t : Transaction) (next : ℕ)
+pub linked-entered : (m new : Configuration) (tx : Tx) (t : Transaction) (next : ℕ)
     → new.transactions.txs ≡ put_attributes tx.number (record t { current = t.next; next = next }) m.transactions.txs → new.transactions.places ≡ m.transactions.places → new.transactions.last ≡ m.transactions.last → IsSound new.transactions
     → new.active ≡ m.active → new.current_events.items ≡ m.current_events.items → new.future_events.items ≡ m.future_events.items → Keeps m new
     → state_of new ≡ entered tx.number t next (state_of m) → t.next ≤ 4096 → priority_of m.transactions.txs tx.number ≡ t.priority → Linked m → Linked new
@@ -85,7 +84,7 @@ linked-entered m new tx t next ts ps ls sound a cs fs k is block pr l =
     linked-carried m new (carries-set m.transactions new.transactions tx.number (record t { current = t.next; next = next }) ts ps block pr ls) sound a cs fs k
     (subst ResidesOnce (sym is) (resides-entered tx.number t next (state_of m) l.resides)) l
 
-pub linked-assigned : (m new : Machine) (tx : Tx) (k : ℕ) (value : ℤ)
+pub linked-assigned : (m new : Configuration) (tx : Tx) (k : ℕ) (value : ℤ)
     → new.transactions.txs ≡ put_parameter tx.number k value m.transactions.txs → new.transactions.places ≡ m.transactions.places → new.transactions.last ≡ m.transactions.last → IsSound new.transactions
     → new.active ≡ m.active → new.current_events.items ≡ m.current_events.items → new.future_events.items ≡ m.future_events.items → Keeps m new
     → state_of new ≡ assigned tx.number k value (state_of m) → Linked m → Linked new
@@ -93,25 +92,24 @@ linked-assigned m new tx k value ts ps ls sound a cs fs keeps is l =
     linked-carried m new (carries-assign m.transactions new.transactions tx.number k value ts ps ls) sound a cs fs keeps
     (subst ResidesOnce (sym is) (resides-assigned tx.number k value (state_of m) l.resides)) l
 
-pub linked-same : (m new : Machine)
+pub linked-same : (m new : Configuration)
     → new.transactions.txs ≡ m.transactions.txs → new.transactions.places ≡ m.transactions.places → new.transactions.last ≡ m.transactions.last → IsSound new.transactions
     → new.active ≡ m.active → new.current_events.items ≡ m.current_events.items → new.future_events.items ≡ m.future_events.items → Keeps m new
     → state_of new ≡ state_of m → Linked m → Linked new
 linked-same m new ts ps ls sound a cs fs keeps is l = linked-carried m new (carries-same m.transactions new.transactions ts ps ls) sound a cs fs keeps (subst ResidesOnce (sym is) l.resides) l
 
 -- room for more transactions, and on the current events chain, leaves a machine as it was
-pub linked-reserved : (m : Machine) (q : Population) (cs : Chain Member) → q.txs ≡ m.transactions.txs → q.places ≡ m.transactions.places → q.last ≡ m.transactions.last → IsSound q → cs.items ≡ m.current_events.items → Linked m → Linked (record m { transactions = q; current_events = cs })
+pub linked-reserved : (m : Configuration) (q : Population) (cs : Chain Member) → q.txs ≡ m.transactions.txs → q.places ≡ m.transactions.places → q.last ≡ m.transactions.last → IsSound q → cs.items ≡ m.current_events.items → Linked m → Linked (record m { transactions = q; last = q.last; current_events = cs })
 linked-reserved m q cs ts ps ls sound items l =
-    linked-same m (record m { transactions = q; current_events = cs }) ts ps ls sound refl items refl (record { waits = refl; assemblies = refl; chains = refl; facilities = refl; storages = refl; queues = refl; clock = refl })
+    linked-same m (record m { transactions = q; last = q.last; current_events = cs }) ts ps ls sound refl items refl (record { waits = refl; assemblies = refl; chains = refl; facilities = refl; storages = refl; queues = refl; clock = refl })
     (ap (λ (xs : List (Option LiveTransaction)). record (state_of m) { transactions = xs; lists = record (lists_of m) { current_events = map member_number cs.items } }) ts
     ∙ ap (λ (xs : List Member). record (state_of m) { lists = record (lists_of m) { current_events = map member_number xs } }) items) l
 
-pub linked-destroyed : (m new : Machine) (tx : Tx)
+pub linked-destroyed : (m new : Configuration) (tx : Tx)
     → new.transactions.txs ≡ put None m.transactions.txs tx.number None → new.transactions.places ≡ put None m.transactions.places tx.number None → new.transactions.last ≡ m.transactions.last → IsSound new.transactions
-    → CanRest m tx → new.active ≡ None → new.current_events.items ≡ m.current_events.items → new.future_events.items ≡ m.future_events.items → Keeps m new
+    → Linked m → CanRest m tx → new.active ≡ None → new.current_events.items ≡ m.current_events.items → new.future_events.items ≡ m.future_events.items → Keeps m new
     → state_of new ≡ destroyed tx.number (state_of m) → Linked new
-linked-destroyed m new tx ts ps ls sound r a cs fs k is =
-    let l = r.linked in
+linked-destroyed m new tx ts ps ls sound l r a cs fs k is =
     let n = tx.number in
     let u = transaction_of m.transactions l.sound tx r.held in
     let active : (state_of m).lists.active ≡ Some n = ap (option_map (λ (x : Tx). x.number)) r.active in
@@ -135,16 +133,14 @@ linked-destroyed m new tx ts ps ls sound r a cs fs k is =
       chained = rw (k.chains, k.facilities) l.chained;
       sound = sound;
       blocks = c.blocks l.blocks;
-      last = c.last ∙ l.last;
       resides = subst ResidesOnce (sym is) (resides-destroyed n u.0 (state_of m) active u.1 l.resides);
       timed = timed-kept m new k.facilities k.storages k.queues k.clock l.timed;
     }
 
-pub linked-rested : (m new : Machine) (tx : Tx) (time : ℤ)
-    → new.transactions ≡ m.transactions → CanRest m tx → new.active ≡ None → new.current_events.items ≡ m.current_events.items → new.future_events.items ≡ in_time (λ (e : Event). e.time) (record { tx = tx; time = time }) m.future_events.items → Keeps m new
+pub linked-rested : (m new : Configuration) (tx : Tx) (time : ℤ)
+    → new.transactions ≡ m.transactions → Linked m → CanRest m tx → new.active ≡ None → new.current_events.items ≡ m.current_events.items → new.future_events.items ≡ in_time (λ (e : Event). e.time) (record { tx = tx; time = time }) m.future_events.items → Keeps m new
     → state_of new ≡ rests_until tx.number time (state_of m) → Linked new
-linked-rested m new tx time ps r a cs fs k is =
-    let l = r.linked in
+linked-rested m new tx time ps l r a cs fs k is =
     let active : (state_of m).lists.active ≡ Some tx.number = ap (option_map (λ (x : Tx). x.number)) r.active in
     record {
       active = rw a tt;
@@ -158,12 +154,11 @@ linked-rested m new tx time ps r a cs fs k is =
       chained = rw (k.chains, k.facilities) l.chained;
       sound = rw ps l.sound;
       blocks = rw ps l.blocks;
-      last = rw ps l.last;
       resides = subst ResidesOnce (sym is) (resides-rests tx.number time (state_of m) active l.resides);
       timed = timed-kept m new k.facilities k.storages k.queues k.clock l.timed;
     }
 
-pub linked-arrived : (m new : Machine) (tx : Tx) (t : LiveTransaction) (b : ℕ) (priority time : ℤ)
+pub linked-arrived : (m new : Configuration) (tx : Tx) (t : LiveTransaction) (b : ℕ) (priority time : ℤ)
     → new.transactions.txs ≡ put None m.transactions.txs (length m.transactions.txs) (Some t) → new.transactions.places ≡ put None m.transactions.places (length m.transactions.txs) (Some tx.place) → new.transactions.last ≡ m.transactions.last → tx.number ≡ length m.transactions.txs → IsSound new.transactions
     → new.active ≡ m.active → new.current_events.items ≡ m.current_events.items → new.future_events.items ≡ in_time (λ (e : Event). e.time) (record { tx = tx; time = time }) m.future_events.items → Keeps m new
     → state_of new ≡ arrives b priority time (state_of m) → t.attributes.current ≤ 4096 → Linked m → Linked new
@@ -186,7 +181,6 @@ linked-arrived m new tx t b priority time ts ps ls ns sound a cs fs k is block l
       chained = rw (k.chains, k.facilities) l.chained;
       sound = sound;
       blocks = c.blocks l.blocks;
-      last = c.last ∙ l.last;
       resides = subst ResidesOnce (sym is) (resides-arrives b priority time (state_of m) l.resides);
       timed = timed-kept m new k.facilities k.storages k.queues k.clock l.timed;
     }

@@ -11,7 +11,7 @@ use Rattle.gw_entities.specs.Facility.{facility_after}
 use Rattle.gw_entities.specs.Storage.{storage_after}
 use Rattle.gw_entities.specs.Table.{FacilityTable, StorageTable, QueueTable}
 use Rattle.gw_transactions.specs.Transactions.{Population}
-use Rattle.gw_machine.specs.declared.machine.Machine.{Machine}
+use Rattle.gw_machine.specs.Configuration.{Configuration}
 use Rattle.gw_step.specs.State.{FutureEvent, EntityStates, priority_of}
 use Rattle.gw_step.specs.Residence.{ResidesOnce}
 use Rattle.gw_step.specs.Changes.{time_passes, clock_moves, numbers}
@@ -53,7 +53,7 @@ module _ (p : Population) where
       let soon = due (λ (e : Event). e.time) time es in
       all_all_behind (IsRanked p) (λ (m : Member). m.priority) (ranked p soon) cec (all_ranked soon (all_due (IsHeld p) (λ (e : Event). e.time) time es held)) rank
 
-module _ (m : Machine) (time : ℤ) (cs : List Member) (fs : List Event) (g : EntityStates) (l : Linked m)
+module _ (m : Configuration) (time : ℤ) (cs : List Member) (fs : List Event) (g : EntityStates) (l : Linked m)
     (joined : cs ≡ all_behind (λ (x : Member). x.priority) (ranked m.transactions (due (λ (e : Event). e.time) time m.future_events.items)) m.current_events.items)
     (left : fs ≡ later (λ (e : Event). e.time) time m.future_events.items)
     (passed : g ≡ time_passes (unsigned_abs (time -ℤ m.clock)) (entities_of m)) where
@@ -65,7 +65,7 @@ module _ (m : Machine) (time : ℤ) (cs : List Member) (fs : List Event) (g : En
       (ap (map event_of) left ∙ map-later event_of (λ (e : Event). e.time) (λ (e : FutureEvent). e.time) time m.future_events.items (λ x. refl))
       ∙ ap (λ (h : EntityStates). record (clock_moves time (state_of m)) { entities = h }) passed
 
-  pub linked-moved : (new : Machine) → new.transactions ≡ m.transactions → new.active ≡ m.active → new.current_events.items ≡ cs → new.future_events.items ≡ fs → new.waits ≡ m.waits → new.assemblies ≡ m.assemblies → new.chains ≡ m.chains → length new.facilities.facilities ≡ length m.facilities.facilities → IsTimed new → state_of new ≡ clock_moves time (state_of m) → Linked new
+  pub linked-moved : (new : Configuration) → new.transactions ≡ m.transactions → new.active ≡ m.active → new.current_events.items ≡ cs → new.future_events.items ≡ fs → new.waits ≡ m.waits → new.assemblies ≡ m.assemblies → new.chains ≡ m.chains → length new.facilities.facilities ≡ length m.facilities.facilities → IsTimed new → state_of new ≡ clock_moves time (state_of m) → Linked new
   linked-moved new ts a c f ws assemblies chs count timed is = record {
     active = rw (ts, a) l.active;
     current_events = rw (ts, c, joined) (ranked-joined m.transactions time m.future_events.items m.current_events.items l.future_events l.current_events);
@@ -76,7 +76,6 @@ module _ (m : Machine) (time : ℤ) (cs : List Member) (fs : List Event) (g : En
     user_chains = λ k below. rw (ts, chs) (l.user_chains k (rw count at below));
     chained = rw (chs, count) l.chained;
     blocks = rw ts l.blocks;
-    last = rw ts l.last;
     listed = rw (ws, count) l.listed;
     sound = rw ts l.sound;
     resides = subst ResidesOnce (sym is) (resides-clock time (state_of m) l.resides);
@@ -86,7 +85,7 @@ module _ (m : Machine) (time : ℤ) (cs : List Member) (fs : List Event) (g : En
 -- THE TIME
 
 -- the tables of entities after time passed
-pub entities-passed : (m : Machine) (dt : ℕ) (f : FacilityTable) (s : StorageTable) (q : QueueTable)
+pub entities-passed : (m : Configuration) (dt : ℕ) (f : FacilityTable) (s : StorageTable) (q : QueueTable)
     → f ≡ record { facilities = map (facility_after dt) m.facilities.facilities; passed = m.facilities.passed + dt }
     → s ≡ record { storages = map (storage_after dt) m.storages.storages; passed = m.storages.passed + dt }
     → q ≡ record { queues = map (contents_after dt) m.queues.queues; passed = m.queues.passed + dt }
@@ -96,5 +95,5 @@ entities-passed m dt f s q ff ss qq =
     ∙ ap (λ (x : StorageTable). record (entities_of m) { facilities = map (facility_after dt) m.facilities.facilities; storages = x.storages; queues = q.queues }) ss
     ∙ ap (λ (x : QueueTable). record (entities_of m) { facilities = map (facility_after dt) m.facilities.facilities; storages = map (storage_after dt) m.storages.storages; queues = x.queues }) qq
 
-pub count-passed : (m : Machine) (dt : ℕ) (f : FacilityTable) → f ≡ record { facilities = map (facility_after dt) m.facilities.facilities; passed = m.facilities.passed + dt } → length f.facilities ≡ length m.facilities.facilities
+pub count-passed : (m : Configuration) (dt : ℕ) (f : FacilityTable) → f ≡ record { facilities = map (facility_after dt) m.facilities.facilities; passed = m.facilities.passed + dt } → length f.facilities ≡ length m.facilities.facilities
 count-passed m dt f ff = ap (λ (x : FacilityTable). length x.facilities) ff ∙ length-map m.facilities.facilities (facility_after dt)

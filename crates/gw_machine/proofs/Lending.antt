@@ -19,15 +19,15 @@ use Rattle.gw_plus.specs.declared.env.Env.{Env}
 use Rattle.gw_plus.specs.Reading as lent
 use Rattle.gw_step.proofs.Residence.{at-le-sum}
 use Rattle.gw_step.specs.Times.{readings}
-use Rattle.gw_machine.specs.declared.machine.Machine.{Machine}
+use Rattle.gw_machine.specs.Configuration.{Configuration}
 use Rattle.gw_machine.specs.declared.values.Subject.{Subject}
 use Rattle.gw_machine.specs.View.{state_of, handle_number}
-use Rattle.gw_machine.specs.Coherence.{IsOf}
+use Rattle.gw_machine.specs.Coherence.{Linked, IsOf}
 use Rattle.gw_machine.specs.Evaluating.{parameters_for, environment_for, CanEvaluate}
 use Rattle.gw_machine.proofs.Changes.{user_chain-at}
 
 -- what is lent is the machine's own
-pub record Lends (m : Machine) (subject : Subject) (env : Env) : Type 0 where
+pub record Lends (m : Configuration) (subject : Subject) (env : Env) : Type 0 where
   pub number : env.number ≡ subject.number
   pub priority : env.priority ≡ subject.priority
   pub mark : env.mark ≡ subject.mark
@@ -41,10 +41,10 @@ pub record Lends (m : Machine) (subject : Subject) (env : Env) : Type 0 where
   pub savevalues : env.savevalues.now ≡ m.savevalues
   pub tables : env.tables.now ≡ m.tables
   pub chains : env.chains.now ≡ m.chains
-  pub entries : env.entries.now ≡ m.entries.items
+  pub entries : env.entries.now ≡ m.entries
   pub here : (b : ℕ) → at 0 env.here.now b ≡ here_count b m.transactions.txs
 
-module _ (m : Machine) (subject : Subject) (env : Env) (l : Lends m subject env) where
+module _ (m : Configuration) (subject : Subject) (env : Env) (l : Lends m subject env) where
   members_same : (c : ℕ) → (lent.readings_of env).members c ≡ (readings (state_of m)).members c
   members_same c =
       ap (λ (chains : chain_lists.Linked). length (at [] chains.lists c)) l.chains
@@ -63,8 +63,8 @@ module _ (m : Machine) (subject : Subject) (env : Env) (l : Lends m subject env)
   reads_the_same : ReadTheSame (lent.environment_of env) (environment_for subject (state_of m))
   reads_the_same = record { kept = kept_same }
 
-  lends_of : CanEvaluate m subject → (p : Parts) → IsOf p m → lent.IsOf p env
-  lends_of can p own =
+  lends_of : Linked m → CanEvaluate m subject → (p : Parts) → IsOf p m → lent.IsOf p env
+  lends_of k can p own =
       let r = can.readable in
       record {
         facilities = ap (λ (t : FacilityTable). length t.facilities) l.facilities ∙ own;
@@ -73,18 +73,18 @@ module _ (m : Machine) (subject : Subject) (env : Env) (l : Lends m subject env)
         switches = ap length l.switches ∙ r.switches ∙ own;
         savevalues = ap length l.savevalues ∙ r.savevalues ∙ own;
         tables = ap length l.tables ∙ r.tables ∙ own;
-        chains = ap (λ (chains : chain_lists.Linked). length chains.lists) l.chains ∙ r.chains ∙ own;
+        chains = ap (λ (chains : chain_lists.Linked). length chains.lists) l.chains ∙ k.chained ∙ own;
         entries = λ b.
-            let fewer : at 0 m.entries.items b ≤ sum m.entries.items = at-le-sum 0 (λ x. x) m.entries.items b refl in
+            let fewer : at 0 m.entries b ≤ sum m.entries = at-le-sum 0 (λ x. x) m.entries b refl in
             omega (arith, ap (λ (xs : List ℕ). at 0 xs b) l.entries, fewer, r.entries);
         here = λ b.
             let fewer = count_by-le-length (λ t. option_map_or (λ (t : LiveTransaction). t.attributes.current == b) t false) m.transactions.txs in
-            omega (arith, l.here b, fewer, r.sound.few);
+            omega (arith, l.here b, fewer, k.sound.few);
         number = omega (arith, l.number, can.number);
         clock = rw l.clock r.clock;
         mark = rw l.mark can.mark;
       }
 
   -- who evaluates for the subject reads the same as in the state, and of the same object
-  pub lends : CanEvaluate m subject → ReadTheSame (lent.environment_of env) (environment_for subject (state_of m)) × ((p : Parts) → IsOf p m → lent.IsOf p env)
-  lends can = (reads_the_same, lends_of can)
+  pub lends : Linked m → CanEvaluate m subject → ReadTheSame (lent.environment_of env) (environment_for subject (state_of m)) × ((p : Parts) → IsOf p m → lent.IsOf p env)
+  lends k can = (reads_the_same, lends_of k can)

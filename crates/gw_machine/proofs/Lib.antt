@@ -1,3 +1,4 @@
+pub mod Greatest
 pub mod Evaluating
 pub mod Lending
 pub mod Handles
@@ -14,3 +15,4 @@ pub mod AtRest
 pub mod AtSets
 pub mod AtCopies
 pub mod AtChains
+pub mod Activating

@@ -5,7 +5,7 @@ use Rattle.gw_chains.specs.Chain.{all_behind}
 use Rattle.gw_chains.specs.Lists.{Waiting}
 use Rattle.gw_chains.specs.declared.tx.Tx.{Tx}
 use Rattle.gw_chains.specs.declared.tx.Member.{Member}
-use Rattle.gw_machine.specs.declared.machine.Machine.{Machine}
+use Rattle.gw_machine.specs.Configuration.{Configuration}
 use Rattle.gw_step.specs.State.{priority_of}
 use Rattle.gw_step.specs.Residence.{ResidesOnce}
 use Rattle.gw_step.specs.Changes.{retries, woken}
@@ -24,7 +24,7 @@ all-joined : (P : Member → Type 0) (xs : List Member) (x : Member) → AllByRe
 all-joined P [] x h p = (p, tt)
 all-joined P (y ∷ ys) x h p = (h.0, all-joined P ys x h.1 p)
 
-module _ (m : Machine) (tx : Tx) (priority : ℤ) where
+module _ (m : Configuration) (tx : Tx) (priority : ℤ) where
   abbrev newcomer : Member
   newcomer = record { tx = tx; priority = priority }
 
@@ -34,11 +34,10 @@ module _ (m : Machine) (tx : Tx) (priority : ℤ) where
       ap (λ (ns : List ℕ). record (state_of m) { lists = record (lists_of (record m { active = None; waits = ws })) { retry = ns } }) (ap (map member_number) joined ∙ map-joined m.waits.retry newcomer)
       ∙ ap (λ (xs : List (List Member)). record (state_of m) { lists = record (lists_of m) { active = None; delay_lists = map (map member_number) xs; retry = map member_number m.waits.retry ++ tx.number ∷ [] } }) same
 
-  pub linked-retries : CanRest m tx → priority_of m.transactions.txs tx.number ≡ priority → (ws : Waiting) → ws.retry ≡ m.waits.retry ++ newcomer ∷ [] → ws.lists ≡ m.waits.lists
-      → (new : Machine) → new.transactions ≡ m.transactions → new.active ≡ None → new.current_events ≡ m.current_events → new.future_events ≡ m.future_events → new.waits ≡ ws → new.assemblies ≡ m.assemblies → new.chains ≡ m.chains
+  pub linked-retries : Linked m → CanRest m tx → priority_of m.transactions.txs tx.number ≡ priority → (ws : Waiting) → ws.retry ≡ m.waits.retry ++ newcomer ∷ [] → ws.lists ≡ m.waits.lists
+      → (new : Configuration) → new.transactions ≡ m.transactions → new.active ≡ None → new.current_events ≡ m.current_events → new.future_events ≡ m.future_events → new.waits ≡ ws → new.assemblies ≡ m.assemblies → new.chains ≡ m.chains
       → new.facilities ≡ m.facilities → new.storages ≡ m.storages → new.queues ≡ m.queues → new.clock ≡ m.clock → state_of new ≡ retries tx.number (state_of m) → Linked new
-  linked-retries r rank ws joined same new ts a cs fs w assemblies chs fac sto que clock is =
-      let l = r.linked in
+  linked-retries l r rank ws joined same new ts a cs fs w assemblies chs fac sto que clock is =
       record {
         active = rw a tt;
         current_events = rw (ts, cs) l.current_events;
@@ -49,14 +48,13 @@ module _ (m : Machine) (tx : Tx) (priority : ℤ) where
         user_chains = λ c below. rw (ts, chs) (l.user_chains c (rw fac at below));
         chained = rw (chs, fac) l.chained;
         blocks = rw ts l.blocks;
-        last = rw ts l.last;
         listed = rw (w, same, fac) l.listed;
         sound = rw ts l.sound;
         resides = subst ResidesOnce (sym is) (resides-retries tx.number (state_of m) (ap (option_map (λ (x : Tx). x.number)) r.active) l.resides);
         timed = timed-kept m new fac sto que clock l.timed;
       }
 
-module _ (m : Machine) (l : Linked m) (cs : List Member) (ws : Waiting) (joined : cs ≡ all_behind (λ (x : Member). x.priority) m.waits.retry m.current_events.items) (none : ws.retry ≡ []) (same : ws.lists ≡ m.waits.lists) where
+module _ (m : Configuration) (l : Linked m) (cs : List Member) (ws : Waiting) (joined : cs ≡ all_behind (λ (x : Member). x.priority) m.waits.retry m.current_events.items) (none : ws.retry ≡ []) (same : ws.lists ≡ m.waits.lists) where
   numbers-woken : map member_number cs ≡ all_behind (priority_of m.transactions.txs) (map member_number m.waits.retry) (map member_number m.current_events.items)
   numbers-woken =
       ap (map member_number) joined
@@ -68,7 +66,7 @@ module _ (m : Machine) (l : Linked m) (cs : List Member) (ws : Waiting) (joined 
       ∙ ap (λ (xs : List (List Member)). record (woken (state_of m)) { lists = record (woken (state_of m)).lists { delay_lists = map (map member_number) xs; retry = map member_number ws.retry } }) same
       ∙ ap (λ (xs : List Member). record (woken (state_of m)) { lists = record (woken (state_of m)).lists { retry = map member_number xs } }) none
 
-  pub linked-woken : (new : Machine) → new.transactions ≡ m.transactions → new.active ≡ m.active → new.current_events.items ≡ cs → new.future_events ≡ m.future_events → new.waits ≡ ws → new.assemblies ≡ m.assemblies → new.chains ≡ m.chains
+  pub linked-woken : (new : Configuration) → new.transactions ≡ m.transactions → new.active ≡ m.active → new.current_events.items ≡ cs → new.future_events ≡ m.future_events → new.waits ≡ ws → new.assemblies ≡ m.assemblies → new.chains ≡ m.chains
       → new.facilities ≡ m.facilities → new.storages ≡ m.storages → new.queues ≡ m.queues → new.clock ≡ m.clock → state_of new ≡ woken (state_of m) → Linked new
   linked-woken new ts a c fs w assemblies chs fac sto que clock is = record {
     active = rw (ts, a) l.active;
@@ -80,7 +78,6 @@ module _ (m : Machine) (l : Linked m) (cs : List Member) (ws : Waiting) (joined 
     user_chains = λ c below. rw (ts, chs) (l.user_chains c (rw fac at below));
     chained = rw (chs, fac) l.chained;
     blocks = rw ts l.blocks;
-    last = rw ts l.last;
     listed = rw (w, same, fac) l.listed;
     sound = rw ts l.sound;
     resides = subst ResidesOnce (sym is) (resides-woken (state_of m) l.resides);

@@ -10,7 +10,7 @@ use Rattle.gw_chains.specs.declared.tx.Member.{Member}
 use Rattle.gw_num.specs.Table.{at, put}
 use Rattle.gw_num.proofs.Tables.{at-put, at-put_other, length-put, map-put}
 use Rattle.gw_transactions.specs.Transactions.{Population, Holds}
-use Rattle.gw_machine.specs.declared.machine.Machine.{Machine}
+use Rattle.gw_machine.specs.Configuration.{Configuration}
 use Rattle.gw_step.specs.State.{priority_of, delay_list, without}
 use Rattle.gw_step.specs.Changes.{waits_for, called_from}
 use Rattle.gw_step.specs.Residence.{ResidesOnce, occurrences}
@@ -77,7 +77,7 @@ numbers-without n (x ∷ xs) (suc i) h once =
     let other : member_number x ≢ n = λ is. absurd (omega (arith, same_number (member_number x) n is, there, once)) in
     rw (ne_eqb (member_number x) n other) (ap (λ ns. member_number x ∷ ns) (numbers-without n xs i h (omega (arith, once))))
 
-module _ (m : Machine) (l : Linked m) (e : ℕ) (below : e < length m.facilities.facilities) (tx : Tx) (priority : ℤ) (rank : priority_of m.transactions.txs tx.number ≡ priority) where
+module _ (m : Configuration) (l : Linked m) (e : ℕ) (below : e < length m.facilities.facilities) (tx : Tx) (priority : ℤ) (rank : priority_of m.transactions.txs tx.number ≡ priority) where
   abbrev newcomer : Member
   newcomer = record { tx = tx; priority = priority }
 
@@ -97,7 +97,7 @@ module _ (m : Machine) (l : Linked m) (e : ℕ) (below : e < length m.facilities
         ∙ ap (put [] (map (map member_number) m.waits.lists) e)
         (joined-numbers (at [] m.waits.lists e) (l.delay_lists e below) ∙ ap (behind (priority_of m.transactions.txs) tx.number) (sym (delay_list-at m e))))
 
-    pub linked-waits : (new : Machine) → new.transactions ≡ m.transactions → new.active ≡ None → new.current_events ≡ m.current_events → new.future_events ≡ m.future_events → new.waits.lists ≡ ws → new.waits.retry ≡ rs → new.assemblies ≡ m.assemblies → new.chains ≡ m.chains
+    pub linked-waits : (new : Configuration) → new.transactions ≡ m.transactions → new.active ≡ None → new.current_events ≡ m.current_events → new.future_events ≡ m.future_events → new.waits.lists ≡ ws → new.waits.retry ≡ rs → new.assemblies ≡ m.assemblies → new.chains ≡ m.chains
         → new.facilities ≡ m.facilities → new.storages ≡ m.storages → new.queues ≡ m.queues → new.clock ≡ m.clock → state_of new ≡ waits_for e tx.number (state_of m) → Linked new
     linked-waits new ts a cs fs w r assemblies chs fac sto que clock is = record {
       active = rw a tt;
@@ -110,7 +110,6 @@ module _ (m : Machine) (l : Linked m) (e : ℕ) (below : e < length m.facilities
       user_chains = λ c within. rw (ts, chs) (l.user_chains c (rw fac at within));
       chained = rw (chs, fac) l.chained;
       blocks = rw ts l.blocks;
-      last = rw ts l.last;
       listed = rw (w, fac) (as_many m.waits.lists ws e (behind (λ (x : Member). x.priority) newcomer) (rw l.listed below) changes ∙ l.listed);
       sound = rw ts l.sound;
       resides = subst ResidesOnce (sym is) (resides-waits e tx.number (state_of m) (ap (option_map (λ (x : Tx). x.number)) active) l.resides);
@@ -143,7 +142,7 @@ module _ (m : Machine) (l : Linked m) (e : ℕ) (below : e < length m.facilities
         ∙ ap (put [] (map (map member_number) m.waits.lists) e)
         (numbers-without tx.number (at [] m.waits.lists e) i number-there once ∙ ap (without tx.number) (sym (delay_list-at m e))))
 
-    pub linked-called : (new : Machine) → Holds m.transactions tx → new.transactions ≡ m.transactions → new.active ≡ m.active → new.current_events.items ≡ behind (λ (x : Member). x.priority) newcomer m.current_events.items → new.future_events ≡ m.future_events → new.waits.lists ≡ ws → new.waits.retry ≡ rs → new.assemblies ≡ m.assemblies → new.chains ≡ m.chains
+    pub linked-called : (new : Configuration) → Holds m.transactions tx → new.transactions ≡ m.transactions → new.active ≡ m.active → new.current_events.items ≡ behind (λ (x : Member). x.priority) newcomer m.current_events.items → new.future_events ≡ m.future_events → new.waits.lists ≡ ws → new.waits.retry ≡ rs → new.assemblies ≡ m.assemblies → new.chains ≡ m.chains
         → new.facilities ≡ m.facilities → new.storages ≡ m.storages → new.queues ≡ m.queues → new.clock ≡ m.clock → state_of new ≡ called_from e tx.number (state_of m) → Linked new
     linked-called new held ts a cs fs w r assemblies chs fac sto que clock is = record {
       active = rw (ts, a) l.active;
@@ -156,7 +155,6 @@ module _ (m : Machine) (l : Linked m) (e : ℕ) (below : e < length m.facilities
       user_chains = λ c within. rw (ts, chs) (l.user_chains c (rw fac at within));
       chained = rw (chs, fac) l.chained;
       blocks = rw ts l.blocks;
-      last = rw ts l.last;
       listed = rw (w, fac) (as_many m.waits.lists ws e (λ xs. remove xs i) (rw l.listed below) changes ∙ l.listed);
       sound = rw ts l.sound;
       resides = subst ResidesOnce (sym is) (resides-called e tx.number (state_of m) occurs-there l.resides);
@@ -164,12 +162,12 @@ module _ (m : Machine) (l : Linked m) (e : ℕ) (below : e < length m.facilities
     }
 
 -- other rooms and places of walks leave a machine as it was
-pub state-walked : (m : Machine) (ws : Waiting) → ws.lists ≡ m.waits.lists → ws.retry ≡ m.waits.retry → state_of (record m { waits = ws }) ≡ state_of m
+pub state-walked : (m : Configuration) (ws : Waiting) → ws.lists ≡ m.waits.lists → ws.retry ≡ m.waits.retry → state_of (record m { waits = ws }) ≡ state_of m
 state-walked m ws lists retry =
     ap (λ (xs : List (List Member)). record (state_of m) { lists = record (lists_of m) { delay_lists = map (map member_number) xs; retry = map member_number ws.retry } }) lists
     ∙ ap (λ (xs : List Member). record (state_of m) { lists = record (lists_of m) { retry = map member_number xs } }) retry
 
-pub linked-walked : (m : Machine) → Linked m → (ws : Waiting) → ws.lists ≡ m.waits.lists → ws.retry ≡ m.waits.retry → Linked (record m { waits = ws })
+pub linked-walked : (m : Configuration) → Linked m → (ws : Waiting) → ws.lists ≡ m.waits.lists → ws.retry ≡ m.waits.retry → Linked (record m { waits = ws })
 linked-walked m l ws lists retry = record {
   active = l.active;
   current_events = l.current_events;
@@ -181,7 +179,6 @@ linked-walked m l ws lists retry = record {
   listed = rw lists l.listed;
   chained = l.chained;
   blocks = l.blocks;
-  last = l.last;
   sound = l.sound;
   resides = subst ResidesOnce (sym (state-walked m ws lists retry)) l.resides;
   timed = record { facilities = l.timed.facilities; storages = l.timed.storages; queues = l.timed.queues };

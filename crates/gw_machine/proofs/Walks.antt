@@ -10,7 +10,7 @@ use Rattle.gw_chains.specs.declared.tx.Tx.{Tx}
 use Rattle.gw_chains.specs.declared.tx.Member.{Member}
 use Rattle.gw_transactions.specs.Transactions.{attributes_at}
 use Rattle.gw_entities.specs.Table.{FacilityTable}
-use Rattle.gw_machine.specs.declared.machine.Machine.{Machine}
+use Rattle.gw_machine.specs.Configuration.{Configuration}
 use Rattle.gw_step.specs.State.{State, delay_list}
 use Rattle.gw_step.specs.Blocks.{takes_over, hand_over, asked, enters_if_free, admitted, looked_at, is_full, admission}
 use Rattle.gw_step.specs.Changes.{storage, put_storage, called_from, enters_and_falls}
@@ -25,7 +25,7 @@ use Rattle.std.proofs.lemmas.Bool.{leb-true}
 use Rattle.gw_step.specs.Residence.{occurrences}
 use Rattle.gw_step.specs.Numbers.{IsWithin, made_in}
 use Rattle.gw_machine.specs.View.{state_of, member_number}
-use Rattle.gw_machine.specs.Coherence.{Linked, IsSteady}
+use Rattle.gw_machine.specs.Coherence.{IsSteady}
 use Rattle.gw_machine.specs.Leaving.{Moves}
 use Rattle.gw_machine.proofs.Changes.{delay_list-at}
 use Rattle.gw_step.proofs.Follows.{within-looked_at, asked-enter}
@@ -48,7 +48,7 @@ none-of : (bs : List Block) (f : ℕ) (s : State) (xs : List Member) → option_
 none-of bs f s [] h = refl
 none-of bs f s (x ∷ xs) h = absurd cc
 
-module _ (bs : List Block) (m : Machine) (e : ℕ) (below : e < length m.facilities.facilities) where
+module _ (bs : List Block) (m : Configuration) (e : ℕ) (below : e < length m.facilities.facilities) where
   pub handed-first : (tx : Tx) → option_map handle (slice_get (at [] m.waits.lists e) 0) ≡ Some tx
       → hand_over bs e (delay_list e (state_of m)) (state_of m) ≡ option_map_or (takes_over bs e tx.number (state_of m)) (attributes_at tx.number m.transactions.txs) (state_of m)
   handed-first tx h = ap (λ ns. hand_over bs e ns (state_of m)) (delay_list-at m e) ∙ first-of bs e (state_of m) (at [] m.waits.lists e) tx h
@@ -57,11 +57,10 @@ module _ (bs : List Block) (m : Machine) (e : ℕ) (below : e < length m.facilit
   handed-none h = ap (λ ns. hand_over bs e ns (state_of m)) (delay_list-at m e) ∙ none-of bs e (state_of m) (at [] m.waits.lists e) h
 
   pub steady-looked_at : (k : ℕ) → IsSteady bs k m → (i : ℕ) (tx : Tx) → option_map handle (slice_get (at [] m.waits.lists e) i) ≡ Some tx
-      → (new : Machine) → state_of new ≡ looked_at bs e tx.number (state_of m) → Linked new → new.facilities ≡ m.facilities → IsSteady bs k new
-  steady-looked_at k s i tx there new is linked fac =
+      → (new : Configuration) → state_of new ≡ looked_at bs e tx.number (state_of m) → new.facilities ≡ m.facilities → IsSteady bs k new
+  steady-looked_at k s i tx there new is fac =
       let waits : 1 ≤ occurrences tx.number (delay_list e (state_of m)) = rw (delay_list-at m e) (occurs-at tx.number (at [] m.waits.lists e) i (numbered (slice_get (at [] m.waits.lists e) i) tx there)) in
       record {
-        linked = linked;
         fit = rw fac s.fit;
         within = subst (λ (n : ℕ). IsWithin (length bs) n k (made_in k) (state_of new)) (sym (ap (λ (f : FacilityTable). length f.facilities) fac))
             (subst (λ (t : State). IsWithin (length bs) (length m.facilities.facilities) k (made_in k) t) (sym is) (within-looked_at bs (length m.facilities.facilities) k (made_in k) s.fit (state_of m) s.within e tx.number waits));
@@ -74,7 +73,7 @@ length-one [] e = omega arith
 length-one (x ∷ xs) zero = omega (arith, sum_by-cons length x xs)
 length-one (x ∷ xs) (suc e) = omega (arith, sum_by-cons length x xs, length-one xs e)
 
-pub few-wait : (bs : List Block) (k : ℕ) (m : Machine) → IsSteady bs k m → (e : ℕ) → length (at [] m.waits.lists e) ≤ 2 ^ 41
+pub few-wait : (bs : List Block) (k : ℕ) (m : Configuration) → IsSteady bs k m → (e : ℕ) → length (at [] m.waits.lists e) ≤ 2 ^ 41
 few-wait bs k m s e =
     let here : length (delay_list e (state_of m)) ≡ length (at [] m.waits.lists e) = ap length (delay_list-at m e) ∙ length-map (at [] m.waits.lists e) member_number in
     omega (arith, here, length-one (state_of m).lists.delay_lists e, s.within.entries, s.few)
@@ -115,19 +114,19 @@ unfolding admission
 admission-none bs e s = refl
 
 -- what is left of a walk that came to this place
-abbrev pub rest_of_walk : List Block → ℕ → ℕ → Machine → State
+abbrev pub rest_of_walk : List Block → ℕ → ℕ → Configuration → State
 rest_of_walk bs e i m = admission bs e (drop i (map member_number (at [] m.waits.lists e))) (state_of m)
 
 -- the walk from its first place is the whole of it
-pub walk-first : (bs : List Block) (e : ℕ) (m : Machine) → rest_of_walk bs e 0 m ≡ admission bs e (delay_list e (state_of m)) (state_of m)
+pub walk-first : (bs : List Block) (e : ℕ) (m : Configuration) → rest_of_walk bs e 0 m ≡ admission bs e (delay_list e (state_of m)) (state_of m)
 walk-first bs e m = ap (λ ns. admission bs e ns (state_of m)) (sym (delay_list-at m e))
 
 -- the walk has come to its end
-walk-last : (bs : List Block) (e i : ℕ) (m : Machine) → option_map handle (slice_get (at [] m.waits.lists e) i) ≡ None → rest_of_walk bs e i m ≡ state_of m
+walk-last : (bs : List Block) (e i : ℕ) (m : Configuration) → option_map handle (slice_get (at [] m.waits.lists e) i) ≡ None → rest_of_walk bs e i m ≡ state_of m
 walk-last bs e i m h = ap (λ ns. admission bs e ns (state_of m)) (dropped-all (at [] m.waits.lists e) i h) ∙ admission-none bs e (state_of m)
 
 -- where nothing but the place of the walk and the rooms change, the same is left of it
-pub walk-same : (bs : List Block) (e i : ℕ) (m new : Machine) → new.waits.lists ≡ m.waits.lists → state_of new ≡ state_of m → rest_of_walk bs e i new ≡ rest_of_walk bs e i m
+pub walk-same : (bs : List Block) (e i : ℕ) (m new : Configuration) → new.waits.lists ≡ m.waits.lists → state_of new ≡ state_of m → rest_of_walk bs e i new ≡ rest_of_walk bs e i m
 walk-same bs e i m new lists is =
     ap (λ (xs : List (List Member)). admission bs e (drop i (map member_number (at [] xs e))) (state_of new)) lists
     ∙ ap (admission bs e (drop i (map member_number (at [] m.waits.lists e)))) is
@@ -156,12 +155,12 @@ full-admission bs es e (n ∷ ns) s fit full =
     admission-more bs e n ns s ∙ ap (admission bs e ns) (full-looked_at bs es e n s fit full) ∙ full-admission bs es e ns s fit full
 
 -- the walk has come to its end, or may end since no unit is free
-pub walk-ends : (bs : List Block) (es e i : ℕ) (m : Machine) → BlocksFit es bs → (option_map handle (slice_get (at [] m.waits.lists e) i) ≡ None) ⊎ (is_full (storage e (state_of m)) ≡ true) → rest_of_walk bs e i m ≡ state_of m
+pub walk-ends : (bs : List Block) (es e i : ℕ) (m : Configuration) → BlocksFit es bs → (option_map handle (slice_get (at [] m.waits.lists e) i) ≡ None) ⊎ (is_full (storage e (state_of m)) ≡ true) → rest_of_walk bs e i m ≡ state_of m
 walk-ends bs es e i m fit (inl none) = walk-last bs e i m none
 walk-ends bs es e i m fit (inr full) = full-admission bs es e (drop i (map member_number (at [] m.waits.lists e))) (state_of m) fit full
 
 -- one waiter was looked at: it left its place, or the walk goes on behind it
-pub walk-on : (bs : List Block) (e i : ℕ) (m new : Machine) (tx : Tx) (moved : Bool) → option_map handle (slice_get (at [] m.waits.lists e) i) ≡ Some tx → state_of new ≡ looked_at bs e tx.number (state_of m) → Moves moved e i m new
+pub walk-on : (bs : List Block) (e i : ℕ) (m new : Configuration) (tx : Tx) (moved : Bool) → option_map handle (slice_get (at [] m.waits.lists e) i) ≡ Some tx → state_of new ≡ looked_at bs e tx.number (state_of m) → Moves moved e i m new
     → rest_of_walk bs e (elim moved [ true ↦ i | false ↦ i + 1 ]) new ≡ rest_of_walk bs e i m
 walk-on bs e i m new tx true there is moves =
     let xs = at [] m.waits.lists e in
@@ -175,8 +174,8 @@ walk-on bs e i m new tx false there is moves =
     ∙ ap (admission bs e (drop (i + 1) (map member_number xs))) is
     ∙ sym (ap (λ ns. admission bs e ns (state_of m)) (drop-at xs i tx there) ∙ admission-more bs e tx.number (drop (i + 1) (map member_number xs)) (state_of m))
 
-pub left-moved : (e i : ℕ) (m new : Machine) (tx : Tx) → option_map handle (slice_get (at [] m.waits.lists e) i) ≡ Some tx → Moves true e i m new → length (at [] new.waits.lists e) + 1 ≡ length (at [] m.waits.lists e)
+pub left-moved : (e i : ℕ) (m new : Configuration) (tx : Tx) → option_map handle (slice_get (at [] m.waits.lists e) i) ≡ Some tx → Moves true e i m new → length (at [] new.waits.lists e) + 1 ≡ length (at [] m.waits.lists e)
 left-moved e i m new tx there moves = ap (λ (xs : List Member). length xs + 1) moves.0 ∙ length-remove (at [] m.waits.lists e) i tx there
 
-pub left-place : (e i : ℕ) (m : Machine) (tx : Tx) → option_map handle (slice_get (at [] m.waits.lists e) i) ≡ Some tx → i < length (at [] m.waits.lists e)
+pub left-place : (e i : ℕ) (m : Configuration) (tx : Tx) → option_map handle (slice_get (at [] m.waits.lists e) i) ≡ Some tx → i < length (at [] m.waits.lists e)
 left-place e i m tx there = place-within (at [] m.waits.lists e) i tx there

@@ -10,7 +10,7 @@ use Rattle.gw_chains.specs.declared.assemblies.Assembly.{Assembly}
 use Rattle.gw_num.specs.Table.{at}
 use Rattle.gw_transactions.specs.declared.Transaction.{Transaction}
 use Rattle.gw_transactions.specs.Transactions.{LiveTransaction, Population, attributes_at, Holds, IsSound}
-use Rattle.gw_machine.specs.declared.machine.Machine.{Machine}
+use Rattle.gw_machine.specs.Configuration.{Configuration}
 use Rattle.gw_step.specs.declared.placement.Placement.{Placement}
 use Rattle.gw_step.specs.declared.placement.Placement.TheVariants.{JoinsDelayList, JoinsRetryList, AwaitsSet, JoinsChain}
 use Rattle.gw_step.specs.State.{priority_of}
@@ -35,7 +35,7 @@ abbrev pub IsHeldBy : Population → Assembly → Type 0
 IsHeldBy p a = Holds p a.first
 
 -- the clock units that passed over the entities are the clock
-pub record IsTimed (m : Machine) : Type 0 where
+pub record IsTimed (m : Configuration) : Type 0 where
   pub facilities : pos m.facilities.passed ≡ m.clock
   pub storages : pos m.storages.passed ≡ m.clock
   pub queues : pos m.queues.passed ≡ m.clock
@@ -45,7 +45,7 @@ abbrev pub AreInBlocks : List (Option LiveTransaction) → Type 0
 AreInBlocks txs = (n : ℕ) → IfSome (at None txs n) (λ (t : LiveTransaction). t.attributes.current ≤ 4096)
 
 -- each handle of a machine leads to its transaction, each live transaction resides exactly once, and the time is one
-pub record Linked (m : Machine) : Type 0 where
+pub record Linked (m : Configuration) : Type 0 where
   pub active : IfSome m.active (Holds m.transactions)
   pub current_events : AllByRecursion (IsRanked m.transactions) m.current_events.items
   pub future_events : AllByRecursion (IsHeld m.transactions) m.future_events.items
@@ -61,8 +61,6 @@ pub record Linked (m : Machine) : Type 0 where
   pub sound : IsSound m.transactions
   pub resides : ResidesOnce (state_of m)
   pub timed : IsTimed m
-  -- each transaction has as many parameters
-  pub last : m.transactions.last ≡ 64
 
 -- from p to q these handles stay held, and their transactions keep their priorities; and no transaction comes past the blocks
 pub record Carries (these : ℕ → Type 0) (p q : Population) : Type 0 where
@@ -87,45 +85,49 @@ ranked p (e ∷ es) = record { tx = e.tx; priority = priority_of p.txs e.tx.numb
 -- RESTING
 
 -- a machine has room to wake the retry list, and to let its active transaction rest on the current events chain or for a time
-pub record HasRoom (m : Machine) : Type 0 where
+pub record HasRoom (m : Configuration) : Type 0 where
   pub current_events : length m.waits.retry < m.current_events.room
   pub future_events : 0 < m.future_events.room
 
 -- the handle is the active transaction's
-pub record CanRest (m : Machine) (tx : Tx) : Type 0 where
-  pub linked : Linked m
+pub record CanRest (m : Configuration) (tx : Tx) : Type 0 where
   pub active : m.active ≡ Some tx
   pub held : Holds m.transactions tx
 
 -- a delay list, a user chain or the retry list that a transaction joins is there, and has room; so have the assemblies where it begins one
-abbrev pub CanBePlaced : Placement → Machine → Type 0
+abbrev pub CanBePlaced : Placement → Configuration → Type 0
 CanBePlaced (JoinsDelayList e) m = (e < length m.facilities.facilities) × (0 < at 0 m.waits.rooms e)
 CanBePlaced JoinsRetryList m = 0 < m.waits.retry_room
 CanBePlaced (AwaitsSet a) m = 0 < m.assemblies.room
 CanBePlaced (JoinsChain l) m = (l.chain < length m.facilities.facilities) × (0 < at 0 m.chains.rooms l.chain)
 CanBePlaced placement m = Unit {0}
 
+-- PARAMETERS
+
+-- a machine has a slot for this parameter of each transaction
+abbrev pub HasSlot : Configuration → ℕ → Type 0
+HasSlot m p = (1 ≤ p) × (p ≤ m.last)
+
 -- A RUNNING MACHINE
 
 -- a machine is one of an object: it has an entry for each of its entities
-abbrev pub IsOf : Parts → Machine → Type 0
+abbrev pub IsOf : Parts → Configuration → Type 0
 IsOf p m = length m.facilities.facilities ≡ length p.entities
 
 -- a machine of these blocks in which at most so many entries were made, and as many transactions as that many steps make
-pub record IsSteady (bs : List Block) (made : ℕ) (m : Machine) : Type 0 where
-  pub linked : Linked m
+pub record IsSteady (bs : List Block) (made : ℕ) (m : Configuration) : Type 0 where
   pub fit : BlocksFit (length m.facilities.facilities) bs
   pub within : IsWithin (length bs) (length m.facilities.facilities) made (made_in made) (state_of m)
   pub few : made ≤ 2 ^ 41
 
 -- a running machine of these blocks
-pub record IsRunning (bs : List Block) (m : Machine) : Type 0 where
+pub record IsRunning (bs : List Block) (m : Configuration) : Type 0 where
   pub steady : IsSteady bs m.steps m
   pub few : m.steps < 2 ^ 41
   pub runs : pos 0 <ℤ m.count
 
 -- the active transaction of a running machine is t, whose next block is one of these
-pub record IsActive (bs : List Block) (m : Machine) (tx : Tx) (t : Transaction) : Type 0 where
+pub record IsActive (bs : List Block) (m : Configuration) (tx : Tx) (t : Transaction) : Type 0 where
   pub steady : IsSteady bs m.steps m
   pub few : m.steps < 2 ^ 41
   pub runs : pos 0 <ℤ m.count
@@ -135,7 +137,7 @@ pub record IsActive (bs : List Block) (m : Machine) (tx : Tx) (t : Transaction) 
   pub next : t.next ≤ length bs
 
 -- the same, where the block of the active transaction has done its effect on an entity, and the entry is still to come
-pub record IsPassing (bs : List Block) (m : Machine) (tx : Tx) (t : Transaction) : Type 0 where
+pub record IsPassing (bs : List Block) (m : Configuration) (tx : Tx) (t : Transaction) : Type 0 where
   pub steady : IsSteady bs m.steps m
   pub few : m.steps < 2 ^ 41
   pub held : Holds m.transactions tx

@@ -7,11 +7,11 @@ use Rattle.gw_step.specs.declared.ends.End.{End}
 use Rattle.gw_flow.specs.Values.{Evaluation, Value, Fails}
 use Rattle.gw_transactions.specs.declared.Transaction.{Transaction}
 use Rattle.gw_transactions.specs.Parameters.{no_parameters}
-use Rattle.gw_transactions.specs.Transactions.{Holds, IsSound}
+use Rattle.gw_transactions.specs.Transactions.{Holds}
 use Rattle.gw_step.specs.Outcome.{Outcome, Gives, EndsBy, ◌>>=◌}
 use Rattle.gw_step.specs.State.{State}
 use Rattle.gw_step.specs.Times.{environment, parameters_of}
-use Rattle.gw_machine.specs.declared.machine.Machine.{Machine}
+use Rattle.gw_machine.specs.Configuration.{Configuration}
 use Rattle.gw_machine.specs.declared.values.Subject.{Subject}
 
 -- FOR WHOM
@@ -32,19 +32,17 @@ environment_for subject s = environment subject.number subject.priority subject.
 -- WHAT MAY BE READ
 
 -- each table of a machine has an entry for each entity, and an i64 holds the clock and the counts
-pub record IsReadable (m : Machine) : Type 0 where
+pub record IsReadable (m : Configuration) : Type 0 where
   pub storages : length m.storages.storages ≡ length m.facilities.facilities
   pub queues : length m.queues.queues ≡ length m.facilities.facilities
   pub switches : length m.switches ≡ length m.facilities.facilities
   pub savevalues : length m.savevalues ≡ length m.facilities.facilities
   pub tables : length m.tables ≡ length m.facilities.facilities
-  pub chains : length m.chains.lists ≡ length m.facilities.facilities
-  pub entries : sum m.entries.items ≤ 2 ^ 60
+  pub entries : sum m.entries ≤ 2 ^ 60
   pub clock : pos 0 ≤ℤ m.clock
-  pub sound : IsSound m.transactions
 
 -- operands may be evaluated for the subject
-pub record CanEvaluate (m : Machine) (subject : Subject) : Type 0 where
+pub record CanEvaluate (m : Configuration) (subject : Subject) : Type 0 where
   pub readable : IsReadable m
   pub held : IfSome subject.tx (Holds m.transactions)
   pub number : subject.number ≤ 2 ^ 62

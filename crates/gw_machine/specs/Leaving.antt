@@ -4,10 +4,16 @@ use Rattle.gw_entities.specs.Tabulation.{Tabulation}
 use Rattle.gw_num.specs.declared.arithmetic.NumFault.{NumFault}
 use Rattle.gw_num.specs.Table.{at}
 use Rattle.gw_step.specs.declared.ends.End.{End}
-use Rattle.gw_machine.specs.declared.machine.Machine.{Machine}
+use Rattle.gw_machine.specs.Configuration.{Configuration}
 use Rattle.gw_machine.specs.View.{state_of}
 use Rattle.gw_step.specs.Outcome.{Outcome, Gives, EndsBy}
 use Rattle.gw_step.specs.State.{State}
+
+-- WHAT STAYS
+
+-- the machine is in this state now, and has as many slots for parameters as before
+abbrev pub Becomes : State → Configuration → Configuration → Type 0
+Becomes s old new = (state_of new ≡ s) × (new.last ≡ old.last)
 
 -- THE START
 
@@ -26,6 +32,6 @@ Tabulates (Err fault) rule puts old new = (rule ≡ Err fault) × (new ≡ old)
 -- DELAY LISTS
 
 -- the waiter at this place of the delay list of an entity, to which the walk over it has come, left it for the current events chain; or nothing changed
-abbrev pub Moves : Bool → ℕ → ℕ → Machine → Machine → Type 0
+abbrev pub Moves : Bool → ℕ → ℕ → Configuration → Configuration → Type 0
 Moves true e place old new = (at [] new.waits.lists e ≡ remove (at [] old.waits.lists e) place) × (old.current_events.room ≤ new.current_events.room + 1) × (at 0 new.waits.places e ≡ place)
 Moves false e place old new = (new.waits ≡ old.waits) × (new.current_events ≡ old.current_events) × (state_of new ≡ state_of old)

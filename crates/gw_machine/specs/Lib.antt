@@ -1,6 +1,9 @@
 -- HOW THE MACHINE KEEPS A STATE
+pub mod Configuration
 pub mod View
 pub mod Coherence
+pub mod Shown
+pub mod Slots
 -- WHAT ITS CALLS ANSWER
 pub mod Leaving
 pub mod Evaluating

@@ -4,7 +4,7 @@ use Rattle.gw_chains.specs.declared.tx.Tx.{Tx}
 use Rattle.gw_chains.specs.declared.tx.Member.{Member}
 use Rattle.gw_chains.specs.declared.tx.Event.{Event}
 use Rattle.gw_chains.specs.declared.assemblies.Assembly.{Assembly as HeldAssembly}
-use Rattle.gw_machine.specs.declared.machine.Machine.{Machine}
+use Rattle.gw_machine.specs.Configuration.{Configuration}
 use Rattle.gw_step.specs.State.{FutureEvent, Assembly, Lists, EntityStates, State}
 
 -- the number of a transaction, by its handle
@@ -24,7 +24,7 @@ abbrev pub assembly_of : HeldAssembly → Assembly
 assembly_of a = record { block = a.block; set = a.set; number = a.first.number; missing = a.missing }
 
 -- which transactions reside where
-abbrev pub lists_of : Machine → Lists
+abbrev pub lists_of : Configuration → Lists
 lists_of m = record {
   active = option_map (λ (tx : Tx). tx.number) m.active;
   current_events = map member_number m.current_events.items;
@@ -36,21 +36,21 @@ lists_of m = record {
 }
 
 -- the entities as they are now
-abbrev pub entities_of : Machine → EntityStates
+abbrev pub entities_of : Configuration → EntityStates
 entities_of m = record { facilities = m.facilities.facilities; storages = m.storages.storages; queues = m.queues.queues; switches = m.switches; savevalues = m.savevalues; tables = m.tables }
 
 -- the whole state
-abbrev pub state_of : Machine → State
+abbrev pub state_of : Configuration → State
 state_of m = record {
   clock = m.clock;
   count = m.count;
   steps = m.steps;
   streams = m.streams;
   stir = m.stir;
-  scheduled = m.scheduled.items;
+  scheduled = m.scheduled;
   transactions = m.transactions.txs;
   lists = lists_of m;
   entities = entities_of m;
-  entries = m.entries.items;
+  entries = m.entries;
   ended = m.ended;
 }

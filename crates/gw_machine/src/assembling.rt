@@ -4,7 +4,6 @@ ghost use Rattle.std.specs.Prelude.{◌≡◌, ◌≤◌, ◌<◌, ◌+◌, Some
 ghost use Rattle.gw_step.specs.Changes as change;
 ghost use Rattle.gw_step.specs.Blocks as model;
 ghost use Rattle.gw_machine.specs.View.{state_of, assembly_of};
-ghost use Rattle.gw_machine.specs.Coherence.{Linked};
 
 use crate::machine::Machine;
 use gw_chains::{Assembly, Memory};
@@ -23,7 +22,6 @@ impl Machine {
     /// It fails for want of memory.
     pub fn reserve_assembly(&mut self) -> Result<(), Memory>
         ensures state { state_of self.new ≡ state_of self.old }
-        ensures linked { Linked self.old → Linked self.new }
         ensures room { OnOk result (0 < self.new.assemblies.room) }
         ensures frame { self.new ≡ record self.old { assemblies = self.new.assemblies } }
     {
@@ -32,11 +30,9 @@ impl Machine {
 
     /// The last of its set has come to an assembly: who waited joins the current events chain, behind its peers.
     fn assemble(&mut self, assembly: Assembly)
-        requires linked { Linked self.old }
         requires there { model.assembly_at assembly.block assembly.set (state_of self.old) ≡ Some (assembly_of assembly) }
         requires room { 0 < self.old.current_events.room }
         ensures state { state_of self.new ≡ change.assembled (assembly_of assembly) (state_of self.old) }
-        ensures linked { Linked self.new }
         ensures room { self.old.current_events.room ≤ self.new.current_events.room + 1 }
         ensures frame { self.new ≡ record self.old { current_events = self.new.current_events; assemblies = self.new.assemblies } }
     {
@@ -48,11 +44,9 @@ impl Machine {
     /// Another of its set has come to an assembly that has begun, where it finds the first: where it is the last of its
     /// set, that one goes on.
     pub fn join_assembly(&mut self, assembly: Assembly)
-        requires linked { Linked self.old }
         requires there { model.assembly_at assembly.block assembly.set (state_of self.old) ≡ Some (assembly_of assembly) }
         requires room { 0 < self.old.current_events.room }
         ensures state { state_of self.new ≡ model.joined_by_one (assembly_of assembly) (state_of self.old) }
-        ensures linked { Linked self.new }
         ensures room { self.old.current_events.room ≤ self.new.current_events.room + 1 }
         ensures frame { self.new ≡ record self.old { current_events = self.new.current_events; assemblies = self.new.assemblies } }
     {

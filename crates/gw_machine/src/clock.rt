@@ -5,7 +5,7 @@ ghost use Rattle.std.specs.List.{AllByRecursion};
 ghost use Rattle.gw_chains.specs.Chain.{all_behind, due, later};
 ghost use Rattle.gw_step.specs.Changes as change;
 ghost use Rattle.gw_machine.specs.View.{state_of, lists_of};
-ghost use Rattle.gw_machine.specs.Coherence.{Linked, IsHeld, ranked};
+ghost use Rattle.gw_machine.specs.Coherence.{IsHeld, ranked};
 
 use crate::machine::Machine;
 use gw_chains::{Cec, Fec, Memory};
@@ -34,13 +34,12 @@ fn move_due(
 impl Machine {
     /// The clock goes to a time, and all that are due join the current events chain. There is room.
     pub fn move_clock(&mut self, time: i64)
-        requires linked { Linked self.old }
         requires later { (pos 0 ≤ℤ self.old.clock) × (self.old.clock ≤ℤ time) }
         requires room { length self.old.future_events.items ≤ self.old.current_events.room }
         ensures state { state_of self.new ≡ change.clock_moves time (state_of self.old) }
-        ensures linked { Linked self.new }
         ensures room { self.old.current_events.room ≤ self.new.current_events.room + length self.old.future_events.items }
         ensures waits { self.new.waits ≡ self.old.waits }
+        ensures slots { self.new.last ≡ self.old.last }
     {
         move_due(
             &self.transactions,
@@ -57,12 +56,10 @@ impl Machine {
 
     /// The clock goes to a time, all that are due join the current events chain, and the retry list is woken.
     pub fn move_clock_and_wake(&mut self, time: i64) -> Result<(), Memory>
-        requires linked { Linked self.old }
         requires later { (pos 0 ≤ℤ self.old.clock) × (self.old.clock ≤ℤ time) }
-        requires few { length self.old.future_events.items + length self.old.waits.retry < 2 ^ 60 }
         ensures ok { OnOk result (state_of self.new ≡ change.woken (change.clock_moves time (state_of self.old))) }
         ensures err { OnErr result (state_of self.new ≡ state_of self.old) }
-        ensures linked { Linked self.new }
+        ensures slots { self.new.last ≡ self.old.last }
     {
         let due = self.future_events.len();
         self.current_events.reserve(due + self.waits.retrying())?;
@@ -73,14 +70,13 @@ impl Machine {
 
     /// The first of the current events chain becomes active, if there is one.
     pub fn activate_first(&mut self) -> bool
-        requires linked { Linked self.old }
         requires nobody { self.old.active ≡ None }
         ensures first { IsTrue result → (n : ℕ) × (ns : List ℕ) × ((state_of self.old).lists.current_events ≡ n ∷ ns) ×
             (state_of self.new ≡ record (state_of self.old)
             { lists = record (lists_of self.old) { active = Some n; current_events = ns } }) }
         ensures none { result ≡ false → ((state_of self.old).lists.current_events ≡ []) × (state_of self.new ≡ state_of self.old) ×
             (self.new.future_events ≡ self.old.future_events) × (self.new.waits ≡ self.old.waits) }
-        ensures linked { Linked self.new }
+        ensures slots { self.new.last ≡ self.old.last }
     {
         match self.current_events.pop_first() {
             Some(tx) => {

@@ -4,7 +4,7 @@ ghost use Rattle.std.specs.Prelude.{◌≡◌, ◌≤◌, ◌<◌, ◌+◌, ◌^
 ghost use Rattle.gw_transactions.specs.Transactions.{Holds, kept_of};
 ghost use Rattle.gw_step.specs.Changes as model;
 ghost use Rattle.gw_machine.specs.View.{state_of};
-ghost use Rattle.gw_machine.specs.Coherence.{Linked, Carries, Every};
+ghost use Rattle.gw_machine.specs.Coherence.{Carries, Every};
 
 use crate::machine::Machine;
 use gw_chains::{Memory, Tx};
@@ -18,7 +18,6 @@ impl Machine {
         requires held { Holds self.old.transactions tx }
         ensures parameters { IfOk result (λ all. all.items ≡ replicate copies (kept_of tx.number self.new.transactions)) }
         ensures state { state_of self.new ≡ state_of self.old }
-        ensures linked { Linked self.old → Linked self.new }
         ensures room { OnOk result ((copies ≤ self.new.transactions.room) × (copies ≤ self.new.current_events.room)) }
         ensures carries { Carries Every self.old.transactions self.new.transactions }
         ensures frame { self.new ≡ record self.old { transactions = self.new.transactions; current_events = self.new.current_events } }
@@ -32,14 +31,12 @@ impl Machine {
     /// A copy of a transaction is made, with these parameters, which are that one's, and joins the current events chain,
     /// behind its peers, to go to a block.
     fn copy_once(&mut self, tx: Tx, transaction: Transaction, target: u16, parameters: Parameters)
-        requires linked { Linked self.old }
         requires held { Holds self.old.transactions tx }
         requires same { parameters ≡ kept_of tx.number self.old.transactions }
         requires block { transaction.current ≤ 4096 }
         requires few { length self.old.transactions.txs < 2 ^ 60 }
         requires room { (0 < self.old.transactions.room) × (0 < self.old.current_events.room) }
         ensures state { state_of self.new ≡ model.copied tx.number transaction target (state_of self.old) }
-        ensures linked { Linked self.new }
         ensures held { Holds self.new.transactions tx }
         ensures same { kept_of tx.number self.new.transactions ≡ kept_of tx.number self.old.transactions }
         ensures made { length self.new.transactions.txs ≡ length self.old.transactions.txs + 1 }
@@ -63,14 +60,12 @@ impl Machine {
         copies: u16,
         mut parameters: Vec<Parameters>,
     )
-        requires linked { Linked self.old }
         requires held { Holds self.old.transactions tx }
         requires same { parameters.items ≡ replicate copies (kept_of tx.number self.old.transactions) }
         requires block { transaction.current ≤ 4096 }
         requires few { length self.old.transactions.txs + copies < 2 ^ 60 }
         requires room { (copies ≤ self.old.transactions.room) × (copies ≤ self.old.current_events.room) }
         ensures state { state_of self.new ≡ model.copies_made copies tx.number transaction target (state_of self.old) }
-        ensures linked { Linked self.new }
         ensures held { Holds self.new.transactions tx }
         ensures frame { self.new ≡ record self.old { transactions = self.new.transactions; current_events = self.new.current_events } }
     {

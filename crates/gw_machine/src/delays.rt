@@ -6,7 +6,6 @@ ghost use Rattle.gw_chains.specs.declared.tx.Member.{Member};
 ghost use Rattle.gw_step.specs.State.{priority_of};
 ghost use Rattle.gw_step.specs.Changes as model;
 ghost use Rattle.gw_machine.specs.View.{state_of};
-ghost use Rattle.gw_machine.specs.Coherence.{Linked};
 
 use crate::machine::Machine;
 use gw_chains::{Memory, Tx};
@@ -14,7 +13,6 @@ use gw_chains::{Memory, Tx};
 impl Machine {
     /// How many wait on the delay list of an entity.
     pub fn waiting(&self, entity: u16) -> usize
-        requires linked { Linked self.now }
         requires entity { entity < length self.now.facilities.facilities }
         ensures { result ≡ length (at [] self.now.waits.lists entity) }
     {
@@ -24,7 +22,6 @@ impl Machine {
     /// Makes room for so many more members of the current events chain.
     pub fn reserve_current(&mut self, more: usize) -> Result<(), Memory>
         ensures state { state_of self.new ≡ state_of self.old }
-        ensures linked { Linked self.old → Linked self.new }
         ensures room { OnOk result (more ≤ self.new.current_events.room) }
         ensures frame { self.new ≡ record self.old { current_events = self.new.current_events } }
     {
@@ -34,13 +31,11 @@ impl Machine {
     /// The transaction at this place of the delay list of an entity is called: it joins the current events chain, behind
     /// its peers.
     pub fn call(&mut self, entity: u16, place: usize, tx: Tx, priority: i32)
-        requires linked { Linked self.old }
         requires entity { entity < length self.old.facilities.facilities }
         requires there { option_map (λ (m : Member). m.tx) (slice_get (at [] self.old.waits.lists entity) place) ≡ Some tx }
         requires rank { priority_of self.old.transactions.txs tx.number ≡ priority }
         requires room { 0 < self.old.current_events.room }
         ensures state { state_of self.new ≡ model.called_from entity tx.number (state_of self.old) }
-        ensures linked { Linked self.new }
         ensures left { at [] self.new.waits.lists entity ≡ remove (at [] self.old.waits.lists entity) place }
         ensures room { self.old.current_events.room ≤ self.new.current_events.room + 1 }
         ensures frame { self.new ≡ record self.old { waits = self.new.waits; current_events = self.new.current_events } }
@@ -52,14 +47,12 @@ impl Machine {
     /// The transaction to which the walk over the delay list of an entity has come is called: it joins the current events
     /// chain, behind its peers.
     pub fn call_current(&mut self, entity: u16, tx: Tx, priority: i32)
-        requires linked { Linked self.old }
         requires entity { entity < length self.old.facilities.facilities }
         requires there { option_map (λ (m : Member). m.tx)
             (slice_get (at [] self.old.waits.lists entity) (at 0 self.old.waits.places entity)) ≡ Some tx }
         requires rank { priority_of self.old.transactions.txs tx.number ≡ priority }
         requires room { 0 < self.old.current_events.room }
         ensures state { state_of self.new ≡ model.called_from entity tx.number (state_of self.old) }
-        ensures linked { Linked self.new }
         ensures left { at [] self.new.waits.lists entity ≡ remove (at [] self.old.waits.lists entity) (at 0 self.old.waits.places entity) }
         ensures place { at 0 self.new.waits.places entity ≡ at 0 self.old.waits.places entity }
         ensures room { self.old.current_events.room ≤ self.new.current_events.room + 1 }
@@ -71,10 +64,8 @@ impl Machine {
 
     /// A walk over the delay list of an entity begins, at its first.
     pub fn start_walk(&mut self, entity: u16)
-        requires linked { Linked self.old }
         requires entity { entity < length self.old.facilities.facilities }
         ensures state { state_of self.new ≡ state_of self.old }
-        ensures linked { Linked self.new }
         ensures lists { self.new.waits.lists ≡ self.old.waits.lists }
         ensures place { at 0 self.new.waits.places entity ≡ 0 }
         ensures frame { self.new ≡ record self.old { waits = self.new.waits } }
@@ -84,11 +75,9 @@ impl Machine {
 
     /// The walk over the delay list of an entity goes on behind the one to which it has come.
     pub fn pass_waiter(&mut self, entity: u16)
-        requires linked { Linked self.old }
         requires entity { entity < length self.old.facilities.facilities }
         requires there { at 0 self.old.waits.places entity < length (at [] self.old.waits.lists entity) }
         ensures state { state_of self.new ≡ state_of self.old }
-        ensures linked { Linked self.new }
         ensures lists { self.new.waits.lists ≡ self.old.waits.lists }
         ensures place { at 0 self.new.waits.places entity ≡ at 0 self.old.waits.places entity + 1 }
         ensures frame { self.new ≡ record self.old { waits = self.new.waits } }

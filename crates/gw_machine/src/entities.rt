@@ -13,7 +13,6 @@ ghost use Rattle.gw_step.specs.Blocks.{has_to_wait, turned};
 ghost use Rattle.gw_step.specs.Changes.{facility, storage, queue, switch, table};
 ghost use Rattle.gw_step.specs.Changes.{put_facility, put_storage, put_queue, put_switch, put_savevalue, put_table};
 ghost use Rattle.gw_machine.specs.View.{state_of};
-ghost use Rattle.gw_machine.specs.Coherence.{Linked};
 ghost use Rattle.gw_machine.specs.Evaluating.{IsReadable};
 ghost use Rattle.gw_machine.specs.Leaving.{Tabulates};
 
@@ -72,7 +71,6 @@ impl Machine {
         requires few { (at idle self.old.facilities.facilities f).entries < 2 ^ 62 }
         requires idle { is_idle (facility f (state_of self.old)) ≡ true }
         ensures state { state_of self.new ≡ put_facility f (seized number (facility f (state_of self.old))) (state_of self.old) }
-        ensures linked { Linked self.old → Linked self.new }
         ensures frame { self.new ≡ record self.old { facilities = self.new.facilities } }
         ensures table { length self.new.facilities.facilities ≡ length self.old.facilities.facilities }
     {
@@ -84,7 +82,6 @@ impl Machine {
         requires there { f < length self.old.facilities.facilities }
         requires owner { is_owned_by number (facility f (state_of self.old)) ≡ true }
         ensures state { state_of self.new ≡ put_facility f (released (facility f (state_of self.old))) (state_of self.old) }
-        ensures linked { Linked self.old → Linked self.new }
         ensures frame { self.new ≡ record self.old { facilities = self.new.facilities } }
         ensures table { length self.new.facilities.facilities ≡ length self.old.facilities.facilities }
     {
@@ -107,7 +104,6 @@ impl Machine {
         requires few { (at (vacant 0) self.old.storages.storages u.entity).contents.entries + u.number ≤ 2 ^ 62 }
         requires room { has_room u.number (storage u.entity (state_of self.old)) ≡ true }
         ensures state { state_of self.new ≡ put_storage u.entity (entered u.number (storage u.entity (state_of self.old))) (state_of self.old) }
-        ensures linked { Linked self.old → Linked self.new }
         ensures frame { self.new ≡ record self.old { storages = self.new.storages } }
     {
         self.storages.enter(u.entity, u.number);
@@ -118,7 +114,6 @@ impl Machine {
         requires there { u.entity < length self.old.storages.storages }
         requires inside { u.number ≤ (storage u.entity (state_of self.old)).contents.content }
         ensures state { state_of self.new ≡ put_storage u.entity (left u.number (storage u.entity (state_of self.old))) (state_of self.old) }
-        ensures linked { Linked self.old → Linked self.new }
         ensures frame { self.new ≡ record self.old { storages = self.new.storages } }
     {
         self.storages.leave(u.entity, u.number);
@@ -132,7 +127,6 @@ impl Machine {
         requires inside { (at empty self.old.queues.queues u.entity).content ≤ (at empty self.old.queues.queues u.entity).entries }
         requires few { (at empty self.old.queues.queues u.entity).entries + u.number ≤ 2 ^ 62 }
         ensures state { state_of self.new ≡ put_queue u.entity (joined u.number (queue u.entity (state_of self.old))) (state_of self.old) }
-        ensures linked { Linked self.old → Linked self.new }
         ensures frame { self.new ≡ record self.old { queues = self.new.queues } }
     {
         self.queues.join_queue(u.entity, u.number);
@@ -143,7 +137,6 @@ impl Machine {
         requires there { u.entity < length self.old.queues.queues }
         requires inside { u.number ≤ (queue u.entity (state_of self.old)).content }
         ensures state { state_of self.new ≡ put_queue u.entity (departed u.number (queue u.entity (state_of self.old))) (state_of self.old) }
-        ensures linked { Linked self.old → Linked self.new }
         ensures frame { self.new ≡ record self.old { queues = self.new.queues } }
     {
         self.queues.depart(u.entity, u.number);
@@ -156,7 +149,6 @@ impl Machine {
         requires { logic.switch < length self.old.switches }
         ensures state { state_of self.new ≡ put_switch logic.switch (turned logic.action (switch logic.switch (state_of self.old)))
             (state_of self.old) }
-        ensures linked { Linked self.old → Linked self.new }
         ensures frame { self.new ≡ record self.old { switches = self.new.switches } }
     {
         match logic.action {
@@ -170,7 +162,6 @@ impl Machine {
     pub fn set_savevalue(&mut self, savevalue: u16, value: i64)
         requires { savevalue < length self.old.savevalues }
         ensures state { state_of self.new ≡ put_savevalue savevalue value (state_of self.old) }
-        ensures linked { Linked self.old → Linked self.new }
         ensures frame { self.new ≡ record self.old { savevalues = self.new.savevalues } }
     {
         self.savevalues.set(savevalue, value);
@@ -184,7 +175,6 @@ impl Machine {
         requires few { (table_at t self.old.tables).count < 2 ^ 62 }
         ensures made { Tabulates result (tabulating value (table t (state_of self.old))) (λ v. put_table t v (state_of self.old))
             (state_of self.old) (state_of self.new) }
-        ensures linked { Linked self.old → Linked self.new }
         ensures frame { self.new ≡ record self.old { tables = self.new.tables } }
         ensures table { length self.new.tables ≡ length self.old.tables }
     {

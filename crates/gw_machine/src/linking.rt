@@ -5,7 +5,6 @@ ghost use Rattle.gw_num.specs.Table.{at};
 ghost use Rattle.gw_step.specs.State.{user_chain};
 ghost use Rattle.gw_step.specs.Blocks as model;
 ghost use Rattle.gw_machine.specs.View.{state_of};
-ghost use Rattle.gw_machine.specs.Coherence.{Linked};
 
 use crate::machine::Machine;
 use gw_chains::Memory;
@@ -15,10 +14,8 @@ impl Machine {
     ///
     /// It fails for want of memory.
     pub fn reserve_link(&mut self, chain: u16) -> Result<(), Memory>
-        requires linked { Linked self.old }
         requires chain { chain < length self.old.facilities.facilities }
         ensures state { state_of self.new ≡ state_of self.old }
-        ensures linked { Linked self.new }
         ensures room { OnOk result (0 < at 0 self.new.chains.rooms chain) }
         ensures frame { self.new ≡ record self.old { chains = self.new.chains } }
     {
@@ -27,7 +24,6 @@ impl Machine {
 
     /// How many members a user chain has.
     pub fn members(&self, chain: u16) -> usize
-        requires linked { Linked self.now }
         requires chain { chain < length self.now.facilities.facilities }
         ensures value { result ≡ length (user_chain chain (state_of self.now)) }
         ensures few { result ≤ 2 ^ 62 }
@@ -38,12 +34,10 @@ impl Machine {
     /// The first member of a user chain, if there is one, leaves it to go to a block, and joins the current events chain,
     /// behind its peers; it enters no block, and its current one stays.
     fn unlink_first(&mut self, chain: u16, target: u16)
-        requires linked { Linked self.old }
         requires chain { chain < length self.old.facilities.facilities }
         requires room { 0 < self.old.current_events.room }
         ensures state { state_of self.new ≡
             model.first_unlinked chain target (user_chain chain (state_of self.old)) (state_of self.old) }
-        ensures linked { Linked self.new }
         ensures room { self.old.current_events.room ≤ self.new.current_events.room + 1 }
         ensures frame { self.new ≡ record self.old
             { transactions = self.new.transactions; current_events = self.new.current_events; chains = self.new.chains } }
@@ -60,11 +54,9 @@ impl Machine {
     /// So many members of a user chain, as far as it has them, leave it to go to a block, one after the other from the
     /// front, and join the current events chain, each behind its peers. There is room.
     pub fn unlink(&mut self, chain: u16, target: u16, count: usize)
-        requires linked { Linked self.old }
         requires chain { chain < length self.old.facilities.facilities }
         requires room { count ≤ self.old.current_events.room }
         ensures state { state_of self.new ≡ model.unlinked count chain target (state_of self.old) }
-        ensures linked { Linked self.new }
         ensures room { self.old.current_events.room ≤ self.new.current_events.room + count }
         ensures frame { self.new ≡ record self.old
             { transactions = self.new.transactions; current_events = self.new.current_events; chains = self.new.chains } }

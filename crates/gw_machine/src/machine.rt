@@ -6,16 +6,18 @@ ghost use Rattle.gw_transactions.specs.Transactions.{Holds, attributes_at, live_
 ghost use Rattle.gw_step.specs.State.{priority_of, raised, with_streams};
 ghost use Rattle.gw_step.specs.Blocks.{is_owed};
 ghost use Rattle.gw_step.specs.Changes as model;
+ghost use Rattle.gw_step.specs.Step as steps;
 ghost use Rattle.gw_step.specs.Times.{parameters_of};
 ghost use Rattle.gw_machine.specs.View.{state_of};
 ghost use Rattle.gw_transactions.specs.Parameters.{none_of};
-ghost use Rattle.gw_machine.specs.Coherence.{Linked, Carries, Every};
+ghost use Rattle.gw_machine.specs.Coherence.{Carries, Every, HasSlot};
 
 use gw_chains::{Assemblies, Cec, Fec, Memory, Tx, UserChains, Waits};
 use gw_entities::{Facilities, Queues, Savevalues, Storages, Switches, Tables};
 use gw_num::Stream;
 use gw_step::End;
 use gw_transactions::{Parameters, Transaction, Transactions};
+use std::marker::Model;
 
 /// The most live transactions, scheduled arrivals included (ours: docs/machine.md).
 const MOST_LIVE: usize = 65_536;
@@ -31,50 +33,66 @@ pub enum Made {
 
 /// The state of a job in memory: transactions lie in a slab, and the chains hold handles to them. A table of blocks has
 /// an entry at each block's number, and one at 0.
+///
+/// Each handle that it holds leads to its transaction, each live transaction resides exactly once, and the clock is the
+/// time that passed over the entities: that is in its type. Contracts see its parts, and how much more fits in each with no
+/// allocation.
 #[derive(Drop)]
 pub struct Machine {
     /// In clock units.
-    pub clock: i64,
+    pub(crate) clock: i64,
     /// The termination count.
-    pub count: i64,
+    pub(crate) count: i64,
     /// The steps made.
-    pub steps: u64,
+    pub(crate) steps: u64,
     /// The streams, from the first on.
-    pub streams: [Stream; 16],
+    pub(crate) streams: [Stream; 16],
     /// Whether a block was entered since the retry list was last woken.
-    pub stir: bool,
+    pub(crate) stir: bool,
     /// The arrivals scheduled so far, for each GENERATE block.
-    pub scheduled: Vec<u64>,
+    pub(crate) scheduled: Vec<u64>,
     /// The live transactions, scheduled arrivals included.
-    pub transactions: Transactions,
+    pub(crate) transactions: Transactions,
     /// The one that moves, if there is one.
-    pub active: Option<Tx>,
+    pub(crate) active: Option<Tx>,
     /// Who may move at this clock time.
-    pub current_events: Cec,
+    pub(crate) current_events: Cec,
     /// Who waits for a later time.
-    pub future_events: Fec,
+    pub(crate) future_events: Fec,
     /// Who waits on the delay list of a facility or storage, or on the retry list.
-    pub waits: Waits,
+    pub(crate) waits: Waits,
     /// Who waits for the rest of an assembly set.
-    pub assemblies: Assemblies,
+    pub(crate) assemblies: Assemblies,
     /// Who is on a user chain, each chain by its number as an entity.
-    pub chains: UserChains,
+    pub(crate) chains: UserChains,
     /// The facilities, each by its number as an entity.
-    pub facilities: Facilities,
+    pub(crate) facilities: Facilities,
     /// The storages, each by its number as an entity.
-    pub storages: Storages,
+    pub(crate) storages: Storages,
     /// The queues, each by its number as an entity.
-    pub queues: Queues,
+    pub(crate) queues: Queues,
     /// The logic switches, each by its number as an entity.
-    pub switches: Switches,
+    pub(crate) switches: Switches,
     /// The savevalues, each by its number as an entity.
-    pub savevalues: Savevalues,
+    pub(crate) savevalues: Savevalues,
     /// The tables, each by its number as an entity.
-    pub tables: Tables,
+    pub(crate) tables: Tables,
     /// The entries so far, for each block.
-    pub entries: Vec<u64>,
+    pub(crate) entries: Vec<u64>,
     /// The named end, if one stands.
-    pub ended: Option<End>,
+    pub(crate) ended: Option<End>,
+}
+
+impl Model for Machine {
+    ghost use Rattle.gw_machine.specs.Configuration.{Configuration};
+
+    ghost Value = { Configuration };
+
+    ghost use Rattle.gw_machine.specs.Shown.{shown, IsLinked};
+
+    ghost view = { shown };
+
+    ghost invariant = { IsLinked };
 }
 
 /// One more at a place.
@@ -105,12 +123,12 @@ impl Machine {
     pub fn enter(&mut self, tx: Tx, transaction: Transaction, next: u16)
         requires held { Holds self.old.transactions tx }
         requires rank { priority_of self.old.transactions.txs tx.number ≡ transaction.priority }
-        requires block { (transaction.next < vec_len self.old.entries) × (transaction.next ≤ 4096) }
-        requires few { sum self.old.entries.items < 2 ^ 60 }
+        requires block { (transaction.next < length self.old.entries) × (transaction.next ≤ 4096) }
+        requires few { sum self.old.entries < 2 ^ 60 }
         ensures state { state_of self.new ≡ model.entered tx.number transaction next (state_of self.old) }
-        ensures linked { Linked self.old → Linked self.new }
         ensures held { Holds self.new.transactions tx }
         ensures parameters { parameters_of tx.number (state_of self.new) ≡ parameters_of tx.number (state_of self.old) }
+        ensures last { self.new.transactions.last ≡ self.old.transactions.last }
         ensures made { length self.new.transactions.txs ≡ length self.old.transactions.txs }
         ensures room { self.old.transactions.room ≤ self.new.transactions.room }
         ensures rank { priority_of self.new.transactions.txs tx.number ≡ transaction.priority }
@@ -129,11 +147,11 @@ impl Machine {
     pub fn enter_marked(&mut self, tx: Tx, transaction: Transaction)
         requires held { Holds self.old.transactions tx }
         requires rank { priority_of self.old.transactions.txs tx.number ≡ transaction.priority }
-        requires block { (transaction.next < vec_len self.old.entries) × (transaction.next ≤ 4096) }
-        requires few { sum self.old.entries.items < 2 ^ 60 }
+        requires block { (transaction.next < length self.old.entries) × (transaction.next ≤ 4096) }
+        requires few { sum self.old.entries < 2 ^ 60 }
         ensures state { state_of self.new ≡ model.enters_and_falls tx.number (record transaction { mark = self.old.clock })
             (state_of self.old) }
-        ensures linked { Linked self.old → Linked self.new }
+        ensures slots { self.new.last ≡ self.old.last }
     {
         let mut marked = transaction;
         marked.mark = self.clock;
@@ -142,15 +160,13 @@ impl Machine {
 
     /// The transaction, which is on no chain, enters its next block with this priority, and falls to the block after.
     pub fn enter_with_priority(&mut self, tx: Tx, transaction: Transaction, priority: i32)
-        requires linked { Linked self.old }
         requires active { self.old.active ≡ Some tx }
         requires held { Holds self.old.transactions tx }
-        requires block { (transaction.next < vec_len self.old.entries) × (transaction.next ≤ 4096) }
-        requires few { sum self.old.entries.items < 2 ^ 60 }
+        requires block { (transaction.next < length self.old.entries) × (transaction.next ≤ 4096) }
+        requires few { sum self.old.entries < 2 ^ 60 }
         requires found { attributes_at tx.number self.old.transactions.txs ≡ Some transaction }
         ensures state { state_of self.new ≡ model.enters_and_falls tx.number (record transaction { priority = priority })
             (state_of self.old) }
-        ensures linked { Linked self.new }
         ensures held { Holds self.new.transactions tx }
         ensures rank { priority_of self.new.transactions.txs tx.number ≡ priority }
         ensures frame { self.new ≡ record self.old
@@ -167,13 +183,11 @@ impl Machine {
 
     /// A new transaction is scheduled to arrive at its GENERATE block.
     pub fn arrive(&mut self, block: u16, priority: i32, time: i64, parameters: Parameters)
-        requires linked { Linked self.old }
         requires room { (0 < self.old.transactions.room) × (0 < self.old.future_events.room) }
-        requires unset { parameters ≡ none_of self.old.transactions.last }
-        requires block { block < vec_len self.old.scheduled }
-        requires few { (length self.old.transactions.txs < 2 ^ 60) × (sum self.old.scheduled.items < 2 ^ 60) }
+        requires unset { parameters ≡ none_of self.old.last }
+        requires block { block < length self.old.scheduled }
+        requires few { (length self.old.transactions.txs < 2 ^ 60) × (sum self.old.scheduled < 2 ^ 60) }
         ensures state { state_of self.new ≡ model.arrives block priority time (state_of self.old) }
-        ensures linked { Linked self.new }
         ensures carries { Carries Every self.old.transactions self.new.transactions }
         ensures frame { self.new ≡ record self.old
             { transactions = self.new.transactions; future_events = self.new.future_events; scheduled = self.new.scheduled } }
@@ -195,9 +209,8 @@ impl Machine {
     /// A parameter of a transaction has this value from now on.
     pub fn assign(&mut self, tx: Tx, parameter: u8, value: i64)
         requires held { Holds self.old.transactions tx }
-        requires parameter { (1 ≤ parameter) × (parameter ≤ self.old.transactions.last) }
+        requires slot { HasSlot self.old parameter }
         ensures state { state_of self.new ≡ model.assigned tx.number parameter value (state_of self.old) }
-        ensures linked { Linked self.old → Linked self.new }
         ensures held { Holds self.new.transactions tx }
         ensures rank { priority_of self.new.transactions.txs tx.number ≡ priority_of self.old.transactions.txs tx.number }
         ensures frame { self.new ≡ record self.old { transactions = self.new.transactions } }
@@ -208,7 +221,6 @@ impl Machine {
     /// The streams are now here.
     pub fn set_streams(&mut self, streams: &[Stream; 16])
         ensures state { state_of self.new ≡ with_streams streams.now (state_of self.old) }
-        ensures linked { Linked self.old → Linked self.new }
         ensures frame { self.new ≡ record self.old { streams = self.new.streams } }
     {
         self.streams = *streams;
@@ -219,7 +231,6 @@ impl Machine {
         requires least { pos 0 <ℤ self.old.count }
         requires by { pos 0 ≤ℤ by }
         ensures state { state_of self.new ≡ model.counted by (state_of self.old) }
-        ensures linked { Linked self.old → Linked self.new }
         ensures frame { self.new ≡ record self.old { count = self.new.count; ended = self.new.ended } }
     {
         let count = self.count - by;
@@ -227,11 +238,32 @@ impl Machine {
         self.ended = end_of(count);
     }
 
+    /// One more step is counted; where it is the last of the budget, the running job ends.
+    pub fn count_step(&mut self, budget: u64)
+        requires { self.old.steps < 2 ^ 60 }
+        ensures state { state_of self.new ≡ steps.within_budget budget (record (state_of self.old) { steps = self.old.steps + 1 }) }
+        ensures slots { self.new.last ≡ self.old.last }
+    {
+        self.steps += 1;
+        if self.ended.is_none() && self.steps == budget {
+            self.ended = Some(End::Budget);
+        }
+    }
+
+    /// The job ends by a name, and nothing else changes but the count of steps.
+    pub fn end_by(&mut self, end: End)
+        requires { self.old.steps < 2 ^ 60 }
+        ensures state { state_of self.new ≡ record (state_of self.old) { steps = self.old.steps + 1; ended = Some end } }
+        ensures slots { self.new.last ≡ self.old.last }
+    {
+        self.steps += 1;
+        self.ended = Some(end);
+    }
+
     /// Makes room for one more transaction and its arrival, and answers its parameters, none of which is set.
     pub fn reserve_arrival(&mut self) -> Result<Parameters, Memory>
-        ensures unset { IfOk result (λ parameters. parameters ≡ none_of self.new.transactions.last) }
+        ensures unset { IfOk result (λ parameters. parameters ≡ none_of self.new.last) }
         ensures state { state_of self.new ≡ state_of self.old }
-        ensures linked { Linked self.old → Linked self.new }
         ensures room { OnOk result ((0 < self.new.transactions.room) × (0 < self.new.future_events.room)) }
         ensures carries { Carries Every self.old.transactions self.new.transactions }
         ensures frame { self.new ≡ record self.old { transactions = self.new.transactions; future_events = self.new.future_events } }
@@ -244,14 +276,14 @@ impl Machine {
 
     /// The entries of a block, by its number from 1; 0 where there is no such block.
     pub fn entries_at(&self, block: u16) -> u64
-        ensures { result ≡ at 0 self.now.entries.items block }
+        ensures { result ≡ at 0 self.now.entries block }
     {
         entry_or_none(&self.entries, block as usize)
     }
     /// Whether one more arrival is owed at a GENERATE block.
     pub fn owes(&self, block: u16, limit: Option<u32>) -> bool
-        requires { block < length self.now.scheduled.items }
-        ensures { result ≡ is_owed limit (at 0 self.now.scheduled.items block) }
+        requires { block < length self.now.scheduled }
+        ensures { result ≡ is_owed limit (at 0 self.now.scheduled block) }
     {
         match limit {
             None => true,

@@ -7,7 +7,7 @@ ghost use Rattle.gw_step.specs.State.{priority_of};
 ghost use Rattle.gw_step.specs.Changes as model;
 ghost use Rattle.gw_step.specs.Placing.{woken_if_stirred, placed};
 ghost use Rattle.gw_machine.specs.View.{state_of};
-ghost use Rattle.gw_machine.specs.Coherence.{Linked, HasRoom, CanRest, CanBePlaced};
+ghost use Rattle.gw_machine.specs.Coherence.{HasRoom, CanRest, CanBePlaced};
 
 use crate::machine::Machine;
 use gw_blocks::{Link, LinkOrder};
@@ -20,7 +20,6 @@ impl Machine {
     /// Makes room to wake the retry list.
     pub fn reserve_wake(&mut self) -> Result<(), Memory>
         ensures state { state_of self.new ≡ state_of self.old }
-        ensures linked { Linked self.old → Linked self.new }
         ensures room { OnOk result (length self.new.waits.retry ≤ self.new.current_events.room) }
         ensures frame { self.new ≡ record self.old { current_events = self.new.current_events } }
     {
@@ -34,7 +33,6 @@ impl Machine {
     /// Makes room to wake the retry list, and to let the active transaction rest for a time.
     pub fn reserve_time(&mut self) -> Result<(), Memory>
         ensures state { state_of self.new ≡ state_of self.old }
-        ensures linked { Linked self.old → Linked self.new }
         ensures wake { OnOk result (length self.new.waits.retry ≤ self.new.current_events.room) }
         ensures time { OnOk result (0 < self.new.future_events.room) }
         ensures frame { self.new ≡ record self.old { current_events = self.new.current_events; future_events = self.new.future_events } }
@@ -45,9 +43,7 @@ impl Machine {
 
     /// Makes room to wake the retry list, and to let the active transaction rest on the current events chain or for a time.
     pub fn reserve_rest(&mut self) -> Result<(), Memory>
-        requires linked { Linked self.old }
         ensures state { state_of self.new ≡ state_of self.old }
-        ensures linked { Linked self.old → Linked self.new }
         ensures room { OnOk result (HasRoom self.new) }
         ensures frame { self.new ≡ record self.old { current_events = self.new.current_events; future_events = self.new.future_events } }
     {
@@ -58,9 +54,7 @@ impl Machine {
 
     /// Makes room besides for one whom the active transaction calls to the current events chain.
     pub fn reserve_assembled(&mut self) -> Result<(), Memory>
-        requires linked { Linked self.old }
         ensures state { state_of self.new ≡ state_of self.old }
-        ensures linked { Linked self.old → Linked self.new }
         ensures room { OnOk result (length self.new.waits.retry + 1 < self.new.current_events.room) }
         ensures frame { self.new ≡ record self.old { current_events = self.new.current_events } }
     {
@@ -69,10 +63,8 @@ impl Machine {
 
     /// Makes room for one more on the delay list of an entity.
     fn reserve_wait(&mut self, entity: u16) -> Result<(), Memory>
-        requires linked { Linked self.old }
         requires entity { entity < length self.old.facilities.facilities }
         ensures state { state_of self.new ≡ state_of self.old }
-        ensures linked { Linked self.new }
         ensures retry { self.new.waits.retry ≡ self.old.waits.retry }
         ensures room { OnOk result (0 < at 0 self.new.waits.rooms entity) }
         ensures frame { self.new ≡ record self.old { waits = self.new.waits } }
@@ -82,9 +74,7 @@ impl Machine {
 
     /// Makes room for one more on the retry list.
     pub fn reserve_retry(&mut self) -> Result<(), Memory>
-        requires linked { Linked self.old }
         ensures state { state_of self.new ≡ state_of self.old }
-        ensures linked { Linked self.new }
         ensures retry { self.new.waits.retry ≡ self.old.waits.retry }
         ensures room { OnOk result (0 < self.new.waits.retry_room) }
         ensures frame { self.new ≡ record self.old { waits = self.new.waits } }
@@ -96,10 +86,8 @@ impl Machine {
 
     /// The retry list is woken: all of it joins the current events chain, in its order, each behind its peers.
     pub fn wake(&mut self)
-        requires linked { Linked self.old }
         requires room { length self.old.waits.retry ≤ self.old.current_events.room }
         ensures state { state_of self.new ≡ model.woken (state_of self.old) }
-        ensures linked { Linked self.new }
         ensures room { LosesRoom 0 self.old.waits.rooms self.new.waits.rooms × (self.old.waits.retry_room ≤ self.new.waits.retry_room) }
         ensures left { self.old.current_events.room ≤ self.new.current_events.room + length self.old.waits.retry }
         ensures frame { self.new ≡ record self.old
@@ -111,10 +99,8 @@ impl Machine {
 
     /// Where a block was entered since the retry list was last woken, it is woken.
     fn wake_if_stirred(&mut self)
-        requires linked { Linked self.old }
         requires room { length self.old.waits.retry ≤ self.old.current_events.room }
         ensures state { state_of self.new ≡ woken_if_stirred (state_of self.old) }
-        ensures linked { Linked self.new }
         ensures room { LosesRoom 0 self.old.waits.rooms self.new.waits.rooms × (self.old.waits.retry_room ≤ self.new.waits.retry_room) }
         ensures left { self.old.current_events.room ≤ self.new.current_events.room + length self.old.waits.retry }
         ensures frame { self.new ≡ record self.old
@@ -132,7 +118,7 @@ impl Machine {
         requires rests { CanRest self.old tx }
         requires room { 0 < self.old.future_events.room }
         ensures state { state_of self.new ≡ model.rests_until tx.number time (state_of self.old) }
-        ensures linked { Linked self.new }
+        ensures slots { self.new.last ≡ self.old.last }
     {
         self.active = None;
         self.future_events.schedule(tx, time);
@@ -145,7 +131,7 @@ impl Machine {
         requires entity { entity < length self.old.facilities.facilities }
         requires room { 0 < at 0 self.old.waits.rooms entity }
         ensures state { state_of self.new ≡ model.waits_for entity tx.number (state_of self.old) }
-        ensures linked { Linked self.new }
+        ensures slots { self.new.last ≡ self.old.last }
     {
         self.active = None;
         self.waits.push_wait(entity, tx, priority);
@@ -157,7 +143,7 @@ impl Machine {
         requires rank { priority_of self.old.transactions.txs tx.number ≡ priority }
         requires room { 0 < self.old.waits.retry_room }
         ensures state { state_of self.new ≡ model.retries tx.number (state_of self.old) }
-        ensures linked { Linked self.new }
+        ensures slots { self.new.last ≡ self.old.last }
     {
         self.active = None;
         self.waits.push_retry(tx, priority);
@@ -169,7 +155,7 @@ impl Machine {
         requires rank { priority_of self.old.transactions.txs tx.number ≡ priority }
         requires room { 0 < self.old.current_events.room }
         ensures state { state_of self.new ≡ model.rests_ahead tx.number (state_of self.old) }
-        ensures linked { Linked self.new }
+        ensures slots { self.new.last ≡ self.old.last }
     {
         self.active = None;
         self.current_events.insert_ahead(tx, priority);
@@ -181,7 +167,7 @@ impl Machine {
         requires rank { priority_of self.old.transactions.txs tx.number ≡ priority }
         requires room { 0 < self.old.current_events.room }
         ensures state { state_of self.new ≡ model.rests_behind tx.number (state_of self.old) }
-        ensures linked { Linked self.new }
+        ensures slots { self.new.last ≡ self.old.last }
     {
         self.active = None;
         self.current_events.insert_behind(tx, priority);
@@ -192,7 +178,7 @@ impl Machine {
         requires rests { CanRest self.old tx }
         requires room { 0 < self.old.assemblies.room }
         ensures state { state_of self.new ≡ model.awaits_set tx.number begins (state_of self.old) }
-        ensures linked { Linked self.new }
+        ensures slots { self.new.last ≡ self.old.last }
     {
         self.active = None;
         self.assemblies.begin(Assembly {
@@ -209,7 +195,7 @@ impl Machine {
         requires chain { link.chain < length self.old.facilities.facilities }
         requires room { 0 < at 0 self.old.chains.rooms link.chain }
         ensures state { state_of self.new ≡ model.joins_chain tx.number link (state_of self.old) }
-        ensures linked { Linked self.new }
+        ensures slots { self.new.last ≡ self.old.last }
     {
         self.active = None;
         self.transactions.put_chain(tx, Some(link.chain));
@@ -223,7 +209,7 @@ impl Machine {
     fn leave_model(&mut self, tx: Tx)
         requires rests { CanRest self.old tx }
         ensures state { state_of self.new ≡ model.destroyed tx.number (state_of self.old) }
-        ensures linked { Linked self.new }
+        ensures slots { self.new.last ≡ self.old.last }
     {
         let _ = self.transactions.remove(tx);
         self.active = None;
@@ -238,7 +224,7 @@ impl Machine {
         requires wake { length self.old.waits.retry ≤ self.old.current_events.room }
         requires room { 0 < self.old.future_events.room }
         ensures state { state_of self.new ≡ placed tx.number (Placement.RestsUntil time) (state_of self.old) }
-        ensures linked { Linked self.new }
+        ensures slots { self.new.last ≡ self.old.last }
     {
         self.wake_if_stirred();
         self.rest_until(tx, time);
@@ -250,7 +236,7 @@ impl Machine {
         requires rests { CanRest self.old tx }
         requires wake { length self.old.waits.retry ≤ self.old.current_events.room }
         ensures state { state_of self.new ≡ placed tx.number Placement.LeavesModel (state_of self.old) }
-        ensures linked { Linked self.new }
+        ensures slots { self.new.last ≡ self.old.last }
     {
         self.wake_if_stirred();
         self.leave_model(tx);
@@ -264,7 +250,7 @@ impl Machine {
         requires room { HasRoom self.old }
         requires entity { CanBePlaced placement self.old }
         ensures state { state_of self.new ≡ placed tx.number placement (state_of self.old) }
-        ensures linked { Linked self.new }
+        ensures slots { self.new.last ≡ self.old.last }
     {
         match placement {
             Placement::StaysActive => {}
@@ -305,7 +291,7 @@ impl Machine {
         requires entity { entity < length self.old.facilities.facilities }
         ensures ok { OnOk result (state_of self.new ≡ placed tx.number (Placement.JoinsDelayList entity) (state_of self.old)) }
         ensures err { OnErr result (state_of self.new ≡ state_of self.old) }
-        ensures linked { Linked self.new }
+        ensures slots { self.new.last ≡ self.old.last }
     {
         self.reserve_wake()?;
         self.reserve_wait(entity)?;

@@ -10,10 +10,12 @@ ghost use Rattle.gw_step.specs.Start as model;
 ghost use Rattle.gw_step.specs.Times.{environment_of_next};
 ghost use Rattle.gw_machine.specs.View.{state_of};
 ghost use Rattle.gw_machine.specs.Evaluating.{IsReadable, drawn};
-ghost use Rattle.gw_machine.specs.Coherence.{Linked, IsOf};
+ghost use Rattle.gw_machine.specs.Coherence.{IsOf};
 ghost use Rattle.gw_machine.specs.Leaving.{Schedules};
+ghost use Rattle.gw_machine.specs.Slots.{greatest_set};
 
 use crate::machine::Machine;
+use crate::slots::greatest_set;
 use gw_blocks::{Block, Generate};
 use gw_chains::{Assemblies, Cec, Fec, Memory, UserChains, Waits};
 use gw_entities::{Facilities, Queues, Savevalues, Storages, Switches, Tables};
@@ -70,15 +72,16 @@ impl Machine {
         streams: [Stream; 16],
     ) -> Result<Machine, Memory>
         requires few { count ≤ 2 ^ 40 }
+        requires slots { greatest_set object.now.blocks ≤ 64 }
         ensures state { IfOk result (λ m. state_of m ≡ model.nothing object.now count streams) }
-        ensures linked { IfOk result Linked }
+        ensures slots { IfOk result (λ m. m.last ≡ greatest_set object.now.blocks) }
         ensures readable { IfOk result IsReadable }
     {
-        let blocks = object.parts().blocks.as_slice().len();
-        let scheduled = zeros(alloc, blocks + 1)?;
-        let entries = zeros(alloc, blocks + 1)?;
+        let blocks = object.parts().blocks.as_slice();
+        let scheduled = zeros(alloc, blocks.len() + 1)?;
+        let entries = zeros(alloc, blocks.len() + 1)?;
         let tables = entity_tables(alloc, object)?;
-        let transactions = Transactions::new(alloc, 64)?;
+        let transactions = Transactions::new(alloc, greatest_set(blocks))?;
         let entities = object.parts().entities.as_slice().len();
         let waits = Waits::new(alloc, entities)?;
         let chains = UserChains::new(alloc, entities)?;
@@ -141,19 +144,18 @@ impl Machine {
         requires spelled { HasSpelling verified.now }
         requires checked { Checked verified.now }
         requires own { IsOf verified.now self.old }
-        requires linked { Linked self.old }
         requires readable { IsReadable self.old }
         requires there { block_at verified.now.blocks number ≡ Some block.now }
-        requires block { number < length self.old.scheduled.items }
-        requires few { (length self.old.transactions.txs < 2 ^ 60) × (sum self.old.scheduled.items < 2 ^ 60) }
+        requires block { number < length self.old.scheduled }
+        requires few { (length self.old.transactions.txs < 2 ^ 60) × (sum self.old.scheduled < 2 ^ 60) }
         ensures made { IfOk result (λ end. Schedules end (model.first_arrival verified.now number block.now (state_of self.old))
             (state_of self.new)) }
-        ensures linked { OnOk result (Linked self.new) }
         ensures readable { OnOk result (IsReadable self.new) }
         ensures entities { OnOk result (self.new.facilities ≡ self.old.facilities) }
-        ensures scheduled { OnOk result ((length self.new.scheduled.items ≡ length self.old.scheduled.items) ×
-            (sum self.new.scheduled.items ≤ sum self.old.scheduled.items + 1)) }
+        ensures scheduled { OnOk result ((length self.new.scheduled ≡ length self.old.scheduled) ×
+            (sum self.new.scheduled ≤ sum self.old.scheduled + 1)) }
         ensures made_by { OnOk result (length self.new.transactions.txs ≤ length self.old.transactions.txs + 1) }
+        ensures slots { OnOk result (self.new.last ≡ self.old.last) }
     {
         let g = match block {
             Block::Generate(g) => g,
@@ -174,14 +176,13 @@ impl Machine {
     /// Schedules the first arrival of each GENERATE block, up to the first block whose time comes to a named end.
     fn first_arrivals(&mut self, verified: &Verified) -> Result<Option<End>, Memory>
         requires own { IsOf verified.now self.old }
-        requires linked { Linked self.old }
         requires readable { IsReadable self.old }
         requires few_blocks { length verified.now.blocks ≤ 4096 }
-        requires blocks { length self.old.scheduled.items ≡ length verified.now.blocks + 1 }
-        requires few { (length self.old.transactions.txs < 2 ^ 50) × (sum self.old.scheduled.items < 2 ^ 50) }
+        requires blocks { length self.old.scheduled ≡ length verified.now.blocks + 1 }
+        requires few { (length self.old.transactions.txs < 2 ^ 50) × (sum self.old.scheduled < 2 ^ 50) }
         ensures made { IfOk result (λ end. Schedules end
             (model.first_arrivals verified.now 1 verified.now.blocks (state_of self.old)) (state_of self.new)) }
-        ensures linked { OnOk result (Linked self.new) }
+        ensures slots { OnOk result (self.new.last ≡ self.old.last) }
     {
         let blocks = verified.object().parts().blocks.as_slice();
         for i in 0..blocks.len() {
@@ -202,8 +203,9 @@ impl Machine {
         end: End,
     ) -> Result<Machine, Memory>
         requires few { count ≤ 2 ^ 40 }
+        requires slots { greatest_set object.now.blocks ≤ 64 }
         ensures state { IfOk result (λ m. state_of m ≡ record (model.nothing object.now count streams) { ended = Some end }) }
-        ensures linked { IfOk result Linked }
+        ensures slots { IfOk result (λ m. m.last ≡ greatest_set object.now.blocks) }
     {
         let mut machine = Machine::nothing(alloc, object, count, streams)?;
         machine.ended = Some(end);
@@ -221,7 +223,7 @@ impl Machine {
         requires few { count ≤ 2 ^ 40 }
         requires fit { BlocksFit (length verified.now.entities) verified.now.blocks }
         ensures state { IfOk result (λ m. model.start verified.now count streams ≡ Some (state_of m)) }
-        ensures linked { IfOk result Linked }
+        ensures slots { IfOk result (λ m. m.last ≡ greatest_set verified.now.blocks) }
     {
         let mut machine = Machine::nothing(alloc, verified.object(), count, streams)?;
         match machine.first_arrivals(verified)? {

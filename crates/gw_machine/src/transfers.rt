@@ -14,7 +14,7 @@ ghost use Rattle.gw_step.specs.Changes.{facility, storage};
 ghost use Rattle.gw_machine.specs.Leaving.{Moves};
 ghost use Rattle.gw_step.specs.Blocks as model;
 ghost use Rattle.gw_machine.specs.View.{state_of};
-ghost use Rattle.gw_machine.specs.Coherence.{Linked, IsSteady};
+ghost use Rattle.gw_machine.specs.Coherence.{IsSteady};
 
 use crate::machine::Machine;
 use gw_blocks::{Block, Units};
@@ -59,7 +59,7 @@ impl Machine {
         requires idle { is_idle_now (facility f (state_of self.old)) ≡ true }
         requires room { 0 < self.old.current_events.room }
         ensures state { state_of self.new ≡ model.hand_over blocks.now f (delay_list f (state_of self.old)) (state_of self.old) }
-        ensures linked { Linked self.new }
+        ensures slots { self.new.last ≡ self.old.last }
     {
         if let Some(tx) = self.waits.waiter(f, 0) {
             self.hand_over_to(blocks, f, tx);
@@ -75,7 +75,7 @@ impl Machine {
         requires room { 0 < self.old.current_events.room }
         ensures state { state_of self.new ≡ option_map_or (model.takes_over blocks.now f tx.number (state_of self.old))
             (attributes_at tx.number self.old.transactions.txs) (state_of self.old) }
-        ensures linked { Linked self.new }
+        ensures slots { self.new.last ≡ self.old.last }
     {
         let transaction = *self.transactions.get(tx);
         if is_seize(f, block_of(blocks, transaction.next)) {
@@ -85,18 +85,17 @@ impl Machine {
 
     /// The first of the delay list of an idle facility owns it at once, in its SEIZE block.
     fn take_over(&mut self, f: u16, tx: Tx, transaction: Transaction)
-        requires linked { Linked self.old }
         requires there { f < length self.old.facilities.facilities }
         requires idle { is_idle_now (facility f (state_of self.old)) ≡ true }
         requires first { option_map (λ (m : Member). m.tx) (slice_get (at [] self.old.waits.lists f) 0) ≡ Some tx }
         requires held { Holds self.old.transactions tx }
         requires found { attributes_at tx.number self.old.transactions.txs ≡ Some transaction }
-        requires block { (transaction.next < length self.old.entries.items) × (transaction.next ≤ 4096) }
-        requires few { (sum self.old.entries.items < 2 ^ 60) × ((at idle self.old.facilities.facilities f).entries < 2 ^ 62) }
+        requires block { (transaction.next < length self.old.entries) × (transaction.next ≤ 4096) }
+        requires few { (sum self.old.entries < 2 ^ 60) × ((at idle self.old.facilities.facilities f).entries < 2 ^ 62) }
         requires room { 0 < self.old.current_events.room }
         ensures state { state_of self.new ≡ change.put_facility f (seized tx.number (facility f (state_of self.old)))
             (change.enters_and_falls tx.number transaction (change.called_from f tx.number (state_of self.old))) }
-        ensures linked { Linked self.new }
+        ensures slots { self.new.last ≡ self.old.last }
     {
         let next = transaction.next + 1;
         self.call(f, 0, tx, transaction.priority);
@@ -126,7 +125,6 @@ impl Machine {
     /// The transaction to which the walk over the delay list of a storage has come; none at its end, and none where no
     /// unit is free, so that nobody else can enter.
     fn next_waiter(&self, e: u16) -> Option<Tx>
-        requires linked { Linked self.now }
         requires there { (e < length self.now.facilities.facilities) × (e < length self.now.storages.storages) }
         ensures { MatchOption result
             ((option_map (λ (m : Member). m.tx) (slice_get (at [] self.now.waits.lists e) (at 0 self.now.waits.places e)) ≡ None) ⊎
@@ -145,7 +143,7 @@ impl Machine {
         requires there { e < length self.old.facilities.facilities }
         requires room { length (at [] self.old.waits.lists e) ≤ self.old.current_events.room }
         ensures state { state_of self.new ≡ model.admission blocks.now e (delay_list e (state_of self.old)) (state_of self.old) }
-        ensures linked { Linked self.new }
+        ensures slots { self.new.last ≡ self.old.last }
     {
         self.start_walk(e);
         while let Some(tx) = self.next_waiter(e) {
@@ -165,7 +163,7 @@ impl Machine {
         ensures state { state_of self.new ≡ model.looked_at blocks.now e tx.number (state_of self.old) }
         ensures steady { IsSteady blocks.now (self.old.steps + 1) self.new }
         ensures moves { Moves result e (at 0 self.old.waits.places e) self.old self.new }
-        ensures frame { (self.new.steps ≡ self.old.steps) × (self.new.facilities ≡ self.old.facilities) }
+        ensures frame { (self.new.steps ≡ self.old.steps) × (self.new.facilities ≡ self.old.facilities) × (self.new.last ≡ self.old.last) }
     {
         let transaction = *self.transactions.get(tx);
         match asked(e, block_of(blocks, transaction.next)) {
@@ -176,20 +174,18 @@ impl Machine {
 
     /// The transaction to which the walk over a delay list has come enters its ENTER block, if these units are free.
     fn enter_if_free(&mut self, units: Units, tx: Tx, transaction: Transaction) -> bool
-        requires linked { Linked self.old }
         requires there { (units.entity < length self.old.facilities.facilities) × (units.entity < length self.old.storages.storages) }
         requires waiter { option_map (λ (m : Member). m.tx)
             (slice_get (at [] self.old.waits.lists units.entity) (at 0 self.old.waits.places units.entity)) ≡ Some tx }
         requires held { Holds self.old.transactions tx }
         requires found { attributes_at tx.number self.old.transactions.txs ≡ Some transaction }
-        requires block { (transaction.next < length self.old.entries.items) × (transaction.next ≤ 4096) }
-        requires few { (sum self.old.entries.items < 2 ^ 60) ×
+        requires block { (transaction.next < length self.old.entries) × (transaction.next ≤ 4096) }
+        requires few { (sum self.old.entries < 2 ^ 60) ×
             ((at (vacant 0) self.old.storages.storages units.entity).contents.entries + units.number ≤ 2 ^ 62) }
         requires room { 0 < self.old.current_events.room }
         ensures state { state_of self.new ≡ model.enters_if_free tx.number transaction (state_of self.old) units }
-        ensures linked { Linked self.new }
         ensures moves { Moves result units.entity (at 0 self.old.waits.places units.entity) self.old self.new }
-        ensures frame { (self.new.steps ≡ self.old.steps) × (self.new.facilities ≡ self.old.facilities) }
+        ensures frame { (self.new.steps ≡ self.old.steps) × (self.new.facilities ≡ self.old.facilities) × (self.new.last ≡ self.old.last) }
     {
         if !self.has_free(units) {
             return false;

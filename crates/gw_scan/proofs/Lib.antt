@@ -2,8 +2,8 @@ pub mod Fits
 pub mod BlocksWithValue
 pub mod Meeting
 pub mod Running
-pub mod FewReside
 pub mod Weighing
 pub mod Leading
 pub mod Taking
 pub mod Moments
+pub mod Subjects

@@ -12,7 +12,7 @@ use Rattle.gw_transactions.specs.declared.Transaction.{Transaction}
 use Rattle.gw_transactions.specs.Transactions.{LiveTransaction, listed}
 use Rattle.gw_weights.specs.Weights.{weight_of}
 use Rattle.gw_chains.specs.declared.tx.Event.{Event}
-use Rattle.gw_machine.specs.declared.machine.Machine.{Machine}
+use Rattle.gw_machine.specs.Configuration.{Configuration}
 use Rattle.gw_machine.specs.View.{state_of, event_of}
 use Rattle.gw_step.specs.State.{FutureEvent, State}
 use Rattle.gw_step.specs.Changes.{numbers}
@@ -136,6 +136,6 @@ later_events p txs time (e ∷ es) =
       sum_by-cons (λ (e : FutureEvent). if int_lt time e.time then weight_in p (at None txs e.number) else 0) (event_of e) (map event_of es),
     )
 
-pub machine_weight-is : (p : Parts) (m : Machine) → ResidesOnce (state_of m) → length m.scheduled.items ≡ length p.blocks + 1 → weight p (state_of m) + sum_by (later_weight p m.transactions.txs m.clock) m.future_events.items ≡ sum_by (weight_in p) m.transactions.txs + sum (tabulate (owed_weight p m.scheduled.items) (length m.scheduled.items))
+pub machine_weight-is : (p : Parts) (m : Configuration) → ResidesOnce (state_of m) → length m.scheduled ≡ length p.blocks + 1 → weight p (state_of m) + sum_by (later_weight p m.transactions.txs m.clock) m.future_events.items ≡ sum_by (weight_in p) m.transactions.txs + sum (tabulate (owed_weight p m.scheduled) (length m.scheduled))
 machine_weight-is p m resides whole =
     omega (arith, weight-is p (state_of m) resides whole, later_events p m.transactions.txs m.clock m.future_events.items)

@@ -1,7 +1,7 @@
 -- What a call of the machine made.
 use Rattle.std.specs.Prelude.{◌≡◌, ℕ, List, Option, Bool, not, ◌&&◌, is_none, if◌then◌else◌}
 use Rattle.gw_blocks.specs.declared.parts.Block.{Block}
-use Rattle.gw_machine.specs.declared.machine.Machine.{Machine}
+use Rattle.gw_machine.specs.Configuration.{Configuration}
 use Rattle.gw_machine.specs.declared.machine.Made.{Made}
 use Rattle.gw_machine.specs.declared.machine.Made.TheVariants.{Step, Ends}
 use Rattle.gw_step.specs.Outcome.{Outcome, Gives, EndsBy}
@@ -18,12 +18,12 @@ abbrev pub Makes : Made → Outcome State → State → State → Type 0
 Makes Step outcome old new = outcome ≡ Gives new
 Makes (Ends end) outcome old new = (outcome ≡ EndsBy end) × (new ≡ old)
 
--- the same for a call on a machine: the outcome is said of the state that it was in
-abbrev pub MakesFrom : Made → (State → Outcome State) → Machine → Machine → Type 0
-MakesFrom made outcome old new = Makes made (outcome (state_of old)) (state_of old) (state_of new)
+-- the same for a call on a machine: the outcome is said of the state that it was in; it has as many slots for parameters as before
+abbrev pub MakesFrom : Made → (State → Outcome State) → Configuration → Configuration → Type 0
+MakesFrom made outcome old new = Makes made (outcome (state_of old)) (state_of old) (state_of new) × (new.last ≡ old.last)
 
 -- and for a block of this effect on the active transaction n, which enters it and is placed
-abbrev pub Enters : Made → ℕ → (State → Outcome (State × Placement)) → Machine → Machine → Type 0
+abbrev pub Enters : Made → ℕ → (State → Outcome (State × Placement)) → Configuration → Configuration → Type 0
 Enters made n effect old new = MakesFrom made (λ s. then_placed n (effect s)) old new
 
 -- the active transaction n, which is t, goes to the next block of a TEST or a GATE where it is so, else to the other one; without another one it waits on the retry list

@@ -5,12 +5,13 @@ ghost use Rattle.gw_step.specs.Changes as change;
 ghost use Rattle.gw_step.specs.Blocks as model;
 ghost use Rattle.gw_step.specs.State as state;
 ghost use Rattle.gw_step.specs.Asks.{MayLead};
-ghost use Rattle.gw_step.specs.Operands.{IsParameter, MayEvaluate};
+ghost use Rattle.gw_step.specs.Operands.{MayEvaluate};
 ghost use Rattle.gw_transactions.specs.Transactions.{parameter_at};
 ghost use Rattle.gw_step.specs.Times.{environment_of};
 ghost use Rattle.gw_kinds.specs.Evaluated.{operand_at};
 ghost use Rattle.gw_machine.specs.View.{state_of};
-ghost use Rattle.gw_machine.specs.Coherence.{Linked, IsOf, IsActive};
+ghost use Rattle.gw_machine.specs.Leaving.{Becomes};
+ghost use Rattle.gw_machine.specs.Coherence.{HasSlot, IsOf, IsActive};
 ghost use Rattle.gw_scan.specs.Makes.{MakesFrom, Enters};
 
 use crate::blocks::blocks_of;
@@ -54,10 +55,8 @@ pub(crate) fn assign_and_enter(
     value: i64,
 )
     requires active { IsActive blocks.now machine.old tx transaction }
-    requires parameter { IsParameter parameter }
-    ensures state { state_of machine.new ≡
-        change.entered tx.number transaction next (change.assigned tx.number parameter value (state_of machine.old)) }
-    ensures linked { Linked machine.new }
+    requires parameter { HasSlot machine.old parameter }
+    ensures state { Becomes (change.entered tx.number transaction next (change.assigned tx.number parameter value (state_of machine.old))) machine.old machine.new }
 {
     machine.assign(tx, parameter, value);
     machine.enter(tx, transaction, next);
@@ -74,21 +73,19 @@ pub(crate) fn assign_parameter(
 ) -> Made
     requires active { IsActive verified.now.blocks machine.old tx transaction }
     requires own { IsOf verified.now machine.old }
-    requires parameter { IsParameter assign.parameter }
+    requires parameter { HasSlot machine.old assign.parameter }
     requires operands { MayEvaluate verified.now (environment_of tx.number transaction (state_of machine.old)) assign.value }
     requires leads { MayLead verified.now.blocks (transaction.next + 1) }
     ensures made { MakesFrom result
         (model.act verified.now tx.number transaction (Block.Assign assign)) machine.old machine.new }
-    ensures linked { Linked machine.new }
 {
-    let mut streams = machine.streams;
+    let mut streams = machine.streams();
     let subject = active_subject(tx, transaction);
     let value = match machine.value(verified, subject, assign.value, &mut streams) {
         Ok(value) => value,
         Err(end) => return Made::Ends(end_by(end)),
     };
-    let parameters = machine.transactions.parameters(tx);
-    let old = parameters.get_or_zero(assign.parameter);
+    let old = machine.parameter_or_zero(tx, assign.parameter);
     let new = match put_by(assign.mode, old, value) {
         Ok(new) => new,
         Err(fault) => return Made::Ends(end_by_fault(fault)),
@@ -117,14 +114,13 @@ pub(crate) fn loop_back(
     l: Loop,
 ) -> Made
     requires active { IsActive blocks.now machine.old tx transaction }
-    requires parameter { IsParameter l.parameter }
+    requires parameter { HasSlot machine.old l.parameter }
     requires set { IsSome (parameter_at tx.number l.parameter (state_of machine.old).transactions) }
     requires falls { MayLead blocks.now (transaction.next + 1) }
     requires goes { MayLead blocks.now l.target }
     ensures made { Enters result tx.number (model.loop blocks.now tx.number transaction l) machine.old machine.new }
-    ensures linked { Linked machine.new }
 {
-    let old = machine.transactions.parameters(tx).get(l.parameter);
+    let old = machine.parameter(tx, l.parameter);
     let left = match sub(old, 1) {
         Ok(left) => left,
         Err(fault) => return Made::Ends(end_by_fault(fault)),
@@ -146,7 +142,6 @@ pub(crate) fn mark(
     requires active { IsActive blocks.now machine.old tx transaction }
     requires leads { MayLead blocks.now (transaction.next + 1) }
     ensures made { Enters result tx.number (model.mark blocks.now tx.number transaction None) machine.old machine.new }
-    ensures linked { Linked machine.new }
 {
     machine.enter_marked(tx, transaction);
     Made::Step
@@ -161,14 +156,13 @@ pub(crate) fn mark_parameter(
     parameter: u8,
 ) -> Made
     requires active { IsActive blocks.now machine.old tx transaction }
-    requires parameter { IsParameter parameter }
+    requires parameter { HasSlot machine.old parameter }
     requires leads { MayLead blocks.now (transaction.next + 1) }
     ensures made { Enters result tx.number
         (model.mark blocks.now tx.number transaction (Some parameter)) machine.old machine.new }
-    ensures linked { Linked machine.new }
 {
     let next = transaction.next + 1;
-    let clock = machine.clock;
+    let clock = machine.clock();
     assign_and_enter(machine, blocks, tx, transaction, next, parameter, clock);
     Made::Step
 }
@@ -188,7 +182,6 @@ fn pass_with(
     ensures made { Enters result tx.number
         (λ s. model.transfer blocks.now tx.number transaction (transaction.next + 1) (state.with_streams streams.now s))
         machine.old machine.new }
-    ensures linked { Linked machine.new }
 {
     let next = transaction.next + 1;
     machine.set_streams(streams);
@@ -207,12 +200,11 @@ fn take_value(
     streams: &[Stream; 16],
 ) -> Made
     requires active { IsActive blocks.now machine.old tx transaction }
-    requires parameter { IsParameter parameter }
+    requires parameter { HasSlot machine.old parameter }
     requires leads { MayLead blocks.now (transaction.next + 1) }
     ensures made { Enters result tx.number
         (λ s. model.plus blocks.now tx.number transaction (Some parameter) value (state.with_streams streams.now s))
         machine.old machine.new }
-    ensures linked { Linked machine.new }
 {
     let next = transaction.next + 1;
     assign_and_enter(machine, blocks, tx, transaction, next, parameter, value);
@@ -231,14 +223,13 @@ pub(crate) fn plus(
 ) -> Made
     requires active { IsActive verified.now.blocks machine.old tx transaction }
     requires own { IsOf verified.now machine.old }
-    requires parameter { IfSome plus.parameter IsParameter }
+    requires parameter { IfSome plus.parameter (HasSlot machine.old) }
     requires operands { MayEvaluate verified.now (environment_of tx.number transaction (state_of machine.old)) plus.value }
     requires leads { MayLead verified.now.blocks (transaction.next + 1) }
     ensures made { MakesFrom result
         (model.act verified.now tx.number transaction (Block.Plus plus)) machine.old machine.new }
-    ensures linked { Linked machine.new }
 {
-    let mut streams = machine.streams;
+    let mut streams = machine.streams();
     let subject = active_subject(tx, transaction);
     let value = match machine.value(verified, subject, plus.value, &mut streams) {
         Ok(value) => value,
@@ -265,7 +256,6 @@ pub(crate) fn logic(
     requires there { logic.switch < length machine.old.facilities.facilities }
     requires leads { MayLead blocks.now (transaction.next + 1) }
     ensures made { Enters result tx.number (model.logic blocks.now tx.number transaction logic) machine.old machine.new }
-    ensures linked { Linked machine.new }
 {
     machine.turn_switch(logic);
     machine.enter(tx, transaction, transaction.next + 1);
@@ -287,15 +277,14 @@ pub(crate) fn save(
     requires operands { MayEvaluate verified.now (environment_of tx.number transaction (state_of machine.old)) save.value }
     requires leads { MayLead verified.now.blocks (transaction.next + 1) }
     ensures made { MakesFrom result (model.act verified.now tx.number transaction (Block.Savevalue save)) machine.old machine.new }
-    ensures linked { Linked machine.new }
 {
-    let mut streams = machine.streams;
+    let mut streams = machine.streams();
     let subject = active_subject(tx, transaction);
     let value = match machine.value(verified, subject, save.value, &mut streams) {
         Ok(value) => value,
         Err(end) => return Made::Ends(end_by(end)),
     };
-    let new = match put_by(save.mode, machine.savevalues.get(save.savevalue), value) {
+    let new = match put_by(save.mode, machine.savevalues().get(save.savevalue), value) {
         Ok(new) => new,
         Err(fault) => return Made::Ends(end_by_fault(fault)),
     };
@@ -322,7 +311,6 @@ fn enter_value(
     requires leads { MayLead blocks.now (transaction.next + 1) }
     ensures made { Enters result tx.number
         (λ s. model.tabulate blocks.now tx.number transaction table value (state.with_streams streams.now s)) machine.old machine.new }
-    ensures linked { Linked machine.new }
 {
     match machine.tabulate(table, value) {
         Ok(()) => machine.enter(tx, transaction, transaction.next + 1),
@@ -348,9 +336,8 @@ pub(crate) fn tabulate(
         (MayEvaluate verified.now (environment_of tx.number transaction (state_of machine.old))) }
     requires leads { MayLead verified.now.blocks (transaction.next + 1) }
     ensures made { MakesFrom result (model.act verified.now tx.number transaction (Block.Tabulate table)) machine.old machine.new }
-    ensures linked { Linked machine.new }
 {
-    let mut streams = machine.streams;
+    let mut streams = machine.streams();
     let subject = active_subject(tx, transaction);
     let entities = verified.object().parts().entities.as_slice();
     let argument = operand_at(entities, table).unwrap();

@@ -11,7 +11,9 @@ ghost use Rattle.gw_step.specs.Operands.{OperandsFit, UnitsFit, MayEvaluate, May
 ghost use Rattle.gw_step.specs.Times.{environment_of, environment_of_next};
 ghost use Rattle.gw_step.specs.Asks.{MayLead, Asks, Leads};
 ghost use Rattle.gw_entities.specs.Facility.{is_idle as is_idle_now, is_owned_by, owns_any};
-ghost use Rattle.gw_machine.specs.Coherence.{Linked, CanBePlaced, CanRest, IsOf, IsActive, IsPassing};
+ghost use Rattle.gw_machine.specs.Leaving.{Becomes};
+ghost use Rattle.gw_machine.specs.Slots.{set_by};
+ghost use Rattle.gw_machine.specs.Coherence.{CanBePlaced, CanRest, IsOf, IsActive, IsPassing};
 ghost use Rattle.gw_scan.specs.Makes.{MakesFrom, Enters};
 
 use crate::assigning::{self, assign_parameter, loop_back, mark, mark_parameter, tabulate};
@@ -60,11 +62,9 @@ fn generate_and_arrive(
     streams: &[Stream; 16],
 ) -> Result<(), Memory>
     requires { IsActive verified.now.blocks machine.old tx transaction }
-    ensures ok { OnOk result (state_of machine.new ≡
-        change.enters_and_falls tx.number (record transaction { mark = machine.old.clock })
-        (change.arrives transaction.next priority moment (state.with_streams streams.now (state_of machine.old)))) }
-    ensures err { OnErr result (state_of machine.new ≡ state_of machine.old) }
-    ensures linked { Linked machine.new }
+    ensures ok { OnOk result (Becomes (change.enters_and_falls tx.number (record transaction { mark = machine.old.clock })
+        (change.arrives transaction.next priority moment (state.with_streams streams.now (state_of machine.old)))) machine.old machine.new) }
+    ensures err { OnErr result (Becomes (state_of machine.old) machine.old machine.new) }
 {
     let parameters = machine.reserve_arrival()?;
     machine.set_streams(streams);
@@ -87,13 +87,12 @@ fn generate(
     requires leads { MayLead verified.now.blocks (transaction.next + 1) }
     ensures made { IfOk result (λ made. Enters made tx.number
         (model.generate verified.now tx.number transaction g) machine.old machine.new) }
-    ensures err { OnErr result (state_of machine.new ≡ state_of machine.old) }
-    ensures linked { Linked machine.new }
+    ensures err { OnErr result (Becomes (state_of machine.old) machine.old machine.new) }
 {
     if !machine.owes(transaction.next, g.limit) {
         return Ok(mark(machine, blocks_of(verified), tx, transaction));
     }
-    let mut streams = machine.streams;
+    let mut streams = machine.streams();
     let next = machine.next_subject(g.priority);
     let moment = match machine.drawn_moment(verified, next, g.interval, &mut streams) {
         Ok(moment) => moment,
@@ -126,11 +125,9 @@ pub(crate) fn pass_with_priority(
 ) -> Result<(), Memory>
     requires active { IsActive blocks.now machine.old tx transaction }
     requires there { CanBePlaced placement machine.old }
-    ensures ok { OnOk result (state_of machine.new ≡
-        placed tx.number placement (change.enters_and_falls tx.number (record transaction { priority = priority })
-        (state.with_streams streams.now (state_of machine.old)))) }
-    ensures err { OnErr result (state_of machine.new ≡ state_of machine.old) }
-    ensures linked { Linked machine.new }
+    ensures ok { OnOk result (Becomes (placed tx.number placement (change.enters_and_falls tx.number (record transaction { priority = priority })
+        (state.with_streams streams.now (state_of machine.old)))) machine.old machine.new) }
+    ensures err { OnErr result (Becomes (state_of machine.old) machine.old machine.new) }
 {
     machine.reserve_rest()?;
     machine.set_streams(streams);
@@ -150,11 +147,9 @@ pub(crate) fn pass_to(
 ) -> Result<(), Memory>
     requires active { IsActive blocks.now machine.old tx transaction }
     requires there { CanBePlaced placement machine.old }
-    ensures ok { OnOk result (state_of machine.new ≡
-        placed tx.number placement (change.enters_and_falls tx.number transaction
-        (state.with_streams streams.now (state_of machine.old)))) }
-    ensures err { OnErr result (state_of machine.new ≡ state_of machine.old) }
-    ensures linked { Linked machine.new }
+    ensures ok { OnOk result (Becomes (placed tx.number placement (change.enters_and_falls tx.number transaction
+        (state.with_streams streams.now (state_of machine.old)))) machine.old machine.new) }
+    ensures err { OnErr result (Becomes (state_of machine.old) machine.old machine.new) }
 {
     let priority = transaction.priority;
     pass_with_priority(
@@ -173,10 +168,9 @@ fn rest_until(machine: &mut Machine, tx: Tx, moment: i64)
     requires rests { CanRest machine.old tx }
     requires wake { length machine.old.waits.retry ≤ machine.old.current_events.room }
     requires room { 0 < machine.old.future_events.room }
-    ensures state { state_of machine.new ≡ placed tx.number (model.until machine.old.clock moment) (state_of machine.old) }
-    ensures linked { Linked machine.new }
+    ensures state { Becomes (placed tx.number (model.until machine.old.clock moment) (state_of machine.old)) machine.old machine.new }
 {
-    if machine.clock < moment {
+    if machine.clock() < moment {
         machine.place_until(tx, moment);
     }
 }
@@ -191,11 +185,9 @@ fn pass_until(
     moment: i64,
 ) -> Result<(), Memory>
     requires active { IsActive blocks.now machine.old tx transaction }
-    ensures ok { OnOk result (state_of machine.new ≡
-        placed tx.number (model.until machine.old.clock moment) (change.enters_and_falls tx.number transaction
-        (state.with_streams streams.now (state_of machine.old)))) }
-    ensures err { OnErr result (state_of machine.new ≡ state_of machine.old) }
-    ensures linked { Linked machine.new }
+    ensures ok { OnOk result (Becomes (placed tx.number (model.until machine.old.clock moment) (change.enters_and_falls tx.number transaction
+        (state.with_streams streams.now (state_of machine.old)))) machine.old machine.new) }
+    ensures err { OnErr result (Becomes (state_of machine.old) machine.old machine.new) }
 {
     machine.reserve_time()?;
     machine.set_streams(streams);
@@ -219,10 +211,9 @@ fn advance(
     requires leads { MayLead verified.now.blocks (transaction.next + 1) }
     ensures made { IfOk result (λ made. MakesFrom made
         (model.act verified.now tx.number transaction (Block.Advance time)) machine.old machine.new) }
-    ensures err { OnErr result (state_of machine.new ≡ state_of machine.old) }
-    ensures linked { Linked machine.new }
+    ensures err { OnErr result (Becomes (state_of machine.old) machine.old machine.new) }
 {
-    let mut streams = machine.streams;
+    let mut streams = machine.streams();
     let subject = active_subject(tx, transaction);
     let moment = match machine.drawn_moment(verified, subject, time, &mut streams) {
         Ok(moment) => moment,
@@ -250,8 +241,7 @@ fn seize(
     requires leads { MayLead verified.now.blocks (transaction.next + 1) }
     ensures made { IfOk result (λ made. MakesFrom made
         (model.meets verified.now tx.number transaction (Block.Seize f) []) machine.old machine.new) }
-    ensures err { OnErr result (state_of machine.new ≡ state_of machine.old) }
-    ensures linked { Linked machine.new }
+    ensures err { OnErr result (Becomes (state_of machine.old) machine.old machine.new) }
 {
     if machine.waits_for_facility(f, tx.number) {
         machine.wait_for(f, tx, transaction.priority)?;
@@ -274,9 +264,8 @@ fn pass_and_hand_over(
     requires there { f < length machine.old.facilities.facilities }
     requires idle { is_idle_now (change.facility f (state_of machine.old)) ≡ true }
     requires room { 0 < machine.old.current_events.room }
-    ensures state { state_of machine.new ≡ model.hand_over blocks.now f (state.delay_list f (state_of machine.old))
-        (change.enters_and_falls tx.number transaction (state_of machine.old)) }
-    ensures linked { Linked machine.new }
+    ensures state { Becomes (model.hand_over blocks.now f (state.delay_list f (state_of machine.old))
+        (change.enters_and_falls tx.number transaction (state_of machine.old))) machine.old machine.new }
 {
     machine.enter(tx, transaction, transaction.next + 1);
     machine.hand_over(blocks, f);
@@ -295,8 +284,7 @@ fn release(
     requires owner { is_owned_by tx.number (change.facility f (state_of machine.old)) ≡ true }
     requires leads { MayLead blocks.now (transaction.next + 1) }
     ensures made { IfOk result (λ made. Enters made tx.number (model.release blocks.now tx.number transaction f) machine.old machine.new) }
-    ensures err { OnErr result (state_of machine.new ≡ state_of machine.old) }
-    ensures linked { Linked machine.new }
+    ensures err { OnErr result (Becomes (state_of machine.old) machine.old machine.new) }
 {
     machine.reserve_current(1)?;
     machine.release_facility(f, tx.number);
@@ -321,8 +309,7 @@ fn enter_storage(
     requires leads { MayLead verified.now.blocks (transaction.next + 1) }
     ensures made { IfOk result (λ made. MakesFrom made
         (model.meets verified.now tx.number transaction (Block.Enter u) []) machine.old machine.new) }
-    ensures err { OnErr result (state_of machine.new ≡ state_of machine.old) }
-    ensures linked { Linked machine.new }
+    ensures err { OnErr result (Becomes (state_of machine.old) machine.old machine.new) }
 {
     if machine.waits_for_units(u) {
         machine.wait_for(u.entity, tx, transaction.priority)?;
@@ -338,9 +325,8 @@ fn pass_and_admit(machine: &mut Machine, blocks: &[Block], tx: Tx, transaction: 
     requires passing { IsPassing blocks.now machine.old tx transaction }
     requires there { e < length machine.old.facilities.facilities }
     requires room { length (at [] machine.old.waits.lists e) ≤ machine.old.current_events.room }
-    ensures state { state_of machine.new ≡ model.admission blocks.now e (state.delay_list e (state_of machine.old))
-        (change.enters_and_falls tx.number transaction (state_of machine.old)) }
-    ensures linked { Linked machine.new }
+    ensures state { Becomes (model.admission blocks.now e (state.delay_list e (state_of machine.old))
+        (change.enters_and_falls tx.number transaction (state_of machine.old))) machine.old machine.new }
 {
     machine.enter(tx, transaction, transaction.next + 1);
     machine.admit(blocks, e);
@@ -359,8 +345,7 @@ fn leave(
     requires inside { u.number ≤ (change.storage u.entity (state_of machine.old)).contents.content }
     requires leads { MayLead blocks.now (transaction.next + 1) }
     ensures made { IfOk result (λ made. Enters made tx.number (model.leave blocks.now tx.number transaction u) machine.old machine.new) }
-    ensures err { OnErr result (state_of machine.new ≡ state_of machine.old) }
-    ensures linked { Linked machine.new }
+    ensures err { OnErr result (Becomes (state_of machine.old) machine.old machine.new) }
 {
     let waiting = machine.waiting(u.entity);
     machine.reserve_current(waiting)?;
@@ -383,7 +368,6 @@ fn join_queue(
     requires units { UnitsFit (length machine.old.facilities.facilities) u }
     requires leads { MayLead blocks.now (transaction.next + 1) }
     ensures made { Enters result tx.number (model.join_queue blocks.now tx.number transaction u) machine.old machine.new }
-    ensures linked { Linked machine.new }
 {
     machine.join(u);
     machine.enter(tx, transaction, transaction.next + 1);
@@ -403,7 +387,6 @@ fn depart(
     requires inside { u.number ≤ (change.queue u.entity (state_of machine.old)).content }
     requires leads { MayLead blocks.now (transaction.next + 1) }
     ensures made { Enters result tx.number (model.depart blocks.now tx.number transaction u) machine.old machine.new }
-    ensures linked { Linked machine.new }
 {
     machine.depart_units(u);
     machine.enter(tx, transaction, transaction.next + 1);
@@ -423,7 +406,6 @@ pub(crate) fn transfer(
     requires active { IsActive blocks.now machine.old tx transaction }
     requires leads { MayLead blocks.now target }
     ensures made { Enters result tx.number (model.transfer blocks.now tx.number transaction target) machine.old machine.new }
-    ensures linked { Linked machine.new }
 {
     machine.enter(tx, transaction, target);
     Made::Step
@@ -443,9 +425,8 @@ fn transfer_by_fraction(
     requires leads { Leads verified.now.blocks transaction.next (Block.TransferByFraction fraction) }
     ensures made { MakesFrom result
         (model.act verified.now tx.number transaction (Block.TransferByFraction fraction)) machine.old machine.new }
-    ensures linked { Linked machine.new }
 {
-    let mut streams = machine.streams;
+    let mut streams = machine.streams();
     let drawn = drawn_thousandths(1, &mut streams);
     let target = chosen(transaction.next, fraction, drawn);
     machine.set_streams(&streams);
@@ -466,11 +447,9 @@ fn pass_and_leave(
 ) -> Result<(), Memory>
     requires active { IsActive verified.now.blocks machine.old tx transaction }
     requires by { pos 0 ≤ℤ by }
-    ensures ok { OnOk result (state_of machine.new ≡
-        placed tx.number Placement.LeavesModel (change.counted by
-        (change.entered tx.number transaction transaction.next (state.with_streams streams.now (state_of machine.old))))) }
-    ensures err { OnErr result (state_of machine.new ≡ state_of machine.old) }
-    ensures linked { Linked machine.new }
+    ensures ok { OnOk result (Becomes (placed tx.number Placement.LeavesModel (change.counted by
+        (change.entered tx.number transaction transaction.next (state.with_streams streams.now (state_of machine.old))))) machine.old machine.new) }
+    ensures err { OnErr result (Becomes (state_of machine.old) machine.old machine.new) }
 {
     machine.reserve_wake()?;
     machine.set_streams(streams);
@@ -496,10 +475,9 @@ fn terminate(
     requires nothing { owns_any tx.number machine.old.facilities.facilities ≡ false }
     ensures made { IfOk result (λ made. MakesFrom made
         (model.act verified.now tx.number transaction (Block.Terminate by)) machine.old machine.new) }
-    ensures err { OnErr result (state_of machine.new ≡ state_of machine.old) }
-    ensures linked { Linked machine.new }
+    ensures err { OnErr result (Becomes (state_of machine.old) machine.old machine.new) }
 {
-    let mut streams = machine.streams;
+    let mut streams = machine.streams();
     let subject = active_subject(tx, transaction);
     let by = match machine.value(verified, subject, by, &mut streams) {
         Ok(by) => by,
@@ -528,11 +506,11 @@ pub(crate) fn act(
     requires own { IsOf verified.now machine.old }
     requires meet { MayMeet verified.now (state_of machine.old) tx.number transaction block.now }
     requires operands { OperandsFit (length machine.old.facilities.facilities) block.now }
+    requires slot { set_by block.now ≤ machine.old.last }
     requires asks { Asks verified.now tx.number (state_of machine.old) block.now }
     requires leads { Leads verified.now.blocks transaction.next block.now }
     ensures made { IfOk result (λ made. MakesFrom made (model.act verified.now tx.number transaction block.now) machine.old machine.new) }
-    ensures err { OnErr result (state_of machine.new ≡ state_of machine.old) }
-    ensures linked { Linked machine.new }
+    ensures err { OnErr result (Becomes (state_of machine.old) machine.old machine.new) }
 {
     let blocks = blocks_of(verified);
     match block {

@@ -8,7 +8,8 @@ ghost use Rattle.gw_step.specs.Asks.{MayLead};
 ghost use Rattle.gw_step.specs.Operands.{MayEvaluate};
 ghost use Rattle.gw_step.specs.Times.{environment_of};
 ghost use Rattle.gw_machine.specs.View.{state_of};
-ghost use Rattle.gw_machine.specs.Coherence.{Linked, IsOf, IsActive};
+ghost use Rattle.gw_machine.specs.Leaving.{Becomes};
+ghost use Rattle.gw_machine.specs.Coherence.{IsOf, IsActive};
 ghost use Rattle.gw_scan.specs.Makes.{MakesFrom, passes_or_retries};
 
 use crate::blocks::blocks_of;
@@ -56,10 +57,9 @@ fn wait_to_retry(
     streams: &[Stream; 16],
 ) -> Result<(), Memory>
     requires { IsActive blocks.now machine.old tx transaction }
-    ensures ok { OnOk result (state_of machine.new ≡ placed tx.number Placement.JoinsRetryList
-        (state.with_streams streams.now (state_of machine.old))) }
-    ensures err { OnErr result (state_of machine.new ≡ state_of machine.old) }
-    ensures linked { Linked machine.new }
+    ensures ok { OnOk result (Becomes (placed tx.number Placement.JoinsRetryList
+        (state.with_streams streams.now (state_of machine.old))) machine.old machine.new) }
+    ensures err { OnErr result (Becomes (state_of machine.old) machine.old machine.new) }
 {
     machine.reserve_rest()?;
     machine.reserve_retry()?;
@@ -85,8 +85,7 @@ fn pass_or_retry(
     requires leads_else { IfSome otherwise (MayLead blocks.now) }
     ensures made { IfOk result (λ made. MakesFrom made (λ s. passes_or_retries blocks.now tx.number transaction otherwise so
         (state.with_streams streams.now s)) machine.old machine.new) }
-    ensures err { OnErr result (state_of machine.new ≡ state_of machine.old) }
-    ensures linked { Linked machine.new }
+    ensures err { OnErr result (Becomes (state_of machine.old) machine.old machine.new) }
 {
     if otherwise.is_none() && !so {
         wait_to_retry(machine, blocks, tx, transaction, streams)?;
@@ -115,10 +114,9 @@ pub(crate) fn test(
     requires leads_else { IfSome test.otherwise (MayLead verified.now.blocks) }
     ensures made { IfOk result (λ made. MakesFrom made
         (model.act verified.now tx.number transaction (Block.Test test)) machine.old machine.new) }
-    ensures err { OnErr result (state_of machine.new ≡ state_of machine.old) }
-    ensures linked { Linked machine.new }
+    ensures err { OnErr result (Becomes (state_of machine.old) machine.old machine.new) }
 {
-    let mut streams = machine.streams;
+    let mut streams = machine.streams();
     let subject = active_subject(tx, transaction);
     let left = match machine.value(verified, subject, test.left, &mut streams) {
         Ok(left) => left,
@@ -155,10 +153,9 @@ pub(crate) fn gate(
     requires leads_else { IfSome gate.otherwise (MayLead verified.now.blocks) }
     ensures made { IfOk result (λ made. MakesFrom made
         (model.meets verified.now tx.number transaction (Block.Gate gate) []) machine.old machine.new) }
-    ensures err { OnErr result (state_of machine.new ≡ state_of machine.old) }
-    ensures linked { Linked machine.new }
+    ensures err { OnErr result (Becomes (state_of machine.old) machine.old machine.new) }
 {
-    let streams = machine.streams;
+    let streams = machine.streams();
     let so = machine.is_so(gate.condition, gate.entity);
     pass_or_retry(
         machine,

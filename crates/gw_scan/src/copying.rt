@@ -8,7 +8,8 @@ ghost use Rattle.gw_step.specs.Changes as change;
 ghost use Rattle.gw_step.specs.Blocks as model;
 ghost use Rattle.gw_step.specs.Placing.{placed};
 ghost use Rattle.gw_machine.specs.View.{state_of, assembly_of};
-ghost use Rattle.gw_machine.specs.Coherence.{Linked, IsActive};
+ghost use Rattle.gw_machine.specs.Leaving.{Becomes};
+ghost use Rattle.gw_machine.specs.Coherence.{IsActive};
 ghost use Rattle.gw_scan.specs.Makes.{Enters};
 
 use crate::blocks::{pass_to, transfer};
@@ -38,11 +39,9 @@ fn pass_and_copy(
     target: u16,
 ) -> Result<(), Memory>
     requires { IsActive blocks.now machine.old tx transaction }
-    ensures ok { OnOk result (state_of machine.new ≡
-        change.copies_made copies tx.number (record transaction { current = transaction.next }) target
-        (change.enters_and_falls tx.number transaction (state_of machine.old))) }
-    ensures err { OnErr result (state_of machine.new ≡ state_of machine.old) }
-    ensures linked { Linked machine.new }
+    ensures ok { OnOk result (Becomes (change.copies_made copies tx.number (record transaction { current = transaction.next }) target
+        (change.enters_and_falls tx.number transaction (state_of machine.old))) machine.old machine.new) }
+    ensures err { OnErr result (Becomes (state_of machine.old) machine.old machine.new) }
 {
     let parameters = machine.reserve_copies(tx, copies)?;
     machine.enter(tx, transaction, transaction.next + 1);
@@ -64,8 +63,7 @@ pub(crate) fn split(
     requires leads { MayLead blocks.now (transaction.next + 1) }
     requires copies_lead { MayLead blocks.now (leads_to transaction.next (goes_or_falls split.target)) }
     ensures made { IfOk result (λ made. Enters made tx.number (model.split blocks.now tx.number transaction split) machine.old machine.new) }
-    ensures err { OnErr result (state_of machine.new ≡ state_of machine.old) }
-    ensures linked { Linked machine.new }
+    ensures err { OnErr result (Becomes (state_of machine.old) machine.old machine.new) }
 {
     if !machine.may_live(split.copies) {
         return Ok(Made::Ends(End::Live));
@@ -89,8 +87,7 @@ fn begin_assembly(
     requires leads { MayLead blocks.now (transaction.next + 1) }
     ensures made { IfOk result (λ made. Enters made tx.number
         (model.assemble_first blocks.now tx.number transaction missing) machine.old machine.new) }
-    ensures err { OnErr result (state_of machine.new ≡ state_of machine.old) }
-    ensures linked { Linked machine.new }
+    ensures err { OnErr result (Becomes (state_of machine.old) machine.old machine.new) }
 {
     machine.reserve_assembly()?;
     let begins = Placement::AwaitsSet(Assembling {
@@ -98,7 +95,7 @@ fn begin_assembly(
         set: transaction.set,
         missing,
     });
-    let streams = machine.streams;
+    let streams = machine.streams();
     pass_to(machine, blocks, tx, transaction, &streams, begins)?;
     Ok(Made::Step)
 }
@@ -113,10 +110,9 @@ fn pass_and_join(
 ) -> Result<(), Memory>
     requires active { IsActive blocks.now machine.old tx transaction }
     requires there { model.assembly_at transaction.next transaction.set (state_of machine.old) ≡ Some (assembly_of assembly) }
-    ensures ok { OnOk result (state_of machine.new ≡ placed tx.number Placement.LeavesModel
-        (model.joined_by_one (assembly_of assembly) (change.entered tx.number transaction transaction.next (state_of machine.old)))) }
-    ensures err { OnErr result (state_of machine.new ≡ state_of machine.old) }
-    ensures linked { Linked machine.new }
+    ensures ok { OnOk result (Becomes (placed tx.number Placement.LeavesModel
+        (model.joined_by_one (assembly_of assembly) (change.entered tx.number transaction transaction.next (state_of machine.old)))) machine.old machine.new) }
+    ensures err { OnErr result (Becomes (state_of machine.old) machine.old machine.new) }
 {
     machine.reserve_rest()?;
     machine.reserve_assembled()?;
@@ -139,8 +135,7 @@ fn come_to_assembly(
     requires nothing { owns_any tx.number machine.old.facilities.facilities ≡ false }
     ensures made { IfOk result (λ made. Enters made tx.number
         (model.assemble_other tx.number transaction (assembly_of assembly)) machine.old machine.new) }
-    ensures err { OnErr result (state_of machine.new ≡ state_of machine.old) }
-    ensures linked { Linked machine.new }
+    ensures err { OnErr result (Becomes (state_of machine.old) machine.old machine.new) }
 {
     pass_and_join(machine, blocks, tx, transaction, assembly)?;
     Ok(Made::Step)
@@ -158,8 +153,7 @@ pub(crate) fn assemble(
     requires nothing { owns_any tx.number machine.old.facilities.facilities ≡ false }
     requires leads { MayLead blocks.now (transaction.next + 1) }
     ensures made { IfOk result (λ made. Enters made tx.number (model.assemble blocks.now tx.number transaction size) machine.old machine.new) }
-    ensures err { OnErr result (state_of machine.new ≡ state_of machine.old) }
-    ensures linked { Linked machine.new }
+    ensures err { OnErr result (Becomes (state_of machine.old) machine.old machine.new) }
 {
     if size <= 1 {
         let next = transaction.next + 1;

@@ -5,7 +5,8 @@ ghost use Rattle.gw_step.specs.Asks.{MayLead};
 ghost use Rattle.gw_step.specs.Changes as change;
 ghost use Rattle.gw_step.specs.Blocks as model;
 ghost use Rattle.gw_machine.specs.View.{state_of};
-ghost use Rattle.gw_machine.specs.Coherence.{Linked, IsActive};
+ghost use Rattle.gw_machine.specs.Leaving.{Becomes};
+ghost use Rattle.gw_machine.specs.Coherence.{IsActive};
 ghost use Rattle.gw_scan.specs.Makes.{Enters};
 
 use gw_blocks::{Block, Link, Unlink};
@@ -25,8 +26,7 @@ pub(crate) fn link(
     requires active { IsActive blocks.now machine.old tx transaction }
     requires there { link.chain < length machine.old.facilities.facilities }
     ensures made { IfOk result (λ made. Enters made tx.number (model.link tx.number transaction link) machine.old machine.new) }
-    ensures err { OnErr result (state_of machine.new ≡ state_of machine.old) }
-    ensures linked { Linked machine.new }
+    ensures err { OnErr result (Becomes (state_of machine.old) machine.old machine.new) }
 {
     machine.reserve_rest()?;
     machine.reserve_link(link.chain)?;
@@ -37,7 +37,6 @@ pub(crate) fn link(
 
 /// How many members an UNLINK takes from its user chain: as many as it asks for at most, or all.
 fn taken_by(machine: &Machine, unlink: Unlink) -> usize
-    requires linked { Linked machine.now }
     requires there { unlink.chain < length machine.now.facilities.facilities }
     ensures { result ≡ model.taken_by unlink (state_of machine.now) }
 {
@@ -59,10 +58,8 @@ fn pass_and_unlink(
 ) -> Result<(), Memory>
     requires active { IsActive blocks.now machine.old tx transaction }
     requires there { unlink.chain < length machine.old.facilities.facilities }
-    ensures ok { OnOk result (state_of machine.new ≡
-        model.unlinked count unlink.chain unlink.target (change.enters_and_falls tx.number transaction (state_of machine.old))) }
-    ensures err { OnErr result (state_of machine.new ≡ state_of machine.old) }
-    ensures linked { Linked machine.new }
+    ensures ok { OnOk result (Becomes (model.unlinked count unlink.chain unlink.target (change.enters_and_falls tx.number transaction (state_of machine.old))) machine.old machine.new) }
+    ensures err { OnErr result (Becomes (state_of machine.old) machine.old machine.new) }
 {
     machine.reserve_current(count)?;
     machine.enter(tx, transaction, transaction.next + 1);
@@ -83,8 +80,7 @@ pub(crate) fn unlink(
     requires leads { MayLead blocks.now (transaction.next + 1) }
     requires others_lead { MayLead blocks.now unlink.target }
     ensures made { IfOk result (λ made. Enters made tx.number (model.unlink blocks.now tx.number transaction unlink) machine.old machine.new) }
-    ensures err { OnErr result (state_of machine.new ≡ state_of machine.old) }
-    ensures linked { Linked machine.new }
+    ensures err { OnErr result (Becomes (state_of machine.old) machine.old machine.new) }
 {
     let count = taken_by(machine, unlink);
     pass_and_unlink(machine, blocks, tx, transaction, unlink, count)?;

@@ -9,7 +9,8 @@ ghost use Rattle.gw_step.specs.Asks.{MayLead};
 ghost use Rattle.gw_step.specs.Operands.{MayEvaluate};
 ghost use Rattle.gw_step.specs.Times.{environment_of};
 ghost use Rattle.gw_machine.specs.View.{state_of};
-ghost use Rattle.gw_machine.specs.Coherence.{Linked, CanBePlaced, IsOf, IsActive};
+ghost use Rattle.gw_machine.specs.Leaving.{Becomes};
+ghost use Rattle.gw_machine.specs.Coherence.{CanBePlaced, IsOf, IsActive};
 ghost use Rattle.gw_scan.specs.Makes.{MakesFrom, Enters};
 
 use crate::blocks::{blocks_of, pass_to, pass_with_priority};
@@ -56,10 +57,9 @@ pub(crate) fn set_priority(
     requires leads { MayLead verified.now.blocks (transaction.next + 1) }
     ensures made { IfOk result (λ made. MakesFrom made
         (model.act verified.now tx.number transaction (Block.Priority change)) machine.old machine.new) }
-    ensures err { OnErr result (state_of machine.new ≡ state_of machine.old) }
-    ensures linked { Linked machine.new }
+    ensures err { OnErr result (Becomes (state_of machine.old) machine.old machine.new) }
 {
-    let mut streams = machine.streams;
+    let mut streams = machine.streams();
     let subject = active_subject(tx, transaction);
     let value = match machine.value(verified, subject, change.value, &mut streams) {
         Ok(value) => value,
@@ -92,10 +92,9 @@ pub(crate) fn buffer(
     requires active { IsActive blocks.now machine.old tx transaction }
     requires leads { MayLead blocks.now (transaction.next + 1) }
     ensures made { IfOk result (λ made. Enters made tx.number (model.buffer blocks.now tx.number transaction) machine.old machine.new) }
-    ensures err { OnErr result (state_of machine.new ≡ state_of machine.old) }
-    ensures linked { Linked machine.new }
+    ensures err { OnErr result (Becomes (state_of machine.old) machine.old machine.new) }
 {
-    let streams = machine.streams;
+    let streams = machine.streams();
     pass_to(
         machine,
         blocks,

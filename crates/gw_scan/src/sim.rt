@@ -75,7 +75,7 @@ impl Sim {
         ensures reached { IsReached self.new }
         ensures moment { StaysPaid self.old self.new }
     {
-        if let Some(end) = self.machine.ended {
+        if let Some(end) = self.machine.ended() {
             return Ok(Status::Ended(end));
         }
         let verified = self.spec.verified();
@@ -89,7 +89,7 @@ impl Sim {
         ensures value { result ≡ status_at self.now.state.ended }
         ensures reached { IsReached self.now }
     {
-        match self.machine.ended {
+        match self.machine.ended() {
             None => Status::Running,
             Some(end) => Status::Ended(end),
         }
@@ -99,7 +99,7 @@ impl Sim {
     pub fn clock(&self) -> i64
         ensures { result ≡ self.now.state.clock }
     {
-        self.machine.clock
+        self.machine.clock()
     }
 
     /// The certified weight of its state: at most so many block entries are still made in this clock moment, by those that
@@ -121,21 +121,21 @@ impl Sim {
     pub fn steps(&self) -> u64
         ensures { result ≡ self.now.state.steps }
     {
-        self.machine.steps
+        self.machine.steps()
     }
 
     /// The termination count: what is left to count down; 0 or less where the job is done.
     pub fn count(&self) -> i64
         ensures { result ≡ self.now.state.count }
     {
-        self.machine.count
+        self.machine.count()
     }
 
     /// The entries of all blocks so far.
     pub fn entries(&self) -> u64
         ensures { result ≡ sum self.now.state.entries }
     {
-        self.machine.entries.iter().sum()
+        self.machine.entries()
     }
 
     /// The entries of a block so far, by its number from 1; 0 where there is no such block.
@@ -150,7 +150,7 @@ impl Sim {
     pub fn here(&self, block: u16) -> usize
         ensures { result ≡ here_count block self.now.state.transactions }
     {
-        self.machine.transactions.here(block)
+        self.machine.here(block)
     }
 
     /// The facilities, each by its number as an entity. The clock units that passed over them are the clock.
@@ -159,7 +159,7 @@ impl Sim {
         ensures count { length result.now.facilities ≡ length self.now.job.parts.entities }
         ensures clock { pos result.now.passed ≡ self.now.state.clock }
     {
-        &self.machine.facilities
+        self.machine.facilities()
     }
 
     /// The storages, each by its number as an entity. The clock units that passed over them are the clock.
@@ -168,7 +168,7 @@ impl Sim {
         ensures count { length result.now.storages ≡ length self.now.job.parts.entities }
         ensures clock { pos result.now.passed ≡ self.now.state.clock }
     {
-        &self.machine.storages
+        self.machine.storages()
     }
 
     /// The queues, each by its number as an entity. The clock units that passed over them are the clock.
@@ -177,7 +177,7 @@ impl Sim {
         ensures count { length result.now.queues ≡ length self.now.job.parts.entities }
         ensures clock { pos result.now.passed ≡ self.now.state.clock }
     {
-        &self.machine.queues
+        self.machine.queues()
     }
 
     /// The logic switches, each by its number as an entity: whether it is set.
@@ -185,7 +185,7 @@ impl Sim {
         ensures switches { result.now ≡ self.now.state.entities.switches }
         ensures count { length result.now ≡ length self.now.job.parts.entities }
     {
-        &self.machine.switches
+        self.machine.switches()
     }
 
     /// The savevalues, each by its number as an entity: its value.
@@ -193,7 +193,7 @@ impl Sim {
         ensures savevalues { result.now ≡ self.now.state.entities.savevalues }
         ensures count { length result.now ≡ length self.now.job.parts.entities }
     {
-        &self.machine.savevalues
+        self.machine.savevalues()
     }
 
     /// The tables, each by its number as an entity.
@@ -201,7 +201,7 @@ impl Sim {
         ensures tables { result.now ≡ self.now.state.entities.tables }
         ensures count { length result.now ≡ length self.now.job.parts.entities }
     {
-        &self.machine.tables
+        self.machine.tables()
     }
 
     /// How many transactions wait for an entity, by its number from 0: the length of its delay list.
@@ -231,6 +231,6 @@ impl Sim {
     pub fn active(&self) -> Option<u64>
         ensures { result ≡ self.now.state.lists.active }
     {
-        self.machine.active.map(|tx| tx.number)
+        self.machine.active().map(|tx| tx.number)
     }
 }

@@ -3,10 +3,9 @@
 ghost use Rattle.std.specs.Prelude.{◌≡◌, ◌≤◌};
 ghost use Rattle.gw_step.specs.Blocks as model;
 ghost use Rattle.gw_step.specs.Asks.{MayLead, IsReturn};
-ghost use Rattle.gw_step.specs.Operands.{IsParameter};
 ghost use Rattle.gw_transactions.specs.Transactions.{parameter_at};
 ghost use Rattle.gw_machine.specs.View.{state_of};
-ghost use Rattle.gw_machine.specs.Coherence.{Linked, IsActive};
+ghost use Rattle.gw_machine.specs.Coherence.{HasSlot, IsActive};
 ghost use Rattle.gw_scan.specs.Makes.{Enters};
 
 use crate::assigning::assign_and_enter;
@@ -34,10 +33,9 @@ pub(crate) fn call_subroutine(
     call: Call,
 ) -> Made
     requires active { IsActive blocks.now machine.old tx transaction }
-    requires parameter { IsParameter call.parameter }
+    requires parameter { HasSlot machine.old call.parameter }
     requires leads { MayLead blocks.now call.target }
     ensures made { Enters result tx.number (model.call blocks.now tx.number transaction call) machine.old machine.new }
-    ensures linked { Linked machine.new }
 {
     let number = i64::from(transaction.next);
     assign_and_enter(
@@ -61,11 +59,9 @@ pub(crate) fn come_back(
     parameter: u8,
 ) -> Made
     requires active { IsActive blocks.now machine.old tx transaction }
-    requires parameter { IsParameter parameter }
     requires set { IsReturn blocks.now (parameter_at tx.number parameter (state_of machine.old).transactions) }
     ensures made { Enters result tx.number (model.come_back blocks.now tx.number transaction parameter) machine.old machine.new }
-    ensures linked { Linked machine.new }
 {
-    let value = machine.transactions.parameters(tx).get(parameter);
+    let value = machine.parameter(tx, parameter);
     transfer(machine, blocks, tx, transaction, block_after(value))
 }

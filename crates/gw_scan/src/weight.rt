@@ -10,7 +10,7 @@ ghost use Rattle.gw_weights.specs.Weights as certified;
 ghost use Rattle.gw_step.specs.Places.{place_of};
 ghost use Rattle.gw_step.specs.Weight as model;
 ghost use Rattle.gw_machine.specs.View.{state_of};
-ghost use Rattle.gw_machine.specs.Coherence.{IsHeld, Linked};
+ghost use Rattle.gw_machine.specs.Coherence.{IsHeld};
 ghost use Rattle.gw_scan.specs.Weighing.{later_weight, owed_weight};
 
 use gw_blocks::{Block, Generate};
@@ -58,8 +58,8 @@ fn weight_if_later(parts: &Parts, machine: &Machine, event: &Event) -> u32
     requires { IsHeld machine.now.transactions event.now }
     ensures { result ≡ later_weight parts.now machine.now.transactions.txs machine.now.clock event.now }
 {
-    if machine.clock < event.time {
-        weight_of(parts, &machine.transactions, event.tx)
+    if machine.clock() < event.time {
+        weight_of(parts, machine.transactions(), event.tx)
     } else {
         0
     }
@@ -67,12 +67,10 @@ fn weight_if_later(parts: &Parts, machine: &Machine, event: &Event) -> u32
 
 /// The weights of the places of those together that are scheduled for a time after the clock.
 fn weight_of_later(parts: &Parts, machine: &Machine) -> u128
-    requires held { AllByRecursion (IsHeld machine.now.transactions) machine.now.future_events.items }
-    requires few { length machine.now.future_events.items ≤ 2 ^ 62 }
     ensures { result ≡ sum_by (later_weight parts.now machine.now.transactions.txs machine.now.clock) machine.now.future_events.items }
 {
     let mut weight = 0u128;
-    for event in machine.future_events.iter() {
+    for event in machine.future_events().iter() {
         weight += weight_if_later(parts, machine, event) as u128;
     }
     weight
@@ -125,12 +123,11 @@ fn weight_owed(parts: &Parts, scheduled: &[u64]) -> u128
 /// The certified weight of the state that a machine of these parts is in: the weights of the places of all live
 /// transactions, but those that are scheduled for a time after the clock, and what GENERATE blocks still owe.
 pub(crate) fn certified_weight(parts: &Parts, machine: &Machine) -> u128
-    requires linked { Linked machine.now }
-    requires whole { length machine.now.scheduled.items ≡ length parts.now.blocks + 1 }
+    requires whole { length machine.now.scheduled ≡ length parts.now.blocks + 1 }
     requires blocks { length parts.now.blocks ≤ 4096 }
     ensures { result ≡ model.weight parts.now (state_of machine.now) }
 {
-    let all = weight_of_all(parts, &machine.transactions);
-    let owed = weight_owed(parts, &machine.scheduled);
+    let all = weight_of_all(parts, machine.transactions());
+    let owed = weight_owed(parts, machine.scheduled());
     all + owed - weight_of_later(parts, machine)
 }

@@ -5,21 +5,26 @@ use Rattle.gw_machine.specs.declared.values.Subject.{Subject}
 use Rattle.gw_machine.specs.View.{state_of}
 use Rattle.gw_machine.specs.Evaluating.{environment_for, drawn}
 use Rattle.gw_scan.proofs.BlocksWithValue.{advanced, act-advance}
+use Rattle.gw_scan.proofs.Subjects.{can_evaluate_active}
 use Rattle.gw_scan.proofs.blocks.advance.Goals as goal
 
 ended_is : (c : goal.In-Err) → drawn_moment c.args.verified.now (environment_of c.args.tx.number c.args.transaction (state_of c.args.machine.now)) c.args.time c.args.machine.now.clock c.args.machine.now.streams ≡ drawn (Err c.in-Err.end) c.drawn_moment.new.streams
-ended_is c = subst (λ (x : Subject). drawn_moment c.args.verified.now (environment_for x (state_of c.args.machine.now)) c.args.time c.args.machine.now.clock c.args.machine.now.streams ≡ drawn (Err c.in-Err.end) c.drawn_moment.new.streams) c.active_subject-subject.ensures c.in-Err.ensures
+ended_is c = subst (λ (x : Subject). drawn_moment c.args.verified.now (environment_for x (state_of c.args.machine.now)) c.args.time c.args.machine.now.clock c.args.machine.now.streams ≡ drawn (Err c.in-Err.end) c.drawn_moment.new.streams) c.active_subject-subject.ensures (rw c.streams-streams.ensures at c.in-Err.ensures)
 
 pub returns-in-Err-clause-made : goal.returns-in-Err-clause-made
 returns-in-Err-clause-made c =
-    (act-advance c.args.verified.now c.args.tx.number c.args.transaction (state_of c.args.machine.now) c.args.time (drawn (Err c.in-Err.end) c.drawn_moment.new.streams) (ended_is c), refl)
+    ((act-advance c.args.verified.now c.args.tx.number c.args.transaction (state_of c.args.machine.now) c.args.time (drawn (Err c.in-Err.end) c.drawn_moment.new.streams) (ended_is c), refl), refl)
 
 moment_is : (c : goal.In_ok-pass_until) → drawn_moment c.args.verified.now (environment_of c.args.tx.number c.args.transaction (state_of c.args.machine.now)) c.args.time c.args.machine.now.clock c.args.machine.now.streams ≡ Gives (c.in-Ok.moment, c.drawn_moment.new.streams)
-moment_is c = subst (λ (x : Subject). drawn_moment c.args.verified.now (environment_for x (state_of c.args.machine.now)) c.args.time c.args.machine.now.clock c.args.machine.now.streams ≡ Gives (c.in-Ok.moment, c.drawn_moment.new.streams)) c.active_subject-subject.ensures c.in-Ok.ensures
+moment_is c = subst (λ (x : Subject). drawn_moment c.args.verified.now (environment_for x (state_of c.args.machine.now)) c.args.time c.args.machine.now.clock c.args.machine.now.streams ≡ Gives (c.in-Ok.moment, c.drawn_moment.new.streams)) c.active_subject-subject.ensures (rw c.streams-streams.ensures at c.in-Ok.ensures)
 
 made : (c : goal.In_ok-pass_until) → advanced c.args.verified.now c.args.tx.number c.args.transaction (state_of c.args.machine.now) (c.in-Ok.moment, c.drawn_moment.new.streams) ≡ Gives (state_of c.pass_until.new.machine)
 made c = search rules
 
 pub returns-clause-made : goal.returns-clause-made
 returns-clause-made c =
-    act-advance c.args.verified.now c.args.tx.number c.args.transaction (state_of c.args.machine.now) c.args.time (Gives (c.in-Ok.moment, c.drawn_moment.new.streams)) (moment_is c) ∙ made c
+    (act-advance c.args.verified.now c.args.tx.number c.args.transaction (state_of c.args.machine.now) c.args.time (Gives (c.in-Ok.moment, c.drawn_moment.new.streams)) (moment_is c) ∙ made c, search rules)
+
+pub drawn_moment-requires-clause-subject : goal.drawn_moment-requires-clause-subject
+drawn_moment-requires-clause-subject c =
+    rw c.active_subject-subject.ensures (can_evaluate_active c.args.verified.now.blocks c.args.machine.now c.args.tx c.args.transaction c.requires.active)

@@ -5,5 +5,4 @@ pub pass_and_admit-requires-clause-passing : goal.pass_and_admit-requires-clause
 pass_and_admit-requires-clause-passing c =
     let r = c.in_ok-reserve_current.ensures in
     let e = c.give_back.ensures in
-    let linked = r.linked c.requires.active.steady.linked in
-    passing-given_back c.args.blocks.now c.args.machine.now c.reserve_current.new.self c.give_back.new.self c.args.tx c.args.transaction c.args.u c.requires.active c.requires.units.entity r.state linked r.frame e.state (e.linked linked) e.frame
+    passing-given_back c.args.blocks.now c.args.machine.now c.reserve_current.new.self c.give_back.new.self c.args.tx c.args.transaction c.args.u c.requires.active c.requires.units.entity r.state r.frame e.state e.frame

@@ -11,8 +11,7 @@ pub pass_and_hand_over-requires-clause-passing : goal.pass_and_hand_over-require
 pass_and_hand_over-requires-clause-passing c =
     let r = c.in_ok-reserve_current.ensures in
     let e = c.release_facility.ensures in
-    let linked = r.linked c.requires.active.steady.linked in
-    passing-released c.args.blocks.now c.args.machine.now c.reserve_current.new.self c.release_facility.new.self c.args.tx c.args.transaction c.args.f c.requires.active c.requires.there r.state linked r.frame e.state (e.linked linked) e.frame e.table
+    passing-released c.args.blocks.now c.args.machine.now c.reserve_current.new.self c.release_facility.new.self c.args.tx c.args.transaction c.args.f c.requires.active c.requires.there r.state r.frame e.state e.frame e.table
 
 pub pass_and_hand_over-requires-clause-idle : goal.pass_and_hand_over-requires-clause-idle
 pass_and_hand_over-requires-clause-idle c =

@@ -8,14 +8,19 @@ use Rattle.gw_machine.specs.View.{state_of}
 use Rattle.gw_machine.specs.Evaluating.{environment_for}
 use Rattle.gw_step.specs.State.{with_streams}
 use Rattle.gw_scan.proofs.BlocksWithValue.{act-priority}
+use Rattle.gw_scan.proofs.Subjects.{can_evaluate_active}
 use Rattle.gw_scan.proofs.passing.set_priority.Goals as goal
 
 value_is : (c : goal.In_ok-pass_with_priority) → operand_value c.args.verified.now (environment_of c.args.tx.number c.args.transaction (state_of c.args.machine.now)) c.args.change.value c.args.machine.now.streams ≡ Value (c.in-Ok.value, c.value.new.streams)
 value_is c =
-    subst (λ (x : Subject). operand_value c.args.verified.now (environment_for x (state_of c.args.machine.now)) c.args.change.value c.args.machine.now.streams ≡ Value (c.in-Ok.value, c.value.new.streams)) c.active_subject-subject.ensures c.in-Ok.ensures
+    subst (λ (x : Subject). operand_value c.args.verified.now (environment_for x (state_of c.args.machine.now)) c.args.change.value c.args.machine.now.streams ≡ Value (c.in-Ok.value, c.value.new.streams)) c.active_subject-subject.ensures (rw c.streams-streams.ensures at c.in-Ok.ensures)
 
 made : (c : goal.In_ok-pass_with_priority) → then_placed c.args.tx.number (set_priority c.args.verified.now.blocks c.args.tx.number c.args.transaction c.args.change.behind c.in-Ok.value (with_streams c.value.new.streams (state_of c.args.machine.now))) ≡ Gives (state_of c.pass_with_priority.new.machine)
 made c = search rules
 
 pub returns-clause-made : goal.returns-clause-made
-returns-clause-made c = act-priority c.args.verified.now c.args.tx.number c.args.transaction (state_of c.args.machine.now) c.args.change c.in-Ok.value c.value.new.streams (value_is c) ∙ made c
+returns-clause-made c = (act-priority c.args.verified.now c.args.tx.number c.args.transaction (state_of c.args.machine.now) c.args.change c.in-Ok.value c.value.new.streams (value_is c) ∙ made c, search rules)
+
+pub value-requires-clause-subject : goal.value-requires-clause-subject
+value-requires-clause-subject c =
+    rw c.active_subject-subject.ensures (can_evaluate_active c.args.verified.now.blocks c.args.machine.now c.args.tx c.args.transaction c.requires.active)

@@ -7,5 +7,5 @@ use Rattle.gw_scan.proofs.subroutines.come_back.Goals as goal
 
 pub block_after-requires : goal.block_after-requires
 block_after-requires c =
-    let is : parameter_at c.args.tx.number c.args.parameter (state_of c.args.machine.now).transactions ≡ Some (to_z w64 (of_z w64 c.get-value.result)) = search rules in
+    let is : parameter_at c.args.tx.number c.args.parameter (state_of c.args.machine.now).transactions ≡ Some (to_z w64 (of_z w64 c.parameter-value.result)) = search rules in
     is_number c.args.blocks.now _ c.requires.active.steady.fit.few (subst (IsReturn c.args.blocks.now) is c.requires.set)

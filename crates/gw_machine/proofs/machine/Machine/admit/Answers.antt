@@ -6,7 +6,7 @@ use Rattle.gw_step.specs.Blocks.{admission}
 use Rattle.gw_machine.specs.Coherence.{IsSteady}
 use Rattle.gw_machine.proofs.Walks.{rest_of_walk, walk-first, walk-ends, walk-same, walk-on, left-moved, left-place}
 use Rattle.gw_machine.proofs.Steady.{steady-same}
-use Rattle.gw_machine.specs.declared.machine.Machine.{Machine}
+use Rattle.gw_machine.specs.Configuration.{Configuration}
 use Rattle.gw_machine.proofs.machine.Machine.admit.Goals as goal
 
 pub loop-tx-init : goal.loop-tx-init
@@ -17,11 +17,12 @@ loop-tx-init c =
     let same = ap (λ (xs : List (List Member)). length (at [] xs c.args.e)) starts.lists in
     record {
       walk = ap (λ i. rest_of_walk bs c.args.e i begun) starts.place ∙ walk-first bs c.args.e begun ∙ ap (λ s. admission bs c.args.e (delay_list c.args.e s) s) starts.state;
-      steady = steady-same bs (c.args.self.now.steps + 1) c.args.self.now begun c.requires.steady starts.state (ap (λ (x : Machine). x.facilities) starts.frame) starts.linked;
-      steps = ap (λ (x : Machine). x.steps) starts.frame;
-      there = rw (ap (λ (x : Machine). x.facilities) starts.frame) c.requires.there;
+      steady = steady-same bs (c.args.self.now.steps + 1) c.args.self.now begun c.requires.steady starts.state (ap (λ (x : Configuration). x.facilities) starts.frame);
+      steps = ap (λ (x : Configuration). x.steps) starts.frame;
+      slots = ap (λ (x : Configuration). x.last) starts.frame;
+      there = rw (ap (λ (x : Configuration). x.facilities) starts.frame) c.requires.there;
       place = omega (arith, starts.place);
-      room = omega (arith, same, starts.place, ap (λ (x : Machine). x.current_events.room) starts.frame, c.requires.room);
+      room = omega (arith, same, starts.place, ap (λ (x : Configuration). x.current_events.room) starts.frame, c.requires.room);
     }
 
 pub admit_one-requires-clause-room : goal.admit_one-requires-clause-room
@@ -60,11 +61,12 @@ loop-tx-preserved-then-not-admit_one c =
       walk = ap (λ i. rest_of_walk bs c.args.e i c.pass_waiter.new.self) (passes.place ∙ ap (λ i. i + 1) place)
           ∙ walk-same bs c.args.e (was + 1) c.admit_one.new.self c.pass_waiter.new.self passes.lists passes.state
           ∙ walk-on bs c.args.e was c.loop-tx.self c.admit_one.new.self c.in-Some.tx false there e.state e.moves ∙ old.walk;
-      steady = steady-same bs (c.args.self.now.steps + 1) c.admit_one.new.self c.pass_waiter.new.self steady passes.state (ap (λ (x : Machine). x.facilities) passes.frame) passes.linked;
-      steps = ap (λ (x : Machine). x.steps) passes.frame ∙ e.frame.0 ∙ old.steps;
-      there = rw (ap (λ (x : Machine). x.facilities) passes.frame) (rw e.frame.1 old.there);
+      steady = steady-same bs (c.args.self.now.steps + 1) c.admit_one.new.self c.pass_waiter.new.self steady passes.state (ap (λ (x : Configuration). x.facilities) passes.frame);
+      steps = ap (λ (x : Configuration). x.steps) passes.frame ∙ e.frame.0 ∙ old.steps;
+      slots = ap (λ (x : Configuration). x.last) passes.frame ∙ e.frame.2 ∙ old.slots;
+      there = rw (ap (λ (x : Configuration). x.facilities) passes.frame) (rw e.frame.1 old.there);
       place = omega (arith, list, place, kept, passes.place, left-place c.args.e was c.loop-tx.self c.in-Some.tx there);
-      room = omega (arith, list, place, kept, passes.place, ap (λ (x : Machine). x.current_events.room) passes.frame, room, old.room);
+      room = omega (arith, list, place, kept, passes.place, ap (λ (x : Configuration). x.current_events.room) passes.frame, room, old.room);
     }
 
 pub loop-tx-smaller : goal.loop-tx-smaller
@@ -87,6 +89,7 @@ loop-tx-preserved c =
           ∙ walk-on bs c.args.e was c.loop-tx.self c.admit_one.new.self c.in-Some.tx true there e.state e.moves ∙ old.walk;
       steady = subst (λ k. IsSteady bs (k + 1) c.admit_one.new.self) old.steps e.steady;
       steps = e.frame.0 ∙ old.steps;
+      slots = e.frame.2 ∙ old.slots;
       there = rw e.frame.1 old.there;
       place = omega (arith, fewer, e.moves.2, left-place c.args.e was c.loop-tx.self c.in-Some.tx there);
       room = omega (arith, fewer, e.moves.1, e.moves.2, old.room);

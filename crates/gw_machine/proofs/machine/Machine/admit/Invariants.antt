@@ -13,6 +13,7 @@ invariant-loop-tx l = record {
   walk : rest_of_walk l.blocks l.e (at 0 l.self.waits.places l.e) l.self ≡ admission l.blocks l.e (delay_list l.e (state_of l.fn.self)) (state_of l.fn.self);
   steady : IsSteady l.blocks (l.fn.self.steps + 1) l.self;
   steps : l.self.steps ≡ l.fn.self.steps;
+  slots : l.self.last ≡ l.fn.self.last;
   there : l.e < length l.self.facilities.facilities;
   place : at 0 l.self.waits.places l.e ≤ length (at [] l.self.waits.lists l.e);
   room : length (at [] l.self.waits.lists l.e) ≤ l.self.current_events.room + at 0 l.self.waits.places l.e;

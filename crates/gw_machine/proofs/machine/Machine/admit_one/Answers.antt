@@ -1,19 +1,36 @@
-use Rattle.std.proofs.Common.{rules, ◌≡◌, ◌+◌, Some, arith}
+use Rattle.std.proofs.Common.{rules, ◌≡◌, ◌+◌, Some, [], subst, arith}
 use Rattle.gw_num.specs.Table.{at}
 use Rattle.gw_machine.specs.View.{state_of}
 use Rattle.gw_blocks.specs.declared.parts.Block.TheVariants as blocks
 use Rattle.gw_kinds.specs.Kinds.{block_at}
 use Rattle.gw_step.specs.Blocks.{asked, looked_at}
 use Rattle.gw_step.proofs.Follows.{asked-enter, block_below}
+use Rattle.gw_transactions.specs.Transactions.{Holds}
+use Rattle.gw_machine.specs.Configuration.{Configuration}
+use Rattle.gw_machine.specs.Shown.{shown}
+use Rattle.gw_machine.proofs.Waiters.{ranked-at}
 use Rattle.gw_machine.proofs.Walks.{steady-looked_at}
 use Rattle.gw_machine.proofs.machine.Machine.admit_one.Goals as goal
 
 state_is : (c : goal.After-enter_if_free) → state_of c.enter_if_free.new.self ≡ looked_at c.args.blocks.now c.args.e c.args.tx.number (state_of c.args.self.now)
 state_is c = search rules
 
+pub get-transaction-requires : goal.get-transaction-requires
+get-transaction-requires c =
+    let m = shown c.self.inside in
+    let e = c.args.e in
+    ranked-at m.transactions c.args.tx (at [] m.waits.lists e) (at 0 m.waits.places e) (c.self.invariant.delay_lists e (rw (← c.self.view_is) at c.requires.there)) (rw (← c.self.view_is) at c.requires.waiter)
+
+pub enter_if_free-requires-clause-held : goal.enter_if_free-requires-clause-held
+enter_if_free-requires-clause-held c =
+    let m = shown c.self.inside in
+    let e = c.args.e in
+    subst (λ (m : Configuration). Holds m.transactions c.args.tx) c.self.view_is
+    (ranked-at m.transactions c.args.tx (at [] m.waits.lists e) (at 0 m.waits.places e) (c.self.invariant.delay_lists e (rw (← c.self.view_is) at c.requires.there)) (rw (← c.self.view_is) at c.requires.waiter))
+
 pub returns-in-Some-clause-steady : goal.returns-in-Some-clause-steady
 returns-in-Some-clause-steady c =
-    steady-looked_at c.args.blocks.now c.args.self.now c.args.e c.requires.there (c.args.self.now.steps + 1) c.requires.steady (at 0 c.args.self.now.waits.places c.args.e) c.args.tx c.requires.waiter c.enter_if_free.new.self (state_is c) c.enter_if_free.ensures.linked c.enter_if_free.ensures.frame.1
+    steady-looked_at c.args.blocks.now c.args.self.now c.args.e c.requires.there (c.args.self.now.steps + 1) c.requires.steady (at 0 c.args.self.now.waits.places c.args.e) c.args.tx c.requires.waiter c.enter_if_free.new.self (state_is c) c.enter_if_free.ensures.frame.1
 
 pub enter_if_free-requires-clause-block : goal.enter_if_free-requires-clause-block
 enter_if_free-requires-clause-block c =

@@ -9,29 +9,31 @@ use Rattle.gw_step.specs.Changes.{newcomer}
 use Rattle.gw_machine.specs.View.{state_of, lists_of, event_of}
 use Rattle.gw_machine.proofs.Changes.{events-in_time, linked-arrived}
 use Rattle.gw_machine.proofs.Handles.{carries-insert}
+use Rattle.gw_machine.specs.Shown.{shown}
 use Rattle.gw_machine.proofs.machine.Machine.arrive.Goals as goal
 
-scheduled : (c : goal.After-raise) → c.schedule.new.self.items ≡ in_time (λ (e : Event). e.time) (record { tx = c.insert_with-tx.result; time = c.args.time }) c.args.self.now.future_events.items
+scheduled : (c : goal.After-raise) → c.schedule.new.self.items ≡ in_time (λ (e : Event). e.time) (record { tx = c.insert_with-tx.result; time = c.args.time }) (shown c.self.inside).future_events.items
 scheduled c = let fits = c.ranges.time in simp to_z-of_z at c.schedule.ensures.items
 
-made : (c : goal.After-raise) → c.insert_with-tx.new.self.txs ≡ put None c.args.self.now.transactions.txs (length c.args.self.now.transactions.txs) (Some (newcomer c.args.block c.args.priority (state_of c.args.self.now)))
+made : (c : goal.After-raise) → c.insert_with-tx.new.self.txs ≡ put None (shown c.self.inside).transactions.txs (length (shown c.self.inside).transactions.txs) (Some (newcomer c.args.block c.args.priority (state_of (shown c.self.inside))))
 made c = search rules
 
 pub returns-clause-state : goal.returns-clause-state
 returns-clause-state c =
-    let m = c.args.self.now in
+    rw (← c.self.view_is) (
+    let m = (shown c.self.inside) in
     let s = state_of m in
     let after = λ (counts : List ℕ) (ts : List (Option LiveTransaction)) (es : List FutureEvent). record s { scheduled = counts; transactions = ts; lists = record (lists_of m) { future_events = es } } in
     let events = in_time (λ (e : FutureEvent). e.time) (record { time = c.args.time; number = length m.transactions.txs }) (map event_of m.future_events.items) in
     ap (λ (counts : List ℕ). after counts c.insert_with-tx.new.self.txs (map event_of c.schedule.new.self.items)) c.raise.ensures
-    ∙ ap (λ (es : List FutureEvent). after (raised c.args.block m.scheduled.items) c.insert_with-tx.new.self.txs es)
+    ∙ ap (λ (es : List FutureEvent). after (raised c.args.block m.scheduled) c.insert_with-tx.new.self.txs es)
     (ap (map event_of) (scheduled c) ∙ events-in_time c.insert_with-tx.result c.args.time m.future_events.items
     ∙ ap (λ (k : ℕ). in_time (λ (e : FutureEvent). e.time) (record { time = c.args.time; number = k }) (map event_of m.future_events.items)) c.insert_with-tx.ensures.number)
-    ∙ ap (λ (ts : List (Option LiveTransaction)). after (raised c.args.block m.scheduled.items) ts events) (made c)
+    ∙ ap (λ (ts : List (Option LiveTransaction)). after (raised c.args.block m.scheduled) ts events) (made c))
 
 pub returns-clause-carries : goal.returns-clause-carries
-returns-clause-carries c = carries-insert c.args.self.now.transactions c.insert_with-tx.new.self _ c.insert_with-tx.result.place c.requires.linked.sound (omega arith) c.insert_with-tx.ensures.txs c.insert_with-tx.ensures.places c.insert_with-tx.ensures.last
+returns-clause-carries c = rw (← c.self.view_is) (carries-insert (shown c.self.inside).transactions c.insert_with-tx.new.self _ c.insert_with-tx.result.place c.self.invariant.sound (omega arith) c.insert_with-tx.ensures.txs c.insert_with-tx.ensures.places c.insert_with-tx.ensures.last)
 
-pub returns-clause-linked : goal.returns-clause-linked
-returns-clause-linked c =
-    linked-arrived c.args.self.now _ c.insert_with-tx.result _ c.args.block c.args.priority c.args.time c.insert_with-tx.ensures.txs c.insert_with-tx.ensures.places c.insert_with-tx.ensures.last c.insert_with-tx.ensures.number c.insert_with-tx.ensures.sound refl refl (scheduled c) (record { waits = refl; assemblies = refl; chains = refl; facilities = refl; storages = refl; queues = refl; clock = refl }) (returns-clause-state c) (omega arith) c.requires.linked
+pub invariant_of-self : goal.invariant_of-self
+invariant_of-self c =
+    linked-arrived (shown c.self.inside) _ c.insert_with-tx.result _ c.args.block c.args.priority c.args.time c.insert_with-tx.ensures.txs c.insert_with-tx.ensures.places c.insert_with-tx.ensures.last c.insert_with-tx.ensures.number c.insert_with-tx.ensures.sound refl refl (scheduled c) (record { waits = refl; assemblies = refl; chains = refl; facilities = refl; storages = refl; queues = refl; clock = refl }) (rw (← c.self.view_is) at (returns-clause-state c)) (omega arith) c.self.invariant

@@ -4,25 +4,27 @@ use Rattle.gw_chains.specs.Chain.{behind}
 use Rattle.gw_chains.specs.declared.tx.Member.{Member}
 use Rattle.gw_step.specs.State.{priority_of}
 use Rattle.gw_machine.proofs.AtSets.{has_begun, waiter-held, priority-found, state-assembled, linked-assembled}
+use Rattle.gw_machine.specs.Shown.{shown}
 use Rattle.gw_machine.proofs.machine.Machine.assemble.Goals as goal
 
 pub finish-requires : goal.finish-requires
-finish-requires c = has_begun c.args.self.now c.requires.linked c.args.assembly c.requires.there
+finish-requires c = has_begun (shown c.self.inside) c.self.invariant c.args.assembly (rw (← c.self.view_is) at c.requires.there)
 
 pub get-requires : goal.get-requires
-get-requires c = waiter-held c.args.self.now c.requires.linked c.args.assembly c.requires.there c.finish.result c.finish.ensures.value
+get-requires c = waiter-held (shown c.self.inside) c.self.invariant c.args.assembly (rw (← c.self.view_is) at c.requires.there) c.finish.result c.finish.ensures.value
 
-joined : (c : goal.After-insert_behind) → c.insert_behind.new.self.items ≡ behind (λ (x : Member). x.priority) (record { tx = c.finish.result.first; priority = c.get.result.now.priority }) c.args.self.now.current_events.items
+joined : (c : goal.After-insert_behind) → c.insert_behind.new.self.items ≡ behind (λ (x : Member). x.priority) (record { tx = c.finish.result.first; priority = c.get.result.now.priority }) (shown c.self.inside).current_events.items
 joined c = search (rules, to_z-of_z)
 
-rank : (c : goal.After-insert_behind) → priority_of c.args.self.now.transactions.txs c.finish.result.first.number ≡ c.get.result.now.priority
-rank c = priority-found c.args.self.now.transactions.txs c.finish.result.first.number c.get.result.now c.get.ensures.value
+rank : (c : goal.After-insert_behind) → priority_of (shown c.self.inside).transactions.txs c.finish.result.first.number ≡ c.get.result.now.priority
+rank c = priority-found (shown c.self.inside).transactions.txs c.finish.result.first.number c.get.result.now c.get.ensures.value
 
 pub returns-clause-state : goal.returns-clause-state
 returns-clause-state c =
-    state-assembled c.args.self.now c.requires.linked c.args.assembly c.requires.there c.finish.result c.finish.ensures.value c.get.result.now.priority (rank c) c.insert_behind.new.self.items (joined c) c.finish.new.self.items c.finish.ensures.items
+    rw (← c.self.view_is) (
+    state-assembled (shown c.self.inside) c.self.invariant c.args.assembly (rw (← c.self.view_is) at c.requires.there) c.finish.result c.finish.ensures.value c.get.result.now.priority (rank c) c.insert_behind.new.self.items (joined c) c.finish.new.self.items c.finish.ensures.items)
 
-pub returns-clause-linked : goal.returns-clause-linked
-returns-clause-linked c =
-    linked-assembled c.args.self.now c.requires.linked c.args.assembly c.requires.there c.finish.result c.finish.ensures.value c.get.result.now.priority (rank c) c.insert_behind.new.self.items (joined c) c.finish.new.self.items c.finish.ensures.items
-    _ refl refl refl refl refl refl refl refl refl refl refl (returns-clause-state c)
+pub invariant_of-self : goal.invariant_of-self
+invariant_of-self c =
+    linked-assembled (shown c.self.inside) c.self.invariant c.args.assembly (rw (← c.self.view_is) at c.requires.there) c.finish.result c.finish.ensures.value c.get.result.now.priority (rank c) c.insert_behind.new.self.items (joined c) c.finish.new.self.items c.finish.ensures.items
+    _ refl refl refl refl refl refl refl refl refl refl refl (rw (← c.self.view_is) at (returns-clause-state c))

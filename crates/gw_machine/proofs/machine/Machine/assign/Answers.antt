@@ -5,16 +5,18 @@ use Rattle.gw_step.specs.State.{priority_of}
 use Rattle.gw_machine.specs.View.{state_of}
 use Rattle.gw_machine.proofs.Handles.{priority-assigned}
 use Rattle.gw_machine.proofs.Changes.{Keeps, linked-assigned}
+use Rattle.gw_machine.specs.Shown.{shown}
 use Rattle.gw_machine.proofs.machine.Machine.assign.Goals as goal
 
-set : (c : goal.After-assign) → c.assign.new.self.txs ≡ put_parameter c.args.tx.number c.args.parameter c.args.value c.args.self.now.transactions.txs
+set : (c : goal.After-assign) → c.assign.new.self.txs ≡ put_parameter c.args.tx.number c.args.parameter c.args.value (shown c.self.inside).transactions.txs
 set c = let fits = c.ranges.value in simp to_z-of_z at c.assign.ensures.txs
 
 pub returns-clause-rank : goal.returns-clause-rank
 returns-clause-rank c =
-    ap (λ ts. priority_of ts c.args.tx.number) (set c) ∙ priority-assigned c.args.tx.number c.args.parameter c.args.value c.args.self.now.transactions.txs c.args.tx.number
+    rw (← c.self.view_is) (
+    ap (λ ts. priority_of ts c.args.tx.number) (set c) ∙ priority-assigned c.args.tx.number c.args.parameter c.args.value (shown c.self.inside).transactions.txs c.args.tx.number)
 
-pub returns-clause-linked : goal.returns-clause-linked
-returns-clause-linked c = λ l.
-    let keeps : Keeps c.args.self.now _ = record { waits = refl; assemblies = refl; chains = refl; facilities = refl; storages = refl; queues = refl; clock = refl } in
-    linked-assigned c.args.self.now _ c.args.tx c.args.parameter c.args.value (set c) c.assign.ensures.places c.assign.ensures.last c.assign.ensures.sound refl refl refl keeps (ap (λ ts. record (state_of c.args.self.now) { transactions = ts }) (set c)) l
+pub invariant_of-self : goal.invariant_of-self
+invariant_of-self c =
+    let keeps : Keeps (shown c.self.inside) _ = record { waits = refl; assemblies = refl; chains = refl; facilities = refl; storages = refl; queues = refl; clock = refl } in
+    linked-assigned (shown c.self.inside) _ c.args.tx c.args.parameter c.args.value (set c) c.assign.ensures.places c.assign.ensures.last c.assign.ensures.sound refl refl refl keeps (ap (λ ts. record (state_of (shown c.self.inside)) { transactions = ts }) (set c)) c.self.invariant

@@ -1,11 +1,12 @@
 use Rattle.std.proofs.Common.{refl}
 use Rattle.gw_machine.proofs.AtRest.{state-awaits, linked-awaits}
+use Rattle.gw_machine.specs.Shown.{shown}
 use Rattle.gw_machine.proofs.machine.Machine.await_set.Goals as goal
 
 pub returns-clause-state : goal.returns-clause-state
-returns-clause-state c = state-awaits c.args.self.now c.args.tx c.args.begins c.requires.rests c.begin.new.self.items c.begin.ensures.items
+returns-clause-state c = rw (← c.self.view_is) (state-awaits (shown c.self.inside) c.args.tx c.args.begins c.self.invariant (rw (← c.self.view_is) at c.requires.rests) c.begin.new.self.items c.begin.ensures.items)
 
-pub returns-clause-linked : goal.returns-clause-linked
-returns-clause-linked c =
-    linked-awaits c.args.self.now c.args.tx c.args.begins c.requires.rests c.begin.new.self.items c.begin.ensures.items
-    _ refl refl refl refl refl refl refl refl refl refl refl (returns-clause-state c)
+pub invariant_of-self : goal.invariant_of-self
+invariant_of-self c =
+    linked-awaits (shown c.self.inside) c.args.tx c.args.begins c.self.invariant (rw (← c.self.view_is) at c.requires.rests) c.begin.new.self.items c.begin.ensures.items
+    _ refl refl refl refl refl refl refl refl refl refl refl (rw (← c.self.view_is) at (returns-clause-state c))

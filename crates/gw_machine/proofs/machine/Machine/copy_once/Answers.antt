@@ -8,6 +8,7 @@ use Rattle.gw_step.specs.Times.{parameters_of}
 use Rattle.gw_step.specs.Changes.{with_copy}
 use Rattle.gw_machine.specs.View.{state_of}
 use Rattle.gw_machine.proofs.AtCopies.{state-copied, linked-copied, parameters-copied}
+use Rattle.gw_machine.specs.Shown.{shown}
 use Rattle.gw_machine.proofs.machine.Machine.copy_once.Goals as goal
 
 abbrev numbered : List (Option ℤ) → ℕ → Numbered
@@ -16,25 +17,27 @@ numbered values last = record { values = values; last = last }
 as_kept : {a b : List (Option ℤ)} {m n : ℕ} → a ≡ b → m ≡ n → numbered a m ≡ numbered b n
 as_kept {b = b} {m = m} same last = ap (λ values. numbered values m) same ∙ ap (λ k. numbered b k) last
 
-joined : (c : goal.After-insert_behind) → c.insert_behind.new.self.items ≡ behind (λ (x : Member). x.priority) (record { tx = c.insert_with-made.result; priority = c.args.transaction.priority }) c.args.self.now.current_events.items
+joined : (c : goal.After-insert_behind) → c.insert_behind.new.self.items ≡ behind (λ (x : Member). x.priority) (record { tx = c.insert_with-made.result; priority = c.args.transaction.priority }) (shown c.self.inside).current_events.items
 joined c = search (rules, to_z-of_z)
 
-made : (c : goal.After-insert_behind) → c.insert_with-made.new.self.txs ≡ with_copy c.args.tx.number c.args.transaction c.args.target (state_of c.args.self.now)
-made c = search (rules, c.requires.same)
+made : (c : goal.After-insert_behind) → c.insert_with-made.new.self.txs ≡ with_copy c.args.tx.number c.args.transaction c.args.target (state_of (shown c.self.inside))
+made c = search (rules, (rw (← c.self.view_is) at c.requires.same))
 
 pub returns-clause-state : goal.returns-clause-state
 returns-clause-state c =
+    rw (← c.self.view_is) (
     let e = c.insert_with-made.ensures in
-    state-copied c.args.self.now c.requires.linked c.args.tx.number c.args.transaction c.requires.block c.args.target c.insert_with-made.result c.insert_with-made.new.self (made c) e.places e.last e.number c.insert_behind.new.self.items (joined c)
+    state-copied (shown c.self.inside) c.self.invariant c.args.tx.number c.args.transaction c.requires.block c.args.target c.insert_with-made.result c.insert_with-made.new.self (made c) e.places e.last e.number c.insert_behind.new.self.items (joined c))
 
-pub returns-clause-linked : goal.returns-clause-linked
-returns-clause-linked c =
+pub invariant_of-self : goal.invariant_of-self
+invariant_of-self c =
     let e = c.insert_with-made.ensures in
-    linked-copied c.args.self.now c.requires.linked c.args.tx.number c.args.transaction c.requires.block c.args.target c.insert_with-made.result c.insert_with-made.new.self (made c) e.places e.last e.number c.insert_behind.new.self.items (joined c)
-    _ refl e.sound refl refl refl (record { waits = refl; assemblies = refl; chains = refl; facilities = refl; storages = refl; queues = refl; clock = refl }) (returns-clause-state c)
+    linked-copied (shown c.self.inside) c.self.invariant c.args.tx.number c.args.transaction c.requires.block c.args.target c.insert_with-made.result c.insert_with-made.new.self (made c) e.places e.last e.number c.insert_behind.new.self.items (joined c)
+    _ refl e.sound refl refl refl (record { waits = refl; assemblies = refl; chains = refl; facilities = refl; storages = refl; queues = refl; clock = refl }) (rw (← c.self.view_is) at (returns-clause-state c))
 
 pub returns-clause-same : goal.returns-clause-same
 returns-clause-same c =
-    let u = transaction_of c.args.self.now.transactions c.requires.linked.sound c.args.tx c.requires.held in
-    let same = ap (parameters_of c.args.tx.number) (returns-clause-state c) ∙ parameters-copied c.args.tx.number c.args.transaction c.args.target (state_of c.args.self.now) u.0 u.1 in
-    as_kept same c.insert_with-made.ensures.last
+    rw (← c.self.view_is) (
+    let u = transaction_of (shown c.self.inside).transactions c.self.invariant.sound c.args.tx (rw (← c.self.view_is) at c.requires.held) in
+    let same = ap (parameters_of c.args.tx.number) (rw (← c.self.view_is) at (returns-clause-state c)) ∙ parameters-copied c.args.tx.number c.args.transaction c.args.target (state_of (shown c.self.inside)) u.0 u.1 in
+    as_kept same c.insert_with-made.ensures.last)

@@ -7,18 +7,19 @@ use Rattle.gw_machine.proofs.Changes.{linked-entered}
 use Rattle.gw_step.specs.Times.{parameters_of}
 use Rattle.gw_machine.specs.View.{state_of}
 use Rattle.gw_machine.proofs.AtCopies.{parameters-entered}
+use Rattle.gw_machine.specs.Shown.{shown}
 use Rattle.gw_machine.proofs.machine.Machine.enter.Goals as goal
 
 pub returns-clause-state : goal.returns-clause-state
-returns-clause-state c = search rules
+returns-clause-state c = rw (← c.self.view_is) (search rules)
 
-pub returns-clause-linked : goal.returns-clause-linked
-returns-clause-linked c = λ l. linked-entered c.args.self.now _ c.args.tx c.args.transaction c.args.next c.set.ensures.txs c.set.ensures.places c.set.ensures.last c.set.ensures.sound refl refl refl (record { waits = refl; assemblies = refl; chains = refl; facilities = refl; storages = refl; queues = refl; clock = refl }) (returns-clause-state c) c.requires.block.1 c.requires.rank l
+pub invariant_of-self : goal.invariant_of-self
+invariant_of-self c = linked-entered (shown c.self.inside) _ c.args.tx c.args.transaction c.args.next c.set.ensures.txs c.set.ensures.places c.set.ensures.last c.set.ensures.sound refl refl refl (record { waits = refl; assemblies = refl; chains = refl; facilities = refl; storages = refl; queues = refl; clock = refl }) (rw (← c.self.view_is) at (returns-clause-state c)) c.requires.block.1 (rw (← c.self.view_is) at c.requires.rank) c.self.invariant
 
 pub returns-clause-rank : goal.returns-clause-rank
 returns-clause-rank c =
-    let ts = c.args.self.now.transactions.txs in
-    ap (λ xs. priority_of xs c.args.tx.number) c.set.ensures.txs ∙ ap priority_in (at-put None ts c.args.tx.number _) ∙ priority-attributes _ (at None ts c.args.tx.number) c.requires.rank ∙ c.requires.rank
+    let ts = (shown c.self.inside).transactions.txs in
+    ap (λ xs. priority_of xs c.args.tx.number) c.set.ensures.txs ∙ ap priority_in (at-put None ts c.args.tx.number _) ∙ priority-attributes _ (at None ts c.args.tx.number) (rw (← c.self.view_is) at c.requires.rank) ∙ (rw (← c.self.view_is) at c.requires.rank)
 
 pub returns-clause-parameters : goal.returns-clause-parameters
-returns-clause-parameters c = ap (parameters_of c.args.tx.number) (returns-clause-state c) ∙ parameters-entered c.args.tx.number c.args.transaction c.args.next (state_of c.args.self.now)
+returns-clause-parameters c = rw (← c.self.view_is) (ap (parameters_of c.args.tx.number) (rw (← c.self.view_is) at (returns-clause-state c)) ∙ parameters-entered c.args.tx.number c.args.transaction c.args.next (state_of (shown c.self.inside)))

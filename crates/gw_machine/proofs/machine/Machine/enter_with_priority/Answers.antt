@@ -3,19 +3,20 @@ use Rattle.std.proofs.lemmas.Int.{to_z-of_z}
 use Rattle.gw_transactions.specs.Transactions.{put_attributes}
 use Rattle.gw_step.specs.State.{priority_of}
 use Rattle.gw_machine.proofs.AtCopies.{linked-ranked, priority-ranked}
+use Rattle.gw_machine.specs.Shown.{shown}
 use Rattle.gw_machine.proofs.machine.Machine.enter_with_priority.Goals as goal
 
-written : (c : goal.After-set) → c.set.new.self.txs ≡ put_attributes c.args.tx.number (record c.args.transaction { current = c.args.transaction.next; next = c.args.transaction.next + 1; priority = c.args.priority }) c.args.self.now.transactions.txs
+written : (c : goal.After-set) → c.set.new.self.txs ≡ put_attributes c.args.tx.number (record c.args.transaction { current = c.args.transaction.next; next = c.args.transaction.next + 1; priority = c.args.priority }) (shown c.self.inside).transactions.txs
 written c = let fits = c.ranges.priority in simp to_z-of_z at c.set.ensures.txs
 
 pub returns-clause-state : goal.returns-clause-state
-returns-clause-state c = search rules
+returns-clause-state c = rw (← c.self.view_is) (search rules)
 
-pub returns-clause-linked : goal.returns-clause-linked
-returns-clause-linked c =
-    linked-ranked c.args.self.now _ c.args.tx (record c.args.transaction { priority = c.args.priority }) (c.args.transaction.next + 1) (written c) c.set.ensures.places c.set.ensures.last c.set.ensures.sound
-    c.requires.active c.requires.held refl refl refl (record { waits = refl; assemblies = refl; chains = refl; facilities = refl; storages = refl; queues = refl; clock = refl }) (returns-clause-state c) c.requires.block.1 c.requires.linked
+pub invariant_of-self : goal.invariant_of-self
+invariant_of-self c =
+    linked-ranked (shown c.self.inside) _ c.args.tx (record c.args.transaction { priority = c.args.priority }) (c.args.transaction.next + 1) (written c) c.set.ensures.places c.set.ensures.last c.set.ensures.sound
+    (rw (← c.self.view_is) at c.requires.active) (rw (← c.self.view_is) at c.requires.held) refl refl refl (record { waits = refl; assemblies = refl; chains = refl; facilities = refl; storages = refl; queues = refl; clock = refl }) (rw (← c.self.view_is) at (returns-clause-state c)) c.requires.block.1 c.self.invariant
 
 pub returns-clause-rank : goal.returns-clause-rank
 returns-clause-rank c =
-    ap (λ ts. priority_of ts c.args.tx.number) (written c) ∙ priority-ranked c.args.self.now.transactions.txs c.args.tx.number c.args.transaction _ c.requires.found
+    ap (λ ts. priority_of ts c.args.tx.number) (written c) ∙ priority-ranked (shown c.self.inside).transactions.txs c.args.tx.number c.args.transaction _ (rw (← c.self.view_is) at c.requires.found)

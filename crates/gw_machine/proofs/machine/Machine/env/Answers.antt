@@ -1,9 +1,12 @@
-use Rattle.std.proofs.Common.{refl, rules}
+use Rattle.std.proofs.Common.{refl, rules, ap, ◌∙◌}
+use Rattle.gw_transactions.specs.Transactions.{here_count}
+use Rattle.gw_machine.specs.Configuration.{Configuration}
 use Rattle.gw_machine.proofs.Lending.{lends}
 use Rattle.gw_machine.proofs.machine.Machine.env.Goals as goal
 
 pub returns : goal.returns
 returns c =
+    let is = c.self.view_is in
     let lent = lends c.args.self.now c.args.subject _ (record {
       number = refl;
       priority = search rules;
@@ -11,14 +14,14 @@ returns c =
       parameters = c.parameters_for.ensures;
       clock = search rules;
       count = search rules;
-      facilities = refl;
-      storages = refl;
-      queues = refl;
-      switches = refl;
-      savevalues = refl;
-      tables = refl;
-      chains = refl;
-      entries = c.deref.ensures.value;
-      here = c.here_by_block.ensures;
-    }) c.requires in
+      facilities = ap (λ (m : Configuration). m.facilities) is;
+      storages = ap (λ (m : Configuration). m.storages) is;
+      queues = ap (λ (m : Configuration). m.queues) is;
+      switches = ap (λ (m : Configuration). m.switches) is;
+      savevalues = ap (λ (m : Configuration). m.savevalues) is;
+      tables = ap (λ (m : Configuration). m.tables) is;
+      chains = ap (λ (m : Configuration). m.chains) is;
+      entries = c.deref.ensures.value ∙ ap (λ (m : Configuration). m.entries) is;
+      here = λ b. c.here_by_block.ensures b ∙ ap (λ (m : Configuration). here_count b m.transactions.txs) is;
+    }) (rw c.self.view_is at c.self.invariant) c.requires in
     record { same = lent.0; own = lent.1 }

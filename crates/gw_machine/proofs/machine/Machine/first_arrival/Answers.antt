@@ -9,7 +9,7 @@ use Rattle.gw_step.proofs.Suffices.{intervals_ask_for_nothing}
 use Rattle.gw_machine.proofs.machine.Machine.first_arrival.Goals as goal
 use Rattle.gw_machine.proofs.machine.Machine.first_arrival.Goals.{After-arrive}
 
-scheduled : (c : After-arrive) → c.arrive.new.self.scheduled.items ≡ raised c.args.number c.args.self.now.scheduled.items
+scheduled : (c : After-arrive) → c.arrive.new.self.scheduled ≡ raised c.args.number c.args.self.now.scheduled
 scheduled c =
     ap (λ (s : State). s.scheduled) c.arrive.ensures.state
     ∙ ap (raised c.args.number) (ap (λ (s : State). s.scheduled) c.set_streams.ensures.state ∙ ap (λ (s : State). s.scheduled) c.in_ok-parameters-in-Ok.ensures.state)
@@ -17,8 +17,8 @@ scheduled c =
 pub returns-in_ok-parameters-in-Ok-clause-scheduled : goal.returns-in_ok-parameters-in-Ok-clause-scheduled
 returns-in_ok-parameters-in-Ok-clause-scheduled c =
     let is = scheduled c in (
-      ap length is ∙ length-raised c.args.number c.args.self.now.scheduled.items c.requires.block,
-      omega (arith, ap sum is, sum-raised c.args.number c.args.self.now.scheduled.items),
+      ap length is ∙ length-raised c.args.number c.args.self.now.scheduled c.requires.block,
+      omega (arith, ap sum is, sum-raised c.args.number c.args.self.now.scheduled),
     )
 
 pub returns-in_ok-parameters-in-Ok-clause-made_by : goal.returns-in_ok-parameters-in-Ok-clause-made_by

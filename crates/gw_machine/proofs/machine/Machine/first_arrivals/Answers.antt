@@ -35,8 +35,8 @@ loop-i-preserved c = record {
   blocks = c.loop-i.invariant.blocks;
   made = continues c.args.verified.now (state_of c.loop-i.self) c.loop-i.i default (rw c.loop-i.invariant.blocks at c.loop-i-test.true) c.in_ok-end.end (state_of c.first_arrival.new.self) _ (sym c.if-is_some.ensures)
       (made (goal.at.loop-i-preserved c).After-is_some) c.loop-i.invariant.made;
-  linked = c.in_ok-end.ensures.linked;
   readable = c.in_ok-end.ensures.readable;
+  slots = c.in_ok-end.ensures.slots ∙ c.loop-i.invariant.slots;
   own = ap (λ (f : FacilityTable). length f.facilities) c.in_ok-end.ensures.entities ∙ c.loop-i.invariant.own;
   table = omega (arith, c.in_ok-end.ensures.scheduled.0);
   txs = omega (arith, c.in_ok-end.ensures.made_by);

@@ -2,7 +2,7 @@ use Rattle.std.proofs.Common.{◌≡◌, ◌+◌, ◌≤◌, drop, length}
 use Rattle.std.specs.Prelude.{sum}
 use Rattle.gw_step.specs.Start.{first_arrivals}
 use Rattle.gw_machine.specs.View.{state_of}
-use Rattle.gw_machine.specs.Coherence.{Linked, IsOf}
+use Rattle.gw_machine.specs.Coherence.{IsOf}
 use Rattle.gw_machine.specs.Evaluating.{IsReadable}
 use Rattle.gw_machine.proofs.machine.Machine.first_arrivals.Given as goal
 
@@ -11,10 +11,10 @@ abbrev pub invariant-loop-i : goal.invariant-loop-i
 invariant-loop-i l = record {
   blocks : l.blocks ≡ l.verified.blocks;
   made : first_arrivals l.verified (l.i + 1) (drop l.i l.verified.blocks) (state_of l.self) ≡ first_arrivals l.verified 1 l.verified.blocks (state_of l.fn.self);
-  linked : Linked l.self;
   readable : IsReadable l.self;
   own : IsOf l.verified l.self;
-  table : length l.self.scheduled.items ≡ length l.verified.blocks + 1;
+  slots : l.self.last ≡ l.fn.self.last;
+  table : length l.self.scheduled ≡ length l.verified.blocks + 1;
   txs : length l.self.transactions.txs ≤ length l.fn.self.transactions.txs + l.i;
-  scheduled : sum l.self.scheduled.items ≤ sum l.fn.self.scheduled.items + l.i;
+  scheduled : sum l.self.scheduled ≤ sum l.fn.self.scheduled + l.i;
 }

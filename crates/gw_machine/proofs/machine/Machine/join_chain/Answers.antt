@@ -1,23 +1,26 @@
 use Rattle.gw_blocks.specs.declared.parts.LinkOrder.TheVariants.{Fifo, Lifo}
 use Rattle.gw_machine.proofs.AtChains.{state-joins, linked-joins}
+use Rattle.gw_machine.specs.Shown.{shown}
 use Rattle.gw_machine.proofs.machine.Machine.join_chain.Goals as goal
 
 pub returns-in-Fifo-clause-state : goal.returns-in-Fifo-clause-state
 returns-in-Fifo-clause-state c =
+    rw (← c.self.view_is) (
     let e = c.put_chain.ensures in
-    state-joins c.args.self.now c.args.tx c.args.link Fifo c.in-Fifo.is c.requires.rests c.requires.chain c.put_chain.new.self e.txs e.places e.last e.sound c.push_back.new.self c.push_back.ensures.lists
+    state-joins (shown c.self.inside) c.args.tx c.args.link Fifo c.in-Fifo.is c.self.invariant (rw (← c.self.view_is) at c.requires.rests) (rw (← c.self.view_is) at c.requires.chain) c.put_chain.new.self e.txs e.places e.last e.sound c.push_back.new.self c.push_back.ensures.lists)
 
-pub returns-in-Fifo-clause-linked : goal.returns-in-Fifo-clause-linked
-returns-in-Fifo-clause-linked c =
+pub invariant_of-self : goal.invariant_of-self
+invariant_of-self c =
     let e = c.put_chain.ensures in
-    linked-joins c.args.self.now c.args.tx c.args.link Fifo c.in-Fifo.is c.requires.rests c.requires.chain c.put_chain.new.self e.txs e.places e.last e.sound c.push_back.new.self c.push_back.ensures.lists
+    linked-joins (shown c.self.inside) c.args.tx c.args.link Fifo c.in-Fifo.is c.self.invariant (rw (← c.self.view_is) at c.requires.rests) (rw (← c.self.view_is) at c.requires.chain) c.put_chain.new.self e.txs e.places e.last e.sound c.push_back.new.self c.push_back.ensures.lists
 
 pub returns-in-Lifo-clause-state : goal.returns-in-Lifo-clause-state
 returns-in-Lifo-clause-state c =
+    rw (← c.self.view_is) (
     let e = c.put_chain.ensures in
-    state-joins c.args.self.now c.args.tx c.args.link Lifo c.in-Lifo.is c.requires.rests c.requires.chain c.put_chain.new.self e.txs e.places e.last e.sound c.push_front.new.self c.push_front.ensures.lists
+    state-joins (shown c.self.inside) c.args.tx c.args.link Lifo c.in-Lifo.is c.self.invariant (rw (← c.self.view_is) at c.requires.rests) (rw (← c.self.view_is) at c.requires.chain) c.put_chain.new.self e.txs e.places e.last e.sound c.push_front.new.self c.push_front.ensures.lists)
 
-pub returns-in-Lifo-clause-linked : goal.returns-in-Lifo-clause-linked
-returns-in-Lifo-clause-linked c =
+pub invariant_of-self-in-Lifo : goal.invariant_of-self-in-Lifo
+invariant_of-self-in-Lifo c =
     let e = c.put_chain.ensures in
-    linked-joins c.args.self.now c.args.tx c.args.link Lifo c.in-Lifo.is c.requires.rests c.requires.chain c.put_chain.new.self e.txs e.places e.last e.sound c.push_front.new.self c.push_front.ensures.lists
+    linked-joins (shown c.self.inside) c.args.tx c.args.link Lifo c.in-Lifo.is c.self.invariant (rw (← c.self.view_is) at c.requires.rests) (rw (← c.self.view_is) at c.requires.chain) c.put_chain.new.self e.txs e.places e.last e.sound c.push_front.new.self c.push_front.ensures.lists

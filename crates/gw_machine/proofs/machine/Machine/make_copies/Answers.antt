@@ -21,7 +21,6 @@ loop-for_copy-preserved c =
           ∙ ap (λ (k : ℕ). copies_made k n t c.args.target was) (sym one_more) ∙ old.state;
       same = popped-same front c.in-Some.for_copy (kept_of n c.loop-for_copy.self.transactions) (subst (λ (all : List Numbered). all ≡ replicate (length all) (kept_of n c.loop-for_copy.self.transactions)) popped old.same)
           ∙ ap (replicate (length front)) (sym e.same);
-      linked = e.linked;
       frame = search (rules, e.frame, old.frame);
       held = e.held;
       few = omega (arith, one_more, e.made, old.few);

@@ -9,39 +9,41 @@ use Rattle.gw_machine.specs.View.{entities_of}
 use Rattle.gw_machine.specs.Coherence.{ranked}
 use Rattle.gw_entities.specs.Table.{FacilityTable, StorageTable, QueueTable}
 use Rattle.gw_machine.proofs.Due.{state-moved, linked-moved, entities-passed, count-passed}
+use Rattle.gw_machine.specs.Shown.{shown}
 use Rattle.gw_machine.proofs.machine.Machine.move_clock.Goals as goal
 
-joined : (c : goal.After-self-1) → c.move_due.new.current_events.items ≡ all_behind (λ (m : Member). m.priority) (ranked c.args.self.now.transactions (due (λ (e : Event). e.time) c.args.time c.args.self.now.future_events.items)) c.args.self.now.current_events.items
+joined : (c : goal.After-self-1) → c.move_due.new.current_events.items ≡ all_behind (λ (m : Member). m.priority) (ranked (shown c.self.inside).transactions (due (λ (e : Event). e.time) c.args.time (shown c.self.inside).future_events.items)) (shown c.self.inside).current_events.items
 joined c =
     let fits = c.ranges.time in
     simp to_z-of_z at c.move_due.ensures.current
 
-left : (c : goal.After-self-1) → c.move_due.new.future_events.items ≡ later (λ (e : Event). e.time) c.args.time c.args.self.now.future_events.items
+left : (c : goal.After-self-1) → c.move_due.new.future_events.items ≡ later (λ (e : Event). e.time) c.args.time (shown c.self.inside).future_events.items
 left c = let fits = c.ranges.time in simp to_z-of_z at c.move_due.ensures.future
 
-time_is : (c : goal.After-self-1) → c.abs_diff-passed.result ≡ unsigned_abs (c.args.time -ℤ c.args.self.now.clock)
+time_is : (c : goal.After-self-1) → c.abs_diff-passed.result ≡ unsigned_abs (c.args.time -ℤ (shown c.self.inside).clock)
 time_is c = search rules
 
-entities : (c : goal.After-self-1) → record (entities_of c.args.self.now) { facilities = c.pass_time.new.self.facilities; storages = c.pass_time-2.new.self.storages; queues = c.pass_time-3.new.self.queues } ≡ time_passes (unsigned_abs (c.args.time -ℤ c.args.self.now.clock)) (entities_of c.args.self.now)
+entities : (c : goal.After-self-1) → record (entities_of (shown c.self.inside)) { facilities = c.pass_time.new.self.facilities; storages = c.pass_time-2.new.self.storages; queues = c.pass_time-3.new.self.queues } ≡ time_passes (unsigned_abs (c.args.time -ℤ (shown c.self.inside).clock)) (entities_of (shown c.self.inside))
 entities c =
-    entities-passed c.args.self.now c.abs_diff-passed.result c.pass_time.new.self c.pass_time-2.new.self c.pass_time-3.new.self c.pass_time.ensures c.pass_time-2.ensures c.pass_time-3.ensures
-    ∙ ap (λ dt. time_passes dt (entities_of c.args.self.now)) (time_is c)
+    entities-passed (shown c.self.inside) c.abs_diff-passed.result c.pass_time.new.self c.pass_time-2.new.self c.pass_time-3.new.self c.pass_time.ensures c.pass_time-2.ensures c.pass_time-3.ensures
+    ∙ ap (λ dt. time_passes dt (entities_of (shown c.self.inside))) (time_is c)
 
 pub returns-clause-state : goal.returns-clause-state
 returns-clause-state c =
+    rw (← c.self.view_is) (
     let fits = c.ranges.time in
-    simp to_z-of_z (state-moved c.args.self.now c.args.time c.move_due.new.current_events.items c.move_due.new.future_events.items _ c.requires.linked (joined c) (left c) (entities c))
+    simp to_z-of_z (state-moved (shown c.self.inside) c.args.time c.move_due.new.current_events.items c.move_due.new.future_events.items _ c.self.invariant (joined c) (left c) (entities c)))
 
-pub returns-clause-linked : goal.returns-clause-linked
-returns-clause-linked c =
+pub invariant_of-self : goal.invariant_of-self
+invariant_of-self c =
     let fits = c.ranges.time in
-    let timed = c.requires.linked.timed in
-    let dt : pos c.abs_diff-passed.result ≡ c.args.time -ℤ c.args.self.now.clock = omega (arith, ints, time_is c, c.requires.later.1) in
-    linked-moved c.args.self.now c.args.time c.move_due.new.current_events.items c.move_due.new.future_events.items _ c.requires.linked (joined c) (left c) (entities c) _ refl refl refl refl refl refl refl
-    (count-passed c.args.self.now c.abs_diff-passed.result c.pass_time.new.self c.pass_time.ensures)
+    let timed = c.self.invariant.timed in
+    let dt : pos c.abs_diff-passed.result ≡ c.args.time -ℤ (shown c.self.inside).clock = omega (arith, ints, time_is c, (rw (← c.self.view_is) at c.requires.later.1)) in
+    linked-moved (shown c.self.inside) c.args.time c.move_due.new.current_events.items c.move_due.new.future_events.items _ c.self.invariant (joined c) (left c) (entities c) _ refl refl refl refl refl refl refl
+    (count-passed (shown c.self.inside) c.abs_diff-passed.result c.pass_time.new.self c.pass_time.ensures)
     (record {
       facilities = simp to_z-of_z (omega (arith, ints, timed.facilities, ap (λ (f : FacilityTable). f.passed) c.pass_time.ensures, dt));
       storages = simp to_z-of_z (omega (arith, ints, timed.storages, ap (λ (s : StorageTable). s.passed) c.pass_time-2.ensures, dt));
       queues = simp to_z-of_z (omega (arith, ints, timed.queues, ap (λ (q : QueueTable). q.passed) c.pass_time-3.ensures, dt));
     })
-    (returns-clause-state c)
+    (rw (← c.self.view_is) at (returns-clause-state c))

@@ -1,17 +1,18 @@
 use Rattle.std.proofs.Common.{pos, to_z, w64, None, refl, rules, false}
-use Rattle.gw_machine.specs.declared.machine.Machine.{Machine}
+use Rattle.gw_machine.specs.Configuration.{Configuration}
 use Rattle.gw_machine.proofs.Beginning.{Begins, state-nothing, linked-nothing, readable-nothing}
 use Rattle.gw_machine.proofs.machine.Machine.nothing.Goals as goal
 
-abbrev made : goal.After-new-6 → Machine
+abbrev made : goal.After-new-6 → Configuration
 made c = record {
   clock = pos 0;
   count = to_z w64 c.args.count;
   steps = 0;
   streams = c.args.streams;
   stir = false;
-  scheduled = c.in_ok-scheduled.scheduled;
+  scheduled = c.in_ok-scheduled.scheduled.items;
   transactions = c.in_ok-transactions.transactions;
+  last = c.in_ok-transactions.transactions.last;
   active = None;
   current_events = c.new-4.result;
   future_events = c.new-5.result;
@@ -24,7 +25,7 @@ made c = record {
   switches = c.in_ok-tables.tables.switches;
   savevalues = c.in_ok-tables.tables.savevalues;
   tables = c.in_ok-tables.tables.tables;
-  entries = c.in_ok-entries.entries;
+  entries = c.in_ok-entries.entries.items;
   ended = None;
 }
 
@@ -37,7 +38,6 @@ begins c = record {
   scheduled = search rules;
   transactions = c.in_ok-transactions.ensures.txs;
   sound = c.in_ok-transactions.ensures.sound;
-  last = c.in_ok-transactions.ensures.last;
   active = refl;
   current_events = c.new-4.ensures;
   future_events = c.new-5.ensures;
@@ -59,8 +59,8 @@ begins c = record {
 pub returns-clause-state : goal.returns-clause-state
 returns-clause-state c = state-nothing c.args.object.now c.args.count c.args.streams (made c) (begins c)
 
-pub returns-clause-linked : goal.returns-clause-linked
-returns-clause-linked c = linked-nothing c.args.object.now c.args.count c.args.streams (made c) (begins c)
+pub invariant_of-result : goal.invariant_of-result
+invariant_of-result c = linked-nothing c.args.object.now c.args.count c.args.streams (made c) (begins c)
 
 pub returns-clause-readable : goal.returns-clause-readable
 returns-clause-readable c = readable-nothing c.args.object.now c.args.count c.args.streams (made c) (begins c)

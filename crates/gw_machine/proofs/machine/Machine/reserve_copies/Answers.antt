@@ -1,12 +1,13 @@
 use Rattle.std.proofs.Common.{refl}
 use Rattle.gw_machine.proofs.Changes.{linked-reserved}
+use Rattle.gw_machine.specs.Shown.{shown}
 use Rattle.gw_machine.proofs.machine.Machine.reserve_copies.Goals as goal
 
-pub returns-in_err-reserve-clause-linked : goal.returns-in_err-reserve-clause-linked
-returns-in_err-reserve-clause-linked c = let e = c.reserve.ensures in linked-reserved c.args.self.now c.reserve.new.self c.args.self.now.current_events e.txs e.places e.last e.sound refl
+pub invariant_of-self : goal.invariant_of-self
+invariant_of-self c = let e = c.reserve.ensures in linked-reserved (shown c.self.inside) c.reserve.new.self (shown c.self.inside).current_events e.txs e.places e.last e.sound refl c.self.invariant
 
-pub returns-in_err-reserve-2-clause-linked : goal.returns-in_err-reserve-2-clause-linked
-returns-in_err-reserve-2-clause-linked c = let e = c.reserve.ensures in linked-reserved c.args.self.now c.reserve.new.self c.reserve-2.new.self e.txs e.places e.last e.sound c.reserve-2.ensures.items
+pub invariant_of-self-in_err-reserve-2 : goal.invariant_of-self-in_err-reserve-2
+invariant_of-self-in_err-reserve-2 c = let e = c.reserve.ensures in linked-reserved (shown c.self.inside) c.reserve.new.self c.reserve-2.new.self e.txs e.places e.last e.sound c.reserve-2.ensures.items c.self.invariant
 
-pub returns-clause-linked : goal.returns-clause-linked
-returns-clause-linked c = let e = c.reserve.ensures in linked-reserved c.args.self.now c.reserve.new.self c.reserve-2.new.self e.txs e.places e.last e.sound c.reserve-2.ensures.items
+pub invariant_of-self-2 : goal.invariant_of-self-2
+invariant_of-self-2 c = let e = c.reserve.ensures in linked-reserved (shown c.self.inside) c.reserve.new.self c.reserve-2.new.self e.txs e.places e.last e.sound c.reserve-2.ensures.items c.self.invariant

@@ -1,8 +1,9 @@
 use Rattle.gw_machine.proofs.AtChains.{state-roomed, linked-roomed}
+use Rattle.gw_machine.specs.Shown.{shown}
 use Rattle.gw_machine.proofs.machine.Machine.reserve_link.Goals as goal
 
 pub returns-clause-state : goal.returns-clause-state
-returns-clause-state c = state-roomed c.args.self.now c.reserve_link.new.self c.reserve_link.ensures.lists
+returns-clause-state c = rw (← c.self.view_is) (state-roomed (shown c.self.inside) c.reserve_link.new.self c.reserve_link.ensures.lists)
 
-pub returns-clause-linked : goal.returns-clause-linked
-returns-clause-linked c = linked-roomed c.args.self.now c.requires.linked c.reserve_link.new.self c.reserve_link.ensures.lists
+pub invariant_of-self : goal.invariant_of-self
+invariant_of-self c = linked-roomed (shown c.self.inside) c.self.invariant c.reserve_link.new.self c.reserve_link.ensures.lists

@@ -8,17 +8,18 @@ use Rattle.gw_step.specs.Residence.{ResidesOnce}
 use Rattle.gw_step.proofs.Residence.{resides-ahead}
 use Rattle.gw_machine.specs.View.{state_of}
 use Rattle.gw_machine.proofs.AtRest.{state-joined, linked-joined}
+use Rattle.gw_machine.specs.Shown.{shown}
 use Rattle.gw_machine.proofs.machine.Machine.rest_ahead.Goals as goal
 
-joined : (c : goal.After-insert_ahead) → c.insert_ahead.new.self.items ≡ ahead (λ (x : Member). x.priority) (record { tx = c.args.tx; priority = c.args.priority }) c.args.self.now.current_events.items
+joined : (c : goal.After-insert_ahead) → c.insert_ahead.new.self.items ≡ ahead (λ (x : Member). x.priority) (record { tx = c.args.tx; priority = c.args.priority }) (shown c.self.inside).current_events.items
 joined c = let fits = c.ranges.priority in simp to_z-of_z at c.insert_ahead.ensures.items
 
 pub returns-clause-state : goal.returns-clause-state
-returns-clause-state c = state-joined c.args.self.now c.args.tx c.args.priority c.requires.rests c.requires.rank int_lt c.insert_ahead.new.self.items (joined c)
+returns-clause-state c = rw (← c.self.view_is) (state-joined (shown c.self.inside) c.args.tx c.args.priority c.self.invariant (rw (← c.self.view_is) at c.requires.rests) (rw (← c.self.view_is) at c.requires.rank) int_lt c.insert_ahead.new.self.items (joined c))
 
-pub returns-clause-linked : goal.returns-clause-linked
-returns-clause-linked c =
-    let active = ap (option_map (λ (x : Tx). x.number)) c.requires.rests.active in
-    linked-joined c.args.self.now c.args.tx c.args.priority c.requires.rests c.requires.rank int_lt c.insert_ahead.new.self.items (joined c)
+pub invariant_of-self : goal.invariant_of-self
+invariant_of-self c =
+    let active = ap (option_map (λ (x : Tx). x.number)) (rw (← c.self.view_is) at c.requires.rests.active) in
+    linked-joined (shown c.self.inside) c.args.tx c.args.priority c.self.invariant (rw (← c.self.view_is) at c.requires.rests) (rw (← c.self.view_is) at c.requires.rank) int_lt c.insert_ahead.new.self.items (joined c)
     _ refl refl refl refl refl refl refl refl refl refl refl
-    (subst ResidesOnce (sym (returns-clause-state c)) (resides-ahead c.args.tx.number (state_of c.args.self.now) active c.requires.rests.linked.resides))
+    (subst ResidesOnce (sym (rw (← c.self.view_is) at (returns-clause-state c))) (resides-ahead c.args.tx.number (state_of (shown c.self.inside)) active c.self.invariant.resides))

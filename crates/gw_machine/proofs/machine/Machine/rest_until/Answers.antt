@@ -5,15 +5,17 @@ use Rattle.gw_chains.specs.declared.tx.Event.{Event}
 use Rattle.gw_step.specs.State.{FutureEvent}
 use Rattle.gw_machine.specs.View.{state_of, lists_of, event_of}
 use Rattle.gw_machine.proofs.Changes.{events-in_time, linked-rested}
+use Rattle.gw_machine.specs.Shown.{shown}
 use Rattle.gw_machine.proofs.machine.Machine.rest_until.Goals as goal
 
-scheduled : (c : goal.After-schedule) → c.schedule.new.self.items ≡ in_time (λ (e : Event). e.time) (record { tx = c.args.tx; time = c.args.time }) c.args.self.now.future_events.items
+scheduled : (c : goal.After-schedule) → c.schedule.new.self.items ≡ in_time (λ (e : Event). e.time) (record { tx = c.args.tx; time = c.args.time }) (shown c.self.inside).future_events.items
 scheduled c = let fits = c.ranges.time in simp to_z-of_z at c.schedule.ensures.items
 
 pub returns-clause-state : goal.returns-clause-state
 returns-clause-state c =
-    ap (λ (es : List FutureEvent). record (state_of c.args.self.now) { lists = record (lists_of c.args.self.now) { active = None; future_events = es } })
-    (ap (map event_of) (scheduled c) ∙ events-in_time c.args.tx c.args.time c.args.self.now.future_events.items)
+    rw (← c.self.view_is) (
+    ap (λ (es : List FutureEvent). record (state_of (shown c.self.inside)) { lists = record (lists_of (shown c.self.inside)) { active = None; future_events = es } })
+    (ap (map event_of) (scheduled c) ∙ events-in_time c.args.tx c.args.time (shown c.self.inside).future_events.items))
 
-pub returns-clause-linked : goal.returns-clause-linked
-returns-clause-linked c = linked-rested c.args.self.now _ c.args.tx c.args.time refl c.requires.rests refl refl (scheduled c) (record { waits = refl; assemblies = refl; chains = refl; facilities = refl; storages = refl; queues = refl; clock = refl }) (returns-clause-state c)
+pub invariant_of-self : goal.invariant_of-self
+invariant_of-self c = linked-rested (shown c.self.inside) _ c.args.tx c.args.time refl c.self.invariant (rw (← c.self.view_is) at c.requires.rests) refl refl (scheduled c) (record { waits = refl; assemblies = refl; chains = refl; facilities = refl; storages = refl; queues = refl; clock = refl }) (rw (← c.self.view_is) at (returns-clause-state c))

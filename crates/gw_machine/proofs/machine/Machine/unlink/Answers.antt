@@ -1,12 +1,12 @@
 use Rattle.std.proofs.Common.{rules, ◌≡◌, ◌∙◌, ◌+◌, ◌-◌, ℕ, suc, ap, sym, arith}
 use Rattle.gw_step.specs.Blocks.{unlinked}
-use Rattle.gw_machine.specs.declared.machine.Machine.{Machine}
+use Rattle.gw_machine.specs.Configuration.{Configuration}
 use Rattle.gw_machine.specs.View.{state_of}
 use Rattle.gw_machine.proofs.AtChains.{unlinked-next, unlinked-none}
 use Rattle.gw_machine.proofs.machine.Machine.unlink.Goals as goal
 
 pub unlink_first-requires-clause-chain : goal.unlink_first-requires-clause-chain
-unlink_first-requires-clause-chain c = rw (ap (λ (x : Machine). x.facilities) c.loop.invariant.frame) c.requires.chain
+unlink_first-requires-clause-chain c = rw (ap (λ (x : Configuration). x.facilities) c.loop.invariant.frame) c.requires.chain
 
 pub loop-preserved : goal.loop-preserved
 loop-preserved c =
@@ -18,7 +18,6 @@ loop-preserved c =
     record {
       state = ap (unlinked left c.args.chain c.args.target) e.state ∙ sym (unlinked-next left c.args.chain c.args.target was)
           ∙ ap (λ (k : ℕ). unlinked k c.args.chain c.args.target was) (sym one_more) ∙ old.state;
-      linked = e.linked;
       frame = search (rules, e.frame, old.frame);
       room = omega (arith, e.room, old.room);
       left = omega (arith, e.room, old.left);

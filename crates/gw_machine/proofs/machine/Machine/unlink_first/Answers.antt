@@ -4,38 +4,41 @@ use Rattle.gw_chains.specs.Chain.{behind}
 use Rattle.gw_chains.specs.declared.tx.Member.{Member}
 use Rattle.gw_transactions.specs.Transactions.{put_attributes}
 use Rattle.gw_machine.proofs.AtChains.{first-held, first-block, lists-empty, state-empty, linked-roomed, state-unlinks, linked-unlinks}
+use Rattle.gw_machine.specs.Shown.{shown}
 use Rattle.gw_machine.proofs.machine.Machine.unlink_first.Goals as goal
 
 pub get-member-requires : goal.get-member-requires
-get-member-requires c = first-held c.args.self.now c.requires.linked c.args.chain c.args.target c.requires.chain c.in-Some.tx (sym c.in-Some.ensures.first)
+get-member-requires c = first-held (shown c.self.inside) c.self.invariant c.args.chain c.args.target (rw (← c.self.view_is) at c.requires.chain) c.in-Some.tx (sym c.in-Some.ensures.first)
 
 pub set-requires-clause-block : goal.set-requires-clause-block
 set-requires-clause-block c =
-    first-block c.args.self.now c.requires.linked c.args.chain c.args.target c.requires.chain c.in-Some.tx (sym c.in-Some.ensures.first) c.get-member.result.now c.get-member.ensures.value
+    first-block (shown c.self.inside) c.self.invariant c.args.chain c.args.target (rw (← c.self.view_is) at c.requires.chain) c.in-Some.tx (sym c.in-Some.ensures.first) c.get-member.result.now c.get-member.ensures.value
 
-joined : (c : goal.After-insert_behind) → c.insert_behind.new.self.items ≡ behind (λ (x : Member). x.priority) (record { tx = c.in-Some.tx; priority = c.get-member.result.now.priority }) c.args.self.now.current_events.items
+joined : (c : goal.After-insert_behind) → c.insert_behind.new.self.items ≡ behind (λ (x : Member). x.priority) (record { tx = c.in-Some.tx; priority = c.get-member.result.now.priority }) (shown c.self.inside).current_events.items
 joined c = search (rules, to_z-of_z)
 
-written : (c : goal.After-insert_behind) → c.set.new.self.txs ≡ put_attributes c.in-Some.tx.number (record c.get-member.result.now { next = c.args.target }) c.args.self.now.transactions.txs
+written : (c : goal.After-insert_behind) → c.set.new.self.txs ≡ put_attributes c.in-Some.tx.number (record c.get-member.result.now { next = c.args.target }) (shown c.self.inside).transactions.txs
 written c = search rules
 
 pub returns-in-Some-clause-state : goal.returns-in-Some-clause-state
 returns-in-Some-clause-state c =
-    state-unlinks c.args.self.now c.requires.linked c.args.chain c.args.target c.requires.chain c.in-Some.tx (sym c.in-Some.ensures.first) c.get-member.result.now c.get-member.ensures.value
+    rw (← c.self.view_is) (
+    state-unlinks (shown c.self.inside) c.self.invariant c.args.chain c.args.target (rw (← c.self.view_is) at c.requires.chain) c.in-Some.tx (sym c.in-Some.ensures.first) c.get-member.result.now c.get-member.ensures.value
     c.set.new.self c.put_chain.new.self (written c) c.set.ensures.places c.put_chain.ensures.txs c.put_chain.ensures.places c.set.ensures.last c.put_chain.ensures.last c.put_chain.ensures.sound
-    c.insert_behind.new.self (joined c) c.unlink.new.self c.in-Some.ensures.lists
+    c.insert_behind.new.self (joined c) c.unlink.new.self c.in-Some.ensures.lists)
 
-pub returns-in-Some-clause-linked : goal.returns-in-Some-clause-linked
-returns-in-Some-clause-linked c =
-    linked-unlinks c.args.self.now c.requires.linked c.args.chain c.args.target c.requires.chain c.in-Some.tx (sym c.in-Some.ensures.first) c.get-member.result.now c.get-member.ensures.value
+pub invariant_of-self : goal.invariant_of-self
+invariant_of-self c =
+    linked-unlinks (shown c.self.inside) c.self.invariant c.args.chain c.args.target (rw (← c.self.view_is) at c.requires.chain) c.in-Some.tx (sym c.in-Some.ensures.first) c.get-member.result.now c.get-member.ensures.value
     c.set.new.self c.put_chain.new.self (written c) c.set.ensures.places c.put_chain.ensures.txs c.put_chain.ensures.places c.set.ensures.last c.put_chain.ensures.last c.put_chain.ensures.sound
     c.insert_behind.new.self (joined c) c.unlink.new.self c.in-Some.ensures.lists
 
 pub returns-in_default-clause-state : goal.returns-in_default-clause-state
 returns-in_default-clause-state c =
-    state-empty c.args.self.now c.requires.linked c.args.chain c.args.target c.requires.chain c.unlink.new.self c.in_default.ensures.lists (sym c.in_default.ensures.first)
+    rw (← c.self.view_is) (
+    state-empty (shown c.self.inside) c.self.invariant c.args.chain c.args.target (rw (← c.self.view_is) at c.requires.chain) c.unlink.new.self c.in_default.ensures.lists (sym c.in_default.ensures.first))
 
-pub returns-in_default-clause-linked : goal.returns-in_default-clause-linked
-returns-in_default-clause-linked c =
-    linked-roomed c.args.self.now c.requires.linked c.unlink.new.self
-    (lists-empty c.args.self.now c.requires.linked c.args.chain c.args.target c.requires.chain c.unlink.new.self c.in_default.ensures.lists (sym c.in_default.ensures.first))
+pub invariant_of-self-in_default : goal.invariant_of-self-in_default
+invariant_of-self-in_default c =
+    linked-roomed (shown c.self.inside) c.self.invariant c.unlink.new.self
+    (lists-empty (shown c.self.inside) c.self.invariant c.args.chain c.args.target (rw (← c.self.view_is) at c.requires.chain) c.unlink.new.self c.in_default.ensures.lists (sym c.in_default.ensures.first))

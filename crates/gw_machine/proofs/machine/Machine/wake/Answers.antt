@@ -1,11 +1,12 @@
 use Rattle.std.proofs.Common.{refl}
 use Rattle.gw_machine.proofs.Retrying.{state-woken, linked-woken}
+use Rattle.gw_machine.specs.Shown.{shown}
 use Rattle.gw_machine.proofs.machine.Machine.wake.Goals as goal
 
 pub returns-clause-state : goal.returns-clause-state
-returns-clause-state c = state-woken c.args.self.now c.requires.linked c.wake_all.new.cec.items c.wake_all.new.self c.wake_all.ensures.woken c.wake_all.ensures.retry c.wake_all.ensures.lists
+returns-clause-state c = rw (← c.self.view_is) (state-woken (shown c.self.inside) c.self.invariant c.wake_all.new.cec.items c.wake_all.new.self c.wake_all.ensures.woken c.wake_all.ensures.retry c.wake_all.ensures.lists)
 
-pub returns-clause-linked : goal.returns-clause-linked
-returns-clause-linked c =
-    linked-woken c.args.self.now c.requires.linked c.wake_all.new.cec.items c.wake_all.new.self c.wake_all.ensures.woken c.wake_all.ensures.retry c.wake_all.ensures.lists
-    _ refl refl refl refl refl refl refl refl refl refl refl (returns-clause-state c)
+pub invariant_of-self : goal.invariant_of-self
+invariant_of-self c =
+    linked-woken (shown c.self.inside) c.self.invariant c.wake_all.new.cec.items c.wake_all.new.self c.wake_all.ensures.woken c.wake_all.ensures.retry c.wake_all.ensures.lists
+    _ refl refl refl refl refl refl refl refl refl refl refl (rw (← c.self.view_is) at (returns-clause-state c))

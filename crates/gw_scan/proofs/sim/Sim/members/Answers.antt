@@ -3,8 +3,8 @@ use Rattle.gw_step.specs.State.{user_chain}
 use Rattle.gw_step.specs.Job.{Progress}
 use Rattle.gw_scan.proofs.sim.Sim.members.Goals as goal
 
-pub members-requires-clause-chain : goal.members-requires-clause-chain
-members-requires-clause-chain c =
+pub members-requires : goal.members-requires
+members-requires c =
     let below = subst (λ (p : Progress). c.args.chain < length p.job.parts.entities) (sym c.self.view_is) c.requires in
     let entities : length c.self.inside.machine.facilities.facilities ≡ length c.self.inside.spec.parts.entities = c.self.invariant.reached.bounded.numbers.whole.facilities in
     omega (arith, below, entities)

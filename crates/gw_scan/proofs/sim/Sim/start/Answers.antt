@@ -18,5 +18,5 @@ start-requires-clause-fit c =
 pub invariant_of-result : goal.invariant_of-result
 invariant_of-result c = record {
   reached = reached_first c.args.spec (state_of c.in-Ok.machine) c.verified.ensures.fits (is_start c);
-  linked = c.in-Ok.ensures.linked;
+  slots = search rules;
 }

@@ -1,4 +1,4 @@
-use Rattle.std.proofs.Common.{rules, ◌≡◌, None, sym, subst}
+use Rattle.std.proofs.Common.{rules, ◌≡◌, ◌∙◌, None, sym, subst}
 use Rattle.gw_object.specs.declared.parts.Parts.{Parts}
 use Rattle.gw_machine.specs.Coherence.{IsRunning}
 use Rattle.gw_step.specs.Job.{Progress, Step}
@@ -20,7 +20,7 @@ makes c = search rules
 pub step-requires-clause-running : goal.step-requires-clause-running
 step-requires-clause-running c =
     let runs : c.self.inside.machine.ended ≡ None = search rules in
-    subst (λ (p : Parts). IsRunning p.blocks c.self.inside.machine) (sym c.verified-verified.ensures.value) (running c.self.inside.spec c.self.inside.machine c.self.invariant.reached c.self.invariant.linked runs)
+    subst (λ (p : Parts). IsRunning p.blocks c.self.inside.machine) (sym c.verified-verified.ensures.value) (running c.self.inside.spec c.self.inside.machine c.self.invariant.reached runs)
 
 pub step-requires-clause-may : goal.step-requires-clause-may
 step-requires-clause-may c = subst (λ (p : Parts). MayStep p (state_of c.self.inside.machine)) (sym c.verified-verified.ensures.value) (may_step c.self.inside.spec c.self.inside.machine c.self.invariant.reached)
@@ -31,7 +31,7 @@ step-requires-clause-served c = subst (λ (p : Parts). IsServed p (state_of c.se
 pub invariant_of-self-2 : goal.invariant_of-self-2
 invariant_of-self-2 c = record {
   reached = reached_more c.self.inside.spec (state_of c.self.inside.machine) (state_of c.step.new.machine) c.self.invariant.reached (runs c) (makes c);
-  linked = c.in_ok-step.ensures.linked;
+  slots = c.step.ensures.slots ∙ c.self.invariant.slots;
 }
 
 pub returns-clause-moment : goal.returns-clause-moment
