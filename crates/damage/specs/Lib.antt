@@ -1,0 +1,2 @@
+-- WHAT BECOMES OF BYTES
+pub mod Outcome

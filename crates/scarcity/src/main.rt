@@ -1,0 +1,123 @@
+//! Makes each call that asks for memory, from a model text to its report, and makes it once more where memory was refused
+//! (docs/failures.md). Its words are names of texts, as `assembly` of `assembly.gps`. For each it prints the report, then the
+//! calls that were refused memory, and whether a step that was refused left the job as it was.
+#![tactic(auto)]
+
+mod calls;
+mod refusals;
+
+use calls::{assembled, bytes_of, ended, job_of, model_of, object_of, reported, started, verified};
+use gw_object::{Memory, Object};
+use gw_scan::{Sim, Spec};
+use gw_text::Model;
+use gw_verify::Verified;
+use refusals::Refusals;
+use std::alloc::Global;
+use std::process::ExitCode;
+use std::rt::Files;
+use std::{env, fs, io};
+
+/// The report of a job that was started, once it has ended.
+fn report_of_sim(alloc: Global, sim: &mut Sim, refusals: &mut Refusals) -> Result<Vec<u8>, Memory> {
+    ended(sim, refusals)?;
+    reported(alloc, sim, refusals)
+}
+
+/// The report of a job.
+fn report_of_job(alloc: Global, spec: Spec, refusals: &mut Refusals) -> Result<Vec<u8>, Memory> {
+    match started(alloc, spec, refusals) {
+        Ok(mut sim) => report_of_sim(alloc, &mut sim, refusals),
+        Err(_) => Err(Memory),
+    }
+}
+
+/// The report of an accepted object.
+fn report_of_verified(
+    alloc: Global,
+    verified: Verified,
+    refusals: &mut Refusals,
+) -> Result<Vec<u8>, Memory> {
+    match job_of(alloc, verified, refusals) {
+        Ok(spec) => report_of_job(alloc, spec, refusals),
+        Err(_) => Err(Memory),
+    }
+}
+
+/// The report of an object.
+fn report_of_object(
+    alloc: Global,
+    object: Object,
+    refusals: &mut Refusals,
+) -> Result<Vec<u8>, Memory> {
+    match verified(alloc, object, refusals) {
+        Ok(verified) => report_of_verified(alloc, verified, refusals),
+        Err(_) => Err(Memory),
+    }
+}
+
+/// The report of the object that these bytes spell.
+fn report_of_bytes(
+    alloc: Global,
+    bytes: &[u8],
+    refusals: &mut Refusals,
+) -> Result<Vec<u8>, Memory> {
+    match object_of(alloc, bytes, refusals) {
+        Ok(object) => report_of_object(alloc, object, refusals),
+        Err(_) => Err(Memory),
+    }
+}
+
+/// The spelling of the object that the statements of a text become.
+fn bytes_of_model(
+    alloc: Global,
+    model: &Model,
+    refusals: &mut Refusals,
+) -> Result<Vec<u8>, Memory> {
+    match assembled(alloc, model, refusals) {
+        Ok(verified) => bytes_of(alloc, verified.object(), refusals),
+        Err(_) => Err(Memory),
+    }
+}
+
+/// The spelling of the object that a text becomes.
+fn bytes_of_text(alloc: Global, text: &[u8], refusals: &mut Refusals) -> Result<Vec<u8>, Memory> {
+    match model_of(alloc, text, refusals) {
+        Ok(model) => bytes_of_model(alloc, &model, refusals),
+        Err(_) => Err(Memory),
+    }
+}
+
+/// The report of a text, by way of the bytes of its object. A text that is refused has none.
+fn report_of(alloc: Global, text: &[u8], refusals: &mut Refusals) -> Result<Vec<u8>, Memory> {
+    let bytes = bytes_of_text(alloc, text, refusals)?;
+    report_of_bytes(alloc, bytes.as_slice(), refusals)
+}
+
+/// Prints the report of a text, and which calls were refused memory.
+fn run<R: Files + AllocGlobal>(rt: &R, out: &mut Vec<u8>, name: &str) -> io::Result<bool> {
+    let path = format!(in rt.alloc(); "{name}.gps")?;
+    let text = fs::read(rt, path.as_str())?;
+    let mut refusals = Refusals::new();
+    let report = report_of(rt.alloc(), text.as_slice(), &mut refusals);
+    let line = format!(in rt.alloc(); "{name}: {refusals}\n")?;
+    out.extend_from_slice(line.as_bytes())?;
+    match report {
+        Ok(text) => {
+            out.extend_from_slice(text.as_slice())?;
+            Ok(refusals.is_unmoved())
+        }
+        Err(_) => Ok(false),
+    }
+}
+
+fn main(rt: HostRuntime) -> io::Result<ExitCode> {
+    let mut out = Vec::new(rt.alloc());
+    let mut is_right = true;
+    let mut words = env::args(&rt)?;
+    let _ = words.next();
+    for name in words {
+        is_right &= run(&rt, &mut out, name.as_str())?;
+    }
+    io::Write::write_all(&mut io::writer(&rt), out.as_slice())?;
+    Ok(ExitCode::from(if is_right { 0 } else { 1 }))
+}
