@@ -2,3 +2,5 @@
 pub mod Board
 -- SHARES OF A TABLE'S BOOKS
 pub mod Shares
+-- WORKERS
+pub mod Workers

@@ -100,7 +100,7 @@ impl Board {
     }
 
     /// A second seat, which knows nothing yet. It takes no memory.
-    fn split_off(&self, seat: &mut Seat) -> Seat
+    pub(crate) fn split_off(&self, seat: &mut Seat) -> Seat
         requires { seat.old.board ≡ self.now }
         ensures same { seat.new ≡ seat.old }
         ensures board { result.board ≡ self.now }

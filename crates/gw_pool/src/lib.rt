@@ -1,12 +1,25 @@
-//! What workers share: a job table with the books of two ledgers, and a board on which the progress of jobs is told (ours:
-//! docs/service.md).
+//! A service that many threads share: a job table with the books of two ledgers under one lock, a board on which the progress
+//! of jobs is told, and the workers that run its jobs (ours: docs/service.md).
 #![tactic(auto)]
 
 mod board;
+mod crew;
+mod faults;
+mod gate;
+mod gathering;
+mod service;
 mod share;
 mod shared;
+mod threads;
+mod totals;
 mod view;
+mod worker;
 
 pub use board::{Board, Seat};
+pub use crew::Crew;
+pub use faults::PoolFault;
+pub use gate::{Gate, OpenGate};
+pub use service::Service;
 pub use share::Share;
 pub use shared::{Shared, new_shared};
+pub use totals::Totals;

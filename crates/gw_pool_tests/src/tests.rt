@@ -2,6 +2,11 @@
 
 mod boards;
 mod calls;
+mod cancels;
 mod jobs;
+mod meeting;
+mod ranges;
 mod readers;
+mod services;
 mod shares;
+mod users;

@@ -3,7 +3,7 @@
 ghost use Rattle.std.specs.Prelude.{◌≡◌, ◌<◌, ◌≤◌, OnOk};
 ghost use Rattle.gw_pool.specs.Shares.{AreWhole};
 
-use super::jobs::spec;
+use super::jobs::{THREE_BLOCKS_REPORT, spec};
 use super::shares::{make_7, taken};
 use gw_jobs::{JobFault, Pass, Progress, State};
 use gw_pool::{Share, Shared, new_shared};
@@ -11,10 +11,6 @@ use std::alloc::Global;
 use std::marker::Brand;
 use std::sync::ledger::{Blank, Ledger};
 use std::test::Fail;
-
-/// The report of the job that is done.
-const REPORT: &[u8] = b"END Done CLOCK 23 STEPS 14 ENTRIES 6 COUNT 0\n\
-BLOCK 1 GENERATE 2 0\nBLOCK 2 ADVANCE 2 0\nBLOCK 3 TERMINATE 2 0\n";
 
 /// Why a job isn't collected, and why it isn't cancelled, if it is so.
 type Faults = (Option<JobFault>, Option<JobFault>);
@@ -29,7 +25,7 @@ fn faults<R: Ledger, S: Ledger>(alloc: Global, shared: &mut Shared<R, S>, pass: 
 /// Whether the report of an ended job is that of the job that is done, after 14 steps.
 fn is_reported<R: Ledger, S: Ledger>(alloc: Global, shared: &Shared<R, S>, pass: &Pass) -> bool {
     match shared.collect(alloc, pass) {
-        Ok(reply) => reply.steps == 14 && reply.report.as_slice() == REPORT,
+        Ok(reply) => reply.steps == 14 && reply.report.as_slice() == THREE_BLOCKS_REPORT,
         Err(_) => false,
     }
 }
