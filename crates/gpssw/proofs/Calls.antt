@@ -5,12 +5,13 @@ use Rattle.std.specs.Io.KnownBytes.{Keeps}
 use Rattle.std.proofs.KnownBytes.{Consumes-nil}
 use Rattle.gw_object.specs.declared.limits.TheConstants.{MOST_BYTES}
 use Rattle.gw_streams.specs.Streams.{Source, Sink}
-use Rattle.gpssw.specs.declared.answer.Answer.{Answer}
+use Rattle.gw_answers.specs.declared.answer.Answer.{Answer}
 use Rattle.gpssw.specs.declared.fault.ProgramFault.{ProgramFault}
 use Rattle.gpssw.specs.declared.fault.ProgramFault.TheVariants.{Read, Write, Memory}
-use Rattle.gpssw.specs.Status.{ended, refused, wrong_words, failed, no_memory}
+use Rattle.gw_answers.specs.Status.{ended, refused, wrong_words, failed, no_memory}
 use Rattle.gpssw.specs.Output.{memory_line, Writes, Fails}
-use Rattle.gpssw.specs.Calls.{LosesFront, LosesAtMost, TellsReads, wanted_status, EndsWith, TellsCalls}
+use Rattle.gpssw.specs.Framing.{LosesBatch, most_bytes_of_batch}
+use Rattle.gpssw.specs.Calls.{LosesFront, LosesAtMost, TellsReads, wanted_status, EndsWith, Account, TellsCalls, TellsPoolCalls}
 
 -- the status is 3 exactly where a call has failed
 abbrev Failure : ℕ → Bool → Bool → Type 0
@@ -43,7 +44,7 @@ either : (text : List ℕ) (status result : ℕ) (old new : Option (List ℕ)) �
 either text status result old new (inl h) = inl h.0
 either text status result old new (inr h) = inr h.0
 
-module _ (result : ℕ) (from to : Source) (old new : Sink) where
+module _ (AllRead : Option (List ℕ) → Option (List ℕ) → Type 0) (most : ℕ) (result : ℕ) (from to : Source) (old new : Sink) where
   abbrev Writing : Result Answer ProgramFault → Type 0
   Writing r = MatchResult r (λ a. Writes a.text.items a.status result old.held new.held) (λ fault. Fails fault result old.held new.held)
 
@@ -60,24 +61,43 @@ module _ (result : ℕ) (from to : Source) (old new : Sink) where
   silent none (Err Read) fails writes after = writes.1
   silent none (Err Write) fails writes after = absurd fails
 
-  whole : (r : Result Answer ProgramFault) → OnOk r (LosesFront (MOST_BYTES + 1) from.left to.left) → Writing r → (result ≡ ended) ⊎ (result ≡ refused) → LosesFront (MOST_BYTES + 1) from.left to.left
+  whole : (r : Result Answer ProgramFault) → OnOk r (AllRead from.left to.left) → Writing r → (result ≡ ended) ⊎ (result ≡ refused) → AllRead from.left to.left
   whole (Ok a) loses writes over = loses
   whole (Err Memory) loses writes over = absurd (above no_memory result (omega arith) (omega arith) (either memory_line no_memory result _ _ writes) over)
   whole (Err Read) loses writes over = absurd (above failed result (omega arith) (omega arith) (inl writes.0) over)
   whole (Err Write) loses writes over = absurd (above failed result (omega arith) (omega arith) (inl writes.0) over)
 
   -- what was read was answered, or why it wasn't
-  pub of_reading : from.failed ≡ false → (r : Result Answer ProgramFault) → IfOk r (λ a. (a.status ≡ ended) ⊎ (a.status ≡ refused)) → TellsReads r from.failed to.failed
-      → OnOk r (LosesFront (MOST_BYTES + 1) from.left to.left) → LosesAtMost (MOST_BYTES + 1) from.left to.left → Writing r → EndsWith (wanted_status r) result new.failed
-      → (result ≢ failed → new.waits ≡ false) → TellsCalls result from to old new
-  unfolding TellsCalls
-  of_reading none r status told loses limited writes ends flushed = record {
+  account : from.failed ≡ false → (r : Result Answer ProgramFault) → IfOk r (λ a. (a.status ≡ ended) ⊎ (a.status ≡ refused)) → TellsReads r from.failed to.failed
+      → OnOk r (AllRead from.left to.left) → LosesAtMost most from.left to.left → Writing r → EndsWith (wanted_status r) result new.failed
+      → (result ≢ failed → new.waits ≡ false) → Account AllRead most result from to old new
+  account none r status told loses limited writes ends flushed = record {
     failure = failure none r status told writes ends;
     flushed = flushed;
     silent = silent none r told writes;
     whole = whole r loses writes;
     limited = limited;
   }
+
+module _ (result : ℕ) (from to : Source) (old new : Sink) where
+  abbrev Written : Result Answer ProgramFault → Type 0
+  Written r = MatchResult r (λ a. Writes a.text.items a.status result old.held new.held) (λ fault. Fails fault result old.held new.held)
+
+  -- of a command on one input
+  pub of_reading : from.failed ≡ false → (r : Result Answer ProgramFault) → IfOk r (λ a. (a.status ≡ ended) ⊎ (a.status ≡ refused)) → TellsReads r from.failed to.failed
+      → OnOk r (LosesFront (MOST_BYTES + 1) from.left to.left) → LosesAtMost (MOST_BYTES + 1) from.left to.left → Written r → EndsWith (wanted_status r) result new.failed
+      → (result ≢ failed → new.waits ≡ false) → TellsCalls result from to old new
+  unfolding TellsCalls
+  of_reading none r status told loses limited writes ends flushed =
+      account (LosesFront (MOST_BYTES + 1)) (MOST_BYTES + 1) result from to old new none r status told loses limited writes ends flushed
+
+  -- and of `pool`
+  pub of_batch : (workers slice : ℕ) → from.failed ≡ false → (r : Result Answer ProgramFault) → IfOk r (λ a. (a.status ≡ ended) ⊎ (a.status ≡ refused)) → TellsReads r from.failed to.failed
+      → OnOk r (LosesBatch workers slice from.left to.left) → LosesAtMost most_bytes_of_batch from.left to.left → Written r → EndsWith (wanted_status r) result new.failed
+      → (result ≢ failed → new.waits ≡ false) → TellsPoolCalls workers slice result from to old new
+  unfolding TellsPoolCalls
+  of_batch workers slice none r status told loses limited writes ends flushed =
+      account (LosesBatch workers slice) most_bytes_of_batch result from to old new none r status told loses limited writes ends flushed
 
 -- nothing was read, and a text was written
 pub of_writing : (text : List ℕ) (result : ℕ) (from : Source) (old new : Sink) → from.failed ≡ false → Writes text wrong_words result old.held new.held → EndsWith wrong_words result new.failed

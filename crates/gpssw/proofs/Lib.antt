@@ -1,11 +1,10 @@
 pub mod Numbers
-pub mod Bytes
-pub mod Stepping
 pub mod ThreeWords
+pub mod Bytes
+pub mod Entries
+pub mod Batches
 pub mod Whole
+pub mod Found
 pub mod Outputs
-pub mod Endings
-pub mod OneAnswers
-pub mod Conclusions
-pub mod SomeAnswers
+pub mod Requested
 pub mod Calls

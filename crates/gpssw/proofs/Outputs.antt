@@ -1,18 +1,22 @@
 -- What a command writes, by what stands in the place of its answer.
-use Rattle.std.proofs.Common.{◌≡◌, ◌≢◌, ◌⊎◌, ℕ, List, [], ◌∷◌, Option, Result, Ok, Err, IfOk, MatchResult, Contains, inl, inr, refl, sym, subst, arith}
+use Rattle.std.proofs.Common.{◌≡◌, ◌≢◌, ◌⊎◌, ℕ, List, [], ◌∷◌, Option, Some, None, Bool, true, false, Result, Ok, Err, IfOk, MatchResult, MatchOption, Contains, inl, inr, refl, sym, subst, arith}
 use Rattle.gw_object.specs.declared.fault.Fault.{Fault}
 use Rattle.gw_object.specs.declared.parts.Parts.{Parts}
 use Rattle.gw_step.specs.Job.{Job}
-use Rattle.gpssw.specs.declared.answer.Answer.{Answer}
+use Rattle.gw_answers.specs.declared.answer.Answer.{Answer}
 use Rattle.gpssw.specs.declared.fault.ProgramFault.{ProgramFault}
 use Rattle.gpssw.specs.declared.fault.ProgramFault.TheVariants.{Read, Write, Memory}
-use Rattle.gpssw.specs.Status.{ended, refused, failed, no_memory}
+use Rattle.gw_answers.specs.Status.{ended, refused, failed, no_memory}
 use Rattle.gw_verdicts.specs.Refusal.{refusal_line}
-use Rattle.gpssw.specs.Answer.{Concludes, job_of, object_of, accepted_line}
-use Rattle.gpssw.specs.Assembly.{IsAssembly, IsWorkOf}
-use Rattle.gpssw.specs.Output.{Answering, AnswersReader, memory_line, answering, Writes, Fails, Responds, WritesAnswer}
-use Rattle.gpssw.specs.declared.words.Command.{Command}
-use Rattle.gpssw.specs.declared.words.Command.TheVariants.{Run, Check, Asm}
+use Rattle.gw_answers.specs.Answer.{Concludes, job_of, object_of, accepted_line}
+use Rattle.gw_answers.specs.Assembly.{IsAssembly, IsWorkOf}
+use Rattle.gw_answers.specs.Requests.{Answering, answering}
+use Rattle.gw_answers.specs.declared.request.Request.{Request}
+use Rattle.gw_answers.specs.declared.request.Request.TheVariants.{Run, Check, Asm}
+use Rattle.gw_batch.specs.Codes.{words_fault}
+use Rattle.gw_batch.specs.Batch.{Entry, entries, most_objects}
+use Rattle.gw_batch.specs.Parts.{status_if, IsBatchTold, IsPool}
+use Rattle.gpssw.specs.Output.{AnswersReader, memory_line, Writes, Fails, Responds, WritesAnswer}
 use Rattle.gpssw.proofs.Bytes.{kept}
 
 -- a status of an answer
@@ -36,11 +40,27 @@ assembly_status : (bytes text : List ℕ) (status : ℕ) → IsAssembly bytes te
 assembly_status bytes text status (inl h) = work_status h.0 text status h.2
 assembly_status bytes text status (inr h) = inr h.0
 
--- the status of the answer to a command
-answer_status : (command : Command) (bytes text : List ℕ) (status : ℕ) → answering command bytes text status → IsEnd status
-answer_status (Run seed count) bytes text status h = run_status (job_of seed count bytes) text status h
-answer_status Check bytes text status h = check_status (object_of bytes) text status h
-answer_status Asm bytes text status h = assembly_status bytes text status h
+-- all answers of this kind end so
+abbrev pub Ends : Answering → Type 0
+Ends Answers = (bytes text : List ℕ) (status : ℕ) → Answers bytes text status → IsEnd status
+
+-- those to a request
+pub request_ends : (request : Request) → Ends (answering request)
+request_ends (Run seed count) bytes text status h = run_status (job_of seed count bytes) text status h
+request_ends Check bytes text status h = check_status (object_of bytes) text status h
+request_ends Asm bytes text status h = assembly_status bytes text status h
+
+-- and those to a batch
+by_refused : (refused : Bool) (status : ℕ) → status ≡ status_if refused → IsEnd status
+by_refused true status h = inr h
+by_refused false status h = inl h
+
+batch_status : (o : Option Fault) (es : List Entry) (text : List ℕ) (status : ℕ) → MatchOption o (IsBatchTold es text status) (λ fault. (status ≡ refused) × (text ≡ refusal_line fault)) → IsEnd status
+batch_status None es text status h = by_refused h.0 status h.2
+batch_status (Some fault) es text status h = inr h.0
+
+pub pool_ends : (workers slice : ℕ) → Ends (IsPool workers slice)
+pool_ends workers slice bytes text status h = batch_status (words_fault workers slice) (entries most_objects bytes) text status h
 
 -- the statuses of a command
 abbrev Statuses : ℕ → Type 0
@@ -56,32 +76,32 @@ of_failed status h = (2, omega arith, sym h)
 of_memory : (status : ℕ) → status ≡ no_memory → Statuses status
 of_memory status h = (3, omega arith, sym h)
 
-pub answer_statuses : (command : Command) (known : Option (List ℕ)) (r : Result Answer ProgramFault) → IfOk r (λ a. AnswersReader (answering command) known a.text.items a.status)
-    → IfOk r (λ a. (a.status ≡ ended) ⊎ (a.status ≡ refused))
-answer_statuses command known (Ok a) answer = answer_status command answer.0 a.text.items a.status answer.2
-answer_statuses command known (Err fault) answer = tt
+module _ (Answers : Answering) (ends : Ends Answers) (known : Option (List ℕ)) where
+  pub answer_statuses : (r : Result Answer ProgramFault) → IfOk r (λ a. AnswersReader Answers known a.text.items a.status) → IfOk r (λ a. (a.status ≡ ended) ⊎ (a.status ≡ refused))
+  answer_statuses (Ok a) answer = ends answer.0 a.text.items a.status answer.2
+  answer_statuses (Err fault) answer = tt
 
-module _ (command : Command) (known : Option (List ℕ)) (status : ℕ) (old new : Option (List ℕ)) where
-  pub output : (r : Result Answer ProgramFault) → IfOk r (λ a. AnswersReader (answering command) known a.text.items a.status)
-      → MatchResult r (λ a. Writes a.text.items a.status status old new) (λ fault. Fails fault status old new) → Responds (answering command) known status old new
+module _ (Answers : Answering) (ends : Ends Answers) (known : Option (List ℕ)) (status : ℕ) (old new : Option (List ℕ)) where
+  pub output : (r : Result Answer ProgramFault) → IfOk r (λ a. AnswersReader Answers known a.text.items a.status)
+      → MatchResult r (λ a. Writes a.text.items a.status status old new) (λ fault. Fails fault status old new) → Responds Answers known status old new
   output (Ok a) answer h = (a.text.items, a.status, inl answer, h)
   output (Err Memory) answer h = (memory_line, no_memory, inr (inl (refl, refl)), h)
   output (Err Read) answer h = ([], failed, inr (inr (refl, refl)), inl (h.0, kept old new h.1))
   output (Err Write) answer h = ([], failed, inr (inr (refl, refl)), inl (h.0, kept old new h.1))
 
-  pub answered : (r : Result Answer ProgramFault) → IfOk r (λ a. AnswersReader (answering command) known a.text.items a.status)
+  pub answered : (r : Result Answer ProgramFault) → IfOk r (λ a. AnswersReader Answers known a.text.items a.status)
       → MatchResult r (λ a. Writes a.text.items a.status status old new) (λ fault. Fails fault status old new)
-      → status ≢ failed → status ≢ no_memory → WritesAnswer (answering command) known status old new
-  answered (Ok a) answer (inl h) whole enough = (a.text.items, subst (λ s. AnswersReader (answering command) known a.text.items s) (sym h.0) answer, h.1)
+      → status ≢ failed → status ≢ no_memory → WritesAnswer Answers known status old new
+  answered (Ok a) answer (inl h) whole enough = (a.text.items, subst (λ s. AnswersReader Answers known a.text.items s) (sym h.0) answer, h.1)
   answered (Ok a) answer (inr h) whole enough = absurd (whole h.0)
   answered (Err Memory) answer (inl h) whole enough = absurd (enough h.0)
   answered (Err Memory) answer (inr h) whole enough = absurd (whole h.0)
   answered (Err Read) answer h whole enough = absurd (whole h.0)
   answered (Err Write) answer h whole enough = absurd (whole h.0)
 
-  pub statuses : (r : Result Answer ProgramFault) → IfOk r (λ a. AnswersReader (answering command) known a.text.items a.status)
+  pub statuses : (r : Result Answer ProgramFault) → IfOk r (λ a. AnswersReader Answers known a.text.items a.status)
       → MatchResult r (λ a. Writes a.text.items a.status status old new) (λ fault. Fails fault status old new) → Statuses status
-  statuses (Ok a) answer (inl h) = subst Statuses (sym h.0) (of_answer a.status (answer_status command answer.0 a.text.items a.status answer.2))
+  statuses (Ok a) answer (inl h) = subst Statuses (sym h.0) (of_answer a.status (ends answer.0 a.text.items a.status answer.2))
   statuses (Ok a) answer (inr h) = of_failed status h.0
   statuses (Err Memory) answer (inl h) = of_memory status h.0
   statuses (Err Memory) answer (inr h) = of_failed status h.0

@@ -3,10 +3,13 @@ use Rattle.std.specs.Prelude.{◌≡◌, ◌≢◌, ◌≤◌, ◌+◌, ◌↔�
 use Rattle.std.specs.Io.KnownBytes.{Consumes, Keeps}
 use Rattle.gw_object.specs.declared.limits.TheConstants.{MOST_BYTES}
 use Rattle.gw_streams.specs.Streams.{Source, Sink}
-use Rattle.gpssw.specs.declared.answer.Answer.{Answer}
+use Rattle.gpssw.specs.declared.words.Command.{Command}
+use Rattle.gpssw.specs.declared.words.Command.TheVariants.{Single, Pool}
+use Rattle.gpssw.specs.Framing.{LosesBatch, most_bytes_of_batch}
+use Rattle.gw_answers.specs.declared.answer.Answer.{Answer}
 use Rattle.gpssw.specs.declared.fault.ProgramFault.{ProgramFault}
 use Rattle.gpssw.specs.declared.fault.ProgramFault.TheVariants.{Read, Write, Memory}
-use Rattle.gpssw.specs.Status.{ended, refused, failed, no_memory}
+use Rattle.gw_answers.specs.Status.{ended, refused, failed, no_memory}
 
 -- known bytes lose their front of so many, or all where there are fewer
 abbrev pub LosesFront : ℕ → Option (List ℕ) → Option (List ℕ) → Type 0
@@ -34,19 +37,32 @@ wanted_status (Err Write) = failed
 abbrev pub EndsWith : ℕ → ℕ → Bool → Type 0
 EndsWith wanted result has_failed = result ≡ (if has_failed then failed else wanted)
 
--- What a status tells of the calls of a reader and of a writer, from how the two were, when no call had failed, to how they are.
-pub record Account (status : ℕ) (from to : Source) (old new : Sink) : Type 0 where
+-- What a status tells of the calls of a reader and of a writer, from how the two were, when no call had failed, to how they are: where all is read so, in at most so many bytes.
+pub record Account (AllRead : Option (List ℕ) → Option (List ℕ) → Type 0) (most : ℕ) (status : ℕ) (from to : Source) (old new : Sink) : Type 0 where
   -- it is 3 exactly where a call failed
   pub failure : (status ≡ failed) ↔ IsTrue (to.failed || new.failed)
   -- on any other status nothing that was written waits for a flush
   pub flushed : status ≢ failed → new.waits ≡ false
   -- where a read failed nothing is written
   pub silent : to.failed ≡ true → Keeps old.held new.held
-  -- on 0 and 1 all bytes were read, but at most one more than an object may have
-  pub whole : (status ≡ ended) ⊎ (status ≡ refused) → LosesFront (MOST_BYTES + 1) from.left to.left
-  -- and on no status more than that
-  pub limited : LosesAtMost (MOST_BYTES + 1) from.left to.left
+  -- on 0 and 1 all was read
+  pub whole : (status ≡ ended) ⊎ (status ≡ refused) → AllRead from.left to.left
+  -- and on no status more than so many bytes
+  pub limited : LosesAtMost most from.left to.left
+
+-- a command on one input: all bytes are read, but at most one more than an object may have
+abbrev pub SingleAccount : ℕ → Source → Source → Sink → Sink → Type 0
+SingleAccount status from to old new = Account (LosesFront (MOST_BYTES + 1)) (MOST_BYTES + 1) status from to old new
 
 -- a status tells what an account says (closed: a proof that only passes it on has no need to look inside)
 unfoldable pub TellsCalls : ℕ → Source → Source → Sink → Sink → Type 0
-TellsCalls status from to old new = Account status from to old new
+TellsCalls status from to old new = SingleAccount status from to old new
+
+-- the same of `pool`: the batch is read and nothing behind it, or nothing at all where the words are out of range
+unfoldable pub TellsPoolCalls : ℕ → ℕ → ℕ → Source → Source → Sink → Sink → Type 0
+TellsPoolCalls workers slice status from to old new = Account (LosesBatch workers slice) most_bytes_of_batch status from to old new
+
+-- the same of a command
+abbrev pub tells_calls : Command → ℕ → Source → Source → Sink → Sink → Type 0
+tells_calls (Single request) = TellsCalls
+tells_calls (Pool workers slice) = TellsPoolCalls workers slice

@@ -1,9 +1,5 @@
 pub mod Words
-pub mod Status
-pub mod Answer
-pub mod Assembly
-pub mod Finding
 pub mod Output
 pub mod Input
-pub mod Laws
+pub mod Framing
 pub mod Calls

@@ -3,11 +3,12 @@ use Rattle.std.specs.Prelude.{◌≡◌, ◌≤◌, ◌⊎◌, ℕ, List, [], le
 use Rattle.std.specs.Io.KnownBytes.{Appends, Keeps}
 use Rattle.gpssw.specs.declared.fault.ProgramFault.{ProgramFault}
 use Rattle.gpssw.specs.declared.fault.ProgramFault.TheVariants.{Read, Write, Memory}
-use Rattle.gpssw.specs.Status.{failed, no_memory}
+use Rattle.gw_answers.specs.Status.{failed, no_memory}
 use Rattle.gpssw.specs.declared.words.Command.{Command}
-use Rattle.gpssw.specs.declared.words.Command.TheVariants.{Run, Check, Asm}
-use Rattle.gpssw.specs.Answer.{IsAnswer, IsCheck}
-use Rattle.gpssw.specs.Assembly.{IsAssembly}
+use Rattle.gpssw.specs.declared.words.Command.TheVariants.{Single, Pool}
+use Rattle.gw_answers.specs.Requests as requests
+use Rattle.gw_answers.specs.Requests.{Answering}
+use Rattle.gw_batch.specs.Parts.{IsPool}
 
 -- the line on wrong words
 abbrev pub usage_line : List ℕ
@@ -31,10 +32,6 @@ Fails Memory result old new = Writes memory_line no_memory result old new
 Fails Read result old new = (result ≡ failed) × Keeps old new
 Fails Write result old new = (result ≡ failed) × Keeps old new
 
--- what answers bytes: a text and a status
-abbrev pub Answering : Type 1
-Answering = List ℕ → List ℕ → ℕ → Type 0
-
 -- the text and the status that answer the bytes of a reader; where those aren't known, some bytes
 abbrev pub AnswersReader : Answering → Option (List ℕ) → List ℕ → ℕ → Type 0
 AnswersReader Answers known text status = (bytes : List ℕ) × IfSome known (λ xs. xs ≡ bytes) × Answers bytes text status
@@ -54,8 +51,7 @@ Responds Answers known result old new = (text : List ℕ) × (status : ℕ) × I
 abbrev pub WritesAnswer : Answering → Option (List ℕ) → ℕ → Option (List ℕ) → Option (List ℕ) → Type 0
 WritesAnswer Answers known result old new = (text : List ℕ) × AnswersReader Answers known text result × Appends old new text
 
--- what a command answers
+-- what answers the input of a command
 abbrev pub answering : Command → Answering
-answering (Run seed count) = IsAnswer seed count
-answering Check = IsCheck
-answering Asm = IsAssembly
+answering (Single request) = requests.answering request
+answering (Pool workers slice) = IsPool workers slice

@@ -5,7 +5,8 @@ use Rattle.std.specs.Char.{is_ascii_digit}
 use Rattle.std.specs.Str.{bytes_eq}
 use Rattle.std.specs.Str.Parse.{digits_value}
 use Rattle.gpssw.specs.declared.words.Command.{Command}
-use Rattle.gpssw.specs.declared.words.Command.TheVariants.{Run, Check, Asm}
+use Rattle.gpssw.specs.declared.words.Command.TheVariants.{Single, Pool}
+use Rattle.gw_answers.specs.declared.request.Request.TheVariants.{Run, Check, Asm}
 
 -- decimal digits alone, one or more
 abbrev pub is_number : List ℕ → Bool
@@ -15,20 +16,34 @@ is_number word = nat_lt 0 (length word) && list_all is_ascii_digit word
 abbrev pub number_below : ℕ → List ℕ → Option ℕ
 number_below limit word = if is_number word && nat_lt (digits_value 10 word) limit then Some (digits_value 10 word) else None
 
+-- the command `run`, where both words spell numbers in range
 abbrev pub run_of : Option ℕ → Option ℕ → Option Command
 run_of None count = None
 run_of (Some seed) None = None
-run_of (Some seed) (Some count) = Some (Run seed count)
+run_of (Some seed) (Some count) = Some (Single (Run seed count))
+
+-- the command `pool`, where both words spell numbers
+abbrev pub pool_of : Option ℕ → Option ℕ → Option Command
+pool_of None slice = None
+pool_of (Some workers) None = None
+pool_of (Some workers) (Some slice) = Some (Pool workers slice)
 
 -- the command that one word names: `asm` or `check`
 abbrev pub command_named : List ℕ → Option Command
-command_named name = if bytes_eq name (codes "asm") then Some Asm else if bytes_eq name (codes "check") then Some Check else None
+command_named name =
+    if bytes_eq name (codes "asm") then Some (Single Asm) else if bytes_eq name (codes "check") then Some (Single Check) else None
 
--- the command that these words name: `asm`, `check`, or `run`, a seed below 2^32 and a count below 2^64
+-- the command that a word names which two others follow: `run`, a seed below 2^32 and a count below 2^64; or `pool`, and two numbers below 2^32
+abbrev pub command_with : List ℕ → List ℕ → List ℕ → Option Command
+command_with name first second =
+    if bytes_eq name (codes "run") then run_of (number_below (2 ^ 32) first) (number_below (2 ^ 64) second)
+    else if bytes_eq name (codes "pool") then pool_of (number_below (2 ^ 32) first) (number_below (2 ^ 32) second)
+    else None
+
+-- the command that these words name: `asm`, `check`, `run SEED COUNT`, or `pool WORKERS SLICE`
 abbrev pub command_in : List (List ℕ) → Option Command
 command_in [] = None
 command_in (name ∷ []) = command_named name
-command_in (name ∷ seed ∷ []) = None
-command_in (name ∷ seed ∷ count ∷ []) =
-    if bytes_eq name (codes "run") then run_of (number_below (2 ^ 32) seed) (number_below (2 ^ 64) count) else None
-command_in (name ∷ seed ∷ count ∷ surplus ∷ words) = None
+command_in (name ∷ first ∷ []) = None
+command_in (name ∷ first ∷ second ∷ []) = command_with name first second
+command_in (name ∷ first ∷ second ∷ surplus ∷ words) = None

@@ -1,7 +1,7 @@
 //! Reading the input.
 
 ghost use Rattle.std.specs.Prelude.{◌≡◌, ◌≤◌, ◌<◌, ◌+◌, ◌⊎◌, false, take, length, IfOk, IfErr, IfSome};
-ghost use Rattle.std.specs.Io.KnownBytes.{Consumes};
+ghost use Rattle.std.specs.Io.KnownBytes.{Consumes, IsAtEnd};
 ghost use Rattle.gpssw.specs.Input.{TakesSome};
 ghost use Rattle.gpssw.specs.Calls.{LosesAtMost, TellsReads};
 
@@ -37,8 +37,35 @@ fn read_some<R: Read>(
     }
 }
 
-/// Reads to the end, but at most one byte more than an object may have: the limit and one, in bytes. A read that fails
-/// ends it, an interrupted one too.
+/// Reads to the end, but at most so many bytes. A read that fails ends it, an interrupted one too.
+pub fn read_front<R: Read>(
+    alloc: Global,
+    reader: &mut Input<R>,
+    most: usize,
+) -> Result<Vec<u8>, ProgramFault>
+    requires { reader.old.failed ≡ false }
+    ensures front { IfOk result (λ input.
+        IfSome reader.old.left (λ bytes. input.items ≡ take most bytes)) }
+    ensures within { IfOk result (λ input. length input.items ≤ most) }
+    ensures end { IfOk result (λ input. length input.items < most → IsAtEnd reader.new.left) }
+    ensures taken { IfOk result (λ input.
+        Consumes reader.old.left reader.new.left input.items) }
+    ensures faults { IfErr result (λ fault.
+        (fault ≡ ProgramFault.Read) ⊎ (fault ≡ ProgramFault.Memory)) }
+    ensures told { TellsReads result reader.old.failed reader.new.failed }
+    ensures limited { LosesAtMost most reader.old.left reader.new.left }
+{
+    let mut input = Vec::new(alloc);
+    while input.len() < most {
+        let room = most - input.len();
+        if read_some(reader, room, &mut input)? == 0 {
+            return Ok(input);
+        }
+    }
+    Ok(input)
+}
+
+/// Reads to the end, but at most one byte more than an object may have: the limit and one, in bytes.
 pub fn read_input<R: Read>(alloc: Global, reader: &mut Input<R>) -> Result<Vec<u8>, ProgramFault>
     requires { reader.old.failed ≡ false }
     ensures front { IfOk result (λ input.
@@ -51,12 +78,5 @@ pub fn read_input<R: Read>(alloc: Global, reader: &mut Input<R>) -> Result<Vec<u
     ensures told { TellsReads result reader.old.failed reader.new.failed }
     ensures limited { LosesAtMost (MOST_BYTES + 1) reader.old.left reader.new.left }
 {
-    let mut input = Vec::new(alloc);
-    while input.len() <= MOST_BYTES {
-        let most = MOST_BYTES + 1 - input.len();
-        if read_some(reader, most, &mut input)? == 0 {
-            return Ok(input);
-        }
-    }
-    Ok(input)
+    read_front(alloc, reader, MOST_BYTES + 1)
 }

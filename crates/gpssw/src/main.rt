@@ -1,13 +1,11 @@
 //! The program `gpssw`: simulates queueing models in GPSS World (docs/program.md).
 #![tactic(auto)]
 
-pub mod answer;
 pub mod fault;
+pub mod framing;
 pub mod input;
-pub mod laws;
 pub mod output;
 pub mod program;
-pub mod status;
 #[cfg(test)]
 mod tests;
 pub mod words;
@@ -28,7 +26,7 @@ fn main(rt: HostRuntime) -> ExitCode {
             let _ = args.next();
             let words: Result<Vec<String>, AllocError> = args.collect(rt.alloc());
             match words {
-                Ok(words) => dispatch(rt.alloc(), &words, &mut reader, &mut writer),
+                Ok(words) => dispatch(&rt, rt.alloc(), &words, &mut reader, &mut writer),
                 Err(_) => deliver(&mut writer, Err(ProgramFault::Memory)),
             }
         }
@@ -36,7 +34,13 @@ fn main(rt: HostRuntime) -> ExitCode {
             &mut writer,
             Err(ProgramFault::Memory),
         ),
-        Err(_) => dispatch(rt.alloc(), &Vec::new(rt.alloc()), &mut reader, &mut writer),
+        Err(_) => dispatch(
+            &rt,
+            rt.alloc(),
+            &Vec::new(rt.alloc()),
+            &mut reader,
+            &mut writer,
+        ),
     };
     ExitCode::from(status)
 }

@@ -3,23 +3,31 @@
 ghost use Rattle.std.specs.Prelude.{◌≡◌, ◌≢◌, ◌+◌, [], ◌∷◌, map, false, None, IfOk, OnOk, MatchResult, MatchOption, Contains};
 ghost use Rattle.std.specs.Io.KnownBytes.{Appends};
 ghost use Rattle.std.specs.String.{string_bytes};
-ghost use Rattle.gpssw.specs.Status.{ended, refused, wrong_words, failed, no_memory};
+ghost use Rattle.gw_answers.specs.Status.{ended, refused as refused_status, wrong_words, failed, no_memory};
+ghost use Rattle.gw_answers.specs.Requests as requests;
+ghost use Rattle.gw_answers.specs.Answer.{IsAnswer, IsCheck};
+ghost use Rattle.gw_answers.specs.Assembly.{IsAssembly};
+ghost use Rattle.gw_batch.specs.Codes.{words_fault};
+ghost use Rattle.gw_batch.specs.Parts.{IsPool};
 ghost use Rattle.gpssw.specs.Words.{command_in};
-ghost use Rattle.gpssw.specs.Answer.{IsAnswer, IsCheck};
-ghost use Rattle.gpssw.specs.Assembly.{IsAssembly};
 ghost use Rattle.gpssw.specs.Output.{usage_line, memory_line, answering, AnswersReader, Writes, Fails, Responds, WritesAnswer};
-ghost use Rattle.gpssw.specs.Calls.{LosesFront, LosesAtMost, TellsReads, wanted_status, EndsWith, TellsCalls};
+ghost use Rattle.gpssw.specs.Framing.{LosesBatch, most_bytes_of_batch};
+ghost use Rattle.gpssw.specs.Calls.{LosesFront, LosesAtMost, TellsReads, wanted_status, EndsWith, TellsCalls, TellsPoolCalls, tells_calls};
 
-use crate::answer::{Answer, answer_to};
 use crate::fault::ProgramFault;
+use crate::framing::read_batch;
 use crate::input::read_input;
 use crate::output::write_text;
-use crate::status::{FAILED, NO_MEMORY, WRONG_WORDS};
 use crate::words::{Command, command_of};
-use gw_object::MOST_BYTES;
+use gw_answers::status::{FAILED, NO_MEMORY, WRONG_WORDS};
+use gw_answers::{Answer, Request, answer_to, refused};
+use gw_batch::{answer_batch, refusal_of_words};
+use gw_object::{MOST_BYTES, Memory};
 use gw_streams::{Input, Output};
 use std::alloc::Global;
 use std::io::{Read, Write};
+use std::sync::Wait;
+use std::thread::Threads;
 
 /// Writes a text, and answers its status, or 3 where a write failed.
 fn write_and_end<W: Write>(writer: &mut Output<W>, text: &[u8], status: u8) -> u8
@@ -51,48 +59,57 @@ pub fn deliver<W: Write>(writer: &mut Output<W>, answer: Result<Answer, ProgramF
     }
 }
 
-/// Reads all that is to be read, and then answers it.
-fn read_and_answer<R: Read>(
-    alloc: Global,
-    command: Command,
-    reader: &mut Input<R>,
-) -> Result<Answer, ProgramFault>
-    requires { reader.old.failed ≡ false }
-    ensures answer { IfOk result (λ a.
-        AnswersReader (answering command) reader.old.left a.text.items a.status) }
-    ensures told { TellsReads result reader.old.failed reader.new.failed }
-    ensures whole { OnOk result (LosesFront (MOST_BYTES + 1) reader.old.left reader.new.left) }
-    ensures limited { LosesAtMost (MOST_BYTES + 1) reader.old.left reader.new.left }
+/// An answer, or that memory ran out.
+fn or_no_memory(answer: Result<Answer, Memory>) -> Result<Answer, ProgramFault>
+    ensures { MatchResult answer (λ a. result ≡ Ok a) (λ _. result ≡ Err ProgramFault.Memory) }
 {
-    let input = read_input(alloc, reader)?;
-    match answer_to(alloc, command, &input) {
+    match answer {
         Ok(answer) => Ok(answer),
         Err(_) => Err(ProgramFault::Memory),
     }
 }
 
-/// Carries out a command: reads all input, and writes the answer. It answers the status: 0 where the command came to its end, 1
+/// Reads all that is to be read, and then answers it.
+fn read_and_answer<R: Read>(
+    alloc: Global,
+    request: Request,
+    reader: &mut Input<R>,
+) -> Result<Answer, ProgramFault>
+    requires { reader.old.failed ≡ false }
+    ensures answer { IfOk result (λ a.
+        AnswersReader (requests.answering request) reader.old.left a.text.items a.status) }
+    ensures told { TellsReads result reader.old.failed reader.new.failed }
+    ensures whole { OnOk result (LosesFront (MOST_BYTES + 1) reader.old.left reader.new.left) }
+    ensures limited { LosesAtMost (MOST_BYTES + 1) reader.old.left reader.new.left }
+{
+    let input = read_input(alloc, reader)?;
+    or_no_memory(answer_to(alloc, request, &input))
+}
+
+/// Carries out a command on one input: reads all of it, and writes the answer. It answers the status: 0 where the command came to its end, 1
 /// where something was refused, 3 where a read or a write failed, 4 where memory ran out. Nothing is written before all input is
 /// read (ours: docs/program.md).
 fn respond<R: Read, W: Write>(
     alloc: Global,
-    command: Command,
+    request: Request,
     reader: &mut Input<R>,
     writer: &mut Output<W>,
 ) -> u8
     requires reader { reader.old.failed ≡ false }
     requires writer { writer.old.failed ≡ false }
     ensures answered { result ≢ failed → result ≢ no_memory →
-        WritesAnswer (answering command) reader.old.left result writer.old.held writer.new.held }
+        WritesAnswer (requests.answering request)
+        reader.old.left result writer.old.held writer.new.held }
     ensures memory { result ≡ no_memory →
         Appends writer.old.held writer.new.held memory_line }
-    ensures statuses { Contains (ended ∷ refused ∷ failed ∷ no_memory ∷ []) result }
+    ensures statuses { Contains (ended ∷ refused_status ∷ failed ∷ no_memory ∷ []) result }
 
     // Whatever failed: what was to be written, and how much of it was.
-    ensures output { Responds (answering command) reader.old.left result writer.old.held writer.new.held }
+    ensures output { Responds (requests.answering request)
+        reader.old.left result writer.old.held writer.new.held }
     ensures calls { TellsCalls result reader.old reader.new writer.old writer.new }
 {
-    deliver(writer, read_and_answer(alloc, command, reader))
+    deliver(writer, read_and_answer(alloc, request, reader))
 }
 
 /// The command `asm`: reads a model text and writes the object that it becomes, in its one spelling, or the refusal line. It
@@ -104,13 +121,13 @@ pub fn asm<R: Read, W: Write>(alloc: Global, reader: &mut Input<R>, writer: &mut
         WritesAnswer IsAssembly reader.old.left result writer.old.held writer.new.held }
     ensures memory { result ≡ no_memory →
         Appends writer.old.held writer.new.held memory_line }
-    ensures statuses { Contains (ended ∷ refused ∷ failed ∷ no_memory ∷ []) result }
+    ensures statuses { Contains (ended ∷ refused_status ∷ failed ∷ no_memory ∷ []) result }
 
     // Whatever failed: what was to be written, and how much of it was.
     ensures output { Responds IsAssembly reader.old.left result writer.old.held writer.new.held }
     ensures calls { TellsCalls result reader.old reader.new writer.old writer.new }
 {
-    respond(alloc, Command::Asm, reader, writer)
+    respond(alloc, Request::Asm, reader, writer)
 }
 
 /// The command `check`: reads an object and writes that it is accepted, with how many blocks and procedures it has and the greatest
@@ -122,13 +139,13 @@ pub fn check<R: Read, W: Write>(alloc: Global, reader: &mut Input<R>, writer: &m
         WritesAnswer IsCheck reader.old.left result writer.old.held writer.new.held }
     ensures memory { result ≡ no_memory →
         Appends writer.old.held writer.new.held memory_line }
-    ensures statuses { Contains (ended ∷ refused ∷ failed ∷ no_memory ∷ []) result }
+    ensures statuses { Contains (ended ∷ refused_status ∷ failed ∷ no_memory ∷ []) result }
 
     // Whatever failed: what was to be written, and how much of it was.
     ensures output { Responds IsCheck reader.old.left result writer.old.held writer.new.held }
     ensures calls { TellsCalls result reader.old reader.new writer.old writer.new }
 {
-    respond(alloc, Command::Check, reader, writer)
+    respond(alloc, Request::Check, reader, writer)
 }
 
 /// The command `run`: reads an object and writes the report of its run, or the refusal line. It answers the status, as [`respond`]
@@ -146,17 +163,70 @@ pub fn run<R: Read, W: Write>(
         WritesAnswer (IsAnswer seed count) reader.old.left result writer.old.held writer.new.held }
     ensures memory { result ≡ no_memory →
         Appends writer.old.held writer.new.held memory_line }
-    ensures statuses { Contains (ended ∷ refused ∷ failed ∷ no_memory ∷ []) result }
+    ensures statuses { Contains (ended ∷ refused_status ∷ failed ∷ no_memory ∷ []) result }
 
     // Whatever failed: what was to be written, and how much of it was.
     ensures output { Responds (IsAnswer seed count) reader.old.left result writer.old.held writer.new.held }
     ensures calls { TellsCalls result reader.old reader.new writer.old writer.new }
 {
-    respond(alloc, Command::Run { seed, count }, reader, writer)
+    respond(alloc, Request::Run { seed, count }, reader, writer)
+}
+
+/// Reads a batch, and then runs its jobs and answers it; where the words are out of range, nothing is read.
+fn read_and_run<R: Read, T: Threads + Wait + Sync>(
+    rt: &T,
+    alloc: Global,
+    workers: u32,
+    slice: u32,
+    reader: &mut Input<R>,
+) -> Result<Answer, ProgramFault>
+    requires { reader.old.failed ≡ false }
+    ensures answer { IfOk result (λ a.
+        AnswersReader (IsPool workers slice) reader.old.left a.text.items a.status) }
+    ensures unread { words_fault workers slice ≢ None → reader.new ≡ reader.old }
+    ensures told { TellsReads result reader.old.failed reader.new.failed }
+    ensures whole { OnOk result (LosesBatch workers slice reader.old.left reader.new.left) }
+    ensures limited { LosesAtMost most_bytes_of_batch reader.old.left reader.new.left }
+{
+    if let Some(refusal) = refusal_of_words(workers, slice) {
+        return or_no_memory(refused(alloc, refusal));
+    }
+    let entries = read_batch(alloc, reader)?;
+    or_no_memory(answer_batch(rt, alloc, workers, slice, entries))
+}
+
+/// The command `pool`: reads a batch of objects, each behind its length, has so many workers run their jobs in slices of so many
+/// steps, and writes for each object, in order, the line `JOB` with its number, and the report of its run or the refusal line. It
+/// answers the status: 0 where no object was refused, 1 where one was, 3 where a read or a write failed, 4 where memory ran out.
+/// Nothing is written before all is read that is read. Where the words are out of range (docs/program.md) the refusal line is all
+/// that is written, with status 1, and nothing is read. It waits for the workers.
+pub fn pool<R: Read, W: Write, T: Threads + Wait + Sync>(
+    rt: &T,
+    alloc: Global,
+    workers: u32,
+    slice: u32,
+    reader: &mut Input<R>,
+    writer: &mut Output<W>,
+) -> u8
+    requires reader { reader.old.failed ≡ false }
+    requires writer { writer.old.failed ≡ false }
+    ensures answered { result ≢ failed → result ≢ no_memory →
+        WritesAnswer (IsPool workers slice) reader.old.left result writer.old.held writer.new.held }
+    ensures unread { words_fault workers slice ≢ None → reader.new ≡ reader.old }
+    ensures memory { result ≡ no_memory →
+        Appends writer.old.held writer.new.held memory_line }
+    ensures statuses { Contains (ended ∷ refused_status ∷ failed ∷ no_memory ∷ []) result }
+
+    // Whatever failed: what was to be written, and how much of it was.
+    ensures output { Responds (IsPool workers slice) reader.old.left result writer.old.held writer.new.held }
+    ensures calls { TellsPoolCalls workers slice result reader.old reader.new writer.old writer.new }
+{
+    deliver(writer, read_and_run(rt, alloc, workers, slice, reader))
 }
 
 /// Carries out a command, by its function.
-fn perform<R: Read, W: Write>(
+fn perform<R: Read, W: Write, T: Threads + Wait + Sync>(
+    rt: &T,
     alloc: Global,
     command: Command,
     reader: &mut Input<R>,
@@ -165,19 +235,21 @@ fn perform<R: Read, W: Write>(
     requires reader { reader.old.failed ≡ false }
     requires writer { writer.old.failed ≡ false }
     ensures done { Responds (answering command) reader.old.left result writer.old.held writer.new.held }
-    ensures statuses { Contains (ended ∷ refused ∷ failed ∷ no_memory ∷ []) result }
-    ensures calls { TellsCalls result reader.old reader.new writer.old writer.new }
+    ensures statuses { Contains (ended ∷ refused_status ∷ failed ∷ no_memory ∷ []) result }
+    ensures calls { tells_calls command result reader.old reader.new writer.old writer.new }
 {
     match command {
-        Command::Asm => asm(alloc, reader, writer),
-        Command::Check => check(alloc, reader, writer),
-        Command::Run { seed, count } => run(alloc, seed, count, reader, writer),
+        Command::Single(Request::Asm) => asm(alloc, reader, writer),
+        Command::Single(Request::Check) => check(alloc, reader, writer),
+        Command::Single(Request::Run { seed, count }) => run(alloc, seed, count, reader, writer),
+        Command::Pool { workers, slice } => pool(rt, alloc, workers, slice, reader, writer),
     }
 }
 
 /// The program: the command that its words name. On any other words it writes the usage line, with status 2, and
-/// reads nothing.
-pub fn dispatch<R: Read, W: Write>(
+/// reads nothing. Only `pool` waits.
+pub fn dispatch<R: Read, W: Write, T: Threads + Wait + Sync>(
+    rt: &T,
     alloc: Global,
     words: &[String],
     reader: &mut Input<R>,
@@ -190,10 +262,12 @@ pub fn dispatch<R: Read, W: Write>(
         (λ command. Responds (answering command) reader.old.left result writer.old.held writer.new.held) }
     ensures unread { command_in (map string_bytes words.now) ≡ None → reader.new ≡ reader.old }
     ensures usage { result ≡ wrong_words → command_in (map string_bytes words.now) ≡ None }
-    ensures calls { TellsCalls result reader.old reader.new writer.old writer.new }
+    ensures calls { MatchOption (command_in (map string_bytes words.now))
+        (TellsCalls result reader.old reader.new writer.old writer.new)
+        (λ command. tells_calls command result reader.old reader.new writer.old writer.new) }
 {
     match command_of(words) {
-        Some(command) => perform(alloc, command, reader, writer),
+        Some(command) => perform(rt, alloc, command, reader, writer),
         None => write_and_end(
             writer,
             b"usage: gpssw asm | check | run SEED COUNT | pool WORKERS SLICE\n",

@@ -1,7 +1,8 @@
 //! The program over readers and writers of memory, and over such as fail.
 
-use crate::program::{asm, check, dispatch, run};
+use crate::program::{asm, check, dispatch, pool, run};
 use crate::words::{Command, command_of};
+use gw_answers::Request;
 use gw_object::{Fault, Place};
 use gw_streams::{Input, Output};
 use gw_verdicts::Refusal;
@@ -21,6 +22,10 @@ const FIRST_REPORT: &[u8] =
     b"END Done CLOCK 23 STEPS 14 ENTRIES 6 COUNT 0\nBLOCK 1 GENERATE 2 0\nBLOCK 2 ADVANCE 2 0\nBLOCK 3 TERMINATE 2 0\n";
 
 const USAGE: &[u8] = b"usage: gpssw asm | check | run SEED COUNT | pool WORKERS SLICE\n";
+
+const TWO_PARTS: &[u8] =
+    b"JOB 0\nEND Done CLOCK 23 STEPS 14 ENTRIES 6 COUNT 0\nBLOCK 1 GENERATE 2 0\nBLOCK 2 ADVANCE 2 0\nBLOCK 3 TERMINATE 2 0\n\
+JOB 1\nEND Done CLOCK 23 STEPS 14 ENTRIES 6 COUNT 0\nBLOCK 1 GENERATE 2 0\nBLOCK 2 ADVANCE 2 0\nBLOCK 3 TERMINATE 2 0\n";
 
 /// Gives some bytes, fails once, and then gives the rest.
 #[derive(Drop)]
@@ -117,7 +122,7 @@ fn generate_advance_terminate_ends_at_clock_23(rt: HostRuntime) -> Result<(), Fa
     let words = words_of(rt.alloc(), &["run", "0", "0"])?;
     let mut reader = Input::new(FIRST);
     let mut writer = Output::new(Vec::new(rt.alloc()));
-    let status = dispatch(rt.alloc(), &words, &mut reader, &mut writer);
+    let status = dispatch(&rt, rt.alloc(), &words, &mut reader, &mut writer);
     assert_eq!(rt; writer.into_inner().as_slice(), FIRST_REPORT);
     assert_eq!(rt; status, 0);
     Ok(())
@@ -328,7 +333,7 @@ fn other_words_write_the_usage_line_and_read_nothing(rt: HostRuntime) -> Result<
         &["run", "0", "0", "0"],
         &["asm", "0"],
         &["check", "0", "0"],
-        &["pool", "2", "7"],
+        &["pool", "2", "+7"],
         &["Run", "0", "0"],
         &["", "0", "0"],
         &["run", "", "0"],
@@ -347,7 +352,7 @@ fn other_words_write_the_usage_line_and_read_nothing(rt: HostRuntime) -> Result<
         let words = words_of(rt.alloc(), words)?;
         let mut reader = Input::new(FIRST);
         let mut writer = Output::new(Vec::new(rt.alloc()));
-        let status = dispatch(rt.alloc(), &words, &mut reader, &mut writer);
+        let status = dispatch(&rt, rt.alloc(), &words, &mut reader, &mut writer);
         assert_eq!(rt; writer.into_inner().as_slice(), USAGE);
         assert_eq!(rt; status, 2);
         assert_eq!(rt; reader.into_inner().len(), 97);
@@ -376,7 +381,60 @@ fn digits_alone_are_numbers(rt: HostRuntime) -> Result<(), Fail> {
     ];
     for (words, seed, count) in right {
         let words = words_of(rt.alloc(), words)?;
-        assert_eq!(rt; command_of(&words), Some(Command::Run { seed, count }));
+        assert_eq!(rt;
+            command_of(&words),
+            Some(Command::Single(Request::Run { seed, count }))
+        );
     }
     Ok(())
+}
+
+/// The first object twice, each time behind its length.
+fn first_twice(alloc: Global) -> Result<Vec<u8>, AllocError> {
+    let mut batch = Vec::new(alloc);
+    for _ in 0..2 {
+        batch.extend_from_slice(b"\x00\x00\x00\x61")?;
+        batch.extend_from_slice(FIRST)?;
+    }
+    Ok(batch)
+}
+
+#[test]
+fn the_objects_of_a_batch_are_told_in_order(rt: HostRuntime) -> Result<(), Fail> {
+    let batch = first_twice(rt.alloc())?;
+    let mut reader = Input::new(batch.as_slice());
+    let mut writer = Output::new(Vec::new(rt.alloc()));
+    let status = pool(&rt, rt.alloc(), 2, 1000, &mut reader, &mut writer);
+    assert_eq!(rt; writer.into_inner().as_slice(), TWO_PARTS);
+    assert_eq!(rt; status, 0);
+    Ok(())
+}
+
+#[test]
+fn nothing_is_read_behind_a_length_above_the_limit(rt: HostRuntime) {
+    let mut reader = Input::new(FailsOnce {
+        first: b"\x00\x10\x00\x01",
+        failure: Some(ErrorKind::Other),
+        rest: FIRST,
+    });
+    let mut writer = Output::new(Vec::new(rt.alloc()));
+    let status = pool(&rt, rt.alloc(), 2, 1000, &mut reader, &mut writer);
+    assert_eq!(rt;
+        writer.into_inner().as_slice(),
+        b"JOB 0\nrefused 5 Limit\n".as_slice()
+    );
+    assert_eq!(rt; status, 1);
+}
+
+#[test]
+fn a_batch_that_cannot_be_read_is_not_told(rt: HostRuntime) {
+    let mut reader = Input::new(FailsOnce {
+        first: b"\x00\x00\x00\x61",
+        failure: Some(ErrorKind::Interrupted),
+        rest: FIRST,
+    });
+    let mut writer = Output::new(Vec::new(rt.alloc()));
+    let status = pool(&rt, rt.alloc(), 2, 1000, &mut reader, &mut writer);
+    assert!(rt; writer.into_inner().is_empty());
+    assert_eq!(rt; status, 3);
 }

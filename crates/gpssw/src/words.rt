@@ -4,21 +4,22 @@ ghost use Rattle.std.specs.Prelude.{◌≡◌, ◌^◌, map};
 ghost use Rattle.std.specs.List.{list_all};
 ghost use Rattle.std.specs.Char.{is_ascii_digit};
 ghost use Rattle.std.specs.String.{string_bytes};
-ghost use Rattle.gpssw.specs.Words.{is_number as spells_number, number_below, run_of, command_named as named_by, command_in};
+ghost use Rattle.gpssw.specs.Words as words;
+ghost use Rattle.gpssw.specs.Words.{is_number as spells_number, number_below, run_of, pool_of, command_named as named_by, command_in};
+
+use gw_answers::Request;
 
 /// A command of the program.
 #[derive(Clone, Copy, Debug, PartialEq, Eq)]
 pub enum Command {
-    /// Reads a model text and writes the object that it becomes.
-    Asm,
-    /// Reads an object and writes whether it is accepted.
-    Check,
-    /// Reads an object and writes the report of its run.
-    Run {
-        /// The one seed of the seed list; 0 means the object's own seeds.
-        seed: u32,
-        /// The termination count; 0 means the object's own.
-        count: u64,
+    /// Reads one input, a model text or an object, and writes what answers a request: `asm`, `check` or `run`.
+    Single(Request),
+    /// Reads a batch of objects, and writes the reports of their jobs, which workers run side by side.
+    Pool {
+        /// How many workers there are.
+        workers: u32,
+        /// How many steps a slice of a worker has.
+        slice: u32,
     },
 }
 
@@ -47,7 +48,7 @@ fn count_in(word: &str) -> Option<u64>
 }
 
 /// The number that a word of decimal digits alone spells, if it is below 2^32.
-fn seed_in(word: &str) -> Option<u32>
+fn number_in(word: &str) -> Option<u32>
     ensures { result ≡ number_below (2 ^ 32) word.now }
 {
     if is_number(word) {
@@ -61,9 +62,9 @@ fn seed_in(word: &str) -> Option<u32>
 fn run_with(seed: &str, count: &str) -> Option<Command>
     ensures { result ≡ run_of (number_below (2 ^ 32) seed.now) (number_below (2 ^ 64) count.now) }
 {
-    let seed = seed_in(seed)?;
+    let seed = number_in(seed)?;
     let count = count_in(count)?;
-    Some(Command::Run { seed, count })
+    Some(Command::Single(Request::Run { seed, count }))
 }
 
 /// The command that one word names: `asm` or `check`.
@@ -71,20 +72,40 @@ fn command_named(name: &str) -> Option<Command>
     ensures { result ≡ named_by name.now }
 {
     match name {
-        "asm" => Some(Command::Asm),
-        "check" => Some(Command::Check),
+        "asm" => Some(Command::Single(Request::Asm)),
+        "check" => Some(Command::Single(Request::Check)),
         _ => None,
     }
 }
 
-/// The command that these words name: `asm`; `check`; or `run`, a seed below 2^32 and a count below 2^64, both in decimal
-/// digits alone.
+/// The command `pool`, where both words spell numbers below 2^32.
+fn pool_with(workers: &str, slice: &str) -> Option<Command>
+    ensures { result ≡ pool_of (number_below (2 ^ 32) workers.now) (number_below (2 ^ 32) slice.now) }
+{
+    let workers = number_in(workers)?;
+    let slice = number_in(slice)?;
+    Some(Command::Pool { workers, slice })
+}
+
+/// The command that a word names which two others follow: `run` or `pool`.
+fn command_with(name: &str, first: &str, second: &str) -> Option<Command>
+    ensures { result ≡ words.command_with name.now first.now second.now }
+{
+    match name {
+        "run" => run_with(first, second),
+        "pool" => pool_with(first, second),
+        _ => None,
+    }
+}
+
+/// The command that these words name: `asm`; `check`; `run`, a seed below 2^32 and a count below 2^64; or `pool`, and two numbers
+/// below 2^32. Numbers are in decimal digits alone.
 pub fn command_of(words: &[String]) -> Option<Command>
     ensures { result ≡ command_in (map string_bytes words.now) }
 {
     match words {
         [name] => command_named(name),
-        [name, seed, count] if name.as_str() == "run" => run_with(seed, count),
+        [name, first, second] => command_with(name, first, second),
         _ => None,
     }
 }

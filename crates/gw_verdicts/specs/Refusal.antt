@@ -14,16 +14,33 @@ use Rattle.gw_names.specs.Codes as assembler
 use Rattle.gw_scan.specs.declared.spec.StartFault.{StartFault}
 use Rattle.gw_scan.specs.declared.spec.StartFault.TheVariants.{Seed, Count, Budget, Memory}
 
--- the names of the codes of a job's making
+-- the names of the codes of a service: of its workers, and of its calls
+abbrev pub service_name : ℕ → List ℕ
+service_name code =
+    if code == 55 then codes "Workers"
+    else if code == 56 then codes "Slice"
+    else if code == 57 then codes "Spawn"
+    else if code == 60 then codes "UserFull"
+    else if code == 61 then codes "ServiceFull"
+    else if code == 62 then codes "JournalFull"
+    else if code == 63 then codes "Memory"
+    else if code == 64 then codes "NotYours"
+    else if code == 65 then codes "NotEnded"
+    else if code == 66 then codes "Cancelled"
+    else if code == 67 then codes "Stranger"
+    else if code == 68 then codes "AlreadyEnded"
+    else codes "Unknown"
+
+-- the names of the codes of a job's making, or of a service
 abbrev pub making_name : ℕ → List ℕ
 making_name code =
     if code == 50 then codes "Seed"
     else if code == 51 then codes "Count"
     else if code == 52 then codes "Budget"
     else if code == 53 then codes "Memory"
-    else codes "Unknown"
+    else service_name code
 
--- the name of a code: of an object, of kinds, of PLUS code, of flow, of weights, of a model text, of the assembler, or of a job's making
+-- the name of a code: of an object, of kinds, of PLUS code, of flow, of weights, of a model text, of the assembler, of a job's making, or of a service
 abbrev pub code_name : ℕ → List ℕ
 code_name code =
     unwrap_or (object.name_of code) (unwrap_or (kinds.name_of code) (unwrap_or (plus.name_of code) (unwrap_or (flow.name_of code) (unwrap_or (weights.name_of code) (unwrap_or (texts.name_of code) (unwrap_or (assembler.name_of code) (making_name code)))))))

@@ -1,7 +1,7 @@
 //! Refusals, as they are printed.
 
 ghost use Rattle.std.specs.Prelude.{◌≡◌, Some};
-ghost use Rattle.gw_verdicts.specs.Refusal.{code_name, making_name as name_of_making, place_front, place_numbers, refusal_text, start_refusal};
+ghost use Rattle.gw_verdicts.specs.Refusal.{code_name, making_name as name_of_making, service_name as name_in_service, place_front, place_numbers, refusal_text, start_refusal};
 
 use gw_code_flow::codes as plus_codes;
 use gw_flow::codes as flow_codes;
@@ -21,7 +21,28 @@ pub struct Refusal(pub Fault);
 #[derive(Drop)]
 struct Numbers(Place);
 
-/// The name of a code of a job's making.
+/// The name of a code of a service: of its workers, and of its calls.
+fn service_name(code: u16) -> &'static str
+    ensures { result.now ≡ name_in_service code }
+{
+    match code {
+        55 => "Workers",
+        56 => "Slice",
+        57 => "Spawn",
+        60 => "UserFull",
+        61 => "ServiceFull",
+        62 => "JournalFull",
+        63 => "Memory",
+        64 => "NotYours",
+        65 => "NotEnded",
+        66 => "Cancelled",
+        67 => "Stranger",
+        68 => "AlreadyEnded",
+        _ => "Unknown",
+    }
+}
+
+/// The name of a code of a job's making, or of a service.
 fn making_name(code: u16) -> &'static str
     ensures { result.now ≡ name_of_making code }
 {
@@ -30,7 +51,7 @@ fn making_name(code: u16) -> &'static str
         51 => "Count",
         52 => "Budget",
         53 => "Memory",
-        _ => "Unknown",
+        _ => service_name(code),
     }
 }
 

@@ -1,5 +1,8 @@
+use Rattle.std.proofs.Common.{◌∙◌, sym}
 use Rattle.gpssw.proofs.Calls.{of_writing}
 use Rattle.gpssw.proofs.program.dispatch.Goals as goal
 
 pub returns-in-None-clause-calls : goal.returns-in-None-clause-calls
-returns-in-None-clause-calls g c = of_writing _ _ _ _ _ c.requires.reader c.write_and_end.ensures.bytes c.write_and_end.ensures.told c.write_and_end.ensures.flushed
+returns-in-None-clause-calls g c =
+    let written = c.write_and_end.ensures in
+    rw (sym c.command_of.ensures ∙ c.in-None.is) (of_writing _ _ _ _ _ c.requires.reader written.bytes written.told written.flushed)

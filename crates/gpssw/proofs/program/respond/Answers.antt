@@ -1,18 +1,18 @@
-use Rattle.gpssw.proofs.Outputs.{output, answered, statuses, answer_statuses}
+use Rattle.gpssw.proofs.Outputs.{output, answered, statuses, answer_statuses, request_ends}
 use Rattle.gpssw.proofs.Calls.{of_reading}
 use Rattle.gpssw.proofs.program.respond.Goals as goal
 
 pub returns-clause-answered : goal.returns-clause-answered
-returns-clause-answered g c = answered _ _ _ _ _ c.read_and_answer.result c.read_and_answer.ensures.answer c.deliver.ensures.bytes
+returns-clause-answered g c = answered _ (request_ends c.args.request) _ _ _ _ c.read_and_answer.result c.read_and_answer.ensures.answer c.deliver.ensures.bytes
 
 pub returns-clause-statuses : goal.returns-clause-statuses
-returns-clause-statuses g c = statuses _ _ _ _ _ c.read_and_answer.result c.read_and_answer.ensures.answer c.deliver.ensures.bytes
+returns-clause-statuses g c = statuses _ (request_ends c.args.request) _ _ _ _ c.read_and_answer.result c.read_and_answer.ensures.answer c.deliver.ensures.bytes
 
 pub returns-clause-output : goal.returns-clause-output
-returns-clause-output g c = output _ _ _ _ _ c.read_and_answer.result c.read_and_answer.ensures.answer c.deliver.ensures.bytes
+returns-clause-output g c = output _ (request_ends c.args.request) _ _ _ _ c.read_and_answer.result c.read_and_answer.ensures.answer c.deliver.ensures.bytes
 
 pub returns-clause-calls : goal.returns-clause-calls
 returns-clause-calls g c =
     let reading = c.read_and_answer.ensures in
-    of_reading _ _ _ _ _ c.requires.reader c.read_and_answer.result (answer_statuses _ _ c.read_and_answer.result reading.answer)
+    of_reading _ _ _ _ _ c.requires.reader c.read_and_answer.result (answer_statuses _ (request_ends c.args.request) _ c.read_and_answer.result reading.answer)
     reading.told reading.whole reading.limited c.deliver.ensures.bytes c.deliver.ensures.told c.deliver.ensures.flushed

@@ -1,0 +1,9 @@
+-- STATUSES, AND WHAT IS ASKED
+pub mod Status
+pub mod Requests
+-- CHECKING AND RUNNING AN OBJECT, AND ASSEMBLING A TEXT
+pub mod Answer
+pub mod Assembly
+pub mod Finding
+-- LAWS
+pub mod Laws

@@ -1,0 +1,53 @@
+-- The codes of refusals that a batch and its service answer.
+use Rattle.std.specs.Prelude.{ℕ, Option}
+use Rattle.std.specs.Option.{option_map}
+use Rattle.gw_object.specs.declared.fault.Fault.{Fault}
+use Rattle.gw_object.specs.declared.fault.Place.TheVariants.{Nowhere}
+use Rattle.gw_object.specs.Codes.{memory}
+use Rattle.gw_service.specs.declared.faults.JobFault.{JobFault}
+use Rattle.gw_service.specs.declared.faults.JobFault.TheVariants as jobs
+use Rattle.gw_pool.specs.declared.faults.PoolFault.{PoolFault}
+use Rattle.gw_pool.specs.declared.faults.PoolFault.TheVariants as pools
+use Rattle.gw_pool.specs.Workers.{range_fault}
+
+-- a refusal that has no place
+abbrev pub nowhere : ℕ → Fault
+nowhere code = record { code = code; place = Nowhere }
+
+-- THE SERVICE
+
+-- a service takes no more jobs
+abbrev pub service_full : ℕ
+service_full = 61
+
+-- the code with which a call of the service is refused; want of memory has the code that it has everywhere
+abbrev pub job_code : JobFault → ℕ
+job_code jobs.UserFull = 60
+job_code jobs.ServiceFull = service_full
+job_code jobs.JournalFull = 62
+job_code jobs.Memory = memory
+job_code jobs.NotYours = 64
+job_code jobs.NotEnded = 65
+job_code jobs.Cancelled = 66
+job_code jobs.Stranger = 67
+job_code jobs.AlreadyEnded = 68
+
+-- a refusal by the service has no place
+abbrev pub job_refusal : JobFault → Fault
+job_refusal fault = nowhere (job_code fault)
+
+-- ITS WORKERS
+
+-- the code with which workers are refused
+abbrev pub pool_code : PoolFault → ℕ
+pool_code pools.Workers = 55
+pool_code pools.Slice = 56
+pool_code pools.Spawn = 57
+pool_code pools.Memory = memory
+
+abbrev pub pool_refusal : PoolFault → Fault
+pool_refusal fault = nowhere (pool_code fault)
+
+-- the refusal of a batch whose workers or slices are as many as there may not be
+abbrev pub words_fault : ℕ → ℕ → Option Fault
+words_fault workers slice = option_map pool_refusal (range_fault workers slice)
