@@ -1,16 +1,15 @@
--- The first of a list that passes a test: it is found, changed and taken out at its place.
-use Rattle.std.proofs.Common.{◌≡◌, ℕ, zero, suc, ◌+◌, ◌<◌, Bool, true, false, cond, not, List, [], ◌∷◌, length, set, get_or, Option, Some, None, refl, sym, ap, arith, ◌≤◌}
+-- The first of a list that passes a test: it is found and changed at its place.
+use Rattle.std.proofs.Common.{◌≡◌, ℕ, zero, suc, ◌+◌, ◌<◌, Bool, true, false, cond, not, List, [], ◌∷◌, length, set, get_or, Some, None, refl, sym, ap, arith, ◌≤◌}
 use Rattle.std.proofs.lemmas.Grind.{common_steps}
-use Rattle.std.specs.Prelude.{remove, IsSome}
 use Rattle.std.specs.List.{find, position, position_or_len}
-use Rattle.gw_chains.specs.Assembling.{without_first, with_first_changed}
+use Rattle.gw_chains.specs.Assembling.{with_first_changed}
 
 module _ {A : Type 0} (passes : A → Bool) where
   -- where it stands
-  is_place : (xs : List A) (i : ℕ) → position passes xs ≡ Some i → i ≡ position_or_len passes xs
+  pub is_place : (xs : List A) (i : ℕ) → position passes xs ≡ Some i → i ≡ position_or_len passes xs
   is_place xs i at = grind (arith, common_steps)
 
-  is_within : (xs : List A) (i : ℕ) → position passes xs ≡ Some i → i < length xs
+  pub is_within : (xs : List A) (i : ℕ) → position passes xs ≡ Some i → i < length xs
   is_within xs i at = grind (arith, common_steps)
 
   found_first : (xs : List A) (i : ℕ) (x : A) → i ≡ position_or_len passes xs → i < length xs → x ≡ get_or xs i x → find passes xs ≡ Some x
@@ -39,19 +38,6 @@ module _ {A : Type 0} (passes : A → Bool) where
       by_test true here rest = absurd (omega (arith, here))
       by_test false here rest = ap (λ zs. y ∷ zs) (rest (omega (arith, here)))
 
-  taken_first : (xs : List A) (i : ℕ) → i ≡ position_or_len passes xs → i < length xs → remove xs i ≡ without_first passes xs
-  taken_first [] i at within = absurd (omega (arith, within))
-  taken_first (y ∷ ys) zero at within = by_test (passes y) at
-    where
-      by_test : (b : Bool) → 0 ≡ cond (not b) (1 + position_or_len passes ys) 0 → ys ≡ cond b ys (y ∷ without_first passes ys)
-      by_test true here = refl
-      by_test false here = absurd (omega (arith, here))
-  taken_first (y ∷ ys) (suc i) at within = by_test (passes y) at (λ here. taken_first ys i here (omega (arith, within)))
-    where
-      by_test : (b : Bool) → suc i ≡ cond (not b) (1 + position_or_len passes ys) 0 → (i ≡ position_or_len passes ys → remove ys i ≡ without_first passes ys) → y ∷ remove ys i ≡ cond b ys (y ∷ without_first passes ys)
-      by_test true here rest = absurd (omega (arith, here))
-      by_test false here rest = ap (λ zs. y ∷ zs) (rest (omega (arith, here)))
-
   -- where it has a place
   module _ (xs : List A) (i : ℕ) (at : position passes xs ≡ Some i) where
     pub found : (x : A) → x ≡ get_or xs i x → find passes xs ≡ Some x
@@ -59,9 +45,6 @@ module _ {A : Type 0} (passes : A → Bool) where
 
     pub changed : (change : A → A) (x : A) → x ≡ get_or xs i x → set xs i (change x) ≡ with_first_changed passes change xs
     changed change x = changed_first change xs i x (is_place xs i at) (is_within xs i at)
-
-    pub taken : remove xs i ≡ without_first passes xs
-    taken = taken_first xs i (is_place xs i at) (is_within xs i at)
 
   -- where it has none
   is_past : (xs : List A) → position passes xs ≡ None → length xs ≤ position_or_len passes xs
@@ -77,7 +60,3 @@ module _ {A : Type 0} (passes : A → Bool) where
 
   pub missed : (xs : List A) → position passes xs ≡ None → find passes xs ≡ None
   missed xs at = missed_all xs (is_past xs at)
-
--- nothing is there, and something is: that can't be
-pub nothing_is : {A : Type 0} {found : Option A} → found ≡ None → IsSome found → ⊥
-nothing_is none some = cc

@@ -1,25 +1,24 @@
--- Events in buckets: a newcomer joins them.
-use Rattle.std.proofs.Common.{◌≡◌, ◌≢◌, ◌∙◌, ℕ, zero, suc, ◌+◌, ◌-◌, ◌^◌, ◌<◌, ◌≤◌, min, List, [], ◌∷◌, ◌++◌, Option, Some, None, IsSome, is_some, Bool, true, false, if◌then◌else◌, refl, sym, ap, subst, arith, append_assoc, inl, inr, get_or}
+-- Members in buckets: a newcomer joins them.
+use Rattle.std.proofs.Common.{◌≡◌, ◌≢◌, ◌∙◌, ℕ, zero, suc, ◌+◌, ◌-◌, ◌^◌, ◌<◌, ◌≤◌, min, ℤ, List, [], ◌∷◌, ◌++◌, Option, Some, None, IsSome, is_some, Bool, true, false, if◌then◌else◌, refl, sym, ap, subst, arith, append_assoc, inl, inr, get_or}
 use Rattle.std.proofs.lemmas.Bool.{cases_eq, cases_order}
 use Rattle.std.proofs.lemmas.Grind.{common_steps}
 use Rattle.std.proofs.lemmas.Int.{ints}
-use Rattle.std.specs.Prelude.{All, AllPairs, int_le, ◌<ℤ◌, ◌==◌}
+use Rattle.std.specs.Prelude.{All, IfSome, AllPairs, int_le, ◌<ℤ◌, ◌==◌}
 use Rattle.std.specs.List.{AllByRecursion}
 use Rattle.std.specs.List.Sorted.{IsPartitionedBy}
 use Rattle.gw_chains.specs.Chain.{placed_behind, in_time}
 use Rattle.gw_chains.specs.Chunks.{begins_in}
 use Rattle.gw_chains.specs.Newcomers.{host, with_newcomer, IsHostLast}
-use Rattle.gw_chains.specs.Buckets.{once, times, last_or, Links, run, links_of, event_at, events_at, events_of, total, alone, one_if_there, linked_to, linked_behind, IsBucket, AreBuckets}
+use Rattle.gw_chains.specs.Buckets.{once, times, last_or, Links, run, links_of, member_at, members_at, members_of, total, alone, one_if_there, linked_to, linked_behind, Before, IsBucket, AreBuckets}
 use Rattle.gw_chains.specs.declared.bucket.Bucket.{Bucket}
 use Rattle.gw_chains.specs.declared.bucket.Link.{Link}
-use Rattle.gw_chains.specs.declared.tx.Event.{Event}
 use Rattle.std.proofs.lemmas.List.Elements.{All-head, All-tail, All-cons, All-nil}
 use Rattle.gw_chains.proofs.Places.{pairs_cons, pairs_first, pairs_rest}
-use Rattle.gw_chains.proofs.Linking.{goes, unite, upto, once-same, once-other, times-append, last_in_run, Alike, run-same, links-same, events-same, events-append, buckets-same, bucket-same, was_other, run_alone, alone_is_bucket, run-longer, kept_events, placed_past, placed_first, all_upto, AreLed, led_back, led_front, begins_at, rest_fails, host_within_links}
+use Rattle.gw_chains.proofs.Linking.{goes, unite, upto, once-same, once-other, times-append, last_in_run, Alike, run-same, links-same, members-same, members-append, buckets-same, bucket-same, was_other, run_alone, alone_is_bucket, run-longer, kept_members, placed_past, placed_first, all_upto, AreLed, led_back, led_front, begins_at, rest_fails, host_within_links}
 
 -- WHAT IS LINKED, AND WHAT ISN'T
 
-module _ (S : Links) (j : ℕ) where
+module _ {X : Type 0} (S : Links X) (j : ℕ) where
   linked_at : (b : Bucket) (k : ℕ) → k ≡ b.last → linked_behind (Some b) j S k ≡ linked_to j (S k)
   linked_at b k same = grind (arith, common_steps)
 
@@ -30,18 +29,18 @@ module _ (S : Links) (j : ℕ) where
   unlinked None k other = refl
   unlinked (Some b) k other = linked_off b k (other b refl)
 
-  same_event : (o : Option Link) → event_at (linked_to j o) ≡ event_at o
-  same_event None = refl
-  same_event (Some l) = refl
+  same_member : (o : Option (Link X)) → member_at (linked_to j o) ≡ member_at o
+  same_member None = refl
+  same_member (Some l) = refl
 
-  event_linked : (h : Option Bucket) (k : ℕ) → event_at (linked_behind h j S k) ≡ event_at (S k)
-  event_linked None k = refl
-  event_linked (Some b) k = elim (cases_eq k b.last) [
-    | inl same ↦ ap event_at (linked_at b k same) ∙ same_event (S k)
-    | inr other ↦ ap event_at (linked_off b k other)
+  member_linked : (h : Option Bucket) (k : ℕ) → member_at (linked_behind h j S k) ≡ member_at (S k)
+  member_linked None k = refl
+  member_linked (Some b) k = elim (cases_eq k b.last) [
+    | inl same ↦ ap member_at (linked_at b k same) ∙ same_member (S k)
+    | inr other ↦ ap member_at (linked_off b k other)
   ]
 
-  same_some : (o : Option Link) → is_some (linked_to j o) ≡ is_some o
+  same_some : (o : Option (Link X)) → is_some (linked_to j o) ≡ is_some o
   same_some None = refl
   same_some (Some l) = refl
 
@@ -64,28 +63,28 @@ all_appended P (y ∷ ys) x all this = (all.0, all_appended P ys x all.1 this)
 
 -- THE NEWCOMER
 
-module _ (S T : Links) (e : Event) (j x : ℕ) (vacant : S j ≡ None) (there : T j ≡ Some (record { event = e; next = x })) where
+module _ {X : Type 0} (rank : X → ℤ) (S T : Links X) (e : X) (j x : ℕ) (vacant : S j ≡ None) (there : T j ≡ Some (record { member = e; next = x })) where
   -- what buckets are after the newcomer
   pub record Joined (bs ws : List Bucket) : Type 0 where
-    pub events : events_of T ws ≡ in_time (λ (y : Event). y.time) e (events_of S bs)
+    pub members : members_of T ws ≡ in_time rank e (members_of S bs)
     pub links : (i : ℕ) → times i (links_of T ws) ≡ times i (links_of S bs) + once i j
-    pub each : AllByRecursion (IsBucket T) ws
+    pub each : AllByRecursion (IsBucket rank T) ws
     pub many : total ws ≡ total bs + 1
 
   -- the newcomer stands before all buckets
-  stands_first : (bs : List Bucket) → AreLed S (links_of S bs) → AllByRecursion (IsBucket S) bs → ((k : ℕ) → k ≢ j → T k ≡ S k) → begins_in (upto e) (events_of S bs) ≡ false → Joined bs (alone e j ∷ bs)
+  stands_first : (bs : List Bucket) → AreLed S (links_of S bs) → AllByRecursion (IsBucket rank S) bs → ((k : ℕ) → k ≢ j → T k ≡ S k) → begins_in (upto rank e) (members_of S bs) ≡ false → Joined bs (alone rank e j ∷ bs)
   stands_first bs led each others fails =
       let alike : Alike S T (links_of S bs) = λ k some. others k (was_other S T e j x vacant there k (led.leads k some)) in
       let same = links-same S T bs alike in
-      let whole : links_of T (alone e j ∷ bs) ≡ j ∷ links_of S bs = ap (λ zs. zs ++ links_of T bs) (run_alone S T e j x vacant there) ∙ ap (λ zs. j ∷ zs) same in
+      let whole : links_of T (alone rank e j ∷ bs) ≡ j ∷ links_of S bs = ap (λ zs. zs ++ links_of T bs) (run_alone S T e j x vacant there) ∙ ap (λ zs. j ∷ zs) same in
       record {
-        events =
-            ap (events_at T) whole
-            ∙ ap (λ o. event_at o ++ events_at T (links_of S bs)) there
-            ∙ ap (λ zs. e ∷ zs) (events-same S T (links_of S bs) (λ k some. ap event_at (alike k some)))
-            ∙ sym (placed_first (upto e) e (events_of S bs) fails);
+        members =
+            ap (members_at T) whole
+            ∙ ap (λ o. member_at o ++ members_at T (links_of S bs)) there
+            ∙ ap (λ zs. e ∷ zs) (members-same S T (links_of S bs) (λ k some. ap member_at (alike k some)))
+            ∙ sym (placed_first (upto rank e) e (members_of S bs) fails);
         links = λ i. omega (arith, ap (times i) whole);
-        each = (alone_is_bucket S T e j x vacant there, buckets-same S T bs alike each);
+        each = (alone_is_bucket S T e j x vacant there rank, buckets-same rank S T bs alike each);
         many = omega arith;
       }
 
@@ -96,7 +95,7 @@ module _ (S T : Links) (e : Event) (j x : ℕ) (vacant : S j ≡ None) (there : 
       subst (λ i. run T i k ≡ run S (suc n) k ++ j ∷ []) two (run-longer S T e j x vacant there l n k linked others last leads single)
 
   -- a bucket takes the newcomer in
-  taken_in : (b : Bucket) (bs : List Bucket) → AreLed S (links_of S (b ∷ bs)) → AllByRecursion (IsBucket S) (b ∷ bs) → All (λ (c : Bucket). b.time <ℤ c.time) bs → total (b ∷ bs) < 2 ^ 62 → int_le b.time e.time ≡ true → int_le e.time b.time ≡ true → ((k : ℕ) → k ≢ j → T k ≡ linked_behind (Some b) j S k) → Joined (b ∷ bs) (unite b (alone e j) ∷ bs)
+  taken_in : (b : Bucket) (bs : List Bucket) → AreLed S (links_of S (b ∷ bs)) → AllByRecursion (IsBucket rank S) (b ∷ bs) → All (λ (c : Bucket). b.rank <ℤ c.rank) bs → total (b ∷ bs) < 2 ^ 62 → int_le b.rank (rank e) ≡ true → int_le (rank e) b.rank ≡ true → ((k : ℕ) → k ≢ j → T k ≡ linked_behind (Some b) j S k) → Joined (b ∷ bs) (unite b (alone rank e j) ∷ bs)
   taken_in b bs led each later few upto_e from_e linked =
       let here = run S b.count b.first in
       let back = links_of S bs in
@@ -112,85 +111,82 @@ module _ (S T : Links) (e : Event) (j x : ℕ) (vacant : S j ≡ None) (there : 
       let apart : (k : ℕ) → 0 < times k back → k ≢ b.last =
       λ k some same. absurd (omega (arith, led.single b.last, times-append b.last here back, within, subst (λ i. 0 < times i back) same some)) in
       let alike : Alike S T back = λ k some. others k (was_other S T e j x vacant there k (led_later.leads k some)) (apart k some) in
-      let whole : links_of T (unite b (alone e j) ∷ bs) ≡ (here ++ j ∷ []) ++ back = ap (λ zs. zs ++ links_of T bs) run_here ∙ ap (λ zs. (here ++ j ∷ []) ++ zs) (links-same S T bs alike) in
-      let kept = λ (k : ℕ) (old : k ≢ j). ap event_at (linked k old) ∙ event_linked S j (Some b) k in
-      let old = events_at S here in
-      let shown : events_at T (here ++ j ∷ []) ≡ old ++ e ∷ [] =
-      events-append T here (j ∷ []) ∙ ap (λ zs. zs ++ events_at T (j ∷ [])) (kept_events S T e j x vacant there here kept led_here.leads) ∙ ap (λ o. old ++ (event_at o ++ [])) there in
-      let fails = rest_fails S e b bs led_later each.1 later from_e in
+      let whole : links_of T (unite b (alone rank e j) ∷ bs) ≡ (here ++ j ∷ []) ++ back = ap (λ zs. zs ++ links_of T bs) run_here ∙ ap (λ zs. (here ++ j ∷ []) ++ zs) (links-same S T bs alike) in
+      let kept = λ (k : ℕ) (old : k ≢ j). ap member_at (linked k old) ∙ member_linked S j (Some b) k in
+      let old = members_at S here in
+      let shown : members_at T (here ++ j ∷ []) ≡ old ++ e ∷ [] =
+      members-append T here (j ∷ []) ∙ ap (λ zs. zs ++ members_at T (j ∷ [])) (kept_members S T e j x vacant there here kept led_here.leads) ∙ ap (λ o. old ++ (member_at o ++ [])) there in
+      let fails = rest_fails rank S e b bs led_later each.1 later from_e in
       record {
-        events =
-            ap (events_at T) whole
-            ∙ events-append T (here ++ j ∷ []) back
-            ∙ ap (λ zs. zs ++ events_at T back) shown
-            ∙ ap (λ zs. (old ++ e ∷ []) ++ zs) (kept_events S T e j x vacant there back kept led_later.leads)
-            ∙ append_assoc old (e ∷ []) (events_of S bs)
+        members =
+            ap (members_at T) whole
+            ∙ members-append T (here ++ j ∷ []) back
+            ∙ ap (λ zs. zs ++ members_at T back) shown
+            ∙ ap (λ zs. (old ++ e ∷ []) ++ zs) (kept_members S T e j x vacant there back kept led_later.leads)
+            ∙ append_assoc old (e ∷ []) (members_of S bs)
             ∙ sym (
-            ap (placed_behind (upto e) e) (events-append S here back)
-            ∙ placed_past (upto e) e old (events_of S bs) (all_upto e b.time old upto_e each.0.alike)
-            ∙ ap (λ zs. old ++ zs) (placed_first (upto e) e (events_of S bs) fails)
+            ap (placed_behind (upto rank e) e) (members-append S here back)
+            ∙ placed_past (upto rank e) e old (members_of S bs) (all_upto rank e b.rank old upto_e each.0.alike)
+            ∙ ap (λ zs. old ++ zs) (placed_first (upto rank e) e (members_of S bs) fails)
             );
         links = λ i. omega (arith, ap (times i) whole, times-append i (here ++ j ∷ []) back, times-append i here (j ∷ []), times-append i here back);
         each = (
           record {
             some = omega (arith, more);
             last = ap (last_or b.first) run_here ∙ last_appended b.first j here;
-            alike = subst (AllByRecursion (λ (y : Event). y.time ≡ b.time)) (sym (ap (events_at T) run_here ∙ shown)) (all_appended (λ (y : Event). y.time ≡ b.time) old e each.0.alike (grind (arith, ints)));
+            alike = subst (AllByRecursion (λ (y : X). rank y ≡ b.rank)) (sym (ap (members_at T) run_here ∙ shown)) (all_appended (λ (y : X). rank y ≡ b.rank) old e each.0.alike (grind (arith, ints)));
           },
-          buckets-same S T bs alike each.1,
+          buckets-same rank S T bs alike each.1,
         );
         many = omega (arith, more);
       }
 
   -- the newcomer goes past a bucket
-  goes_past : (b : Bucket) (bs ws : List Bucket) → AreLed S (links_of S (b ∷ bs)) → AllByRecursion (IsBucket S) (b ∷ bs) → int_le b.time e.time ≡ true → ((k : ℕ) → k ≢ j → T k ≡ linked_behind (host goes (alone e j) bs) j S k) → Joined bs ws → Joined (b ∷ bs) (b ∷ ws)
+  goes_past : (b : Bucket) (bs ws : List Bucket) → AreLed S (links_of S (b ∷ bs)) → AllByRecursion (IsBucket rank S) (b ∷ bs) → int_le b.rank (rank e) ≡ true → ((k : ℕ) → k ≢ j → T k ≡ linked_behind (host goes (alone rank e j) bs) j S k) → Joined bs ws → Joined (b ∷ bs) (b ∷ ws)
   goes_past b bs ws led each upto_e linked joined =
       let here = run S b.count b.first in
       let back = links_of S bs in
       let led_here = led_front S here back led in
-      let apart : (k : ℕ) → 0 < times k here → (c : Bucket) → host goes (alone e j) bs ≡ Some c → k ≢ c.last =
+      let apart : (k : ℕ) → 0 < times k here → (c : Bucket) → host goes (alone rank e j) bs ≡ Some c → k ≢ c.last =
       λ k some c found same.
-      absurd (omega (arith, led.single c.last, times-append c.last here back, host_within_links S (alone e j) bs c each.1 found, subst (λ i. 0 < times i here) same some)) in
+      absurd (omega (arith, led.single c.last, times-append c.last here back, host_within_links rank S (alone rank e j) bs c each.1 found, subst (λ i. 0 < times i here) same some)) in
       let alike : Alike S T here =
       λ k some.
       linked k (was_other S T e j x vacant there k (led_here.leads k some))
-      ∙ unlinked S j (host goes (alone e j) bs) k (apart k some) in
+      ∙ unlinked S j (host goes (alone rank e j) bs) k (apart k some) in
       let same = run-same S T b.count b.first alike in
-      let old = events_at S here in
+      let old = members_at S here in
       record {
-        events =
-            ap (λ zs. events_at T (zs ++ links_of T ws)) same
-            ∙ events-append T here (links_of T ws)
-            ∙ ap (λ zs. zs ++ events_of T ws) (events-same S T here (λ k some. ap event_at (alike k some)))
-            ∙ ap (λ zs. old ++ zs) joined.events
-            ∙ sym (placed_past (upto e) e old (events_of S bs) (all_upto e b.time old upto_e each.0.alike))
-            ∙ ap (placed_behind (upto e) e) (sym (events-append S here back));
+        members =
+            ap (λ zs. members_at T (zs ++ links_of T ws)) same
+            ∙ members-append T here (links_of T ws)
+            ∙ ap (λ zs. zs ++ members_of T ws) (members-same S T here (λ k some. ap member_at (alike k some)))
+            ∙ ap (λ zs. old ++ zs) joined.members
+            ∙ sym (placed_past (upto rank e) e old (members_of S bs) (all_upto rank e b.rank old upto_e each.0.alike))
+            ∙ ap (placed_behind (upto rank e) e) (sym (members-append S here back));
         links = λ i. omega (arith, ap (λ zs. times i (zs ++ links_of T ws)) same, times-append i here (links_of T ws), times-append i here back, joined.links i);
-        each = (bucket-same S T b alike each.0, joined.each);
+        each = (bucket-same rank S T b alike each.0, joined.each);
         many = omega (arith, joined.many);
       }
 
-  later_than : (b : Bucket) (bs : List Bucket) → AllPairs (λ (a b : Bucket). a.time <ℤ b.time) (b ∷ bs) → All (λ (c : Bucket). b.time <ℤ c.time) bs
+  later_than : (b : Bucket) (bs : List Bucket) → AllPairs Before (b ∷ bs) → All (λ (c : Bucket). b.rank <ℤ c.rank) bs
   later_than b bs order = λ k d below. order 0 (suc k) d (omega arith) (omega arith)
 
-  pub joined : (bs : List Bucket) → AreLed S (links_of S bs) → AllByRecursion (IsBucket S) bs → AllPairs (λ (a b : Bucket). a.time <ℤ b.time) bs → total bs < 2 ^ 62 → ((k : ℕ) → k ≢ j → T k ≡ linked_behind (host goes (alone e j) bs) j S k) → Joined bs (with_newcomer goes unite (alone e j) bs)
+  pub joined : (bs : List Bucket) → AreLed S (links_of S bs) → AllByRecursion (IsBucket rank S) bs → AllPairs Before bs → total bs < 2 ^ 62 → ((k : ℕ) → k ≢ j → T k ≡ linked_behind (host goes (alone rank e j) bs) j S k) → Joined bs (with_newcomer goes unite (alone rank e j) bs)
   joined [] led each order few linked = stands_first [] led each linked refl
   joined (b ∷ bs) led each order few linked =
-      by_test (int_le b.time e.time) (int_le e.time b.time) refl refl linked
+      by_test (int_le b.rank (rank e)) (int_le (rank e) b.rank) refl refl linked
       (λ here. joined bs (led_back S (run S b.count b.first) (links_of S bs) led) each.1 (λ i k d lt below. order (suc i) (suc k) d (omega arith) (omega arith)) (omega (arith, few)) here)
     where
-      by_test : (p q : Bool) → int_le b.time e.time ≡ p → int_le e.time b.time ≡ q → ((k : ℕ) → k ≢ j → T k ≡ linked_behind (if p then (if q then Some b else host goes (alone e j) bs) else None) j S k) → (((k : ℕ) → k ≢ j → T k ≡ linked_behind (host goes (alone e j) bs) j S k) → Joined bs (with_newcomer goes unite (alone e j) bs)) → Joined (b ∷ bs) (if p then (if q then unite b (alone e j) ∷ bs else b ∷ with_newcomer goes unite (alone e j) bs) else alone e j ∷ b ∷ bs)
+      by_test : (p q : Bool) → int_le b.rank (rank e) ≡ p → int_le (rank e) b.rank ≡ q → ((k : ℕ) → k ≢ j → T k ≡ linked_behind (if p then (if q then Some b else host goes (alone rank e j) bs) else None) j S k) → (((k : ℕ) → k ≢ j → T k ≡ linked_behind (host goes (alone rank e j) bs) j S k) → Joined bs (with_newcomer goes unite (alone rank e j) bs)) → Joined (b ∷ bs) (if p then (if q then unite b (alone rank e j) ∷ bs else b ∷ with_newcomer goes unite (alone rank e j) bs) else alone rank e j ∷ b ∷ bs)
       by_test true true upto_e from_e link rest = taken_in b bs led each (later_than b bs order) few upto_e from_e link
-      by_test true false upto_e from_e link rest = goes_past b bs (with_newcomer goes unite (alone e j) bs) led each upto_e link (rest link)
-      by_test false q upto_e from_e link rest = stands_first (b ∷ bs) led each link (begins_at S (λ t. int_le t e.time) b.count b.first b.time (links_of S bs) each.0.some (led_front S (run S b.count b.first) (links_of S bs) led).leads each.0.alike ∙ upto_e)
+      by_test true false upto_e from_e link rest = goes_past b bs (with_newcomer goes unite (alone rank e j) bs) led each upto_e link (rest link)
+      by_test false q upto_e from_e link rest = stands_first (b ∷ bs) led each link (begins_at rank S (λ t. int_le t (rank e)) b.count b.first b.rank (links_of S bs) each.0.some (led_front S (run S b.count b.first) (links_of S bs) led).leads each.0.alike ∙ upto_e)
 
 -- THE ORDER OF BUCKETS
 
-abbrev pub Before : Bucket → Bucket → Type 0
-Before a b = a.time <ℤ b.time
-
-pub parted_by_time : (n : Bucket) (bs : List Bucket) → AllPairs Before bs → IsPartitionedBy (λ y. goes y n) bs
-parted_by_time n bs order i j d le within passes =
+pub parted_by_rank : (n : Bucket) (bs : List Bucket) → AllPairs Before bs → IsPartitionedBy (λ y. goes y n) bs
+parted_by_rank n bs order i j d le within passes =
     elim (cases_order i j) [
       | inl same ↦ subst (λ m. goes (get_or bs m d) n ≡ true) (sym same) passes
       | inr (inl under) ↦ falls (get_or bs i d) (get_or bs j d) (order i j d under within) passes
@@ -242,65 +238,79 @@ order_with n (b ∷ bs) order = by_test (goes b n) (goes n b) refl refl (order_w
 abbrev one_if : Bool → ℕ
 one_if b = if b then 1 else 0
 
-leads_somewhere : (o : Option Link) (t : ℕ) → t ≡ one_if_there o → 0 < t → IsSome o
+leads_somewhere : {X : Type 0} (o : Option (Link X)) (t : ℕ) → t ≡ one_if_there o → 0 < t → IsSome o
 leads_somewhere None t is some = absurd (omega (arith, is, some))
 leads_somewhere (Some l) t is some = refl
 
-at_most_once : (o : Option Link) (t : ℕ) → t ≡ one_if_there o → t ≤ 1
+at_most_once : {X : Type 0} (o : Option (Link X)) (t : ℕ) → t ≡ one_if_there o → t ≤ 1
 at_most_once None t is = omega (arith, is)
 at_most_once (Some l) t is = omega (arith, is)
 
-pub led_of : (S : Links) (bs : List Bucket) → AreBuckets S bs → AreLed S (links_of S bs)
-led_of S bs are = record {
-  leads = λ i some. leads_somewhere (S i) (times i (links_of S bs)) (are.owned i) some;
-  single = λ i. at_most_once (S i) (times i (links_of S bs)) (are.owned i);
-}
+module _ {X : Type 0} (rank : X → ℤ) where
+  pub led_of : (S : Links X) (bs : List Bucket) → AreBuckets rank S bs → AreLed S (links_of S bs)
+  led_of S bs are = record {
+    leads = λ i some. leads_somewhere (S i) (times i (links_of S bs)) (are.owned i) some;
+    single = λ i. at_most_once (S i) (times i (links_of S bs)) (are.owned i);
+  }
 
--- the last link of a host leads somewhere
-pub host_leads : (S : Links) (n : Bucket) (bs : List Bucket) (h : Bucket) → AreBuckets S bs → host goes n bs ≡ Some h → IsSome (S h.last)
-host_leads S n bs h are is = (led_of S bs are).leads h.last (host_within_links S n bs h are.each is)
+  -- the last link of a host leads somewhere
+  pub host_leads : (S : Links X) (n : Bucket) (bs : List Bucket) (h : Bucket) → AreBuckets rank S bs → host goes n bs ≡ Some h → IsSome (S h.last)
+  host_leads S n bs h are is = (led_of S bs are).leads h.last (host_within_links rank S n bs h are.each is)
 
--- what becomes of buckets that an event joins
-pub record Inserted (S T : Links) (e : Event) (bs ws : List Bucket) : Type 0 where
-  pub events : events_of T ws ≡ in_time (λ (y : Event). y.time) e (events_of S bs)
-  pub buckets : AreBuckets T ws
-  pub many : total ws ≡ total bs + 1
-
-module _ (S S1 T : Links) (e : Event) (j x : ℕ) (vacant : S j ≡ None) (here : S1 j ≡ Some (record { event = e; next = x })) (same : (k : ℕ) → k ≢ j → S1 k ≡ S k) where
-  linked_alike : (h : Option Bucket) (k : ℕ) → k ≢ j → linked_behind h j S1 k ≡ linked_behind h j S k
-  linked_alike None k other = same k other
-  linked_alike (Some b) k other = ap (λ o. if k == b.last then linked_to j o else o) (same k other)
-
-  pub inserted : (bs : List Bucket) → AreBuckets S bs → total bs < 2 ^ 62 → ((k : ℕ) → T k ≡ linked_behind (host goes (alone e j) bs) j S1 k) → Inserted S T e bs (with_newcomer goes unite (alone e j) bs)
-  inserted bs are few linked =
-      let led = led_of S bs are in
-      let there : T j ≡ Some (record { event = e; next = x }) =
-      linked j
-      ∙ unlinked S1 j (host goes (alone e j) bs) j (λ b found clash. vacant_last b (host_leads S (alone e j) bs b are found) clash)
-      ∙ here in
-      let after = λ (k : ℕ) (other : k ≢ j). linked k ∙ linked_alike (host goes (alone e j) bs) k other in
-      let done = joined S T e j x vacant there bs led are.each are.order few after in
-      record {
-        events = done.events;
-        buckets = record {
-          order = order_with (alone e j) bs are.order;
-          each = done.each;
-          owned = λ i. elim (cases_eq i j) [
-            | inl is ↦
-                let none : times i (links_of S bs) ≡ 0 = are.owned i ∙ ap one_if_there (ap S is ∙ vacant) in
-                let one : one_if_there (T i) ≡ 1 = ap one_if_there (ap T is ∙ there) in
-                omega (arith, done.links i, none, one, once-same i j (sym is))
-            | inr other ↦
-                let as_before : one_if_there (T i) ≡ one_if_there (S i) = ap (λ b. one_if b) (ap is_some (after i other) ∙ some_linked S j (host goes (alone e j) bs) i) in
-                omega (arith, done.links i, are.owned i, as_before, once-other i j (λ clash. other (sym clash)))
-          ];
-        };
-        many = done.many;
-      }
+  -- and still does when a newcomer has a link of its own
+  pub host_there : (S T : Links X) (n : Bucket) (bs : List Bucket) (j : ℕ) → S j ≡ None → ((k : ℕ) → k ≢ j → T k ≡ S k) → AreBuckets rank S bs
+      → (h : Option Bucket) → host goes n bs ≡ h → IfSome h (λ b. IsSome (T b.last))
+  host_there S T n bs j vacant others are None is = tt
+  host_there S T n bs j vacant others are (Some b) is =
+      let some = host_leads S n bs b are is in
+      let other : b.last ≢ j = λ same. none (S b.last) some (ap S same ∙ vacant) in
+      subst IsSome (sym (others b.last other)) some
     where
-      none : (o : Option Link) → IsSome o → o ≡ None → ⊥
+      none : (o : Option (Link X)) → IsSome o → o ≡ None → ⊥
       none None is e = cc
       none (Some l) is e = cc
 
-      vacant_last : (b : Bucket) → IsSome (S b.last) → j ≡ b.last → ⊥
-      vacant_last b some clash = none (S b.last) some (ap S (sym clash) ∙ vacant)
+  -- what becomes of buckets that a member joins
+  pub record Inserted (S T : Links X) (e : X) (bs ws : List Bucket) : Type 0 where
+    pub members : members_of T ws ≡ in_time rank e (members_of S bs)
+    pub buckets : AreBuckets rank T ws
+    pub many : total ws ≡ total bs + 1
+
+  module _ (S S1 T : Links X) (e : X) (j x : ℕ) (vacant : S j ≡ None) (here : S1 j ≡ Some (record { member = e; next = x })) (same : (k : ℕ) → k ≢ j → S1 k ≡ S k) where
+    linked_alike : (h : Option Bucket) (k : ℕ) → k ≢ j → linked_behind h j S1 k ≡ linked_behind h j S k
+    linked_alike None k other = same k other
+    linked_alike (Some b) k other = ap (λ o. if k == b.last then linked_to j o else o) (same k other)
+
+    pub inserted : (bs : List Bucket) → AreBuckets rank S bs → total bs < 2 ^ 62 → ((k : ℕ) → T k ≡ linked_behind (host goes (alone rank e j) bs) j S1 k) → Inserted S T e bs (with_newcomer goes unite (alone rank e j) bs)
+    inserted bs are few linked =
+        let led = led_of S bs are in
+        let there : T j ≡ Some (record { member = e; next = x }) =
+        linked j
+        ∙ unlinked S1 j (host goes (alone rank e j) bs) j (λ b found clash. vacant_last b (host_leads S (alone rank e j) bs b are found) clash)
+        ∙ here in
+        let after = λ (k : ℕ) (other : k ≢ j). linked k ∙ linked_alike (host goes (alone rank e j) bs) k other in
+        let done = joined rank S T e j x vacant there bs led are.each are.order few after in
+        record {
+          members = done.members;
+          buckets = record {
+            order = order_with (alone rank e j) bs are.order;
+            each = done.each;
+            owned = λ i. elim (cases_eq i j) [
+              | inl is ↦
+                  let none : times i (links_of S bs) ≡ 0 = are.owned i ∙ ap one_if_there (ap S is ∙ vacant) in
+                  let one : one_if_there (T i) ≡ 1 = ap one_if_there (ap T is ∙ there) in
+                  omega (arith, done.links i, none, one, once-same i j (sym is))
+              | inr other ↦
+                  let as_before : one_if_there (T i) ≡ one_if_there (S i) = ap (λ b. one_if b) (ap is_some (after i other) ∙ some_linked S j (host goes (alone rank e j) bs) i) in
+                  omega (arith, done.links i, are.owned i, as_before, once-other i j (λ clash. other (sym clash)))
+            ];
+          };
+          many = done.many;
+        }
+      where
+        none : (o : Option (Link X)) → IsSome o → o ≡ None → ⊥
+        none None is e = cc
+        none (Some l) is e = cc
+
+        vacant_last : (b : Bucket) → IsSome (S b.last) → j ≡ b.last → ⊥
+        vacant_last b some clash = none (S b.last) some (ap S (sym clash) ∙ vacant)

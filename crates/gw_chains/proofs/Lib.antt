@@ -8,3 +8,6 @@ pub mod Chunking
 pub mod Linking
 pub mod Joining
 pub mod Leaving
+pub mod Heading
+pub mod Ranking
+pub mod Filing

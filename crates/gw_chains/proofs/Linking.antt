@@ -1,4 +1,4 @@
--- Events in buckets: what a newcomer makes of the links and their buckets, and what the one does that leaves.
+-- Members in buckets: what a newcomer makes of the links and their buckets, and what the one does that leaves.
 use Rattle.std.proofs.Common.{◌≡◌, ◌≢◌, ◌∙◌, ℕ, ℤ, zero, suc, ◌+◌, ◌-◌, ◌^◌, ◌<◌, ◌≤◌, min, List, [], ◌∷◌, ◌++◌, Option, Some, None, IsSome, Bool, true, false, if◌then◌else◌, refl, sym, ap, subst, arith, append_assoc}
 use Rattle.std.proofs.lemmas.Grind.{common_steps}
 use Rattle.std.proofs.lemmas.Int.{ints}
@@ -7,10 +7,9 @@ use Rattle.std.specs.List.{AllByRecursion}
 use Rattle.gw_chains.specs.Chain.{placed_behind}
 use Rattle.gw_chains.specs.Chunks.{begins_in}
 use Rattle.gw_chains.specs.Newcomers.{host}
-use Rattle.gw_chains.specs.Buckets.{once, times, last_or, Links, links_behind, run, links_of, event_at, events_at, events_of, linked_to, alone, IsBucket}
+use Rattle.gw_chains.specs.Buckets.{once, times, last_or, Links, links_behind, run, links_of, member_at, members_at, members_of, linked_to, alone, IsBucket}
 use Rattle.gw_chains.specs.declared.bucket.Bucket.{Bucket}
 use Rattle.gw_chains.specs.declared.bucket.Link.{Link}
-use Rattle.gw_chains.specs.declared.tx.Event.{Event}
 
 -- COUNTING LINKS
 
@@ -31,102 +30,104 @@ last_in : (x : ℕ) (xs : List ℕ) → 0 < times (last_or x xs) (x ∷ xs)
 last_in x [] = times-first x []
 last_in x (y ∷ ys) = omega (arith, last_in y ys)
 
-pub last_in_run : (S : Links) (n k l : ℕ) → 0 < n → last_or k (run S n k) ≡ l → 0 < times l (run S n k)
+pub last_in_run : {X : Type 0} (S : Links X) (n k l : ℕ) → 0 < n → last_or k (run S n k) ≡ l → 0 < times l (run S n k)
 last_in_run S zero k l some is = absurd (omega (arith, some))
 last_in_run S (suc n) k l some is = subst (λ m. 0 < times m (run S (suc n) k)) is (last_in k (links_behind (S k) (run S n)))
 
 -- WHERE TWO SLABS OF LINKS ARE ALIKE
 
--- what is at a link
-pub some_of : (o : Option Link) → IsSome o → (l : Link) × (o ≡ Some l)
-some_of None is = absurd cc
-some_of (Some l) is = (l, refl)
+module _ {X : Type 0} where
+  -- what is at a link
+  pub some_of : (o : Option (Link X)) → IsSome o → (l : Link X) × (o ≡ Some l)
+  some_of None is = absurd cc
+  some_of (Some l) is = (l, refl)
 
-pub run_some : (S : Links) (n k : ℕ) (l : Link) → S k ≡ Some l → run S (suc n) k ≡ k ∷ run S n l.next
-run_some S n k l is = ap (λ o. k ∷ links_behind o (run S n)) is
+  pub run_some : (S : Links X) (n k : ℕ) (l : Link X) → S k ≡ Some l → run S (suc n) k ≡ k ∷ run S n l.next
+  run_some S n k l is = ap (λ o. k ∷ links_behind o (run S n)) is
 
--- alike at these links
-abbrev pub Alike : Links → Links → List ℕ → Type 0
-Alike S T ks = (k : ℕ) → 0 < times k ks → T k ≡ S k
+  -- alike at these links
+  abbrev pub Alike : Links X → Links X → List ℕ → Type 0
+  Alike S T ks = (k : ℕ) → 0 < times k ks → T k ≡ S k
 
-pub alike_rest : (S T : Links) (k : ℕ) (ks : List ℕ) → Alike S T (k ∷ ks) → Alike S T ks
-alike_rest S T k ks alike = λ i some. alike i (omega (arith, some))
+  pub alike_rest : (S T : Links X) (k : ℕ) (ks : List ℕ) → Alike S T (k ∷ ks) → Alike S T ks
+  alike_rest S T k ks alike = λ i some. alike i (omega (arith, some))
 
-pub run-same : (S T : Links) (n k : ℕ) → Alike S T (run S n k) → run T n k ≡ run S n k
-run-same S T zero k alike = refl
-run-same S T (suc n) k alike =
-    ap (λ o. k ∷ links_behind o (run T n)) (alike k (times-first k (links_behind (S k) (run S n))))
-    ∙ ap (λ zs. k ∷ zs) (behind (S k) (alike_rest S T k (links_behind (S k) (run S n)) alike) (λ m here. run-same S T n m here))
-  where
-    behind : (o : Option Link) → Alike S T (links_behind o (run S n)) → ((m : ℕ) → Alike S T (run S n m) → run T n m ≡ run S n m) → links_behind o (run T n) ≡ links_behind o (run S n)
-    behind None here later = refl
-    behind (Some l) here later = later l.next here
+  pub run-same : (S T : Links X) (n k : ℕ) → Alike S T (run S n k) → run T n k ≡ run S n k
+  run-same S T zero k alike = refl
+  run-same S T (suc n) k alike =
+      ap (λ o. k ∷ links_behind o (run T n)) (alike k (times-first k (links_behind (S k) (run S n))))
+      ∙ ap (λ zs. k ∷ zs) (behind (S k) (alike_rest S T k (links_behind (S k) (run S n)) alike) (λ m here. run-same S T n m here))
+    where
+      behind : (o : Option (Link X)) → Alike S T (links_behind o (run S n)) → ((m : ℕ) → Alike S T (run S n m) → run T n m ≡ run S n m) → links_behind o (run T n) ≡ links_behind o (run S n)
+      behind None here later = refl
+      behind (Some l) here later = later l.next here
 
-pub links-same : (S T : Links) (bs : List Bucket) → Alike S T (links_of S bs) → links_of T bs ≡ links_of S bs
-links-same S T [] alike = refl
-links-same S T (b ∷ bs) alike =
-    let here = run S b.count b.first in
-    ap (λ zs. zs ++ links_of T bs) (run-same S T b.count b.first (λ k some. alike k (omega (arith, some, times-append k here (links_of S bs)))))
-    ∙ ap (λ zs. here ++ zs) (links-same S T bs (λ k some. alike k (omega (arith, some, times-append k here (links_of S bs)))))
+  pub links-same : (S T : Links X) (bs : List Bucket) → Alike S T (links_of S bs) → links_of T bs ≡ links_of S bs
+  links-same S T [] alike = refl
+  links-same S T (b ∷ bs) alike =
+      let here = run S b.count b.first in
+      ap (λ zs. zs ++ links_of T bs) (run-same S T b.count b.first (λ k some. alike k (omega (arith, some, times-append k here (links_of S bs)))))
+      ∙ ap (λ zs. here ++ zs) (links-same S T bs (λ k some. alike k (omega (arith, some, times-append k here (links_of S bs)))))
 
--- the same events at these links
-abbrev SameEvents : Links → Links → List ℕ → Type 0
-SameEvents S T ks = (k : ℕ) → 0 < times k ks → event_at (T k) ≡ event_at (S k)
+  -- the same members at these links
+  abbrev SameMembers : Links X → Links X → List ℕ → Type 0
+  SameMembers S T ks = (k : ℕ) → 0 < times k ks → member_at (T k) ≡ member_at (S k)
 
-pub events-same : (S T : Links) (ks : List ℕ) → SameEvents S T ks → events_at T ks ≡ events_at S ks
-events-same S T [] same = refl
-events-same S T (k ∷ ks) same =
-    ap (λ zs. zs ++ events_at T ks) (same k (times-first k ks))
-    ∙ ap (λ zs. event_at (S k) ++ zs) (events-same S T ks (λ i some. same i (omega (arith, some))))
+  pub members-same : (S T : Links X) (ks : List ℕ) → SameMembers S T ks → members_at T ks ≡ members_at S ks
+  members-same S T [] same = refl
+  members-same S T (k ∷ ks) same =
+      ap (λ zs. zs ++ members_at T ks) (same k (times-first k ks))
+      ∙ ap (λ zs. member_at (S k) ++ zs) (members-same S T ks (λ i some. same i (omega (arith, some))))
 
-pub events-append : (S : Links) (xs ys : List ℕ) → events_at S (xs ++ ys) ≡ events_at S xs ++ events_at S ys
-events-append S [] ys = refl
-events-append S (x ∷ xs) ys = ap (λ zs. event_at (S x) ++ zs) (events-append S xs ys) ∙ sym (append_assoc (event_at (S x)) (events_at S xs) (events_at S ys))
+  pub members-append : (S : Links X) (xs ys : List ℕ) → members_at S (xs ++ ys) ≡ members_at S xs ++ members_at S ys
+  members-append S [] ys = refl
+  members-append S (x ∷ xs) ys = ap (λ zs. member_at (S x) ++ zs) (members-append S xs ys) ∙ sym (append_assoc (member_at (S x)) (members_at S xs) (members_at S ys))
 
-pub bucket-same : (S T : Links) (b : Bucket) → Alike S T (run S b.count b.first) → IsBucket S b → IsBucket T b
-bucket-same S T b alike is =
-    let same = run-same S T b.count b.first alike in
-    record {
-      some = is.some;
-      last = ap (last_or b.first) same ∙ is.last;
-      alike = subst (AllByRecursion (λ (e : Event). e.time ≡ b.time)) (sym (ap (events_at T) same ∙ events-same S T (run S b.count b.first) (λ k some. ap event_at (alike k some)))) is.alike;
-    }
+module _ {X : Type 0} (rank : X → ℤ) where
+  pub bucket-same : (S T : Links X) (b : Bucket) → Alike S T (run S b.count b.first) → IsBucket rank S b → IsBucket rank T b
+  bucket-same S T b alike is =
+      let same = run-same S T b.count b.first alike in
+      record {
+        some = is.some;
+        last = ap (last_or b.first) same ∙ is.last;
+        alike = subst (AllByRecursion (λ (y : X). rank y ≡ b.rank)) (sym (ap (members_at T) same ∙ members-same S T (run S b.count b.first) (λ k some. ap member_at (alike k some)))) is.alike;
+      }
 
-pub buckets-same : (S T : Links) (bs : List Bucket) → Alike S T (links_of S bs) → AllByRecursion (IsBucket S) bs → AllByRecursion (IsBucket T) bs
-buckets-same S T [] alike each = tt
-buckets-same S T (b ∷ bs) alike each =
-    let here = run S b.count b.first in (
-      bucket-same S T b (λ k some. alike k (omega (arith, some, times-append k here (links_of S bs)))) each.0,
-      buckets-same S T bs (λ k some. alike k (omega (arith, some, times-append k here (links_of S bs)))) each.1,
-    )
+  pub buckets-same : (S T : Links X) (bs : List Bucket) → Alike S T (links_of S bs) → AllByRecursion (IsBucket rank S) bs → AllByRecursion (IsBucket rank T) bs
+  buckets-same S T [] alike each = tt
+  buckets-same S T (b ∷ bs) alike each =
+      let here = run S b.count b.first in (
+        bucket-same S T b (λ k some. alike k (omega (arith, some, times-append k here (links_of S bs)))) each.0,
+        buckets-same S T bs (λ k some. alike k (omega (arith, some, times-append k here (links_of S bs)))) each.1,
+      )
 
 -- A NEWCOMER'S LINK
 
--- a bucket goes ahead of another, or is for the same time
+-- a bucket goes ahead of another, or has the same rank
 abbrev pub goes : Bucket → Bucket → Bool
-goes a b = int_le a.time b.time
+goes a b = int_le a.rank b.rank
 
 -- a bucket that took another in
 abbrev pub unite : Bucket → Bucket → Bucket
 unite a b = record a { last = b.last; count = min (a.count + b.count) (2 ^ 64 - 1) }
 
-module _ (S T : Links) (e : Event) (j x : ℕ) (vacant : S j ≡ None) (there : T j ≡ Some (record { event = e; next = x })) where
+module _ {X : Type 0} (S T : Links X) (e : X) (j x : ℕ) (vacant : S j ≡ None) (there : T j ≡ Some (record { member = e; next = x })) where
   -- a link that was there isn't the newcomer's
   pub was_other : (k : ℕ) → IsSome (S k) → k ≢ j
   was_other k some same = none (S k) some (ap S same ∙ vacant)
     where
-      none : (o : Option Link) → IsSome o → o ≡ None → ⊥
+      none : (o : Option (Link X)) → IsSome o → o ≡ None → ⊥
       none None is e = cc
       none (Some l) is e = cc
 
   pub run_alone : run T 1 j ≡ j ∷ []
-  run_alone = run_some T 0 j (record { event = e; next = x }) there
+  run_alone = run_some T 0 j (record { member = e; next = x }) there
 
-  pub alone_is_bucket : IsBucket T (alone e j)
-  alone_is_bucket = record {
+  pub alone_is_bucket : (rank : X → ℤ) → IsBucket rank T (alone rank e j)
+  alone_is_bucket rank = record {
     some = omega arith;
     last = ap (last_or j) run_alone;
-    alike = subst (AllByRecursion (λ (y : Event). y.time ≡ e.time)) (sym (ap (events_at T) run_alone ∙ ap (λ o. event_at o ++ []) there)) (refl, tt);
+    alike = subst (AllByRecursion (λ (y : X). rank y ≡ rank e)) (sym (ap (members_at T) run_alone ∙ ap (λ o. member_at o ++ []) there)) (refl, tt);
   }
 
   -- the last of a run is linked to the newcomer
@@ -135,8 +136,8 @@ module _ (S T : Links) (e : Event) (j x : ℕ) (vacant : S j ≡ None) (there : 
       let s = some_of (S k) (leads k (times-first k (links_behind (S k) (run S 0)))) in
       let one : run S 1 k ≡ k ∷ [] = run_some S 0 k s.0 s.1 in
       let is : k ≡ l = sym (ap (last_or k) one) ∙ last in
-      let next : T k ≡ Some (record { event = s.0.event; next = j }) = ap T is ∙ linked ∙ ap (linked_to j) (ap S (sym is) ∙ s.1) in
-      run_some T 1 k (record { event = s.0.event; next = j }) next ∙ ap (λ zs. k ∷ zs) run_alone ∙ ap (λ zs. zs ++ j ∷ []) (sym one)
+      let next : T k ≡ Some (record { member = s.0.member; next = j }) = ap T is ∙ linked ∙ ap (linked_to j) (ap S (sym is) ∙ s.1) in
+      run_some T 1 k (record { member = s.0.member; next = j }) next ∙ ap (λ zs. k ∷ zs) run_alone ∙ ap (λ zs. zs ++ j ∷ []) (sym one)
   run-longer l (suc n) k linked others last leads single =
       let s = some_of (S k) (leads k (times-first k (links_behind (S k) (run S (suc n))))) in
       let y = s.0.next in
@@ -150,35 +151,35 @@ module _ (S T : Links) (e : Event) (j x : ℕ) (vacant : S j ≡ None) (there : 
       let later = run-longer l n y linked others ends (λ i some. leads i (omega (arith, some, ap (times i) step))) (omega (arith, single, counted)) in
       run_some T (suc (suc n)) k s.0 same ∙ ap (λ zs. k ∷ zs) later ∙ ap (λ zs. zs ++ j ∷ []) (sym step)
 
-  -- every link but the newcomer's has the event that it had
+  -- every link but the newcomer's has the member that it had
   abbrev Kept : Type 0
-  Kept = (k : ℕ) → k ≢ j → event_at (T k) ≡ event_at (S k)
+  Kept = (k : ℕ) → k ≢ j → member_at (T k) ≡ member_at (S k)
 
-  pub kept_events : (ks : List ℕ) → Kept → ((i : ℕ) → 0 < times i ks → IsSome (S i)) → events_at T ks ≡ events_at S ks
-  kept_events ks kept leads = events-same S T ks (λ k some. kept k (was_other k (leads k some)))
+  pub kept_members : (ks : List ℕ) → Kept → ((i : ℕ) → 0 < times i ks → IsSome (S i)) → members_at T ks ≡ members_at S ks
+  kept_members ks kept leads = members-same S T ks (λ k some. kept k (was_other k (leads k some)))
 
--- THE EVENTS OF BUCKETS
+-- THE MEMBERS OF BUCKETS
 
--- a newcomer's place among events
-module _ (p : Event → Bool) (e : Event) where
-  pub placed_past : (front back : List Event) → AllByRecursion (λ y. p y ≡ true) front → placed_behind p e (front ++ back) ≡ front ++ placed_behind p e back
+-- a newcomer's place among members
+module _ {X : Type 0} (p : X → Bool) (e : X) where
+  pub placed_past : (front back : List X) → AllByRecursion (λ y. p y ≡ true) front → placed_behind p e (front ++ back) ≡ front ++ placed_behind p e back
   placed_past [] back all = refl
   placed_past (y ∷ ys) back all = rw (all.0) (ap (λ zs. y ∷ zs) (placed_past ys back all.1))
 
-  pub placed_first : (back : List Event) → begins_in p back ≡ false → placed_behind p e back ≡ e ∷ back
+  pub placed_first : (back : List X) → begins_in p back ≡ false → placed_behind p e back ≡ e ∷ back
   placed_first [] fails = refl
   placed_first (z ∷ zs) fails = rw fails refl
 
--- whether an event is for the same time as another or for an earlier one
-abbrev pub upto : Event → Event → Bool
-upto e y = int_le y.time e.time
+-- whether a member has the same rank as another or a lower one
+abbrev pub upto : {X : Type 0} → (X → ℤ) → X → X → Bool
+upto rank e y = int_le (rank y) (rank e)
 
--- all events of a bucket are ahead of one of the same time or a later one
-pub all_upto : (e : Event) (t : ℤ) (ys : List Event) → int_le t e.time ≡ true → AllByRecursion (λ (y : Event). y.time ≡ t) ys → AllByRecursion (λ y. upto e y ≡ true) ys
-all_upto e t [] passes all = tt
-all_upto e t (y ∷ ys) passes all = (ap (λ u. int_le u e.time) all.0 ∙ passes, all_upto e t ys passes all.1)
+-- all members of a bucket are ahead of one of the same rank or a higher one
+pub all_upto : {X : Type 0} (rank : X → ℤ) (e : X) (t : ℤ) (ys : List X) → int_le t (rank e) ≡ true → AllByRecursion (λ (y : X). rank y ≡ t) ys → AllByRecursion (λ y. upto rank e y ≡ true) ys
+all_upto rank e t [] passes all = tt
+all_upto rank e t (y ∷ ys) passes all = (ap (λ u. int_le u (rank e)) all.0 ∙ passes, all_upto rank e t ys passes all.1)
 
-module _ (S : Links) where
+module _ {X : Type 0} (S : Links X) where
   -- what is known of links that lead somewhere, each once
   pub record AreLed (ks : List ℕ) : Type 0 where
     pub leads : (i : ℕ) → 0 < times i ks → IsSome (S i)
@@ -196,27 +197,28 @@ module _ (S : Links) where
     single = λ i. omega (arith, led.single i, times-append i xs ys);
   }
 
-  -- the first event of a bucket is for its time
-  pub begins_at : (q : ℤ → Bool) (n k : ℕ) (t : ℤ) (ks : List ℕ) → 0 < n → ((i : ℕ) → 0 < times i (run S n k) → IsSome (S i)) → AllByRecursion (λ (y : Event). y.time ≡ t) (events_at S (run S n k)) → begins_in (λ y. q y.time) (events_at S (run S n k ++ ks)) ≡ q t
+module _ {X : Type 0} (rank : X → ℤ) (S : Links X) where
+  -- the first member of a bucket has its rank
+  pub begins_at : (q : ℤ → Bool) (n k : ℕ) (t : ℤ) (ks : List ℕ) → 0 < n → ((i : ℕ) → 0 < times i (run S n k) → IsSome (S i)) → AllByRecursion (λ (y : X). rank y ≡ t) (members_at S (run S n k)) → begins_in (λ y. q (rank y)) (members_at S (run S n k ++ ks)) ≡ q t
   begins_at q zero k t ks some leads all = absurd (omega (arith, some))
   begins_at q (suc n) k t ks some leads all =
       let s = some_of (S k) (leads k (times-first k (links_behind (S k) (run S n)))) in
       let step = run_some S n k s.0 s.1 in
       let tail = run S n s.0.next in
-      let shown : events_at S (run S (suc n) k) ≡ s.0.event ∷ events_at S tail = ap (events_at S) step ∙ ap (λ o. event_at o ++ events_at S tail) s.1 in
-      let whole : events_at S (run S (suc n) k ++ ks) ≡ s.0.event ∷ events_at S (tail ++ ks) = ap (λ zs. events_at S (zs ++ ks)) step ∙ ap (λ o. event_at o ++ events_at S (tail ++ ks)) s.1 in
-      ap (begins_in (λ (y : Event). q y.time)) whole ∙ ap q (subst (AllByRecursion (λ (y : Event). y.time ≡ t)) shown all).0
+      let shown : members_at S (run S (suc n) k) ≡ s.0.member ∷ members_at S tail = ap (members_at S) step ∙ ap (λ o. member_at o ++ members_at S tail) s.1 in
+      let whole : members_at S (run S (suc n) k ++ ks) ≡ s.0.member ∷ members_at S (tail ++ ks) = ap (λ zs. members_at S (zs ++ ks)) step ∙ ap (λ o. member_at o ++ members_at S (tail ++ ks)) s.1 in
+      ap (begins_in (λ (y : X). q (rank y))) whole ∙ ap q (subst (AllByRecursion (λ (y : X). rank y ≡ t)) shown all).0
 
-  -- no bucket that stands behind a later one is ahead of an event
-  pub rest_fails : (e : Event) (b : Bucket) (bs : List Bucket) → AreLed (links_of S bs) → AllByRecursion (IsBucket S) bs → All (λ (c : Bucket). b.time <ℤ c.time) bs → int_le e.time b.time ≡ true → begins_in (upto e) (events_of S bs) ≡ false
+  -- no bucket that stands behind a later one is ahead of a member
+  pub rest_fails : (e : X) (b : Bucket) (bs : List Bucket) → AreLed S (links_of S bs) → AllByRecursion (IsBucket rank S) bs → All (λ (c : Bucket). b.rank <ℤ c.rank) bs → int_le (rank e) b.rank ≡ true → begins_in (upto rank e) (members_of S bs) ≡ false
   rest_fails e b [] led each later passes = refl
   rest_fails e b (c ∷ cs) led each later passes =
-      let above : b.time <ℤ c.time = later 0 c (omega arith) in
-      let fails : int_le c.time e.time ≡ false = grind (arith, ints) in
-      begins_at (λ t. int_le t e.time) c.count c.first c.time (links_of S cs) each.0.some (led_front (run S c.count c.first) (links_of S cs) led).leads each.0.alike ∙ fails
+      let above : b.rank <ℤ c.rank = later 0 c (omega arith) in
+      let fails : int_le c.rank (rank e) ≡ false = grind (arith, ints) in
+      begins_at (λ t. int_le t (rank e)) c.count c.first c.rank (links_of S cs) each.0.some (led_front S (run S c.count c.first) (links_of S cs) led).leads each.0.alike ∙ fails
 
   -- the last link of a host is one of the buckets'
-  pub host_within_links : (n : Bucket) (bs : List Bucket) (h : Bucket) → AllByRecursion (IsBucket S) bs → host goes n bs ≡ Some h → 0 < times h.last (links_of S bs)
+  pub host_within_links : (n : Bucket) (bs : List Bucket) (h : Bucket) → AllByRecursion (IsBucket rank S) bs → host goes n bs ≡ Some h → 0 < times h.last (links_of S bs)
   host_within_links n [] h each is = absurd cc
   host_within_links n (b ∷ bs) h each is = by_test (goes b n) (goes n b) is (λ later. host_within_links n bs h each.1 later)
     where

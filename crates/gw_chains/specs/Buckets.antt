@@ -1,9 +1,10 @@
--- Events in buckets: all of one time stand in one bucket, each linked to the next, and the buckets by their times.
-use Rattle.std.specs.Prelude.{◌≡◌, ◌<◌, ◌<ℤ◌, ℕ, zero, suc, ◌+◌, ◌-◌, ◌==◌, nat_le, is_some, List, [], ◌∷◌, ◌++◌, AllPairs, Option, Some, None, if◌then◌else◌}
+-- Members in buckets: all of one rank stand in one bucket, each linked to the next, and the buckets by
+-- their ranks.
+use Rattle.std.specs.Prelude.{◌≡◌, ◌<◌, ◌<ℤ◌, ℕ, ℤ, zero, suc, ◌+◌, ◌-◌, ◌==◌, ◌^◌, min, nat_le, int_lt, is_some, Bool, true, false, List, [], ◌∷◌, ◌++◌, AllPairs, Option, Some, None, if◌then◌else◌}
 use Rattle.std.specs.List.{AllByRecursion}
+use Rattle.std.specs.List.Sorted.{IsPartitionPoint}
 use Rattle.gw_chains.specs.declared.bucket.Bucket.{Bucket}
 use Rattle.gw_chains.specs.declared.bucket.Link.{Link}
-use Rattle.gw_chains.specs.declared.tx.Event.{Event}
 
 -- how often a number stands in a list
 abbrev pub once : ℕ → ℕ → ℕ
@@ -19,74 +20,105 @@ last_or d [] = d
 last_or d (x ∷ xs) = last_or x xs
 
 -- links by their keys, as a slab has them
-abbrev pub Links : Type 0
-Links = ℕ → Option Link
-
--- one for a link that is there
-abbrev pub one_if_there : Option Link → ℕ
-one_if_there o = if is_some o then 1 else 0
-
--- the links behind a link, if it is there
-abbrev pub links_behind : Option Link → (ℕ → List ℕ) → List ℕ
-links_behind None from = []
-links_behind (Some l) from = from l.next
-
--- so many links by their keys, from one on, each linked to the next
-abbrev pub run : Links → ℕ → ℕ → List ℕ
-run links zero key = []
-run links (suc n) key = key ∷ links_behind (links key) (run links n)
-
--- the links of buckets, in order
-abbrev pub links_of : Links → List Bucket → List ℕ
-links_of links [] = []
-links_of links (b ∷ bs) = run links b.count b.first ++ links_of links bs
-
--- the event of a link, if it is there
-abbrev pub event_at : Option Link → List Event
-event_at None = []
-event_at (Some l) = l.event ∷ []
-
--- the events of links
-abbrev pub events_at : Links → List ℕ → List Event
-events_at links [] = []
-events_at links (k ∷ ks) = event_at (links k) ++ events_at links ks
-
--- the events of buckets, in order
-abbrev pub events_of : Links → List Bucket → List Event
-events_of links bs = events_at links (links_of links bs)
-
--- the bucket of an event alone, whose link is this one
-abbrev pub alone : Event → ℕ → Bucket
-alone event link = record { time = event.time; first = link; last = link; count = 1 }
+abbrev pub Links : Type 0 → Type 0
+Links X = ℕ → Option (Link X)
 
 -- how many links buckets have
 abbrev pub total : List Bucket → ℕ
 total [] = 0
 total (b ∷ bs) = b.count + total bs
 
--- a link before another
-abbrev pub linked_to : ℕ → Option Link → Option Link
-linked_to next None = None
-linked_to next (Some l) = Some (record l { next = next })
-
--- the links, where the last of a bucket was linked to another
-abbrev pub linked_behind : Option Bucket → ℕ → Links → Links
-linked_behind None next links k = links k
-linked_behind (Some b) next links k = if k == b.last then linked_to next (links k) else links k
-
--- buckets of which the first lost its first link, behind which this one is next: if it has no other, it is gone
+-- buckets of which the first lost its first link, behind which this one is next; it is gone where it has no other
 abbrev pub without_first_link : ℕ → List Bucket → List Bucket
 without_first_link next [] = []
-without_first_link next (b ∷ bs) = if nat_le b.count 1 then bs else record b { first = next; count = b.count - 1 } ∷ bs
+without_first_link next (b ∷ bs) =
+    if nat_le b.count 1 then bs else record b { first = next; count = b.count - 1 } ∷ bs
 
--- a bucket has an event, ends at its last link, and all its events are for its time
-pub record IsBucket (links : Links) (b : Bucket) : Type 0 where
-  pub some : 0 < b.count
-  pub last : last_or b.first (run links b.count b.first) ≡ b.last
-  pub alike : AllByRecursion (λ (e : Event). e.time ≡ b.time) (events_at links (run links b.count b.first))
+-- buckets by their ranks
+abbrev pub Before : Bucket → Bucket → Type 0
+Before a b = a.rank <ℤ b.rank
 
--- buckets stand by their times, and each link that is there stands in one of them, once
-pub record AreBuckets (links : Links) (bs : List Bucket) : Type 0 where
-  pub order : AllPairs (λ (a b : Bucket). a.time <ℤ b.time) bs
-  pub each : AllByRecursion (IsBucket links) bs
-  pub owned : (k : ℕ) → times k (links_of links bs) ≡ one_if_there (links k)
+-- whether a bucket has a lower rank than another
+abbrev pub below : Bucket → Bucket → Bool
+below a b = int_lt a.rank b.rank
+
+-- the place before all buckets of a newcomer's rank or a higher one
+abbrev pub IsHead : Bucket → List Bucket → ℕ → Type 0
+IsHead n bs i = IsPartitionPoint (λ b. below b n ≡ true) (λ b. below b n ≡ false) bs i
+
+-- the bucket of a newcomer's rank, among buckets that stand by their ranks
+abbrev pub head_host : Bucket → List Bucket → Option Bucket
+head_host n [] = None
+head_host n (b ∷ bs) = if below b n then head_host n bs else (if below n b then None else Some b)
+
+-- a bucket that takes another in before its own
+abbrev pub headed_by : Bucket → Bucket → Bucket
+headed_by n b = record b { first = n.first; count = min (b.count + 1) (2 ^ 64 - 1) }
+
+-- buckets with another before all of its rank or a higher one; that of its rank takes it in before its own
+abbrev pub with_head : Bucket → List Bucket → List Bucket
+with_head n [] = n ∷ []
+with_head n (b ∷ bs) =
+    if below b n then b ∷ with_head n bs else (if below n b then n ∷ b ∷ bs else headed_by n b ∷ bs)
+
+module _ {X : Type 0} where
+  -- one for a link that is there
+  abbrev pub one_if_there : Option (Link X) → ℕ
+  one_if_there o = if is_some o then 1 else 0
+
+  -- the links behind a link, if it is there
+  abbrev pub links_behind : Option (Link X) → (ℕ → List ℕ) → List ℕ
+  links_behind None from = []
+  links_behind (Some l) from = from l.next
+
+  -- so many links by their keys, from one on, each linked to the next
+  abbrev pub run : Links X → ℕ → ℕ → List ℕ
+  run links zero key = []
+  run links (suc n) key = key ∷ links_behind (links key) (run links n)
+
+  -- the links of buckets, in order
+  abbrev pub links_of : Links X → List Bucket → List ℕ
+  links_of links [] = []
+  links_of links (b ∷ bs) = run links b.count b.first ++ links_of links bs
+
+  -- the member of a link, if it is there
+  abbrev pub member_at : Option (Link X) → List X
+  member_at None = []
+  member_at (Some l) = l.member ∷ []
+
+  -- the members of links
+  abbrev pub members_at : Links X → List ℕ → List X
+  members_at links [] = []
+  members_at links (k ∷ ks) = member_at (links k) ++ members_at links ks
+
+  -- the members of buckets, in order
+  abbrev pub members_of : Links X → List Bucket → List X
+  members_of links bs = members_at links (links_of links bs)
+
+  -- a link before another
+  abbrev pub linked_to : ℕ → Option (Link X) → Option (Link X)
+  linked_to next None = None
+  linked_to next (Some l) = Some (record l { next = next })
+
+  -- the links, where the last of a bucket was linked to another
+  abbrev pub linked_behind : Option Bucket → ℕ → Links X → Links X
+  linked_behind None next links k = links k
+  linked_behind (Some b) next links k = if k == b.last then linked_to next (links k) else links k
+
+  module _ (rank : X → ℤ) where
+    -- the bucket of a member alone, whose link is this one
+    abbrev pub alone : X → ℕ → Bucket
+    alone member link = record { rank = rank member; first = link; last = link; count = 1 }
+
+    -- a bucket has a member, ends at its last link, and all its members have its rank
+    pub record IsBucket (links : Links X) (b : Bucket) : Type 0 where
+      pub some : 0 < b.count
+      pub last : last_or b.first (run links b.count b.first) ≡ b.last
+      pub alike : AllByRecursion (λ x. rank x ≡ b.rank)
+          (members_at links (run links b.count b.first))
+
+    -- buckets stand by their ranks, and each link that is there stands in one of them, once
+    pub record AreBuckets (links : Links X) (bs : List Bucket) : Type 0 where
+      pub order : AllPairs Before bs
+      pub each : AllByRecursion (IsBucket links) bs
+      pub owned : (k : ℕ) → times k (links_of links bs) ≡ one_if_there (links k)

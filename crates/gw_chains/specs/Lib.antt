@@ -5,4 +5,6 @@ pub mod Chunks
 pub mod Newcomers
 pub mod Buckets
 pub mod Calls
+pub mod PriorityCalls
 pub mod Assembling
+pub mod Register

@@ -1,9 +1,11 @@
 //! Assemblies: who waits for the rest of an assembly set, and at which block.
 
-ghost use Rattle.std.specs.Prelude.{◌≡◌, ◌≤◌, ◌<◌, ◌+◌, ◌-◌, ◌++◌, [], ◌∷◌, Some, length, IsSome, OnOk, OnErr};
-ghost use Rattle.std.specs.List.{find, position};
+ghost use Rattle.std.specs.Prelude.{◌≡◌, ◌≤◌, ◌<◌, ◌+◌, ◌-◌, ◌^◌, ◌++◌, [], ◌∷◌, Some, IsSome, OnOk, OnErr};
+ghost use Rattle.std.specs.List.{find};
 ghost use Rattle.gw_chains.specs.Assembling.{is_of, without_first, with_first_changed};
 
+use crate::register::{Entry, add, count_down, find, make_way, reserve, strike_out};
+use crate::tx::MOST;
 use crate::{Memory, Tx};
 use std::alloc::Global;
 use std::marker::Model;
@@ -22,29 +24,38 @@ pub struct Assembly {
     pub missing: u16,
 }
 
-impl Assembly {
-    /// Whether it is the one of a set at a block.
-    fn is_of(&self, block: u16, set: u64) -> bool
-        ensures { result ≡ is_of block set self.now }
-    {
-        self.block == block && self.set == set
-    }
-}
-
 /// The assemblies that have begun, in the order in which they did; at most one for a block and a set where each is looked
 /// for before it is begun.
+///
+/// One is found by its block and set in a bucket of those that share it, few of all. One that is finished is struck out,
+/// and swept away with others when there are as many entries as twice the assemblies that there is room for.
 #[derive(Debug, Drop)]
 pub struct Assemblies {
-    items: Vec<Assembly>,
+    // In the order in which they were begun, with those that are struck out.
+    entries: Vec<Entry>,
+    // The place of the newest entry of each bucket, if there is one.
+    buckets: Vec<Option<usize>>,
+    // How many stand, and how many may.
+    waiting: usize,
+    most: usize,
 }
 
 impl Model for Assemblies {
-    ghost use Rattle.std.specs.Prelude.{◌-◌, vec_len, vec_capacity};
+    ghost use Rattle.std.specs.Prelude.{◌≡◌, ◌≤◌, ◌<◌, ◌-◌, ◌*◌, ◌^◌, length, vec_len, vec_capacity};
     ghost use Rattle.gw_chains.specs.Assembling.{Assembling};
+    ghost use Rattle.gw_chains.specs.Register.{standing, AreFiled};
 
     ghost Value = { Assembling };
 
-    ghost view = { λ a. record { items = a.items.items; room = vec_capacity a.items - vec_len a.items } };
+    ghost invariant = { λ a. AreFiled a.entries.items a.buckets.items (length a.entries.items)
+        × (a.waiting ≡ length (standing a.entries.items))
+        × (a.waiting ≤ a.most)
+        × (a.most ≤ 2 ^ 62)
+        × (vec_len a.entries ≤ 2 * a.most)
+        × (2 * a.most ≤ vec_capacity a.entries)
+        × (0 < a.most → 0 < vec_len a.buckets) };
+
+    ghost view = { λ a. record { items = standing a.entries.items; room = a.most - a.waiting } };
 }
 
 impl Assemblies {
@@ -53,7 +64,10 @@ impl Assemblies {
         ensures { result.items ≡ [] }
     {
         Assemblies {
-            items: Vec::new(alloc),
+            entries: Vec::new(alloc),
+            buckets: Vec::new(alloc),
+            waiting: 0,
+            most: 0,
         }
     }
 
@@ -66,22 +80,23 @@ impl Assemblies {
         ensures kept { self.old.room ≤ self.new.room }
         ensures refused { OnErr result (self.old.room < more) }
     {
-        self.items.reserve(more)
+        if more <= self.most - self.waiting {
+            return Ok(());
+        }
+        if MOST - self.waiting < more {
+            return Err(Memory);
+        }
+        let most = grown(self.waiting, more);
+        reserve(&mut self.entries, &mut self.buckets, most)?;
+        self.most = most;
+        Ok(())
     }
 
-    /// The assembly of a set at a block, if one has begun. It looks at one after the other.
+    /// The assembly of a set at a block, if one has begun.
     pub fn find(&self, block: u16, set: u64) -> Option<Assembly>
         ensures { result ≡ find (is_of block set) self.now.items }
     {
-        let place = self.place_of(block, set)?;
-        Some(self.items[place])
-    }
-
-    /// The place of the assembly of a set at a block, if one has begun.
-    fn place_of(&self, block: u16, set: u64) -> Option<usize>
-        ensures { result ≡ position (is_of block set) self.now.items }
-    {
-        self.items.iter().position(|a| a.is_of(block, set))
+        find(&self.entries, &self.buckets, block, set)
     }
 
     /// An assembly begins, in room that `reserve` made.
@@ -90,7 +105,9 @@ impl Assemblies {
         ensures items { self.new.items ≡ self.old.items ++ assembly ∷ [] }
         ensures room { self.old.room ≤ self.new.room + 1 }
     {
-        self.items.push_reserved(assembly);
+        make_way(&mut self.entries, &mut self.buckets, 2 * self.most);
+        add(&mut self.entries, &mut self.buckets, assembly);
+        self.waiting += 1;
     }
 
     /// One more has come to the assembly of a set at a block, which has begun.
@@ -99,10 +116,7 @@ impl Assemblies {
         ensures items { self.new.items ≡ with_first_changed (is_of block set) (λ a. record a { missing = a.missing - 1 }) self.old.items }
         ensures room { self.old.room ≤ self.new.room }
     {
-        if let Some(place) = self.place_of(block, set) {
-            let assembly = &mut self.items[place];
-            assembly.missing = assembly.missing.saturating_sub(1);
-        }
+        count_down(&mut self.entries, &self.buckets, block, set);
     }
 
     /// The last of a set has come to a block: its assembly, which has begun, is taken out and answered.
@@ -112,9 +126,26 @@ impl Assemblies {
         ensures items { self.new.items ≡ without_first (is_of block set) self.old.items }
         ensures room { self.old.room < self.new.room }
     {
-        match self.place_of(block, set) {
-            Some(place) => self.items.remove(place),
+        match strike_out(&mut self.entries, &self.buckets, block, set) {
+            Some(assembly) => {
+                self.waiting -= 1;
+                assembly
+            }
             None => unreachable!(),
         }
+    }
+}
+
+/// How many may stand where so many stand and there has to be room for some more: twice as many, or more.
+fn grown(waiting: usize, more: usize) -> usize
+    requires { waiting + more ≤ 2 ^ 62 }
+    ensures enough { waiting + more ≤ result }
+    ensures bound { result ≤ 2 ^ 62 }
+{
+    let twice = waiting * 2;
+    if twice <= waiting + more || MOST < twice {
+        waiting + more
+    } else {
+        twice
     }
 }

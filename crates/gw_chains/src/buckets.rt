@@ -1,5 +1,5 @@
-//! Events in buckets: all of one time stand in one bucket, each linked to the next. The buckets lie in chunks, and the links
-//! in a slab.
+//! Members in buckets: all of one rank stand in one bucket, each linked to the next. The buckets lie in chunks, and the
+//! links in a slab.
 
 ghost use Rattle.std.specs.Prelude.{◌≡◌, ◌≤◌, ◌<◌, ◌+◌, ◌-◌, ◌^◌, ℕ, [], ◌++◌, All, Some, IfSome, IfNone, option_copied, option_to_list, option_map, length, true, false, OnOk, OnErr};
 ghost use Rattle.std.specs.VecDeque.{deque_len, deque_capacity};
@@ -7,66 +7,70 @@ ghost use Rattle.std.specs.VecDeque.Iter.{deque_iter_rest};
 ghost use Rattle.slab.specs.Slab.{get, slab_len, ContainsKey, HasRoomFor};
 ghost use Rattle.gw_chains.specs.Chain.{in_time, first, rest};
 ghost use Rattle.gw_chains.specs.Chunks.{all_of, rest_of, IsChunk, IsSpare};
-ghost use Rattle.gw_chains.specs.Buckets.{run, events_at, events_of, total, alone, linked_behind, without_first_link, AreBuckets};
+ghost use Rattle.gw_chains.specs.Buckets.{run, members_at, members_of, total, alone, linked_behind, without_first_link, AreBuckets};
 
-use crate::bucket::{Bucket, Link};
+use crate::Memory;
+use crate::bucket::{Bucket, Link, Ranked};
 use crate::chunks::{front, insert, pop_first, set_front};
-use crate::{Event, Memory};
 use slab::Slab;
 use std::collections::{VecDeque, vec_deque};
 
 /// Links another behind the last of a bucket, if there is one.
-fn link_behind(links: &mut Slab<Link>, host: Option<Bucket>, next: usize)
+pub(crate) fn link_behind<T: Ranked>(links: &mut Slab<Link<T>>, host: Option<Bucket>, next: usize)
     requires { IfSome host (λ b. ContainsKey links.old b.last) }
     ensures links { (k : ℕ) → get links.new k ≡ linked_behind host next (get links.old) k }
-    ensures room { (slab_len links.new ≡ slab_len links.old) × (links.new.capacity ≡ links.old.capacity) }
+    ensures room { (slab_len links.new ≡ slab_len links.old)
+        × (links.new.capacity ≡ links.old.capacity) }
 {
     if let Some(bucket) = host {
         links[bucket.last].next = next;
     }
 }
 
-/// The bucket of an event alone, whose link is this one.
-fn alone(event: Event, link: usize) -> Bucket
-    ensures { result ≡ alone event link }
+/// The bucket of a member alone, whose link is this one.
+pub(crate) fn alone<T: Ranked>(member: T, link: usize) -> Bucket
+    ensures { result ≡ alone T.rank member link }
 {
     Bucket {
-        time: event.time,
+        rank: member.rank(),
         first: link,
         last: link,
         count: 1,
     }
 }
 
-/// Puts an event behind all that are scheduled for its time or earlier. There is room.
-pub(crate) fn insert_event(
+/// Puts a member behind all of its rank or a lower one. There is room.
+pub(crate) fn insert_member<T: Ranked>(
     chunks: &mut VecDeque<VecDeque<Bucket>>,
     spare: &mut Vec<VecDeque<Bucket>>,
-    links: &mut Slab<Link>,
-    event: Event,
+    links: &mut Slab<Link<T>>,
+    member: T,
 )
-    requires buckets { AreBuckets (get links.old) (all_of chunks.old.items) }
+    requires buckets { AreBuckets T.rank (get links.old) (all_of chunks.old.items) }
     requires few { total (all_of chunks.old.items) < 2 ^ 62 }
     requires chunks { All IsChunk chunks.old.items }
     requires room { deque_len chunks.old < deque_capacity chunks.old }
     requires spare { (0 < length spare.old.items) × All IsSpare spare.old.items }
     requires links { HasRoomFor links.old 1 }
-    ensures events { events_of (get links.new) (all_of chunks.new.items) ≡ in_time (λ e. e.time) event (events_of (get links.old) (all_of chunks.old.items)) }
-    ensures buckets { AreBuckets (get links.new) (all_of chunks.new.items) }
+    ensures members { members_of (get links.new) (all_of chunks.new.items)
+        ≡ in_time T.rank member (members_of (get links.old) (all_of chunks.old.items)) }
+    ensures buckets { AreBuckets T.rank (get links.new) (all_of chunks.new.items) }
     ensures total { total (all_of chunks.new.items) ≡ total (all_of chunks.old.items) + 1 }
     ensures chunks { All IsChunk chunks.new.items }
     ensures spare { All IsSpare spare.new.items }
-    ensures room { deque_capacity chunks.old - deque_len chunks.old ≤ deque_capacity chunks.new - deque_len chunks.new + 1 }
+    ensures room { deque_capacity chunks.old - deque_len chunks.old
+        ≤ deque_capacity chunks.new - deque_len chunks.new + 1 }
     ensures left { length spare.old.items ≤ length spare.new.items + 1 }
-    ensures links { (slab_len links.new ≡ slab_len links.old + 1) × (links.new.capacity ≡ links.old.capacity) }
+    ensures links { (slab_len links.new ≡ slab_len links.old + 1)
+        × (links.new.capacity ≡ links.old.capacity) }
 {
-    let link = links.insert_reserved(Link { event, next: 0 });
-    let host = insert(chunks, spare, alone(event, link));
+    let link = links.insert_reserved(Link { member, next: 0 });
+    let host = insert(chunks, spare, alone(member, link));
     link_behind(links, host, link);
 }
 
-/// Makes room for the links of so many more events.
-pub(crate) fn reserve_links(links: &mut Slab<Link>, more: usize) -> Result<(), Memory>
+/// Makes room for the links of so many more members.
+pub(crate) fn reserve_links<T: Ranked>(links: &mut Slab<Link<T>>, more: usize) -> Result<(), Memory>
     ensures slots { links.new.slots ≡ links.old.slots }
     ensures room { OnOk result (more ≤ links.new.capacity - slab_len links.new) }
     ensures kept { links.old.capacity ≤ links.new.capacity }
@@ -78,13 +82,13 @@ pub(crate) fn reserve_links(links: &mut Slab<Link>, more: usize) -> Result<(), M
     links.reserve(more)
 }
 
-/// The time of the first event, in clock units, if there is one.
-pub(crate) fn first_time(chunks: &VecDeque<VecDeque<Bucket>>) -> Option<i64>
+/// The rank of the first member, if there is one.
+pub(crate) fn first_rank(chunks: &VecDeque<VecDeque<Bucket>>) -> Option<i64>
     requires { All IsChunk chunks.now.items }
-    ensures { result ≡ option_map (λ b. b.time) (first (all_of chunks.now.items)) }
+    ensures { result ≡ option_map (λ b. b.rank) (first (all_of chunks.now.items)) }
 {
     let bucket = front(chunks)?;
-    Some(bucket.time)
+    Some(bucket.rank)
 }
 
 /// The first bucket, which is this one, loses its first link, behind which `next` is.
@@ -100,7 +104,8 @@ fn shorten(
     ensures items { all_of chunks.new.items ≡ without_first_link next (all_of chunks.old.items) }
     ensures chunks { All IsChunk chunks.new.items }
     ensures spare { All IsSpare spare.new.items }
-    ensures room { deque_capacity chunks.old - deque_len chunks.old ≤ deque_capacity chunks.new - deque_len chunks.new }
+    ensures room { deque_capacity chunks.old - deque_len chunks.old
+        ≤ deque_capacity chunks.new - deque_len chunks.new }
     ensures kept { length spare.old.items ≤ length spare.new.items }
 {
     if 1 < bucket.count {
@@ -115,39 +120,44 @@ fn shorten(
     }
 }
 
-/// Takes the first event, if there is one.
-pub(crate) fn pop_event(
+/// Takes the first member, if there is one.
+pub(crate) fn pop_member<T: Ranked>(
     chunks: &mut VecDeque<VecDeque<Bucket>>,
     spare: &mut Vec<VecDeque<Bucket>>,
-    links: &mut Slab<Link>,
-) -> Option<Event>
-    requires buckets { AreBuckets (get links.old) (all_of chunks.old.items) }
+    links: &mut Slab<Link<T>>,
+) -> Option<T>
+    requires buckets { AreBuckets T.rank (get links.old) (all_of chunks.old.items) }
     requires chunks { All IsChunk chunks.old.items }
     requires spare { All IsSpare spare.old.items }
-    ensures first { result ≡ first (events_of (get links.old) (all_of chunks.old.items)) }
-    ensures rest { events_of (get links.new) (all_of chunks.new.items) ≡ rest (events_of (get links.old) (all_of chunks.old.items)) }
-    ensures buckets { AreBuckets (get links.new) (all_of chunks.new.items) }
-    ensures total { total (all_of chunks.new.items) + length (option_to_list result) ≡ total (all_of chunks.old.items) }
+    ensures first { result ≡ first (members_of (get links.old) (all_of chunks.old.items)) }
+    ensures rest { members_of (get links.new) (all_of chunks.new.items)
+        ≡ rest (members_of (get links.old) (all_of chunks.old.items)) }
+    ensures buckets { AreBuckets T.rank (get links.new) (all_of chunks.new.items) }
+    ensures total { total (all_of chunks.new.items) + length (option_to_list result)
+        ≡ total (all_of chunks.old.items) }
     ensures chunks { All IsChunk chunks.new.items }
     ensures spare { All IsSpare spare.new.items }
-    ensures room { deque_capacity chunks.old - deque_len chunks.old ≤ deque_capacity chunks.new - deque_len chunks.new }
+    ensures room { deque_capacity chunks.old - deque_len chunks.old
+        ≤ deque_capacity chunks.new - deque_len chunks.new }
     ensures kept { length spare.old.items ≤ length spare.new.items }
-    ensures links { (slab_len links.new ≤ slab_len links.old) × (links.new.capacity ≡ links.old.capacity) }
+    ensures links { (slab_len links.new ≤ slab_len links.old)
+        × (links.new.capacity ≡ links.old.capacity) }
 {
     let bucket = *front(chunks)?;
     let link = links.remove(bucket.first);
     shorten(chunks, spare, bucket, link.next);
-    Some(link.event)
+    Some(link.member)
 }
 
-/// The next of so many events, each linked to the next, if one is left.
-pub(crate) fn next_event<'a>(
-    links: &'a Slab<Link>,
+/// The next of so many members, each linked to the next, if one is left.
+pub(crate) fn next_member<'a, T: Ranked>(
+    links: &'a Slab<Link<T>>,
     left: &mut usize,
     at: &mut usize,
-) -> Option<&'a Event>
-    ensures events { events_at (get links.now) (run (get links.now) left.old at.old)
-        ≡ option_to_list (option_copied result) ++ events_at (get links.now) (run (get links.now) left.new at.new) }
+) -> Option<&'a T>
+    ensures members { members_at (get links.now) (run (get links.now) left.old at.old)
+        ≡ option_to_list (option_copied result)
+        ++ members_at (get links.now) (run (get links.now) left.new at.new) }
     ensures end { IfNone result (left.new ≡ 0) }
 {
     if *left == 0 {
@@ -157,7 +167,7 @@ pub(crate) fn next_event<'a>(
         Some(link) => {
             *left -= 1;
             *at = link.next;
-            Some(&link.event)
+            Some(&link.member)
         }
         None => {
             *left = 0;
@@ -179,9 +189,13 @@ fn begin_next<'a>(
     chunk: &mut Option<vec_deque::Iter<'a, Bucket>>,
     chunks: &mut vec_deque::Iter<'a, VecDeque<Bucket>>,
 ) -> bool
-    ensures begun { result ≡ true → all_of (deque_iter_rest chunks.old) ≡ rest_of chunk.new ++ all_of (deque_iter_rest chunks.new) }
-    ensures fewer { result ≡ true → length (deque_iter_rest chunks.old) ≡ length (deque_iter_rest chunks.new) + 1 }
-    ensures end { result ≡ false → (all_of (deque_iter_rest chunks.old) ≡ []) × (rest_of chunk.new ≡ rest_of chunk.old) × (deque_iter_rest chunks.new ≡ []) }
+    ensures begun { result ≡ true
+        → all_of (deque_iter_rest chunks.old) ≡ rest_of chunk.new ++ all_of (deque_iter_rest chunks.new) }
+    ensures fewer { result ≡ true
+        → length (deque_iter_rest chunks.old) ≡ length (deque_iter_rest chunks.new) + 1 }
+    ensures end { result ≡ false → (all_of (deque_iter_rest chunks.old) ≡ [])
+        × (rest_of chunk.new ≡ rest_of chunk.old)
+        × (deque_iter_rest chunks.new ≡ []) }
 {
     match chunks.next() {
         Some(next) => {
@@ -198,7 +212,8 @@ pub(crate) fn next_bucket<'a>(
     chunks: &mut vec_deque::Iter<'a, VecDeque<Bucket>>,
 ) -> Option<&'a Bucket>
     ensures items { rest_of chunk.old ++ all_of (deque_iter_rest chunks.old)
-        ≡ option_to_list (option_copied result) ++ (rest_of chunk.new ++ all_of (deque_iter_rest chunks.new)) }
+        ≡ option_to_list (option_copied result)
+        ++ (rest_of chunk.new ++ all_of (deque_iter_rest chunks.new)) }
     ensures end { IfNone result (rest_of chunk.old ++ all_of (deque_iter_rest chunks.old) ≡ []) }
 {
     loop {

@@ -4,32 +4,50 @@ ghost use Rattle.std.specs.Prelude.{◌≡◌, ◌≤◌, ◌<◌, ◌+◌, [], 
 ghost use Rattle.gw_chains.specs.Chain.{behind, ahead, first, rest};
 ghost use Rattle.gw_chains.specs.declared.tx.Member.{Member};
 
-use crate::queue::{insert_reserved, join_behind};
+use crate::bucket::{Bucket, Link};
+use crate::buckets::reserve_links;
+use crate::row::{insert_ahead, insert_behind, pop_member};
+use crate::tx::MOST;
 use crate::{Member, Memory, Tx};
+use slab::Slab;
 use std::alloc::Global;
 use std::collections::VecDeque;
 use std::marker::Model;
 
 /// The current events chain: the transactions that may move at this clock time, by priority
 /// (GPSS World Reference Manual, "The Transaction Scheduler").
+///
+/// It is kept in buckets, one for each priority that occurs, whose members are linked to one another: so a newcomer among
+/// tens of thousands moves nobody, or the buckets of the priorities on one side of its own where that is new.
 #[derive(Debug, Drop)]
 pub struct Cec {
-    members: VecDeque<Member>,
+    buckets: VecDeque<Bucket>,
+    links: Slab<Link<Member>>,
+    // How many members there are.
+    count: usize,
 }
 
 impl Model for Cec {
-    ghost use Rattle.std.specs.Prelude.{◌-◌};
+    ghost use Rattle.std.specs.Prelude.{◌≡◌, ◌≤◌, ◌-◌, ◌^◌, length, min, neg_ℤ};
     ghost use Rattle.std.specs.VecDeque.{deque_len, deque_capacity};
-    ghost use Rattle.gw_chains.specs.Chain.{Chain, IsByPriority};
+    ghost use Rattle.slab.specs.Slab.{get, slab_len};
+    ghost use Rattle.gw_chains.specs.Chain.{Chain};
+    ghost use Rattle.gw_chains.specs.Lists.{room_of};
+    ghost use Rattle.gw_chains.specs.Buckets.{members_of, total, AreBuckets};
     ghost use Rattle.gw_chains.specs.declared.tx.Member.{Member};
 
     ghost Value = { Chain Member };
 
-    ghost invariant = { λ c. IsByPriority (λ (m : Member). m.priority) c.members.items };
+    ghost invariant = { λ c.
+        AreBuckets (λ (m : Member). neg_ℤ m.priority) (get c.links) c.buckets.items
+        × (c.count ≡ length (members_of (get c.links) c.buckets.items))
+        × (c.count ≡ total c.buckets.items)
+        × (c.count ≤ 2 ^ 62) };
 
     ghost view = { λ c. record {
-      items = c.members.items;
-      room = deque_capacity c.members - deque_len c.members;
+      items = members_of (get c.links) c.buckets.items;
+      room = room_of c.count (min (c.links.capacity - slab_len c.links)
+          (deque_capacity c.buckets - deque_len c.buckets));
     } };
 }
 
@@ -39,7 +57,9 @@ impl Cec {
         ensures { result.items ≡ [] }
     {
         Cec {
-            members: VecDeque::new(alloc),
+            buckets: VecDeque::new(alloc),
+            links: Slab::new(alloc),
+            count: 0,
         }
     }
 
@@ -50,28 +70,37 @@ impl Cec {
         ensures kept { self.old.room ≤ self.new.room }
         ensures refused { OnErr result (self.old.room < more) }
     {
-        self.members.reserve(more)
+        if MOST - self.count < more {
+            return Err(Memory);
+        }
+        reserve_links(&mut self.links, more)?;
+        self.buckets.reserve(more)
     }
 
     /// Puts it behind its peers: behind all of equal or higher priority. There is room.
+    #[tactic(auto, using(crate::proofs::Ranking::behind_by_rank))]
     pub fn insert_behind(&mut self, tx: Tx, priority: i32)
         requires { 0 < self.old.room }
         ensures items { let newcomer : Member = record { tx = tx; priority = priority } in
             self.new.items ≡ behind (λ m. m.priority) newcomer self.old.items }
         ensures room { self.old.room ≤ self.new.room + 1 }
     {
-        join_behind(&mut self.members, tx, priority);
+        let member = Member { tx, priority };
+        insert_behind(&mut self.buckets, &mut self.links, member);
+        self.count += 1;
     }
 
     /// Puts it ahead of its peers: ahead of all of equal or lower priority. There is room.
+    #[tactic(auto, using(crate::proofs::Ranking::ahead_by_rank))]
     pub fn insert_ahead(&mut self, tx: Tx, priority: i32)
         requires { 0 < self.old.room }
         ensures items { let newcomer : Member = record { tx = tx; priority = priority } in
             self.new.items ≡ ahead (λ m. m.priority) newcomer self.old.items }
         ensures room { self.old.room ≤ self.new.room + 1 }
     {
-        let place = self.members.partition_point(|m| priority < m.priority);
-        insert_reserved(&mut self.members, place, Member { tx, priority });
+        let member = Member { tx, priority };
+        insert_ahead(&mut self.buckets, &mut self.links, member);
+        self.count += 1;
     }
 
     /// Takes the first, if there is one.
@@ -80,7 +109,8 @@ impl Cec {
         ensures rest { self.new.items ≡ rest self.old.items }
         ensures room { self.old.room ≤ self.new.room }
     {
-        let member = self.members.pop_front()?;
+        let member = pop_member(&mut self.buckets, &mut self.links)?;
+        self.count -= 1;
         Some(member.tx)
     }
 
@@ -88,13 +118,13 @@ impl Cec {
     pub fn len(&self) -> usize
         ensures { result ≡ length self.now.items }
     {
-        self.members.len()
+        self.count
     }
 
     /// Whether there is no member.
     pub fn is_empty(&self) -> bool
         ensures { result ≡ (length self.now.items == 0) }
     {
-        self.members.is_empty()
+        self.count == 0
     }
 }

@@ -104,7 +104,7 @@ fn host_before<T: Placed>(chunk: &VecDeque<T>, place: usize, newcomer: T) -> Opt
 
 /// Puts a newcomer at its place in a chunk, where there is room. If its like is there, that takes it in, and is answered as
 /// it was.
-fn join<T: Placed>(chunk: &mut VecDeque<T>, newcomer: T) -> Option<T>
+pub(crate) fn join<T: Placed>(chunk: &mut VecDeque<T>, newcomer: T) -> Option<T>
     requires order { IsPartitionedBy (λ y. T.goes_first y newcomer) chunk.old.items }
     requires last { IsHostLast T.goes_first newcomer chunk.old.items }
     requires room { deque_len chunk.old < deque_capacity chunk.old }
@@ -290,7 +290,7 @@ pub(crate) fn pop_first<T: Placed>(
 }
 
 /// Puts another in the place of the first of a chunk.
-fn replace_front<T: Placed>(chunk: &mut VecDeque<T>, other: T)
+pub(crate) fn replace_front<T: Placed>(chunk: &mut VecDeque<T>, other: T)
     requires { 0 < deque_len chunk.old }
     ensures items { chunk.new.items ≡ other ∷ drop 1 chunk.old.items }
     ensures len { deque_len chunk.new ≡ deque_len chunk.old }

@@ -6,7 +6,9 @@ ghost use Rattle.gw_chains.specs.Chain.{in_time, due, first, rest};
 ghost use Rattle.gw_chains.specs.declared.tx.Event.{Event};
 
 use crate::bucket::{Bucket, Link};
-use crate::buckets::{first_time, insert_event, next_bucket, next_event, pop_event, reserve_links};
+use crate::buckets::{
+    first_rank, insert_member, next_bucket, next_member, pop_member, reserve_links,
+};
 use crate::chunks::reserve;
 use crate::tx::MOST;
 use crate::{Event, Memory, Tx};
@@ -27,7 +29,7 @@ pub struct Fec {
     chunks: VecDeque<VecDeque<Bucket>>,
     // What a chunk becomes that is split.
     spare: Vec<VecDeque<Bucket>>,
-    links: Slab<Link>,
+    links: Slab<Link<Event>>,
     scheduled: usize,
 }
 
@@ -37,20 +39,20 @@ impl Model for Fec {
     ghost use Rattle.slab.specs.Slab.{get, slab_len};
     ghost use Rattle.gw_chains.specs.Chain.{Chain};
     ghost use Rattle.gw_chains.specs.Chunks.{all_of, room_beside, IsChunk, IsSpare};
-    ghost use Rattle.gw_chains.specs.Buckets.{events_of, total, AreBuckets};
+    ghost use Rattle.gw_chains.specs.Buckets.{members_of, total, AreBuckets};
     ghost use Rattle.gw_chains.specs.declared.tx.Event.{Event};
 
     ghost Value = { Chain Event };
 
-    ghost invariant = { λ c. AreBuckets (get c.links) (all_of c.chunks.items)
+    ghost invariant = { λ c. AreBuckets (λ (e : Event). e.time) (get c.links) (all_of c.chunks.items)
         × All IsChunk c.chunks.items
         × All IsSpare c.spare.items
-        × (c.scheduled ≡ length (events_of (get c.links) (all_of c.chunks.items)))
+        × (c.scheduled ≡ length (members_of (get c.links) (all_of c.chunks.items)))
         × (c.scheduled ≡ total (all_of c.chunks.items))
         × (c.scheduled ≤ 2 ^ 62) };
 
     ghost view = { λ c. record {
-      items = events_of (get c.links) (all_of c.chunks.items);
+      items = members_of (get c.links) (all_of c.chunks.items);
       room = room_beside c.scheduled (c.links.capacity - slab_len c.links) (length c.spare.items) (deque_capacity c.chunks - deque_len c.chunks);
     } };
 }
@@ -90,7 +92,7 @@ impl Fec {
         ensures room { self.old.room ≤ self.new.room + 1 }
     {
         let event = Event { tx, time };
-        insert_event(&mut self.chunks, &mut self.spare, &mut self.links, event);
+        insert_member(&mut self.chunks, &mut self.spare, &mut self.links, event);
         self.scheduled += 1;
     }
 
@@ -98,7 +100,7 @@ impl Fec {
     pub fn first_time(&self) -> Option<i64>
         ensures { result ≡ option_map (λ e. e.time) (first self.now.items) }
     {
-        first_time(&self.chunks)
+        first_rank(&self.chunks)
     }
 
     /// Takes the first, if it is scheduled for `time`, in clock units, or earlier.
@@ -112,7 +114,7 @@ impl Fec {
         if time < self.first_time()? {
             return None;
         }
-        let event = pop_event(&mut self.chunks, &mut self.spare, &mut self.links)?;
+        let event = pop_member(&mut self.chunks, &mut self.spare, &mut self.links)?;
         self.scheduled -= 1;
         Some(event.tx)
     }
@@ -141,7 +143,7 @@ impl Fec {
 /// The members of a future events chain, in no particular order. Contracts see those that are still to come.
 #[derive(Drop)]
 pub struct Events<'a> {
-    links: &'a Slab<Link>,
+    links: &'a Slab<Link<Event>>,
     // How many of a bucket that was begun are left, and the link of their first.
     left: usize,
     at: usize,
@@ -155,13 +157,13 @@ impl<'a> Model for Events<'a> {
     ghost use Rattle.std.specs.VecDeque.Iter.{deque_iter_rest};
     ghost use Rattle.slab.specs.Slab.{get};
     ghost use Rattle.gw_chains.specs.Chunks.{all_of, rest_of};
-    ghost use Rattle.gw_chains.specs.Buckets.{run, events_at, events_of};
+    ghost use Rattle.gw_chains.specs.Buckets.{run, members_at, members_of};
     ghost use Rattle.gw_chains.specs.declared.tx.Event.{Event};
 
     ghost Value = { List Event };
 
-    ghost view = { λ it. events_at (get it.links.now) (run (get it.links.now) it.left it.at)
-        ++ events_of (get it.links.now) (rest_of it.chunk ++ all_of (deque_iter_rest it.chunks)) };
+    ghost view = { λ it. members_at (get it.links.now) (run (get it.links.now) it.left it.at)
+        ++ members_of (get it.links.now) (rest_of it.chunk ++ all_of (deque_iter_rest it.chunks)) };
 }
 
 impl<'a> Iterator for Events<'a> {
@@ -173,7 +175,7 @@ impl<'a> Iterator for Events<'a> {
 
     fn next(&mut self) -> Option<&'a Event> {
         loop {
-            if let Some(event) = next_event(self.links, &mut self.left, &mut self.at) {
+            if let Some(event) = next_member(self.links, &mut self.left, &mut self.at) {
                 return Some(event);
             }
             match next_bucket(&mut self.chunk, &mut self.chunks) {

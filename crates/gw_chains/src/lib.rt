@@ -13,7 +13,10 @@ mod delay_list;
 mod event_chain;
 mod fec;
 pub mod plain;
+mod priority_chain;
 mod queue;
+mod register;
+mod row;
 mod runs;
 mod tx;
 mod user_chains;
@@ -23,6 +26,7 @@ pub use assemblies::{Assemblies, Assembly};
 pub use cec::Cec;
 pub use event_chain::{EventCall, EventChain, make_calls};
 pub use fec::{Events, Fec};
+pub use priority_chain::{PriorityCall, PriorityChain, make_priority_calls};
 /// The answer where there was no memory.
 pub use std::alloc::AllocError as Memory;
 pub use tx::{Event, Member, Tx};

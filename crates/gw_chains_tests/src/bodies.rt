@@ -1,6 +1,9 @@
-//! Both bodies of the future events chain.
+//! Both bodies of the future events chain and of the current events chain.
 
-use gw_chains::{Event, EventCall, EventChain, Fec, Memory, Tx, make_calls, plain};
+use gw_chains::{
+    Cec, Event, EventCall, EventChain, Fec, Member, Memory, PriorityCall, PriorityChain, Tx,
+    make_calls, make_priority_calls, plain,
+};
 use std::alloc::Global;
 use std::test::Fail;
 
@@ -154,5 +157,68 @@ fn many_leave_a_chain_in_buckets_at_many_times(rt: HostRuntime) -> Result<(), Fa
     let calls = calls_at_many_times(rt.alloc())?;
     let answers = answers_to(rt.alloc(), Fec::new(rt.alloc()), calls.as_slice())?;
     assert!(rt; leave_at_many_times(answers.as_slice()));
+    Ok(())
+}
+
+/// A member of the current events chain.
+fn member(number: u64, priority: i32) -> Member {
+    Member {
+        tx: tx(number),
+        priority,
+    }
+}
+
+/// What a current events chain with no member answers to calls.
+fn priority_answers_to<C: PriorityChain + Drop>(
+    alloc: Global,
+    mut chain: C,
+    calls: &[PriorityCall],
+) -> Result<Vec<Option<Tx>>, Memory> {
+    let mut answers = Vec::new(alloc);
+    make_priority_calls(&mut chain, calls, &mut answers)?;
+    Ok(answers)
+}
+
+/// The calls by which 1, 2 and 4 join behind their peers and 3 ahead of them, and all leave.
+fn few_priority_calls() -> [PriorityCall; 9] {
+    [
+        PriorityCall::InsertBehind(member(1, 0)),
+        PriorityCall::InsertBehind(member(2, 5)),
+        PriorityCall::InsertAhead(member(3, 0)),
+        PriorityCall::InsertBehind(member(4, 5)),
+        PriorityCall::PopFirst,
+        PriorityCall::PopFirst,
+        PriorityCall::PopFirst,
+        PriorityCall::PopFirst,
+        PriorityCall::PopFirst,
+    ]
+}
+
+/// Who leaves by each of these calls.
+fn few_priority_answers() -> [Option<Tx>; 9] {
+    [
+        None,
+        None,
+        None,
+        None,
+        Some(tx(2)),
+        Some(tx(4)),
+        Some(tx(3)),
+        Some(tx(1)),
+        None,
+    ]
+}
+
+#[test]
+fn both_current_events_chains_go_by_priority(rt: HostRuntime) -> Result<(), Fail> {
+    let wanted = few_priority_answers();
+    let plain = priority_answers_to(
+        rt.alloc(),
+        plain::Cec::new(rt.alloc()),
+        &few_priority_calls(),
+    )?;
+    assert!(rt; plain.as_slice() == wanted.as_slice());
+    let in_buckets = priority_answers_to(rt.alloc(), Cec::new(rt.alloc()), &few_priority_calls())?;
+    assert!(rt; in_buckets.as_slice() == wanted.as_slice());
     Ok(())
 }

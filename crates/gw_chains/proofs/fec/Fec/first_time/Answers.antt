@@ -4,11 +4,11 @@ use Rattle.slab.specs.Slab.{get}
 use Rattle.gw_chains.specs.Chain.{Chain, first}
 use Rattle.gw_chains.specs.Chunks.{all_of}
 use Rattle.gw_chains.specs.declared.tx.Event.{Event}
-use Rattle.gw_chains.proofs.Leaving.{first_time_of}
+use Rattle.gw_chains.proofs.Leaving.{first_rank_of}
 use Rattle.gw_chains.proofs.fec.Fec.first_time.Goals as goal
 
 pub returns : goal.returns
 returns c =
-    c.first_time.ensures
-    ∙ first_time_of (get c.self.inside.links) (all_of c.self.inside.chunks.items) c.self.invariant.0
+    c.first_rank.ensures
+    ∙ first_rank_of (λ (e : Event). e.time) (get c.self.inside.links) (all_of c.self.inside.chunks.items) c.self.invariant.0
     ∙ ap (λ (v : Chain Event). option_map (λ (e : Event). e.time) (first v.items)) c.self.view_is

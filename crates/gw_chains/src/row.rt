@@ -1,0 +1,189 @@
+//! Members in buckets that stand in one row: where few ranks occur.
+
+ghost use Rattle.std.specs.Prelude.{◌≡◌, ◌≤◌, ◌<◌, ◌+◌, ◌-◌, ◌^◌, AllPairs, Some, IfSome, length, option_to_list, int_lt};
+ghost use Rattle.std.specs.VecDeque.{deque_len, deque_capacity};
+ghost use Rattle.slab.specs.Slab.{get, slab_len, HasRoomFor};
+ghost use Rattle.gw_chains.specs.Chain.{in_time, placed_behind, first, rest};
+ghost use Rattle.gw_chains.specs.Buckets.{members_of, total, alone, without_first_link, below, IsHead, head_host, headed_by, with_head, Before, AreBuckets};
+
+use crate::bucket::{Bucket, Link, Ranked};
+use crate::buckets::{alone, link_behind};
+use crate::chunks::{join, replace_front};
+use crate::queue::insert_reserved;
+use slab::Slab;
+use std::collections::VecDeque;
+
+/// Puts a member behind all of its rank or a lower one. There is room.
+pub(crate) fn insert_behind<T: Ranked>(
+    row: &mut VecDeque<Bucket>,
+    links: &mut Slab<Link<T>>,
+    member: T,
+)
+    requires buckets { AreBuckets T.rank (get links.old) row.old.items }
+    requires few { total row.old.items < 2 ^ 62 }
+    requires room { deque_len row.old < deque_capacity row.old }
+    requires links { HasRoomFor links.old 1 }
+    ensures members { members_of (get links.new) row.new.items
+        ≡ in_time T.rank member (members_of (get links.old) row.old.items) }
+    ensures buckets { AreBuckets T.rank (get links.new) row.new.items }
+    ensures total { total row.new.items ≡ total row.old.items + 1 }
+    ensures room { (deque_len row.new ≤ deque_len row.old + 1)
+        × (deque_capacity row.old ≤ deque_capacity row.new) }
+    ensures links { (slab_len links.new ≡ slab_len links.old + 1)
+        × (links.new.capacity ≡ links.old.capacity) }
+{
+    let link = links.insert_reserved(Link { member, next: 0 });
+    let host = join(row, alone(member, link));
+    link_behind(links, host, link);
+}
+
+/// Whether a bucket has a lower rank than another.
+fn is_below(one: Bucket, other: Bucket) -> bool
+    ensures { result ≡ below one other }
+{
+    one.rank < other.rank
+}
+
+/// The place before all buckets of a newcomer's rank or a higher one.
+fn place_ahead(row: &VecDeque<Bucket>, newcomer: Bucket) -> usize
+    requires { AllPairs Before row.now.items }
+    ensures within { result ≤ deque_len row.now }
+    ensures place { IsHead newcomer row.now.items result }
+{
+    row.partition_point(|b| is_below(*b, newcomer))
+}
+
+/// The bucket of a newcomer's rank, if there is one, where this is the place before all of its rank or a higher one.
+fn host_at(row: &VecDeque<Bucket>, place: usize, newcomer: Bucket) -> Option<Bucket>
+    requires within { place ≤ deque_len row.now }
+    requires place { IsHead newcomer row.now.items place }
+    ensures { result ≡ head_host newcomer row.now.items }
+{
+    if place == row.len() {
+        return None;
+    }
+    let bucket = row[place];
+    if is_below(newcomer, bucket) {
+        None
+    } else {
+        Some(bucket)
+    }
+}
+
+/// A bucket that took another in before its own.
+fn headed_by(newcomer: Bucket, bucket: Bucket) -> Bucket
+    ensures { result ≡ headed_by newcomer bucket }
+{
+    Bucket {
+        first: newcomer.first,
+        count: bucket.count.saturating_add(1),
+        ..bucket
+    }
+}
+
+/// Puts a newcomer before its host, or at this place where it has none. There is room.
+fn put_ahead(row: &mut VecDeque<Bucket>, place: usize, host: Option<Bucket>, newcomer: Bucket)
+    requires within { place ≤ deque_len row.old }
+    requires place { IsHead newcomer row.old.items place }
+    requires host { host ≡ head_host newcomer row.old.items }
+    requires room { deque_len row.old < deque_capacity row.old }
+    ensures items { row.new.items ≡ with_head newcomer row.old.items }
+    ensures room { (deque_len row.new ≤ deque_len row.old + 1)
+        × (deque_capacity row.old ≤ deque_capacity row.new) }
+{
+    match host {
+        Some(bucket) => {
+            row[place] = headed_by(newcomer, bucket);
+        }
+        None => insert_reserved(row, place, newcomer),
+    }
+}
+
+/// The first link of a bucket, if there is one.
+fn first_link(host: Option<Bucket>) -> usize
+    ensures { IfSome host (λ b. result ≡ b.first) }
+{
+    match host {
+        Some(bucket) => bucket.first,
+        None => 0,
+    }
+}
+
+/// Puts a member ahead of all of its rank or a higher one. There is room.
+pub(crate) fn insert_ahead<T: Ranked>(
+    row: &mut VecDeque<Bucket>,
+    links: &mut Slab<Link<T>>,
+    member: T,
+)
+    requires buckets { AreBuckets T.rank (get links.old) row.old.items }
+    requires few { total row.old.items < 2 ^ 62 }
+    requires room { deque_len row.old < deque_capacity row.old }
+    requires links { HasRoomFor links.old 1 }
+    ensures members { members_of (get links.new) row.new.items
+        ≡ placed_behind (λ x. int_lt (T.rank x) (T.rank member)) member
+        (members_of (get links.old) row.old.items) }
+    ensures buckets { AreBuckets T.rank (get links.new) row.new.items }
+    ensures total { total row.new.items ≡ total row.old.items + 1 }
+    ensures room { (deque_len row.new ≤ deque_len row.old + 1)
+        × (deque_capacity row.old ≤ deque_capacity row.new) }
+    ensures links { (slab_len links.new ≡ slab_len links.old + 1)
+        × (links.new.capacity ≡ links.old.capacity) }
+{
+    let sought = alone(member, 0);
+    let place = place_ahead(row, sought);
+    let host = host_at(row, place, sought);
+    let next = first_link(host);
+    let link = links.insert_reserved(Link { member, next });
+    put_ahead(row, place, host, alone(member, link));
+}
+
+/// The first bucket, if there is one.
+fn front(row: &VecDeque<Bucket>) -> Option<Bucket>
+    ensures { result ≡ first row.now.items }
+{
+    match row.front() {
+        Some(bucket) => Some(*bucket),
+        None => None,
+    }
+}
+
+/// The first bucket, which is this one, loses its first link, behind which `next` is.
+fn shorten(row: &mut VecDeque<Bucket>, bucket: Bucket, next: usize)
+    requires { Some bucket ≡ first row.old.items }
+    ensures items { row.new.items ≡ without_first_link next row.old.items }
+    ensures room { (deque_len row.new ≤ deque_len row.old)
+        × (deque_capacity row.new ≡ deque_capacity row.old) }
+{
+    if 1 < bucket.count {
+        let shorter = Bucket {
+            first: next,
+            count: bucket.count - 1,
+            ..bucket
+        };
+        replace_front(row, shorter);
+    } else {
+        let _ = row.pop_front();
+    }
+}
+
+/// Takes the first member, if there is one.
+pub(crate) fn pop_member<T: Ranked>(
+    row: &mut VecDeque<Bucket>,
+    links: &mut Slab<Link<T>>,
+) -> Option<T>
+    requires { AreBuckets T.rank (get links.old) row.old.items }
+    ensures first { result ≡ first (members_of (get links.old) row.old.items) }
+    ensures rest { members_of (get links.new) row.new.items
+        ≡ rest (members_of (get links.old) row.old.items) }
+    ensures buckets { AreBuckets T.rank (get links.new) row.new.items }
+    ensures total { total row.new.items + length (option_to_list result) ≡ total row.old.items }
+    ensures room { (deque_len row.new ≤ deque_len row.old)
+        × (deque_capacity row.new ≡ deque_capacity row.old) }
+    ensures links { (slab_len links.new ≤ slab_len links.old)
+        × (links.new.capacity ≡ links.old.capacity) }
+{
+    let bucket = front(row)?;
+    let link = links.remove(bucket.first);
+    shorten(row, bucket, link.next);
+    Some(link.member)
+}
