@@ -12,7 +12,7 @@ ghost use Rattle.gw_machine.specs.View.{state_of};
 ghost use Rattle.gw_machine.specs.Coherence.{IsHeld, HasSlot};
 
 use crate::machine::Machine;
-use gw_chains::{Fec, Tx};
+use gw_chains::{Cec, Fec, Tx, Waits};
 use gw_entities::{Facilities, Queues, Savevalues, Storages, Switches, Tables};
 use gw_num::Stream;
 use gw_step::End;
@@ -131,6 +131,20 @@ impl Machine {
         ensures resides { ResidesOnce (state_of self.now) }
     {
         &self.transactions
+    }
+
+    /// The current events chain. The active transaction isn't on it.
+    pub fn current_events(&self) -> &Cec
+        ensures { result.now ≡ self.now.current_events }
+    {
+        &self.current_events
+    }
+
+    /// The delay lists and the retry list.
+    pub fn waits(&self) -> &Waits
+        ensures { result.now ≡ self.now.waits }
+    {
+        &self.waits
     }
 
     /// The future events chain, whose handles lead to its transactions.

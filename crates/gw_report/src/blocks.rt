@@ -9,7 +9,7 @@ use gw_object::Memory;
 use gw_scan::Sim;
 
 /// The word of a block in a model text.
-fn block_word(block: &Block) -> &'static str
+pub fn block_word(block: &Block) -> &'static str
     ensures { result.now ≡ word_of_block block.now }
 {
     match block {

@@ -4,7 +4,7 @@
 mod blocks;
 mod entities;
 mod tables;
-mod text;
+pub mod text;
 
 ghost use Rattle.std.specs.Prelude.{◌≡◌, ◌++◌, OnOk, IfOk};
 ghost use Rattle.gw_report.specs.Report.{
@@ -14,6 +14,7 @@ ghost use Rattle.gw_report.specs.Report.{
   report_of,
 };
 
+pub use blocks::block_word;
 use blocks::put_block_lines;
 use entities::put_entity_lines;
 use gw_object::Memory;
@@ -22,7 +23,7 @@ use std::alloc::Global;
 use text::{put, put_number};
 
 /// How a job stands: the name of its end, if one stands.
-fn status_word(status: Status) -> &'static str
+pub fn status_word(status: Status) -> &'static str
     ensures { result.now ≡ word_of_status status }
 {
     match status {

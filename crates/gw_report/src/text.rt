@@ -7,14 +7,15 @@ use gw_entities::Average;
 use gw_object::Memory;
 use itoa::{Buffer, Integer};
 
-pub(crate) fn put(out: &mut Vec<u8>, text: &str) -> Result<(), Memory>
+/// A text.
+pub fn put(out: &mut Vec<u8>, text: &str) -> Result<(), Memory>
     ensures { OnOk result (out.new.items ≡ out.old.items ++ text.now) }
 {
     out.extend_from_slice(text.as_bytes())
 }
 
 /// A text, and a number after it.
-pub(crate) fn put_number<I: Integer>(out: &mut Vec<u8>, text: &str, number: I) -> Result<(), Memory>
+pub fn put_number<I: Integer>(out: &mut Vec<u8>, text: &str, number: I) -> Result<(), Memory>
     ensures { OnOk result (out.new.items ≡ out.old.items ++ text.now ++ I.text number) }
 {
     let mut buffer = Buffer::new();
@@ -23,7 +24,7 @@ pub(crate) fn put_number<I: Integer>(out: &mut Vec<u8>, text: &str, number: I) -
 }
 
 /// A text, and an average after it, with three digits of thousandths.
-pub(crate) fn put_average(out: &mut Vec<u8>, text: &str, average: Average) -> Result<(), Memory>
+pub fn put_average(out: &mut Vec<u8>, text: &str, average: Average) -> Result<(), Memory>
     ensures { OnOk result (out.new.items ≡ out.old.items ++ text.now ++ average_text average) }
 {
     let thousandths = average.thousandths;

@@ -3,11 +3,11 @@ use Rattle.std.proofs.Common.{[], ◌≡◌, ℕ, ◌^◌, ◌<◌, length, None
 use Rattle.gw_machine.specs.Configuration.{Configuration}
 use Rattle.gw_step.specs.State.{delay_list}
 use Rattle.gw_step.specs.Numbers.{IsWithin, made_in}
-use Rattle.gw_step.specs.Operands.{BlocksFit, MayStep}
-use Rattle.gw_step.specs.Asks.{IsServed}
+use Rattle.gw_step.specs.Operands.{BlocksFit}
 use Rattle.gw_step.specs.Job.{Job, IsReached}
 use Rattle.gw_machine.specs.View.{state_of, member_number}
-use Rattle.gw_machine.specs.Coherence.{IsOf, IsRunning}
+use Rattle.gw_machine.specs.Slots.{greatest_set}
+use Rattle.gw_scan.specs.Visiting.{IsReady}
 use Rattle.gw_num.specs.Table.{at}
 use Rattle.std.proofs.lemmas.List.{length-map}
 use Rattle.gw_step.proofs.Operands.{blocks_fit}
@@ -15,29 +15,26 @@ use Rattle.gw_step.proofs.Suffices.{parameters_suffice}
 use Rattle.gw_step.proofs.Served.{blocks_are_served}
 use Rattle.gw_machine.proofs.Changes.{delay_list-at}
 
-pub running : (j : Job) (m : Configuration) → IsReached (record { job = j; state = state_of m }) → m.ended ≡ None → IsRunning j.parts.blocks m
-running j m r runs =
+pub is_ready : (j : Job) (m : Configuration) → IsReached (record { job = j; state = state_of m }) → m.ended ≡ None → m.last ≡ greatest_set j.parts.blocks → IsReady j.parts m
+is_ready j m r runs slots =
     let numbers = r.bounded.numbers in
     let entities : length m.facilities.facilities ≡ length j.parts.entities = numbers.whole.facilities in
     let few : m.steps < 2 ^ 41 = omega (arith, r.bounded.steps, r.fits.budget_most) in
     record {
-      steady = record {
-        fit = subst (λ (n : ℕ). BlocksFit n j.parts.blocks) (sym entities) (blocks_fit j.parts r.fits.checked r.fits.spelled);
-        within = subst (λ (n : ℕ). IsWithin (length j.parts.blocks) n m.steps (made_in m.steps) (state_of m)) (sym entities) numbers;
-        few = omega (arith, few);
+      running = record {
+        steady = record {
+          fit = subst (λ (n : ℕ). BlocksFit n j.parts.blocks) (sym entities) (blocks_fit j.parts r.fits.checked r.fits.spelled);
+          within = subst (λ (n : ℕ). IsWithin (length j.parts.blocks) n m.steps (made_in m.steps) (state_of m)) (sym entities) numbers;
+          few = omega (arith, few);
+        };
+        few = few;
+        runs = r.bounded.counts runs;
       };
-      few = few;
-      runs = r.bounded.counts runs;
+      own = entities;
+      slots = slots;
+      values = parameters_suffice j.parts (state_of m) r.fits.checked r.fits.spelled r.typed;
+      served = blocks_are_served j.parts (state_of m) r.fits.checked r.typed;
     }
-
-pub is_own : (j : Job) (m : Configuration) → IsReached (record { job = j; state = state_of m }) → IsOf j.parts m
-is_own j m r = r.bounded.numbers.whole.facilities
-
-pub may_step : (j : Job) (m : Configuration) → IsReached (record { job = j; state = state_of m }) → MayStep j.parts (state_of m)
-may_step j m r = parameters_suffice j.parts (state_of m) r.fits.checked r.fits.spelled r.typed
-
-pub is_served : (j : Job) (m : Configuration) → IsReached (record { job = j; state = state_of m }) → IsServed j.parts (state_of m)
-is_served j m r = blocks_are_served j.parts (state_of m) r.fits.checked r.typed
 
 pub waiting-of : (j : Job) (m : Configuration) (e : ℕ) → IsReached (record { job = j; state = state_of m }) → e < length j.parts.entities → length (at [] m.waits.lists e) ≡ length (delay_list e (state_of m))
 waiting-of j m e r below =

@@ -1,16 +1,14 @@
 -- Operands may be evaluated for the active transaction.
-use Rattle.std.proofs.Common.{List, arith}
-use Rattle.gw_blocks.specs.declared.parts.Block.{Block}
-use Rattle.gw_chains.specs.declared.tx.Tx.{Tx}
-use Rattle.gw_transactions.specs.declared.Transaction.{Transaction}
+use Rattle.std.proofs.Common.{arith}
 use Rattle.gw_machine.specs.Configuration.{Configuration}
-use Rattle.gw_machine.specs.Coherence.{IsActive}
 use Rattle.gw_machine.specs.Evaluating.{CanEvaluate, subject_of}
+use Rattle.gw_scan.specs.Visiting.{IsVisit}
+use Rattle.gw_scan.specs.declared.visit.Visit.{Visit}
 use Rattle.gw_step.proofs.Attributes.{number_below}
 use Rattle.gw_step.proofs.Within.{mark_from}
 
-pub can_evaluate_active : (bs : List Block) (m : Configuration) (tx : Tx) (t : Transaction) → IsActive bs m tx t → CanEvaluate m (subject_of tx t)
-can_evaluate_active bs m tx t a =
+pub can_evaluate : (v : Visit) (m : Configuration) → IsVisit v m → CanEvaluate m (subject_of v.tx v.transaction)
+can_evaluate v m a =
     let w = a.steady.within in
     record {
       readable = record {
@@ -23,6 +21,6 @@ can_evaluate_active bs m tx t a =
         clock = w.clock;
       };
       held = a.held;
-      number = omega (arith, number_below m.transactions.txs tx.number t a.found, w.made, a.few);
-      mark = mark_from m.transactions.txs tx.number t w.marked a.found;
+      number = omega (arith, number_below m.transactions.txs v.tx.number v.transaction a.found, w.made, a.few);
+      mark = mark_from m.transactions.txs v.tx.number v.transaction w.marked a.found;
     }

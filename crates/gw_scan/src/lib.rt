@@ -11,6 +11,8 @@ mod scan;
 mod sim;
 mod spec;
 mod subroutines;
+mod views;
+mod visit;
 mod weight;
 
 pub use gw_step::{

@@ -29,8 +29,8 @@ pub enum Status {
 /// A job and its state, which is the one that the job's lone run has after as many steps.
 #[derive(Drop)]
 pub struct Sim {
-    spec: Spec,
-    machine: Machine,
+    pub(crate) spec: Spec,
+    pub(crate) machine: Machine,
 }
 
 impl Model for Sim {

@@ -1,19 +1,13 @@
 //! Subroutines: transfers to them, and back from them.
+#![tactic(auto, unfolding(gw_step::specs::Blocks::act, gw_step::specs::Blocks::effect))]
 
 ghost use Rattle.std.specs.Prelude.{◌≡◌, ◌≤◌};
 ghost use Rattle.gw_step.specs.Blocks as model;
-ghost use Rattle.gw_step.specs.Asks.{MayLead, IsReturn};
-ghost use Rattle.gw_transactions.specs.Transactions.{parameter_at};
-ghost use Rattle.gw_machine.specs.View.{state_of};
-ghost use Rattle.gw_machine.specs.Coherence.{HasSlot, IsActive};
-ghost use Rattle.gw_scan.specs.Makes.{Enters};
+ghost use Rattle.gw_scan.specs.Visiting.{Acts, Meets};
 
-use crate::assigning::assign_and_enter;
-use crate::blocks::transfer;
+use crate::visit::Visit;
 use gw_blocks::{Block, Call};
-use gw_chains::Tx;
 use gw_machine::{Machine, Made};
-use gw_transactions::Transaction;
 
 /// The number of the block after the one whose number a value is.
 fn block_after(value: i64) -> u16
@@ -23,45 +17,26 @@ fn block_after(value: i64) -> u16
     (value + 1) as u16
 }
 
-/// TRANSFER in subroutine mode: a parameter of the transaction is set to the number of the block, and the transaction
-/// goes to the subroutine.
-pub(crate) fn call_subroutine(
-    machine: &mut Machine,
-    blocks: &[Block],
-    tx: Tx,
-    transaction: Transaction,
-    call: Call,
-) -> Made
-    requires active { IsActive blocks.now machine.old tx transaction }
-    requires parameter { HasSlot machine.old call.parameter }
-    requires leads { MayLead blocks.now call.target }
-    ensures made { Enters result tx.number (model.call blocks.now tx.number transaction call) machine.old machine.new }
-{
-    let number = i64::from(transaction.next);
-    assign_and_enter(
-        machine,
-        blocks,
-        tx,
-        transaction,
-        call.target,
-        call.parameter,
-        number,
-    );
-    Made::Step
-}
+impl Visit<'_> {
+    /// TRANSFER in subroutine mode: a parameter of the transaction is set to the number of the block, and the transaction
+    /// goes to the subroutine.
+    pub(crate) fn call_subroutine(&self, machine: &mut Machine, call: Call) -> Made
+        requires { Meets self.now machine.old (Block.TransferToSubroutine call) }
+        ensures { Acts result self.now (Block.TransferToSubroutine call) machine.old machine.new }
+    {
+        let number = i64::from(self.transaction.next);
+        self.assign_and_enter(machine, call.target, call.parameter, number);
+        Made::Step
+    }
 
-/// TRANSFER in parameter mode: the transaction goes to the block after the one whose number is in a parameter of it.
-pub(crate) fn come_back(
-    machine: &mut Machine,
-    blocks: &[Block],
-    tx: Tx,
-    transaction: Transaction,
-    parameter: u8,
-) -> Made
-    requires active { IsActive blocks.now machine.old tx transaction }
-    requires set { IsReturn blocks.now (parameter_at tx.number parameter (state_of machine.old).transactions) }
-    ensures made { Enters result tx.number (model.come_back blocks.now tx.number transaction parameter) machine.old machine.new }
-{
-    let value = machine.parameter(tx, parameter);
-    transfer(machine, blocks, tx, transaction, block_after(value))
+    /// TRANSFER in parameter mode: the transaction goes to the block after the one whose number is in a parameter of it.
+    pub(crate) fn come_back(&self, machine: &mut Machine, parameter: u8) -> Made
+        requires { Meets self.now machine.old (Block.TransferByParameter parameter) }
+        ensures { Acts result self.now (Block.TransferByParameter parameter)
+            machine.old machine.new }
+    {
+        let value = machine.parameter(self.tx, parameter);
+        machine.enter(self.tx, self.transaction, block_after(value));
+        Made::Step
+    }
 }

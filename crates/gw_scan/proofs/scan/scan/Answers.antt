@@ -41,34 +41,29 @@ serves c =
     let found : attributes_at n (state_of c.args.machine.now).transactions ≡ Some t = search rules in
     subst (λ o. IsSomeAnd o (λ block. Asks c.args.verified.now n (state_of c.args.machine.now) block × Leads c.args.verified.now.blocks t.next block)) (there c) (c.requires.served n t active found)
 
-pub act-requires-clause-active : goal.act-requires-clause-active
-act-requires-clause-active c =
+pub act-requires : goal.act-requires
+act-requires c =
     let running = c.requires.running in
-    let held : Holds c.args.machine.now.transactions c.in-Some.tx = search rules in
-    record {
-      steady = running.steady;
-      few = running.few;
-      runs = running.runs;
-      active = sym c.active.ensures.value ∙ c.in-Some.is;
-      held = held;
-      found = c.transaction-transaction.ensures;
-      next = block_below c.args.verified.now.blocks c.transaction-transaction.result.next c.unwrap-block.result.now (there c);
-    }
-
-pub act-requires-clause-slot : goal.act-requires-clause-slot
-act-requires-clause-slot c =
-    omega (arith, slot-within c.args.verified.now.blocks c.transaction-transaction.result.next c.unwrap-block.result.now (there c), c.requires.slots)
-
-pub act-requires-clause-meet : goal.act-requires-clause-meet
-act-requires-clause-meet c =
     let n = c.in-Some.tx.number in
     let t = c.transaction-transaction.result in
+    let block = c.unwrap-block.result.now in
+    let held : Holds c.args.machine.now.transactions c.in-Some.tx = search rules in
     let active : (state_of c.args.machine.now).lists.active ≡ Some n = search rules in
     let found : attributes_at n (state_of c.args.machine.now).transactions ≡ Some t = search rules in
-    c.requires.may n t c.unwrap-block.result.now active found (there c)
-
-pub act-requires-clause-asks : goal.act-requires-clause-asks
-act-requires-clause-asks c = (serves c).0
-
-pub act-requires-clause-leads : goal.act-requires-clause-leads
-act-requires-clause-leads c = (serves c).1
+    record {
+      visit = record {
+        steady = running.steady;
+        few = running.few;
+        runs = running.runs;
+        active = sym c.active.ensures.value ∙ c.in-Some.is;
+        held = held;
+        found = c.transaction-transaction.ensures;
+        next = block_below c.args.verified.now.blocks t.next block (there c);
+      };
+      own = c.requires.own;
+      values = c.requires.values n t block active found (there c);
+      operands = running.steady.fit.operands t.next block (there c);
+      slot = omega (arith, slot-within c.args.verified.now.blocks t.next block (there c), c.requires.slots);
+      asks = (serves c).0;
+      leads = (serves c).1;
+    }

@@ -1,13 +1,11 @@
 use Rattle.std.proofs.Common.{rules, ◌≡◌, ◌∙◌, None, sym, subst}
 use Rattle.gw_object.specs.declared.parts.Parts.{Parts}
-use Rattle.gw_machine.specs.Coherence.{IsRunning}
 use Rattle.gw_step.specs.Job.{Progress, Step}
-use Rattle.gw_step.specs.Operands.{MayStep}
-use Rattle.gw_step.specs.Asks.{IsServed}
 use Rattle.gw_step.proofs.Reached.{reached_more}
 use Rattle.gw_machine.specs.View.{state_of}
 use Rattle.gw_scan.specs.Answers.{StaysPaid}
-use Rattle.gw_scan.proofs.Running.{running, may_step, is_served}
+use Rattle.gw_scan.specs.Visiting.{IsReady}
+use Rattle.gw_scan.proofs.Running.{is_ready}
 use Rattle.gw_scan.proofs.Moments.{stays_paid}
 use Rattle.gw_scan.proofs.sim.Sim.step.Goals as goal
 
@@ -17,16 +15,10 @@ runs c = search rules
 makes : (c : goal.In_ok-step) → Step c.self.inside.spec (state_of c.self.inside.machine) (state_of c.step.new.machine)
 makes c = search rules
 
-pub step-requires-clause-running : goal.step-requires-clause-running
-step-requires-clause-running c =
+pub step-requires-clause-ready : goal.step-requires-clause-ready
+step-requires-clause-ready c =
     let runs : c.self.inside.machine.ended ≡ None = search rules in
-    subst (λ (p : Parts). IsRunning p.blocks c.self.inside.machine) (sym c.verified-verified.ensures.value) (running c.self.inside.spec c.self.inside.machine c.self.invariant.reached runs)
-
-pub step-requires-clause-may : goal.step-requires-clause-may
-step-requires-clause-may c = subst (λ (p : Parts). MayStep p (state_of c.self.inside.machine)) (sym c.verified-verified.ensures.value) (may_step c.self.inside.spec c.self.inside.machine c.self.invariant.reached)
-
-pub step-requires-clause-served : goal.step-requires-clause-served
-step-requires-clause-served c = subst (λ (p : Parts). IsServed p (state_of c.self.inside.machine)) (sym c.verified-verified.ensures.value) (is_served c.self.inside.spec c.self.inside.machine c.self.invariant.reached)
+    subst (λ (p : Parts). IsReady p c.self.inside.machine) (sym c.verified-verified.ensures.value) (is_ready c.self.inside.spec c.self.inside.machine c.self.invariant.reached runs c.self.invariant.slots)
 
 pub invariant_of-self-2 : goal.invariant_of-self-2
 invariant_of-self-2 c = record {
