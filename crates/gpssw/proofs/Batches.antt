@@ -9,7 +9,7 @@ use Rattle.gw_batch.specs.Codes.{words_fault}
 use Rattle.gw_batch.specs.declared.entry.Entry.{Entry as StoredEntry}
 use Rattle.gw_batch.specs.Batch.{seen, entries, unread, most_objects}
 use Rattle.gw_batch.specs.Parts.{IsBatchTold, IsPool}
-use Rattle.gpssw.specs.Output.{AnswersReader}
+use Rattle.gw_console.specs.Output.{AnswersReader}
 use Rattle.gpssw.specs.Framing.{left_of, GivesBatch, LosesEntries, LosesBatch}
 
 -- what was read, and what is left, is what there was

@@ -14,7 +14,7 @@ use Rattle.gw_batch.specs.Codes.{nowhere, service_full}
 use Rattle.gw_batch.specs.declared.entry.Entry.{Entry as StoredEntry}
 use Rattle.gw_batch.specs.declared.entry.Entry.TheVariants as stored
 use Rattle.gw_batch.specs.Batch.{Entry, Object, Broken, Front, front, seen, sized, behind_length, first_entry, surplus, next_entry, with_next, past, entries, unread, most_objects}
-use Rattle.gpssw.specs.Calls.{LosesAtMost}
+use Rattle.gw_console.specs.Calls.{LosesAtMost}
 use Rattle.gpssw.specs.Framing.{left_of, IsFirst, surplus_entry, GivesEntry, GivesBatch}
 
 -- ONE ENTRY

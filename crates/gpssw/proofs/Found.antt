@@ -12,9 +12,9 @@ use Rattle.gw_batch.specs.Codes.{words_fault}
 use Rattle.gw_batch.specs.declared.entry.Entry.{Entry as StoredEntry}
 use Rattle.gw_batch.specs.Batch.{seen}
 use Rattle.gw_batch.specs.Parts.{IsBatchTold, IsPool}
-use Rattle.gpssw.specs.declared.fault.ProgramFault.{ProgramFault}
-use Rattle.gpssw.specs.declared.fault.ProgramFault.TheVariants as faults
-use Rattle.gpssw.specs.Output.{AnswersReader}
+use Rattle.gw_console.specs.declared.fault.ProgramFault.{ProgramFault}
+use Rattle.gw_console.specs.declared.fault.ProgramFault.TheVariants as faults
+use Rattle.gw_console.specs.Output.{AnswersReader}
 use Rattle.gpssw.specs.Framing.{GivesBatch}
 use Rattle.gpssw.proofs.Whole.{answers_reader}
 use Rattle.gpssw.proofs.Batches.{batch_answered, words_answered}

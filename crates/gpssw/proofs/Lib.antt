@@ -1,6 +1,4 @@
-pub mod Numbers
 pub mod ThreeWords
-pub mod Bytes
 pub mod Entries
 pub mod Batches
 pub mod Whole

@@ -1,54 +1,12 @@
--- What a command writes, by what stands in the place of its answer.
-use Rattle.std.proofs.Common.{◌≡◌, ◌≢◌, ◌⊎◌, ℕ, List, [], ◌∷◌, Option, Some, None, Bool, true, false, Result, Ok, Err, IfOk, MatchResult, MatchOption, Contains, inl, inr, refl, sym, subst, arith}
+-- With which statuses the answers of the program end.
+use Rattle.std.proofs.Common.{◌≡◌, ◌⊎◌, ℕ, List, Option, Some, None, Bool, true, false, Result, Ok, Err, MatchResult, MatchOption, inl, inr}
 use Rattle.gw_object.specs.declared.fault.Fault.{Fault}
-use Rattle.gw_object.specs.declared.parts.Parts.{Parts}
-use Rattle.gw_step.specs.Job.{Job}
-use Rattle.gw_answers.specs.declared.answer.Answer.{Answer}
-use Rattle.gpssw.specs.declared.fault.ProgramFault.{ProgramFault}
-use Rattle.gpssw.specs.declared.fault.ProgramFault.TheVariants.{Read, Write, Memory}
-use Rattle.gw_answers.specs.Status.{ended, refused, failed, no_memory}
+use Rattle.gw_answers.specs.Status.{ended, refused}
 use Rattle.gw_verdicts.specs.Refusal.{refusal_line}
-use Rattle.gw_answers.specs.Answer.{Concludes, job_of, object_of, accepted_line}
-use Rattle.gw_answers.specs.Assembly.{IsAssembly, IsWorkOf}
-use Rattle.gw_answers.specs.Requests.{Answering, answering}
-use Rattle.gw_answers.specs.declared.request.Request.{Request}
-use Rattle.gw_answers.specs.declared.request.Request.TheVariants.{Run, Check, Asm}
 use Rattle.gw_batch.specs.Codes.{words_fault}
 use Rattle.gw_batch.specs.Batch.{Entry, entries, most_objects}
 use Rattle.gw_batch.specs.Parts.{status_if, IsBatchTold, IsPool}
-use Rattle.gpssw.specs.Output.{AnswersReader, memory_line, Writes, Fails, Responds, WritesAnswer}
-use Rattle.gpssw.proofs.Bytes.{kept}
-
--- a status of an answer
-abbrev IsEnd : ℕ → Type 0
-IsEnd status = (status ≡ ended) ⊎ (status ≡ refused)
-
--- those of a run, of a check and of an assembly
-run_status : (r : Result Job Fault) (text : List ℕ) (status : ℕ) → MatchResult r (λ j. Concludes j text status) (λ fault. (status ≡ refused) × (text ≡ refusal_line fault)) → IsEnd status
-run_status (Ok j) text status h = inl h.0
-run_status (Err fault) text status h = inr h.0
-
-check_status : (r : Result Parts Fault) (text : List ℕ) (status : ℕ) → MatchResult r (λ p. (status ≡ ended) × (text ≡ accepted_line p)) (λ fault. (status ≡ refused) × (text ≡ refusal_line fault)) → IsEnd status
-check_status (Ok p) text status h = inl h.0
-check_status (Err fault) text status h = inr h.0
-
-work_status : (statements : _) (text : List ℕ) (status : ℕ) → IsWorkOf statements text status → IsEnd status
-work_status statements text status (inl h) = inl h.0
-work_status statements text status (inr h) = inr h.0
-
-assembly_status : (bytes text : List ℕ) (status : ℕ) → IsAssembly bytes text status → IsEnd status
-assembly_status bytes text status (inl h) = work_status h.0 text status h.2
-assembly_status bytes text status (inr h) = inr h.0
-
--- all answers of this kind end so
-abbrev pub Ends : Answering → Type 0
-Ends Answers = (bytes text : List ℕ) (status : ℕ) → Answers bytes text status → IsEnd status
-
--- those to a request
-pub request_ends : (request : Request) → Ends (answering request)
-request_ends (Run seed count) bytes text status h = run_status (job_of seed count bytes) text status h
-request_ends Check bytes text status h = check_status (object_of bytes) text status h
-request_ends Asm bytes text status h = assembly_status bytes text status h
+use Rattle.gw_console.proofs.Outputs.{IsEnd, Ends}
 
 -- and those to a batch
 by_refused : (refused : Bool) (status : ℕ) → status ≡ status_if refused → IsEnd status
@@ -61,49 +19,3 @@ batch_status (Some fault) es text status h = inr h.0
 
 pub pool_ends : (workers slice : ℕ) → Ends (IsPool workers slice)
 pool_ends workers slice bytes text status h = batch_status (words_fault workers slice) (entries most_objects bytes) text status h
-
--- the statuses of a command
-abbrev Statuses : ℕ → Type 0
-Statuses status = Contains (ended ∷ refused ∷ failed ∷ no_memory ∷ []) status
-
-of_answer : (status : ℕ) → IsEnd status → Statuses status
-of_answer status (inl h) = (0, omega arith, sym h)
-of_answer status (inr h) = (1, omega arith, sym h)
-
-of_failed : (status : ℕ) → status ≡ failed → Statuses status
-of_failed status h = (2, omega arith, sym h)
-
-of_memory : (status : ℕ) → status ≡ no_memory → Statuses status
-of_memory status h = (3, omega arith, sym h)
-
-module _ (Answers : Answering) (ends : Ends Answers) (known : Option (List ℕ)) where
-  pub answer_statuses : (r : Result Answer ProgramFault) → IfOk r (λ a. AnswersReader Answers known a.text.items a.status) → IfOk r (λ a. (a.status ≡ ended) ⊎ (a.status ≡ refused))
-  answer_statuses (Ok a) answer = ends answer.0 a.text.items a.status answer.2
-  answer_statuses (Err fault) answer = tt
-
-module _ (Answers : Answering) (ends : Ends Answers) (known : Option (List ℕ)) (status : ℕ) (old new : Option (List ℕ)) where
-  pub output : (r : Result Answer ProgramFault) → IfOk r (λ a. AnswersReader Answers known a.text.items a.status)
-      → MatchResult r (λ a. Writes a.text.items a.status status old new) (λ fault. Fails fault status old new) → Responds Answers known status old new
-  output (Ok a) answer h = (a.text.items, a.status, inl answer, h)
-  output (Err Memory) answer h = (memory_line, no_memory, inr (inl (refl, refl)), h)
-  output (Err Read) answer h = ([], failed, inr (inr (refl, refl)), inl (h.0, kept old new h.1))
-  output (Err Write) answer h = ([], failed, inr (inr (refl, refl)), inl (h.0, kept old new h.1))
-
-  pub answered : (r : Result Answer ProgramFault) → IfOk r (λ a. AnswersReader Answers known a.text.items a.status)
-      → MatchResult r (λ a. Writes a.text.items a.status status old new) (λ fault. Fails fault status old new)
-      → status ≢ failed → status ≢ no_memory → WritesAnswer Answers known status old new
-  answered (Ok a) answer (inl h) whole enough = (a.text.items, subst (λ s. AnswersReader Answers known a.text.items s) (sym h.0) answer, h.1)
-  answered (Ok a) answer (inr h) whole enough = absurd (whole h.0)
-  answered (Err Memory) answer (inl h) whole enough = absurd (enough h.0)
-  answered (Err Memory) answer (inr h) whole enough = absurd (whole h.0)
-  answered (Err Read) answer h whole enough = absurd (whole h.0)
-  answered (Err Write) answer h whole enough = absurd (whole h.0)
-
-  pub statuses : (r : Result Answer ProgramFault) → IfOk r (λ a. AnswersReader Answers known a.text.items a.status)
-      → MatchResult r (λ a. Writes a.text.items a.status status old new) (λ fault. Fails fault status old new) → Statuses status
-  statuses (Ok a) answer (inl h) = subst Statuses (sym h.0) (of_answer a.status (ends answer.0 a.text.items a.status answer.2))
-  statuses (Ok a) answer (inr h) = of_failed status h.0
-  statuses (Err Memory) answer (inl h) = of_memory status h.0
-  statuses (Err Memory) answer (inr h) = of_failed status h.0
-  statuses (Err Read) answer h = of_failed status h.0
-  statuses (Err Write) answer h = of_failed status h.0

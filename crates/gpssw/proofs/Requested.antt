@@ -4,7 +4,8 @@ use Rattle.gw_answers.specs.Requests as requests
 use Rattle.gw_answers.specs.declared.request.Request.{Request}
 use Rattle.gpssw.specs.declared.words.Command.{Command}
 use Rattle.gpssw.specs.declared.words.Command.TheVariants.{Single}
-use Rattle.gpssw.specs.Output.{answering, Responds}
+use Rattle.gw_console.specs.Output.{Responds}
+use Rattle.gpssw.specs.Output.{answering}
 
 pub single : (request asked : Request) (command : Command) (known : Option (List ℕ)) (result : ℕ) (old new : Option (List ℕ)) → command ≡ Single request → request ≡ asked
     → Responds (requests.answering asked) known result old new → Responds (answering command) known result old new

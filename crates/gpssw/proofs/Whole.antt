@@ -14,7 +14,7 @@ use Rattle.gw_answers.specs.Assembly.{IsAssembly, IsRefusedText, HasStatements}
 use Rattle.gw_answers.specs.Requests.{answering}
 use Rattle.gw_answers.specs.declared.request.Request.{Request}
 use Rattle.gw_answers.specs.declared.request.Request.TheVariants.{Run, Check, Asm}
-use Rattle.gpssw.specs.Output.{AnswersReader}
+use Rattle.gw_console.specs.Output.{AnswersReader}
 
 too_long : (bytes : List ℕ) → nat_lt MOST_BYTES (length bytes) ≡ true → first_fault bytes ≡ Err (record { code = limit; place = Byte 0 })
 unfolding first_fault

@@ -1,5 +1,4 @@
 pub mod Words
 pub mod Output
-pub mod Input
 pub mod Framing
 pub mod Calls

@@ -3,13 +3,12 @@
 ghost use Rattle.std.specs.Prelude.{◌≡◌, ◌≤◌, ◌<◌, ◌+◌, ◌⊎◌, ◌++◌, ◌∷◌, [], Some, length, IfOk, IfErr, false};
 ghost use Rattle.gw_batch.specs.Codes.{nowhere};
 ghost use Rattle.gw_batch.specs.Batch.{sized, first_entry, surplus};
-ghost use Rattle.gpssw.specs.Calls.{LosesAtMost, TellsReads};
+ghost use Rattle.gw_console.specs.Calls.{LosesAtMost, TellsReads};
 ghost use Rattle.gpssw.specs.Framing.{surplus_entry, GivesEntry, GivesBatch, most_bytes_of_batch};
 
-use crate::fault::ProgramFault;
-use crate::input::read_front;
 use byteorder::{BigEndian, ByteOrder};
 use gw_batch::{Entry, LENGTH_BYTES, MOST_OBJECTS, SERVICE_FULL};
+use gw_console::{ProgramFault, read_front};
 use gw_object::{Fault, MOST_BYTES, Place, codes};
 use gw_streams::Input;
 use std::alloc::Global;

@@ -1,18 +1,15 @@
 //! The program `gpssw`: simulates queueing models in GPSS World (docs/program.md).
 #![tactic(auto)]
 
-pub mod fault;
 pub mod framing;
-pub mod input;
-pub mod output;
 pub mod program;
 #[cfg(test)]
 mod tests;
 pub mod words;
 
-use fault::ProgramFault;
+use gw_console::{ProgramFault, deliver};
 use gw_streams::{Input, Output};
-use program::{deliver, dispatch};
+use program::dispatch;
 use std::alloc::AllocError;
 use std::process::ExitCode;
 use std::{env, io};

@@ -10,64 +10,24 @@ ghost use Rattle.gw_answers.specs.Assembly.{IsAssembly};
 ghost use Rattle.gw_batch.specs.Codes.{words_fault};
 ghost use Rattle.gw_batch.specs.Parts.{IsPool};
 ghost use Rattle.gpssw.specs.Words.{command_in};
-ghost use Rattle.gpssw.specs.Output.{usage_line, memory_line, answering, AnswersReader, Writes, Fails, Responds, WritesAnswer};
+ghost use Rattle.gw_console.specs.Output.{memory_line, AnswersReader, Writes, Responds, WritesAnswer};
+ghost use Rattle.gw_console.specs.Calls.{LosesFront, LosesAtMost, TellsReads, TellsCalls};
+ghost use Rattle.gpssw.specs.Output.{usage_line, answering};
 ghost use Rattle.gpssw.specs.Framing.{LosesBatch, most_bytes_of_batch};
-ghost use Rattle.gpssw.specs.Calls.{LosesFront, LosesAtMost, TellsReads, wanted_status, EndsWith, TellsCalls, TellsPoolCalls, tells_calls};
+ghost use Rattle.gpssw.specs.Calls.{TellsPoolCalls, tells_calls};
 
-use crate::fault::ProgramFault;
 use crate::framing::read_batch;
-use crate::input::read_input;
-use crate::output::write_text;
 use crate::words::{Command, command_of};
-use gw_answers::status::{FAILED, NO_MEMORY, WRONG_WORDS};
+use gw_answers::status::WRONG_WORDS;
 use gw_answers::{Answer, Request, answer_to, refused};
 use gw_batch::{answer_batch, refusal_of_words};
+use gw_console::{ProgramFault, deliver, or_no_memory, read_input, write_and_end};
 use gw_object::{MOST_BYTES, Memory};
 use gw_streams::{Input, Output};
 use std::alloc::Global;
 use std::io::{Read, Write};
 use std::sync::Wait;
 use std::thread::Threads;
-
-/// Writes a text, and answers its status, or 3 where a write failed.
-fn write_and_end<W: Write>(writer: &mut Output<W>, text: &[u8], status: u8) -> u8
-    requires { writer.old.failed ≡ false }
-    ensures bytes { Writes text.now status result writer.old.held writer.new.held }
-    ensures told { EndsWith status result writer.new.failed }
-    ensures flushed { result ≢ failed → writer.new.waits ≡ false }
-{
-    match write_text(writer, text) {
-        Ok(()) => status,
-        Err(_) => FAILED,
-    }
-}
-
-/// Writes an answer, or the line on want of memory; where a read failed, nothing. It answers the status.
-pub fn deliver<W: Write>(writer: &mut Output<W>, answer: Result<Answer, ProgramFault>) -> u8
-    requires { writer.old.failed ≡ false }
-    ensures bytes { MatchResult answer
-        (λ a. Writes a.text.items a.status result writer.old.held writer.new.held)
-        (λ fault. Fails fault result writer.old.held writer.new.held) }
-    ensures told { EndsWith (wanted_status answer) result writer.new.failed }
-    ensures flushed { result ≢ failed → writer.new.waits ≡ false }
-{
-    match answer {
-        Ok(Answer { text, status }) => write_and_end(writer, &text, status),
-        Err(ProgramFault::Memory) => write_and_end(writer, b"refused 8 Memory\n", NO_MEMORY),
-        Err(ProgramFault::Read) => FAILED,
-        Err(ProgramFault::Write) => FAILED,
-    }
-}
-
-/// An answer, or that memory ran out.
-fn or_no_memory(answer: Result<Answer, Memory>) -> Result<Answer, ProgramFault>
-    ensures { MatchResult answer (λ a. result ≡ Ok a) (λ _. result ≡ Err ProgramFault.Memory) }
-{
-    match answer {
-        Ok(answer) => Ok(answer),
-        Err(_) => Err(ProgramFault::Memory),
-    }
-}
 
 /// Reads all that is to be read, and then answers it.
 fn read_and_answer<R: Read>(

@@ -1,13 +1,13 @@
 //! The words of the program's command line.
 
 ghost use Rattle.std.specs.Prelude.{◌≡◌, ◌^◌, map};
-ghost use Rattle.std.specs.List.{list_all};
-ghost use Rattle.std.specs.Char.{is_ascii_digit};
 ghost use Rattle.std.specs.String.{string_bytes};
 ghost use Rattle.gpssw.specs.Words as words;
-ghost use Rattle.gpssw.specs.Words.{is_number as spells_number, number_below, run_of, pool_of, command_named as named_by, command_in};
+ghost use Rattle.gw_numerals.specs.Numerals.{number_below};
+ghost use Rattle.gpssw.specs.Words.{run_of, pool_of, command_named as named_by, command_in};
 
 use gw_answers::Request;
+use gw_numerals::{count_in, number_in};
 
 /// A command of the program.
 #[derive(Clone, Copy, Debug, PartialEq, Eq)]
@@ -21,41 +21,6 @@ pub enum Command {
         /// How many steps a slice of a worker has.
         slice: u32,
     },
-}
-
-fn are_digits(bytes: &[u8]) -> bool
-    ensures { result ≡ list_all is_ascii_digit bytes.now }
-{
-    bytes.iter().all(|byte| byte.is_ascii_digit())
-}
-
-/// Decimal digits alone, one or more.
-fn is_number(word: &str) -> bool
-    ensures { result ≡ spells_number word.now }
-{
-    !word.is_empty() && are_digits(word.as_bytes())
-}
-
-/// The number that a word of decimal digits alone spells, if it is below 2^64.
-fn count_in(word: &str) -> Option<u64>
-    ensures { result ≡ number_below (2 ^ 64) word.now }
-{
-    if is_number(word) {
-        word.parse().ok()
-    } else {
-        None
-    }
-}
-
-/// The number that a word of decimal digits alone spells, if it is below 2^32.
-fn number_in(word: &str) -> Option<u32>
-    ensures { result ≡ number_below (2 ^ 32) word.now }
-{
-    if is_number(word) {
-        word.parse().ok()
-    } else {
-        None
-    }
 }
 
 /// The command `run`, where both words spell numbers in range.

@@ -32,8 +32,8 @@ pub struct Answer {
     pub status: u8,
 }
 
-/// Makes steps until a named end stands.
-fn run_to_end(sim: &mut Sim) -> Result<(), Memory>
+/// Makes steps until a named end stands, in a job with this budget.
+pub fn run_to_end(sim: &mut Sim) -> Result<(), Memory>
     requires { sim.old.job.budget ≡ BUDGET }
     ensures job { sim.new.job ≡ sim.old.job }
     ensures alone { Alone sim.new.job sim.new.state.steps sim.new.state }
@@ -160,7 +160,7 @@ fn run_of(alloc: Global, seed: u32, count: u64, input: &[u8]) -> Result<Answer, 
 
 /// The accepted object that the bytes spell.
 #[tactic(auto, unfolding(crate::specs::Answer::object_of))]
-fn accepted_in(alloc: Global, input: &[u8]) -> Result<Verified, NoJob>
+pub fn accepted_in(alloc: Global, input: &[u8]) -> Result<Verified, NoJob>
     ensures { FindsJob result (object_of input.now) }
 {
     let object = object_in(alloc, input)?;
@@ -168,7 +168,7 @@ fn accepted_in(alloc: Global, input: &[u8]) -> Result<Verified, NoJob>
 }
 
 /// The line of an accepted object, and the status.
-fn accepted(alloc: Global, verified: &Verified) -> Result<Answer, Memory>
+pub fn accepted(alloc: Global, verified: &Verified) -> Result<Answer, Memory>
     ensures { IfOk result (λ a. (a.status ≡ ended_status) × (a.text.items ≡ accepted_line verified.now)) }
 {
     let acceptance = Acceptance {

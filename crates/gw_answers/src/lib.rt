@@ -7,6 +7,8 @@ mod laws;
 mod request;
 pub mod status;
 
-pub use answer::{Answer, BUDGET, NoJob, answer_to, refused, spec_of};
+pub use answer::{
+    Answer, BUDGET, NoJob, accepted, accepted_in, answer_to, refused, run_to_end, spec_of,
+};
 pub use laws::answers_are_determined;
 pub use request::Request;

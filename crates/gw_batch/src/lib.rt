@@ -11,4 +11,5 @@ mod ticket;
 
 pub use answer::answer_batch;
 pub use entry::{Entry, LENGTH_BYTES, MOST_OBJECTS};
-pub use refusals::{SERVICE_FULL, refusal_of_words};
+pub use refusals::{SERVICE_FULL, refusal_of_job, refusal_of_words};
+pub use telling::reply_to;

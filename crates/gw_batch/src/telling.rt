@@ -28,7 +28,7 @@ pub struct Told {
 }
 
 /// The reply to a pass, whose report is that of the final state of the job's lone run.
-fn reply_to<R: Ledger, S: Ledger, W: Wait>(
+pub fn reply_to<R: Ledger, S: Ledger, W: Wait>(
     rt: &W,
     alloc: Global,
     table: &Mutex<Shared<R, S>>,

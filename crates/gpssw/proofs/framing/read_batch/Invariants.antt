@@ -1,5 +1,5 @@
 use Rattle.std.proofs.Common.{◌≡◌, ◌-◌, ◌*◌}
-use Rattle.gpssw.specs.Calls.{LosesAtMost}
+use Rattle.gw_console.specs.Calls.{LosesAtMost}
 use Rattle.gpssw.proofs.Entries.{GoesOn}
 use Rattle.gpssw.proofs.framing.read_batch.Given as goal
 

@@ -1,5 +1,5 @@
 use Rattle.std.proofs.Common.{◌∙◌, sym}
-use Rattle.gpssw.proofs.Calls.{of_writing}
+use Rattle.gw_console.proofs.Calls.{of_writing}
 use Rattle.gpssw.proofs.program.dispatch.Goals as goal
 
 pub returns-in-None-clause-calls : goal.returns-in-None-clause-calls

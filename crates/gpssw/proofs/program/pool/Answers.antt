@@ -1,4 +1,5 @@
-use Rattle.gpssw.proofs.Outputs.{output, answered, statuses, answer_statuses, pool_ends}
+use Rattle.gw_console.proofs.Outputs.{output, answered, statuses, answer_statuses}
+use Rattle.gpssw.proofs.Outputs.{pool_ends}
 use Rattle.gpssw.proofs.Calls.{of_batch}
 use Rattle.gpssw.proofs.program.pool.Goals as goal
 

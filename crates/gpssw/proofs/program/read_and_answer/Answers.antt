@@ -1,4 +1,4 @@
-use Rattle.gpssw.proofs.Bytes.{front_lost}
+use Rattle.gw_console.proofs.Bytes.{front_lost}
 use Rattle.gpssw.proofs.Found.{front_answered, on_ok}
 use Rattle.gpssw.proofs.program.read_and_answer.Goals as goal
 

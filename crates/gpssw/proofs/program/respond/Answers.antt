@@ -1,5 +1,5 @@
-use Rattle.gpssw.proofs.Outputs.{output, answered, statuses, answer_statuses, request_ends}
-use Rattle.gpssw.proofs.Calls.{of_reading}
+use Rattle.gw_console.proofs.Outputs.{output, answered, statuses, answer_statuses, request_ends}
+use Rattle.gw_console.proofs.Calls.{of_reading}
 use Rattle.gpssw.proofs.program.respond.Goals as goal
 
 pub returns-clause-answered : goal.returns-clause-answered

@@ -3,8 +3,8 @@ use Rattle.std.proofs.Common.{◌≡◌, ◌≤◌, ◌+◌, ℕ, List, [], ◌+
 use Rattle.std.proofs.lemmas.List.{take_at, take_all}
 use Rattle.std.specs.Io.KnownBytes.{Consumes, IsAtEnd, Appends, Keeps}
 use Rattle.std.proofs.KnownBytes.{Consumes-trans}
-use Rattle.gpssw.specs.Input.{TakesSome}
-use Rattle.gpssw.specs.Calls.{LosesFront, LosesAtMost}
+use Rattle.gw_console.specs.Input.{TakesSome}
+use Rattle.gw_console.specs.Calls.{LosesFront, LosesAtMost}
 
 -- a reader that is at its end gave all of its bytes
 pub ended : (most : ℕ) (before after : Option (List ℕ)) (got : List ℕ) → length got ≤ most → Consumes before after got → IsAtEnd after → IfSome before (λ xs. got ≡ take most xs)

@@ -1,6 +1,6 @@
 use Rattle.std.proofs.Common.{arith}
-use Rattle.gpssw.proofs.Bytes.{filled, last_read, lost_more}
-use Rattle.gpssw.proofs.input.read_front.Goals as goal
+use Rattle.gw_console.proofs.Bytes.{filled, last_read, lost_more}
+use Rattle.gw_console.proofs.input.read_front.Goals as goal
 
 pub returns-then-branch-eq0-clause-front : goal.returns-then-branch-eq0-clause-front
 returns-then-branch-eq0-clause-front g c =

@@ -3,7 +3,7 @@
 ghost use Rattle.std.specs.Prelude.{◌≡◌, ◌<◌, ◌≤◌, false, length, take, OnOk, MatchResult};
 ghost use Rattle.std.specs.Io.KnownBytes.{Appends, Keeps};
 ghost use Rattle.gw_streams.specs.Streams.{MarksFailure};
-ghost use Rattle.gpssw.specs.Output.{AppendsFront};
+ghost use Rattle.gw_console.specs.Output.{AppendsFront};
 
 use crate::fault::ProgramFault;
 use gw_streams::Output;

@@ -2,8 +2,8 @@
 
 ghost use Rattle.std.specs.Prelude.{◌≡◌, ◌≤◌, ◌<◌, ◌+◌, ◌⊎◌, false, take, length, IfOk, IfErr, IfSome};
 ghost use Rattle.std.specs.Io.KnownBytes.{Consumes, IsAtEnd};
-ghost use Rattle.gpssw.specs.Input.{TakesSome};
-ghost use Rattle.gpssw.specs.Calls.{LosesAtMost, TellsReads};
+ghost use Rattle.gw_console.specs.Input.{TakesSome};
+ghost use Rattle.gw_console.specs.Calls.{LosesAtMost, TellsReads};
 
 use crate::fault::ProgramFault;
 use gw_object::MOST_BYTES;

@@ -1,0 +1,13 @@
+//! What programs of this repository have in common: they read all of an input, answer it, write the answer whole or a front of it,
+//! and end with a status that tells what became of both (docs/program.md).
+#![tactic(auto)]
+
+mod delivering;
+mod fault;
+mod input;
+mod output;
+
+pub use delivering::{deliver, or_no_memory, write_and_end};
+pub use fault::ProgramFault;
+pub use input::{read_front, read_input};
+pub use output::write_text;
