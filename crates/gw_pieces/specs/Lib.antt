@@ -10,4 +10,5 @@ pub mod Pieces
 pub mod Order
 pub mod Notes
 pub mod Reasons
+pub mod Lines
 pub mod Making

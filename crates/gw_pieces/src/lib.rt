@@ -6,10 +6,12 @@ mod compiling;
 mod entities;
 mod initials;
 pub mod laws;
+mod lines;
 mod naming;
 mod order;
 mod origins;
 mod pieces;
 mod settings;
 
+pub use lines::procedure_lines;
 pub use pieces::parts_of;

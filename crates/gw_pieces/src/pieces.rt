@@ -37,7 +37,7 @@ const OUT_OF_MEMORY: Fault = Fault {
 };
 
 /// The line of the statement of an origin.
-fn line_of(text: &Model, origin: Origin) -> u32
+pub(crate) fn line_of(text: &Model, origin: Origin) -> u32
     ensures { result ≡ reasons.line_of (slice_get text.now.statements.items origin.statement) }
 {
     match text.statements.get(origin.statement) {
@@ -75,7 +75,7 @@ fn placed(
 }
 
 /// The origins in the order of their procedures. One that is too many is noted.
-fn order_of(
+pub(crate) fn order_of(
     alloc: Global,
     text: &Model,
     known: &Known,

@@ -11,4 +11,5 @@ mod settling;
 mod table;
 mod written;
 
-pub use settling::settle;
+pub use settling::{settle, table_of};
+pub use written::Written;

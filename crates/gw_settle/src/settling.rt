@@ -41,8 +41,9 @@ fn fault_of(stop: Stop) -> Fault
     }
 }
 
-/// The assembler's state table of an object, as an object has it.
-fn table_of(alloc: Global, parts: &Parts) -> Result<Written, Fault>
+/// The assembler's state table of an object of which kinds pass, as an object has it, also where flow refuses it. It is refused
+/// with 82 Limit at Nowhere where the table passes a limit of the object format, or with 8 Memory at Nowhere.
+pub fn table_of(alloc: Global, parts: &Parts) -> Result<Written, Fault>
     requires { IsWell parts.now }
     ensures table { IfOk result (λ table. model.IsTableOf parts.now table) }
     ensures refused { IfErr result model.IsNoFlowFault }

@@ -38,7 +38,7 @@ impl From<AllocError> for Stop {
 
 /// A state table, as an object has it.
 #[derive(Debug, Drop)]
-pub(crate) struct Written {
+pub struct Written {
     /// The return rows.
     pub returns: Items<ReturnRow>,
     /// The rows of the blocks.

@@ -1,0 +1,38 @@
+-- What explaining a model text comes to: a text and a status.
+use Rattle.std.specs.Prelude.{◌≡◌, ◌⊎◌, ℕ, List, ◌++◌}
+use Rattle.std.specs.Str.Lines.{lines as lines_of_text}
+use Rattle.gw_object.specs.declared.fault.Fault.{Fault}
+use Rattle.gw_object.specs.declared.parts.Parts.{Parts}
+use Rattle.gw_verify.specs.Checks.{Accepted}
+use Rattle.gw_text.specs.declared.model.Statement.{Statement}
+use Rattle.gw_assemble.specs.Assembly.{Assembles, IsRefusal}
+use Rattle.gw_answers.specs.Status.{ended, refused}
+use Rattle.gw_answers.specs.Answer.{accepted_line}
+use Rattle.gw_answers.specs.Assembly.{HasStatements, IsRefusedText}
+use Rattle.gw_verdicts.specs.Refusal.{refusal_line}
+use Rattle.gw_explain.specs.Shown.{Sites, sites_of, no_sites, shown_lines}
+
+-- a text begins with this
+pub record Begins (front text : List ℕ) : Type 0 where
+  pub rest : List ℕ
+  pub whole : text ≡ front ++ rest
+
+-- the explanation of a refusal: its line, the lines that it is about, and words
+abbrev pub ExplainsRefusal : List ℕ → Sites → Fault → List ℕ → Type 0
+ExplainsRefusal bytes sites fault text = Begins (refusal_line fault ++ shown_lines (lines_of_text bytes) sites fault.place) text
+
+-- that of an accepted model: its line, and words
+abbrev pub ExplainsModel : List Statement → List ℕ → Type 0
+ExplainsModel ss text = (object : Parts) × Assembles ss object × Accepted object × Begins (accepted_line object) text
+
+-- what the statements of a text come to
+abbrev pub IsExplainedModel : List ℕ → List Statement → List ℕ → ℕ → Type 0
+IsExplainedModel bytes ss text status =
+    ((status ≡ ended) × ExplainsModel ss text)
+    ⊎ ((status ≡ refused) × ((fault : Fault) × IsRefusal ss fault × ExplainsRefusal bytes (sites_of ss) fault text))
+
+-- the text and the status for these bytes: of a model that reading them may answer, or of the text's refusal
+abbrev pub IsExplained : List ℕ → List ℕ → ℕ → Type 0
+IsExplained bytes text status =
+    ((ss : List Statement) × HasStatements bytes ss × IsExplainedModel bytes ss text status)
+    ⊎ ((status ≡ refused) × ((fault : Fault) × IsRefusedText bytes fault × ExplainsRefusal bytes no_sites fault text))

@@ -1,0 +1,73 @@
+-- The lines of a model text that a refusal is about, as they are shown.
+use Rattle.std.specs.Prelude.{ℕ, zero, suc, List, [], ◌∷◌, ◌++◌, Option, Some, None, codes, take, slice_get, unwrap_or, ◌==◌, if◌then◌else◌}
+use Rattle.std.specs.Fmt.{decimal}
+use Rattle.gw_object.specs.declared.fault.Place.{Place}
+use Rattle.gw_object.specs.declared.fault.Place.TheVariants.{Byte, Entity, Code, Row, Block, Edge, Chain, Line, Nowhere}
+use Rattle.gw_text.specs.declared.model.Statement.{Statement}
+use Rattle.gw_sources.specs.declared.places.Sources.{Sources}
+use Rattle.gw_sources.specs.Lines.{block_lines, entity_lines, procedure_lines}
+
+-- LINES
+
+-- the line of this number, from 1
+abbrev pub text_line : List (List ℕ) → ℕ → List ℕ
+text_line lines zero = []
+text_line lines (suc i) = unwrap_or (slice_get lines i) []
+
+-- a line with its number; of a longer one than a model text may have, its first 1,000 bytes
+abbrev pub shown_line : List (List ℕ) → ℕ → List ℕ
+shown_line lines number = codes "line " ++ decimal number ++ codes " | " ++ take 1000 (text_line lines number) ++ codes "\n"
+
+-- PLACES
+
+-- the lines of what a text becomes
+pub record Sites : Type 0 where
+  -- of the blocks: that of block 1 stands first
+  pub blocks : List ℕ
+  -- of the entities, by their numbers
+  pub entities : List ℕ
+  -- of the procedures, by their numbers
+  pub procedures : List ℕ
+
+-- those of a text of these statements
+abbrev pub sites_of : List Statement → Sites
+sites_of ss = record { blocks = block_lines ss; entities = entity_lines ss; procedures = procedure_lines ss }
+
+-- those that are told
+abbrev pub sites_told : Sources → Sites
+sites_told s = record { blocks = s.blocks.items; entities = s.entities.items; procedures = s.procedures.items }
+
+-- a text that can't be read has none
+abbrev pub no_sites : Sites
+no_sites = record { blocks = []; entities = []; procedures = [] }
+
+-- the line at a place of a list, if it is there
+abbrev pub shown_of : List (List ℕ) → Option ℕ → List ℕ
+shown_of lines None = []
+shown_of lines (Some number) = shown_line lines number
+
+abbrev pub shown_at : List (List ℕ) → List ℕ → ℕ → List ℕ
+shown_at lines numbers i = shown_of lines (slice_get numbers i)
+
+-- the line of the block of this number, from 1
+abbrev pub shown_block : List (List ℕ) → List ℕ → ℕ → List ℕ
+shown_block lines blocks zero = []
+shown_block lines blocks (suc i) = shown_at lines blocks i
+
+-- the lines of the block from which an edge leads and of that to which it leads, or of the one block
+abbrev pub shown_edge : List (List ℕ) → List ℕ → ℕ → ℕ → List ℕ
+shown_edge lines blocks from to =
+    if from == to then shown_block lines blocks from
+    else shown_block lines blocks from ++ shown_block lines blocks to
+
+-- the lines that a refusal at a place is about
+abbrev pub shown_lines : List (List ℕ) → Sites → Place → List ℕ
+shown_lines lines sites (Line number) = shown_line lines number
+shown_lines lines sites (Block b) = shown_block lines sites.blocks b
+shown_lines lines sites (Edge from to) = shown_edge lines sites.blocks from to
+shown_lines lines sites (Entity e) = shown_at lines sites.entities e
+shown_lines lines sites (Chain e) = shown_at lines sites.entities e
+shown_lines lines sites (Code p i) = shown_at lines sites.procedures p
+shown_lines lines sites (Byte n) = []
+shown_lines lines sites (Row r) = []
+shown_lines lines sites Nowhere = []

@@ -1,0 +1,130 @@
+//! The lines of a model text that a refusal is about.
+
+ghost use Rattle.std.specs.Prelude.{◌≡◌, ◌++◌, take, slice_get, map, option_map, OnOk};
+ghost use Rattle.gw_explain.specs.Shown as shown;
+
+use crate::words::{put, put_number};
+use gw_object::{Memory, Place};
+use gw_sources::Sources;
+
+/// The most bytes of a line that are shown.
+const MOST_SHOWN: usize = 1000;
+
+/// The line at a place, from 0.
+fn line_at<'a>(lines: &[&'a [u8]], place: usize) -> Option<&'a [u8]>
+    ensures { option_map (λ l. l.now) result ≡ slice_get (map (λ l. l.now) lines.now) place }
+{
+    lines.get(place).copied()
+}
+
+/// The line of a number, from 1; an empty one where there is none.
+fn text_line<'a>(lines: &[&'a [u8]], number: u32) -> &'a [u8]
+    ensures { result.now ≡ shown.text_line (map (λ l. l.now) lines.now) number }
+{
+    if number == 0 {
+        return &[];
+    }
+    match line_at(lines, number as usize - 1) {
+        Some(line) => line,
+        None => &[],
+    }
+}
+
+/// As much of a line as is shown.
+fn front_of(line: &[u8]) -> &[u8]
+    ensures { result.now ≡ take 1000 line.now }
+{
+    if line.len() > MOST_SHOWN {
+        &line[..MOST_SHOWN]
+    } else {
+        line
+    }
+}
+
+/// A line with its number, behind what there is.
+fn put_line(out: &mut Vec<u8>, lines: &[&[u8]], number: u32) -> Result<(), Memory>
+    ensures { OnOk result (out.new.items
+        ≡ out.old.items ++ shown.shown_line (map (λ l. l.now) lines.now) number) }
+{
+    put_number(out, "line ", number)?;
+    put(out, " | ")?;
+    out.extend_from_slice(front_of(text_line(lines, number)))?;
+    put(out, "\n")
+}
+
+/// The line at a place among others, if it is there.
+fn put_line_at(
+    out: &mut Vec<u8>,
+    lines: &[&[u8]],
+    numbers: &[u32],
+    place: usize,
+) -> Result<(), Memory>
+    ensures { OnOk result (out.new.items
+        ≡ out.old.items ++ shown.shown_at (map (λ l. l.now) lines.now) numbers.now place) }
+{
+    match numbers.get(place) {
+        Some(number) => put_line(out, lines, *number),
+        None => Ok(()),
+    }
+}
+
+/// The line of the block of a number, from 1.
+fn put_block(out: &mut Vec<u8>, lines: &[&[u8]], blocks: &[u32], number: u16) -> Result<(), Memory>
+    ensures { OnOk result (out.new.items
+        ≡ out.old.items ++ shown.shown_block (map (λ l. l.now) lines.now) blocks.now number) }
+{
+    if number == 0 {
+        Ok(())
+    } else {
+        put_line_at(out, lines, blocks, number as usize - 1)
+    }
+}
+
+/// The lines of the two blocks of an edge.
+fn put_edge(
+    out: &mut Vec<u8>,
+    lines: &[&[u8]],
+    blocks: &[u32],
+    from: u16,
+    to: u16,
+) -> Result<(), Memory>
+    ensures { OnOk result (out.new.items
+        ≡ out.old.items ++ shown.shown_edge (map (λ l. l.now) lines.now) blocks.now from to) }
+{
+    put_block(out, lines, blocks, from)?;
+    if from == to {
+        Ok(())
+    } else {
+        put_block(out, lines, blocks, to)
+    }
+}
+
+/// The lines that a refusal at a place is about, behind what there is.
+pub(crate) fn put_lines_of(
+    out: &mut Vec<u8>,
+    lines: &[&[u8]],
+    sources: &Sources,
+    place: Place,
+) -> Result<(), Memory>
+    ensures { OnOk result (out.new.items
+        ≡ out.old.items ++ shown.shown_lines (map (λ l. l.now) lines.now) (shown.sites_told sources.now) place) }
+{
+    match place {
+        Place::Line(number) => put_line(out, lines, number),
+        Place::Block(number) => put_block(out, lines, &sources.blocks, number),
+        Place::Edge(from, to) => put_edge(out, lines, &sources.blocks, from, to),
+        Place::Entity(number) | Place::Chain(number) => put_line_at(
+            out,
+            lines,
+            &sources.entities,
+            number as usize,
+        ),
+        Place::Code(procedure, _) => put_line_at(
+            out,
+            lines,
+            &sources.procedures,
+            procedure as usize,
+        ),
+        Place::Byte(_) | Place::Row(_) | Place::Nowhere => Ok(()),
+    }
+}

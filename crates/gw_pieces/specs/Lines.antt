@@ -1,0 +1,14 @@
+-- The lines of what procedures come from.
+use Rattle.std.specs.Prelude.{ℕ, List, map, slice_get}
+use Rattle.gw_text.specs.declared.model.Statement.{Statement}
+use Rattle.gw_pieces.specs.declared.origins.Origin.{Origin}
+use Rattle.gw_pieces.specs.Order.{order_in}
+use Rattle.gw_pieces.specs.Reasons.{line_of}
+
+-- the line on which the statement of an origin begins
+abbrev pub line_of_origin : List Statement → Origin → ℕ
+line_of_origin ss origin = line_of (slice_get ss origin.statement)
+
+-- the lines of the origins of a text's procedures, in the order of the procedures
+unfoldable pub procedure_lines : List Statement → List ℕ
+procedure_lines ss = map (line_of_origin ss) (order_in ss)

@@ -1,0 +1,8 @@
+//! Where the blocks, the entities and the procedures of the object that a model text becomes stand in the text.
+#![tactic(auto)]
+
+mod lines;
+mod places;
+
+pub use lines::sources;
+pub use places::Sources;
