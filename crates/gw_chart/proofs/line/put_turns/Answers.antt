@@ -1,0 +1,9 @@
+use Rattle.gw_chart.specs.Lines.{points_after}
+use Rattle.gw_chart.proofs.Series.{grown, begun}
+use Rattle.gw_chart.proofs.line.put_turns.Goals as goal
+
+pub loop-i-init : goal.loop-i-init
+loop-i-init c = begun (points_after c.args.plot c.args.scale c.args.rows.now c.args.entity) _
+
+pub loop-i-preserved : goal.loop-i-preserved
+loop-i-preserved c = grown (points_after c.args.plot c.args.scale c.args.rows.now c.args.entity) c.loop-i.i _ _ _ c.loop-i.invariant c.in_ok-put_points_after.ensures

@@ -1,0 +1,10 @@
+use Rattle.std.proofs.Common.{codes}
+use Rattle.std.proofs.lemmas.Result.{IfOk-equal}
+use Rattle.gw_chart.specs.Text.{tenths}
+use Rattle.gw_chart.proofs.Series.{chain3}
+use Rattle.gw_chart.proofs.plot.put_level_line.Goals as goal
+
+pub returns : goal.returns
+returns c =
+    IfOk-equal c.put-2.result _ _ _ c.put-2.ensures
+    (chain3 _ _ _ (codes "<path d=\"M80.0 ") (tenths c.args.y) (codes "H700.0\" stroke=\"#ddd\"/>\n") c.in_ok-put.ensures c.in_ok-put_tenths.ensures)

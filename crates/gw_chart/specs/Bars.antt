@@ -1,0 +1,67 @@
+-- The classes of a table, as bars.
+use Rattle.std.specs.Prelude.{ℕ, ◌+◌, ◌-◌, ◌*◌, ◌/◌, ◌%◌, ℤ, pos, ◌+ℤ◌, min, List, [], ◌++◌, length, slice_index, codes, ◌||◌, ◌==◌, if◌then◌else◌}
+use Rattle.std.specs.Fmt.{signed_decimal}
+use Rattle.gw_object.specs.declared.parts.Table.{Table}
+use Rattle.gw_chart.specs.declared.plot.Plot.{Plot}
+use Rattle.gw_chart.specs.Steps.{Steps}
+use Rattle.gw_chart.specs.Numbers.{scaled, greatest, scale_to}
+use Rattle.gw_chart.specs.Text.{upto, tenths}
+use Rattle.gw_chart.specs.Plots.{floor_of, height_of, colour_of, text_at, title, unit, below, top_of, levels}
+
+-- how high the bar of so many values is
+abbrev pub bar_height : Plot → Steps → ℕ → ℕ
+bar_height plot scale value = scaled (height_of plot) (min value (top_of scale)) (top_of scale)
+
+-- where the bar of a class of so many lies, by its number and its height
+abbrev pub bar_place : Plot → ℕ → ℕ → ℕ → List ℕ
+bar_place plot classes i height =
+    codes "<rect x=\"" ++ tenths (800 + scaled 6200 i classes + 6200 / classes / 10) ++ codes "\" y=\"" ++ tenths (floor_of plot - height)
+
+-- how wide and how high it is, and its colour
+abbrev pub bar_size : Plot → ℕ → ℕ → List ℕ
+bar_size plot classes height =
+    codes "\" width=\"" ++ tenths (6200 / classes - 6200 / classes / 5) ++ codes "\" height=\"" ++ tenths height
+    ++ codes "\" fill=\"" ++ colour_of plot ++ codes "\"/>\n"
+
+-- the bar of a class of so many, by its number, with so many values
+abbrev pub bar : Plot → Steps → ℕ → ℕ → ℕ → List ℕ
+bar plot scale classes i value =
+    bar_place plot classes i (bar_height plot scale value) ++ bar_size plot classes (bar_height plot scale value)
+
+-- the upper limit of a class
+abbrev pub limit_of : Table → ℕ → ℤ
+limit_of table i = table.limit +ℤ pos (i * table.width)
+
+-- the upper limit of a class of so many; the last has none
+abbrev pub limit_text : Table → ℕ → ℕ → List ℕ
+limit_text table classes i = if i + 1 == classes then codes "more" else signed_decimal (limit_of table i)
+
+-- the same, below its bar
+abbrev pub limit : Plot → Table → ℕ → ℕ → List ℕ
+limit plot table classes i =
+    text_at (800 + scaled 6200 i classes + 6200 / classes / 2) (floor_of plot + 160) (codes " text-anchor=\"middle\"")
+    ++ limit_text table classes i ++ codes "</text>\n"
+
+-- the same, where there is room for it: below one of so many bars, and below the last
+abbrev pub limit_if_room : Plot → Table → ℕ → ℕ → List ℕ
+limit_if_room plot table classes i =
+    if (i % (classes / 12 + 1) == 0) || (i + 1 == classes) then limit plot table classes i else []
+
+-- a class: its bar, and its upper limit
+abbrev pub class : Plot → Steps → Table → List ℕ → ℕ → List ℕ
+class plot scale table values i =
+    bar plot scale (length values) i (slice_index values i) ++ limit_if_room plot table (length values) i
+
+-- the classes, one after the other
+unfoldable pub classes : Plot → Steps → Table → List ℕ → List ℕ
+classes plot scale table values = upto (class plot scale table values) (length values)
+
+-- a panel with its axes and its bars
+abbrev pub panel_with : Steps → Plot → List ℕ → Table → List ℕ → List ℕ
+panel_with scale plot name table values =
+    title name plot ++ unit plot ++ levels plot scale ++ classes plot scale table values
+    ++ below plot (codes "class, by its upper limit")
+
+-- the panel of a table, whose name is given, with so many values in each class
+unfoldable pub bar_panel : Plot → List ℕ → Table → List ℕ → List ℕ
+bar_panel plot name table values = panel_with (scale_to (greatest (slice_index values) (length values))) plot name table values

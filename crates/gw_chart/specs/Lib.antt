@@ -1,0 +1,14 @@
+-- WHAT IS SHOWN
+pub mod Contents
+pub mod Samples
+-- NUMBERS AND TEXT
+pub mod Steps
+pub mod Numbers
+pub mod Text
+-- THE PICTURE
+pub mod Plots
+pub mod Lines
+pub mod Bars
+pub mod Document
+-- THE CHARTS OF A RUN
+pub mod Charts

@@ -1,0 +1,109 @@
+-- The plot of an entity: its axes, and what stands beside them. Places are in tenths of pixels: the plot lies from 80 to 700 from the left, and from 32 downwards in its panel.
+use Rattle.std.specs.Prelude.{ℕ, ◌+◌, ◌-◌, ◌*◌, ◌/◌, List, ◌++◌, codes, Option, Some, None}
+use Rattle.std.specs.Fmt.{decimal}
+use Rattle.gw_object.specs.declared.parts.Kind.{Kind}
+use Rattle.gw_object.specs.declared.parts.Kind.TheVariants as kinds
+use Rattle.gw_chart.specs.declared.plot.Plot.{Plot}
+use Rattle.gw_chart.specs.declared.plot.Plot.TheVariants.{Owned, Units, Waiting, Classes}
+use Rattle.gw_chart.specs.Steps.{Steps}
+use Rattle.gw_chart.specs.Numbers.{scaled}
+use Rattle.gw_chart.specs.Text.{upto, escaped, tenths, grouped}
+
+-- the plot of a kind of entity, if it has one
+abbrev pub plot_of : Kind → Option Plot
+plot_of kinds.Facility = Some Owned
+plot_of (kinds.Storage capacity) = Some Units
+plot_of kinds.Queue = Some Waiting
+plot_of (kinds.Table operands) = Some Classes
+plot_of kind = None
+
+abbrev pub words_of : Plot → List ℕ
+words_of Owned = codes "facility, 1 where it is owned"
+words_of Units = codes "storage, units in it"
+words_of Waiting = codes "queue, units that wait"
+words_of Classes = codes "table, values in each class over the whole run"
+
+abbrev pub unit_of : Plot → List ℕ
+unit_of Owned = codes "owned"
+unit_of Units = codes "units"
+unit_of Waiting = codes "waiting"
+unit_of Classes = codes "values"
+
+abbrev pub colour_of : Plot → List ℕ
+colour_of Owned = codes "#4477aa"
+colour_of Units = codes "#228833"
+colour_of Waiting = codes "#cc5533"
+colour_of Classes = codes "#886699"
+
+-- how high the plot is
+abbrev pub height_of : Plot → ℕ
+height_of Owned = 400
+height_of plot = 1000
+
+-- how high its panel is, with the title above it and the numbers below it
+abbrev pub panel_height : Plot → ℕ
+panel_height plot = height_of plot + 800
+
+-- where the plot ends, from the upper end of its panel
+abbrev pub floor_of : Plot → ℕ
+floor_of plot = 320 + height_of plot
+
+-- TEXTS AND LINES
+
+-- where a text begins, and how it lies there
+abbrev pub text_at : ℕ → ℕ → List ℕ → List ℕ
+text_at x y how = codes "<text x=\"" ++ tenths x ++ codes "\" y=\"" ++ tenths y ++ codes "\"" ++ how ++ codes ">"
+
+-- a number as a text
+abbrev pub label : ℕ → ℕ → List ℕ → ℕ → List ℕ
+label x y how number = text_at x y how ++ grouped (decimal number) ++ codes "</text>\n"
+
+-- a level line through the plot
+abbrev pub level_line : ℕ → List ℕ
+level_line y = codes "<path d=\"M80.0 " ++ tenths y ++ codes "H700.0\" stroke=\"#ddd\"/>\n"
+
+-- an upright line through the plot
+abbrev pub upright_line : ℕ → Plot → List ℕ
+upright_line x plot = codes "<path d=\"M" ++ tenths x ++ codes " 32.0V" ++ tenths (floor_of plot) ++ codes "\" stroke=\"#eee\"/>\n"
+
+-- BESIDE THE PLOT
+
+-- the name of an entity, in the colour of its plot, and what the plot shows
+unfoldable pub title : List ℕ → Plot → List ℕ
+title name plot =
+    codes "<rect x=\"80\" y=\"12\" width=\"10\" height=\"10\" fill=\"" ++ colour_of plot
+    ++ codes "\"/>\n<text x=\"96\" y=\"21\"><tspan font-weight=\"bold\">" ++ escaped name
+    ++ codes "</tspan><tspan fill=\"#555\">: " ++ words_of plot ++ codes "</tspan></text>\n"
+
+-- the unit of the upright axis
+unfoldable pub unit : Plot → List ℕ
+unit plot =
+    codes "<text transform=\"translate(14," ++ tenths (320 + height_of plot / 2)
+    ++ codes ") rotate(-90)\" text-anchor=\"middle\" fill=\"#555\">" ++ unit_of plot ++ codes "</text>\n"
+
+-- what stands below the level axis
+unfoldable pub below : Plot → List ℕ → List ℕ
+below plot words = text_at 3900 (floor_of plot + 330) (codes " text-anchor=\"middle\" fill=\"#555\"") ++ words ++ codes "</text>\n"
+
+-- THE UPRIGHT AXIS
+
+-- where a scale ends
+abbrev pub top_of : Steps → ℕ
+top_of scale = scale.step * scale.count
+
+-- the place of a step of the scale, from the upper end of the panel
+abbrev pub level_at : Plot → Steps → ℕ → ℕ
+level_at plot scale i = floor_of plot - scaled (height_of plot) i scale.count
+
+-- the level line at a step of the scale, and its number
+abbrev pub level : Plot → Steps → ℕ → List ℕ
+level plot scale i =
+    level_line (level_at plot scale i) ++ label 740 (level_at plot scale i + 40) (codes " text-anchor=\"end\"") (scale.step * i)
+
+-- those at the steps below the end of the scale
+unfoldable pub lower_levels : Plot → Steps → List ℕ
+lower_levels plot scale = upto (level plot scale) scale.count
+
+-- those at each step, from 0 to the end of the scale
+unfoldable pub levels : Plot → Steps → List ℕ
+levels plot scale = lower_levels plot scale ++ level plot scale scale.count

@@ -1,0 +1,35 @@
+-- Text of an SVG document.
+use Rattle.std.specs.Prelude.{ℕ, zero, suc, ◌+◌, ◌/◌, ◌%◌, List, [], ◌∷◌, ◌++◌, length, codes, nat_lt, ◌==◌, ◌&&◌, if◌then◌else◌}
+use Rattle.std.specs.Fmt.{decimal}
+
+-- the first n of these texts, one after the other
+unfoldable pub upto : (ℕ → List ℕ) → ℕ → List ℕ
+upto f zero = []
+upto f (suc n) = upto f n ++ f n
+
+-- a byte as it stands in XML
+abbrev pub escaped_byte : ℕ → List ℕ
+escaped_byte b =
+    if b == 38 then codes "&amp;"
+    else if b == 60 then codes "&lt;"
+    else if b == 62 then codes "&gt;"
+    else if b == 34 then codes "&quot;"
+    else b ∷ []
+
+-- a text as it stands in XML
+unfoldable pub escaped : List ℕ → List ℕ
+escaped [] = []
+escaped (b ∷ bs) = escaped_byte b ++ escaped bs
+
+-- tenths, with a point before the last digit
+abbrev pub tenths : ℕ → List ℕ
+tenths t = decimal (t / 10) ++ codes "." ++ decimal (t % 10)
+
+-- a digit that so many follow, with a comma before each three of them
+abbrev pub digit : ℕ → ℕ → List ℕ
+digit d left = d ∷ (if nat_lt 0 left && (left % 3 == 0) then codes "," else [])
+
+-- digits, with a comma before each three of them
+unfoldable pub grouped : List ℕ → List ℕ
+grouped [] = []
+grouped (d ∷ ds) = digit d (length ds) ++ grouped ds

@@ -1,0 +1,200 @@
+//! The classes of a table, as bars.
+
+ghost use Rattle.std.specs.Prelude.{◌≡◌, ◌≤◌, ◌<◌, ◌*◌, ◌+◌, ◌++◌, length, slice_index, OnOk};
+ghost use Rattle.gw_chart.specs.Numbers.{greatest as greatest_of};
+ghost use Rattle.gw_chart.specs.Plots.{height_of as plot_height};
+ghost use Rattle.gw_chart.specs.Bars as model;
+
+use crate::numbers::{scale_to, scaled};
+use crate::plot::{
+    Plot, colour_of, floor_of, height_of, put_below, put_levels, put_text_at, put_title, put_unit,
+};
+use crate::scale::Scale;
+use crate::text::put_tenths;
+use gw_object::{Memory, Table};
+use gw_report::text::{put, put_number};
+
+/// The greatest of these, and at least 1.
+#[tactic(auto, using(crate::proofs::Series::greatest_more, crate::proofs::Series::greatest_none))]
+fn greatest(values: &[u64]) -> u64
+    ensures value { result ≡ greatest_of (slice_index values.now) (length values.now) }
+    ensures some { 0 < result }
+{
+    let mut most = 1;
+    for i in 0..values.len() {
+        most = most.max(values[i]);
+    }
+    most
+}
+
+/// How high the bar of so many values is.
+#[tactic(auto, using(crate::proofs::Places::top_most, crate::proofs::Places::top_some))]
+fn bar_height(plot: Plot, scale: Scale, value: u64) -> u64
+    ensures value { result ≡ model.bar_height plot scale value }
+    ensures most { result ≤ plot_height plot }
+{
+    let top = scale.step * scale.count as u128;
+    let shown = (value as u128).min(top) as u64;
+    scaled(height_of(plot), shown, top)
+}
+
+/// Where the bar of a class of so many lies, by its number and its height.
+fn put_bar_place(
+    out: &mut Vec<u8>,
+    plot: Plot,
+    classes: u64,
+    i: u64,
+    height: u64,
+) -> Result<(), Memory>
+    requires class { i < classes }
+    requires height { height ≤ plot_height plot }
+    ensures { OnOk result (out.new.items ≡ out.old.items ++ model.bar_place plot classes i height) }
+{
+    let x = 800 + scaled(6200, i, classes as u128) + 6200 / classes / 10;
+    put(out, "<rect x=\"")?;
+    put_tenths(out, x)?;
+    put(out, "\" y=\"")?;
+    put_tenths(out, floor_of(plot) - height)
+}
+
+/// How wide and how high the bar of a class of so many is, and its colour.
+fn put_bar_size(out: &mut Vec<u8>, plot: Plot, classes: u64, height: u64) -> Result<(), Memory>
+    requires { 0 < classes }
+    ensures { OnOk result (out.new.items ≡ out.old.items ++ model.bar_size plot classes height) }
+{
+    let width = 6200 / classes;
+    put(out, "\" width=\"")?;
+    put_tenths(out, width - width / 5)?;
+    put(out, "\" height=\"")?;
+    put_tenths(out, height)?;
+    put(out, "\" fill=\"")?;
+    put(out, colour_of(plot))?;
+    put(out, "\"/>\n")
+}
+
+/// The bar of a class of so many, by its number, with so many values.
+fn put_bar(
+    out: &mut Vec<u8>,
+    plot: Plot,
+    scale: Scale,
+    classes: u64,
+    i: u64,
+    value: u64,
+) -> Result<(), Memory>
+    requires { i < classes }
+    ensures { OnOk result (out.new.items ≡ out.old.items ++ model.bar plot scale classes i value) }
+{
+    let height = bar_height(plot, scale, value);
+    put_bar_place(out, plot, classes, i, height)?;
+    put_bar_size(out, plot, classes, height)
+}
+
+/// The upper limit of a class.
+fn limit_of(table: &Table, i: u64) -> i128
+    ensures { result ≡ model.limit_of table.now i }
+{
+    table.limit as i128 + (i as u128 * table.width as u128) as i128
+}
+
+/// The upper limit of a class of so many; the last has none.
+fn put_limit_text(out: &mut Vec<u8>, table: &Table, classes: u64, i: u64) -> Result<(), Memory>
+    requires { i < classes }
+    ensures { OnOk result (out.new.items ≡ out.old.items ++ model.limit_text table.now classes i) }
+{
+    if i + 1 == classes {
+        put(out, "more")
+    } else {
+        put_number(out, "", limit_of(table, i))
+    }
+}
+
+/// The same, below its bar.
+fn put_limit(
+    out: &mut Vec<u8>,
+    plot: Plot,
+    table: &Table,
+    classes: u64,
+    i: u64,
+) -> Result<(), Memory>
+    requires { i < classes }
+    ensures { OnOk result (out.new.items ≡ out.old.items ++ model.limit plot table.now classes i) }
+{
+    let x = 800 + scaled(6200, i, classes as u128) + 6200 / classes / 2;
+    put_text_at(out, x, floor_of(plot) + 160, " text-anchor=\"middle\"")?;
+    put_limit_text(out, table, classes, i)?;
+    put(out, "</text>\n")
+}
+
+/// The same, where there is room for it: below one of so many bars, and below the last.
+fn put_limit_if_room(
+    out: &mut Vec<u8>,
+    plot: Plot,
+    table: &Table,
+    classes: u64,
+    i: u64,
+) -> Result<(), Memory>
+    requires { i < classes }
+    ensures { OnOk result (out.new.items ≡ out.old.items
+        ++ model.limit_if_room plot table.now classes i) }
+{
+    if i % (classes / 12 + 1) == 0 || i + 1 == classes {
+        put_limit(out, plot, table, classes, i)
+    } else {
+        Ok(())
+    }
+}
+
+/// A class: its bar, and its upper limit.
+fn put_class(
+    out: &mut Vec<u8>,
+    plot: Plot,
+    scale: Scale,
+    table: &Table,
+    values: &[u64],
+    i: usize,
+) -> Result<(), Memory>
+    requires { i < length values.now }
+    ensures { OnOk result (out.new.items ≡ out.old.items
+        ++ model.class plot scale table.now values.now i) }
+{
+    put_bar(out, plot, scale, values.len() as u64, i as u64, values[i])?;
+    put_limit_if_room(out, plot, table, values.len() as u64, i as u64)
+}
+
+/// The classes of a table, one after the other.
+#[tactic(auto, unfolding(crate::specs::Bars::classes))]
+fn put_classes(
+    out: &mut Vec<u8>,
+    plot: Plot,
+    scale: Scale,
+    table: &Table,
+    values: &[u64],
+) -> Result<(), Memory>
+    ensures { OnOk result (out.new.items ≡ out.old.items
+        ++ model.classes plot scale table.now values.now) }
+{
+    for i in 0..values.len() {
+        put_class(out, plot, scale, table, values, i)?;
+    }
+    Ok(())
+}
+
+/// The panel of a table, whose name is given, with so many values in each class.
+#[tactic(auto, unfolding(crate::specs::Bars::bar_panel))]
+pub(crate) fn put_bar_panel(
+    out: &mut Vec<u8>,
+    plot: Plot,
+    name: &[u8],
+    table: &Table,
+    values: &[u64],
+) -> Result<(), Memory>
+    ensures { OnOk result (out.new.items ≡ out.old.items
+        ++ model.bar_panel plot name.now table.now values.now) }
+{
+    let scale = scale_to(greatest(values));
+    put_title(out, name, plot)?;
+    put_unit(out, plot)?;
+    put_levels(out, plot, scale)?;
+    put_classes(out, plot, scale, table, values)?;
+    put_below(out, plot, "class, by its upper limit")
+}

@@ -1,0 +1,35 @@
+//! What is in the entities of a model.
+
+ghost use Rattle.std.specs.Prelude.{◌≡◌, ◌<◌, length, IfOk};
+ghost use Rattle.gw_chart.specs.Contents.{content_of, contents_from};
+
+use gw_object::{Items, Kind, Memory};
+use gw_scan::Sim;
+use std::alloc::Global;
+
+/// What is in an entity, by its number from 0: 1 in a facility that is owned, the units in a storage, those that wait in a
+/// queue, and 0 in any other.
+fn content_of(sim: &Sim, number: u16, kind: &Kind) -> u64
+    requires { number < length sim.now.job.parts.entities }
+    ensures { result ≡ content_of kind.now sim.now.state number }
+{
+    match kind {
+        Kind::Facility => u64::from(sim.facilities().get(number).owner.is_some()),
+        Kind::Storage(_) => sim.storages().get(number).contents.content,
+        Kind::Queue => sim.queues().get(number).content,
+        _ => 0,
+    }
+}
+
+/// What is in each entity, by its number.
+#[tactic(auto, unfolding(crate::specs::Contents::contents_from))]
+pub(crate) fn contents(alloc: Global, sim: &Sim) -> Result<Items<u64>, Memory>
+    ensures { IfOk result (λ row. row ≡ contents_from sim.now.state 0 sim.now.job.parts.entities) }
+{
+    let entities = sim.spec().verified().object().parts().entities.as_slice();
+    let mut row = Vec::new(alloc);
+    for i in 0..entities.len() {
+        row.push(content_of(sim, i as u16, &entities[i].kind))?;
+    }
+    Ok(Items::from_vec(row))
+}

@@ -1,0 +1,250 @@
+//! The plot of an entity: its axes, and what stands beside them. Places are in tenths of pixels.
+
+ghost use Rattle.std.specs.Prelude.{◌≡◌, ◌≤◌, ◌<◌, ◌*◌, ◌+◌, ◌^◌, ◌++◌, OnOk};
+ghost use Rattle.gw_chart.specs.Plots as model;
+
+use crate::numbers::scaled;
+use crate::scale::Scale;
+use crate::text::{put_escaped, put_grouped, put_tenths};
+use gw_object::{Kind, Memory};
+use gw_report::text::put;
+
+/// What is drawn of an entity.
+#[derive(Clone, Copy, Debug, PartialEq, Eq)]
+pub enum Plot {
+    /// Whether a facility is owned.
+    Owned,
+    /// The units in a storage.
+    Units,
+    /// The units in a queue.
+    Waiting,
+    /// The classes of a table.
+    Classes,
+}
+
+/// The plot of a kind of entity, if it has one.
+pub(crate) fn plot_of(kind: &Kind) -> Option<Plot>
+    ensures { result ≡ model.plot_of kind.now }
+{
+    match kind {
+        Kind::Facility => Some(Plot::Owned),
+        Kind::Storage(_) => Some(Plot::Units),
+        Kind::Queue => Some(Plot::Waiting),
+        Kind::Table(_) => Some(Plot::Classes),
+        _ => None,
+    }
+}
+
+/// What a plot shows.
+fn words_of(plot: Plot) -> &'static str
+    ensures { result.now ≡ model.words_of plot }
+{
+    match plot {
+        Plot::Owned => "facility, 1 where it is owned",
+        Plot::Units => "storage, units in it",
+        Plot::Waiting => "queue, units that wait",
+        Plot::Classes => "table, values in each class over the whole run",
+    }
+}
+
+/// The unit of a plot's upright axis.
+fn unit_of(plot: Plot) -> &'static str
+    ensures { result.now ≡ model.unit_of plot }
+{
+    match plot {
+        Plot::Owned => "owned",
+        Plot::Units => "units",
+        Plot::Waiting => "waiting",
+        Plot::Classes => "values",
+    }
+}
+
+/// The colour of a plot.
+pub(crate) fn colour_of(plot: Plot) -> &'static str
+    ensures { result.now ≡ model.colour_of plot }
+{
+    match plot {
+        Plot::Owned => "#4477aa",
+        Plot::Units => "#228833",
+        Plot::Waiting => "#cc5533",
+        Plot::Classes => "#886699",
+    }
+}
+
+/// How high a plot is.
+pub(crate) fn height_of(plot: Plot) -> u64
+    ensures value { result ≡ model.height_of plot }
+    ensures most { result ≤ 1000 }
+{
+    match plot {
+        Plot::Owned => 400,
+        _ => 1000,
+    }
+}
+
+/// How high the panel of a plot is.
+pub(crate) fn panel_height(plot: Plot) -> u64
+    ensures value { result ≡ model.panel_height plot }
+    ensures most { result ≤ 1800 }
+{
+    height_of(plot) + 800
+}
+
+/// Where a plot ends, from the upper end of its panel.
+pub(crate) fn floor_of(plot: Plot) -> u64
+    ensures value { result ≡ model.floor_of plot }
+    ensures most { result ≤ 1320 }
+{
+    320 + height_of(plot)
+}
+
+/// Where a text begins, and how it lies there.
+pub(crate) fn put_text_at(out: &mut Vec<u8>, x: u64, y: u64, how: &str) -> Result<(), Memory>
+    ensures { OnOk result (out.new.items ≡ out.old.items ++ model.text_at x y how.now) }
+{
+    put(out, "<text x=\"")?;
+    put_tenths(out, x)?;
+    put(out, "\" y=\"")?;
+    put_tenths(out, y)?;
+    put(out, "\"")?;
+    put(out, how)?;
+    put(out, ">")
+}
+
+/// A number as a text.
+pub(crate) fn put_label(
+    out: &mut Vec<u8>,
+    x: u64,
+    y: u64,
+    how: &str,
+    number: u128,
+) -> Result<(), Memory>
+    ensures { OnOk result (out.new.items ≡ out.old.items ++ model.label x y how.now number) }
+{
+    put_text_at(out, x, y, how)?;
+    put_grouped(out, number)?;
+    put(out, "</text>\n")
+}
+
+/// A level line through a plot.
+fn put_level_line(out: &mut Vec<u8>, y: u64) -> Result<(), Memory>
+    ensures { OnOk result (out.new.items ≡ out.old.items ++ model.level_line y) }
+{
+    put(out, "<path d=\"M80.0 ")?;
+    put_tenths(out, y)?;
+    put(out, "H700.0\" stroke=\"#ddd\"/>\n")
+}
+
+/// An upright line through a plot.
+pub(crate) fn put_upright_line(out: &mut Vec<u8>, x: u64, plot: Plot) -> Result<(), Memory>
+    ensures { OnOk result (out.new.items ≡ out.old.items ++ model.upright_line x plot) }
+{
+    put(out, "<path d=\"M")?;
+    put_tenths(out, x)?;
+    put(out, " 32.0V")?;
+    put_tenths(out, floor_of(plot))?;
+    put(out, "\" stroke=\"#eee\"/>\n")
+}
+
+/// The name of an entity, in the colour of its plot, and what the plot shows.
+pub(crate) fn put_title(out: &mut Vec<u8>, name: &[u8], plot: Plot) -> Result<(), Memory>
+    ensures { OnOk result (out.new.items ≡ out.old.items ++ model.title name.now plot) }
+{
+    put(
+        out,
+        "<rect x=\"80\" y=\"12\" width=\"10\" height=\"10\" fill=\"",
+    )?;
+    put(out, colour_of(plot))?;
+    put(
+        out,
+        "\"/>\n<text x=\"96\" y=\"21\"><tspan font-weight=\"bold\">",
+    )?;
+    put_escaped(out, name)?;
+    put(out, "</tspan><tspan fill=\"#555\">: ")?;
+    put(out, words_of(plot))?;
+    put(out, "</tspan></text>\n")
+}
+
+/// The unit of the upright axis.
+pub(crate) fn put_unit(out: &mut Vec<u8>, plot: Plot) -> Result<(), Memory>
+    ensures { OnOk result (out.new.items ≡ out.old.items ++ model.unit plot) }
+{
+    put(out, "<text transform=\"translate(14,")?;
+    put_tenths(out, 320 + height_of(plot) / 2)?;
+    put(out, ") rotate(-90)\" text-anchor=\"middle\" fill=\"#555\">")?;
+    put(out, unit_of(plot))?;
+    put(out, "</text>\n")
+}
+
+/// What stands below the level axis.
+pub(crate) fn put_below(out: &mut Vec<u8>, plot: Plot, words: &str) -> Result<(), Memory>
+    ensures { OnOk result (out.new.items ≡ out.old.items ++ model.below plot words.now) }
+{
+    let y = floor_of(plot) + 330;
+    put_text_at(out, 3900, y, " text-anchor=\"middle\" fill=\"#555\"")?;
+    put(out, words)?;
+    put(out, "</text>\n")
+}
+
+/// The place of a step of the scale, from the upper end of a panel.
+fn level_at(plot: Plot, scale: Scale, i: u64) -> u64
+    requires { i ≤ scale.count }
+    ensures value { result ≡ model.level_at plot scale i }
+    ensures most { result ≤ 1320 }
+{
+    floor_of(plot) - scaled(height_of(plot), i, scale.count as u128)
+}
+
+/// The number of a step of the scale.
+#[tactic(auto, using(crate::proofs::Places::top_most))]
+fn number_at(scale: Scale, i: u64) -> u128
+    requires { i ≤ scale.count }
+    ensures { result ≡ scale.step * i }
+{
+    scale.step * i as u128
+}
+
+/// The level line at a step of the scale, and its number.
+fn put_level(out: &mut Vec<u8>, plot: Plot, scale: Scale, i: u64) -> Result<(), Memory>
+    requires { i ≤ scale.count }
+    ensures { OnOk result (out.new.items ≡ out.old.items ++ model.level plot scale i) }
+{
+    let y = level_at(plot, scale, i);
+    put_level_line(out, y)?;
+    put_label(
+        out,
+        740,
+        y + 40,
+        " text-anchor=\"end\"",
+        number_at(scale, i),
+    )
+}
+
+/// How many steps a scale has.
+fn count_of(scale: Scale) -> u64
+    ensures { result ≡ scale.count }
+{
+    scale.count
+}
+
+/// The level lines at the steps below the end of the scale, and their numbers.
+#[tactic(auto, unfolding(crate::specs::Plots::lower_levels))]
+fn put_lower_levels(out: &mut Vec<u8>, plot: Plot, scale: Scale, count: u64) -> Result<(), Memory>
+    requires { count ≡ scale.count }
+    ensures { OnOk result (out.new.items ≡ out.old.items ++ model.lower_levels plot scale) }
+{
+    for i in 0..count {
+        put_level(out, plot, scale, i)?;
+    }
+    Ok(())
+}
+
+/// The level lines at each step, from 0 to the end of the scale, and their numbers.
+#[tactic(auto, unfolding(crate::specs::Plots::levels))]
+pub(crate) fn put_levels(out: &mut Vec<u8>, plot: Plot, scale: Scale) -> Result<(), Memory>
+    ensures { OnOk result (out.new.items ≡ out.old.items ++ model.levels plot scale) }
+{
+    let count = count_of(scale);
+    put_lower_levels(out, plot, scale, count)?;
+    put_level(out, plot, scale, count)
+}

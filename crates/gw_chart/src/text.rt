@@ -1,0 +1,74 @@
+//! Text of an SVG document.
+
+ghost use Rattle.std.specs.Prelude.{◌≡◌, ◌++◌, OnOk};
+ghost use Rattle.std.specs.Fmt.{decimal};
+ghost use Rattle.gw_chart.specs.Text as model;
+
+use gw_object::Memory;
+use gw_report::text::{put, put_number};
+use itoa::Buffer;
+
+/// A byte as it stands in XML.
+fn put_escaped_byte(out: &mut Vec<u8>, byte: u8) -> Result<(), Memory>
+    ensures { OnOk result (out.new.items ≡ out.old.items ++ model.escaped_byte byte) }
+{
+    match byte {
+        b'&' => put(out, "&amp;"),
+        b'<' => put(out, "&lt;"),
+        b'>' => put(out, "&gt;"),
+        b'"' => put(out, "&quot;"),
+        _ => {
+            out.push(byte)?;
+            Ok(())
+        }
+    }
+}
+
+/// A text as it stands in XML.
+#[tactic(auto, unfolding(crate::specs::Text::escaped))]
+pub(crate) fn put_escaped(out: &mut Vec<u8>, text: &[u8]) -> Result<(), Memory>
+    ensures { OnOk result (out.new.items ≡ out.old.items ++ model.escaped text.now) }
+{
+    for i in 0..text.len() {
+        put_escaped_byte(out, text[i])?;
+    }
+    Ok(())
+}
+
+/// Tenths, with a point before the last digit.
+pub(crate) fn put_tenths(out: &mut Vec<u8>, tenths: u64) -> Result<(), Memory>
+    ensures { OnOk result (out.new.items ≡ out.old.items ++ model.tenths tenths) }
+{
+    put_number(out, "", tenths / 10)?;
+    put_number(out, ".", tenths % 10)
+}
+
+/// A digit that so many follow, with a comma before each three of them.
+fn put_digit(out: &mut Vec<u8>, digit: u8, left: usize) -> Result<(), Memory>
+    ensures { OnOk result (out.new.items ≡ out.old.items ++ model.digit digit left) }
+{
+    out.push(digit)?;
+    if left > 0 && left % 3 == 0 {
+        out.push(b',')?;
+    }
+    Ok(())
+}
+
+/// Digits, with a comma before each three of them.
+#[tactic(auto, unfolding(crate::specs::Text::grouped))]
+fn put_digits(out: &mut Vec<u8>, digits: &[u8]) -> Result<(), Memory>
+    ensures { OnOk result (out.new.items ≡ out.old.items ++ model.grouped digits.now) }
+{
+    for i in 0..digits.len() {
+        put_digit(out, digits[i], digits.len() - 1 - i)?;
+    }
+    Ok(())
+}
+
+/// A number, with a comma before each three of its digits.
+pub(crate) fn put_grouped(out: &mut Vec<u8>, number: u128) -> Result<(), Memory>
+    ensures { OnOk result (out.new.items ≡ out.old.items ++ model.grouped (decimal number)) }
+{
+    let mut buffer = Buffer::new();
+    put_digits(out, buffer.format(number).as_bytes())
+}

@@ -1,0 +1,4 @@
+-- THE JOB OF A MODEL TEXT
+pub mod ModelJobs
+-- ITS RUN
+pub mod Running

@@ -1,0 +1,330 @@
+//! The line of a step.
+
+ghost use Rattle.std.specs.Prelude.{◌≡◌, ◌++◌, OnOk};
+ghost use Rattle.std.specs.Option.{option_copied};
+ghost use Rattle.gw_trace.specs.Lines as model;
+
+use crate::columns::{put_column, put_number_or_dash};
+use crate::happening::{Happening, is_delayed, let_in, what_happened, woken};
+use crate::sight::{Sight, next_block};
+use gw_blocks::Block;
+use gw_machine::block_of;
+use gw_object::{Memory, Parts};
+use gw_report::text::{put, put_number};
+use gw_report::{block_word, status_word};
+use gw_scan::{Sim, Status};
+
+/// The entity that a block is about, by its number from 0, if it is about one.
+fn entity_of(block: &Block) -> Option<u16>
+    ensures { result ≡ model.entity_of block.now }
+{
+    match block {
+        Block::Seize(entity) | Block::Release(entity) | Block::Tabulate(entity) => Some(*entity),
+        Block::Enter(units) | Block::Leave(units) | Block::Queue(units) | Block::Depart(units) => {
+            Some(units.entity)
+        }
+        Block::Gate(gate) => Some(gate.entity),
+        Block::Link(link) => Some(link.chain),
+        Block::Unlink(unlink) => Some(unlink.chain),
+        Block::Logic(logic) => Some(logic.switch),
+        Block::Savevalue(save) => Some(save.savevalue),
+        _ => None,
+    }
+}
+
+/// A blank and the name of an entity, which is given by its number from 0.
+fn put_name(out: &mut Vec<u8>, parts: &Parts, entity: u16) -> Result<(), Memory>
+    ensures { OnOk result (out.new.items ≡ out.old.items ++ model.name_text parts.now entity) }
+{
+    match parts.entities.as_slice().get(entity as usize) {
+        Some(entity) => {
+            put(out, " ")?;
+            out.extend_from_slice(entity.name.as_slice())
+        }
+        None => Ok(()),
+    }
+}
+
+/// The word of a block, and the name of its entity.
+fn put_block(out: &mut Vec<u8>, parts: &Parts, block: &Block) -> Result<(), Memory>
+    ensures { OnOk result (out.new.items ≡ out.old.items ++ model.block_text parts.now block.now) }
+{
+    put(out, block_word(block))?;
+    match entity_of(block) {
+        Some(entity) => put_name(out, parts, entity),
+        None => Ok(()),
+    }
+}
+
+/// The block of a number, from 1.
+fn put_block_at(out: &mut Vec<u8>, parts: &Parts, number: u16) -> Result<(), Memory>
+    ensures { OnOk result (out.new.items ≡ out.old.items ++ model.block_at_text parts.now number) }
+{
+    match block_of(parts.blocks.as_slice(), number) {
+        Some(block) => put_block(out, parts, block),
+        None => put(out, "no block"),
+    }
+}
+
+/// Where a transaction rests that entered a block of this kind and lives on.
+fn resting_place(block: Option<&Block>) -> &'static str
+    ensures { result.now ≡ model.resting_place (option_copied block.entry) }
+{
+    match block {
+        Some(Block::Advance(_)) => ", waits on the future events chain",
+        Some(Block::Link(_)) => ", waits on the user chain",
+        Some(Block::Assemble(_)) => ", waits for the rest of its set",
+        _ => ", goes back to the current events chain",
+    }
+}
+
+/// What became of who entered a block: nothing is said where it is still active.
+fn put_rest(
+    out: &mut Vec<u8>,
+    before: &Sight,
+    sim: &Sim,
+    block: Option<&Block>,
+) -> Result<(), Memory>
+    ensures { OnOk result (out.new.items ≡ out.old.items
+        ++ model.rest_text before.now sim.now.state (option_copied block.entry)) }
+{
+    if sim.active().is_some() {
+        Ok(())
+    } else if sim.live() < before.live {
+        put(out, ", leaves the model")
+    } else {
+        put(out, resting_place(block))
+    }
+}
+
+/// The facility that a block gives up, by its number from 0 as an entity, if it is a RELEASE.
+fn released_by(block: Option<&Block>) -> Option<u16>
+    ensures { result ≡ model.released_by (option_copied block.entry) }
+{
+    match block {
+        Some(Block::Release(facility)) => Some(*facility),
+        _ => None,
+    }
+}
+
+/// To whom a facility was handed over.
+fn put_heir(out: &mut Vec<u8>, sim: &Sim, facility: u16) -> Result<(), Memory>
+    ensures { OnOk result (out.new.items ≡ out.old.items
+        ++ model.heir_text sim.now.state facility) }
+{
+    put_number(out, ", handed over to ", sim.owner(facility).unwrap_or(0))
+}
+
+/// How many waiters were let in.
+fn put_let_in_count(out: &mut Vec<u8>, count: usize) -> Result<(), Memory>
+    ensures { OnOk result (out.new.items ≡ out.old.items ++ model.let_in_count count) }
+{
+    put_number(out, ", let in from its delay list: ", count)
+}
+
+/// To whom the facility of a RELEASE was handed over, or how many a LEAVE let in.
+fn put_taken(
+    out: &mut Vec<u8>,
+    sim: &Sim,
+    count: usize,
+    released: Option<u16>,
+) -> Result<(), Memory>
+    ensures { OnOk result (out.new.items ≡ out.old.items
+        ++ model.taken_text sim.now.state count released) }
+{
+    match released {
+        Some(facility) => put_heir(out, sim, facility),
+        None => put_let_in_count(out, count),
+    }
+}
+
+/// The same, if somebody left a delay list.
+fn put_let_in(
+    out: &mut Vec<u8>,
+    before: &Sight,
+    sim: &Sim,
+    block: Option<&Block>,
+) -> Result<(), Memory>
+    ensures { OnOk result (out.new.items ≡ out.old.items
+        ++ model.let_in_text before.now sim.now.state (option_copied block.entry)) }
+{
+    let count = let_in(before, sim);
+    if count == 0 {
+        return Ok(());
+    }
+    put_taken(out, sim, count, released_by(block))
+}
+
+/// An entry of the block of a number, from 1, and what became of it.
+fn put_entry(out: &mut Vec<u8>, parts: &Parts, before: &Sight, sim: &Sim) -> Result<(), Memory>
+    ensures { OnOk result (out.new.items ≡ out.old.items
+        ++ model.entry_text parts.now before.now sim.now.state) }
+{
+    put(out, "enters ")?;
+    put_block_at(out, parts, before.next)?;
+    let block = block_of(parts.blocks.as_slice(), before.next);
+    put_rest(out, before, sim, block)?;
+    put_let_in(out, before, sim, block)
+}
+
+/// Where a transaction rests that was refused.
+fn waiting_place(before: &Sight, sim: &Sim) -> &'static str
+    ensures { result.now ≡ model.waiting_place before.now sim.now.state }
+{
+    if is_delayed(before, sim) {
+        ", waits on its delay list"
+    } else {
+        ", waits on the retry list"
+    }
+}
+
+/// A refusal, and where the refused one rests.
+fn put_refusal(out: &mut Vec<u8>, parts: &Parts, before: &Sight, sim: &Sim) -> Result<(), Memory>
+    ensures { OnOk result (out.new.items ≡ out.old.items
+        ++ model.refusal_text parts.now before.now sim.now.state) }
+{
+    put(out, "refused by ")?;
+    put_block_at(out, parts, before.next)?;
+    put(out, waiting_place(before, sim))
+}
+
+/// Where a run stopped by an end that changes nothing else.
+fn put_stop(out: &mut Vec<u8>, parts: &Parts, before: &Sight) -> Result<(), Memory>
+    ensures { OnOk result (out.new.items ≡ out.old.items ++ model.stop_text parts.now before.now) }
+{
+    match before.active {
+        None => put(out, "nobody is left to move"),
+        Some(_) => {
+            put(out, "stopped at ")?;
+            put_block_at(out, parts, before.next)
+        }
+    }
+}
+
+/// What happened, but for whom it woke and the end of the run.
+fn put_happening(
+    out: &mut Vec<u8>,
+    parts: &Parts,
+    before: &Sight,
+    sim: &Sim,
+    happening: Happening,
+) -> Result<(), Memory>
+    ensures { OnOk result (out.new.items ≡ out.old.items
+        ++ model.happening_text parts.now before.now sim.now.state happening) }
+{
+    match happening {
+        Happening::Activation => put(out, "becomes active"),
+        Happening::ClockMove => put(out, "the clock moves"),
+        Happening::Entry => put_entry(out, parts, before, sim),
+        Happening::Refusal => put_refusal(out, parts, before, sim),
+        Happening::Stop => put_stop(out, parts, before),
+    }
+}
+
+/// How many of the retry list were woken.
+fn put_woken_count(out: &mut Vec<u8>, count: usize) -> Result<(), Memory>
+    ensures { OnOk result (out.new.items ≡ out.old.items ++ model.woken_count count) }
+{
+    put_number(out, ", woken from the retry list: ", count)
+}
+
+/// The same, if any were.
+fn put_woken(out: &mut Vec<u8>, count: usize) -> Result<(), Memory>
+    ensures { OnOk result (out.new.items ≡ out.old.items ++ model.woken_text count) }
+{
+    if count == 0 {
+        return Ok(());
+    }
+    put_woken_count(out, count)
+}
+
+/// The named end to which the run came, if it did.
+fn put_end(out: &mut Vec<u8>, sim: &Sim) -> Result<(), Memory>
+    ensures { OnOk result (out.new.items ≡ out.old.items ++ model.end_text sim.now.state.ended) }
+{
+    match sim.status() {
+        Status::Running => Ok(()),
+        Status::Ended(end) => {
+            put(out, ", the run ends: ")?;
+            put(out, status_word(Status::Ended(end)))
+        }
+    }
+}
+
+/// The numbers of the transaction and of the block that a step was about; a dash where it was about none.
+fn put_subject(
+    out: &mut Vec<u8>,
+    before: &Sight,
+    sim: &Sim,
+    happening: Happening,
+) -> Result<(), Memory>
+    ensures { OnOk result (out.new.items ≡ out.old.items
+        ++ model.subject before.now sim.now.state happening) }
+{
+    match happening {
+        Happening::Activation => {
+            put_number_or_dash(out, 8, sim.active().unwrap_or(0))?;
+            put_number_or_dash(out, 7, u64::from(next_block(sim)))
+        }
+        _ => {
+            put_number_or_dash(out, 8, before.active.unwrap_or(0))?;
+            put_number_or_dash(out, 7, u64::from(before.next))
+        }
+    }
+}
+
+/// How many are on the current events chain, on the future events chain, on delay lists and on the retry list.
+fn put_lengths(out: &mut Vec<u8>, sim: &Sim) -> Result<(), Memory>
+    ensures { OnOk result (out.new.items ≡ out.old.items ++ model.lengths sim.now.state) }
+{
+    put_column(out, 7, sim.current_events())?;
+    put_column(out, 7, sim.future_events())?;
+    put_column(out, 7, sim.delayed())?;
+    put_column(out, 7, sim.retrying())
+}
+
+/// The columns of a line.
+#[tactic(auto, unfolding(crate::specs::Lines::columns))]
+fn put_columns(
+    out: &mut Vec<u8>,
+    before: &Sight,
+    sim: &Sim,
+    happening: Happening,
+) -> Result<(), Memory>
+    ensures { OnOk result (out.new.items ≡ out.old.items
+        ++ model.columns before.now sim.now.state happening) }
+{
+    put_column(out, 12, sim.clock())?;
+    put_subject(out, before, sim, happening)?;
+    put_lengths(out, sim)?;
+    put(out, "  ")
+}
+
+/// What happened, whom it woke, and the end of the run, if it ended.
+#[tactic(auto, unfolding(crate::specs::Lines::words))]
+fn put_words(
+    out: &mut Vec<u8>,
+    parts: &Parts,
+    before: &Sight,
+    sim: &Sim,
+    happening: Happening,
+) -> Result<(), Memory>
+    ensures { OnOk result (out.new.items ≡ out.old.items
+        ++ model.words parts.now before.now sim.now.state happening) }
+{
+    put_happening(out, parts, before, sim, happening)?;
+    put_woken(out, woken(before, sim, happening))?;
+    put_end(out, sim)?;
+    put(out, "\n")
+}
+
+/// The line of the step that led from what was seen to the state that a job is in.
+pub(crate) fn put_line(out: &mut Vec<u8>, before: &Sight, sim: &Sim) -> Result<(), Memory>
+    ensures { OnOk result (out.new.items ≡ out.old.items
+        ++ model.step_line sim.now.job.parts before.now sim.now.state) }
+{
+    let parts = sim.spec().verified().object().parts();
+    let happening = what_happened(before, sim);
+    put_columns(out, before, sim, happening)?;
+    put_words(out, parts, before, sim, happening)
+}

@@ -1,0 +1,128 @@
+//! From a model text to the trace of its run.
+
+ghost use Rattle.std.specs.Prelude.{◌≡◌, ◌++◌, OnOk, IfOk, None, Some};
+ghost use Rattle.gw_step.specs.Job.{Alone, IsReached, Step, start_of};
+ghost use Rattle.gw_answers.specs.Status.{ended as ended_status};
+ghost use Rattle.gw_model_jobs.specs.ModelJobs.{AnswersModel};
+ghost use Rattle.gw_model_jobs.specs.Running.{IsOver};
+ghost use Rattle.gw_trace.specs.Trace.{line_seen, line_within, heading, HasTraced, IsTrace};
+
+use crate::line::put_line;
+use crate::sight::Sight;
+use gw_answers::status::ENDED;
+use gw_answers::{Answer, BUDGET, NoJob, refused};
+use gw_model_jobs::{Time, is_over, spec_of_text};
+use gw_object::Memory;
+use gw_report::text::put;
+use gw_scan::{Sim, Spec};
+use std::alloc::Global;
+
+/// What the columns are: the clock in clock units, the transaction's and the block's number, how many are then on the
+/// current events chain, the future events chain, delay lists and the retry list, and what happened.
+const HEADING: &str = "       CLOCK    XACT  BLOCK    CEC    FEC  DELAY  RETRY  WHAT\n";
+
+/// The times between which steps are shown, both included, in clock units.
+#[derive(Clone, Copy, Debug, PartialEq, Eq)]
+pub struct Window {
+    /// The first.
+    pub from: Time,
+    /// The last.
+    pub to: Time,
+}
+
+/// The line of a step, where the clock is within the window.
+fn put_line_within(
+    out: &mut Vec<u8>,
+    window: Window,
+    before: &Sight,
+    sim: &Sim,
+) -> Result<(), Memory>
+    ensures { OnOk result (out.new.items ≡ out.old.items
+        ++ line_seen sim.now.job.parts window.from.0 window.to.0 before.now sim.now.state) }
+{
+    if window.from.0 <= sim.clock() && sim.clock() <= window.to.0 {
+        put_line(out, before, sim)
+    } else {
+        Ok(())
+    }
+}
+
+/// Makes a step, and puts its line where the clock is then within the window.
+fn trace_step(out: &mut Vec<u8>, window: Window, sim: &mut Sim) -> Result<(), Memory>
+    requires { sim.old.state.ended ≡ None }
+    ensures made { OnOk result (Step sim.old.job sim.old.state sim.new.state) }
+    ensures line { OnOk result (out.new.items ≡ out.old.items
+        ++ line_within sim.old.job.parts window.from.0 window.to.0 sim.old.state sim.new.state) }
+    ensures job { sim.new.job ≡ sim.old.job }
+    ensures reached { IsReached sim.new }
+{
+    let before = Sight::of(sim);
+    sim.step()?;
+    put_line_within(out, window, &before, sim)
+}
+
+/// Makes steps until it is over, and puts their lines.
+fn trace_steps(out: &mut Vec<u8>, window: Window, sim: &mut Sim) -> Result<(), Memory>
+    requires budget { sim.old.job.budget ≡ BUDGET }
+    requires start { start_of sim.old.job ≡ Some sim.old.state }
+    requires heading { out.old.items ≡ heading }
+    ensures job { sim.new.job ≡ sim.old.job }
+    ensures traced { OnOk result (HasTraced window.from.0 window.to.0 sim.new out.new.items) }
+    ensures over { OnOk result (IsOver window.to.0 sim.new.state) }
+    ensures alone { OnOk result (Alone sim.new.job sim.new.state.steps sim.new.state) }
+{
+    for _ in 0..BUDGET {
+        if is_over(window.to, sim) {
+            return Ok(());
+        }
+        trace_step(out, window, sim)?;
+    }
+    Ok(())
+}
+
+/// The trace of a job that has started.
+#[tactic(auto, unfolding(crate::specs::Trace::heading))]
+fn trace_of_run(alloc: Global, sim: &mut Sim, window: Window) -> Result<Answer, Memory>
+    requires budget { sim.old.job.budget ≡ BUDGET }
+    requires start { start_of sim.old.job ≡ Some sim.old.state }
+    ensures { IfOk result (λ a. (a.status ≡ ended_status)
+        × IsTrace window.from.0 window.to.0 sim.old.job a.text.items) }
+{
+    let mut text = Vec::new(alloc);
+    put(&mut text, HEADING)?;
+    trace_steps(&mut text, window, sim)?;
+    Ok(Answer {
+        text,
+        status: ENDED,
+    })
+}
+
+/// The trace of a job, from its start.
+fn trace_of_job(alloc: Global, spec: Spec, window: Window) -> Result<Answer, Memory>
+    requires { spec.budget ≡ BUDGET }
+    ensures { IfOk result (λ a. (a.status ≡ ended_status)
+        × IsTrace window.from.0 window.to.0 spec a.text.items) }
+{
+    match Sim::start(alloc, spec) {
+        Ok(mut sim) => trace_of_run(alloc, &mut sim, window),
+        Err(_) => Err(Memory),
+    }
+}
+
+/// The trace of a model text from one time of the clock to another, both included, in clock units: what the columns are, and a
+/// line for each step after which the clock lies there, in order; or the line of the refusal, as the assembler's is printed.
+///
+/// It fails for want of memory.
+pub fn trace(alloc: Global, text: &[u8], from: i64, to: i64) -> Result<Answer, Memory>
+    ensures { IfOk result (λ a. AnswersModel (IsTrace from to) text.now a.text.items a.status) }
+{
+    let window = Window {
+        from: Time(from),
+        to: Time(to),
+    };
+    match spec_of_text(alloc, text) {
+        Ok(spec) => trace_of_job(alloc, spec, window),
+        Err(NoJob::Refused(refusal)) => refused(alloc, refusal),
+        Err(NoJob::OutOfMemory) => Err(Memory),
+    }
+}
