@@ -1,0 +1,2 @@
+pub mod Quantiles
+pub mod Summaries

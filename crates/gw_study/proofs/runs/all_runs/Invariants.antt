@@ -1,0 +1,15 @@
+use Rattle.std.proofs.Common.{◌≡◌, ◌≤◌, ◌-◌, ℕ, length, map}
+use Rattle.std.specs.Vec.{vec_len}
+use Rattle.gw_study.specs.Runs.{AreReports}
+use Rattle.gw_study.proofs.runs.all_runs.Given as goal
+
+abbrev pub invariant-loop-end : goal.invariant-loop-end
+invariant-loop-end g l = record {
+  crew : l.crew.board ≡ l.fn.service;
+  reports : AreReports l.count l.object (map (λ r. r.items) l.reports.items);
+  all : vec_len l.reports ≡ l.end;
+  within : l.end ≤ l.runs;
+}
+
+abbrev pub decreases-loop-end : goal.decreases-loop-end
+decreases-loop-end g l = l.runs - l.end

@@ -1,0 +1,5 @@
+pub mod Seeds
+pub mod Runs
+pub mod Text
+pub mod Rows
+pub mod Study

@@ -1,0 +1,251 @@
+//! The runs of a study, by a service and its workers.
+
+ghost use Rattle.std.specs.Prelude.{◌≡◌, ◌<◌, ◌≤◌, ◌+◌, length, vec_len, map, IfOk, OnOk};
+ghost use Rattle.gw_pool.specs.Shares.{AreWhole};
+ghost use Rattle.gw_answers.specs.Answer.{Ends};
+ghost use Rattle.gw_study.specs.Runs.{IsPassOf, ArePassesFrom, AddsReports, AreReports};
+
+use crate::job::job_of_run;
+use gw_answers::NoJob;
+use gw_batch::{refusal_of_job, reply_to};
+use gw_jobs::{JobFault, Pass};
+use gw_pool::{Crew, OpenGate, PoolFault, Service, Shared};
+use gw_scan::Spec;
+use std::alloc::Global;
+use std::collections::VecDeque;
+use std::io::Eprint;
+use std::marker::Brand;
+use std::sync::ledger::{Blank, Ledger};
+use std::sync::{Mutex, Wait};
+use std::thread::Threads;
+
+/// The parts of each ledger of a service.
+const PARTS: u64 = 17;
+
+/// So many runs are submitted together.
+const TOGETHER: u32 = 64;
+
+/// So many runs, one after the other, are of one user: as many of a user's jobs may run at once.
+const RUNS_OF_A_USER: u32 = 16;
+
+/// How many workers run them.
+const WORKERS: u32 = 8;
+
+/// How many steps a slice of a worker has: as many as it may.
+const SLICE: u32 = 1 << 20;
+
+/// A refusal by the service.
+fn refused_by(fault: JobFault) -> NoJob {
+    match fault {
+        JobFault::Memory => NoJob::OutOfMemory,
+        _ => NoJob::Refused(refusal_of_job(fault)),
+    }
+}
+
+/// Submits the job of a run.
+fn submit<R: Ledger, S: Ledger, W: Wait>(
+    rt: &W,
+    alloc: Global,
+    table: &Mutex<Shared<R, S>>,
+    run: u32,
+    spec: Spec,
+) -> Result<Pass, NoJob>
+    ensures { IfOk result (λ pass. pass.job ≡ spec) }
+{
+    match table
+        .lock(rt)
+        .submit(alloc, u64::from(run / RUNS_OF_A_USER), spec)
+    {
+        Ok(pass) => Ok(pass),
+        Err((_, fault)) => Err(refused_by(fault)),
+    }
+}
+
+/// Submits a run.
+fn submit_run<R: Ledger, S: Ledger, W: Wait>(
+    rt: &W,
+    alloc: Global,
+    table: &Mutex<Shared<R, S>>,
+    object: &[u8],
+    count: u64,
+    run: u32,
+) -> Result<Pass, NoJob>
+    requires { run < 1024 }
+    ensures { IfOk result (IsPassOf count object.now run) }
+{
+    let spec = job_of_run(alloc, object, run, count)?;
+    submit(rt, alloc, table, run, spec)
+}
+
+/// Submits the runs from one number to another, but not that one.
+fn submit_runs<R: Ledger, S: Ledger, W: Wait>(
+    rt: &W,
+    alloc: Global,
+    table: &Mutex<Shared<R, S>>,
+    object: &[u8],
+    count: u64,
+    first: u32,
+    end: u32,
+) -> Result<VecDeque<Pass>, NoJob>
+    requires { (first ≤ end) × (end ≤ 1024) }
+    ensures passes { IfOk result (λ passes. ArePassesFrom count object.now first passes.items) }
+    ensures all { IfOk result (λ passes. first + length passes.items ≡ end) }
+{
+    let mut passes = VecDeque::new(alloc);
+    for run in first..end {
+        let pass = submit_run(rt, alloc, table, object, count, run)?;
+        if passes.push_back(pass).is_err() {
+            return Err(NoJob::OutOfMemory);
+        }
+    }
+    Ok(passes)
+}
+
+/// The report of a run.
+fn report_to<R: Ledger, S: Ledger, W: Wait>(
+    rt: &W,
+    alloc: Global,
+    table: &Mutex<Shared<R, S>>,
+    pass: &Pass,
+) -> Result<Vec<u8>, NoJob>
+    ensures { IfOk result (λ report. Ends pass.now.job report.items) }
+{
+    match reply_to(rt, alloc, table, pass) {
+        Ok(reply) => Ok(reply.report),
+        Err(fault) => Err(refused_by(fault)),
+    }
+}
+
+/// Appends the reports of runs, in order.
+fn collect_runs<R: Ledger, S: Ledger, W: Wait>(
+    rt: &W,
+    alloc: Global,
+    table: &Mutex<Shared<R, S>>,
+    mut passes: VecDeque<Pass>,
+    reports: &mut Vec<Vec<u8>>,
+) -> Result<(), NoJob>
+    ensures len { OnOk result (vec_len reports.new ≡ vec_len reports.old + length passes.items) }
+    ensures added { OnOk result (AddsReports passes.items (map (λ r. r.items) reports.old.items) (map (λ r. r.items) reports.new.items)) }
+{
+    while let Some(pass) = passes.pop_front() {
+        let report = report_to(rt, alloc, table, &pass)?;
+        if reports.push(report).is_err() {
+            return Err(NoJob::OutOfMemory);
+        }
+    }
+    Ok(())
+}
+
+/// Runs the workers of a service. Where none could be started the jobs stay as they are.
+fn run_workers<R: Ledger + Send + Sync, S: Ledger + Send + Sync, W: Threads + Wait + Sync>(
+    rt: &W,
+    alloc: Global,
+    service: &Service<R, S>,
+    crew: &mut Crew<R, S>,
+) -> Result<(), NoJob>
+    requires { crew.old.board ≡ service.now }
+    ensures { crew.new.board ≡ crew.old.board }
+{
+    match service.run_workers(rt, alloc, crew, WORKERS, SLICE, &OpenGate) {
+        Err(PoolFault::Memory) => Err(NoJob::OutOfMemory),
+        Ok(_) | Err(_) => Ok(()),
+    }
+}
+
+/// Makes the runs from one number to another, but not that one, and appends their reports.
+fn make_runs<R: Ledger + Send + Sync, S: Ledger + Send + Sync, W: Threads + Wait + Sync>(
+    rt: &W,
+    alloc: Global,
+    service: &Service<R, S>,
+    crew: &mut Crew<R, S>,
+    object: &[u8],
+    count: u64,
+    end: u32,
+    reports: &mut Vec<Vec<u8>>,
+) -> Result<(), NoJob>
+    requires crew { crew.old.board ≡ service.now }
+    requires runs { (vec_len reports.old ≤ end) × (end ≤ 1024) }
+    requires before { AreReports count object.now (map (λ r. r.items) reports.old.items) }
+    ensures crew { crew.new.board ≡ crew.old.board }
+    ensures reports { OnOk result (AreReports count object.now (map (λ r. r.items) reports.new.items)) }
+    ensures all { OnOk result (vec_len reports.new ≡ end) }
+{
+    let first = reports.len() as u32;
+    let passes = submit_runs(rt, alloc, service.table(), object, count, first, end)?;
+    run_workers(rt, alloc, service, crew)?;
+    collect_runs(rt, alloc, service.table(), passes, reports)
+}
+
+/// Makes all runs of an object, some at a time, and tells how far it is.
+fn all_runs<R: Ledger + Send + Sync, S: Ledger + Send + Sync, W: Threads + Wait + Sync + Eprint>(
+    rt: &W,
+    alloc: Global,
+    service: &Service<R, S>,
+    crew: &mut Crew<R, S>,
+    object: &[u8],
+    count: u64,
+    runs: u32,
+) -> Result<Vec<Vec<u8>>, NoJob>
+    requires crew { crew.old.board ≡ service.now }
+    requires runs { runs ≤ 1024 }
+    ensures reports { IfOk result (λ reports. AreReports count object.now (map (λ r. r.items) reports.items)) }
+    ensures all { IfOk result (λ reports. vec_len reports ≡ runs) }
+{
+    let mut reports = Vec::new(alloc);
+    let mut end = 0;
+    while end < runs {
+        end = runs.min(end + TOGETHER);
+        make_runs(rt, alloc, service, crew, object, count, end, &mut reports)?;
+        let _ = eprintln!(rt; "{end} of {runs} runs");
+    }
+    Ok(reports)
+}
+
+/// The same, by a service whose ledgers the type parameters name.
+fn runs_by<R: Ledger + Send + Sync, S: Ledger + Send + Sync, W: Threads + Wait + Sync + Eprint>(
+    rt: &W,
+    alloc: Global,
+    rows: Blank,
+    steps: Blank,
+    object: &[u8],
+    count: u64,
+    runs: u32,
+) -> Result<Vec<Vec<u8>>, NoJob>
+    requires names { (rows.name ≡ R.name) × (steps.name ≡ S.name) }
+    requires parts { (rows.parts ≡ R.parts) × (steps.parts ≡ S.parts) }
+    requires whole { AreWhole rows.parts steps.parts }
+    requires runs { runs ≤ 1024 }
+    ensures reports { IfOk result (λ reports. AreReports count object.now (map (λ r. r.items) reports.items)) }
+    ensures all { IfOk result (λ reports. vec_len reports ≡ runs) }
+{
+    match Service::<R, S>::new(alloc, rows, steps) {
+        Ok((service, mut crew, _seat)) => all_runs(
+            rt, alloc, &service, &mut crew, object, count, runs,
+        ),
+        Err(_) => Err(NoJob::OutOfMemory),
+    }
+}
+
+/// The reports of so many runs of an object, at most 1,024, with this count, where 0 is the object's own. Workers make them, 64
+/// at a time, each in slices; a line on standard error tells how far they are.
+pub(crate) fn reports_of<W: Threads + Wait + Sync + Eprint>(
+    rt: &W,
+    alloc: Global,
+    object: &[u8],
+    count: u64,
+    runs: u32,
+) -> Result<Vec<Vec<u8>>, NoJob>
+    requires { runs ≤ 1024 }
+    ensures reports { IfOk result (λ reports. AreReports count object.now (map (λ r. r.items) reports.items)) }
+    ensures all { IfOk result (λ reports. vec_len reports ≡ runs) }
+{
+    runs_by::<Brand, Brand, W>(
+        rt,
+        alloc,
+        Blank::new(PARTS),
+        Blank::new(PARTS),
+        object,
+        count,
+        runs,
+    )
+}
