@@ -1,0 +1,19 @@
+use Rattle.gw_console.proofs.Outputs.{output, answered, statuses, answer_statuses}
+use Rattle.gw_console.proofs.Calls.{of_reading}
+use Rattle.planner.proofs.Endings.{question_ends}
+use Rattle.planner.proofs.program.ask.Goals as goal
+
+pub returns-clause-answered : goal.returns-clause-answered
+returns-clause-answered g c = answered _ (question_ends c.args.question) _ _ _ _ c.read_and_answer.result c.read_and_answer.ensures.answer c.deliver.ensures.bytes
+
+pub returns-clause-statuses : goal.returns-clause-statuses
+returns-clause-statuses g c = statuses _ (question_ends c.args.question) _ _ _ _ c.read_and_answer.result c.read_and_answer.ensures.answer c.deliver.ensures.bytes
+
+pub returns-clause-output : goal.returns-clause-output
+returns-clause-output g c = output _ (question_ends c.args.question) _ _ _ _ c.read_and_answer.result c.read_and_answer.ensures.answer c.deliver.ensures.bytes
+
+pub returns-clause-calls : goal.returns-clause-calls
+returns-clause-calls g c =
+    let reading = c.read_and_answer.ensures in
+    of_reading _ _ _ _ _ c.requires.reader c.read_and_answer.result (answer_statuses _ (question_ends c.args.question) _ c.read_and_answer.result reading.answer)
+    reading.told reading.whole reading.limited c.deliver.ensures.bytes c.deliver.ensures.told c.deliver.ensures.flushed

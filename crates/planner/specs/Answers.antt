@@ -1,0 +1,39 @@
+-- What the program writes.
+use Rattle.std.specs.Prelude.{◌≡◌, ◌≤◌, ◌<◌, ℕ, ◌+◌, List, take, codes, Option}
+use Rattle.gw_object.specs.declared.limits.TheConstants.{MOST_BYTES}
+use Rattle.gw_answers.specs.Status.{ended}
+use Rattle.gw_answers.specs.Requests.{Answering}
+use Rattle.gw_console.specs.Output.{Writes, Responds}
+use Rattle.gw_explain.specs.Explanation.{IsExplained}
+use Rattle.gw_listing.specs.Listing.{IsListed}
+use Rattle.gw_model_jobs.specs.ModelJobs.{AnswersModel}
+use Rattle.gw_trace.specs.Trace.{IsTrace}
+use Rattle.gw_chart.specs.Charts.{IsChart}
+use Rattle.gw_study.specs.Study.{IsStudy}
+use Rattle.planner.specs.declared.help.TheConstants.{HELP, VERSION, USAGE}
+use Rattle.planner.specs.declared.words.Command.{Command}
+use Rattle.planner.specs.declared.words.Command.TheVariants.{Ask, Help, Version}
+use Rattle.planner.specs.declared.words.Question.{Question}
+use Rattle.planner.specs.declared.words.Question.TheVariants.{Explain, List as Lists, Chart, Trace, Study}
+
+-- what answers a question about an input
+abbrev pub asked : Question → Answering
+asked Explain = IsExplained
+asked Lists = IsListed
+asked Chart = AnswersModel IsChart
+asked (Trace from to) = AnswersModel (IsTrace from to)
+asked (Study runs count) = λ bytes. IsStudy bytes runs count
+
+-- about what stands on a reader: of more bytes than a model or an object may have, about their front, which is refused
+abbrev pub answering : Question → Answering
+answering question bytes = asked question (take (MOST_BYTES + 1) bytes)
+
+-- the line on wrong words
+abbrev pub usage_line : List ℕ
+usage_line = USAGE.now
+
+-- a command answers its question, or writes what the program says of itself
+abbrev pub DoesCommand : Command → Option (List ℕ) → ℕ → Option (List ℕ) → Option (List ℕ) → Type 0
+DoesCommand (Ask question) known result old new = Responds (answering question) known result old new
+DoesCommand Help known result old new = Writes HELP.now ended result old new
+DoesCommand Version known result old new = Writes VERSION.now ended result old new

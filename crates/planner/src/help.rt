@@ -1,0 +1,28 @@
+//! What the program says of itself.
+
+/// How the program is used.
+pub const HELP: &[u8] = b"planner: what planners ask of a queueing model (docs/planner.md)
+
+A model is a text in GPSS, as those in examples/. The launcher ./planner takes its file as
+the second word; without it the program reads the model from standard input.
+
+  planner explain MODEL               what is wrong, on which line, and how to mend it;
+                                      or what is in a model that is accepted
+  planner list MODEL                  the listed object code, of a model or of an object
+  planner trace MODEL FROM TO         the steps of the run from one clock time to another
+  planner chart MODEL                 a picture (SVG) of what is where over time
+  planner study MODEL RUNS [COUNT]    so many runs with other random numbers, 1 to 1024:
+                                      each figure's mean, least, greatest, and how sure
+  planner help                        this
+  planner --version                   which version it is
+
+Status: 0 where the answer came, 1 where the model was refused, 2 on other words, 3 where
+a file, a read or a write failed, 4 where memory ran out.
+";
+
+/// The version.
+pub const VERSION: &[u8] = b"planner 1\n";
+
+/// The line on wrong words.
+pub const USAGE: &[u8] =
+    b"usage: planner explain | list | trace FROM TO | chart | study RUNS [COUNT] | help | --version\n";

@@ -1,0 +1,112 @@
+//! The program, over its words, a reader and a writer.
+
+ghost use Rattle.std.specs.Prelude.{◌≡◌, ◌≢◌, ◌+◌, [], ◌∷◌, map, false, None, IfOk, OnOk, MatchOption, Contains};
+ghost use Rattle.std.specs.String.{string_bytes};
+ghost use Rattle.gw_answers.specs.Status.{ended, refused, wrong_words, failed, no_memory};
+ghost use Rattle.gw_console.specs.Output.{AnswersReader, Writes, Responds, WritesAnswer};
+ghost use Rattle.gw_console.specs.Calls.{LosesFront, LosesAtMost, TellsReads, TellsCalls};
+ghost use Rattle.planner.specs.Words.{command_in};
+ghost use Rattle.planner.specs.Asking.{MayBeAsked};
+ghost use Rattle.planner.specs.Answers.{asked, answering, DoesCommand, usage_line};
+
+use crate::help::{HELP, USAGE, VERSION};
+use crate::words::{Command, Question, command_of};
+use gw_answers::Answer;
+use gw_answers::status::{ENDED, WRONG_WORDS};
+use gw_chart::chart;
+use gw_console::{ProgramFault, deliver, or_no_memory, read_input, write_and_end};
+use gw_explain::explain;
+use gw_listing::list;
+use gw_object::{MOST_BYTES, Memory};
+use gw_streams::{Input, Output};
+use gw_study::study;
+use gw_trace::trace;
+use std::alloc::Global;
+use std::io::{Eprint, Read, Write};
+use std::sync::Wait;
+use std::thread::Threads;
+
+/// What a question about an input comes to.
+fn answer<T: Threads + Wait + Sync + Eprint>(
+    rt: &T,
+    alloc: Global,
+    question: Question,
+    input: &[u8],
+) -> Result<Answer, Memory>
+    requires { MayBeAsked question }
+    ensures { IfOk result (λ a. asked question input.now a.text.items a.status) }
+{
+    match question {
+        Question::Explain => explain(alloc, input),
+        Question::List => list(alloc, input),
+        Question::Chart => chart(alloc, input),
+        Question::Trace { from, to } => trace(alloc, input, from, to),
+        Question::Study { runs, count } => study(rt, alloc, input, runs, count),
+    }
+}
+
+/// Reads all that is to be read, and then answers it.
+fn read_and_answer<R: Read, T: Threads + Wait + Sync + Eprint>(
+    rt: &T,
+    alloc: Global,
+    question: Question,
+    reader: &mut Input<R>,
+) -> Result<Answer, ProgramFault>
+    requires asked { MayBeAsked question }
+    requires reader { reader.old.failed ≡ false }
+    ensures answer { IfOk result (λ a.
+        AnswersReader (answering question) reader.old.left a.text.items a.status) }
+    ensures told { TellsReads result reader.old.failed reader.new.failed }
+    ensures whole { OnOk result (LosesFront (MOST_BYTES + 1) reader.old.left reader.new.left) }
+    ensures limited { LosesAtMost (MOST_BYTES + 1) reader.old.left reader.new.left }
+{
+    let input = read_input(alloc, reader)?;
+    or_no_memory(answer(rt, alloc, question, &input))
+}
+
+/// Asks something of a model: reads all of it, and writes the answer. It answers the status: 0 where the answer came, 1 where the
+/// model was refused, 3 where a read or a write failed, 4 where memory ran out. Nothing is written before all input is read. Only
+/// `study` waits, for its workers, and tells on standard error how far it is.
+pub fn ask<R: Read, W: Write, T: Threads + Wait + Sync + Eprint>(
+    rt: &T,
+    alloc: Global,
+    question: Question,
+    reader: &mut Input<R>,
+    writer: &mut Output<W>,
+) -> u8
+    requires asked { MayBeAsked question }
+    requires reader { reader.old.failed ≡ false }
+    requires writer { writer.old.failed ≡ false }
+    ensures answered { result ≢ failed → result ≢ no_memory →
+        WritesAnswer (answering question) reader.old.left result writer.old.held writer.new.held }
+    ensures statuses { Contains (ended ∷ refused ∷ failed ∷ no_memory ∷ []) result }
+
+    // Whatever failed: what was to be written, and how much of it was.
+    ensures output { Responds (answering question)
+        reader.old.left result writer.old.held writer.new.held }
+    ensures calls { TellsCalls result reader.old reader.new writer.old writer.new }
+{
+    deliver(writer, read_and_answer(rt, alloc, question, reader))
+}
+
+/// The program: the command that its words name. On any other words it writes the usage line, with status 2, and reads nothing.
+pub fn dispatch<R: Read, W: Write, T: Threads + Wait + Sync + Eprint>(
+    rt: &T,
+    alloc: Global,
+    words: &[String],
+    reader: &mut Input<R>,
+    writer: &mut Output<W>,
+) -> u8
+    requires reader { reader.old.failed ≡ false }
+    requires writer { writer.old.failed ≡ false }
+    ensures { MatchOption (command_in (map string_bytes words.now))
+        (Writes usage_line wrong_words result writer.old.held writer.new.held)
+        (λ command. DoesCommand command reader.old.left result writer.old.held writer.new.held) }
+{
+    match command_of(words) {
+        Some(Command::Ask(question)) => ask(rt, alloc, question, reader, writer),
+        Some(Command::Help) => write_and_end(writer, HELP, ENDED),
+        Some(Command::Version) => write_and_end(writer, VERSION, ENDED),
+        None => write_and_end(writer, USAGE, WRONG_WORDS),
+    }
+}
