@@ -16,7 +16,7 @@ pub last_or_run : {X : Type 0} (d : ℕ) (S : Links X) (n k : ℕ) → 0 < n →
 last_or_run d S zero k some = absurd (omega (arith, some))
 last_or_run d S (suc n) k some = refl
 
-first_in_run : {X : Type 0} (S : Links X) (n k : ℕ) → 0 < n → 0 < times k (run S n k)
+pub first_in_run : {X : Type 0} (S : Links X) (n k : ℕ) → 0 < n → 0 < times k (run S n k)
 first_in_run S zero k some = absurd (omega (arith, some))
 first_in_run S (suc n) k some = times-first k _
 

@@ -11,3 +11,6 @@ pub mod Leaving
 pub mod Heading
 pub mod Ranking
 pub mod Filing
+pub mod Unlinking
+pub mod Spotting
+pub mod Taking

@@ -5,7 +5,7 @@ use Rattle.std.proofs.lemmas.List.{take-append-le, drop-append-le}
 use Rattle.gw_chains.specs.Lists.{turned}
 
 module _ {T : Type 0} where
-  remove-middle : (xs : List T) (x : T) (ys : List T) → remove (xs ++ x ∷ ys) (length xs) ≡ xs ++ ys
+  pub remove-middle : (xs : List T) (x : T) (ys : List T) → remove (xs ++ x ∷ ys) (length xs) ≡ xs ++ ys
   remove-middle [] x ys = refl
   remove-middle (z ∷ zs) x ys = ap (λ ws. z ∷ ws) (remove-middle zs x ys)
 

@@ -4,7 +4,9 @@ pub mod Runs
 pub mod Chunks
 pub mod Newcomers
 pub mod Buckets
+pub mod Spots
 pub mod Calls
 pub mod PriorityCalls
+pub mod DelayCalls
 pub mod Assembling
 pub mod Register

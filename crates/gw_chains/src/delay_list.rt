@@ -1,42 +1,58 @@
 //! The delay list of one entity.
 
-ghost use Rattle.std.specs.Prelude.{◌≡◌, ◌≤◌, ◌<◌, ◌+◌, ◌-◌, ◌↔◌, [], length, option_map, slice_get, remove, IsSome, OnOk, OnErr};
-ghost use Rattle.std.specs.VecDeque.{deque_len, deque_capacity};
+ghost use Rattle.std.specs.Prelude.{◌≡◌, ◌≤◌, ◌<◌, ◌+◌, ◌↔◌, [], length, option_map, slice_get, remove, IsSome, OnOk, OnErr};
 ghost use Rattle.gw_chains.specs.Chain.{behind};
-ghost use Rattle.gw_chains.specs.Lists.{turned};
 ghost use Rattle.gw_chains.specs.declared.tx.Member.{Member};
 
-use crate::queue::join_behind;
+use crate::bucket::{Bucket, Link};
+use crate::buckets::reserve_links;
+use crate::row::{insert_behind, unlink};
+use crate::spot::{Spot, member_at, settle, spot_behind, spot_of, start_of};
+use crate::tx::MOST;
 use crate::{Member, Memory, Tx};
+use slab::Slab;
 use std::alloc::Global;
 use std::collections::VecDeque;
 use std::marker::Model;
 
 /// The delay list of one entity, by priority, with a walk over it that can take members out.
+///
+/// It is kept in buckets, one for each priority that occurs, whose members are linked to one another: so nobody moves, whoever
+/// joins or leaves, but the buckets on one side of one that is new or gone. A member takes a link and no more.
 #[derive(Debug, Drop)]
 pub struct DelayList {
-    // Those that the walk has still to look at, and behind them those that it has passed.
-    ring: VecDeque<Member>,
-    // How many the walk has passed.
-    passed: usize,
+    buckets: VecDeque<Bucket>,
+    links: Slab<Link<Member>>,
+    // How many members there are.
+    count: usize,
+    // Where the walk has come: to a member, or to the end.
+    walk: Spot,
 }
 
 impl Model for DelayList {
-    ghost use Rattle.std.specs.Prelude.{◌-◌, ◌≤◌};
+    ghost use Rattle.std.specs.Prelude.{◌≡◌, ◌≤◌, ◌-◌, ◌^◌, length, min, neg_ℤ};
     ghost use Rattle.std.specs.VecDeque.{deque_len, deque_capacity};
-    ghost use Rattle.gw_chains.specs.Chain.{IsByPriority};
-    ghost use Rattle.gw_chains.specs.Lists.{Walked, turned};
+    ghost use Rattle.slab.specs.Slab.{get, slab_len};
+    ghost use Rattle.gw_chains.specs.Lists.{Walked, room_of};
+    ghost use Rattle.gw_chains.specs.Buckets.{members_of, total, AreBuckets};
+    ghost use Rattle.gw_chains.specs.Spots.{place_at, IsSpot, IsSettled};
     ghost use Rattle.gw_chains.specs.declared.tx.Member.{Member};
 
     ghost Value = { Walked };
 
-    ghost invariant = { λ l. (l.passed ≤ deque_len l.ring)
-        × IsByPriority (λ (m : Member). m.priority) (turned (deque_len l.ring - l.passed) l.ring.items) };
+    ghost invariant = { λ l.
+        AreBuckets (λ (m : Member). neg_ℤ m.priority) (get l.links) l.buckets.items
+        × (l.count ≡ length (members_of (get l.links) l.buckets.items))
+        × (l.count ≡ total l.buckets.items)
+        × (l.count ≤ 2 ^ 62)
+        × IsSpot (get l.links) l.buckets.items l.walk
+        × IsSettled l.buckets.items l.walk };
 
     ghost view = { λ l. record {
-      members = turned (deque_len l.ring - l.passed) l.ring.items;
-      room = deque_capacity l.ring - deque_len l.ring;
-      place = l.passed;
+      members = members_of (get l.links) l.buckets.items;
+      room = room_of l.count (min (l.links.capacity - slab_len l.links)
+          (deque_capacity l.buckets - deque_len l.buckets));
+      place = place_at l.buckets.items l.walk.bucket l.walk.passed;
     } };
 }
 
@@ -47,8 +63,10 @@ impl DelayList {
         ensures place { result.place ≡ 0 }
     {
         DelayList {
-            ring: VecDeque::new(alloc),
-            passed: 0,
+            buckets: VecDeque::new(alloc),
+            links: Slab::new(alloc),
+            count: 0,
+            walk: start_of(0),
         }
     }
 
@@ -60,52 +78,58 @@ impl DelayList {
         ensures kept { self.old.room ≤ self.new.room }
         ensures refused { OnErr result (self.old.room < more) }
     {
-        self.ring.reserve(more)
+        if MOST - self.count < more {
+            return Err(Memory);
+        }
+        reserve_links(&mut self.links, more)?;
+        self.buckets.reserve(more)
     }
 
     /// How many members there are.
     pub fn len(&self) -> usize
         ensures { result ≡ length self.now.members }
     {
-        self.ring.len()
+        self.count
     }
 
     /// The transaction at this place, from 0, if there is one.
     pub fn get(&self, place: usize) -> Option<Tx>
         ensures { result ≡ option_map (λ m. m.tx) (slice_get self.now.members place) }
     {
-        if self.ring.len() <= place {
+        if self.count <= place {
             return None;
         }
-        let index = if place < self.passed {
-            self.ring.len() - self.passed + place
-        } else {
-            place - self.passed
-        };
-        Some(self.ring[index].tx)
+        let spot = spot_of(&self.buckets, &self.links, place);
+        Some(member_at(&self.buckets, &self.links, spot).tx)
     }
 
-    /// Puts it behind its peers: behind all of equal or higher priority. There is room.
+    /// Puts it behind its peers: behind all of equal or higher priority. There is room. The walk is at the first again.
     pub fn insert_behind(&mut self, tx: Tx, priority: i32)
         requires { 0 < self.old.room }
         ensures members { let newcomer : Member = record { tx = tx; priority = priority } in
             self.new.members ≡ behind (λ m. m.priority) newcomer self.old.members }
         ensures len { length self.new.members ≡ length self.old.members + 1 }
+        ensures place { self.new.place ≡ 0 }
         ensures room { self.old.room ≤ self.new.room + 1 }
     {
-        turn_back(&mut self.ring, &mut self.passed);
-        join_behind(&mut self.ring, tx, priority);
+        let member = Member { tx, priority };
+        insert_behind(&mut self.buckets, &mut self.links, member);
+        self.count += 1;
+        self.walk = start_of(0);
     }
 
-    /// Removes the member at this place, from 0. There is one.
+    /// Removes the member at this place, from 0. There is one. The walk is at the first again.
     pub fn remove(&mut self, place: usize)
         requires { place < length self.old.members }
         ensures members { self.new.members ≡ remove self.old.members place }
         ensures len { length self.new.members + 1 ≡ length self.old.members }
+        ensures place { self.new.place ≡ 0 }
         ensures room { self.old.room ≤ self.new.room }
     {
-        turn_back(&mut self.ring, &mut self.passed);
-        let _ = self.ring.remove(place);
+        let spot = spot_of(&self.buckets, &self.links, place);
+        let _ = unlink(&mut self.buckets, &mut self.links, spot);
+        self.count -= 1;
+        self.walk = start_of(0);
     }
 
     /// Begins a walk at the first member.
@@ -114,7 +138,7 @@ impl DelayList {
         ensures place { self.new.place ≡ 0 }
         ensures room { self.old.room ≤ self.new.room }
     {
-        turn_back(&mut self.ring, &mut self.passed);
+        self.walk = start_of(0);
     }
 
     /// The transaction to which the walk has come, if it is not at the end.
@@ -122,10 +146,10 @@ impl DelayList {
         ensures value { result ≡ option_map (λ m. m.tx) (slice_get self.now.members self.now.place) }
         ensures there { IsSome result ↔ (self.now.place < length self.now.members) }
     {
-        if self.passed == self.ring.len() {
+        if self.buckets.len() <= self.walk.bucket {
             return None;
         }
-        Some(self.ring[0].tx)
+        Some(member_at(&self.buckets, &self.links, self.walk).tx)
     }
 
     /// The walk goes on past the member to which it has come. It is not at the end.
@@ -135,13 +159,8 @@ impl DelayList {
         ensures place { self.new.place ≡ self.old.place + 1 }
         ensures room { self.old.room ≤ self.new.room }
     {
-        match self.ring.pop_front() {
-            Some(member) => {
-                self.ring.push_back_reserved(member);
-                self.passed += 1;
-            }
-            None => unreachable!(),
-        }
+        let behind = spot_behind(&self.buckets, &self.links, self.walk);
+        self.walk = settle(&self.buckets, behind);
     }
 
     /// Takes out the member to which the walk has come, which is then at the next. It is not at
@@ -153,18 +172,8 @@ impl DelayList {
         ensures place { self.new.place ≡ self.old.place }
         ensures room { self.old.room ≤ self.new.room }
     {
-        let _ = self.ring.pop_front();
+        let _ = unlink(&mut self.buckets, &mut self.links, self.walk);
+        self.count -= 1;
+        self.walk = settle(&self.buckets, self.walk);
     }
-}
-
-/// Ends a walk: those that it has passed go to the front again.
-fn turn_back(ring: &mut VecDeque<Member>, passed: &mut usize)
-    requires { passed.old ≤ deque_len ring.old }
-    ensures items { ring.new.items ≡ turned (deque_len ring.old - passed.old) ring.old.items }
-    ensures len { deque_len ring.new ≡ deque_len ring.old }
-    ensures capacity { deque_capacity ring.new ≡ deque_capacity ring.old }
-    ensures passed { passed.new ≡ 0 }
-{
-    ring.rotate_right(*passed);
-    *passed = 0;
 }

@@ -1,15 +1,17 @@
 //! Members in buckets that stand in one row: where few ranks occur.
 
-ghost use Rattle.std.specs.Prelude.{◌≡◌, ◌≤◌, ◌<◌, ◌+◌, ◌-◌, ◌^◌, AllPairs, Some, IfSome, length, option_to_list, int_lt};
+ghost use Rattle.std.specs.Prelude.{◌≡◌, ◌≤◌, ◌<◌, ◌+◌, ◌-◌, ◌^◌, ℕ, AllPairs, Some, IfSome, length, option_to_list, int_lt, slice_get, remove};
 ghost use Rattle.std.specs.VecDeque.{deque_len, deque_capacity};
-ghost use Rattle.slab.specs.Slab.{get, slab_len, HasRoomFor};
+ghost use Rattle.slab.specs.Slab.{get, slab_len, ContainsKey, HasRoomFor};
 ghost use Rattle.gw_chains.specs.Chain.{in_time, placed_behind, first, rest};
 ghost use Rattle.gw_chains.specs.Buckets.{members_of, total, alone, without_first_link, below, IsHead, head_host, headed_by, with_head, Before, AreBuckets};
+ghost use Rattle.gw_chains.specs.Spots.{count_at, place_at, IsSpot, led_past, without_one, without_link};
 
 use crate::bucket::{Bucket, Link, Ranked};
 use crate::buckets::{alone, link_behind};
 use crate::chunks::{join, replace_front};
 use crate::queue::insert_reserved;
+use crate::spot::{Spot, link_at};
 use slab::Slab;
 use std::collections::VecDeque;
 
@@ -186,4 +188,79 @@ pub(crate) fn pop_member<T: Ranked>(
     let link = links.remove(bucket.first);
     shorten(row, bucket, link.next);
     Some(link.member)
+}
+
+/// The link before a spot, if there is one, leads to another.
+fn lead_past<T: Ranked>(links: &mut Slab<Link<T>>, spot: Spot, next: usize)
+    requires { 0 < spot.passed → ContainsKey links.old spot.before }
+    ensures links { (k : ℕ) → get links.new k ≡ led_past (get links.old) spot next k }
+    ensures room { (slab_len links.new ≡ slab_len links.old)
+        × (links.new.capacity ≡ links.old.capacity) }
+{
+    if 0 < spot.passed {
+        links[spot.before].next = next;
+    }
+}
+
+/// A bucket without the member at a spot, behind which the link `next` is.
+fn without_one(bucket: Bucket, spot: Spot, next: usize) -> Bucket
+    requires { spot.passed < bucket.count }
+    ensures { result ≡ without_one spot next bucket }
+{
+    Bucket {
+        first: if spot.passed == 0 { next } else { bucket.first },
+        last: if spot.passed + 1 == bucket.count {
+            spot.before
+        } else {
+            bucket.last
+        },
+        count: bucket.count - 1,
+        ..bucket
+    }
+}
+
+/// The bucket of a spot loses the link there, behind which `next` is. It goes where it has no other.
+fn shorten_at(row: &mut VecDeque<Bucket>, spot: Spot, next: usize)
+    requires { spot.passed < count_at row.old.items spot.bucket }
+    ensures items { row.new.items ≡ without_link spot next row.old.items spot.bucket }
+    ensures room { (deque_len row.new ≤ deque_len row.old)
+        × (deque_capacity row.new ≡ deque_capacity row.old) }
+{
+    let bucket = row[spot.bucket];
+    if 1 < bucket.count {
+        row[spot.bucket] = without_one(bucket, spot, next);
+    } else {
+        let _ = row.remove(spot.bucket);
+    }
+}
+
+/// Takes out the member at a spot. There is one. The spot is then at the next, or at the end of its bucket.
+pub(crate) fn unlink<T: Ranked>(
+    row: &mut VecDeque<Bucket>,
+    links: &mut Slab<Link<T>>,
+    spot: Spot,
+) -> T
+    requires buckets { AreBuckets T.rank (get links.old) row.old.items }
+    requires spot { IsSpot (get links.old) row.old.items spot }
+    requires there { spot.passed < count_at row.old.items spot.bucket }
+    ensures value { let place = place_at row.old.items spot.bucket spot.passed in
+        slice_get (members_of (get links.old) row.old.items) place ≡ Some result }
+    ensures members { let place = place_at row.old.items spot.bucket spot.passed in
+        members_of (get links.new) row.new.items
+        ≡ remove (members_of (get links.old) row.old.items) place }
+    ensures buckets { AreBuckets T.rank (get links.new) row.new.items }
+    ensures total { total row.new.items + 1 ≡ total row.old.items }
+    ensures spot { IsSpot (get links.new) row.new.items spot }
+    ensures place { place_at row.new.items spot.bucket spot.passed
+        ≡ place_at row.old.items spot.bucket spot.passed }
+    ensures room { (deque_len row.new ≤ deque_len row.old)
+        × (deque_capacity row.new ≡ deque_capacity row.old) }
+    ensures links { (slab_len links.new ≤ slab_len links.old)
+        × (links.new.capacity ≡ links.old.capacity) }
+{
+    let key = link_at(row, links, spot);
+    let link = links.remove(key);
+    lead_past(links, spot, link.next);
+    shorten_at(row, spot, link.next);
+    link.member
 }

@@ -8,7 +8,7 @@ use std::alloc::Global;
 use std::test::Fail;
 
 /// The transaction of a number.
-fn tx(number: u64) -> Tx {
+pub fn tx(number: u64) -> Tx {
     Tx { place: 0, number }
 }
 
@@ -160,8 +160,8 @@ fn many_leave_a_chain_in_buckets_at_many_times(rt: HostRuntime) -> Result<(), Fa
     Ok(())
 }
 
-/// A member of the current events chain.
-fn member(number: u64, priority: i32) -> Member {
+/// A member of a list by priority.
+pub fn member(number: u64, priority: i32) -> Member {
     Member {
         tx: tx(number),
         priority,

@@ -1,25 +1,23 @@
-use Rattle.std.proofs.Common.{◌≡◌, ◌<◌, ◌-◌, ◌∷◌, arith, ap, sym, subst, length}
+use Rattle.std.proofs.Common.{arith, neg_ℤ}
+use Rattle.slab.specs.Slab.{get}
 use Rattle.gw_chains.specs.declared.tx.Member.{Member}
-use Rattle.gw_chains.specs.Chain.{IsByPriority}
-use Rattle.gw_chains.proofs.Turning.{passed, length-turned}
+use Rattle.gw_chains.proofs.Spotting.{is_inside, filled, spot_settled}
 use Rattle.gw_chains.proofs.delay_list.DelayList.pass.Goals as goal
 
-pub invariant_of-self : goal.invariant_of-self
-invariant_of-self c =
-    let ring = c.self.inside.ring in
-    let place = c.self.inside.passed in
-    let long : length ring.items ≡ ring.len = sym ring.ok.0 in
-    let within : place < ring.len = omega (arith, length-turned (ring.len - place) ring.items, rw (← c.self.view_is) at c.requires) in
-    let front : ring.items ≡ c.in-Some.member ∷ c.pop_front.new.self.items = c.in-Some.ensures.items in
-    let same : c.push_back_reserved.new.self.len ≡ ring.len = omega (arith, ap length front, c.pop_front.new.self.ok.0) in
-    (omega arith, subst (IsByPriority (λ (m : Member). m.priority)) (sym (passed ring.items c.pop_front.new.self.items c.push_back_reserved.new.self.items c.in-Some.member ring.len c.push_back_reserved.new.self.len place front c.push_back_reserved.ensures.items long same within)) c.self.invariant.1)
+pub spot_behind-behind-requires-clause-there : goal.spot_behind-behind-requires-clause-there
+spot_behind-behind-requires-clause-there c =
+    let asked = rw (← c.self.view_is) at c.requires in
+    is_inside c.self.inside.buckets.items c.self.inside.walk c.self.invariant.5 (omega (arith, asked, c.self.invariant.1, c.self.invariant.2))
 
-pub returns-clause-members : goal.returns-clause-members
-returns-clause-members c =
-    let ring = c.self.inside.ring in
-    let place = c.self.inside.passed in
-    let long : length ring.items ≡ ring.len = sym ring.ok.0 in
-    let within : place < ring.len = omega (arith, length-turned (ring.len - place) ring.items, rw (← c.self.view_is) at c.requires) in
-    let front : ring.items ≡ c.in-Some.member ∷ c.pop_front.new.self.items = c.in-Some.ensures.items in
-    let same : c.push_back_reserved.new.self.len ≡ ring.len = omega (arith, ap length front, c.pop_front.new.self.ok.0) in
-    rw (← c.self.view_is) (passed ring.items c.pop_front.new.self.items c.push_back_reserved.new.self.items c.in-Some.member ring.len c.push_back_reserved.new.self.len place front c.push_back_reserved.ensures.items long same within)
+pub settle-self-inside-requires-clause-filled : goal.settle-self-inside-requires-clause-filled
+settle-self-inside-requires-clause-filled c = filled (λ (m : Member). neg_ℤ m.priority) (get c.self.inside.links) c.self.inside.buckets.items c.self.invariant.0.each
+
+pub invariant_of-self : goal.invariant_of-self
+invariant_of-self c = (
+  c.self.invariant.0,
+  c.self.invariant.1,
+  c.self.invariant.2,
+  c.self.invariant.3,
+  spot_settled (get c.self.inside.links) c.self.inside.buckets.items c.spot_behind-behind.result c.settle-self-inside.result c.spot_behind-behind.ensures.spot c.settle-self-inside.ensures.kept,
+  c.settle-self-inside.ensures.settled,
+)

@@ -1,28 +1,38 @@
-use Rattle.std.proofs.Common.{◌≡◌, ◌<◌, ◌≤ℤ◌, ◌+◌, ◌-◌, arith, ap, sym, length-drop, subst, length}
-use Rattle.std.proofs.lemmas.List.Quantifiers.{all_pairs_remove}
+use Rattle.std.proofs.Common.{length, ap, arith, neg_ℤ}
+use Rattle.std.proofs.lemmas.List.Edits.{length-remove}
+use Rattle.slab.specs.Slab.{get}
+use Rattle.gw_chains.specs.Buckets.{members_of}
+use Rattle.gw_chains.specs.Lists.{Walked}
+use Rattle.gw_chains.specs.Spots.{place_at}
 use Rattle.gw_chains.specs.declared.tx.Member.{Member}
-use Rattle.gw_chains.specs.Lists.{turned}
-use Rattle.gw_chains.specs.Chain.{IsByPriority}
-use Rattle.gw_chains.proofs.Turning.{taken, length-turned}
+use Rattle.gw_chains.proofs.Spotting.{is_inside, filled, spot_settled}
 use Rattle.gw_chains.proofs.delay_list.DelayList.take.Goals as goal
+
+pub unlink-requires-clause-there : goal.unlink-requires-clause-there
+unlink-requires-clause-there c =
+    let asked = rw (← c.self.view_is) at c.requires in
+    is_inside c.self.inside.buckets.items c.self.inside.walk c.self.invariant.5 (omega (arith, asked, c.self.invariant.1, c.self.invariant.2))
+
+pub settle-self-inside-requires-clause-filled : goal.settle-self-inside-requires-clause-filled
+settle-self-inside-requires-clause-filled c = filled (λ (m : Member). neg_ℤ m.priority) (get c.unlink.new.links) c.unlink.new.row.items c.unlink.ensures.buckets.each
+
+pub overflow_sub-self : goal.overflow_sub-self
+overflow_sub-self c = omega (arith, c.unlink.ensures.total, c.self.invariant.2)
 
 pub invariant_of-self : goal.invariant_of-self
 invariant_of-self c =
-    let ring = c.self.inside.ring in
-    let place = c.self.inside.passed in
-    let long : length ring.items ≡ ring.len = sym ring.ok.0 in
-    let within : place < ring.len = omega (arith, length-turned (ring.len - place) ring.items, rw (← c.self.view_is) at c.requires) in
-    let fewer : c.pop_front.new.self.len + 1 ≡ ring.len = omega (arith, length-drop 1 ring.items, ap length c.pop_front.ensures.rest, c.pop_front.new.self.ok.0) in (
-      omega arith,
-      subst (IsByPriority (λ (m : Member). m.priority)) (sym (taken ring.items c.pop_front.new.self.items ring.len c.pop_front.new.self.len place c.pop_front.ensures.rest long fewer within))
-          (all_pairs_remove (λ (x y : Member). y.priority ≤ℤ x.priority) (turned (ring.len - place) ring.items) place (omega (arith, length-turned (ring.len - place) ring.items)) c.self.invariant.1),
+    let asked = rw (← c.self.view_is) at c.requires in
+    let fewer = length-remove (members_of (get c.self.inside.links) c.self.inside.buckets.items) (place_at c.self.inside.buckets.items c.self.inside.walk.bucket c.self.inside.walk.passed) asked in (
+      c.unlink.ensures.buckets,
+      omega (arith, ap length c.unlink.ensures.members, fewer, c.self.invariant.1),
+      omega (arith, c.unlink.ensures.total, c.self.invariant.2),
+      omega (arith, c.self.invariant.3),
+      spot_settled (get c.unlink.new.links) c.unlink.new.row.items c.self.inside.walk c.settle-self-inside.result c.unlink.ensures.spot c.settle-self-inside.ensures.kept,
+      c.settle-self-inside.ensures.settled,
     )
 
-pub returns-clause-members : goal.returns-clause-members
-returns-clause-members c =
-    let ring = c.self.inside.ring in
-    let place = c.self.inside.passed in
-    let long : length ring.items ≡ ring.len = sym ring.ok.0 in
-    let within : place < ring.len = omega (arith, length-turned (ring.len - place) ring.items, rw (← c.self.view_is) at c.requires) in
-    let fewer : c.pop_front.new.self.len + 1 ≡ ring.len = omega (arith, length-drop 1 ring.items, ap length c.pop_front.ensures.rest, c.pop_front.new.self.ok.0) in
-    rw (← c.self.view_is) (taken ring.items c.pop_front.new.self.items ring.len c.pop_front.new.self.len place c.pop_front.ensures.rest long fewer within)
+pub returns-clause-len : goal.returns-clause-len
+returns-clause-len c =
+    let asked = rw (← c.self.view_is) at c.requires in
+    let fewer = length-remove (members_of (get c.self.inside.links) c.self.inside.buckets.items) (place_at c.self.inside.buckets.items c.self.inside.walk.bucket c.self.inside.walk.passed) asked in
+    omega (arith, ap length c.unlink.ensures.members, fewer, ap (λ (v : Walked). length v.members) c.self.view_is)
