@@ -12,6 +12,7 @@ use Rattle.gw_step.specs.Outcome.{Outcome, Gives, EndsBy, ◌>>=◌}
 use Rattle.gw_step.specs.State.{State}
 use Rattle.gw_step.specs.Times.{environment, parameters_of}
 use Rattle.gw_machine.specs.Configuration.{Configuration}
+use Rattle.gw_machine.specs.View.{state_of}
 use Rattle.gw_machine.specs.declared.values.Subject.{Subject}
 
 -- FOR WHOM
@@ -28,6 +29,10 @@ parameters_for (Some tx) s = parameters_of tx.number s
 -- what operands read in a state, for a subject
 abbrev pub environment_for : Subject → State → Environment
 environment_for subject s = environment subject.number subject.priority subject.mark (parameters_for subject.tx s) s
+
+-- the same, on a machine
+abbrev pub environment_in : Subject → Configuration → Environment
+environment_in subject m = environment_for subject (state_of m)
 
 -- WHAT MAY BE READ
 

@@ -6,4 +6,6 @@ pub mod Shown
 pub mod Slots
 -- WHAT ITS CALLS ANSWER
 pub mod Leaving
+pub mod Frames
+pub mod Entities
 pub mod Evaluating

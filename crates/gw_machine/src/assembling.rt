@@ -1,9 +1,11 @@
 //! Assembly sets: who waits for the rest of its set, and who comes to it.
 
-ghost use Rattle.std.specs.Prelude.{◌≡◌, ◌≤◌, ◌<◌, ◌+◌, Some, IfSome, length, option_map, OnOk};
+ghost use Rattle.std.specs.Prelude.{◌≡◌, ◌<◌, IfSome, option_map, OnOk};
 ghost use Rattle.gw_step.specs.Changes as change;
 ghost use Rattle.gw_step.specs.Blocks as model;
 ghost use Rattle.gw_machine.specs.View.{state_of, assembly_of};
+ghost use Rattle.gw_machine.specs.Leaving.{HasBegun};
+ghost use Rattle.gw_machine.specs.Frames.{OnlyAssembliesMove, LosesRoomToMove};
 
 use crate::machine::Machine;
 use gw_chains::{Assembly, Memory};
@@ -11,7 +13,8 @@ use gw_chains::{Assembly, Memory};
 impl Machine {
     /// The assembly of a set at a block, if it has begun.
     pub fn assembly(&self, block: u16, set: u64) -> Option<Assembly>
-        ensures value { option_map assembly_of result ≡ model.assembly_at block set (state_of self.now) }
+        ensures value { option_map assembly_of result
+            ≡ model.assembly_at block set (state_of self.now) }
         ensures own { IfSome result (λ a. (a.block ≡ block) × (a.set ≡ set)) }
     {
         self.assemblies.find(block, set)
@@ -30,11 +33,12 @@ impl Machine {
 
     /// The last of its set has come to an assembly: who waited joins the current events chain, behind its peers.
     fn assemble(&mut self, assembly: Assembly)
-        requires there { model.assembly_at assembly.block assembly.set (state_of self.old) ≡ Some (assembly_of assembly) }
+        requires there { HasBegun assembly self.old }
         requires room { 0 < self.old.current_events.room }
-        ensures state { state_of self.new ≡ change.assembled (assembly_of assembly) (state_of self.old) }
-        ensures room { self.old.current_events.room ≤ self.new.current_events.room + 1 }
-        ensures frame { self.new ≡ record self.old { current_events = self.new.current_events; assemblies = self.new.assemblies } }
+        ensures state { state_of self.new
+            ≡ change.assembled (assembly_of assembly) (state_of self.old) }
+        ensures room { LosesRoomToMove 1 self.old self.new }
+        ensures frame { OnlyAssembliesMove self.old self.new }
     {
         let first = self.assemblies.finish(assembly.block, assembly.set).first;
         let priority = self.transactions.get(first).priority;
@@ -44,11 +48,12 @@ impl Machine {
     /// Another of its set has come to an assembly that has begun, where it finds the first: where it is the last of its
     /// set, that one goes on.
     pub fn join_assembly(&mut self, assembly: Assembly)
-        requires there { model.assembly_at assembly.block assembly.set (state_of self.old) ≡ Some (assembly_of assembly) }
+        requires there { HasBegun assembly self.old }
         requires room { 0 < self.old.current_events.room }
-        ensures state { state_of self.new ≡ model.joined_by_one (assembly_of assembly) (state_of self.old) }
-        ensures room { self.old.current_events.room ≤ self.new.current_events.room + 1 }
-        ensures frame { self.new ≡ record self.old { current_events = self.new.current_events; assemblies = self.new.assemblies } }
+        ensures state { state_of self.new
+            ≡ model.joined_by_one (assembly_of assembly) (state_of self.old) }
+        ensures room { LosesRoomToMove 1 self.old self.new }
+        ensures frame { OnlyAssembliesMove self.old self.new }
     {
         if assembly.missing <= 1 {
             self.assemble(assembly);

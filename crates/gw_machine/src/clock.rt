@@ -1,11 +1,13 @@
 //! The clock: who is due, and who becomes active.
 
-ghost use Rattle.std.specs.Prelude.{◌≡◌, ◌≤◌, ◌<◌, ◌+◌, ◌^◌, ℕ, List, [], ◌∷◌, None, Some, pos, ◌≤ℤ◌, length, OnOk, OnErr, IsTrue, false};
+ghost use Rattle.std.specs.Prelude.{◌≡◌, ◌≤◌, ◌<◌, ◌+◌, [], None, Some, pos, ◌≤ℤ◌, length, IsTrue, false};
 ghost use Rattle.std.specs.List.{AllByRecursion};
 ghost use Rattle.gw_chains.specs.Chain.{all_behind, due, later};
 ghost use Rattle.gw_step.specs.Changes as change;
 ghost use Rattle.gw_machine.specs.View.{state_of, lists_of};
 ghost use Rattle.gw_machine.specs.Coherence.{IsHeld, ranked};
+ghost use Rattle.gw_machine.specs.Leaving.{BecomesBy, BecomesOnOk, BecomesActive};
+ghost use Rattle.gw_machine.specs.Frames.{LosesRoomToMove};
 
 use crate::machine::Machine;
 use gw_chains::{Cec, Fec, Memory};
@@ -21,9 +23,11 @@ fn move_due(
     requires held { AllByRecursion (IsHeld transactions.now) future_events.old.items }
     requires room { length future_events.old.items ≤ current_events.old.room }
     ensures current { current_events.new.items ≡
-        all_behind (λ m. m.priority) (ranked transactions.now (due (λ e. e.time) time future_events.old.items)) current_events.old.items }
+        let due_now = due (λ e. e.time) time future_events.old.items in
+        all_behind (λ m. m.priority) (ranked transactions.now due_now) current_events.old.items }
     ensures future { future_events.new.items ≡ later (λ e. e.time) time future_events.old.items }
-    ensures left { current_events.old.room ≤ current_events.new.room + length future_events.old.items }
+    ensures left { current_events.old.room
+        ≤ current_events.new.room + length future_events.old.items }
 {
     while let Some(tx) = future_events.pop_due(time) {
         let priority = transactions.get(tx).priority;
@@ -36,10 +40,9 @@ impl Machine {
     pub fn move_clock(&mut self, time: i64)
         requires later { (pos 0 ≤ℤ self.old.clock) × (self.old.clock ≤ℤ time) }
         requires room { length self.old.future_events.items ≤ self.old.current_events.room }
-        ensures state { state_of self.new ≡ change.clock_moves time (state_of self.old) }
-        ensures room { self.old.current_events.room ≤ self.new.current_events.room + length self.old.future_events.items }
+        ensures state { BecomesBy (change.clock_moves time) self.old self.new }
+        ensures room { LosesRoomToMove (length self.old.future_events.items) self.old self.new }
         ensures waits { self.new.waits ≡ self.old.waits }
-        ensures slots { self.new.last ≡ self.old.last }
     {
         move_due(
             &self.transactions,
@@ -57,9 +60,8 @@ impl Machine {
     /// The clock goes to a time, all that are due join the current events chain, and the retry list is woken.
     pub fn move_clock_and_wake(&mut self, time: i64) -> Result<(), Memory>
         requires later { (pos 0 ≤ℤ self.old.clock) × (self.old.clock ≤ℤ time) }
-        ensures ok { OnOk result (state_of self.new ≡ change.woken (change.clock_moves time (state_of self.old))) }
-        ensures err { OnErr result (state_of self.new ≡ state_of self.old) }
-        ensures slots { self.new.last ≡ self.old.last }
+        ensures { BecomesOnOk result (λ s. change.woken (change.clock_moves time s))
+            self.old self.new }
     {
         let due = self.future_events.len();
         self.current_events.reserve(due + self.waits.retrying())?;
@@ -71,11 +73,11 @@ impl Machine {
     /// The first of the current events chain becomes active, if there is one.
     pub fn activate_first(&mut self) -> bool
         requires nobody { self.old.active ≡ None }
-        ensures first { IsTrue result → (n : ℕ) × (ns : List ℕ) × ((state_of self.old).lists.current_events ≡ n ∷ ns) ×
-            (state_of self.new ≡ record (state_of self.old)
-            { lists = record (lists_of self.old) { active = Some n; current_events = ns } }) }
-        ensures none { result ≡ false → ((state_of self.old).lists.current_events ≡ []) × (state_of self.new ≡ state_of self.old) ×
-            (self.new.future_events ≡ self.old.future_events) × (self.new.waits ≡ self.old.waits) }
+        ensures first { IsTrue result → BecomesActive self.old self.new }
+        ensures none { result ≡ false → ((lists_of self.old).current_events ≡ [])
+            × (state_of self.new ≡ state_of self.old)
+            × (self.new.future_events ≡ self.old.future_events)
+            × (self.new.waits ≡ self.old.waits) }
         ensures slots { self.new.last ≡ self.old.last }
     {
         match self.current_events.pop_first() {

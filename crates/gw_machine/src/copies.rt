@@ -1,10 +1,12 @@
 //! Copies of the active transaction.
 
-ghost use Rattle.std.specs.Prelude.{◌≡◌, ◌≤◌, ◌<◌, ◌+◌, ◌^◌, None, length, replicate, IfOk, OnOk};
+ghost use Rattle.std.specs.Prelude.{◌≡◌, ◌≤◌, ◌<◌, ◌+◌, ◌^◌, length, replicate, IfOk, OnOk};
 ghost use Rattle.gw_transactions.specs.Transactions.{Holds, kept_of};
 ghost use Rattle.gw_step.specs.Changes as model;
 ghost use Rattle.gw_machine.specs.View.{state_of};
 ghost use Rattle.gw_machine.specs.Coherence.{Carries, Every};
+ghost use Rattle.gw_machine.specs.Leaving.{HasRoomForCopies};
+ghost use Rattle.gw_machine.specs.Frames.{OnlyCopiesCome};
 
 use crate::machine::Machine;
 use gw_chains::{Memory, Tx};
@@ -16,11 +18,12 @@ impl Machine {
     /// It fails for want of memory.
     pub fn reserve_copies(&mut self, tx: Tx, copies: u16) -> Result<Vec<Parameters>, Memory>
         requires held { Holds self.old.transactions tx }
-        ensures parameters { IfOk result (λ all. all.items ≡ replicate copies (kept_of tx.number self.new.transactions)) }
+        ensures parameters { IfOk result (λ all.
+            all.items ≡ replicate copies (kept_of tx.number self.new.transactions)) }
         ensures state { state_of self.new ≡ state_of self.old }
-        ensures room { OnOk result ((copies ≤ self.new.transactions.room) × (copies ≤ self.new.current_events.room)) }
+        ensures room { OnOk result (HasRoomForCopies copies self.new) }
         ensures carries { Carries Every self.old.transactions self.new.transactions }
-        ensures frame { self.new ≡ record self.old { transactions = self.new.transactions; current_events = self.new.current_events } }
+        ensures frame { OnlyCopiesCome self.old self.new }
     {
         let parameters = self.transactions.parameters_for(tx, copies)?;
         self.transactions.reserve(copies as usize)?;
@@ -35,14 +38,16 @@ impl Machine {
         requires same { parameters ≡ kept_of tx.number self.old.transactions }
         requires block { transaction.current ≤ 4096 }
         requires few { length self.old.transactions.txs < 2 ^ 60 }
-        requires room { (0 < self.old.transactions.room) × (0 < self.old.current_events.room) }
-        ensures state { state_of self.new ≡ model.copied tx.number transaction target (state_of self.old) }
+        requires room { HasRoomForCopies 1 self.old }
+        ensures state { state_of self.new
+            ≡ model.copied tx.number transaction target (state_of self.old) }
         ensures held { Holds self.new.transactions tx }
-        ensures same { kept_of tx.number self.new.transactions ≡ kept_of tx.number self.old.transactions }
+        ensures same { kept_of tx.number self.new.transactions
+            ≡ kept_of tx.number self.old.transactions }
         ensures made { length self.new.transactions.txs ≡ length self.old.transactions.txs + 1 }
         ensures room { (self.old.transactions.room ≤ self.new.transactions.room + 1) ×
             (self.old.current_events.room ≤ self.new.current_events.room + 1) }
-        ensures frame { self.new ≡ record self.old { transactions = self.new.transactions; current_events = self.new.current_events } }
+        ensures frame { OnlyCopiesCome self.old self.new }
     {
         let mut copy = transaction;
         copy.next = target;
@@ -61,13 +66,15 @@ impl Machine {
         mut parameters: Vec<Parameters>,
     )
         requires held { Holds self.old.transactions tx }
-        requires same { parameters.items ≡ replicate copies (kept_of tx.number self.old.transactions) }
+        requires same { parameters.items
+            ≡ replicate copies (kept_of tx.number self.old.transactions) }
         requires block { transaction.current ≤ 4096 }
         requires few { length self.old.transactions.txs + copies < 2 ^ 60 }
-        requires room { (copies ≤ self.old.transactions.room) × (copies ≤ self.old.current_events.room) }
-        ensures state { state_of self.new ≡ model.copies_made copies tx.number transaction target (state_of self.old) }
+        requires room { HasRoomForCopies copies self.old }
+        ensures state { state_of self.new
+            ≡ model.copies_made copies tx.number transaction target (state_of self.old) }
         ensures held { Holds self.new.transactions tx }
-        ensures frame { self.new ≡ record self.old { transactions = self.new.transactions; current_events = self.new.current_events } }
+        ensures frame { OnlyCopiesCome self.old self.new }
     {
         while let Some(for_copy) = parameters.pop() {
             self.copy_once(tx, transaction, target, for_copy);

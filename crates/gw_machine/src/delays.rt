@@ -1,11 +1,12 @@
 //! Delay lists: calling a waiter.
 
-ghost use Rattle.std.specs.Prelude.{[], ◌≡◌, ◌≤◌, ◌<◌, ◌+◌, Some, length, slice_get, remove, option_map, OnOk};
+ghost use Rattle.std.specs.Prelude.{[], ◌≡◌, ◌≤◌, ◌<◌, ◌+◌, Some, length, OnOk};
 ghost use Rattle.gw_num.specs.Table.{at};
-ghost use Rattle.gw_chains.specs.declared.tx.Member.{Member};
 ghost use Rattle.gw_step.specs.State.{priority_of};
 ghost use Rattle.gw_step.specs.Changes as model;
 ghost use Rattle.gw_machine.specs.View.{state_of};
+ghost use Rattle.gw_machine.specs.Leaving.{waiter_at, waiter_come_to, LosesWaiter};
+ghost use Rattle.gw_machine.specs.Frames.{OnlyWaitersMove};
 
 use crate::machine::Machine;
 use gw_chains::{Memory, Tx};
@@ -32,13 +33,13 @@ impl Machine {
     /// its peers.
     pub fn call(&mut self, entity: u16, place: usize, tx: Tx, priority: i32)
         requires entity { entity < length self.old.facilities.facilities }
-        requires there { option_map (λ (m : Member). m.tx) (slice_get (at [] self.old.waits.lists entity) place) ≡ Some tx }
+        requires there { waiter_at entity place self.old ≡ Some tx }
         requires rank { priority_of self.old.transactions.txs tx.number ≡ priority }
         requires room { 0 < self.old.current_events.room }
         ensures state { state_of self.new ≡ model.called_from entity tx.number (state_of self.old) }
-        ensures left { at [] self.new.waits.lists entity ≡ remove (at [] self.old.waits.lists entity) place }
+        ensures left { LosesWaiter entity place self.old self.new }
         ensures room { self.old.current_events.room ≤ self.new.current_events.room + 1 }
-        ensures frame { self.new ≡ record self.old { waits = self.new.waits; current_events = self.new.current_events } }
+        ensures frame { OnlyWaitersMove self.old self.new }
     {
         self.waits.remove(entity, place);
         self.current_events.insert_behind(tx, priority);
@@ -48,15 +49,14 @@ impl Machine {
     /// chain, behind its peers.
     pub fn call_current(&mut self, entity: u16, tx: Tx, priority: i32)
         requires entity { entity < length self.old.facilities.facilities }
-        requires there { option_map (λ (m : Member). m.tx)
-            (slice_get (at [] self.old.waits.lists entity) (at 0 self.old.waits.places entity)) ≡ Some tx }
+        requires there { waiter_come_to entity self.old ≡ Some tx }
         requires rank { priority_of self.old.transactions.txs tx.number ≡ priority }
         requires room { 0 < self.old.current_events.room }
         ensures state { state_of self.new ≡ model.called_from entity tx.number (state_of self.old) }
-        ensures left { at [] self.new.waits.lists entity ≡ remove (at [] self.old.waits.lists entity) (at 0 self.old.waits.places entity) }
+        ensures left { LosesWaiter entity (at 0 self.old.waits.places entity) self.old self.new }
         ensures place { at 0 self.new.waits.places entity ≡ at 0 self.old.waits.places entity }
         ensures room { self.old.current_events.room ≤ self.new.current_events.room + 1 }
-        ensures frame { self.new ≡ record self.old { waits = self.new.waits; current_events = self.new.current_events } }
+        ensures frame { OnlyWaitersMove self.old self.new }
     {
         self.waits.take(entity);
         self.current_events.insert_behind(tx, priority);
@@ -76,7 +76,8 @@ impl Machine {
     /// The walk over the delay list of an entity goes on behind the one to which it has come.
     pub fn pass_waiter(&mut self, entity: u16)
         requires entity { entity < length self.old.facilities.facilities }
-        requires there { at 0 self.old.waits.places entity < length (at [] self.old.waits.lists entity) }
+        requires there { at 0 self.old.waits.places entity
+            < length (at [] self.old.waits.lists entity) }
         ensures state { state_of self.new ≡ state_of self.old }
         ensures lists { self.new.waits.lists ≡ self.old.waits.lists }
         ensures place { at 0 self.new.waits.places entity ≡ at 0 self.old.waits.places entity + 1 }

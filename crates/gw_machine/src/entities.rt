@@ -5,16 +5,18 @@ ghost use Rattle.gw_num.specs.Table.{at};
 ghost use Rattle.gw_entities.specs.Contents.{empty};
 ghost use Rattle.gw_entities.specs.Facility.{idle, is_idle, is_owned_by, seized, released, seizing};
 ghost use Rattle.gw_entities.specs.Queue.{joined, departed};
-ghost use Rattle.gw_entities.specs.Storage.{vacant, has_room, entered, left, entering};
+ghost use Rattle.gw_entities.specs.Storage.{has_room, entered, left, entering};
 ghost use Rattle.gw_entities.specs.Table.{table_at};
 ghost use Rattle.gw_entities.specs.Tabulation.{tabulating};
 ghost use Rattle.gw_step.specs.Blocks as model;
 ghost use Rattle.gw_step.specs.Blocks.{has_to_wait, turned};
 ghost use Rattle.gw_step.specs.Changes.{facility, storage, queue, switch, table};
-ghost use Rattle.gw_step.specs.Changes.{put_facility, put_storage, put_queue, put_switch, put_savevalue, put_table};
+ghost use Rattle.gw_step.specs.Changes.{put_savevalue, put_table};
 ghost use Rattle.gw_machine.specs.View.{state_of};
 ghost use Rattle.gw_machine.specs.Evaluating.{IsReadable};
 ghost use Rattle.gw_machine.specs.Leaving.{Tabulates};
+ghost use Rattle.gw_machine.specs.Entities.{facility_by, storage_by, queue_by, switch_by, CanCountEntries, IsWithinEntries};
+ghost use Rattle.gw_machine.specs.Frames.{HasAsManyFacilities};
 
 use crate::machine::Machine;
 use gw_blocks::{Condition, Logic, SwitchAction, Units};
@@ -70,9 +72,9 @@ impl Machine {
         requires there { f < length self.old.facilities.facilities }
         requires few { (at idle self.old.facilities.facilities f).entries < 2 ^ 62 }
         requires idle { is_idle (facility f (state_of self.old)) ≡ true }
-        ensures state { state_of self.new ≡ put_facility f (seized number (facility f (state_of self.old))) (state_of self.old) }
+        ensures state { state_of self.new ≡ facility_by (seized number) f (state_of self.old) }
         ensures frame { self.new ≡ record self.old { facilities = self.new.facilities } }
-        ensures table { length self.new.facilities.facilities ≡ length self.old.facilities.facilities }
+        ensures table { HasAsManyFacilities self.old self.new }
     {
         self.facilities.seize(f, number);
     }
@@ -81,9 +83,9 @@ impl Machine {
     pub fn release_facility(&mut self, f: u16, number: u64)
         requires there { f < length self.old.facilities.facilities }
         requires owner { is_owned_by number (facility f (state_of self.old)) ≡ true }
-        ensures state { state_of self.new ≡ put_facility f (released (facility f (state_of self.old))) (state_of self.old) }
+        ensures state { state_of self.new ≡ facility_by released f (state_of self.old) }
         ensures frame { self.new ≡ record self.old { facilities = self.new.facilities } }
-        ensures table { length self.new.facilities.facilities ≡ length self.old.facilities.facilities }
+        ensures table { HasAsManyFacilities self.old self.new }
     {
         self.facilities.release(f, number);
     }
@@ -101,9 +103,10 @@ impl Machine {
     /// Units of a storage are taken, if they are free.
     pub fn take(&mut self, u: Units)
         requires there { u.entity < length self.old.storages.storages }
-        requires few { (at (vacant 0) self.old.storages.storages u.entity).contents.entries + u.number ≤ 2 ^ 62 }
+        requires few { CanCountEntries u self.old }
         requires room { has_room u.number (storage u.entity (state_of self.old)) ≡ true }
-        ensures state { state_of self.new ≡ put_storage u.entity (entered u.number (storage u.entity (state_of self.old))) (state_of self.old) }
+        ensures state { state_of self.new
+            ≡ storage_by (entered u.number) u.entity (state_of self.old) }
         ensures frame { self.new ≡ record self.old { storages = self.new.storages } }
     {
         self.storages.enter(u.entity, u.number);
@@ -113,7 +116,8 @@ impl Machine {
     pub fn give_back(&mut self, u: Units)
         requires there { u.entity < length self.old.storages.storages }
         requires inside { u.number ≤ (storage u.entity (state_of self.old)).contents.content }
-        ensures state { state_of self.new ≡ put_storage u.entity (left u.number (storage u.entity (state_of self.old))) (state_of self.old) }
+        ensures state { state_of self.new
+            ≡ storage_by (left u.number) u.entity (state_of self.old) }
         ensures frame { self.new ≡ record self.old { storages = self.new.storages } }
     {
         self.storages.leave(u.entity, u.number);
@@ -124,9 +128,10 @@ impl Machine {
     /// Units join a queue.
     pub fn join(&mut self, u: Units)
         requires there { u.entity < length self.old.queues.queues }
-        requires inside { (at empty self.old.queues.queues u.entity).content ≤ (at empty self.old.queues.queues u.entity).entries }
+        requires inside { IsWithinEntries (at empty self.old.queues.queues u.entity) }
         requires few { (at empty self.old.queues.queues u.entity).entries + u.number ≤ 2 ^ 62 }
-        ensures state { state_of self.new ≡ put_queue u.entity (joined u.number (queue u.entity (state_of self.old))) (state_of self.old) }
+        ensures state { state_of self.new
+            ≡ queue_by (joined u.number) u.entity (state_of self.old) }
         ensures frame { self.new ≡ record self.old { queues = self.new.queues } }
     {
         self.queues.join_queue(u.entity, u.number);
@@ -136,7 +141,8 @@ impl Machine {
     pub fn depart_units(&mut self, u: Units)
         requires there { u.entity < length self.old.queues.queues }
         requires inside { u.number ≤ (queue u.entity (state_of self.old)).content }
-        ensures state { state_of self.new ≡ put_queue u.entity (departed u.number (queue u.entity (state_of self.old))) (state_of self.old) }
+        ensures state { state_of self.new
+            ≡ queue_by (departed u.number) u.entity (state_of self.old) }
         ensures frame { self.new ≡ record self.old { queues = self.new.queues } }
     {
         self.queues.depart(u.entity, u.number);
@@ -147,8 +153,8 @@ impl Machine {
     /// A logic switch is set, reset or inverted.
     pub fn turn_switch(&mut self, logic: Logic)
         requires { logic.switch < length self.old.switches }
-        ensures state { state_of self.new ≡ put_switch logic.switch (turned logic.action (switch logic.switch (state_of self.old)))
-            (state_of self.old) }
+        ensures state { state_of self.new
+            ≡ switch_by (turned logic.action) logic.switch (state_of self.old) }
         ensures frame { self.new ≡ record self.old { switches = self.new.switches } }
     {
         match logic.action {
@@ -173,8 +179,8 @@ impl Machine {
     pub fn tabulate(&mut self, t: u16, value: i64) -> Result<(), NumFault>
         requires there { t < length self.old.tables }
         requires few { (table_at t self.old.tables).count < 2 ^ 62 }
-        ensures made { Tabulates result (tabulating value (table t (state_of self.old))) (λ v. put_table t v (state_of self.old))
-            (state_of self.old) (state_of self.new) }
+        ensures made { Tabulates result (tabulating value (table t (state_of self.old)))
+            (λ v. put_table t v (state_of self.old)) (state_of self.old) (state_of self.new) }
         ensures frame { self.new ≡ record self.old { tables = self.new.tables } }
         ensures table { length self.new.tables ≡ length self.old.tables }
     {

@@ -5,6 +5,7 @@ ghost use Rattle.gw_num.specs.Table.{at};
 ghost use Rattle.gw_step.specs.State.{user_chain};
 ghost use Rattle.gw_step.specs.Blocks as model;
 ghost use Rattle.gw_machine.specs.View.{state_of};
+ghost use Rattle.gw_machine.specs.Frames.{OnlyMembersLeave};
 
 use crate::machine::Machine;
 use gw_chains::Memory;
@@ -37,10 +38,10 @@ impl Machine {
         requires chain { chain < length self.old.facilities.facilities }
         requires room { 0 < self.old.current_events.room }
         ensures state { state_of self.new ≡
-            model.first_unlinked chain target (user_chain chain (state_of self.old)) (state_of self.old) }
+            model.first_unlinked chain target (user_chain chain (state_of self.old))
+            (state_of self.old) }
         ensures room { self.old.current_events.room ≤ self.new.current_events.room + 1 }
-        ensures frame { self.new ≡ record self.old
-            { transactions = self.new.transactions; current_events = self.new.current_events; chains = self.new.chains } }
+        ensures frame { OnlyMembersLeave self.old self.new }
     {
         if let Some(tx) = self.chains.unlink(chain) {
             let mut member = *self.transactions.get(tx);
@@ -58,8 +59,7 @@ impl Machine {
         requires room { count ≤ self.old.current_events.room }
         ensures state { state_of self.new ≡ model.unlinked count chain target (state_of self.old) }
         ensures room { self.old.current_events.room ≤ self.new.current_events.room + count }
-        ensures frame { self.new ≡ record self.old
-            { transactions = self.new.transactions; current_events = self.new.current_events; chains = self.new.chains } }
+        ensures frame { OnlyMembersLeave self.old self.new }
     {
         for _ in 0..count {
             self.unlink_first(chain, target);

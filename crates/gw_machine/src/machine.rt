@@ -1,6 +1,6 @@
 //! The state of a job in memory, and the elementary changes of it.
 
-ghost use Rattle.std.specs.Prelude.{◌≡◌, ◌≤◌, ◌<◌, ◌+◌, ◌^◌, Some, None, length, vec_len, sum, IfOk, OnOk, OnErr, pos, ◌<ℤ◌, ◌≤ℤ◌, nat_le};
+ghost use Rattle.std.specs.Prelude.{◌≡◌, ◌≤◌, ◌<◌, ◌+◌, ◌^◌, Some, None, length, vec_len, sum, IfOk, OnOk, pos, ◌<ℤ◌, ◌≤ℤ◌, nat_le};
 ghost use Rattle.gw_num.specs.Table.{at};
 ghost use Rattle.gw_transactions.specs.Transactions.{Holds, attributes_at, live_count};
 ghost use Rattle.gw_step.specs.State.{priority_of, raised, with_streams};
@@ -9,8 +9,10 @@ ghost use Rattle.gw_step.specs.Changes as model;
 ghost use Rattle.gw_step.specs.Step as steps;
 ghost use Rattle.gw_step.specs.Times.{parameters_of};
 ghost use Rattle.gw_machine.specs.View.{state_of};
+ghost use Rattle.gw_machine.specs.Leaving.{BecomesBy, HasArrivedBelow};
 ghost use Rattle.gw_transactions.specs.Parameters.{none_of};
 ghost use Rattle.gw_machine.specs.Coherence.{Carries, Every, HasSlot};
+ghost use Rattle.gw_machine.specs.Frames.{OnlyArrivalFits, OnlyArrivalComes, OnlyEntryIsMade};
 
 use gw_chains::{Assemblies, Cec, Fec, Memory, Tx, UserChains, Waits};
 use gw_entities::{Facilities, Queues, Savevalues, Storages, Switches, Tables};
@@ -125,15 +127,16 @@ impl Machine {
         requires rank { priority_of self.old.transactions.txs tx.number ≡ transaction.priority }
         requires block { (transaction.next < length self.old.entries) × (transaction.next ≤ 4096) }
         requires few { sum self.old.entries < 2 ^ 60 }
-        ensures state { state_of self.new ≡ model.entered tx.number transaction next (state_of self.old) }
+        ensures state { state_of self.new
+            ≡ model.entered tx.number transaction next (state_of self.old) }
         ensures held { Holds self.new.transactions tx }
-        ensures parameters { parameters_of tx.number (state_of self.new) ≡ parameters_of tx.number (state_of self.old) }
+        ensures parameters { parameters_of tx.number (state_of self.new)
+            ≡ parameters_of tx.number (state_of self.old) }
         ensures last { self.new.transactions.last ≡ self.old.transactions.last }
         ensures made { length self.new.transactions.txs ≡ length self.old.transactions.txs }
         ensures room { self.old.transactions.room ≤ self.new.transactions.room }
         ensures rank { priority_of self.new.transactions.txs tx.number ≡ transaction.priority }
-        ensures frame { self.new ≡ record self.old
-            { stir = self.new.stir; entries = self.new.entries; transactions = self.new.transactions } }
+        ensures frame { OnlyEntryIsMade self.old self.new }
     {
         self.stir = true;
         raise(&mut self.entries, transaction.next as usize);
@@ -149,9 +152,8 @@ impl Machine {
         requires rank { priority_of self.old.transactions.txs tx.number ≡ transaction.priority }
         requires block { (transaction.next < length self.old.entries) × (transaction.next ≤ 4096) }
         requires few { sum self.old.entries < 2 ^ 60 }
-        ensures state { state_of self.new ≡ model.enters_and_falls tx.number (record transaction { mark = self.old.clock })
-            (state_of self.old) }
-        ensures slots { self.new.last ≡ self.old.last }
+        ensures { let marked = record transaction { mark = self.old.clock } in
+            BecomesBy (model.enters_and_falls tx.number marked) self.old self.new }
     {
         let mut marked = transaction;
         marked.mark = self.clock;
@@ -165,12 +167,11 @@ impl Machine {
         requires block { (transaction.next < length self.old.entries) × (transaction.next ≤ 4096) }
         requires few { sum self.old.entries < 2 ^ 60 }
         requires found { attributes_at tx.number self.old.transactions.txs ≡ Some transaction }
-        ensures state { state_of self.new ≡ model.enters_and_falls tx.number (record transaction { priority = priority })
-            (state_of self.old) }
+        ensures state { let raised = record transaction { priority = priority } in
+            state_of self.new ≡ model.enters_and_falls tx.number raised (state_of self.old) }
         ensures held { Holds self.new.transactions tx }
         ensures rank { priority_of self.new.transactions.txs tx.number ≡ priority }
-        ensures frame { self.new ≡ record self.old
-            { stir = self.new.stir; entries = self.new.entries; transactions = self.new.transactions } }
+        ensures frame { OnlyEntryIsMade self.old self.new }
     {
         self.stir = true;
         raise(&mut self.entries, transaction.next as usize);
@@ -186,11 +187,10 @@ impl Machine {
         requires room { (0 < self.old.transactions.room) × (0 < self.old.future_events.room) }
         requires unset { parameters ≡ none_of self.old.last }
         requires block { block < length self.old.scheduled }
-        requires few { (length self.old.transactions.txs < 2 ^ 60) × (sum self.old.scheduled < 2 ^ 60) }
+        requires few { HasArrivedBelow (2 ^ 60) self.old }
         ensures state { state_of self.new ≡ model.arrives block priority time (state_of self.old) }
         ensures carries { Carries Every self.old.transactions self.new.transactions }
-        ensures frame { self.new ≡ record self.old
-            { transactions = self.new.transactions; future_events = self.new.future_events; scheduled = self.new.scheduled } }
+        ensures frame { OnlyArrivalComes self.old self.new }
     {
         let number = self.transactions.next_number();
         let mark = self.clock;
@@ -210,9 +210,11 @@ impl Machine {
     pub fn assign(&mut self, tx: Tx, parameter: u8, value: i64)
         requires held { Holds self.old.transactions tx }
         requires slot { HasSlot self.old parameter }
-        ensures state { state_of self.new ≡ model.assigned tx.number parameter value (state_of self.old) }
+        ensures state { state_of self.new
+            ≡ model.assigned tx.number parameter value (state_of self.old) }
         ensures held { Holds self.new.transactions tx }
-        ensures rank { priority_of self.new.transactions.txs tx.number ≡ priority_of self.old.transactions.txs tx.number }
+        ensures rank { priority_of self.new.transactions.txs tx.number
+            ≡ priority_of self.old.transactions.txs tx.number }
         ensures frame { self.new ≡ record self.old { transactions = self.new.transactions } }
     {
         self.transactions.assign(tx, parameter, value);
@@ -231,7 +233,8 @@ impl Machine {
         requires least { pos 0 <ℤ self.old.count }
         requires by { pos 0 ≤ℤ by }
         ensures state { state_of self.new ≡ model.counted by (state_of self.old) }
-        ensures frame { self.new ≡ record self.old { count = self.new.count; ended = self.new.ended } }
+        ensures frame { self.new
+            ≡ record self.old { count = self.new.count; ended = self.new.ended } }
     {
         let count = self.count - by;
         self.count = count;
@@ -241,8 +244,8 @@ impl Machine {
     /// One more step is counted; where it is the last of the budget, the running job ends.
     pub fn count_step(&mut self, budget: u64)
         requires { self.old.steps < 2 ^ 60 }
-        ensures state { state_of self.new ≡ steps.within_budget budget (record (state_of self.old) { steps = self.old.steps + 1 }) }
-        ensures slots { self.new.last ≡ self.old.last }
+        ensures { BecomesBy (λ s. steps.within_budget budget (record s { steps = s.steps + 1 }))
+            self.old self.new }
     {
         self.steps += 1;
         if self.ended.is_none() && self.steps == budget {
@@ -253,8 +256,8 @@ impl Machine {
     /// The job ends by a name, and nothing else changes but the count of steps.
     pub fn end_by(&mut self, end: End)
         requires { self.old.steps < 2 ^ 60 }
-        ensures state { state_of self.new ≡ record (state_of self.old) { steps = self.old.steps + 1; ended = Some end } }
-        ensures slots { self.new.last ≡ self.old.last }
+        ensures { BecomesBy (λ s. record s { steps = s.steps + 1; ended = Some end })
+            self.old self.new }
     {
         self.steps += 1;
         self.ended = Some(end);
@@ -264,9 +267,10 @@ impl Machine {
     pub fn reserve_arrival(&mut self) -> Result<Parameters, Memory>
         ensures unset { IfOk result (λ parameters. parameters ≡ none_of self.new.last) }
         ensures state { state_of self.new ≡ state_of self.old }
-        ensures room { OnOk result ((0 < self.new.transactions.room) × (0 < self.new.future_events.room)) }
+        ensures room { OnOk result
+            ((0 < self.new.transactions.room) × (0 < self.new.future_events.room)) }
         ensures carries { Carries Every self.old.transactions self.new.transactions }
-        ensures frame { self.new ≡ record self.old { transactions = self.new.transactions; future_events = self.new.future_events } }
+        ensures frame { OnlyArrivalFits self.old self.new }
     {
         let parameters = self.transactions.new_parameters()?;
         self.transactions.reserve(1)?;

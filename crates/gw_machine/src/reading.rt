@@ -1,6 +1,6 @@
 //! What is read of a machine.
 
-ghost use Rattle.std.specs.Prelude.{◌≡◌, ◌≤◌, ◌<◌, ◌^◌, Some, None, IfSome, pos, length, sum, option_map, unwrap_or};
+ghost use Rattle.std.specs.Prelude.{◌≡◌, ◌≤◌, ◌<◌, ◌^◌, Some, IfSome, pos, length, sum, option_map, unwrap_or};
 ghost use Rattle.std.specs.List.{AllByRecursion};
 ghost use Rattle.std.specs.Option.{IsSome};
 ghost use Rattle.gw_num.specs.Table.{at};
@@ -111,7 +111,8 @@ impl Machine {
     pub fn parameter_or_zero(&self, tx: Tx, parameter: u8) -> i64
         requires held { Holds self.now.transactions tx }
         requires slot { HasSlot self.now parameter }
-        ensures { result ≡ unwrap_or (parameter_at tx.number parameter self.now.transactions.txs) (pos 0) }
+        ensures { result
+            ≡ unwrap_or (parameter_at tx.number parameter self.now.transactions.txs) (pos 0) }
     {
         self.transactions.parameters(tx).get_or_zero(parameter)
     }

@@ -1,13 +1,14 @@
 //! Where the active transaction comes to rest, and waking the retry list before.
 
-ghost use Rattle.std.specs.Prelude.{◌≡◌, ◌≤◌, ◌<◌, ◌+◌, None, length, OnOk, OnErr};
+ghost use Rattle.std.specs.Prelude.{◌≡◌, ◌≤◌, ◌<◌, ◌+◌, None, length, OnOk};
 ghost use Rattle.gw_num.specs.Table.{at};
-ghost use Rattle.gw_chains.specs.Lists.{LosesRoom};
 ghost use Rattle.gw_step.specs.State.{priority_of};
 ghost use Rattle.gw_step.specs.Changes as model;
 ghost use Rattle.gw_step.specs.Placing.{woken_if_stirred, placed};
 ghost use Rattle.gw_machine.specs.View.{state_of};
+ghost use Rattle.gw_machine.specs.Leaving.{BecomesBy, BecomesOnOk};
 ghost use Rattle.gw_machine.specs.Coherence.{HasRoom, CanRest, CanBePlaced};
+ghost use Rattle.gw_machine.specs.Frames.{OnlyEventsChange, OnlyWaking, KeepsRoomToWait, LosesRoomToMove};
 
 use crate::machine::Machine;
 use gw_blocks::{Link, LinkOrder};
@@ -35,7 +36,7 @@ impl Machine {
         ensures state { state_of self.new ≡ state_of self.old }
         ensures wake { OnOk result (length self.new.waits.retry ≤ self.new.current_events.room) }
         ensures time { OnOk result (0 < self.new.future_events.room) }
-        ensures frame { self.new ≡ record self.old { current_events = self.new.current_events; future_events = self.new.future_events } }
+        ensures frame { OnlyEventsChange self.old self.new }
     {
         self.reserve_wake()?;
         self.future_events.reserve(1)
@@ -45,7 +46,7 @@ impl Machine {
     pub fn reserve_rest(&mut self) -> Result<(), Memory>
         ensures state { state_of self.new ≡ state_of self.old }
         ensures room { OnOk result (HasRoom self.new) }
-        ensures frame { self.new ≡ record self.old { current_events = self.new.current_events; future_events = self.new.future_events } }
+        ensures frame { OnlyEventsChange self.old self.new }
     {
         let retrying = self.waits.retrying();
         self.reserve_time()?;
@@ -55,7 +56,8 @@ impl Machine {
     /// Makes room besides for one whom the active transaction calls to the current events chain.
     pub fn reserve_assembled(&mut self) -> Result<(), Memory>
         ensures state { state_of self.new ≡ state_of self.old }
-        ensures room { OnOk result (length self.new.waits.retry + 1 < self.new.current_events.room) }
+        ensures room { OnOk result
+            (length self.new.waits.retry + 1 < self.new.current_events.room) }
         ensures frame { self.new ≡ record self.old { current_events = self.new.current_events } }
     {
         self.current_events.reserve(self.waits.retrying() + 2)
@@ -88,10 +90,9 @@ impl Machine {
     pub fn wake(&mut self)
         requires room { length self.old.waits.retry ≤ self.old.current_events.room }
         ensures state { state_of self.new ≡ model.woken (state_of self.old) }
-        ensures room { LosesRoom 0 self.old.waits.rooms self.new.waits.rooms × (self.old.waits.retry_room ≤ self.new.waits.retry_room) }
-        ensures left { self.old.current_events.room ≤ self.new.current_events.room + length self.old.waits.retry }
-        ensures frame { self.new ≡ record self.old
-            { stir = self.new.stir; current_events = self.new.current_events; waits = self.new.waits } }
+        ensures room { KeepsRoomToWait self.old self.new }
+        ensures left { LosesRoomToMove (length self.old.waits.retry) self.old self.new }
+        ensures frame { OnlyWaking self.old self.new }
     {
         self.waits.wake_all(&mut self.current_events);
         self.stir = false;
@@ -101,10 +102,9 @@ impl Machine {
     fn wake_if_stirred(&mut self)
         requires room { length self.old.waits.retry ≤ self.old.current_events.room }
         ensures state { state_of self.new ≡ woken_if_stirred (state_of self.old) }
-        ensures room { LosesRoom 0 self.old.waits.rooms self.new.waits.rooms × (self.old.waits.retry_room ≤ self.new.waits.retry_room) }
-        ensures left { self.old.current_events.room ≤ self.new.current_events.room + length self.old.waits.retry }
-        ensures frame { self.new ≡ record self.old
-            { stir = self.new.stir; current_events = self.new.current_events; waits = self.new.waits } }
+        ensures room { KeepsRoomToWait self.old self.new }
+        ensures left { LosesRoomToMove (length self.old.waits.retry) self.old self.new }
+        ensures frame { OnlyWaking self.old self.new }
     {
         if self.stir {
             self.wake();
@@ -117,8 +117,7 @@ impl Machine {
     fn rest_until(&mut self, tx: Tx, time: i64)
         requires rests { CanRest self.old tx }
         requires room { 0 < self.old.future_events.room }
-        ensures state { state_of self.new ≡ model.rests_until tx.number time (state_of self.old) }
-        ensures slots { self.new.last ≡ self.old.last }
+        ensures { BecomesBy (model.rests_until tx.number time) self.old self.new }
     {
         self.active = None;
         self.future_events.schedule(tx, time);
@@ -130,8 +129,7 @@ impl Machine {
         requires rank { priority_of self.old.transactions.txs tx.number ≡ priority }
         requires entity { entity < length self.old.facilities.facilities }
         requires room { 0 < at 0 self.old.waits.rooms entity }
-        ensures state { state_of self.new ≡ model.waits_for entity tx.number (state_of self.old) }
-        ensures slots { self.new.last ≡ self.old.last }
+        ensures { BecomesBy (model.waits_for entity tx.number) self.old self.new }
     {
         self.active = None;
         self.waits.push_wait(entity, tx, priority);
@@ -142,8 +140,7 @@ impl Machine {
         requires rests { CanRest self.old tx }
         requires rank { priority_of self.old.transactions.txs tx.number ≡ priority }
         requires room { 0 < self.old.waits.retry_room }
-        ensures state { state_of self.new ≡ model.retries tx.number (state_of self.old) }
-        ensures slots { self.new.last ≡ self.old.last }
+        ensures { BecomesBy (model.retries tx.number) self.old self.new }
     {
         self.active = None;
         self.waits.push_retry(tx, priority);
@@ -154,8 +151,7 @@ impl Machine {
         requires rests { CanRest self.old tx }
         requires rank { priority_of self.old.transactions.txs tx.number ≡ priority }
         requires room { 0 < self.old.current_events.room }
-        ensures state { state_of self.new ≡ model.rests_ahead tx.number (state_of self.old) }
-        ensures slots { self.new.last ≡ self.old.last }
+        ensures { BecomesBy (model.rests_ahead tx.number) self.old self.new }
     {
         self.active = None;
         self.current_events.insert_ahead(tx, priority);
@@ -166,8 +162,7 @@ impl Machine {
         requires rests { CanRest self.old tx }
         requires rank { priority_of self.old.transactions.txs tx.number ≡ priority }
         requires room { 0 < self.old.current_events.room }
-        ensures state { state_of self.new ≡ model.rests_behind tx.number (state_of self.old) }
-        ensures slots { self.new.last ≡ self.old.last }
+        ensures { BecomesBy (model.rests_behind tx.number) self.old self.new }
     {
         self.active = None;
         self.current_events.insert_behind(tx, priority);
@@ -177,8 +172,7 @@ impl Machine {
     fn await_set(&mut self, tx: Tx, begins: Assembling)
         requires rests { CanRest self.old tx }
         requires room { 0 < self.old.assemblies.room }
-        ensures state { state_of self.new ≡ model.awaits_set tx.number begins (state_of self.old) }
-        ensures slots { self.new.last ≡ self.old.last }
+        ensures { BecomesBy (model.awaits_set tx.number begins) self.old self.new }
     {
         self.active = None;
         self.assemblies.begin(Assembly {
@@ -194,8 +188,7 @@ impl Machine {
         requires rests { CanRest self.old tx }
         requires chain { link.chain < length self.old.facilities.facilities }
         requires room { 0 < at 0 self.old.chains.rooms link.chain }
-        ensures state { state_of self.new ≡ model.joins_chain tx.number link (state_of self.old) }
-        ensures slots { self.new.last ≡ self.old.last }
+        ensures { BecomesBy (model.joins_chain tx.number link) self.old self.new }
     {
         self.active = None;
         self.transactions.put_chain(tx, Some(link.chain));
@@ -208,8 +201,7 @@ impl Machine {
     /// The active transaction is destroyed.
     fn leave_model(&mut self, tx: Tx)
         requires rests { CanRest self.old tx }
-        ensures state { state_of self.new ≡ model.destroyed tx.number (state_of self.old) }
-        ensures slots { self.new.last ≡ self.old.last }
+        ensures { BecomesBy (model.destroyed tx.number) self.old self.new }
     {
         let _ = self.transactions.remove(tx);
         self.active = None;
@@ -223,8 +215,7 @@ impl Machine {
         requires rests { CanRest self.old tx }
         requires wake { length self.old.waits.retry ≤ self.old.current_events.room }
         requires room { 0 < self.old.future_events.room }
-        ensures state { state_of self.new ≡ placed tx.number (Placement.RestsUntil time) (state_of self.old) }
-        ensures slots { self.new.last ≡ self.old.last }
+        ensures { BecomesBy (placed tx.number (Placement.RestsUntil time)) self.old self.new }
     {
         self.wake_if_stirred();
         self.rest_until(tx, time);
@@ -235,8 +226,7 @@ impl Machine {
     pub fn place_nowhere(&mut self, tx: Tx)
         requires rests { CanRest self.old tx }
         requires wake { length self.old.waits.retry ≤ self.old.current_events.room }
-        ensures state { state_of self.new ≡ placed tx.number Placement.LeavesModel (state_of self.old) }
-        ensures slots { self.new.last ≡ self.old.last }
+        ensures { BecomesBy (placed tx.number Placement.LeavesModel) self.old self.new }
     {
         self.wake_if_stirred();
         self.leave_model(tx);
@@ -249,8 +239,7 @@ impl Machine {
         requires rank { priority_of self.old.transactions.txs tx.number ≡ priority }
         requires room { HasRoom self.old }
         requires entity { CanBePlaced placement self.old }
-        ensures state { state_of self.new ≡ placed tx.number placement (state_of self.old) }
-        ensures slots { self.new.last ≡ self.old.last }
+        ensures { BecomesBy (placed tx.number placement) self.old self.new }
     {
         match placement {
             Placement::StaysActive => {}
@@ -289,9 +278,8 @@ impl Machine {
         requires rests { CanRest self.old tx }
         requires rank { priority_of self.old.transactions.txs tx.number ≡ priority }
         requires entity { entity < length self.old.facilities.facilities }
-        ensures ok { OnOk result (state_of self.new ≡ placed tx.number (Placement.JoinsDelayList entity) (state_of self.old)) }
-        ensures err { OnErr result (state_of self.new ≡ state_of self.old) }
-        ensures slots { self.new.last ≡ self.old.last }
+        ensures { BecomesOnOk result (placed tx.number (Placement.JoinsDelayList entity))
+            self.old self.new }
     {
         self.reserve_wake()?;
         self.reserve_wait(entity)?;

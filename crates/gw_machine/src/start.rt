@@ -5,13 +5,13 @@ ghost use Rattle.gw_entities.specs.Table.{facilities_of, storages_of, queues_of,
 ghost use Rattle.gw_object.specs.Grammar.{HasSpelling};
 ghost use Rattle.gw_kinds.specs.Kinds.{block_at};
 ghost use Rattle.gw_verify.specs.Checks.{Checked};
-ghost use Rattle.gw_step.specs.Operands.{OperandsFit, BlocksFit, MayDraw};
+ghost use Rattle.gw_step.specs.Operands.{BlocksFit, MayDraw};
 ghost use Rattle.gw_step.specs.Start as model;
 ghost use Rattle.gw_step.specs.Times.{environment_of_next};
 ghost use Rattle.gw_machine.specs.View.{state_of};
 ghost use Rattle.gw_machine.specs.Evaluating.{IsReadable, drawn};
 ghost use Rattle.gw_machine.specs.Coherence.{IsOf};
-ghost use Rattle.gw_machine.specs.Leaving.{Schedules};
+ghost use Rattle.gw_machine.specs.Leaving.{Schedules, HasArrivedBelow};
 ghost use Rattle.gw_machine.specs.Slots.{greatest_set};
 
 use crate::machine::Machine;
@@ -120,9 +120,11 @@ impl Machine {
     ) -> Result<i64, End>
         requires own { IsOf verified.now self.now }
         requires readable { IsReadable self.now }
-        requires interval { MayDraw verified.now (environment_of_next g.now.priority (state_of self.now)) g.now.interval }
+        requires interval { let next = environment_of_next g.now.priority (state_of self.now) in
+            MayDraw verified.now next g.now.interval }
         requires streams { streams.old ≡ self.now.streams }
-        ensures { model.first_moment verified.now g.now (state_of self.now) g.now.first ≡ drawn result streams.new }
+        ensures { model.first_moment verified.now g.now (state_of self.now) g.now.first
+            ≡ drawn result streams.new }
     {
         match g.first {
             Some(time) => Ok(time),
@@ -147,14 +149,16 @@ impl Machine {
         requires readable { IsReadable self.old }
         requires there { block_at verified.now.blocks number ≡ Some block.now }
         requires block { number < length self.old.scheduled }
-        requires few { (length self.old.transactions.txs < 2 ^ 60) × (sum self.old.scheduled < 2 ^ 60) }
-        ensures made { IfOk result (λ end. Schedules end (model.first_arrival verified.now number block.now (state_of self.old))
+        requires few { HasArrivedBelow (2 ^ 60) self.old }
+        ensures made { IfOk result (λ end. Schedules end
+            (model.first_arrival verified.now number block.now (state_of self.old))
             (state_of self.new)) }
         ensures readable { OnOk result (IsReadable self.new) }
         ensures entities { OnOk result (self.new.facilities ≡ self.old.facilities) }
         ensures scheduled { OnOk result ((length self.new.scheduled ≡ length self.old.scheduled) ×
             (sum self.new.scheduled ≤ sum self.old.scheduled + 1)) }
-        ensures made_by { OnOk result (length self.new.transactions.txs ≤ length self.old.transactions.txs + 1) }
+        ensures made_by { OnOk result
+            (length self.new.transactions.txs ≤ length self.old.transactions.txs + 1) }
         ensures slots { OnOk result (self.new.last ≡ self.old.last) }
     {
         let g = match block {
@@ -179,9 +183,10 @@ impl Machine {
         requires readable { IsReadable self.old }
         requires few_blocks { length verified.now.blocks ≤ 4096 }
         requires blocks { length self.old.scheduled ≡ length verified.now.blocks + 1 }
-        requires few { (length self.old.transactions.txs < 2 ^ 50) × (sum self.old.scheduled < 2 ^ 50) }
+        requires few { HasArrivedBelow (2 ^ 50) self.old }
         ensures made { IfOk result (λ end. Schedules end
-            (model.first_arrivals verified.now 1 verified.now.blocks (state_of self.old)) (state_of self.new)) }
+            (model.first_arrivals verified.now 1 verified.now.blocks (state_of self.old))
+            (state_of self.new)) }
         ensures slots { OnOk result (self.new.last ≡ self.old.last) }
     {
         let blocks = verified.object().parts().blocks.as_slice();
@@ -204,7 +209,8 @@ impl Machine {
     ) -> Result<Machine, Memory>
         requires few { count ≤ 2 ^ 40 }
         requires slots { greatest_set object.now.blocks ≤ 64 }
-        ensures state { IfOk result (λ m. state_of m ≡ record (model.nothing object.now count streams) { ended = Some end }) }
+        ensures state { let nothing = model.nothing object.now count streams in
+            IfOk result (λ m. state_of m ≡ record nothing { ended = Some end }) }
         ensures slots { IfOk result (λ m. m.last ≡ greatest_set object.now.blocks) }
     {
         let mut machine = Machine::nothing(alloc, object, count, streams)?;
@@ -222,7 +228,8 @@ impl Machine {
     ) -> Result<Machine, Memory>
         requires few { count ≤ 2 ^ 40 }
         requires fit { BlocksFit (length verified.now.entities) verified.now.blocks }
-        ensures state { IfOk result (λ m. model.start verified.now count streams ≡ Some (state_of m)) }
+        ensures state { IfOk result (λ m.
+            model.start verified.now count streams ≡ Some (state_of m)) }
         ensures slots { IfOk result (λ m. m.last ≡ greatest_set verified.now.blocks) }
     {
         let mut machine = Machine::nothing(alloc, verified.object(), count, streams)?;

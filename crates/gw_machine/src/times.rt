@@ -5,9 +5,8 @@ ghost use Rattle.gw_num.specs.Generator as generator;
 ghost use Rattle.gw_flow.specs.Values as values;
 ghost use Rattle.gw_step.specs.Operands.{MayDraw};
 ghost use Rattle.gw_step.specs.Times as model;
-ghost use Rattle.gw_machine.specs.View.{state_of};
 ghost use Rattle.gw_machine.specs.Coherence.{IsOf};
-ghost use Rattle.gw_machine.specs.Evaluating.{environment_for, CanEvaluate, valued, outcome_of, drawn};
+ghost use Rattle.gw_machine.specs.Evaluating.{CanEvaluate, valued, outcome_of, drawn, environment_in};
 
 use crate::ends::{end_by, end_by_fault};
 use crate::machine::Machine;
@@ -55,9 +54,9 @@ impl Machine {
     ) -> Result<i64, PlusEnd>
         requires own { IsOf verified.now self.now }
         requires subject { CanEvaluate self.now subject }
-        requires spread { MayDraw verified.now (environment_for subject (state_of self.now)) spread }
-        ensures { values.drawn_time verified.now (environment_for subject (state_of self.now)) spread streams.old ≡
-            valued result streams.new }
+        requires spread { MayDraw verified.now (environment_in subject self.now) spread }
+        ensures { values.drawn_time verified.now (environment_in subject self.now) spread
+            streams.old ≡ valued result streams.new }
     {
         let mean = self.value(verified, subject, spread.mean, streams)?;
         let half = self.value(verified, subject, spread.half, streams)?;
@@ -81,9 +80,9 @@ impl Machine {
     ) -> Result<i64, End>
         requires own { IsOf verified.now self.now }
         requires subject { CanEvaluate self.now subject }
-        requires spread { MayDraw verified.now (environment_for subject (state_of self.now)) spread }
-        ensures { model.drawn_moment verified.now (environment_for subject (state_of self.now)) spread self.now.clock streams.old ≡
-            drawn result streams.new }
+        requires spread { MayDraw verified.now (environment_in subject self.now) spread }
+        ensures { model.drawn_moment verified.now (environment_in subject self.now) spread
+            self.now.clock streams.old ≡ drawn result streams.new }
     {
         match self.drawn_time(verified, subject, spread, streams) {
             Ok(time) => moment_after(self.clock, time),

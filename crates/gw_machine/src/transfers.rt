@@ -1,20 +1,21 @@
 //! Hand-over of facilities, and admission to storages.
 
-ghost use Rattle.std.specs.Prelude.{MatchOption, ◌⊎◌, [], ◌≡◌, ◌≤◌, ◌<◌, ◌+◌, ◌^◌, Some, None, true, sum, length, slice_get, option_map};
+ghost use Rattle.std.specs.Prelude.{MatchOption, ◌⊎◌, [], ◌≡◌, ◌≤◌, ◌<◌, ◌+◌, ◌^◌, Some, None, true, sum, length};
 ghost use Rattle.std.specs.Option.{option_map_or, option_copied};
 ghost use Rattle.gw_num.specs.Table.{at};
-ghost use Rattle.gw_entities.specs.Facility.{idle, seized, is_idle as is_idle_now};
-ghost use Rattle.gw_entities.specs.Storage.{vacant, has_room};
-ghost use Rattle.gw_chains.specs.declared.tx.Member.{Member};
+ghost use Rattle.gw_entities.specs.Facility.{idle, is_idle as is_idle_now};
+ghost use Rattle.gw_entities.specs.Storage.{has_room};
 ghost use Rattle.gw_transactions.specs.Transactions.{Holds, attributes_at};
 ghost use Rattle.gw_kinds.specs.Kinds.{block_at};
 ghost use Rattle.gw_step.specs.State.{delay_list};
 ghost use Rattle.gw_step.specs.Changes as change;
 ghost use Rattle.gw_step.specs.Changes.{facility, storage};
-ghost use Rattle.gw_machine.specs.Leaving.{Moves};
+ghost use Rattle.gw_machine.specs.Leaving.{BecomesBy, Moves, waiter_at, waiter_come_to};
 ghost use Rattle.gw_step.specs.Blocks as model;
 ghost use Rattle.gw_machine.specs.View.{state_of};
 ghost use Rattle.gw_machine.specs.Coherence.{IsSteady};
+ghost use Rattle.gw_machine.specs.Entities.{HasStorage, CanCountEntries, CanCountOwner, handed_over_to};
+ghost use Rattle.gw_machine.specs.Frames.{KeepsFacilities};
 
 use crate::machine::Machine;
 use gw_blocks::{Block, Units};
@@ -58,8 +59,8 @@ impl Machine {
         requires there { f < length self.old.facilities.facilities }
         requires idle { is_idle_now (facility f (state_of self.old)) ≡ true }
         requires room { 0 < self.old.current_events.room }
-        ensures state { state_of self.new ≡ model.hand_over blocks.now f (delay_list f (state_of self.old)) (state_of self.old) }
-        ensures slots { self.new.last ≡ self.old.last }
+        ensures { BecomesBy (λ s. model.hand_over blocks.now f (delay_list f s) s)
+            self.old self.new }
     {
         if let Some(tx) = self.waits.waiter(f, 0) {
             self.hand_over_to(blocks, f, tx);
@@ -71,11 +72,10 @@ impl Machine {
         requires steady { IsSteady blocks.now (self.old.steps + 1) self.old }
         requires there { f < length self.old.facilities.facilities }
         requires idle { is_idle_now (facility f (state_of self.old)) ≡ true }
-        requires first { option_map (λ (m : Member). m.tx) (slice_get (at [] self.old.waits.lists f) 0) ≡ Some tx }
+        requires first { waiter_at f 0 self.old ≡ Some tx }
         requires room { 0 < self.old.current_events.room }
-        ensures state { state_of self.new ≡ option_map_or (model.takes_over blocks.now f tx.number (state_of self.old))
-            (attributes_at tx.number self.old.transactions.txs) (state_of self.old) }
-        ensures slots { self.new.last ≡ self.old.last }
+        ensures { BecomesBy (λ s. option_map_or (model.takes_over blocks.now f tx.number s)
+            (attributes_at tx.number self.old.transactions.txs) s) self.old self.new }
     {
         let transaction = *self.transactions.get(tx);
         if is_seize(f, block_of(blocks, transaction.next)) {
@@ -87,15 +87,13 @@ impl Machine {
     fn take_over(&mut self, f: u16, tx: Tx, transaction: Transaction)
         requires there { f < length self.old.facilities.facilities }
         requires idle { is_idle_now (facility f (state_of self.old)) ≡ true }
-        requires first { option_map (λ (m : Member). m.tx) (slice_get (at [] self.old.waits.lists f) 0) ≡ Some tx }
+        requires first { waiter_at f 0 self.old ≡ Some tx }
         requires held { Holds self.old.transactions tx }
         requires found { attributes_at tx.number self.old.transactions.txs ≡ Some transaction }
         requires block { (transaction.next < length self.old.entries) × (transaction.next ≤ 4096) }
-        requires few { (sum self.old.entries < 2 ^ 60) × ((at idle self.old.facilities.facilities f).entries < 2 ^ 62) }
+        requires few { (sum self.old.entries < 2 ^ 60) × CanCountOwner f self.old }
         requires room { 0 < self.old.current_events.room }
-        ensures state { state_of self.new ≡ change.put_facility f (seized tx.number (facility f (state_of self.old)))
-            (change.enters_and_falls tx.number transaction (change.called_from f tx.number (state_of self.old))) }
-        ensures slots { self.new.last ≡ self.old.last }
+        ensures { BecomesBy (handed_over_to f tx.number transaction) self.old self.new }
     {
         let next = transaction.next + 1;
         self.call(f, 0, tx, transaction.priority);
@@ -106,7 +104,7 @@ impl Machine {
     /// Whether units of a storage are free.
     fn has_free(&self, u: Units) -> bool
         requires there { u.entity < length self.now.storages.storages }
-        requires few { (at (vacant 0) self.now.storages.storages u.entity).contents.entries + u.number ≤ 2 ^ 62 }
+        requires few { CanCountEntries u self.now }
         ensures { result ≡ has_room u.number (storage u.entity (state_of self.now)) }
     {
         let storage = self.storages.get(u.entity);
@@ -125,11 +123,11 @@ impl Machine {
     /// The transaction to which the walk over the delay list of a storage has come; none at its end, and none where no
     /// unit is free, so that nobody else can enter.
     fn next_waiter(&self, e: u16) -> Option<Tx>
-        requires there { (e < length self.now.facilities.facilities) × (e < length self.now.storages.storages) }
+        requires there { HasStorage e self.now }
         ensures { MatchOption result
-            ((option_map (λ (m : Member). m.tx) (slice_get (at [] self.now.waits.lists e) (at 0 self.now.waits.places e)) ≡ None) ⊎
-            (model.is_full (storage e (state_of self.now)) ≡ true))
-            (λ tx. option_map (λ (m : Member). m.tx) (slice_get (at [] self.now.waits.lists e) (at 0 self.now.waits.places e)) ≡ Some tx) }
+            ((waiter_come_to e self.now ≡ None)
+            ⊎ (model.is_full (storage e (state_of self.now)) ≡ true))
+            (λ tx. waiter_come_to e self.now ≡ Some tx) }
     {
         if self.has_nothing_free(e) {
             return None;
@@ -142,8 +140,8 @@ impl Machine {
         requires steady { IsSteady blocks.now (self.old.steps + 1) self.old }
         requires there { e < length self.old.facilities.facilities }
         requires room { length (at [] self.old.waits.lists e) ≤ self.old.current_events.room }
-        ensures state { state_of self.new ≡ model.admission blocks.now e (delay_list e (state_of self.old)) (state_of self.old) }
-        ensures slots { self.new.last ≡ self.old.last }
+        ensures { BecomesBy (λ s. model.admission blocks.now e (delay_list e s) s)
+            self.old self.new }
     {
         self.start_walk(e);
         while let Some(tx) = self.next_waiter(e) {
@@ -157,13 +155,13 @@ impl Machine {
     fn admit_one(&mut self, blocks: &[Block], e: u16, tx: Tx) -> bool
         requires steady { IsSteady blocks.now (self.old.steps + 1) self.old }
         requires there { e < length self.old.facilities.facilities }
-        requires waiter { option_map (λ (m : Member). m.tx) (slice_get (at [] self.old.waits.lists e) (at 0 self.old.waits.places e)) ≡
-            Some tx }
+        requires waiter { waiter_come_to e self.old ≡ Some tx }
         requires room { 0 < self.old.current_events.room }
-        ensures state { state_of self.new ≡ model.looked_at blocks.now e tx.number (state_of self.old) }
+        ensures state { state_of self.new
+            ≡ model.looked_at blocks.now e tx.number (state_of self.old) }
         ensures steady { IsSteady blocks.now (self.old.steps + 1) self.new }
         ensures moves { Moves result e (at 0 self.old.waits.places e) self.old self.new }
-        ensures frame { (self.new.steps ≡ self.old.steps) × (self.new.facilities ≡ self.old.facilities) × (self.new.last ≡ self.old.last) }
+        ensures frame { KeepsFacilities self.old self.new }
     {
         let transaction = *self.transactions.get(tx);
         match asked(e, block_of(blocks, transaction.next)) {
@@ -174,18 +172,18 @@ impl Machine {
 
     /// The transaction to which the walk over a delay list has come enters its ENTER block, if these units are free.
     fn enter_if_free(&mut self, units: Units, tx: Tx, transaction: Transaction) -> bool
-        requires there { (units.entity < length self.old.facilities.facilities) × (units.entity < length self.old.storages.storages) }
-        requires waiter { option_map (λ (m : Member). m.tx)
-            (slice_get (at [] self.old.waits.lists units.entity) (at 0 self.old.waits.places units.entity)) ≡ Some tx }
+        requires there { HasStorage units.entity self.old }
+        requires waiter { waiter_come_to units.entity self.old ≡ Some tx }
         requires held { Holds self.old.transactions tx }
         requires found { attributes_at tx.number self.old.transactions.txs ≡ Some transaction }
         requires block { (transaction.next < length self.old.entries) × (transaction.next ≤ 4096) }
-        requires few { (sum self.old.entries < 2 ^ 60) ×
-            ((at (vacant 0) self.old.storages.storages units.entity).contents.entries + units.number ≤ 2 ^ 62) }
+        requires few { (sum self.old.entries < 2 ^ 60) × CanCountEntries units self.old }
         requires room { 0 < self.old.current_events.room }
-        ensures state { state_of self.new ≡ model.enters_if_free tx.number transaction (state_of self.old) units }
-        ensures moves { Moves result units.entity (at 0 self.old.waits.places units.entity) self.old self.new }
-        ensures frame { (self.new.steps ≡ self.old.steps) × (self.new.facilities ≡ self.old.facilities) × (self.new.last ≡ self.old.last) }
+        ensures state { state_of self.new
+            ≡ model.enters_if_free tx.number transaction (state_of self.old) units }
+        ensures moves { let place = at 0 self.old.waits.places units.entity in
+            Moves result units.entity place self.old self.new }
+        ensures frame { KeepsFacilities self.old self.new }
     {
         if !self.has_free(units) {
             return false;

@@ -1,8 +1,7 @@
 //! Operand values.
 
-ghost use Rattle.std.specs.Prelude.{◌≡◌, ◌≤◌, ◌<◌, ◌%◌, ℕ, None, IfSome};
+ghost use Rattle.std.specs.Prelude.{◌≡◌, ◌≤◌, ◌<◌, ◌%◌, None, IfSome};
 ghost use Rattle.gw_num.specs.Generator as generator;
-ghost use Rattle.gw_num.specs.Table.{at};
 ghost use Rattle.gw_blocks.specs.Grammar.{OperandFits};
 ghost use Rattle.gw_object.specs.Grammar.{HasSpelling};
 ghost use Rattle.gw_object.specs.declared.parts.Parts.{Parts};
@@ -18,7 +17,7 @@ ghost use Rattle.gw_step.specs.Operands.{MayEvaluate};
 ghost use Rattle.gw_step.specs.Times as model;
 ghost use Rattle.gw_machine.specs.View.{state_of};
 ghost use Rattle.gw_machine.specs.Coherence.{IsOf};
-ghost use Rattle.gw_machine.specs.Evaluating.{subject_of, parameters_for, environment_for, IsReadable, CanEvaluate, valued};
+ghost use Rattle.gw_machine.specs.Evaluating.{subject_of, parameters_for, IsReadable, CanEvaluate, valued, environment_in};
 
 use crate::machine::Machine;
 use gw_blocks::{EntityAttribute, Numbered, Operand};
@@ -110,7 +109,8 @@ impl Machine {
     /// The next transaction that is to arrive, with this priority: it enters the model now.
     pub fn next_subject(&self, priority: i32) -> Subject
         requires { IsReadable self.now }
-        ensures next { environment_for result (state_of self.now) ≡ model.environment_of_next priority (state_of self.now) }
+        ensures next { environment_in result self.now
+            ≡ model.environment_of_next priority (state_of self.now) }
         ensures can { CanEvaluate self.now result }
     {
         Subject {
@@ -135,7 +135,7 @@ impl Machine {
     /// What operands and procedures read, for a subject.
     fn env(&self, subject: Subject) -> Env<'_>
         requires { CanEvaluate self.now subject }
-        ensures same { ReadTheSame (lent.environment_of result) (environment_for subject (state_of self.now)) }
+        ensures same { ReadTheSame (lent.environment_of result) (environment_in subject self.now) }
         ensures own { (p : Parts) → IsOf p self.now → lent.IsOf p result }
     {
         Env {
@@ -174,9 +174,10 @@ impl Machine {
         requires bound { 0 < bound }
         requires holds { OperandHolds verified.now source }
         requires fits { OperandFits source }
-        requires set { HasSet (environment_for subject (state_of self.now)) (asked_by_source verified.now source) }
-        ensures { values.source_value verified.now (environment_for subject (state_of self.now)) bound source streams.old ≡
-            valued result streams.new }
+        requires set { HasSet (environment_in subject self.now)
+            (asked_by_source verified.now source) }
+        ensures { values.source_value verified.now (environment_in subject self.now) bound source
+            streams.old ≡ valued result streams.new }
     {
         match source {
             Operand::Random(stream) => Ok(drawn_below(bound, stream, streams)),
@@ -196,9 +197,9 @@ impl Machine {
     ) -> Result<i64, PlusEnd>
         requires own { IsOf verified.now self.now }
         requires subject { CanEvaluate self.now subject }
-        requires operand { MayEvaluate verified.now (environment_for subject (state_of self.now)) operand }
-        ensures { values.operand_value verified.now (environment_for subject (state_of self.now)) operand streams.old ≡
-            valued result streams.new }
+        requires operand { MayEvaluate verified.now (environment_in subject self.now) operand }
+        ensures { values.operand_value verified.now (environment_in subject self.now) operand
+            streams.old ≡ valued result streams.new }
     {
         match operand {
             Operand::Constant(number) => Ok(number),
@@ -218,9 +219,9 @@ impl Machine {
     ) -> Result<i64, PlusEnd>
         requires own { IsOf verified.now self.now }
         requires subject { CanEvaluate self.now subject }
-        requires operand { MayEvaluate verified.now (environment_for subject (state_of self.now)) operand }
-        ensures { values.operand_value verified.now (environment_for subject (state_of self.now)) operand streams.old ≡
-            valued result streams.new }
+        requires operand { MayEvaluate verified.now (environment_in subject self.now) operand }
+        ensures { values.operand_value verified.now (environment_in subject self.now) operand
+            streams.old ≡ valued result streams.new }
     {
         let entities = verified.object().parts().entities.as_slice();
         let source = source_of(entities, operand);

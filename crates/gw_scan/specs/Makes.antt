@@ -1,29 +1,12 @@
 -- What a call of the machine made.
 use Rattle.std.specs.Prelude.{◌≡◌, Result, Ok, Err}
 use Rattle.gw_machine.specs.Configuration.{Configuration}
-use Rattle.gw_machine.specs.Leaving.{Becomes}
+use Rattle.gw_machine.specs.Leaving.{Stays}
 use Rattle.gw_machine.specs.View.{state_of}
 use Rattle.gw_machine.specs.declared.machine.Made.{Made}
 use Rattle.gw_machine.specs.declared.machine.Made.TheVariants.{Step, Ends}
 use Rattle.gw_step.specs.Outcome.{Outcome, Gives, EndsBy}
 use Rattle.gw_step.specs.State.{State}
-
--- CALLS THAT MAKE A STATE
-
--- the machine stays in its state
-abbrev pub Stays : Configuration → Configuration → Type 0
-Stays old new = Becomes (state_of old) old new
-
--- the machine is in the state that this makes of its own
-abbrev pub BecomesBy : (State → State) → Configuration → Configuration → Type 0
-BecomesBy change old new = Becomes (change (state_of old)) old new
-
--- the same; or there was no memory for it, and the machine stays in its state
-abbrev pub BecomesOnOk : {E : Type 0} → Result (Unit {0}) E → (State → State) → Configuration → Configuration → Type 0
-BecomesOnOk (Ok done) change old new = BecomesBy change old new
-BecomesOnOk (Err memory) change old new = Stays old new
-
--- CALLS THAT MAY COME TO A NAMED END
 
 -- the outcome is the new state; or it is an end, and nothing changed
 abbrev pub Makes : Made → Outcome State → State → State → Type 0

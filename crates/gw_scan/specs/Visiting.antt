@@ -8,7 +8,8 @@ use Rattle.gw_machine.specs.Slots.{greatest_set, set_by}
 use Rattle.gw_machine.specs.View.{state_of}
 use Rattle.gw_machine.specs.declared.machine.Made.{Made}
 use Rattle.gw_object.specs.declared.parts.Parts.{Parts}
-use Rattle.gw_scan.specs.Makes.{BecomesOnOk, MakesFrom, MakesOnOk}
+use Rattle.gw_machine.specs.Leaving.{BecomesOnOk}
+use Rattle.gw_scan.specs.Makes.{MakesFrom, MakesOnOk}
 use Rattle.gw_scan.specs.declared.visit.Visit.{Visit}
 use Rattle.gw_step.specs.Asks.{Asks, IsServed, Leads, MayLead}
 use Rattle.gw_step.specs.Blocks.{act, assembly_at, led_by, then_placed, transfer}

@@ -5,7 +5,8 @@ ghost use Rattle.std.specs.Prelude.{◌≡◌, ◌≤◌, ◌<◌, Some, None, l
 ghost use Rattle.gw_step.specs.Changes as change;
 ghost use Rattle.gw_step.specs.Blocks as model;
 ghost use Rattle.gw_machine.specs.Coherence.{HasSlot};
-ghost use Rattle.gw_scan.specs.Makes.{BecomesBy, MakesFrom};
+ghost use Rattle.gw_machine.specs.Leaving.{BecomesBy};
+ghost use Rattle.gw_scan.specs.Makes.{MakesFrom};
 ghost use Rattle.gw_scan.specs.Visiting.{Acts, IsVisit, MayFall, Meets, after_entry, entry_after};
 
 use crate::visit::Visit;

@@ -9,7 +9,7 @@ ghost use Rattle.gw_step.specs.Changes as change;
 ghost use Rattle.gw_step.specs.Blocks as model;
 ghost use Rattle.gw_step.specs.Placing.{placed};
 ghost use Rattle.gw_machine.specs.View.{state_of};
-ghost use Rattle.gw_scan.specs.Makes.{BecomesBy, BecomesOnOk};
+ghost use Rattle.gw_machine.specs.Leaving.{BecomesBy, BecomesOnOk};
 ghost use Rattle.gw_scan.specs.Visiting.{Acts, ActsOnOk, IsEntering, IsVisit, Meets, after_entry, after_fall, with_mark};
 
 use crate::visit::{Visit, blocks_of};

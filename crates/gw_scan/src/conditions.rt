@@ -5,7 +5,8 @@ ghost use Rattle.std.specs.Prelude.{◌≡◌, ◌≤◌, IfSome};
 ghost use Rattle.gw_step.specs.State as state;
 ghost use Rattle.gw_step.specs.Blocks as model;
 ghost use Rattle.gw_step.specs.Placing.{placed};
-ghost use Rattle.gw_scan.specs.Makes.{BecomesOnOk, MakesOnOk};
+ghost use Rattle.gw_machine.specs.Leaving.{BecomesOnOk};
+ghost use Rattle.gw_scan.specs.Makes.{MakesOnOk};
 ghost use Rattle.gw_scan.specs.Visiting.{ActsOnOk, IsVisit, MayFall, MayGo, Meets, passes_or_retries};
 
 use crate::visit::Visit;

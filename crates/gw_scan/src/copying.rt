@@ -8,7 +8,8 @@ ghost use Rattle.gw_step.specs.Changes as change;
 ghost use Rattle.gw_step.specs.Blocks as model;
 ghost use Rattle.gw_step.specs.Placing.{placed};
 ghost use Rattle.gw_machine.specs.View.{assembly_of};
-ghost use Rattle.gw_scan.specs.Makes.{BecomesOnOk, MakesOnOk};
+ghost use Rattle.gw_machine.specs.Leaving.{BecomesOnOk};
+ghost use Rattle.gw_scan.specs.Makes.{MakesOnOk};
 ghost use Rattle.gw_scan.specs.Visiting.{ActsOnOk, IsVisit, MayFall, Meets, after_entry, after_fall, assembly_met, entry};
 
 use crate::visit::Visit;

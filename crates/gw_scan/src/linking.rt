@@ -4,7 +4,7 @@
 ghost use Rattle.std.specs.Prelude.{◌≡◌, ◌<◌, length};
 ghost use Rattle.gw_step.specs.Blocks as model;
 ghost use Rattle.gw_machine.specs.View.{state_of};
-ghost use Rattle.gw_scan.specs.Makes.{BecomesOnOk};
+ghost use Rattle.gw_machine.specs.Leaving.{BecomesOnOk};
 ghost use Rattle.gw_scan.specs.Visiting.{ActsOnOk, IsVisit, Meets, after_fall};
 
 use crate::visit::Visit;

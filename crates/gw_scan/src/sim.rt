@@ -68,7 +68,8 @@ impl Sim {
     /// While the clock stands, what the state weighs and the entries made so far are together at most what they were.
     pub fn step(&mut self) -> Result<Status, Memory>
         ensures job { self.new.job ≡ self.old.job }
-        ensures made { IfOk result (λ status. Answers status self.old.job self.old.state self.new.state) }
+        ensures made { IfOk result (λ status.
+            Answers status self.old.job self.old.state self.new.state) }
         ensures err { OnErr result (self.new.state ≡ self.old.state) }
         ensures ended { IsFinal self.old.state → IsOk result }
         ensures alone { Alone self.new.job self.new.state.steps self.new.state }

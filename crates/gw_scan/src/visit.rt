@@ -7,7 +7,7 @@ ghost use Rattle.gw_step.specs.Operands.{MayEvaluate};
 ghost use Rattle.gw_step.specs.Placing.{placed};
 ghost use Rattle.gw_machine.specs.Coherence.{CanBePlaced, CanRest, IsOf};
 ghost use Rattle.gw_machine.specs.Evaluating.{valued};
-ghost use Rattle.gw_scan.specs.Makes.{BecomesBy};
+ghost use Rattle.gw_machine.specs.Leaving.{BecomesBy};
 ghost use Rattle.gw_scan.specs.Visiting.{IsVisit, PassesOnOk, environment_in, with_priority};
 
 use gw_blocks::{Block, Operand};

@@ -56,7 +56,8 @@ fn weight_of(parts: &Parts, transactions: &Transactions, tx: Tx) -> u32
 /// The weight of the place of the transaction of an event, where it is scheduled for a time after the clock; else 0.
 fn weight_if_later(parts: &Parts, machine: &Machine, event: &Event) -> u32
     requires { IsHeld machine.now.transactions event.now }
-    ensures { result ≡ later_weight parts.now machine.now.transactions.txs machine.now.clock event.now }
+    ensures { result
+        ≡ later_weight parts.now machine.now.transactions.txs machine.now.clock event.now }
 {
     if machine.clock() < event.time {
         weight_of(parts, machine.transactions(), event.tx)
@@ -67,7 +68,8 @@ fn weight_if_later(parts: &Parts, machine: &Machine, event: &Event) -> u32
 
 /// The weights of the places of those together that are scheduled for a time after the clock.
 fn weight_of_later(parts: &Parts, machine: &Machine) -> u128
-    ensures { result ≡ sum_by (later_weight parts.now machine.now.transactions.txs machine.now.clock) machine.now.future_events.items }
+    ensures { result
+        ≡ sum_by (later_weight parts.now machine.now.transactions.txs machine.now.clock) machine.now.future_events.items }
 {
     let mut weight = 0u128;
     for event in machine.future_events().iter() {
@@ -100,7 +102,8 @@ fn owed_by(block: Option<&Block>, scheduled: u64) -> u32
 
 /// What the arrivals weigh that the block of this number, from 1, still owes, where so many of it were scheduled.
 fn owed_at(parts: &Parts, number: u16, scheduled: u64) -> u64
-    ensures { result ≡ model.owed_by (block_at parts.now.blocks number) scheduled * certified.weight_at parts.now.weights number }
+    ensures { result
+        ≡ model.owed_by (block_at parts.now.blocks number) scheduled * certified.weight_at parts.now.weights number }
 {
     let owed = owed_by(block_of(parts.blocks.as_slice(), number), scheduled);
     owed as u64 * weight_at(parts.weights.as_slice(), number) as u64
@@ -110,7 +113,8 @@ fn owed_at(parts: &Parts, number: u16, scheduled: u64) -> u64
 /// scheduled.
 fn weight_owed(parts: &Parts, scheduled: &[u64]) -> u128
     requires { length scheduled.now ≤ 4097 }
-    ensures value { result ≡ sum (tabulate (owed_weight parts.now scheduled.now) (length scheduled.now)) }
+    ensures value { result
+        ≡ sum (tabulate (owed_weight parts.now scheduled.now) (length scheduled.now)) }
     ensures bound { result ≤ 4097 * 2 ^ 64 }
 {
     let mut weight = 0u128;

@@ -19,11 +19,11 @@ returns-in-Step-clause-made c =
     let made = rw c.in-Step.is at c.in_ok-scan.ensures.0 in
     let m = is_counted c.args.verified.now old new made in
     step-gives c.args.verified.now c.args.budget old c.requires.runs new made
-    ∙ ap Some (sym (c.count_step.ensures.state ∙ ap (λ k. within_budget c.args.budget (record new { steps = k + 1 })) m.steps))
+    ∙ ap Some (sym (c.count_step.ensures.0 ∙ ap (λ k. within_budget c.args.budget (record new { steps = k + 1 })) m.steps))
 
 pub returns-in-Ends-clause-made : goal.returns-in-Ends-clause-made
 returns-in-Ends-clause-made c =
     let old = state_of c.args.machine.now in
     let made = rw c.in-Ends.is at c.in_ok-scan.ensures.0 in
     step-ends c.args.verified.now c.args.budget old c.requires.runs c.in-Ends.end made.0
-    ∙ ap Some (sym (c.end_by.ensures.state ∙ ap (λ (s : State). record s { steps = s.steps + 1; ended = Some c.in-Ends.end }) made.1))
+    ∙ ap Some (sym (c.end_by.ensures.0 ∙ ap (λ (s : State). record s { steps = s.steps + 1; ended = Some c.in-Ends.end }) made.1))

@@ -95,7 +95,9 @@ loop-tx-preserved c =
       room = omega (arith, fewer, e.moves.1, e.moves.2, old.room);
     }
 
-pub returns-clause-state : goal.returns-clause-state
-returns-clause-state c =
-    let steady = c.loop-tx.invariant.steady in
-    sym (walk-ends c.args.blocks.now (length c.loop-tx.self.facilities.facilities) c.args.e (at 0 c.loop-tx.self.waits.places c.args.e) c.loop-tx.self steady.fit c.in_default.ensures) ∙ c.loop-tx.invariant.walk
+pub returns : goal.returns
+returns c =
+    let steady = c.loop-tx.invariant.steady in (
+      sym (walk-ends c.args.blocks.now (length c.loop-tx.self.facilities.facilities) c.args.e (at 0 c.loop-tx.self.waits.places c.args.e) c.loop-tx.self steady.fit c.in_default.ensures) ∙ c.loop-tx.invariant.walk,
+      c.loop-tx.invariant.slots,
+    )

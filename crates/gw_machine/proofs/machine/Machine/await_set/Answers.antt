@@ -3,10 +3,10 @@ use Rattle.gw_machine.proofs.AtRest.{state-awaits, linked-awaits}
 use Rattle.gw_machine.specs.Shown.{shown}
 use Rattle.gw_machine.proofs.machine.Machine.await_set.Goals as goal
 
-pub returns-clause-state : goal.returns-clause-state
-returns-clause-state c = rw (← c.self.view_is) (state-awaits (shown c.self.inside) c.args.tx c.args.begins c.self.invariant (rw (← c.self.view_is) at c.requires.rests) c.begin.new.self.items c.begin.ensures.items)
+pub returns : goal.returns
+returns c = rw (← c.self.view_is) (state-awaits (shown c.self.inside) c.args.tx c.args.begins c.self.invariant (rw (← c.self.view_is) at c.requires.rests) c.begin.new.self.items c.begin.ensures.items, refl)
 
 pub invariant_of-self : goal.invariant_of-self
 invariant_of-self c =
     linked-awaits (shown c.self.inside) c.args.tx c.args.begins c.self.invariant (rw (← c.self.view_is) at c.requires.rests) c.begin.new.self.items c.begin.ensures.items
-    _ refl refl refl refl refl refl refl refl refl refl refl (rw (← c.self.view_is) at (returns-clause-state c))
+    _ refl refl refl refl refl refl refl refl refl refl refl ((rw (← c.self.view_is) at (returns c)).0)

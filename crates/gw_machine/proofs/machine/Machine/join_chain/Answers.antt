@@ -3,22 +3,26 @@ use Rattle.gw_machine.proofs.AtChains.{state-joins, linked-joins}
 use Rattle.gw_machine.specs.Shown.{shown}
 use Rattle.gw_machine.proofs.machine.Machine.join_chain.Goals as goal
 
-pub returns-in-Fifo-clause-state : goal.returns-in-Fifo-clause-state
-returns-in-Fifo-clause-state c =
+pub returns-in-Fifo : goal.returns-in-Fifo
+returns-in-Fifo c =
     rw (← c.self.view_is) (
-    let e = c.put_chain.ensures in
-    state-joins (shown c.self.inside) c.args.tx c.args.link Fifo c.in-Fifo.is c.self.invariant (rw (← c.self.view_is) at c.requires.rests) (rw (← c.self.view_is) at c.requires.chain) c.put_chain.new.self e.txs e.places e.last e.sound c.push_back.new.self c.push_back.ensures.lists)
+      let e = c.put_chain.ensures in
+          state-joins (shown c.self.inside) c.args.tx c.args.link Fifo c.in-Fifo.is c.self.invariant (rw (← c.self.view_is) at c.requires.rests) (rw (← c.self.view_is) at c.requires.chain) c.put_chain.new.self e.txs e.places e.last e.sound c.push_back.new.self c.push_back.ensures.lists,
+      c.put_chain.ensures.last,
+    )
 
 pub invariant_of-self : goal.invariant_of-self
 invariant_of-self c =
     let e = c.put_chain.ensures in
     linked-joins (shown c.self.inside) c.args.tx c.args.link Fifo c.in-Fifo.is c.self.invariant (rw (← c.self.view_is) at c.requires.rests) (rw (← c.self.view_is) at c.requires.chain) c.put_chain.new.self e.txs e.places e.last e.sound c.push_back.new.self c.push_back.ensures.lists
 
-pub returns-in-Lifo-clause-state : goal.returns-in-Lifo-clause-state
-returns-in-Lifo-clause-state c =
+pub returns-in-Lifo : goal.returns-in-Lifo
+returns-in-Lifo c =
     rw (← c.self.view_is) (
-    let e = c.put_chain.ensures in
-    state-joins (shown c.self.inside) c.args.tx c.args.link Lifo c.in-Lifo.is c.self.invariant (rw (← c.self.view_is) at c.requires.rests) (rw (← c.self.view_is) at c.requires.chain) c.put_chain.new.self e.txs e.places e.last e.sound c.push_front.new.self c.push_front.ensures.lists)
+      let e = c.put_chain.ensures in
+          state-joins (shown c.self.inside) c.args.tx c.args.link Lifo c.in-Lifo.is c.self.invariant (rw (← c.self.view_is) at c.requires.rests) (rw (← c.self.view_is) at c.requires.chain) c.put_chain.new.self e.txs e.places e.last e.sound c.push_front.new.self c.push_front.ensures.lists,
+      c.put_chain.ensures.last,
+    )
 
 pub invariant_of-self-in-Lifo : goal.invariant_of-self-in-Lifo
 invariant_of-self-in-Lifo c =

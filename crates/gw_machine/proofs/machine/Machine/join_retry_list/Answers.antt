@@ -7,10 +7,10 @@ use Rattle.gw_machine.proofs.machine.Machine.join_retry_list.Goals as goal
 joined : (c : goal.After-push_retry) → c.push_retry.new.self.retry ≡ (shown c.self.inside).waits.retry ++ record { tx = c.args.tx; priority = c.args.priority } ∷ []
 joined c = let fits = c.ranges.priority in simp to_z-of_z at c.push_retry.ensures.retry
 
-pub returns-clause-state : goal.returns-clause-state
-returns-clause-state c = rw (← c.self.view_is) (state-retries (shown c.self.inside) c.args.tx c.args.priority c.push_retry.new.self (joined c) c.push_retry.ensures.lists)
+pub returns : goal.returns
+returns c = rw (← c.self.view_is) (state-retries (shown c.self.inside) c.args.tx c.args.priority c.push_retry.new.self (joined c) c.push_retry.ensures.lists, refl)
 
 pub invariant_of-self : goal.invariant_of-self
 invariant_of-self c =
     linked-retries (shown c.self.inside) c.args.tx c.args.priority c.self.invariant (rw (← c.self.view_is) at c.requires.rests) (rw (← c.self.view_is) at c.requires.rank) c.push_retry.new.self (joined c) c.push_retry.ensures.lists
-    _ refl refl refl refl refl refl refl refl refl refl refl (rw (← c.self.view_is) at (returns-clause-state c))
+    _ refl refl refl refl refl refl refl refl refl refl refl ((rw (← c.self.view_is) at (returns c)).0)

@@ -32,7 +32,7 @@ pub returns-clause-state : goal.returns-clause-state
 returns-clause-state c =
     rw (← c.self.view_is) (
     let fits = c.ranges.time in
-    simp to_z-of_z (state-moved (shown c.self.inside) c.args.time c.move_due.new.current_events.items c.move_due.new.future_events.items _ c.self.invariant (joined c) (left c) (entities c)))
+    simp to_z-of_z (state-moved (shown c.self.inside) c.args.time c.move_due.new.current_events.items c.move_due.new.future_events.items _ c.self.invariant (joined c) (left c) (entities c), refl))
 
 pub invariant_of-self : goal.invariant_of-self
 invariant_of-self c =
@@ -46,4 +46,4 @@ invariant_of-self c =
       storages = simp to_z-of_z (omega (arith, ints, timed.storages, ap (λ (s : StorageTable). s.passed) c.pass_time-2.ensures, dt));
       queues = simp to_z-of_z (omega (arith, ints, timed.queues, ap (λ (q : QueueTable). q.passed) c.pass_time-3.ensures, dt));
     })
-    (rw (← c.self.view_is) at (returns-clause-state c))
+    ((rw (← c.self.view_is) at (returns-clause-state c)).0)
