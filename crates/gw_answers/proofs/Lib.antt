@@ -1,4 +1,4 @@
-pub mod Stepping
+pub mod Exhausting
 pub mod Endings
 pub mod OneAnswers
 pub mod Conclusions

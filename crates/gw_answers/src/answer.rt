@@ -16,7 +16,7 @@ use crate::status::{ENDED, REFUSED};
 use gw_assemble::assemble;
 use gw_object::{Fault, Memory, Object, codes, read, write};
 use gw_report::report;
-use gw_scan::{Sim, Spec, StartFault, Status};
+use gw_scan::{Sim, Spec, StartFault};
 use gw_text::{Model, parse};
 use gw_verdicts::{Acceptance, Refusal};
 use gw_verify::{Verified, verify};
@@ -39,12 +39,7 @@ pub fn run_to_end(sim: &mut Sim) -> Result<(), Memory>
     ensures alone { Alone sim.new.job sim.new.state.steps sim.new.state }
     ensures over { OnOk result (IsFinal sim.new.state) }
 {
-    for _ in 0..BUDGET {
-        match sim.step()? {
-            Status::Running => {}
-            Status::Ended(_) => return Ok(()),
-        }
-    }
+    sim.run_slice(BUDGET as u32)?;
     Ok(())
 }
 

@@ -10,7 +10,6 @@ use Rattle.gw_service.specs.Journal.{Service, Take, Return, with_event}
 use Rattle.gw_service.specs.Calls.{take_reply, Receipt, receipt_of, fits_row, receipt_for, give_back_reply}
 use Rattle.gw_service.specs.Keeping.{steps_in}
 use Rattle.gw_jobs.specs.declared.replies.Reply.{Reply}
-use Rattle.gw_jobs.specs.declared.task.Slice.{Slice}
 use Rattle.gw_jobs.specs.Passes.{Task, steps_made}
 
 -- COLLECT
@@ -63,13 +62,6 @@ pub record GoesOut (old new : Service) : Type 0 where
 abbrev pub CountsTake : Option Task → Service → Service → Type 0
 CountsTake None old new = new ≡ old
 CountsTake (Some t) old new = GoesOut old new
-
--- SLICES
-
--- so many of these steps were made: all of them, or fewer where the job is ended
-pub record IsSlice (steps : ℕ) (slice : Slice) : Type 0 where
-  pub most : slice.made ≤ steps
-  pub all : slice.made ≢ steps → slice.ended ≡ true
 
 -- GIVE BACK
 

@@ -11,8 +11,9 @@ mod submission;
 mod table;
 mod task;
 
+pub use gw_scan::Slice;
 pub use gw_service::{JobFault, Progress, State};
 pub use pass::Pass;
 pub use replies::{Reply, Returned};
 pub use table::Table;
-pub use task::{Slice, Task};
+pub use task::Task;

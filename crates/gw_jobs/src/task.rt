@@ -1,13 +1,12 @@
 //! A job that is out, and the slices of steps that its worker makes.
 
-ghost use Rattle.std.specs.Prelude.{◌≡◌, ◌+◌, ◌≤◌, IfOk, OnErr, is_some};
+ghost use Rattle.std.specs.Prelude.{◌≡◌, ◌+◌, ◌≤◌, IfOk, is_some};
 ghost use Rattle.gw_step.specs.Job.{IsReached};
-ghost use Rattle.gw_scan.specs.Answers.{StaysPaid};
+ghost use Rattle.gw_scan.specs.Answers.{IsSlice, StaysPaid};
 ghost use Rattle.gw_jobs.specs.Passes.{steps_made};
-ghost use Rattle.gw_jobs.specs.Answers.{IsSlice};
 
 use gw_object::Memory;
-use gw_scan::{Sim, Spec, Status};
+use gw_scan::{Sim, Slice, Spec};
 use std::marker::Model;
 
 /// A job that a worker owns, with its state, which is the one that the job's lone run has after as many steps. It is made by
@@ -26,35 +25,6 @@ impl Model for Task {
     ghost view = { passes.task_of };
 
     ghost invariant = { passes.IsTask };
-}
-
-/// What a slice came to.
-#[derive(Clone, Copy, Debug, PartialEq, Eq)]
-pub struct Slice {
-    /// The steps that it made.
-    pub made: u32,
-    /// Whether the job is ended now.
-    pub ended: bool,
-}
-
-/// Makes so many steps, or fewer where the job is ended then. On `Memory` the steps made before stand.
-fn run(sim: &mut Sim, steps: u32) -> Result<Slice, Memory>
-    ensures job { sim.new.job ≡ sim.old.job }
-    ensures made { IfOk result (λ slice. sim.new.state.steps ≡ sim.old.state.steps + slice.made) }
-    ensures all { IfOk result (IsSlice steps) }
-    ensures ended { IfOk result (λ slice. slice.ended ≡ is_some sim.new.state.ended) }
-    ensures rise { sim.old.state.steps ≤ sim.new.state.steps }
-    ensures most { sim.new.state.steps ≤ sim.old.state.steps + steps }
-    ensures reached { IsReached sim.new }
-{
-    let mut status = sim.status();
-    let mut made = 0;
-    while made < steps && status == Status::Running {
-        status = sim.step()?;
-        made += 1;
-    }
-    let ended = status != Status::Running;
-    Ok(Slice { made, ended })
 }
 
 impl Task {
@@ -96,6 +66,6 @@ impl Task {
         ensures reached { IsReached self.new.sim }
         ensures moment { StaysPaid self.old.sim self.new.sim }
     {
-        run(&mut self.sim, steps)
+        self.sim.run_slice(steps)
     }
 }

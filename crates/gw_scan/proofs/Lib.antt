@@ -6,4 +6,5 @@ pub mod Weighing
 pub mod Leading
 pub mod Taking
 pub mod Moments
+pub mod Slicing
 pub mod Subjects

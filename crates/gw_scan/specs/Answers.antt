@@ -1,7 +1,8 @@
--- What a call of `step` answers.
-use Rattle.std.specs.Prelude.{◌≡◌, ◌+◌, ◌≤◌, sum, Option, Some, None}
+-- What calls of `step` and `run_slice` answer.
+use Rattle.std.specs.Prelude.{◌≡◌, ◌≢◌, ℕ, ◌+◌, ◌≤◌, sum, Option, Some, None, true}
 use Rattle.gw_step.specs.declared.ends.End.{End}
 use Rattle.gw_scan.specs.declared.sim.Status.{Status}
+use Rattle.gw_scan.specs.declared.slices.Slice.{Slice}
 use Rattle.gw_scan.specs.declared.sim.Status.TheVariants.{Running, Ended}
 use Rattle.gw_step.specs.State.{State}
 use Rattle.gw_step.specs.Job.{Job, Progress, Step}
@@ -26,3 +27,8 @@ Answers status j old new = AnswersFrom old.ended status j old new
 abbrev pub StaysPaid : Progress → Progress → Type 0
 StaysPaid old new =
     new.state.clock ≡ old.state.clock → weight old.job.parts new.state + sum new.state.entries ≤ weight old.job.parts old.state + sum old.state.entries
+
+-- so many of these steps were made: all of them, or fewer where the job is ended
+pub record IsSlice (steps : ℕ) (slice : Slice) : Type 0 where
+  pub most : slice.made ≤ steps
+  pub all : slice.made ≢ steps → slice.ended ≡ true

@@ -9,6 +9,7 @@ mod linking;
 mod passing;
 mod scan;
 mod sim;
+mod slices;
 mod spec;
 mod subroutines;
 mod views;
@@ -21,4 +22,5 @@ pub use gw_step::{
     steps_are_determined, typed_states_never_get_stuck, waiters_are_not_forgotten,
 };
 pub use sim::{Sim, Status};
+pub use slices::Slice;
 pub use spec::{Spec, StartFault};

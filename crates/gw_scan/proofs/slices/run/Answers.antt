@@ -1,7 +1,7 @@
 use Rattle.std.proofs.Common.{rules, ◌≡◌, ◌+◌, ◌∙◌, arith}
 use Rattle.gw_scan.specs.declared.sim.Status.TheVariants.{Running}
-use Rattle.gw_jobs.proofs.Running.{is_running, one_step}
-use Rattle.gw_jobs.proofs.task.run.Goals as goal
+use Rattle.gw_scan.proofs.Slicing.{is_running, one_step}
+use Rattle.gw_scan.proofs.slices.run.Goals as goal
 
 pub loop-made-preserved : goal.loop-made-preserved
 loop-made-preserved c =

@@ -1,13 +1,12 @@
--- What a slice makes of a state.
-use Rattle.std.proofs.Common.{◌≡◌, ◌+◌, ◌≤◌, Option, Some, None, refl, sym, subst, ◌∙◌}
+-- What each step of a slice makes of a state.
+use Rattle.std.proofs.Common.{◌≡◌, ◌+◌, Option, Some, None, refl, sym, ◌∙◌}
 use Rattle.gw_step.specs.declared.ends.End.{End}
 use Rattle.gw_step.specs.State.{State}
-use Rattle.gw_step.specs.Job.{Job, Progress, Alone, IsReached}
+use Rattle.gw_step.specs.Job.{Job}
 use Rattle.gw_step.proofs.LeftByEnds.{steps_are_counted}
-use Rattle.gw_step.proofs.Moment.{entries_are_paid}
 use Rattle.gw_scan.specs.declared.sim.Status.{Status}
 use Rattle.gw_scan.specs.declared.sim.Status.TheVariants.{Running, Ended}
-use Rattle.gw_scan.specs.Answers.{status_at, AnswersFrom, Answers, StaysPaid}
+use Rattle.gw_scan.specs.Answers.{status_at, AnswersFrom, Answers}
 
 -- what a step of a running job leaves
 pub record IsStepped (status : Status) (s t : State) : Type 0 where
@@ -28,14 +27,3 @@ runs (Some end) h = absurd cc
 
 pub is_running : (status : Status) (s : State) → status ≡ status_at s.ended → status ≡ Running → s.ended ≡ None
 is_running status s is h = runs s.ended (sym is ∙ h)
-
--- the moment bound, from one reached state to a later one
-pub stays_paid : (p q : Progress) → IsReached p → IsReached q → q.job ≡ p.job → p.state.steps ≤ q.state.steps → StaysPaid p q
-stays_paid p q first later job order clock = entries_are_paid p.job p.state q.state first.fits (record {
-  before = p.state.steps;
-  after = q.state.steps;
-  order = order;
-  first = first.alone;
-  second = subst (λ (j : Job). Alone j q.state.steps q.state) job later.alone;
-  clock = clock;
-})

@@ -1,7 +1,7 @@
 use Rattle.std.proofs.Common.{◌≡◌, ◌+◌, ◌≤◌, ◌-◌}
 use Rattle.gw_step.specs.Job.{IsReached}
 use Rattle.gw_scan.specs.Answers.{status_at}
-use Rattle.gw_jobs.proofs.task.run.Given as goal
+use Rattle.gw_scan.proofs.slices.run.Given as goal
 
 abbrev pub invariant-loop-made : goal.invariant-loop-made
 invariant-loop-made l =
