@@ -1,8 +1,8 @@
 -- What tests found, where memory may have run out.
 use Rattle.std.proofs.Common.{◌≡◌, ◌⊎◌, inl, inr, ℕ, ◌<◌, List, ◌++◌, length, drop, get_or, Option, Some, None, Result, Ok, Err}
 use Rattle.gw_object.specs.declared.fault.Fault.{Fault}
-use Rattle.gw_kinds.specs.Checks.{Check, first_broken, numbered}
-use Rattle.gw_kinds.proofs.Broken.{stops, joined}
+use Rattle.gw_kinds.specs.Checks.{Check, Finds, first_broken, numbered}
+use Rattle.gw_kinds.proofs.Broken.{stops, stops_first, joined}
 use Rattle.gw_object.specs.Reading.{out_of_memory}
 use Rattle.gw_flow.specs.Flow.{FindsOrLacksMemory}
 
@@ -17,3 +17,13 @@ pub found_here : {A : Type 0} (f : ℕ → A → List Check) (number : ℕ) (xs 
     (fault : Fault) → (first_broken (f number (get_or xs i d)) ≡ Some fault) ⊎ (fault ≡ out_of_memory) → (total ≡ Some fault) ⊎ (fault ≡ out_of_memory)
 found_here f number xs i d total below so_far fault (inl h) = inl (stops f number xs i d total below so_far fault h)
 found_here f number xs i d total below so_far fault (inr h) = inr h
+
+-- a fault of the first checks is that of the first and further checks
+pub found_first : (cs ds : List Check) (fault : Fault) → (first_broken cs ≡ Some fault) ⊎ (fault ≡ out_of_memory) → (first_broken (cs ++ ds) ≡ Some fault) ⊎ (fault ≡ out_of_memory)
+found_first cs ds fault (inl h) = inl (stops_first cs ds fault h)
+found_first cs ds fault (inr h) = inr h
+
+-- none of the first checks is broken: what a test of the further checks found is what all have, and memory didn't run out
+pub found_after : {X : Type 0} (r : Result X Fault) (cs ds : List Check) → first_broken cs ≡ None → Finds r ds → FindsOrLacksMemory r (cs ++ ds)
+found_after (Ok x) cs ds none h = joined (Ok x) cs ds none h
+found_after {X} (Err fault) cs ds none h = inl (joined {X = X} (Err fault) cs ds none h)

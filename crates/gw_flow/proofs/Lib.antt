@@ -10,6 +10,7 @@ pub mod Unfit
 pub mod Carried
 pub mod Chains
 pub mod Own
+pub mod Exits
 pub mod Parameters
 pub mod EachBlock
 pub mod Passing

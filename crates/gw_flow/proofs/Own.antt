@@ -45,7 +45,7 @@ own_with rows (Some set) s none =
     ∙ sym (entries-in_place (λ (q : Parameter). q.number) (λ (q : Parameter). kind_seen rows q.kind) set s.parameters)
 
 -- what is known of parameters after a block is what the given ones say, but the one that it sets
-own_after : (rows : List ReturnRow) (b : ℕ) (block : Block) (s : StateParts) → (after b block (known rows s)).params ≡ params_of rows (parameters_with (parameter_set b block) s.parameters)
+pub own_after : (rows : List ReturnRow) (b : ℕ) (block : Block) (s : StateParts) → (after b block (known rows s)).params ≡ params_of rows (parameters_with (parameter_set b block) s.parameters)
 own_after rows b block s = after_params b block (known rows s) ∙ own_with rows (parameter_set b block) s (set_names_none b block)
 
 -- who goes along an exit has the parameters of who entered

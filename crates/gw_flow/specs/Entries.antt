@@ -1,10 +1,7 @@
 -- Lists of numbers, and of entries by number. They ascend; what is read of them by number doesn't depend on it.
-use Rattle.std.specs.Prelude.{ℕ, List, [], ◌∷◌, ◌++◌, Option, Some, None, Bool, not, if◌then◌else◌, ◌==◌, nat_lt, filter, option_to_list, option_map, unwrap_or}
-use Rattle.std.specs.List.{list_any, fold}
-
--- whether a number is in a list
-abbrev pub lists : List ℕ → ℕ → Bool
-lists ns n = list_any (λ m. m == n) ns
+use Rattle.std.specs.Prelude.{ℕ, List, [], ◌∷◌, ◌++◌, Option, Some, None, not, if◌then◌else◌, ◌==◌, nat_lt, filter, option_to_list, option_map, unwrap_or}
+use Rattle.std.specs.List.{fold}
+pub use Rattle.gw_returns.specs.Returns.{lists}
 
 -- a list that ascends by a key, with an element in its place; it stands there for the one of its key
 abbrev pub in_place : {X : Type 0} → (X → ℕ) → X → List X → List X

@@ -26,7 +26,7 @@ use Rattle.gw_flow.specs.Blocks.{Table, Rule, rules, rules_without_row, paramete
 -- TABLES
 
 -- the row of the block of a number; blocks count from 1
-abbrev pub row_at : List (Option Row) → ℕ → Option Row
+abbrev pub row_at : {X : Type 0} → List (Option X) → ℕ → Option X
 row_at rows zero = None
 row_at rows (suc i) = option_flatten (slice_get rows i)
 

@@ -1,12 +1,12 @@
 -- The states that objects and calls carry, seen as abstract states.
-use Rattle.std.specs.Prelude.{◌≢◌, ℕ, ◌<◌, List, [], ◌∷◌, map, slice_get, All, AllPairs}
-use Rattle.std.specs.Option.{option_map_or}
+use Rattle.std.specs.Prelude.{◌≢◌, ℕ, ◌<◌, List, [], ◌∷◌, map, All, AllPairs}
 use Rattle.gw_blocks.specs.declared.parts.Units.{Units}
 use Rattle.gw_object.specs.declared.parts.TableKind.{TableKind}
 use Rattle.gw_object.specs.declared.parts.TableKind.TheVariants.{Num as TableNum, Ret as TableRet}
 use Rattle.gw_object.specs.declared.parts.TableParameter.{TableParameter}
 use Rattle.gw_object.specs.declared.parts.TableState.{TableState}
 use Rattle.gw_object.specs.declared.parts.ReturnRow.{ReturnRow}
+pub use Rattle.gw_returns.specs.Returns.{row_blocks}
 use Rattle.gw_flow.specs.declared.abstract_state.ParameterKind.{ParameterKind}
 use Rattle.gw_flow.specs.declared.abstract_state.ParameterKind.TheVariants.{Num as OwnNum, Ret as OwnRet, RetTo as OwnRetTo}
 use Rattle.gw_flow.specs.declared.abstract_state.Parameter.{Parameter}
@@ -17,10 +17,6 @@ use Rattle.gw_flow.specs.Rows.{ParamKind, Num, Ret, Row}
 -- the blocks of return rows have numbers that another one comes after
 abbrev pub HaveNext : List ReturnRow → Type 0
 HaveNext rows = All (λ (row : ReturnRow). All (λ b. b < 65535) row.blocks) rows
-
--- the blocks of the return row of a number; none where there is no such row
-abbrev pub row_blocks : List ReturnRow → ℕ → List ℕ
-row_blocks rows r = option_map_or (λ (row : ReturnRow). row.blocks) (slice_get rows r) []
 
 -- what a parameter of this kind holds, by the return rows
 abbrev pub kind_seen : List ReturnRow → ParameterKind → ParamKind

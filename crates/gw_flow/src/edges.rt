@@ -6,7 +6,6 @@ ghost use Rattle.gw_kinds.specs.Exits.{returns_to as exit_after};
 ghost use Rattle.gw_flow.specs.declared.abstract_state.Parameter.{Parameter as DeclaredParameter};
 ghost use Rattle.gw_flow.specs.Rows.{HasRoom, return_blocks};
 ghost use Rattle.gw_flow.specs.Viewed.{kind_viewed};
-ghost use Rattle.gw_flow.specs.ViewedTable.{table_viewed};
 ghost use Rattle.gw_flow.specs.Blocks as model;
 ghost use Rattle.gw_flow.specs.Flow.{said};
 ghost use Rattle.gw_flow.specs.Seen.{params_of};
@@ -17,7 +16,6 @@ use crate::lists::with_last;
 use crate::lookups::Lookups;
 use crate::setting::parameter_set;
 use crate::state::{ParamKind, State, param_seen};
-use crate::table::StateTable;
 use gw_blocks::Block;
 use gw_kinds::{Exit, Who, exits, leads_to, returns_to};
 use gw_object::{Items, Memory};
@@ -88,7 +86,7 @@ fn with_setting<'a>(
 }
 
 /// What is known of a transaction once it has passed the block of this number in a state.
-fn after<'a>(
+pub(crate) fn after<'a>(
     alloc: Global,
     number: u16,
     block: &Block,
@@ -176,7 +174,10 @@ fn exits_after(alloc: Global, blocks: &[u16]) -> Result<Vec<Exit>, Memory>
 }
 
 /// The exits of a TRANSFER in parameter mode whose parameter holds this, if it is set.
-fn exits_of_return(alloc: Global, kind: Option<ParamKind<'_>>) -> Result<Vec<Exit>, Memory>
+pub(crate) fn exits_of_return(
+    alloc: Global,
+    kind: Option<ParamKind<'_>>,
+) -> Result<Vec<Exit>, Memory>
     requires { All (λ b. b < 65535) (return_blocks (option_map kind_viewed kind)) }
     ensures { IfOk result (λ exits. exits.items ≡ map exit_after (return_blocks (option_map kind_viewed kind.entry))) }
 {
@@ -222,28 +223,6 @@ fn join<'a>(alloc: Global, block: &Block, state: &State<'a>) -> Result<Option<Fl
     }
 }
 
-/// The edge of the members whom a block sends on from their user chain, if it is an UNLINK, and they have a row in the
-/// state table.
-fn members_move<'a>(
-    alloc: Global,
-    table: StateTable<'_, 'a>,
-    block: &Block,
-) -> Result<Option<FlowEdge<'a>>, Memory>
-    ensures { IfOk result (λ edge. option_to_list edge ≡ model.members_edges (table_viewed table.entry) block.now) }
-{
-    let Block::Unlink(unlink) = block else {
-        return Ok(None);
-    };
-    match table.row(Target::Chain(unlink.chain)) {
-        Some(members) => Ok(Some(FlowEdge {
-            code: CHAIN_STATE,
-            target: Target::Block(unlink.target),
-            state: members.copy(alloc)?,
-        })),
-        None => Ok(None),
-    }
-}
-
 /// The edges of the block of this number in a state, in order, of those who enter it and of their copies.
 pub fn own_edges_of<'a>(
     alloc: Global,
@@ -257,21 +236,4 @@ pub fn own_edges_of<'a>(
 {
     let edges = edges_of(alloc, number, block, state)?;
     with_last(edges, join(alloc, block, state)?)
-}
-
-/// The edges of the block of this number in a state, in order: also that of the members of a user chain, by the state
-/// table.
-pub(crate) fn all_edges_of<'a>(
-    alloc: Global,
-    table: StateTable<'_, 'a>,
-    number: u16,
-    block: &Block,
-    state: &State<'a>,
-) -> Result<Vec<FlowEdge<'a>>, Memory>
-    requires number { number ≤ 4096 }
-    requires room { HasRoom state.now }
-    ensures { IfOk result (λ edges. edges.items ≡ model.edges_from number block.now state.now ++ model.chain_edges (table_viewed table.entry) block.now state.now) }
-{
-    let edges = own_edges_of(alloc, number, block, state)?;
-    with_last(edges, members_move(alloc, table, block)?)
 }

@@ -1,146 +1,38 @@
-//! The checks of flow, in order.
+//! The edges of a block in a state, in the numbers of that state.
 
-ghost use Rattle.std.specs.Prelude.{◌≡◌, ◌<◌, ◌≤◌, ◌++◌, Some, IfOk, IfSome, IsSome, All, AllPairs, List, map, length, option_copied, option_to_list, [], ◌∷◌};
+ghost use Rattle.std.specs.Prelude.{◌≡◌, ◌<◌, ◌≤◌, ◌++◌, Some, IfOk, IfSome, IsSome, All, AllPairs, List, option_to_list};
 ghost use Rattle.gw_blocks.specs.declared.parts.Block.{Block};
-ghost use Rattle.gw_kinds.specs.Checks.{Finds, first_broken};
+ghost use Rattle.gw_kinds.specs.Checks.{Finds};
 ghost use Rattle.gw_object.specs.Grammar.{AreAscending, IsAscending, StateFits, HasSpelling};
 ghost use Rattle.gw_object.specs.declared.parts.ReturnRow.{ReturnRow as DeclaredReturnRow};
 ghost use Rattle.gw_kinds.specs.Kinds.{block_at};
-ghost use Rattle.gw_kinds.specs.Pass.{KindsPass};
 ghost use Rattle.gw_flow.specs.declared.abstract_state.Parameter.{Parameter as DeclaredParameter};
 ghost use Rattle.gw_flow.specs.Rows.{HasRoom};
-ghost use Rattle.gw_flow.specs.Blocks.{parameter_set as set_by, edges_from, joins, members_edges, chain_edges, edges};
+ghost use Rattle.gw_flow.specs.Blocks.{parameter_set as set_by, after as after_block, edges_from, joins, members_edges, edges};
 ghost use Rattle.gw_flow.specs.Flow as model;
-ghost use Rattle.gw_flow.specs.Flow.{FindsOrLacksMemory, SayTheSame, HaveOwn, AnswersEdges};
+ghost use Rattle.gw_flow.specs.Flow.{SayTheSame, HaveOwn, AnswersEdges};
 ghost use Rattle.gw_flow.specs.Seen.{known, params_of};
-ghost use Rattle.gw_flow.specs.ViewedTable.{table_viewed};
 ghost use Rattle.gw_flow.specs.declared.edges.Edge.{Edge as DeclaredEdge};
 ghost use Rattle.gw_flow.specs.declared.edges.FlowEdge.{FlowEdge as DeclaredFlowEdge};
 
 use crate::abstract_state::{AbsState, Parameter};
-use crate::edges::{Edge, FlowEdge, Target, all_edges_of, own_edges_of};
+use crate::edges::{Edge, FlowEdge, Target, after, own_edges_of};
 use crate::lists::{copy_of, in_place, with_last};
 use crate::lookups::Carried;
-use crate::rules::{check_rules, check_without_row};
+use crate::rules::check_rules;
 use crate::setting::parameter_set;
 use crate::state::State;
-use crate::table::{StateTable, rows_of};
 use gw_blocks::Block;
-use gw_kinds::{chain_row, check};
+use gw_kinds::chain_row;
 use gw_object::codes::MEMORY;
 use gw_object::{Fault, Items, Memory, Object, Parts, Place, ReturnRow};
 use std::alloc::{AllocError, Global};
 
 /// That memory ran out.
-const OUT_OF_MEMORY: Fault = Fault {
+pub(crate) const OUT_OF_MEMORY: Fault = Fault {
     code: MEMORY,
     place: Place::Nowhere,
 };
-
-/// Whether there is a row, and a state fits it.
-fn fits_row(state: &State<'_>, row: Option<&State<'_>>) -> bool
-    ensures { result ≡ model.fits_row state.now (option_copied row.entry) }
-{
-    match row {
-        Some(row) => state.fits(row),
-        None => false,
-    }
-}
-
-/// The place of an edge of the block of this number; one to a user chain has that of an edge from the block to itself.
-fn edge_place(number: u16, target: Target) -> Place
-    ensures { result ≡ model.edge_place number target }
-{
-    match target {
-        Target::Block(to) => Place::Edge(number, to),
-        Target::Chain(_) => Place::Edge(number, number),
-    }
-}
-
-/// Whether where an edge of the block of this number leads there is a row that its state fits; else its fault.
-fn check_edge(table: StateTable<'_, '_>, number: u16, edge: &FlowEdge<'_>) -> Result<(), Fault>
-    ensures { Finds result (model.edge_check (table_viewed table.entry) number edge.now ∷ []) }
-{
-    let fits = fits_row(&edge.state, table.row(edge.target));
-    check(edge.code, edge_place(number, edge.target), fits)
-}
-
-/// The first of these edges of the block of this number that is at fault, if there is one.
-fn check_edges(table: StateTable<'_, '_>, number: u16, edges: &[FlowEdge<'_>]) -> Result<(), Fault>
-    ensures { Finds result (map (model.edge_check (table_viewed table.entry) number) edges.now) }
-{
-    for edge in edges {
-        check_edge(table, number, edge)?;
-    }
-    Ok(())
-}
-
-/// The first fault of the edges of the block of this number in a state, if there is one.
-fn check_edges_in(
-    alloc: Global,
-    table: StateTable<'_, '_>,
-    number: u16,
-    block: &Block,
-    state: &State<'_>,
-) -> Result<(), Fault>
-    requires number { number ≤ 4096 }
-    requires room { HasRoom state.now }
-    ensures { FindsOrLacksMemory result (map (model.edge_check (table_viewed table.entry) number) (edges_from number block.now state.now ++ chain_edges (table_viewed table.entry) block.now state.now)) }
-{
-    match all_edges_of(alloc, table, number, block, state) {
-        Ok(edges) => check_edges(table, number, &edges),
-        Err(AllocError) => Err(OUT_OF_MEMORY),
-    }
-}
-
-/// The first fault of the block of this number in a state, if there is one.
-fn check_in(
-    alloc: Global,
-    parts: &Parts,
-    table: StateTable<'_, '_>,
-    number: u16,
-    block: &Block,
-    state: &State<'_>,
-) -> Result<(), Fault>
-    requires number { number ≤ 4096 }
-    requires room { HasRoom state.now }
-    ensures { FindsOrLacksMemory result (model.checks_in parts.now (table_viewed table.entry) number block.now (Some state.now)) }
-{
-    check_rules(parts, number, block, state)?;
-    check_edges_in(alloc, table, number, block, state)
-}
-
-/// The first fault of the block of this number in its row of a table, if there is one.
-fn check_block(
-    alloc: Global,
-    parts: &Parts,
-    table: StateTable<'_, '_>,
-    number: u16,
-    block: &Block,
-) -> Result<(), Fault>
-    requires number { number ≤ 4096 }
-    requires room { All (λ row. IfSome row HasRoom) table.blocks.now }
-    ensures { FindsOrLacksMemory result (model.checks_at parts.now (table_viewed table.entry) number block.now) }
-{
-    match table.row(Target::Block(number)) {
-        Some(state) => check_in(alloc, parts, table, number, block, state),
-        None => check_without_row(parts, number, block),
-    }
-}
-
-/// The first fault of the blocks with this table, if there is one.
-#[tactic(auto, unfolding(crate::specs::Flow::flow_checks))]
-fn check_blocks(alloc: Global, parts: &Parts, table: StateTable<'_, '_>) -> Result<(), Fault>
-    requires few { length parts.now.blocks ≤ 4096 }
-    requires room { All (λ row. IfSome row HasRoom) table.blocks.now }
-    ensures { FindsOrLacksMemory result (model.flow_checks parts.now (table_viewed table.entry)) }
-{
-    let blocks = parts.blocks.as_slice();
-    for i in 0..blocks.len() {
-        check_block(alloc, parts, table, (i + 1) as u16, &blocks[i])?;
-    }
-    Ok(())
-}
 
 /// The parameters of a state once one is set, if one is: each other one is as it was given.
 fn parameters_with(
@@ -157,6 +49,25 @@ fn parameters_with(
         }
         None => copy_of(alloc, given),
     }
+}
+
+/// What is known of a transaction once it has passed the block of this number in a state, in the numbers of that state.
+pub(crate) fn passed(
+    alloc: Global,
+    returns: &[ReturnRow],
+    number: u16,
+    block: &Block,
+    state: &AbsState,
+) -> Result<AbsState, Memory>
+    requires returns { All AreAscending returns.now }
+    requires room { HasRoom (known returns.now state.now) }
+    ensures { IfOk result (λ s. known returns.now s ≡ after_block number block.now (known returns.now state.now)) }
+{
+    let seen = State::of(alloc, returns, state)?;
+    let passed = after(alloc, number, block, &seen)?;
+    let set = parameter_set(number, block);
+    let parameters = parameters_with(alloc, set, &state.parts().parameters)?;
+    passed.in_numbers_of(alloc, &parameters)
 }
 
 /// Edges in the numbers of these parameters, where these say what the edges' states say of them.
@@ -290,28 +201,4 @@ pub fn out_edges(
     let parts = object.parts();
     let there = &parts.blocks.as_slice()[block as usize - 1];
     edges_or_fault(alloc, parts, block, there, state)
-}
-
-/// Accepts an object exactly where flow holds of it and its own state table: each GENERATE has a row, the rules of each
-/// block with a row hold in it, and what is known of a transaction where it goes on to fits the row there. Else the first
-/// fault: the blocks in ascending order, and of one block its rules and then its edges in order: 20 UnsetParam,
-/// 21 AlreadyOwned, 22 NotOwner, 23 TooFewUnits, 24 OwnsAtEnd, 25 EdgeState, 26 ChainState of a LINK's edge to its user
-/// chain and of the edge on which an UNLINK sends the chain's members, 27 ParamKind, 28 OverCapacity (ours:
-/// docs/refusals.md); or 8 Memory at Nowhere where memory runs out. Kinds have to pass before.
-pub fn check_flow(alloc: Global, object: &Object) -> Result<(), Fault>
-    requires kinds { KindsPass object.now }
-    ensures { FindsOrLacksMemory result (model.flow_checks object.now (model.own_table object.now)) }
-{
-    let parts = object.parts();
-    match rows_of(alloc, parts) {
-        Ok((blocks, chains)) => {
-            let table = StateTable {
-                blocks: &blocks,
-                entities: parts.entities.as_slice(),
-                chains: &chains,
-            };
-            check_blocks(alloc, parts, table)
-        }
-        Err(AllocError) => Err(OUT_OF_MEMORY),
-    }
 }

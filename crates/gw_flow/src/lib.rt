@@ -2,11 +2,13 @@
 #![tactic(auto)]
 
 mod abstract_state;
+mod checking;
 pub mod codes;
 mod edges;
 mod fits;
 mod flow;
 pub mod laws;
+mod leaving;
 mod lists;
 mod lookups;
 mod rules;
@@ -15,8 +17,9 @@ mod state;
 mod table;
 
 pub use abstract_state::{AbsState, Amount, Parameter, ParameterKind, StateParts};
+pub use checking::check_flow;
 pub use edges::{Edge, FlowEdge, Target, is_used, own_edges_of};
-pub use flow::{check_flow, out_edges};
+pub use flow::out_edges;
 pub use gw_code_flow::check_plus;
 pub use lookups::Lookups;
 pub use rules::check_rules;

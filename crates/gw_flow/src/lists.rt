@@ -1,6 +1,6 @@
 //! The lists of abstract states.
 
-ghost use Rattle.std.specs.Prelude.{◌≡◌, ◌≤◌, ◌^◌, ℕ, ◌==◌, ◌++◌, option_to_list, IfOk, All};
+ghost use Rattle.std.specs.Prelude.{◌≡◌, ℕ, ◌==◌, ◌++◌, option_to_list, IfOk};
 ghost use Rattle.std.specs.List.{find};
 ghost use Rattle.gw_flow.specs.Entries as entries;
 ghost use Rattle.gw_flow.specs.Rows as rows;
@@ -35,8 +35,7 @@ pub(crate) fn with_last<T: Drop>(items: Vec<T>, last: Option<T>) -> Result<Vec<T
 
 /// The amounts of a row of the state table.
 pub(crate) fn amounts_seen(alloc: Global, units: &[Units]) -> Result<Vec<Amount>, Memory>
-    ensures same { IfOk result (λ amounts. amounts_of amounts.items ≡ units_seen units.now) }
-    ensures room { IfOk result (λ amounts. All (λ (a : Amount). a.number ≤ 2 ^ 62) amounts.items) }
+    ensures { IfOk result (λ amounts. amounts_of amounts.items ≡ units_seen units.now) }
 {
     let mut amounts = Vec::with_capacity(alloc, units.len())?;
     for u in units {

@@ -2,21 +2,21 @@
 //! that it is sure to hold.
 
 ghost use Rattle.std.specs.Prelude.{List, ◌≡◌, ◌≤◌, ◌<◌, ◌^◌, ◌≢◌, IfOk, All, AllPairs, length, ◌==◌};
-ghost use Rattle.gw_object.specs.Grammar.{AreAscending, IsAscending, HeldFits};
+ghost use Rattle.gw_object.specs.Grammar.{AreAscending};
 ghost use Rattle.gw_blocks.specs.declared.parts.Units.{Units};
 ghost use Rattle.gw_flow.specs.Entries as entries;
 ghost use Rattle.gw_flow.specs.Rows as rows;
 ghost use Rattle.gw_object.specs.declared.parts.ReturnRow.{ReturnRow as DeclaredReturnRow};
 ghost use Rattle.gw_flow.specs.declared.abstract_state.Parameter.{Parameter as DeclaredParameter};
 ghost use Rattle.gw_flow.specs.Rows.{Ret};
-ghost use Rattle.gw_flow.specs.Seen.{row_blocks, kind_seen, kind_said, params_of, params_said as params_of_row, seen, known, HaveNext};
+ghost use Rattle.gw_flow.specs.Seen.{row_blocks, kind_seen, params_of, known};
 ghost use Rattle.gw_flow.specs.Viewed.{kind_viewed, params_viewed, viewed};
 
 use crate::abstract_state::{AbsState, Amount, Parameter, ParameterKind, StateParts};
 use crate::fits::{has_params, has_units};
-use crate::lists::{Keyed, amounts_seen, copy_of, in_place, of_key, with_amount, without_number};
+use crate::lists::{Keyed, copy_of, in_place, of_key, with_amount, without_number};
 use crate::lookups::Lookups;
-use gw_object::{Items, Memory, ReturnRow, TableKind, TableParameter, TableState};
+use gw_object::{Items, Memory, ReturnRow};
 use std::alloc::Global;
 use std::marker::Model;
 
@@ -81,34 +81,6 @@ impl<'a> Model for State<'a> {
     ghost invariant = { λ s. IsOrdered (viewed s.params s.facilities s.units) };
 }
 
-/// A parameter of a row of the state table, as flow works with it.
-fn param_said<'a>(returns: &'a [ReturnRow], parameter: &TableParameter) -> Param<'a>
-    ensures number { result.number ≡ parameter.now.number }
-    ensures kind { kind_viewed result.kind ≡ kind_said returns.now parameter.now.kind }
-{
-    Param {
-        number: parameter.number,
-        kind: match parameter.kind {
-            TableKind::Num => ParamKind::Num,
-            TableKind::Ret(row) => ParamKind::of_return_row(returns, row),
-        },
-    }
-}
-
-/// The parameters of a row of the state table, as flow works with them.
-fn params_said<'a>(
-    alloc: Global,
-    returns: &'a [ReturnRow],
-    parameters: &[TableParameter],
-) -> Result<Vec<Param<'a>>, Memory>
-    ensures { IfOk result (λ params. params_viewed params.items ≡ params_of_row returns.now parameters.now) }
-{
-    parameters
-        .iter()
-        .map(|p| param_said(returns, p))
-        .collect(alloc)
-}
-
 /// A parameter as flow works with it.
 pub(crate) fn param_seen<'a>(returns: &'a [ReturnRow], parameter: &Parameter) -> Param<'a>
     ensures number { result.number ≡ parameter.now.number }
@@ -157,28 +129,6 @@ impl<'a> State<'a> {
         ensures ordered { rows.IsOrdered self.now }
     {
         self.params.as_slice()
-    }
-
-    /// What a row of the state table says.
-    pub(crate) fn of_row(
-        alloc: Global,
-        returns: &'a [ReturnRow],
-        row: &TableState,
-    ) -> Result<State<'a>, Memory>
-        requires ascending { IsAscending row.now }
-        requires amounts { All HeldFits row.now.units }
-        requires next { HaveNext returns.now }
-        requires returns { All AreAscending returns.now }
-        ensures same { IfOk result (λ state. state ≡ seen returns.now row.now) }
-        ensures room { IfOk result (λ state. rows.HasRoom state) }
-    {
-        let params = params_said(alloc, returns, row.parameters.as_slice())?;
-        let units = amounts_seen(alloc, row.units.as_slice())?;
-        Ok(State {
-            params: Items::from_vec(params),
-            facilities: copy_of(alloc, &row.facilities)?,
-            units: Items::from_vec(units),
-        })
     }
 
     /// What an abstract state says.
@@ -310,16 +260,6 @@ impl<'a> State<'a> {
         ensures { result ≡ rows.units_fit self.now.units row.now.units }
     {
         has_units(self.units.as_slice(), row.units.as_slice())
-    }
-
-    /// Whether this state fits a row: it has at least the row's parameters, exactly its facilities, and at least its
-    /// units.
-    pub(crate) fn fits(&self, row: &State<'_>) -> bool
-        ensures { result ≡ rows.fits self.now row.now }
-    {
-        self.has_params_of(row)
-            && self.facilities.as_slice() == row.facilities.as_slice()
-            && self.has_units_of(row)
     }
 }
 

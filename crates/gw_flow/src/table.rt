@@ -1,77 +1,68 @@
-//! The rows of a state table, as flow works with them.
+//! The rows of a state table, as checks work with them: by the numbers of return rows.
 
-ghost use Rattle.std.specs.Prelude.{◌≡◌, IfOk, IfSome, All, map, option_map, option_copied};
-ghost use Rattle.gw_object.specs.Grammar.{StateFits, AreAscending, IsAscending, HasSpelling};
+ghost use Rattle.std.specs.Prelude.{◌≡◌, List, IfOk, IfSome, All, map, option_map, option_copied};
+ghost use Rattle.gw_object.specs.Grammar.{StateFits, IsAscending, HasSpelling};
+ghost use Rattle.gw_object.specs.declared.parts.ReturnRow.{ReturnRow as DeclaredReturnRow};
 ghost use Rattle.gw_kinds.specs.Kinds.{for_chain};
 ghost use Rattle.gw_flow.specs.Flow as model;
-ghost use Rattle.gw_flow.specs.Rows.{HasRoom};
-ghost use Rattle.gw_flow.specs.Seen.{seen, HaveNext};
+ghost use Rattle.gw_flow.specs.Seen.{seen, known};
 ghost use Rattle.gw_flow.specs.ViewedTable.{table_viewed};
 
+use crate::abstract_state::AbsState;
 use crate::edges::Target;
-use crate::state::State;
 use gw_kinds::chain_place;
-use gw_object::{Entity, Memory, Parts, ReturnRow, TableState};
+use gw_object::{Entity, Memory, Parts, TableState};
+use gw_returns::Inclusions;
 use std::alloc::Global;
 
 /// A row of an object, if there is one.
-fn own_row<'a>(
-    alloc: Global,
-    returns: &'a [ReturnRow],
-    row: &Option<TableState>,
-) -> Result<Option<State<'a>>, Memory>
-    requires next { HaveNext returns.now }
-    requires returns { All AreAscending returns.now }
+fn own_row(alloc: Global, row: &Option<TableState>) -> Result<Option<AbsState>, Memory>
     requires limits { IfSome row.now StateFits }
     requires ascending { IfSome row.now IsAscending }
-    ensures same { IfOk result (λ state. state ≡ option_map (seen returns.now) row.now) }
-    ensures room { IfOk result (λ state. IfSome state HasRoom) }
+    ensures { IfOk result (λ state. (returns : List DeclaredReturnRow) → option_map (known returns) state ≡ option_map (seen returns) row.now) }
 {
     match row {
         None => Ok(None),
-        Some(row) => Ok(Some(State::of_row(alloc, returns, row)?)),
+        Some(row) => Ok(Some(AbsState::of_row(alloc, row)?)),
     }
 }
 
 /// The rows of an object for these states, in order.
-fn own_rows<'a>(
-    alloc: Global,
-    returns: &'a [ReturnRow],
-    states: &[Option<TableState>],
-) -> Result<Vec<Option<State<'a>>>, Memory>
-    requires next { HaveNext returns.now }
-    requires returns { All AreAscending returns.now }
+fn own_rows(alloc: Global, states: &[Option<TableState>]) -> Result<Vec<Option<AbsState>>, Memory>
     requires limits { All (λ row. IfSome row StateFits) states.now }
     requires ascending { All (λ row. IfSome row IsAscending) states.now }
-    ensures same { IfOk result (λ rows. rows.items ≡ map (option_map (seen returns.now)) states.now) }
-    ensures room { IfOk result (λ rows. All (λ row. IfSome row HasRoom) rows.items) }
+    ensures { IfOk result (λ rows. (returns : List DeclaredReturnRow) → map (option_map (known returns)) rows.items ≡ map (option_map (seen returns)) states.now) }
 {
     let mut rows = Vec::with_capacity(alloc, states.len())?;
     for state in states {
-        rows.push(own_row(alloc, returns, state)?)?;
+        rows.push(own_row(alloc, state)?)?;
     }
     Ok(rows)
 }
 
+/// The rows of an object's table.
+#[derive(Debug, Drop)]
+pub(crate) struct OwnRows {
+    /// Those of its blocks, in order.
+    pub blocks: Vec<Option<AbsState>>,
+    /// Those of its user chains, in order.
+    pub chains: Vec<Option<AbsState>>,
+}
+
 /// The rows of an object's blocks, and those of its user chains, each in order.
-pub(crate) fn rows_of<'a>(
-    alloc: Global,
-    parts: &'a Parts,
-) -> Result<(Vec<Option<State<'a>>>, Vec<Option<State<'a>>>), Memory>
-    requires next { HaveNext parts.now.returns }
+pub(crate) fn rows_of(alloc: Global, parts: &Parts) -> Result<OwnRows, Memory>
     requires spelled { HasSpelling parts.now }
-    ensures blocks { IfOk result (λ rows. rows.0.items ≡ map (option_map (seen parts.now.returns)) parts.now.states) }
-    ensures chains { IfOk result (λ rows. rows.1.items ≡ map (option_map (seen parts.now.returns)) parts.now.chain_states) }
-    ensures room { IfOk result (λ rows. All (λ row. IfSome row HasRoom) rows.0.items) }
+    ensures blocks { IfOk result (λ rows. (returns : List DeclaredReturnRow) → map (option_map (known returns)) rows.blocks.items ≡ map (option_map (seen returns)) parts.now.states) }
+    ensures chains { IfOk result (λ rows. (returns : List DeclaredReturnRow) → map (option_map (known returns)) rows.chains.items ≡ map (option_map (seen returns)) parts.now.chain_states) }
 {
-    let returns = parts.returns.as_slice();
-    let blocks = own_rows(alloc, returns, parts.states.as_slice())?;
-    let chains = own_rows(alloc, returns, parts.chain_states.as_slice())?;
-    Ok((blocks, chains))
+    Ok(OwnRows {
+        blocks: own_rows(alloc, parts.states.as_slice())?,
+        chains: own_rows(alloc, parts.chain_states.as_slice())?,
+    })
 }
 
 /// The row of the block of this number, from 1.
-fn row_at<'r, 'a>(rows: &'r [Option<State<'a>>], number: u16) -> Option<&'r State<'a>>
+fn row_at(rows: &[Option<AbsState>], number: u16) -> Option<&AbsState>
     ensures { option_copied result ≡ model.row_at rows.now number }
 {
     if number == 0 {
@@ -81,11 +72,11 @@ fn row_at<'r, 'a>(rows: &'r [Option<State<'a>>], number: u16) -> Option<&'r Stat
 }
 
 /// The row of the user chain that is the entity of this number, from 0, among those of all.
-fn row_for_chain<'r, 'a>(
+fn row_for_chain<'r>(
     entities: &[Entity],
-    rows: &'r [Option<State<'a>>],
+    rows: &'r [Option<AbsState>],
     entity: u16,
-) -> Option<&'r State<'a>>
+) -> Option<&'r AbsState>
     ensures { option_copied result ≡ for_chain entities.now rows.now entity }
 {
     rows.get(chain_place(entities, entity))?.as_ref()
@@ -94,18 +85,20 @@ fn row_for_chain<'r, 'a>(
 /// A state table: what is known of a transaction that is about to go to a target.
 #[derive(Clone, Copy)]
 pub(crate) struct StateTable<'r, 'a> {
+    /// The return rows that its rows name.
+    pub returns: &'r Inclusions<'a>,
     /// The rows of the blocks, in order.
-    pub blocks: &'r [Option<State<'a>>],
+    pub blocks: &'r [Option<AbsState>],
     /// The entities.
     pub entities: &'r [Entity],
     /// The rows of those that are user chains, in order.
-    pub chains: &'r [Option<State<'a>>],
+    pub chains: &'r [Option<AbsState>],
 }
 
 impl<'r, 'a> StateTable<'r, 'a> {
     /// The row of a target, if it has one.
-    pub(crate) fn row(self, target: Target) -> Option<&'r State<'a>>
-        ensures { option_copied result ≡ table_viewed self.entry target }
+    pub(crate) fn row(self, target: Target) -> Option<&'r AbsState>
+        ensures { option_map (known self.entry.returns.now) (option_copied result) ≡ table_viewed self.entry target }
     {
         match target {
             Target::Block(number) => row_at(self.blocks, number),

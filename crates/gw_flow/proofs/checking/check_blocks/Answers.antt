@@ -4,7 +4,7 @@ use Rattle.gw_kinds.proofs.Broken.{goes_on}
 use Rattle.gw_flow.specs.Flow.{flow_checks, checks_at}
 use Rattle.gw_flow.specs.ViewedTable.{table_viewed}
 use Rattle.gw_flow.proofs.Found.{found_here}
-use Rattle.gw_flow.proofs.flow.check_blocks.Goals as goal
+use Rattle.gw_flow.proofs.checking.check_blocks.Goals as goal
 
 pub returns-in_err-check_block : goal.returns-in_err-check_block
 unfolding flow_checks

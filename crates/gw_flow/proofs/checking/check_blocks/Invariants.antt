@@ -2,7 +2,7 @@ use Rattle.std.proofs.Common.{◌≡◌, ◌+◌, drop}
 use Rattle.gw_kinds.specs.Checks.{first_broken, numbered}
 use Rattle.gw_flow.specs.Flow.{checks_at}
 use Rattle.gw_flow.specs.ViewedTable.{table_viewed}
-use Rattle.gw_flow.proofs.flow.check_blocks.Given as goal
+use Rattle.gw_flow.proofs.checking.check_blocks.Given as goal
 
 -- the first fault of the blocks that are left is that of all
 abbrev pub invariant-loop-i : goal.invariant-loop-i

@@ -1,0 +1,12 @@
+use Rattle.std.proofs.Common.{◌≡◌, drop}
+use Rattle.gw_kinds.specs.Checks.{first_broken}
+use Rattle.gw_flow.specs.Flow.{edge_check}
+use Rattle.gw_flow.specs.Seen.{known}
+use Rattle.gw_flow.specs.ViewedTable.{table_viewed}
+use Rattle.gw_flow.proofs.Exits.{along}
+use Rattle.gw_flow.proofs.leaving.check_exits.Given as goal
+
+-- the first fault along the exits that are left is that along all
+abbrev pub invariant-loop-exit : goal.invariant-loop-exit
+invariant-loop-exit l =
+    first_broken (along (edge_check (table_viewed l.table) l.number) l.number (known l.table.returns.now l.passed) (drop l.exit-index l.exits)) ≡ first_broken (along (edge_check (table_viewed l.table) l.number) l.number (known l.table.returns.now l.passed) l.exits)

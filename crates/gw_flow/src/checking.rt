@@ -1,0 +1,135 @@
+//! The checks of flow, in order.
+
+ghost use Rattle.std.specs.Prelude.{◌≡◌, ◌≤◌, ◌++◌, Some, All, map, length};
+ghost use Rattle.gw_object.specs.Grammar.{AreAscending, HasSpelling};
+ghost use Rattle.gw_kinds.specs.Pass.{KindsPass};
+ghost use Rattle.gw_flow.specs.Rows.{HasRoom};
+ghost use Rattle.gw_flow.specs.Blocks.{edges_from, chain_edges};
+ghost use Rattle.gw_flow.specs.Flow as model;
+ghost use Rattle.gw_flow.specs.Flow.{FindsOrLacksMemory};
+ghost use Rattle.gw_flow.specs.Seen.{known, HaveNext};
+ghost use Rattle.gw_flow.specs.ViewedTable.{table_viewed, HaveRoom};
+
+use crate::abstract_state::AbsState;
+use crate::edges::Target;
+use crate::flow::{OUT_OF_MEMORY, passed};
+use crate::leaving::check_edges;
+use crate::lookups::Carried;
+use crate::rules::{check_rules, check_without_row};
+use crate::table::{StateTable, rows_of};
+use gw_blocks::Block;
+use gw_object::{Fault, Object, Parts};
+use gw_returns::Inclusions;
+use std::alloc::{AllocError, Global};
+
+/// The first fault of the edges of the block of this number in a state, if there is one.
+fn check_edges_in(
+    alloc: Global,
+    table: StateTable<'_, '_>,
+    number: u16,
+    block: &Block,
+    state: &AbsState,
+) -> Result<(), Fault>
+    requires number { number ≤ 4096 }
+    requires returns { All AreAscending table.returns.now }
+    requires room { HasRoom (known table.returns.now state.now) }
+    ensures { FindsOrLacksMemory result (map (model.edge_check (table_viewed table.entry) number) (edges_from number block.now (known table.entry.returns.now state.now) ++ chain_edges (table_viewed table.entry) block.now (known table.entry.returns.now state.now))) }
+{
+    match passed(alloc, table.returns.rows(), number, block, state) {
+        Ok(passed) => check_edges(alloc, table, number, block, state, &passed),
+        Err(AllocError) => Err(OUT_OF_MEMORY),
+    }
+}
+
+/// The first fault of the block of this number in a state, if there is one.
+fn check_in(
+    alloc: Global,
+    parts: &Parts,
+    table: StateTable<'_, '_>,
+    number: u16,
+    block: &Block,
+    state: &AbsState,
+) -> Result<(), Fault>
+    requires number { number ≤ 4096 }
+    requires returns { All AreAscending table.returns.now }
+    requires room { HasRoom (known table.returns.now state.now) }
+    ensures { FindsOrLacksMemory result (model.checks_in parts.now (table_viewed table.entry) number block.now (Some (known table.entry.returns.now state.now))) }
+{
+    let returns = table.returns.rows();
+    check_rules(parts, number, block, &Carried { state, returns })?;
+    check_edges_in(alloc, table, number, block, state)
+}
+
+/// The first fault of the block of this number in its row of a table, if there is one.
+fn check_block(
+    alloc: Global,
+    parts: &Parts,
+    table: StateTable<'_, '_>,
+    number: u16,
+    block: &Block,
+) -> Result<(), Fault>
+    requires number { number ≤ 4096 }
+    requires returns { All AreAscending table.returns.now }
+    requires room { HaveRoom (table_viewed table) }
+    ensures { FindsOrLacksMemory result (model.checks_at parts.now (table_viewed table.entry) number block.now) }
+{
+    match table.row(Target::Block(number)) {
+        Some(state) => check_in(alloc, parts, table, number, block, state),
+        None => check_without_row(parts, number, block),
+    }
+}
+
+/// The first fault of the blocks with this table, if there is one.
+#[tactic(auto, unfolding(crate::specs::Flow::flow_checks))]
+fn check_blocks(alloc: Global, parts: &Parts, table: StateTable<'_, '_>) -> Result<(), Fault>
+    requires few { length parts.now.blocks ≤ 4096 }
+    requires returns { All AreAscending table.returns.now }
+    requires room { HaveRoom (table_viewed table) }
+    ensures { FindsOrLacksMemory result (model.flow_checks parts.now (table_viewed table.entry)) }
+{
+    let blocks = parts.blocks.as_slice();
+    for i in 0..blocks.len() {
+        check_block(alloc, parts, table, (i + 1) as u16, &blocks[i])?;
+    }
+    Ok(())
+}
+
+/// The first fault of the blocks of an object with its own table, whose return rows are given with their inclusions, if there
+/// is one.
+fn check_by(alloc: Global, parts: &Parts, returns: &Inclusions<'_>) -> Result<(), Fault>
+    requires returns { returns.now ≡ parts.now.returns }
+    requires spelled { HasSpelling parts.now }
+    requires next { HaveNext parts.now.returns }
+    ensures { FindsOrLacksMemory result (model.flow_checks parts.now (model.own_table parts.now)) }
+{
+    match rows_of(alloc, parts) {
+        Ok(rows) => {
+            let table = StateTable {
+                returns,
+                blocks: &rows.blocks,
+                entities: parts.entities.as_slice(),
+                chains: &rows.chains,
+            };
+            check_blocks(alloc, parts, table)
+        }
+        Err(AllocError) => Err(OUT_OF_MEMORY),
+    }
+}
+
+/// Accepts an object exactly where flow holds of it and its own state table: each GENERATE has a row, the rules of each
+/// block with a row hold in it, and what is known of a transaction where it goes on to fits the row there. Else the first
+/// fault: the blocks in ascending order, and of one block its rules and then its edges in order: 20 UnsetParam,
+/// 21 AlreadyOwned, 22 NotOwner, 23 TooFewUnits, 24 OwnsAtEnd, 25 EdgeState, 26 ChainState of a LINK's edge to its user
+/// chain and of the edge on which an UNLINK sends the chain's members, 27 ParamKind, 28 OverCapacity (ours:
+/// docs/refusals.md); or 8 Memory at Nowhere where memory runs out. Kinds have to pass before.
+pub fn check_flow(alloc: Global, object: &Object) -> Result<(), Fault>
+    requires kinds { KindsPass object.now }
+    ensures { FindsOrLacksMemory result (model.flow_checks object.now (model.own_table object.now)) }
+{
+    let parts = object.parts();
+    let bound = parts.blocks.as_slice().len() + 1;
+    match Inclusions::of(alloc, parts.returns.as_slice(), bound) {
+        Ok(returns) => check_by(alloc, parts, &returns),
+        Err(AllocError) => Err(OUT_OF_MEMORY),
+    }
+}

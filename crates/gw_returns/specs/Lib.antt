@@ -1,0 +1,3 @@
+pub mod Returns
+pub mod Words
+pub mod Columns
