@@ -1,12 +1,13 @@
 //! Blocks, each as a statement of a model text, but that targets are numbers of blocks.
 
 use crate::operands::{mode_sign, put_name, put_operand, put_spread, put_units};
-use crate::text::{put, put_number, put_optional};
+use crate::text::put_optional;
 use gw_blocks::{
     Assign, Block, Call, Comparison, Condition, Fraction, Gate, Generate, Link, LinkOrder, Logic,
     Loop, Plus, Priority, Save, Split, SwitchAction, Test, Units, Unlink,
 };
 use gw_object::{Entity, Memory};
+use gw_report::text::{put, put_number};
 
 fn put_generate(out: &mut Vec<u8>, entities: &[Entity], generate: Generate) -> Result<(), Memory> {
     put(out, "GENERATE ")?;

@@ -1,10 +1,16 @@
 //! Procedures, with their instructions.
 
+ghost use Rattle.std.specs.Prelude.{◌≡◌, ◌++◌, ◌∷◌, [], Some, None, length, slice_get, OnOk};
+ghost use Rattle.gw_listing.specs.Lines.{Front, AddsLines, numbered};
+ghost use Rattle.gw_listing.specs.Shape.{procedure_front, procedure_head, instruction_front, instruction_opening, takes_front, takes_opening, code_openings};
+
 use crate::operands::{put_attribute, put_numbered};
-use crate::text::{put, put_number};
+use crate::text::end_line;
 use gw_code::{Back, Instruction, Procedure, Sna};
 use gw_num::{Binary, Unary};
 use gw_object::{Entity, Memory};
+use gw_report::text::{put, put_number};
+use std::alloc::Global;
 
 /// The word of an operator between two values.
 fn binary_word(operator: Binary) -> &'static str {
@@ -80,22 +86,162 @@ fn put_needs(out: &mut Vec<u8>, needs: &[u8]) -> Result<(), Memory> {
     Ok(())
 }
 
-/// A line for each instruction of a procedure, below one for what it takes.
-pub(crate) fn put_procedure(
+/// What a procedure has besides its arguments: its locals, and the parameters that have to be set.
+fn takes_words(alloc: Global, procedure: &Procedure) -> Result<Vec<u8>, Memory> {
+    let mut words = Vec::new(alloc);
+    put_number(&mut words, "locals ", procedure.locals)?;
+    put_needs(&mut words, procedure.needs.as_slice())?;
+    Ok(words)
+}
+
+/// What the line of what a procedure takes begins with.
+fn put_takes_front(out: &mut Vec<u8>, arguments: u8) -> Result<(), Memory>
+    ensures { OnOk result (out.new.items ≡ out.old.items ++ takes_front arguments) }
+{
+    put_number(out, "    arguments ", arguments)?;
+    put(out, " ")
+}
+
+/// The line of what a procedure takes.
+#[tactic(auto, using(crate::proofs::Adding::fronted))]
+fn put_takes(alloc: Global, out: &mut Vec<u8>, procedure: &Procedure) -> Result<(), Memory>
+    ensures { OnOk result (AddsLines (takes_opening procedure.now.arguments)
+        out.old.items out.new.items) }
+{
+    let words = takes_words(alloc, procedure)?;
+    put_takes_front(out, procedure.arguments)?;
+    end_line(alloc, out, &words)
+}
+
+/// An instruction of these, with its operands.
+fn instruction_words(
+    alloc: Global,
+    entities: &[Entity],
+    code: &[Instruction],
+    number: usize,
+) -> Result<Vec<u8>, Memory> {
+    let mut words = Vec::new(alloc);
+    if let Some(instruction) = code.get(number) {
+        put_instruction(&mut words, entities, *instruction)?;
+    }
+    Ok(words)
+}
+
+/// What the line of an instruction begins with.
+fn put_instruction_front(out: &mut Vec<u8>, number: usize) -> Result<(), Memory>
+    ensures { OnOk result (out.new.items ≡ out.old.items ++ instruction_front number) }
+{
+    put_number(out, "    ", number)?;
+    put(out, " ")
+}
+
+/// The line of an instruction.
+#[tactic(auto, using(crate::proofs::Adding::fronted))]
+fn put_instruction_line(
+    alloc: Global,
+    out: &mut Vec<u8>,
+    entities: &[Entity],
+    code: &[Instruction],
+    number: usize,
+) -> Result<(), Memory>
+    ensures { OnOk result (AddsLines (instruction_opening number) out.old.items out.new.items) }
+{
+    let words = instruction_words(alloc, entities, code, number)?;
+    put_instruction_front(out, number)?;
+    end_line(alloc, out, &words)
+}
+
+/// A line for each instruction.
+#[tactic(auto, using(crate::proofs::Adding::begun, crate::proofs::Adding::one_more))]
+fn put_instructions(
+    alloc: Global,
+    out: &mut Vec<u8>,
+    entities: &[Entity],
+    code: &[Instruction],
+) -> Result<(), Memory>
+    ensures { OnOk result (AddsLines (numbered instruction_opening (length code.now))
+        out.old.items out.new.items) }
+{
+    for i in 0..code.len() {
+        put_instruction_line(alloc, out, entities, code, i)?;
+    }
+    Ok(())
+}
+
+/// What a procedure takes, and below that a line for each of its instructions.
+#[tactic(auto, using(crate::proofs::Adding::joined))]
+pub(crate) fn put_code(
+    alloc: Global,
     out: &mut Vec<u8>,
     entities: &[Entity],
     procedure: &Procedure,
-) -> Result<(), Memory> {
-    put_number(out, "arguments ", procedure.arguments)?;
-    put_number(out, " locals ", procedure.locals)?;
-    put_needs(out, procedure.needs.as_slice())?;
-    put(out, "\n")?;
-    let code = procedure.code.as_slice();
-    for i in 0..code.len() {
-        put_number(out, "    ", i)?;
-        put(out, " ")?;
-        put_instruction(out, entities, code[i])?;
-        put(out, "\n")?;
+) -> Result<(), Memory>
+    ensures { OnOk result (AddsLines (code_openings (Some procedure.now))
+        out.old.items out.new.items) }
+{
+    put_takes(alloc, out, procedure)?;
+    put_instructions(alloc, out, entities, procedure.code.as_slice())
+}
+
+/// The line of a number of a text, without blanks at its ends; none where there is no such line.
+fn source(text: &[u8], number: u32) -> &[u8] {
+    if number == 0 {
+        return &[];
     }
-    Ok(())
+    match text.split(|byte| *byte == b'\n').nth(number as usize - 1) {
+        Some(line) => line.trim_ascii(),
+        None => &[],
+    }
+}
+
+/// What the first line of a procedure of a text begins with.
+fn put_procedure_front(out: &mut Vec<u8>, number: usize, line: u32) -> Result<(), Memory>
+    ensures { OnOk result (out.new.items ≡ out.old.items ++ procedure_front number line) }
+{
+    put_number(out, "PROCEDURE ", number)?;
+    put_number(out, " line ", line)?;
+    put(out, " | ")
+}
+
+/// The first line of a procedure that comes from this line of a text: its number, the line, and what stands in it.
+#[tactic(auto, using(crate::proofs::Adding::fronted))]
+fn put_head_of_text(
+    alloc: Global,
+    out: &mut Vec<u8>,
+    text: &[u8],
+    number: usize,
+    line: u32,
+) -> Result<(), Memory>
+    ensures { OnOk result (AddsLines (procedure_head number (Some line) ∷ [])
+        out.old.items out.new.items) }
+{
+    put_procedure_front(out, number, line)?;
+    end_line(alloc, out, source(text, line))
+}
+
+/// The first line of a procedure of an object: its number.
+#[tactic(auto, using(crate::proofs::Adding::whole))]
+fn put_head_alone(out: &mut Vec<u8>, number: usize) -> Result<(), Memory>
+    ensures { OnOk result (AddsLines (procedure_head number None ∷ [])
+        out.old.items out.new.items) }
+{
+    put_number(out, "PROCEDURE ", number)?;
+    put(out, "\n")
+}
+
+/// The first line of a procedure, by the lines of all.
+pub(crate) fn put_head(
+    alloc: Global,
+    out: &mut Vec<u8>,
+    text: &[u8],
+    lines: &[u32],
+    number: usize,
+) -> Result<(), Memory>
+    ensures { OnOk result (AddsLines (procedure_head number (slice_get lines.now number) ∷ [])
+        out.old.items out.new.items) }
+{
+    match lines.get(number) {
+        Some(line) => put_head_of_text(alloc, out, text, number, *line),
+        None => put_head_alone(out, number),
+    }
 }

@@ -1,11 +1,11 @@
 //! Entities, and the rows of the state table.
 
 use crate::operands::{put_name, put_operand, put_units};
-use crate::text::{put, put_number};
 use gw_blocks::Units;
 use gw_object::{
     Entity, Function, Kind, Memory, ReturnRow, Table, TableKind, TableParameter, TableState,
 };
+use gw_report::text::{put, put_number};
 
 /// The word of an entity's kind.
 fn kind_word(kind: &Kind) -> &'static str {

@@ -6,6 +6,7 @@ mod code;
 mod entities;
 mod listing;
 mod operands;
+mod parts;
 mod text;
 
 pub use listing::list;

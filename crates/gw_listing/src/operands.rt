@@ -1,8 +1,8 @@
 //! Operands, as a text has them, but that blocks and procedures have numbers.
 
-use crate::text::{put, put_number};
 use gw_blocks::{Attribute, EntityAttribute, Mode, Numbered, Operand, Spread, Units};
 use gw_object::{Entity, Memory};
+use gw_report::text::{put, put_number};
 
 /// The name of an entity, by its number from 0.
 pub(crate) fn put_name(out: &mut Vec<u8>, entities: &[Entity], number: u16) -> Result<(), Memory> {

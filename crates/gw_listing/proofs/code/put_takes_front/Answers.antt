@@ -1,0 +1,5 @@
+use Rattle.gw_listing.proofs.Growing.{grown}
+use Rattle.gw_listing.proofs.code.put_takes_front.Goals as goal
+
+pub returns : goal.returns
+returns c = grown _ _ _ _ _ _ c.put.result c.in_ok-put_number.ensures c.put.ensures

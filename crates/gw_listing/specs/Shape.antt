@@ -1,0 +1,91 @@
+-- What the lines of a listing begin with: one for each part of the object.
+use Rattle.std.specs.Prelude.{ℕ, ◌+◌, List, [], ◌∷◌, ◌++◌, length, codes, slice_get, Option, Some, None}
+use Rattle.std.specs.Fmt.{decimal}
+use Rattle.gw_code.specs.declared.parts.Procedure.{Procedure}
+use Rattle.gw_object.specs.declared.parts.Parts.{Parts}
+use Rattle.gw_sources.specs.Sites.{Sites}
+use Rattle.gw_listing.specs.Lines.{Opening, Whole, Front, numbered}
+
+-- a word and a number, where there is one
+abbrev pub told : List ℕ → Option ℕ → List ℕ
+told word None = []
+told word (Some number) = word ++ decimal number
+
+-- the line of the text at a place of these, and the weight at a place
+abbrev pub line_part : List ℕ → ℕ → List ℕ
+line_part lines i = told (codes " line ") (slice_get lines i)
+
+abbrev pub weight_part : List ℕ → ℕ → List ℕ
+weight_part weights i = told (codes " weight ") (slice_get weights i)
+
+-- a block, by its place from 0: its number, its line and its weight
+abbrev pub block_front : List ℕ → List ℕ → ℕ → List ℕ
+block_front lines weights i = codes "BLOCK " ++ decimal (i + 1) ++ line_part lines i ++ weight_part weights i ++ codes " "
+
+abbrev pub block_opening : List ℕ → List ℕ → ℕ → List Opening
+block_opening lines weights i = Front (block_front lines weights i) ∷ []
+
+-- an entity: its number and its line
+abbrev pub entity_front : List ℕ → ℕ → List ℕ
+entity_front lines i = codes "ENTITY " ++ decimal i ++ line_part lines i ++ codes " "
+
+abbrev pub entity_opening : List ℕ → ℕ → List Opening
+entity_opening lines i = Front (entity_front lines i) ∷ []
+
+-- a user chain: its place among them, and its weight
+abbrev pub chain_front : List ℕ → ℕ → List ℕ
+chain_front weights i = codes "CHAIN " ++ decimal i ++ weight_part weights i ++ codes " ;"
+
+abbrev pub chain_opening : List ℕ → ℕ → List Opening
+chain_opening weights i = Front (chain_front weights i) ∷ []
+
+-- a procedure: its number, and its line, behind which its source stands
+abbrev pub procedure_front : ℕ → ℕ → List ℕ
+procedure_front i line = codes "PROCEDURE " ++ decimal i ++ codes " line " ++ decimal line ++ codes " | "
+
+abbrev pub procedure_head : ℕ → Option ℕ → Opening
+procedure_head i None = Whole (codes "PROCEDURE " ++ decimal i)
+procedure_head i (Some line) = Front (procedure_front i line)
+
+-- an instruction: its number
+abbrev pub instruction_front : ℕ → List ℕ
+instruction_front k = codes "    " ++ decimal k ++ codes " "
+
+abbrev pub instruction_opening : ℕ → List Opening
+instruction_opening k = Front (instruction_front k) ∷ []
+
+-- how many arguments a procedure takes
+abbrev pub takes_front : ℕ → List ℕ
+takes_front arguments = codes "    arguments " ++ decimal arguments ++ codes " "
+
+abbrev pub takes_opening : ℕ → List Opening
+takes_opening arguments = Front (takes_front arguments) ∷ []
+
+-- this, and its instructions
+abbrev pub code_openings : Option Procedure → List Opening
+code_openings None = []
+code_openings (Some p) = takes_opening p.arguments ++ numbered instruction_opening (length p.code)
+
+abbrev pub procedure_openings : List ℕ → List Procedure → ℕ → List Opening
+procedure_openings lines procedures i = (procedure_head i (slice_get lines i) ∷ []) ++ code_openings (slice_get procedures i)
+
+-- a return row: its number
+abbrev pub return_front : ℕ → List ℕ
+return_front i = codes "RETURN " ++ decimal i ++ codes " blocks"
+
+abbrev pub return_opening : ℕ → List Opening
+return_opening i = Front (return_front i) ∷ []
+
+-- the termination count
+abbrev pub start_opening : ℕ → List Opening
+start_opening count = Whole (codes "START " ++ decimal count) ∷ []
+
+-- all lines of an object: its termination count, its blocks, its entities, its user chains, its procedures, its return rows
+abbrev pub openings : Parts → Sites → List Opening
+openings p sites =
+    start_opening p.count
+    ++ numbered (block_opening sites.blocks p.weights) (length p.blocks)
+    ++ numbered (entity_opening sites.entities) (length p.entities)
+    ++ numbered (chain_opening p.chain_weights) (length p.chain_weights)
+    ++ numbered (procedure_openings sites.procedures p.procedures) (length p.procedures)
+    ++ numbered return_opening (length p.returns)
