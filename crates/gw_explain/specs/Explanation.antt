@@ -1,5 +1,5 @@
--- What explaining a model text comes to: a text and a status.
-use Rattle.std.specs.Prelude.{◌≡◌, ◌⊎◌, ℕ, List, ◌++◌}
+-- What explaining a model text or an object comes to: a text and a status.
+use Rattle.std.specs.Prelude.{◌≡◌, ◌⊎◌, ℕ, List, ◌++◌, MatchResult, MatchBool}
 use Rattle.std.specs.Str.Lines.{lines as lines_of_text}
 use Rattle.gw_object.specs.declared.fault.Fault.{Fault}
 use Rattle.gw_object.specs.declared.parts.Parts.{Parts}
@@ -7,19 +7,29 @@ use Rattle.gw_verify.specs.Checks.{Accepted}
 use Rattle.gw_text.specs.declared.model.Statement.{Statement}
 use Rattle.gw_assemble.specs.Assembly.{Assembles, IsRefusal}
 use Rattle.gw_answers.specs.Status.{ended, refused}
-use Rattle.gw_answers.specs.Answer.{accepted_line}
+use Rattle.gw_answers.specs.Answer.{accepted_line, object_of}
 use Rattle.gw_answers.specs.Assembly.{HasStatements, IsRefusedText}
 use Rattle.gw_verdicts.specs.Refusal.{refusal_line}
-use Rattle.gw_explain.specs.Shown.{Sites, sites_of, no_sites, shown_lines}
+use Rattle.gw_sources.specs.Sites.{Sites, sites_of, no_sites, is_object}
+use Rattle.gw_explain.specs.Codes.{advice_lines}
+use Rattle.gw_explain.specs.Shown.{shown_lines}
 
 -- a text begins with this
 pub record Begins (front text : List ℕ) : Type 0 where
   pub rest : List ℕ
   pub whole : text ≡ front ++ rest
 
--- the explanation of a refusal: its line, the lines that it is about, and words
+-- a text is this, and then what is wrong by a code, what is known, and how to mend it
+pub record IsAdvised (front : List ℕ) (code : ℕ) (text : List ℕ) : Type 0 where
+  pub known : List ℕ
+  pub whole : text ≡ front ++ advice_lines known code
+
+-- TEXTS
+
+-- the explanation of a refusal: its line, the lines that it is about, and the words on its code
 abbrev pub ExplainsRefusal : List ℕ → Sites → Fault → List ℕ → Type 0
-ExplainsRefusal bytes sites fault text = Begins (refusal_line fault ++ shown_lines (lines_of_text bytes) sites fault.place) text
+ExplainsRefusal bytes sites fault text =
+    IsAdvised (refusal_line fault ++ shown_lines (lines_of_text bytes) sites fault.place) fault.code text
 
 -- that of an accepted model: its line, and words
 abbrev pub ExplainsModel : List Statement → List ℕ → Type 0
@@ -31,8 +41,22 @@ IsExplainedModel bytes ss text status =
     ((status ≡ ended) × ExplainsModel ss text)
     ⊎ ((status ≡ refused) × ((fault : Fault) × IsRefusal ss fault × ExplainsRefusal bytes (sites_of ss) fault text))
 
--- the text and the status for these bytes: of a model that reading them may answer, or of the text's refusal
-abbrev pub IsExplained : List ℕ → List ℕ → ℕ → Type 0
-IsExplained bytes text status =
+-- of a text: of a model that reading it may answer, or of the text's refusal
+abbrev pub IsExplainedText : List ℕ → List ℕ → ℕ → Type 0
+IsExplainedText bytes text status =
     ((ss : List Statement) × HasStatements bytes ss × IsExplainedModel bytes ss text status)
     ⊎ ((status ≡ refused) × ((fault : Fault) × IsRefusedText bytes fault × ExplainsRefusal bytes no_sites fault text))
+
+-- OBJECTS
+
+-- of an object: the line that it has where it is checked, and words; of a refusal those on its code
+abbrev pub IsExplainedObject : List ℕ → List ℕ → ℕ → Type 0
+IsExplainedObject bytes text status =
+    MatchResult (object_of bytes)
+    (λ object. (status ≡ ended) × Begins (accepted_line object) text)
+    (λ fault. (status ≡ refused) × IsAdvised (refusal_line fault) fault.code text)
+
+-- the text and the status for these bytes
+abbrev pub IsExplained : List ℕ → List ℕ → ℕ → Type 0
+IsExplained bytes text status =
+    MatchBool (is_object bytes) (IsExplainedObject bytes text status) (IsExplainedText bytes text status)

@@ -1,3 +1,4 @@
 pub mod Codes
 pub mod Shown
 pub mod Explanation
+pub mod Meaning

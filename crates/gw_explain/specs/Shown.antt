@@ -3,9 +3,7 @@ use Rattle.std.specs.Prelude.{ℕ, zero, suc, List, [], ◌∷◌, ◌++◌, Opt
 use Rattle.std.specs.Fmt.{decimal}
 use Rattle.gw_object.specs.declared.fault.Place.{Place}
 use Rattle.gw_object.specs.declared.fault.Place.TheVariants.{Byte, Entity, Code, Row, Block, Edge, Chain, Line, Nowhere}
-use Rattle.gw_text.specs.declared.model.Statement.{Statement}
-use Rattle.gw_sources.specs.declared.places.Sources.{Sources}
-use Rattle.gw_sources.specs.Lines.{block_lines, entity_lines, procedure_lines}
+use Rattle.gw_sources.specs.Sites.{Sites}
 
 -- LINES
 
@@ -19,27 +17,6 @@ abbrev pub shown_line : List (List ℕ) → ℕ → List ℕ
 shown_line lines number = codes "line " ++ decimal number ++ codes " | " ++ take 1000 (text_line lines number) ++ codes "\n"
 
 -- PLACES
-
--- the lines of what a text becomes
-pub record Sites : Type 0 where
-  -- of the blocks: that of block 1 stands first
-  pub blocks : List ℕ
-  -- of the entities, by their numbers
-  pub entities : List ℕ
-  -- of the procedures, by their numbers
-  pub procedures : List ℕ
-
--- those of a text of these statements
-abbrev pub sites_of : List Statement → Sites
-sites_of ss = record { blocks = block_lines ss; entities = entity_lines ss; procedures = procedure_lines ss }
-
--- those that are told
-abbrev pub sites_told : Sources → Sites
-sites_told s = record { blocks = s.blocks.items; entities = s.entities.items; procedures = s.procedures.items }
-
--- a text that can't be read has none
-abbrev pub no_sites : Sites
-no_sites = record { blocks = []; entities = []; procedures = [] }
 
 -- the line at a place of a list, if it is there
 abbrev pub shown_of : List (List ℕ) → Option ℕ → List ℕ

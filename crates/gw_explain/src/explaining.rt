@@ -1,58 +1,27 @@
-//! The explanation of a model text.
+//! The explanation of a model text, or of an object.
 
 ghost use Rattle.std.specs.Prelude.{◌≡◌, ◌++◌, IfOk, OnOk};
 ghost use Rattle.std.specs.Str.Lines.{lines as lines_of_text};
 ghost use Rattle.gw_answers.specs.Status.{ended as ended_status, refused as refused_status};
 ghost use Rattle.gw_answers.specs.Answer.{accepted_line};
-ghost use Rattle.gw_explain.specs.Explanation.{Begins, ExplainsRefusal, IsExplainedModel, IsExplained};
-ghost use Rattle.gw_explain.specs.Shown.{no_sites, shown_lines, sites_of, sites_told};
+ghost use Rattle.gw_sources.specs.Sites.{no_sites, sites_of, sites_told};
+ghost use Rattle.gw_explain.specs.Explanation.{Begins, ExplainsRefusal, IsExplainedModel, IsExplainedText, IsExplained};
+ghost use Rattle.gw_explain.specs.Shown.{shown_lines};
 
-use crate::advice::advice_on;
-use crate::known::put_known;
+use crate::known::known_in_model;
 use crate::lines::put_lines_of;
-use crate::summary::summary_of;
-use crate::words::put;
+use crate::meaning::put_advice;
+use crate::objects::explain_object;
+use crate::summary::model_summary;
 use gw_answers::{Answer, accepted, refused};
 use gw_assemble::assemble;
 use gw_object::{Fault, Memory, Place, codes};
-use gw_sources::{Sources, sources};
+use gw_sources::{Sources, is_object, sources};
 use gw_text::{Model, parse};
 use gw_text_tokens::lines::lines_of;
 use gw_verdicts::Refusal;
 use gw_verify::Verified;
 use std::alloc::Global;
-
-/// What is wrong, what is known of a transaction where it is, and how to mend it.
-fn words_of(alloc: Global, model: Option<&Model>, fault: Fault) -> Result<Vec<u8>, Memory> {
-    let mut out = Vec::new(alloc);
-    let Some(advice) = advice_on(fault.code) else {
-        return Ok(out);
-    };
-    put(&mut out, "wrong: ")?;
-    put(&mut out, advice.wrong)?;
-    put(&mut out, "\n")?;
-    if let Some(model) = model {
-        put_known(alloc, &mut out, model, fault)?;
-    }
-    put(&mut out, "mend: ")?;
-    put(&mut out, advice.mend)?;
-    put(&mut out, "\n")?;
-    Ok(out)
-}
-
-/// Words about a refusal, behind what there is.
-#[tactic(auto, using(crate::proofs::Beginning::begun))]
-fn put_words(
-    alloc: Global,
-    out: &mut Vec<u8>,
-    model: Option<&Model>,
-    fault: Fault,
-) -> Result<(), Memory>
-    ensures { OnOk result (Begins out.old.items out.new.items) }
-{
-    let words = words_of(alloc, model, fault)?;
-    out.extend_from_slice(&words)
-}
 
 /// The lines of a text that a refusal at a place is about, behind what there is.
 fn put_shown(
@@ -69,12 +38,13 @@ fn put_shown(
     put_lines_of(out, &lines, sources, place)
 }
 
-/// The explanation of a refusal: its line, the lines that it is about, and words; want of memory is no explanation.
-#[tactic(auto, using(crate::proofs::Beginning::begun_with))]
+/// The explanation of a refusal: its line, the lines that it is about, and the words on it, with what is known; want of memory
+/// is no explanation.
+#[tactic(auto, using(crate::proofs::Beginning::advised_with))]
 fn refusal_of(
     alloc: Global,
     text: &[u8],
-    model: Option<&Model>,
+    known: &[u8],
     sources: &Sources,
     fault: Fault,
 ) -> Result<Answer, Memory>
@@ -87,7 +57,7 @@ fn refusal_of(
     }
     let mut answer = refused(alloc, Refusal(fault))?;
     put_shown(alloc, &mut answer.text, text, sources, fault.place)?;
-    put_words(alloc, &mut answer.text, model, fault)?;
+    put_advice(&mut answer.text, known, fault.code)?;
     Ok(answer)
 }
 
@@ -98,7 +68,8 @@ fn refusal_in(alloc: Global, text: &[u8], model: &Model, fault: Fault) -> Result
     ensures status { IfOk result (λ a. a.status ≡ refused_status) }
 {
     let sources = sources(alloc, model)?;
-    refusal_of(alloc, text, Some(model), &sources, fault)
+    let known = known_in_model(alloc, model, fault)?;
+    refusal_of(alloc, text, &known, &sources, fault)
 }
 
 /// What a model that is accepted has, behind what there is.
@@ -111,7 +82,7 @@ fn put_summary(
 ) -> Result<(), Memory>
     ensures { OnOk result (Begins out.old.items out.new.items) }
 {
-    let words = summary_of(alloc, model, verified)?;
+    let words = model_summary(alloc, model, verified)?;
     out.extend_from_slice(&words)
 }
 
@@ -138,28 +109,35 @@ fn explain_model(alloc: Global, text: &[u8], model: &Model) -> Result<Answer, Me
 }
 
 /// The explanation of a model text that can't be read.
-fn explain_text(alloc: Global, text: &[u8], fault: Fault) -> Result<Answer, Memory>
+fn explain_unread(alloc: Global, text: &[u8], fault: Fault) -> Result<Answer, Memory>
     ensures text { IfOk result (λ a. ExplainsRefusal text.now no_sites fault a.text.items) }
     ensures status { IfOk result (λ a. a.status ≡ refused_status) }
 {
-    let sources = Sources {
-        blocks: Vec::new(alloc),
-        entities: Vec::new(alloc),
-        procedures: Vec::new(alloc),
-    };
-    refusal_of(alloc, text, None, &sources, fault)
+    refusal_of(alloc, text, &[], &Sources::none(alloc), fault)
 }
 
-/// The explanation of a model text for planners, with the status of its assembly: 0 where it is accepted, else 1.
-///
-/// Of one that is refused it has the refusal's line, the lines of the text that it is about, what is wrong, for 20 to 28 what
-/// is known of a transaction there, and how to mend it. Of one that is accepted it has the line of the object, and what the
-/// model has. `Err` where memory runs out.
-pub fn explain(alloc: Global, text: &[u8]) -> Result<Answer, Memory>
-    ensures { IfOk result (λ a. IsExplained text.now a.text.items a.status) }
+/// The explanation of a model text.
+fn explain_text(alloc: Global, text: &[u8]) -> Result<Answer, Memory>
+    ensures { IfOk result (λ a. IsExplainedText text.now a.text.items a.status) }
 {
     match parse(alloc, text) {
         Ok(model) => explain_model(alloc, text, &model),
-        Err(fault) => explain_text(alloc, text, fault),
+        Err(fault) => explain_unread(alloc, text, fault),
+    }
+}
+
+/// The explanation of a model text or of an object for planners, with the status of its assembly or of its check: 0 where it is
+/// accepted, else 1.
+///
+/// Of one that is refused it has the refusal's line, the lines of the text that it is about, what is wrong, for 20 to 28 what
+/// is known of a transaction there, and how to mend it. Of one that is accepted it has the line of the object, and what the
+/// model has. An object has no lines. `Err` where memory runs out.
+pub fn explain(alloc: Global, input: &[u8]) -> Result<Answer, Memory>
+    ensures { IfOk result (λ a. IsExplained input.now a.text.items a.status) }
+{
+    if is_object(input) {
+        explain_object(alloc, input)
+    } else {
+        explain_text(alloc, input)
     }
 }

@@ -1,15 +1,15 @@
-//! What is known of a transaction, in words, where a model is refused by flow (docs/object-format.md).
+//! What is known of a transaction, in words, where a model or an object is refused by flow (docs/object-format.md).
 
-use crate::words::{put, put_number};
 use gw_blocks::{Block, Split, Units};
 use gw_flow::codes::CHAIN_STATE;
 use gw_kinds::{chain_place, check_kinds};
 use gw_names::{Known, Ledger, known_names};
 use gw_object::{
-    Entity, Fault, Memory, Object, Parts, Place, TableKind, TableParameter, TableState, codes,
+    Entity, Fault, Memory, Object, Parts, Place, TableKind, TableParameter, TableState, codes, read,
 };
 use gw_pieces::parts_of;
-use gw_settle::{Written, table_of};
+use gw_report::text::{put, put_number};
+use gw_settle::table_of;
 use gw_text::Model;
 use indexmap::IndexMap;
 use std::alloc::Global;
@@ -20,13 +20,15 @@ const FIRST: u16 = 20;
 /// The last code of flow.
 const LAST: u16 = 28;
 
-/// What a model becomes, and what is known of its transactions.
+/// What an object has, and what is known of its transactions.
 #[derive(Clone, Copy)]
 struct Flow<'a> {
     /// The entities and the blocks.
     parts: &'a Parts,
-    /// The assembler's state table.
-    table: &'a Written,
+    /// The rows of the state table: those of blocks.
+    states: &'a [Option<TableState>],
+    /// Those of user chains.
+    chain_states: &'a [Option<TableState>],
     /// The parameters that have names.
     names: &'a IndexMap<String, u8>,
 }
@@ -155,7 +157,7 @@ fn block_of(blocks: &[Block], number: u16) -> Option<&Block> {
 
 /// What is known of a transaction that comes to a block.
 fn put_at_block(out: &mut Vec<u8>, flow: Flow<'_>, number: u16) -> Result<(), Memory> {
-    match row_of(flow.table.states.as_slice(), number) {
+    match row_of(flow.states, number) {
         Some(row) => {
             put_number(out, "known: a transaction that comes to block ", number)?;
             put(out, " ")?;
@@ -265,7 +267,7 @@ fn facilities_by(row: Option<&TableState>) -> &[u16] {
 /// The row of a user chain, by its entity's number from 0.
 fn chain_row<'a>(flow: Flow<'a>, chain: u16) -> Option<&'a TableState> {
     let place = chain_place(flow.parts.entities.as_slice(), chain);
-    match flow.table.chain_states.as_slice().get(place) {
+    match flow.chain_states.get(place) {
         Some(Some(row)) => Some(row),
         Some(None) | None => None,
     }
@@ -279,7 +281,7 @@ fn put_on_edge(
     from: u16,
     to: u16,
 ) -> Result<(), Memory> {
-    let rows = flow.table.states.as_slice();
+    let rows = flow.states;
     match block_of(flow.parts.blocks.as_slice(), from) {
         Some(block) => {
             let before = facilities_by(row_of(rows, from));
@@ -293,7 +295,7 @@ fn put_on_edge(
 
 /// What is known of the members of a user chain, and of who joins them at a block, or comes another way to where they go.
 fn put_at_chain(out: &mut Vec<u8>, flow: Flow<'_>, from: u16, to: u16) -> Result<(), Memory> {
-    let there = facilities_by(row_of(flow.table.states.as_slice(), to));
+    let there = facilities_by(row_of(flow.states, to));
     match block_of(flow.parts.blocks.as_slice(), from) {
         Some(Block::Link(link)) => {
             let members = facilities_by(chain_row(flow, link.chain));
@@ -319,7 +321,7 @@ fn put_at(alloc: Global, out: &mut Vec<u8>, flow: Flow<'_>, fault: Fault) -> Res
     }
 }
 
-/// The same, where this is what a model becomes, if there is a state table.
+/// The same, where this is what a model becomes, by the assembler's state table, if there is one.
 fn put_of_object(
     alloc: Global,
     out: &mut Vec<u8>,
@@ -335,7 +337,8 @@ fn put_of_object(
         Ok(table) => {
             let flow = Flow {
                 parts,
-                table: &table,
+                states: table.states.as_slice(),
+                chain_states: table.chain_states.as_slice(),
                 names,
             };
             put_at(alloc, out, flow, fault)
@@ -389,16 +392,56 @@ fn put_named(
     }
 }
 
+/// Whether a fault is one of flow.
+fn is_of_flow(fault: Fault) -> bool {
+    FIRST <= fault.code && fault.code <= LAST
+}
+
 /// What is known of a transaction at the place of a fault of flow, in a line; of another fault nothing.
-pub(crate) fn put_known(
+pub(crate) fn known_in_model(
     alloc: Global,
-    out: &mut Vec<u8>,
     model: &Model,
     fault: Fault,
-) -> Result<(), Memory> {
-    if fault.code < FIRST || LAST < fault.code {
-        return Ok(());
+) -> Result<Vec<u8>, Memory> {
+    let mut out = Vec::new(alloc);
+    if is_of_flow(fault) {
+        let names = parameter_names(alloc, model)?;
+        put_named(alloc, &mut out, model, &names, fault)?;
     }
-    let names = parameter_names(alloc, model)?;
-    put_named(alloc, out, model, &names, fault)
+    Ok(out)
+}
+
+/// The same, by the state table of an object.
+fn put_by_object(
+    alloc: Global,
+    out: &mut Vec<u8>,
+    object: &Object,
+    fault: Fault,
+) -> Result<(), Memory> {
+    let parts = object.parts();
+    let names = IndexMap::new(alloc);
+    let flow = Flow {
+        parts,
+        states: parts.states.as_slice(),
+        chain_states: parts.chain_states.as_slice(),
+        names: &names,
+    };
+    put_at(alloc, out, flow, fault)
+}
+
+/// What is known at the place of a fault of flow in the object that bytes spell, in a line; parameters have no names there.
+pub(crate) fn known_in_object(
+    alloc: Global,
+    input: &[u8],
+    fault: Fault,
+) -> Result<Vec<u8>, Memory> {
+    let mut out = Vec::new(alloc);
+    if !is_of_flow(fault) {
+        return Ok(out);
+    }
+    match read(alloc, input) {
+        Ok(object) => put_by_object(alloc, &mut out, &object, fault)?,
+        Err(refusal) => unless_memory(refusal)?,
+    }
+    Ok(out)
 }

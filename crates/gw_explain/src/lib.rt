@@ -1,12 +1,14 @@
-//! Model texts explained to planners: what is wrong with one that is refused, on which lines, and how to mend it; and what one
-//! that is accepted has (docs/planner.md).
+//! Model texts and objects explained to planners: what is wrong with one that is refused, on which lines, and how to mend it; and
+//! what one that is accepted has; and what each code of a refusal means (docs/planner.md).
 #![tactic(auto)]
 
 pub mod advice;
 mod explaining;
 mod known;
 mod lines;
+mod meaning;
+mod objects;
 mod summary;
-mod words;
 
 pub use explaining::explain;
+pub use meaning::explain_code;

@@ -1,10 +1,11 @@
 //! The lines of a model text that a refusal is about.
 
 ghost use Rattle.std.specs.Prelude.{◌≡◌, ◌++◌, take, slice_get, map, option_map, OnOk};
+ghost use Rattle.gw_sources.specs.Sites.{sites_told};
 ghost use Rattle.gw_explain.specs.Shown as shown;
 
-use crate::words::{put, put_number};
 use gw_object::{Memory, Place};
+use gw_report::text::{put, put_number};
 use gw_sources::Sources;
 
 /// The most bytes of a line that are shown.
@@ -107,7 +108,7 @@ pub(crate) fn put_lines_of(
     place: Place,
 ) -> Result<(), Memory>
     ensures { OnOk result (out.new.items
-        ≡ out.old.items ++ shown.shown_lines (map (λ l. l.now) lines.now) (shown.sites_told sources.now) place) }
+        ≡ out.old.items ++ shown.shown_lines (map (λ l. l.now) lines.now) (sites_told sources.now) place) }
 {
     match place {
         Place::Line(number) => put_line(out, lines, number),

@@ -1,7 +1,7 @@
-//! What a model that is accepted has, in words.
+//! What a model or an object that is accepted has, in words.
 
-use crate::words::{put, put_number};
-use gw_object::{Entity, Kind, Memory};
+use gw_object::{Entity, Kind, Memory, Parts};
+use gw_report::text::{put, put_number};
 use gw_sources::{Sources, sources};
 use gw_text::Model;
 use gw_verify::Verified;
@@ -70,28 +70,45 @@ impl Group {
     }
 }
 
-/// How many blocks there are, and on which lines they begin and end.
-fn put_blocks(out: &mut Vec<u8>, lines: &[u32]) -> Result<(), Memory> {
+/// A title, and how many there are.
+fn put_count(out: &mut Vec<u8>, title: &str, count: usize) -> Result<(), Memory> {
+    put(out, title)?;
+    if count == 0 {
+        put(out, "none")
+    } else {
+        put_number(out, "", count)
+    }
+}
+
+/// On which lines what has these begins and ends, where there are lines.
+fn put_span(out: &mut Vec<u8>, lines: &[u32]) -> Result<(), Memory> {
     match lines {
-        [] => put(out, "blocks: none\n"),
-        [only] => {
-            put_number(out, "blocks: 1, on line ", *only)?;
-            put(out, "\n")
-        }
+        [] => Ok(()),
+        [only] => put_number(out, ", on line ", *only),
         [first, .., last] => {
-            put_number(out, "blocks: ", lines.len())?;
             put_number(out, ", on lines ", *first)?;
-            put_number(out, " to ", *last)?;
-            put(out, "\n")
+            put_number(out, " to ", *last)
         }
     }
 }
 
-/// The name of an entity, and its line.
-fn put_entity(out: &mut Vec<u8>, entity: &Entity, line: u32) -> Result<(), Memory> {
+/// How many blocks there are, and on which lines they begin and end.
+fn put_blocks(out: &mut Vec<u8>, count: usize, lines: &[u32]) -> Result<(), Memory> {
+    put_count(out, "blocks: ", count)?;
+    put_span(out, lines)?;
+    put(out, "\n")
+}
+
+/// The name of an entity, and its line, where it has one.
+fn put_entity(out: &mut Vec<u8>, entity: &Entity, line: Option<&u32>) -> Result<(), Memory> {
     out.extend_from_slice(entity.name.as_slice())?;
-    put_number(out, " (line ", line)?;
-    put(out, ")")
+    match line {
+        Some(line) => {
+            put_number(out, " (line ", *line)?;
+            put(out, ")")
+        }
+        None => Ok(()),
+    }
 }
 
 /// The entities of a kind, if there are some.
@@ -102,10 +119,10 @@ fn put_group(
     group: Group,
 ) -> Result<(), Memory> {
     let mut before = group.title();
-    for i in 0..entities.len().min(lines.len()) {
+    for i in 0..entities.len() {
         if Group::of(&entities[i].kind) == group {
             put(out, before)?;
-            put_entity(out, &entities[i], lines[i])?;
+            put_entity(out, &entities[i], lines.get(i))?;
             before = ", ";
         }
     }
@@ -137,11 +154,11 @@ fn put_numbers(out: &mut Vec<u8>, title: &str, numbers: &[u32]) -> Result<(), Me
 }
 
 /// How many procedures there are, and on which lines what they are made of begins.
-fn put_procedures(out: &mut Vec<u8>, lines: &[u32]) -> Result<(), Memory> {
+fn put_procedures(out: &mut Vec<u8>, count: usize, lines: &[u32]) -> Result<(), Memory> {
+    put_count(out, "procedures: ", count)?;
     if lines.is_empty() {
-        put(out, "procedures: none\n")
+        put(out, "\n")
     } else {
-        put_number(out, "procedures: ", lines.len())?;
         put_numbers(out, ", from lines ", lines)
     }
 }
@@ -156,23 +173,33 @@ fn put_start(out: &mut Vec<u8>, count: u64, seeds: &[u32]) -> Result<(), Memory>
     }
 }
 
-/// What a model that is accepted has: its blocks, its entities by kind, its procedures, each with lines of the text, and how a
+/// What an object has: its blocks, its entities by kind, its procedures, with the lines of the text that it comes from, and how a
 /// run begins.
-pub(crate) fn summary_of(
+fn summary_of(alloc: Global, parts: &Parts, sources: &Sources) -> Result<Vec<u8>, Memory> {
+    let mut out = Vec::new(alloc);
+    put_blocks(&mut out, parts.blocks.as_slice().len(), &sources.blocks)?;
+    put_entities(&mut out, parts.entities.as_slice(), &sources.entities)?;
+    put_procedures(
+        &mut out,
+        parts.procedures.as_slice().len(),
+        &sources.procedures,
+    )?;
+    put_start(&mut out, parts.count, parts.seeds.as_slice())?;
+    Ok(out)
+}
+
+/// What a model that is accepted has, with lines of its text.
+pub(crate) fn model_summary(
     alloc: Global,
     model: &Model,
     verified: &Verified,
 ) -> Result<Vec<u8>, Memory> {
-    let Sources {
-        blocks,
-        entities,
-        procedures,
-    } = sources(alloc, model)?;
+    let sources = sources(alloc, model)?;
+    summary_of(alloc, verified.object().parts(), &sources)
+}
+
+/// What an object that is accepted has.
+pub(crate) fn object_summary(alloc: Global, verified: &Verified) -> Result<Vec<u8>, Memory> {
     let parts = verified.object().parts();
-    let mut out = Vec::new(alloc);
-    put_blocks(&mut out, &blocks)?;
-    put_entities(&mut out, parts.entities.as_slice(), &entities)?;
-    put_procedures(&mut out, &procedures)?;
-    put_start(&mut out, parts.count, parts.seeds.as_slice())?;
-    Ok(out)
+    summary_of(alloc, parts, &Sources::none(alloc))
 }

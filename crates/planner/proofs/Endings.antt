@@ -1,16 +1,17 @@
 -- With which statuses answers end.
-use Rattle.std.proofs.Common.{◌≡◌, ◌⊎◌, ◌≢◌, ℕ, List, Bool, true, false, Result, Ok, Err, MatchResult, inl, inr}
+use Rattle.std.proofs.Common.{◌≡◌, ◌⊎◌, ℕ, List, Bool, true, false, Result, Ok, Err, MatchResult, inl, inr}
 use Rattle.std.specs.Prelude.{MatchBool}
 use Rattle.gw_object.specs.declared.fault.Fault.{Fault}
 use Rattle.gw_object.specs.declared.parts.Parts.{Parts}
 use Rattle.gw_step.specs.Job.{Job}
 use Rattle.gw_verdicts.specs.Refusal.{refusal_line}
 use Rattle.gw_answers.specs.Status.{ended, refused}
-use Rattle.gw_answers.specs.Answer.{object_of}
+use Rattle.gw_answers.specs.Answer.{object_of, accepted_line}
 use Rattle.gw_answers.specs.Assembly.{IsAssembly}
 use Rattle.gw_console.proofs.Outputs.{IsEnd, Ends, assembly_status}
-use Rattle.gw_explain.specs.Explanation.{IsExplained, IsExplainedModel}
-use Rattle.gw_listing.specs.Listing.{IsListing, IsListed, is_object}
+use Rattle.gw_sources.specs.Sites.{no_sites, is_object}
+use Rattle.gw_explain.specs.Explanation.{Begins, IsAdvised, IsExplainedModel, IsExplainedText, IsExplainedObject}
+use Rattle.gw_listing.specs.Listing.{IsListingOf, TellsRefusal, IsListedModel, IsListedText, IsListedObject}
 use Rattle.gw_model_jobs.specs.ModelJobs.{AnswersModel}
 use Rattle.gw_trace.specs.Trace.{IsTrace}
 use Rattle.gw_chart.specs.Charts.{IsChart}
@@ -23,22 +24,33 @@ explained_model : (bytes : List ℕ) (ss : _) (text : List ℕ) (status : ℕ) �
 explained_model bytes ss text status (inl h) = inl h.0
 explained_model bytes ss text status (inr h) = inr h.0
 
-explained : (bytes text : List ℕ) (status : ℕ) → IsExplained bytes text status → IsEnd status
-explained bytes text status (inl h) = explained_model bytes h.0 text status h.2
-explained bytes text status (inr h) = inr h.0
+explained_text : (bytes text : List ℕ) (status : ℕ) → IsExplainedText bytes text status → IsEnd status
+explained_text bytes text status (inl h) = explained_model bytes h.0 text status h.2
+explained_text bytes text status (inr h) = inr h.0
 
-listing : (r : Result Parts Fault) (text : List ℕ) (status : ℕ) → MatchResult r (λ parts. status ≡ ended) (λ fault. (status ≡ refused) × (text ≡ refusal_line fault)) → IsEnd status
-listing (Ok parts) text status h = inl h
-listing (Err fault) text status h = inr h.0
+explained_object : (r : Result Parts Fault) (text : List ℕ) (status : ℕ)
+    → MatchResult r (λ object. (status ≡ ended) × Begins (accepted_line object) text) (λ fault. (status ≡ refused) × IsAdvised (refusal_line fault) fault.code text)
+    → IsEnd status
+explained_object (Ok object) text status h = inl h.0
+explained_object (Err fault) text status h = inr h.0
 
-of_text : (bytes text : List ℕ) (status : ℕ) → ((object : List ℕ) × IsAssembly bytes object ended × IsListing object text status) ⊎ ((status ≢ ended) × IsAssembly bytes text status) → IsEnd status
-of_text bytes text status (inl h) = listing (object_of h.0) text status h.2
-of_text bytes text status (inr h) = assembly_status bytes text status h.1
+listed_model : (ss : _) (text : List ℕ) (status : ℕ) → IsListedModel ss text status → IsEnd status
+listed_model ss text status (inl h) = inl h.0
+listed_model ss text status (inr h) = inr h.2.0
 
-listed : (b : Bool) (bytes text : List ℕ) (status : ℕ)
-    → MatchBool b (IsListing bytes text status) (((object : List ℕ) × IsAssembly bytes object ended × IsListing object text status) ⊎ ((status ≢ ended) × IsAssembly bytes text status)) → IsEnd status
-listed true bytes text status h = listing (object_of bytes) text status h
-listed false bytes text status h = of_text bytes text status h
+listed_text : (bytes text : List ℕ) (status : ℕ) → IsListedText bytes text status → IsEnd status
+listed_text bytes text status (inl h) = listed_model h.0 text status h.2
+listed_text bytes text status (inr h) = inr h.2.0
+
+listed_object : (r : Result Parts Fault) (text : List ℕ) (status : ℕ)
+    → MatchResult r (λ parts. (status ≡ ended) × IsListingOf parts no_sites text) (λ fault. TellsRefusal fault text status) → IsEnd status
+listed_object (Ok parts) text status h = inl h.0
+listed_object (Err fault) text status h = inr h.0
+
+-- of an object, or of a text
+of_either : (is_object : Bool) (Object Text : Type 0) (status : ℕ) → (Object → IsEnd status) → (Text → IsEnd status) → MatchBool is_object Object Text → IsEnd status
+of_either true Object Text status object text h = object h
+of_either false Object Text status object text h = text h
 
 shown : (Shows : Job → List ℕ → Type 0) (bytes text : List ℕ) (status : ℕ) → AnswersModel Shows bytes text status → IsEnd status
 shown Shows bytes text status (inl h) = inl h.0
@@ -53,8 +65,10 @@ study bytes runs count text status (inl h) = studied h.0 runs count text status 
 study bytes runs count text status (inr h) = assembly_status bytes text status h.1
 
 ends : (question : Question) (bytes text : List ℕ) (status : ℕ) → asked question bytes text status → IsEnd status
-ends Explain bytes text status h = explained bytes text status h
-ends Lists bytes text status h = listed (is_object bytes) bytes text status h
+ends Explain bytes text status h =
+    of_either (is_object bytes) _ _ status (explained_object (object_of bytes) text status) (explained_text bytes text status) h
+ends Lists bytes text status h =
+    of_either (is_object bytes) _ _ status (listed_object (object_of bytes) text status) (listed_text bytes text status) h
 ends Chart bytes text status h = shown IsChart bytes text status h
 ends (Trace from to) bytes text status h = shown (IsTrace from to) bytes text status h
 ends (Study runs count) bytes text status h = study bytes runs count text status h

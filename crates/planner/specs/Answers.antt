@@ -1,10 +1,11 @@
 -- What the program writes.
-use Rattle.std.specs.Prelude.{◌≡◌, ◌≤◌, ◌<◌, ℕ, ◌+◌, List, take, codes, Option}
+use Rattle.std.specs.Prelude.{◌≡◌, ◌≤◌, ◌<◌, ◌⊎◌, ℕ, ◌+◌, List, take, codes, Option}
 use Rattle.gw_object.specs.declared.limits.TheConstants.{MOST_BYTES}
-use Rattle.gw_answers.specs.Status.{ended}
+use Rattle.gw_answers.specs.Status.{ended, no_memory}
 use Rattle.gw_answers.specs.Requests.{Answering}
-use Rattle.gw_console.specs.Output.{Writes, Responds}
+use Rattle.gw_console.specs.Output.{Writes, Responds, memory_line}
 use Rattle.gw_explain.specs.Explanation.{IsExplained}
+use Rattle.gw_explain.specs.Meaning.{meaning}
 use Rattle.gw_listing.specs.Listing.{IsListed}
 use Rattle.gw_model_jobs.specs.ModelJobs.{AnswersModel}
 use Rattle.gw_trace.specs.Trace.{IsTrace}
@@ -12,7 +13,7 @@ use Rattle.gw_chart.specs.Charts.{IsChart}
 use Rattle.gw_study.specs.Study.{IsStudy}
 use Rattle.planner.specs.declared.help.TheConstants.{HELP, VERSION, USAGE}
 use Rattle.planner.specs.declared.words.Command.{Command}
-use Rattle.planner.specs.declared.words.Command.TheVariants.{Ask, Help, Version}
+use Rattle.planner.specs.declared.words.Command.TheVariants.{Ask, Code, Help, Version}
 use Rattle.planner.specs.declared.words.Question.{Question}
 use Rattle.planner.specs.declared.words.Question.TheVariants.{Explain, List as Lists, Chart, Trace, Study}
 
@@ -32,8 +33,13 @@ answering question bytes = asked question (take (MOST_BYTES + 1) bytes)
 abbrev pub usage_line : List ℕ
 usage_line = USAGE.now
 
--- a command answers its question, or writes what the program says of itself
+-- a text is written, with the status of an end; or the line on want of memory
+abbrev pub Tells : List ℕ → ℕ → Option (List ℕ) → Option (List ℕ) → Type 0
+Tells text result old new = Writes text ended result old new ⊎ Writes memory_line no_memory result old new
+
+-- a command answers its question, tells what a code means, or writes what the program says of itself
 abbrev pub DoesCommand : Command → Option (List ℕ) → ℕ → Option (List ℕ) → Option (List ℕ) → Type 0
 DoesCommand (Ask question) known result old new = Responds (answering question) known result old new
+DoesCommand (Code code) known result old new = Tells (meaning code) result old new
 DoesCommand Help known result old new = Writes HELP.now ended result old new
 DoesCommand Version known result old new = Writes VERSION.now ended result old new

@@ -1,7 +1,7 @@
 -- What may be asked.
 use Rattle.std.specs.Prelude.{ℕ, ◌<◌, ◌≤◌}
 use Rattle.planner.specs.declared.words.Command.{Command}
-use Rattle.planner.specs.declared.words.Command.TheVariants.{Ask, Help, Version}
+use Rattle.planner.specs.declared.words.Command.TheVariants.{Ask, Code, Help, Version}
 use Rattle.planner.specs.declared.words.Question.{Question}
 use Rattle.planner.specs.declared.words.Question.TheVariants.{Explain, List, Chart, Trace, Study}
 
@@ -15,5 +15,6 @@ MayBeAsked (Study runs count) = (0 < runs) × (runs ≤ 1024)
 
 abbrev pub MayBeCarriedOut : Command → Type 0
 MayBeCarriedOut (Ask question) = MayBeAsked question
+MayBeCarriedOut (Code code) = Unit {0}
 MayBeCarriedOut Help = Unit {0}
 MayBeCarriedOut Version = Unit {0}

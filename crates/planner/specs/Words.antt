@@ -2,8 +2,9 @@
 use Rattle.std.specs.Prelude.{ℕ, ◌^◌, nat_lt, nat_le, List, [], ◌∷◌, codes, ℤ, pos, Option, Some, None, Bool, ◌&&◌, ◌||◌, if◌then◌else◌}
 use Rattle.std.specs.Str.{bytes_eq}
 use Rattle.gw_numerals.specs.Numerals.{number_below}
+use Rattle.gw_explain.specs.Codes.{is_code}
 use Rattle.planner.specs.declared.words.Command.{Command}
-use Rattle.planner.specs.declared.words.Command.TheVariants.{Ask, Help, Version}
+use Rattle.planner.specs.declared.words.Command.TheVariants.{Ask, Code, Help, Version}
 use Rattle.planner.specs.declared.words.Question.{Question}
 use Rattle.planner.specs.declared.words.Question.TheVariants.{Explain, List as Lists, Chart, Trace, Study}
 
@@ -39,8 +40,19 @@ study_of None count = None
 study_of (Some runs) None = None
 study_of (Some runs) (Some count) = Some (Ask (Study runs count))
 
+-- `explain`, and the code of a refusal
+abbrev pub explanation_of : ℕ → Option Command
+explanation_of code = if is_code code then Some (Code code) else None
+
+abbrev pub explanation_in : Option ℕ → Option Command
+explanation_in None = None
+explanation_in (Some code) = explanation_of code
+
 abbrev pub command_of_two : List ℕ → List ℕ → Option Command
-command_of_two name first = if bytes_eq name (codes "study") then study_of (runs_in first) (Some 0) else None
+command_of_two name first =
+    if bytes_eq name (codes "explain") then explanation_in (number_below 1000 first)
+    else if bytes_eq name (codes "study") then study_of (runs_in first) (Some 0)
+    else None
 
 -- `trace`, from one time to another
 abbrev pub trace_of : Option ℤ → Option ℤ → Option Command

@@ -7,7 +7,8 @@ A model is a text in GPSS, as those in examples/. The launcher ./planner takes i
 the second word; without it the program reads the model from standard input.
 
   planner explain MODEL               what is wrong, on which line, and how to mend it;
-                                      or what is in a model that is accepted
+                                      or what is in a model, or an object, that is accepted
+  planner explain CODE                what the code of a refusal means, and how to mend it
   planner list MODEL                  the listed object code, of a model or of an object
   planner trace MODEL FROM TO         the steps of the run from one clock time to another
   planner chart MODEL                 a picture (SVG) of what is where over time
@@ -25,4 +26,4 @@ pub const VERSION: &[u8] = b"planner 1\n";
 
 /// The line on wrong words.
 pub const USAGE: &[u8] =
-    b"usage: planner explain | list | trace FROM TO | chart | study RUNS [COUNT] | help | --version\n";
+    b"usage: planner explain [CODE] | list | trace FROM TO | chart | study RUNS [COUNT] | help | --version\n";

@@ -7,7 +7,8 @@ ghost use Rattle.gw_console.specs.Output.{AnswersReader, Writes, Responds, Write
 ghost use Rattle.gw_console.specs.Calls.{LosesFront, LosesAtMost, TellsReads, TellsCalls};
 ghost use Rattle.planner.specs.Words.{command_in};
 ghost use Rattle.planner.specs.Asking.{MayBeAsked};
-ghost use Rattle.planner.specs.Answers.{asked, answering, DoesCommand, usage_line};
+ghost use Rattle.gw_explain.specs.Meaning.{meaning};
+ghost use Rattle.planner.specs.Answers.{asked, answering, Tells, DoesCommand, usage_line};
 
 use crate::help::{HELP, USAGE, VERSION};
 use crate::words::{Command, Question, command_of};
@@ -15,7 +16,7 @@ use gw_answers::Answer;
 use gw_answers::status::{ENDED, WRONG_WORDS};
 use gw_chart::chart;
 use gw_console::{ProgramFault, deliver, or_no_memory, read_input, write_and_end};
-use gw_explain::explain;
+use gw_explain::{explain, explain_code};
 use gw_listing::list;
 use gw_object::{MOST_BYTES, Memory};
 use gw_streams::{Input, Output};
@@ -89,6 +90,15 @@ pub fn ask<R: Read, W: Write, T: Threads + Wait + Sync + Eprint>(
     deliver(writer, read_and_answer(rt, alloc, question, reader))
 }
 
+/// Tells what the code of a refusal means, and reads nothing. It answers the status: 0, 3 where a write failed, 4 where memory ran
+/// out.
+pub fn tell_code<W: Write>(alloc: Global, code: u16, writer: &mut Output<W>) -> u8
+    requires { writer.old.failed ≡ false }
+    ensures { Tells (meaning code) result writer.old.held writer.new.held }
+{
+    deliver(writer, or_no_memory(explain_code(alloc, code)))
+}
+
 /// The program: the command that its words name. On any other words it writes the usage line, with status 2, and reads nothing.
 pub fn dispatch<R: Read, W: Write, T: Threads + Wait + Sync + Eprint>(
     rt: &T,
@@ -105,6 +115,7 @@ pub fn dispatch<R: Read, W: Write, T: Threads + Wait + Sync + Eprint>(
 {
     match command_of(words) {
         Some(Command::Ask(question)) => ask(rt, alloc, question, reader, writer),
+        Some(Command::Code(code)) => tell_code(alloc, code, writer),
         Some(Command::Help) => write_and_end(writer, HELP, ENDED),
         Some(Command::Version) => write_and_end(writer, VERSION, ENDED),
         None => write_and_end(writer, USAGE, WRONG_WORDS),

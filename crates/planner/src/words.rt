@@ -7,6 +7,7 @@ ghost use Rattle.planner.specs.Words.{clock_in, runs_in, command_named as named_
 ghost use Rattle.planner.specs.Asking.{MayBeCarriedOut};
 ghost use Rattle.planner.specs.Words as words;
 
+use gw_explain::advice::advice_on;
 use gw_numerals::{count_in, number_in};
 use gw_study::MOST_RUNS;
 
@@ -40,6 +41,8 @@ pub enum Question {
 pub enum Command {
     /// Something is asked of a model.
     Ask(Question),
+    /// What the code of a refusal means.
+    Code(u16),
     /// How the program is used.
     Help,
     /// Which version it is.
@@ -63,6 +66,28 @@ fn runs_in(word: &str) -> Option<u32>
 {
     match number_in(word) {
         Some(runs) if runs >= 1 && runs <= MOST_RUNS => Some(runs),
+        _ => None,
+    }
+}
+
+/// The command that explains a code, if this is one.
+fn explanation_of(code: u16) -> Option<Command>
+    ensures command { result ≡ words.explanation_of code }
+    ensures asked { IfSome result MayBeCarriedOut }
+{
+    match advice_on(code) {
+        Some(_) => Some(Command::Code(code)),
+        None => None,
+    }
+}
+
+/// The command that explains the code that a word says.
+fn explanation_in(word: &str) -> Option<Command>
+    ensures command { result ≡ words.explanation_in (number_below 1000 word.now) }
+    ensures asked { IfSome result MayBeCarriedOut }
+{
+    match number_in(word) {
+        Some(code) if code < 1000 => explanation_of(code as u16),
         _ => None,
     }
 }
@@ -91,12 +116,13 @@ fn study_of(runs: &str, count: Option<u64>) -> Option<Command>
     Some(Command::Ask(Question::Study { runs, count }))
 }
 
-/// The command that two words name: `study`.
+/// The command that two words name: `explain` of a code, or `study`.
 fn command_of_two(name: &str, first: &str) -> Option<Command>
     ensures command { result ≡ words.command_of_two name.now first.now }
     ensures asked { IfSome result MayBeCarriedOut }
 {
     match name {
+        "explain" => explanation_in(first),
         "study" => study_of(first, Some(0)),
         _ => None,
     }
@@ -123,8 +149,9 @@ fn command_of_three(name: &str, first: &str, second: &str) -> Option<Command>
     }
 }
 
-/// The command that these words name: `explain`, `list`, `chart`; `trace` and two times below 2^63; `study`, a number of runs, 1 to
-/// 1,024, and perhaps a count below 2^64; `help`, `--help` or `--version`. Numbers are in decimal digits alone.
+/// The command that these words name: `explain`, and perhaps the code of a refusal; `list`, `chart`; `trace` and two times below
+/// 2^63; `study`, a number of runs, 1 to 1,024, and perhaps a count below 2^64; `help`, `--help` or `--version`. Numbers are in
+/// decimal digits alone.
 pub fn command_of(words: &[String]) -> Option<Command>
     ensures command { result ≡ command_in (map string_bytes words.now) }
     ensures asked { IfSome result MayBeCarriedOut }
