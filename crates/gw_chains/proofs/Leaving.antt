@@ -1,11 +1,11 @@
 -- Members in buckets: the first leaves them.
-use Rattle.std.proofs.Common.{◌≡◌, ◌≢◌, ◌∙◌, ℕ, ℤ, zero, suc, ◌-◌, ◌<◌, List, [], ◌∷◌, ◌++◌, Some, None, IsSome, Bool, true, false, if◌then◌else◌, refl, sym, ap, subst, arith, inl, inr}
+use Rattle.std.proofs.Common.{◌≡◌, ◌≢◌, ◌∙◌, ℕ, ℤ, zero, suc, ◌-◌, ◌<◌, List, [], ◌∷◌, ◌++◌, length, Option, Some, None, IsSome, Bool, true, false, if◌then◌else◌, refl, sym, ap, subst, arith, inl, inr}
 use Rattle.std.proofs.lemmas.Bool.{cases_eq}
 use Rattle.std.proofs.lemmas.Grind.{common_steps}
-use Rattle.std.specs.Prelude.{AllPairs, nat_le, option_map}
+use Rattle.std.specs.Prelude.{AllPairs, nat_le, option_map, option_to_list}
 use Rattle.std.specs.List.{AllByRecursion}
 use Rattle.gw_chains.specs.Chain.{first, rest}
-use Rattle.gw_chains.specs.Buckets.{times, last_or, Links, run, links_of, member_at, members_at, members_of, one_if_there, without_first_link, Before, IsBucket, AreBuckets}
+use Rattle.gw_chains.specs.Buckets.{times, last_or, Links, run, links_of, member_at, members_at, members_of, total, one_if_there, without_first_link, Before, IsBucket, AreBuckets}
 use Rattle.gw_chains.specs.declared.bucket.Bucket.{Bucket}
 use Rattle.gw_chains.specs.declared.bucket.Link.{Link}
 use Rattle.gw_chains.proofs.Places.{pairs_cons, pairs_first, pairs_rest}
@@ -135,3 +135,12 @@ module _ {X : Type 0} (rank : X → ℤ) where
       let whole : members_of S (b ∷ bs) ≡ s.0.member ∷ members_at S (behind ++ links_of S bs) = ap (λ zs. members_at S (zs ++ links_of S bs)) step ∙ ap (λ o. member_at o ++ members_at S (behind ++ links_of S bs)) s.1 in
       let shown : members_at S (run S b.count b.first) ≡ s.0.member ∷ members_at S behind = ap (members_at S) step ∙ ap (λ o. member_at o ++ members_at S behind) s.1 in
       ap Some (sym (subst (AllByRecursion (λ (y : X). rank y ≡ b.rank)) shown are.each.0.alike).0) ∙ sym (ap (λ es. option_map rank (first es)) whole)
+
+  -- somebody is the first where there are some
+  pub first_one : (S : Links X) (bs : List Bucket) → AreBuckets rank S bs → 0 < total bs → length (option_to_list (first (members_of S bs))) ≡ 1
+  first_one S [] are some = absurd (omega (arith, some))
+  first_one S (b ∷ bs) are some = by_case (first (members_of S (b ∷ bs))) (first_rank_of S (b ∷ bs) are)
+    where
+      by_case : (o : Option X) → Some b.rank ≡ option_map rank o → length (option_to_list o) ≡ 1
+      by_case None ranked = absurd cc
+      by_case (Some x) ranked = refl

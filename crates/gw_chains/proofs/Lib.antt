@@ -14,3 +14,4 @@ pub mod Filing
 pub mod Unlinking
 pub mod Spotting
 pub mod Taking
+pub mod Walking

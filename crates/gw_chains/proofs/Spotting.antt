@@ -155,7 +155,7 @@ pub link-first : {X : Type 0} (S : Links X) (bs : List Bucket) (n p : ℕ) (b : 
 link-first S bs n p b within is none =
     sym (ap (λ q. link_at S bs n q) none ∙ link-here S bs n 0 b within is ∙ ap (last_or b.first) (run_one S b.first))
 
-next_at : {X : Type 0} (S : Links X) (bs : List Bucket) (n q : ℕ) (l : Link X) → AreLed S (links_of S bs) → suc q < count_at bs n → S (link_at S bs n q) ≡ Some l → l.next ≡ link_at S bs n (suc q)
+pub next_at : {X : Type 0} (S : Links X) (bs : List Bucket) (n q : ℕ) (l : Link X) → AreLed S (links_of S bs) → suc q < count_at bs n → S (link_at S bs n q) ≡ Some l → l.next ≡ link_at S bs n (suc q)
 next_at S [] n q l led inside is = absurd (omega (arith, inside))
 next_at S (b ∷ bs) zero q l led inside is =
     sym (run_next S q b.first l (led_upto S (suc q) b.count b.first (omega (arith, inside)) (led_front S (run S b.count b.first) (links_of S bs) led)).leads is)

@@ -1,5 +1,5 @@
 -- Members in buckets: what is left where one has left from any place.
-use Rattle.std.proofs.Common.{◌≡◌, ◌≢◌, ◌∙◌, ℕ, ℤ, zero, suc, ◌+◌, ◌-◌, ◌<◌, ◌≤◌, List, [], ◌∷◌, ◌++◌, length, Option, Some, None, Bool, true, false, if◌then◌else◌, refl, sym, ap, subst, arith, append_assoc, length-append, inl, inr}
+use Rattle.std.proofs.Common.{◌≡◌, ◌≢◌, ◌∙◌, ℕ, ℤ, zero, suc, ◌+◌, ◌-◌, ◌<◌, ◌≤◌, List, [], ◌∷◌, ◌++◌, length, get_or, Option, Some, None, Bool, true, false, if◌then◌else◌, refl, sym, ap, subst, arith, append_assoc, length-append, inl, inr}
 use Rattle.std.proofs.lemmas.Bool.{cases_eq}
 use Rattle.std.proofs.lemmas.Grind.{common_steps}
 use Rattle.std.specs.Prelude.{All, AllPairs, nat_le, nat_lt, ◌==◌, ◌&&◌, remove, slice_get}
@@ -14,7 +14,7 @@ use Rattle.gw_chains.proofs.Places.{pairs_cons, pairs_first, pairs_rest}
 use Rattle.gw_chains.proofs.Turning.{remove-middle}
 use Rattle.gw_chains.proofs.Linking.{once-same, once-other, times-append, some_of, Alike, run-same, links-same, members-same, members-append, bucket-same, buckets-same, AreLed, led_back, led_front}
 use Rattle.gw_chains.proofs.Joining.{led_of}
-use Rattle.gw_chains.proofs.Spotting.{place_first, link_within}
+use Rattle.gw_chains.proofs.Spotting.{filled, place_first, link-first, link_within}
 use Rattle.gw_chains.proofs.Unlinking.{middle, all_without, run_length, led_upto, parted, Passed, left_run, left_before, left_last}
 
 members_length : {X : Type 0} (S : Links X) (ks : List ℕ) → AreThere S ks → length (members_at S ks) ≡ length ks
@@ -71,6 +71,13 @@ stands_there rank S bs s l are inside is =
     ap (λ n. slice_get (members_of S bs) n) (sym place)
     ∙ ap (λ es. slice_get es (length (members_at S found.front))) shown
     ∙ middle (members_at S found.front) l.member (members_at S found.back)
+
+-- the first of all stands at the first link of the first bucket
+pub stands_first : {X : Type 0} (rank : X → ℤ) (S : Links X) (bs : List Bucket) (b : Bucket) (l : Link X) → AreBuckets rank S bs → 0 < length bs → b ≡ get_or bs 0 b → S b.first ≡ Some l → slice_get (members_of S bs) 0 ≡ Some l.member
+stands_first rank S bs b l are some is there =
+    let s : Spot = record { bucket = 0; passed = 0; before = 0 } in
+    ap (λ n. slice_get (members_of S bs) n) (sym (place_first bs 0))
+    ∙ stands_there rank S bs s l are (filled rank S bs are.each 0 some) (sym (ap S (link-first S bs 0 0 b some is refl)) ∙ there)
 
 -- WHAT IS LEFT
 

@@ -3,12 +3,19 @@ use Rattle.std.specs.Prelude.{◌≡◌, ◌<◌, ◌≤◌, ◌&&◌, ℕ, zero
 use Rattle.gw_chains.specs.Buckets.{times, last_or, Links, run, linked_to}
 use Rattle.gw_chains.specs.declared.bucket.Bucket.{Bucket}
 use Rattle.gw_chains.specs.declared.spot.Spot.{Spot}
+use Rattle.gw_chains.specs.declared.walk.Walk.{Walk}
 
 -- how many the bucket of a number has; none where there is no such bucket
 abbrev pub count_at : List Bucket → ℕ → ℕ
 count_at [] n = 0
 count_at (b ∷ bs) zero = b.count
 count_at (b ∷ bs) (suc n) = count_at bs n
+
+-- the first link of the bucket of a number; 0 where there is no such bucket
+abbrev pub first_at : List Bucket → ℕ → ℕ
+first_at [] n = 0
+first_at (b ∷ bs) zero = b.first
+first_at (b ∷ bs) (suc n) = first_at bs n
 
 -- how many stand before the bucket of a number, and so many of its own
 abbrev pub place_at : List Bucket → ℕ → ℕ → ℕ
@@ -39,6 +46,13 @@ module _ {X : Type 0} (links : Links X) where
   pub record IsSpot (bs : List Bucket) (s : Spot) : Type 0 where
     pub within : s.passed ≤ count_at bs s.bucket
     pub before : 0 < s.passed → s.before ≡ link_at bs s.bucket (s.passed - 1)
+
+  -- a walk is at a member or at the end of all; it names the link there, and how many of the bucket are left
+  pub record IsWalk (bs : List Bucket) (w : Walk) : Type 0 where
+    pub spot : IsSpot bs w.spot
+    pub settled : IsSettled bs w.spot
+    pub left : w.spot.passed + w.left ≡ count_at bs w.spot.bucket
+    pub here : 0 < w.left → w.here ≡ link_at bs w.spot.bucket w.spot.passed
 
   -- the links, where the one before a spot, if there is one, leads to another
   abbrev pub led_past : Spot → ℕ → Links X

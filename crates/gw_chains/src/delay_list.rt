@@ -6,9 +6,10 @@ ghost use Rattle.gw_chains.specs.declared.tx.Member.{Member};
 
 use crate::bucket::{Bucket, Link};
 use crate::buckets::reserve_links;
-use crate::row::{insert_behind, unlink};
-use crate::spot::{Spot, member_at, settle, spot_behind, spot_of, start_of};
+use crate::row::{insert_behind, remove_member, unlink};
+use crate::spot::member_at;
 use crate::tx::MOST;
+use crate::walk::{Walk, advance, walk_at, walk_from};
 use crate::{Member, Memory, Tx};
 use slab::Slab;
 use std::alloc::Global;
@@ -26,7 +27,7 @@ pub struct DelayList {
     // How many members there are.
     count: usize,
     // Where the walk has come: to a member, or to the end.
-    walk: Spot,
+    walk: Walk,
 }
 
 impl Model for DelayList {
@@ -35,7 +36,7 @@ impl Model for DelayList {
     ghost use Rattle.slab.specs.Slab.{get, slab_len};
     ghost use Rattle.gw_chains.specs.Lists.{Walked, room_of};
     ghost use Rattle.gw_chains.specs.Buckets.{members_of, total, AreBuckets};
-    ghost use Rattle.gw_chains.specs.Spots.{place_at, IsSpot, IsSettled};
+    ghost use Rattle.gw_chains.specs.Spots.{place_at, IsWalk};
     ghost use Rattle.gw_chains.specs.declared.tx.Member.{Member};
 
     ghost Value = { Walked };
@@ -45,14 +46,13 @@ impl Model for DelayList {
         × (l.count ≡ length (members_of (get l.links) l.buckets.items))
         × (l.count ≡ total l.buckets.items)
         × (l.count ≤ 2 ^ 62)
-        × IsSpot (get l.links) l.buckets.items l.walk
-        × IsSettled l.buckets.items l.walk };
+        × IsWalk (get l.links) l.buckets.items l.walk };
 
     ghost view = { λ l. record {
       members = members_of (get l.links) l.buckets.items;
       room = room_of l.count (min (l.links.capacity - slab_len l.links)
           (deque_capacity l.buckets - deque_len l.buckets));
-      place = place_at l.buckets.items l.walk.bucket l.walk.passed;
+      place = place_at l.buckets.items l.walk.spot.bucket l.walk.spot.passed;
     } };
 }
 
@@ -62,11 +62,13 @@ impl DelayList {
         ensures members { result.members ≡ [] }
         ensures place { result.place ≡ 0 }
     {
+        let buckets = VecDeque::new(alloc);
+        let walk = walk_from(&buckets, 0);
         DelayList {
-            buckets: VecDeque::new(alloc),
+            buckets,
             links: Slab::new(alloc),
             count: 0,
-            walk: start_of(0),
+            walk,
         }
     }
 
@@ -99,8 +101,7 @@ impl DelayList {
         if self.count <= place {
             return None;
         }
-        let spot = spot_of(&self.buckets, &self.links, place);
-        Some(member_at(&self.buckets, &self.links, spot).tx)
+        Some(member_at(&self.buckets, &self.links, place).tx)
     }
 
     /// Puts it behind its peers: behind all of equal or higher priority. There is room. The walk is at the first again.
@@ -115,7 +116,7 @@ impl DelayList {
         let member = Member { tx, priority };
         insert_behind(&mut self.buckets, &mut self.links, member);
         self.count += 1;
-        self.walk = start_of(0);
+        self.walk = walk_from(&self.buckets, 0);
     }
 
     /// Removes the member at this place, from 0. There is one. The walk is at the first again.
@@ -126,10 +127,9 @@ impl DelayList {
         ensures place { self.new.place ≡ 0 }
         ensures room { self.old.room ≤ self.new.room }
     {
-        let spot = spot_of(&self.buckets, &self.links, place);
-        let _ = unlink(&mut self.buckets, &mut self.links, spot);
+        remove_member(&mut self.buckets, &mut self.links, place);
         self.count -= 1;
-        self.walk = start_of(0);
+        self.walk = walk_from(&self.buckets, 0);
     }
 
     /// Begins a walk at the first member.
@@ -138,7 +138,7 @@ impl DelayList {
         ensures place { self.new.place ≡ 0 }
         ensures room { self.old.room ≤ self.new.room }
     {
-        self.walk = start_of(0);
+        self.walk = walk_from(&self.buckets, 0);
     }
 
     /// The transaction to which the walk has come, if it is not at the end.
@@ -146,10 +146,10 @@ impl DelayList {
         ensures value { result ≡ option_map (λ m. m.tx) (slice_get self.now.members self.now.place) }
         ensures there { IsSome result ↔ (self.now.place < length self.now.members) }
     {
-        if self.buckets.len() <= self.walk.bucket {
+        if self.walk.left == 0 {
             return None;
         }
-        Some(member_at(&self.buckets, &self.links, self.walk).tx)
+        Some(self.links[self.walk.here].member.tx)
     }
 
     /// The walk goes on past the member to which it has come. It is not at the end.
@@ -159,8 +159,7 @@ impl DelayList {
         ensures place { self.new.place ≡ self.old.place + 1 }
         ensures room { self.old.room ≤ self.new.room }
     {
-        let behind = spot_behind(&self.buckets, &self.links, self.walk);
-        self.walk = settle(&self.buckets, behind);
+        advance(&mut self.walk, &self.buckets, &self.links);
     }
 
     /// Takes out the member to which the walk has come, which is then at the next. It is not at
@@ -172,8 +171,8 @@ impl DelayList {
         ensures place { self.new.place ≡ self.old.place }
         ensures room { self.old.room ≤ self.new.room }
     {
-        let _ = unlink(&mut self.buckets, &mut self.links, self.walk);
+        let _ = unlink(&mut self.buckets, &mut self.links, self.walk.spot);
         self.count -= 1;
-        self.walk = settle(&self.buckets, self.walk);
+        self.walk = walk_at(&self.buckets, &self.links, self.walk.spot);
     }
 }

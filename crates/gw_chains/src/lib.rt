@@ -23,6 +23,7 @@ mod spot;
 mod tx;
 mod user_chains;
 mod waits;
+mod walk;
 
 pub use assemblies::{Assemblies, Assembly};
 pub use cec::Cec;

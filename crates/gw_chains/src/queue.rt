@@ -9,7 +9,7 @@ ghost use Rattle.gw_chains.specs.declared.tx.Member.{Member};
 use crate::{Member, Tx};
 use std::collections::VecDeque;
 
-/// Inserts where there is room, so that no memory is taken and nothing can be refused. At the end nobody moves.
+/// Inserts where there is room, so that no memory is taken and nothing can be refused. At either end nobody moves.
 pub fn insert_reserved<T: Drop>(queue: &mut VecDeque<T>, place: usize, newcomer: T)
     requires within { place ≤ deque_len queue.old }
     requires room { deque_len queue.old < deque_capacity queue.old }
@@ -19,6 +19,10 @@ pub fn insert_reserved<T: Drop>(queue: &mut VecDeque<T>, place: usize, newcomer:
 {
     if place == queue.len() {
         queue.push_back_reserved(newcomer);
+        return;
+    }
+    if place == 0 {
+        queue.push_front_reserved(newcomer);
         return;
     }
     let _ = queue.insert(place, newcomer);

@@ -11,7 +11,7 @@ use crate::bucket::{Bucket, Link, Ranked};
 use crate::buckets::{alone, link_behind};
 use crate::chunks::{join, replace_front};
 use crate::queue::insert_reserved;
-use crate::spot::{Spot, link_at};
+use crate::spot::{Spot, link_at, spot_of};
 use slab::Slab;
 use std::collections::VecDeque;
 
@@ -263,4 +263,29 @@ pub(crate) fn unlink<T: Ranked>(
     lead_past(links, spot, link.next);
     shorten_at(row, spot, link.next);
     link.member
+}
+
+/// Takes out the member at this place of all, from 0. There is one.
+pub(crate) fn remove_member<T: Ranked>(
+    row: &mut VecDeque<Bucket>,
+    links: &mut Slab<Link<T>>,
+    place: usize,
+)
+    requires buckets { AreBuckets T.rank (get links.old) row.old.items }
+    requires there { place < total row.old.items }
+    ensures members { members_of (get links.new) row.new.items
+        ≡ remove (members_of (get links.old) row.old.items) place }
+    ensures buckets { AreBuckets T.rank (get links.new) row.new.items }
+    ensures total { total row.new.items + 1 ≡ total row.old.items }
+    ensures room { (deque_len row.new ≤ deque_len row.old)
+        × (deque_capacity row.new ≡ deque_capacity row.old) }
+    ensures links { (slab_len links.new ≤ slab_len links.old)
+        × (links.new.capacity ≡ links.old.capacity) }
+{
+    if place == 0 {
+        let _ = pop_member(row, links);
+    } else {
+        let spot = spot_of(row, links, place);
+        let _ = unlink(row, links, spot);
+    }
 }

@@ -1,7 +1,6 @@
 //! Where a member stands among buckets in a row, as a walk over them comes to it.
 
-ghost use Rattle.std.specs.Prelude.{◌≡◌, ◌≤◌, ◌<◌, ◌+◌, ◌^◌, ◌⊎◌, Some, slice_get};
-ghost use Rattle.std.specs.VecDeque.{deque_len};
+ghost use Rattle.std.specs.Prelude.{◌≡◌, ◌≤◌, ◌<◌, ◌⊎◌, Some, slice_get};
 ghost use Rattle.slab.specs.Slab.{get};
 ghost use Rattle.gw_chains.specs.Buckets.{run, last_or, total, members_of, AreBuckets};
 ghost use Rattle.gw_chains.specs.Spots.{count_at, place_at, link_at, AreThere, AreFilled, IsSpot, IsSettled};
@@ -114,35 +113,15 @@ pub(crate) fn spot_of<T: Ranked>(
     }
 }
 
-/// The member at a spot. There is one.
-pub(crate) fn member_at<T: Ranked>(row: &VecDeque<Bucket>, links: &Slab<Link<T>>, spot: Spot) -> T
+/// The member at this place of all, from 0. There is one.
+pub(crate) fn member_at<T: Ranked>(row: &VecDeque<Bucket>, links: &Slab<Link<T>>, place: usize) -> T
     requires buckets { AreBuckets T.rank (get links.now) row.now.items }
-    requires spot { IsSpot (get links.now) row.now.items spot }
-    requires there { spot.passed < count_at row.now.items spot.bucket }
-    ensures { let place = place_at row.now.items spot.bucket spot.passed in
-        slice_get (members_of (get links.now) row.now.items) place ≡ Some result }
+    requires there { place < total row.now.items }
+    ensures { slice_get (members_of (get links.now) row.now.items) place ≡ Some result }
 {
-    let link = link_at(row, links, spot);
-    links[link].member
-}
-
-/// The spot behind the member at a spot. There is one.
-pub(crate) fn spot_behind<T: Ranked>(
-    row: &VecDeque<Bucket>,
-    links: &Slab<Link<T>>,
-    spot: Spot,
-) -> Spot
-    requires buckets { AreBuckets T.rank (get links.now) row.now.items }
-    requires spot { IsSpot (get links.now) row.now.items spot }
-    requires there { spot.passed < count_at row.now.items spot.bucket }
-    requires few { total row.now.items ≤ 2 ^ 62 }
-    ensures spot { IsSpot (get links.now) row.now.items result }
-    ensures place { place_at row.now.items result.bucket result.passed
-        ≡ place_at row.now.items spot.bucket spot.passed + 1 }
-{
-    Spot {
-        bucket: spot.bucket,
-        passed: spot.passed + 1,
-        before: link_at(row, links, spot),
+    if place == 0 {
+        return links[row[0].first].member;
     }
+    let spot = spot_of(row, links, place);
+    links[link_at(row, links, spot)].member
 }

@@ -5,7 +5,8 @@ use Rattle.gw_chains.specs.Lists.{Walked}
 use Rattle.gw_chains.specs.Buckets.{members_of}
 use Rattle.gw_chains.specs.declared.tx.Member.{Member}
 use Rattle.gw_chains.proofs.Places.{length-placed}
-use Rattle.gw_chains.proofs.Spotting.{filled, place_start, spot_first, settled_first}
+use Rattle.gw_chains.proofs.Spotting.{filled, place_start}
+use Rattle.gw_chains.proofs.Walking.{walk_begun}
 use Rattle.gw_chains.proofs.delay_list.DelayList.insert_behind.Goals as goal
 
 pub invariant_of-self : goal.invariant_of-self
@@ -17,8 +18,9 @@ invariant_of-self c =
       omega (arith, ap length c.insert_behind.ensures.members, more, c.self.invariant.1),
       omega (arith, c.insert_behind.ensures.total, c.self.invariant.2),
       omega (arith, ap (λ (v : Walked). v.room) c.self.view_is, c.requires),
-      spot_first (get c.insert_behind.new.links) c.insert_behind.new.row.items c.start_of-self-inside.result c.start_of-self-inside.ensures.passed,
-      settled_first c.insert_behind.new.row.items c.start_of-self-inside.result (filled (λ (m : Member). neg_ℤ m.priority) (get c.insert_behind.new.links) c.insert_behind.new.row.items c.insert_behind.ensures.buckets.each) c.start_of-self-inside.ensures.passed,
+      walk_begun (get c.insert_behind.new.links) c.insert_behind.new.row.items c.walk_from-self-inside.result 0
+          (filled (λ (m : Member). neg_ℤ m.priority) (get c.insert_behind.new.links) c.insert_behind.new.row.items c.insert_behind.ensures.buckets.each) c.walk_from-self-inside.ensures.bucket c.walk_from-self-inside.ensures.passed
+          c.walk_from-self-inside.ensures.here c.walk_from-self-inside.ensures.left,
     )
 
 pub returns-clause-len : goal.returns-clause-len
@@ -29,4 +31,4 @@ returns-clause-len c =
     omega (arith, ap length c.insert_behind.ensures.members, more, ap (λ (v : Walked). length v.members) c.self.view_is)
 
 pub returns-clause-place : goal.returns-clause-place
-returns-clause-place c = place_start c.insert_behind.new.row.items c.start_of-self-inside.result c.start_of-self-inside.ensures.bucket c.start_of-self-inside.ensures.passed
+returns-clause-place c = place_start c.insert_behind.new.row.items c.walk_from-self-inside.result.spot c.walk_from-self-inside.ensures.bucket c.walk_from-self-inside.ensures.passed

@@ -1,7 +1,7 @@
 use Rattle.std.proofs.Common.{◌≡◌, ◌∙◌, List, Option, None, length, ap, subst, sym, slice_index_or, neg_ℤ}
 use Rattle.slab.specs.Slab.{get}
 use Rattle.gw_chains.specs.Buckets.{Links, members_of, AreBuckets}
-use Rattle.gw_chains.specs.Spots.{IsSpot}
+use Rattle.gw_chains.specs.Spots.{IsWalk}
 use Rattle.gw_chains.specs.declared.bucket.Link.{Link}
 use Rattle.gw_chains.specs.declared.tx.Member.{Member}
 use Rattle.gw_chains.proofs.delay_list.DelayList.reserve.Goals as goal
@@ -18,8 +18,7 @@ invariant_of-self c =
       c.self.invariant.1 ∙ ap (λ (S : Links Member). length (members_of S bs)) same,
       c.self.invariant.2,
       c.self.invariant.3,
-      subst (λ (S : Links Member). IsSpot S bs c.self.inside.walk) same c.self.invariant.4,
-      c.self.invariant.5,
+      subst (λ (S : Links Member). IsWalk S bs c.self.inside.walk) same c.self.invariant.4,
     )
 
 pub invariant_of-self-2 : goal.invariant_of-self-2
@@ -30,6 +29,5 @@ invariant_of-self-2 c =
       rw c.reserve.ensures.items (c.self.invariant.1 ∙ ap (λ (S : Links Member). length (members_of S bs)) same),
       rw c.reserve.ensures.items c.self.invariant.2,
       c.self.invariant.3,
-      rw c.reserve.ensures.items (subst (λ (S : Links Member). IsSpot S bs c.self.inside.walk) same c.self.invariant.4),
-      rw c.reserve.ensures.items c.self.invariant.5,
+      rw c.reserve.ensures.items (subst (λ (S : Links Member). IsWalk S bs c.self.inside.walk) same c.self.invariant.4),
     )

@@ -1,20 +1,16 @@
-use Rattle.std.proofs.Common.{length, ap, arith, neg_ℤ}
+use Rattle.std.proofs.Common.{length, ap, arith}
 use Rattle.std.proofs.lemmas.List.Edits.{length-remove}
 use Rattle.slab.specs.Slab.{get}
 use Rattle.gw_chains.specs.Buckets.{members_of}
 use Rattle.gw_chains.specs.Lists.{Walked}
 use Rattle.gw_chains.specs.Spots.{place_at}
-use Rattle.gw_chains.specs.declared.tx.Member.{Member}
-use Rattle.gw_chains.proofs.Spotting.{is_inside, filled, spot_settled}
+use Rattle.gw_chains.proofs.Spotting.{is_inside}
 use Rattle.gw_chains.proofs.delay_list.DelayList.take.Goals as goal
 
 pub unlink-requires-clause-there : goal.unlink-requires-clause-there
 unlink-requires-clause-there c =
     let asked = rw (← c.self.view_is) at c.requires in
-    is_inside c.self.inside.buckets.items c.self.inside.walk c.self.invariant.5 (omega (arith, asked, c.self.invariant.1, c.self.invariant.2))
-
-pub settle-self-inside-requires-clause-filled : goal.settle-self-inside-requires-clause-filled
-settle-self-inside-requires-clause-filled c = filled (λ (m : Member). neg_ℤ m.priority) (get c.unlink.new.links) c.unlink.new.row.items c.unlink.ensures.buckets.each
+    is_inside c.self.inside.buckets.items c.self.inside.walk.spot c.self.invariant.4.settled (omega (arith, asked, c.self.invariant.1, c.self.invariant.2))
 
 pub overflow_sub-self : goal.overflow_sub-self
 overflow_sub-self c = omega (arith, c.unlink.ensures.total, c.self.invariant.2)
@@ -22,17 +18,16 @@ overflow_sub-self c = omega (arith, c.unlink.ensures.total, c.self.invariant.2)
 pub invariant_of-self : goal.invariant_of-self
 invariant_of-self c =
     let asked = rw (← c.self.view_is) at c.requires in
-    let fewer = length-remove (members_of (get c.self.inside.links) c.self.inside.buckets.items) (place_at c.self.inside.buckets.items c.self.inside.walk.bucket c.self.inside.walk.passed) asked in (
+    let fewer = length-remove (members_of (get c.self.inside.links) c.self.inside.buckets.items) (place_at c.self.inside.buckets.items c.self.inside.walk.spot.bucket c.self.inside.walk.spot.passed) asked in (
       c.unlink.ensures.buckets,
       omega (arith, ap length c.unlink.ensures.members, fewer, c.self.invariant.1),
       omega (arith, c.unlink.ensures.total, c.self.invariant.2),
       omega (arith, c.self.invariant.3),
-      spot_settled (get c.unlink.new.links) c.unlink.new.row.items c.self.inside.walk c.settle-self-inside.result c.unlink.ensures.spot c.settle-self-inside.ensures.kept,
-      c.settle-self-inside.ensures.settled,
+      c.walk_at-self-inside.ensures.walk,
     )
 
 pub returns-clause-len : goal.returns-clause-len
 returns-clause-len c =
     let asked = rw (← c.self.view_is) at c.requires in
-    let fewer = length-remove (members_of (get c.self.inside.links) c.self.inside.buckets.items) (place_at c.self.inside.buckets.items c.self.inside.walk.bucket c.self.inside.walk.passed) asked in
+    let fewer = length-remove (members_of (get c.self.inside.links) c.self.inside.buckets.items) (place_at c.self.inside.buckets.items c.self.inside.walk.spot.bucket c.self.inside.walk.spot.passed) asked in
     omega (arith, ap length c.unlink.ensures.members, fewer, ap (λ (v : Walked). length v.members) c.self.view_is)
