@@ -3,7 +3,8 @@
 ghost use Rattle.std.specs.Prelude.{IfOk};
 ghost use Rattle.damage.specs.Outcome.{IsVerdict, IsOutcome};
 
-use gw_object::{Fault, Memory, Object, codes, read, write};
+use gw_object::{Fault, Memory, Object, codes};
+use gw_object_bytes::{read, write};
 use gw_report::report;
 use gw_scan::{Sim, Spec, StartFault, Status};
 use gw_verify::{Verified, verify};

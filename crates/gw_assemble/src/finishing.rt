@@ -16,6 +16,7 @@ use gw_flow::check_plus;
 use gw_kinds::check_kinds;
 use gw_object::codes::MEMORY;
 use gw_object::{Fault, Object, Parts, Place};
+use gw_object_bytes::build;
 use gw_settle::settle;
 use gw_verify::{Verified, verify};
 use gw_weighing::weigh;
@@ -92,7 +93,7 @@ pub(crate) fn finish(alloc: Global, parts: Parts) -> Result<Verified, Fault>
     ensures verified { IfOk result IsAccepted }
     ensures refused { IfErr result (HasNoCompletion parts) }
 {
-    match Object::build(parts) {
+    match build(parts) {
         Ok(object) => completed(alloc, object),
         Err(_) => Err(PAST_LIMIT),
     }

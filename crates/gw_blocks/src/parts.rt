@@ -1,6 +1,8 @@
 //! A block and its operands, as plain records and enums. Their limits are the object format's (docs/object-format.md);
 //! what the blocks mean is in the GPSS World Reference Manual, chapter 7.
 
+use gw_fields::Keyed;
+
 /// A system numerical attribute of the clock, the termination count or the active transaction.
 #[derive(Clone, Copy, Debug, PartialEq, Eq)]
 pub enum Attribute {
@@ -103,6 +105,14 @@ pub struct Units {
     pub entity: u16,
     /// How many units.
     pub number: u32,
+}
+
+impl Keyed for Units {
+    ghost key_of = { λ u. u.entity };
+
+    fn key(&self) -> u16 {
+        self.entity
+    }
 }
 
 /// The operands of a TRANSFER block in fractional mode.

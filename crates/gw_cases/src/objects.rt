@@ -4,7 +4,8 @@ use crate::patches::{apply, splice};
 use crate::stop::Stop;
 use crate::words::words_of;
 use gw_assemble::assemble;
-use gw_object::{Object, Parts, read, write};
+use gw_object::{Object, Parts};
+use gw_object_bytes::{build, read, write};
 use gw_text::{Model, parse};
 use gw_verify::{Verified, verify};
 use std::alloc::Global;
@@ -65,7 +66,7 @@ fn patch(alloc: Global, parts: &mut Parts, patches: &[&[u8]]) -> Result<(), Stop
 
 /// The object of parts.
 fn built(parts: Parts) -> Result<Object, Stop> {
-    match Object::build(parts) {
+    match build(parts) {
         Ok(object) => Ok(object),
         Err((_, fault)) => Err(Stop::from(fault)),
     }

@@ -4,8 +4,10 @@ use crate::bytes::put_words;
 use crate::rows::chain_place;
 use crate::stop::Stop;
 use crate::words::{number, number_in, number_u8, number_u16, number_u32, place};
+use gw_block_bytes::BlockFormat;
 use gw_blocks::{Block, Units};
 use gw_code::Procedure;
+use gw_code_bytes::CodeFormat;
 use gw_fields::Spelled;
 use gw_object::{Entity, Items, Parts, ReturnRow, TableKind, TableParameter, TableState};
 use std::alloc::{AllocError, Global};
@@ -60,7 +62,7 @@ fn block_place(word: &[u8]) -> Result<usize, Stop> {
 }
 
 /// The value that words spell, wholly.
-fn spelled<T: Spelled>(alloc: Global, words: &[&[u8]]) -> Result<T, Stop> {
+fn spelled<Format, T: Spelled<Format>>(alloc: Global, words: &[&[u8]]) -> Result<T, Stop> {
     let mut bytes = Vec::new(alloc);
     put_words(&mut bytes, words)?;
     match T::read(alloc, bytes.as_slice()) {
@@ -83,7 +85,7 @@ fn patch_block(
             put_at(alloc, &mut parts.weights, block, weight)
         }
         [b"bytes", bytes @ ..] => {
-            let value: Block = spelled(alloc, bytes)?;
+            let value = spelled::<BlockFormat, Block>(alloc, bytes)?;
             put_at(alloc, &mut parts.blocks, block, value)
         }
         _ => Err(Stop::Unknown),
@@ -247,7 +249,7 @@ pub fn apply(alloc: Global, parts: &mut Parts, words: &[&[u8]]) -> Result<(), St
         [b"block", block, rest @ ..] => { patch_block(alloc, parts, block_place(block)?, rest) }
         [b"chain", chain, rest @ ..] => patch_chain(alloc, parts, chain, rest),
         [b"procedure", procedure, b"bytes", bytes @ ..] => {
-            let value: Procedure = spelled(alloc, bytes)?;
+            let value = spelled::<CodeFormat, Procedure>(alloc, bytes)?;
             put_at(alloc, &mut parts.procedures, place(procedure)?, value)
         }
         [b"return", blocks @ ..] => {

@@ -7,6 +7,7 @@ use gw_chains::UserChains;
 use gw_code::Procedure;
 use gw_entities::{Facilities, Queues, Savevalues, Storages, Switches, Tables};
 use gw_object::{Entity, Function, Items, Kind, Memory, Object, Parts, Point};
+use gw_object_bytes::build;
 use gw_samples::{add_entity, empty_parts, no_states, terminate};
 use std::alloc::Global;
 use std::test::Fail;
@@ -66,7 +67,7 @@ fn parts_of(alloc: Global, procedures: Vec<Procedure>) -> Result<Parts, Memory> 
 
 /// An object of these procedures, with eight entities, and two blocks to which nobody comes.
 pub(crate) fn object_of(alloc: Global, procedures: Vec<Procedure>) -> Result<Object, Fail> {
-    match Object::build(parts_of(alloc, procedures)?) {
+    match build(parts_of(alloc, procedures)?) {
         Ok(object) => Ok(object),
         Err(_) => Err(Fail::from("the parts have a spelling")),
     }

@@ -7,6 +7,7 @@ use gw_names::{Known, Ledger, known_names};
 use gw_object::{
     Entity, Fault, Memory, Object, Parts, Place, TableKind, TableParameter, TableState, codes, read,
 };
+use gw_object_bytes::build;
 use gw_pieces::parts_of;
 use gw_report::text::{put, put_number};
 use gw_settle::table_of;
@@ -372,7 +373,7 @@ fn put_of_parts(
     names: &IndexMap<String, u8>,
     fault: Fault,
 ) -> Result<(), Memory> {
-    match Object::build(parts) {
+    match build(parts) {
         Ok(object) => put_of_object(alloc, out, &object, names, fault),
         Err(_) => Ok(()),
     }

@@ -6,11 +6,11 @@ ghost use Rattle.gw_fields.specs.Answers.{Gives};
 
 use crate::codes::*;
 use crate::error::*;
-use crate::spelled::Spelled;
+use crate::spelled::{NumberFormat, Spelled};
 use std::alloc::Global;
 
-/// A value for which a byte stands.
-pub trait OneByte: Copy + Drop {
+/// A value for which a byte stands, in a format.
+pub trait OneByte<Format>: Copy + Drop {
     /// The byte that stands for a value.
     ghost byte_of: { Self → ℕ };
 
@@ -26,7 +26,7 @@ pub trait OneByte: Copy + Drop {
         ensures { result ≡ value_of byte_of values byte };
 }
 
-impl OneByte for bool {
+impl OneByte<NumberFormat> for bool {
     ghost byte_of = { flag_byte };
 
     ghost values = { false ∷ true ∷ [] };
@@ -45,7 +45,10 @@ impl OneByte for bool {
 }
 
 /// A value, by the byte that stands for it.
-pub fn read_one_of<T: OneByte>(alloc: Global, bytes: &[u8]) -> Result<(T, &[u8]), ReadError>
+pub fn read_one_of<Format, T: OneByte<Format>>(
+    alloc: Global,
+    bytes: &[u8],
+) -> Result<(T, &[u8]), ReadError>
     ensures { Gives (λ x. (x.0, x.1.now)) result ((one_of T.byte_of T.values).read bytes.now) }
 {
     let (byte, rest) = u8::read(alloc, bytes)?;

@@ -24,6 +24,6 @@ pub use numbers::{
     put_count, read_count, read_ranged_u8, read_ranged_u16, read_ranged_u32, read_ranged_u64,
     room_after_count,
 };
-pub use spelled::Spelled;
+pub use spelled::{NumberFormat, Spelled};
 /// The answer where there was no memory.
 pub use std::alloc::AllocError as Memory;

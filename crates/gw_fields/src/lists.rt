@@ -119,10 +119,10 @@ pub fn read_listed<L: Elements>(
     read_elements::<L>(alloc, count, rest)
 }
 
-/// A list whose elements depend on no others.
-pub struct Plain<T>(PhantomData<T>);
+/// A list of values of a format, of which none depends on others.
+pub struct Plain<Format, T>(PhantomData<(Format, T)>);
 
-impl<T: Spelled> Elements for Plain<T> {
+impl<Format, T: Spelled<Format>> Elements for Plain<Format, T> {
     type Item = T;
 
     ghost element_spelling = { T.spelling };

@@ -8,10 +8,10 @@ ghost use Rattle.gw_fields.specs.Answers.{Gives};
 use crate::Memory;
 use crate::codes::*;
 use crate::error::*;
-use crate::spelled::Spelled;
+use crate::spelled::{NumberFormat, Spelled};
 use std::alloc::Global;
 
-impl Spelled for u8 {
+impl Spelled<NumberFormat> for u8 {
     ghost spelling = { byte.spell };
 
     ghost reading = { byte.read };
@@ -33,7 +33,7 @@ impl Spelled for u8 {
     }
 }
 
-impl Spelled for u16 {
+impl Spelled<NumberFormat> for u16 {
     ghost spelling = { (number w16).spell };
 
     ghost reading = { (number w16).read };
@@ -56,7 +56,7 @@ impl Spelled for u16 {
     }
 }
 
-impl Spelled for u32 {
+impl Spelled<NumberFormat> for u32 {
     ghost spelling = { (number w32).spell };
 
     ghost reading = { (number w32).read };
@@ -79,7 +79,7 @@ impl Spelled for u32 {
     }
 }
 
-impl Spelled for u64 {
+impl Spelled<NumberFormat> for u64 {
     ghost spelling = { (number w64).spell };
 
     ghost reading = { (number w64).read };
@@ -104,7 +104,7 @@ impl Spelled for u64 {
     }
 }
 
-impl Spelled for i32 {
+impl Spelled<NumberFormat> for i32 {
     ghost spelling = { (signed w32).spell };
 
     ghost reading = { (signed w32).read };
@@ -123,7 +123,7 @@ impl Spelled for i32 {
     }
 }
 
-impl Spelled for i64 {
+impl Spelled<NumberFormat> for i64 {
     ghost spelling = { (signed w64).spell };
 
     ghost reading = { (signed w64).read };
@@ -142,7 +142,7 @@ impl Spelled for i64 {
     }
 }
 
-impl<T: Spelled> Spelled for Option<T> {
+impl<Format, T: Spelled<Format>> Spelled<Format> for Option<T> {
     ghost spelling = { optional_spelling T.spelling };
 
     ghost reading = { optional_read T.reading };

@@ -8,8 +8,12 @@ use crate::Memory;
 use crate::error::ReadError;
 use std::alloc::Global;
 
-/// A value that stands in bytes in one way.
-pub trait Spelled: Drop {
+/// The format of numbers and truth values.
+pub struct NumberFormat;
+
+/// A value that stands in bytes in one way. The format is a type of the crate that says which way: so a crate may say it of
+/// the types of crates below it.
+pub trait Spelled<Format>: Drop {
     /// The bytes that spell a value.
     ghost spelling: { Self → List ℕ };
 

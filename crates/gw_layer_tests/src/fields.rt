@@ -2,7 +2,8 @@
 
 use gw_fields::codes::TAG;
 use gw_fields::{
-    Memory, Plain, ReadError, Spelled, read_listed, room_after_count, room_after_listed,
+    Memory, NumberFormat, Plain, ReadError, Spelled, read_listed, room_after_count,
+    room_after_listed,
 };
 use std::alloc::Global;
 use std::test::Fail;
@@ -30,7 +31,12 @@ fn numbers_stand_with_their_highest_byte_first(rt: HostRuntime) -> Result<(), Fa
 
 /// Whether two numbers behind their count are read, with a byte after them; and what lists and flags are not.
 fn lists_are_read(alloc: Global) -> bool {
-    let read = match read_listed::<Plain<u16>>(alloc, b"\x02\0\x01\x01\x02\x09", 0, 2) {
+    let read = match read_listed::<Plain<NumberFormat, u16>>(
+        alloc,
+        b"\x02\0\x01\x01\x02\x09",
+        0,
+        2,
+    ) {
         Ok((numbers, rest)) => numbers.as_slice() == [1u16, 258].as_slice() && rest.len() == 1,
         Err(_) => false,
     };
@@ -49,5 +55,8 @@ fn a_list_is_read_behind_its_count(rt: HostRuntime) {
 #[test]
 fn what_is_put_is_counted_without_putting_it(rt: HostRuntime) {
     assert_eq!(rt; room_after_count(255, 7), Some(2));
-    assert_eq!(rt; room_after_listed::<Plain<u16>>(&[1, 258], 4), None);
+    assert_eq!(rt;
+        room_after_listed::<Plain<NumberFormat, u16>>(&[1, 258], 4),
+        None
+    );
 }

@@ -7,6 +7,7 @@ use gw_object::{
     Entity, Fault, Items, Kind, Memory, Object, Parts, Place, ReturnRow, TableKind, TableParameter,
     TableState,
 };
+use gw_object_bytes::build;
 pub(crate) use gw_samples::{
     add_entity, advance, assign, by_fraction, constant_time, empty_parts, entity, first_wrong,
     generate, generate_by, link, no_states, number, of, push, split, terminate, units, unlink,
@@ -193,7 +194,7 @@ pub(crate) fn chain_parts(
 pub(crate) fn object_or_fault(parts: Parts) -> Result<Object, Fault>
     ensures { IfOk result (λ o. o ≡ parts) }
 {
-    match Object::build(parts) {
+    match build(parts) {
         Ok(object) => Ok(object),
         Err((_parts, fault)) => Err(fault),
     }

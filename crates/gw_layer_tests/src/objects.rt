@@ -3,7 +3,8 @@
 use crate::models::*;
 use gw_blocks::Block;
 use gw_object::codes::*;
-use gw_object::{Fault, Items, Memory, Object, Parts, Place, TableState, read, write};
+use gw_object::{Fault, Items, Memory, Object, Parts, Place, TableState};
+use gw_object_bytes::{build, read, write};
 use std::alloc::Global;
 use std::test::Fail;
 
@@ -158,7 +159,7 @@ fn with_seeds(alloc: Global, seeds: &[u32]) -> Result<Parts, Fail> {
 
 /// The fault of parts that `build` refuses and hands back as these.
 fn fault_and_back(parts: Parts, same: &Parts) -> Option<Fault> {
-    match Object::build(parts) {
+    match build(parts) {
         Ok(_) => None,
         Err((back, fault)) => if back == *same { Some(fault) } else { None },
     }

@@ -1,22 +1,15 @@
-//! The object: its parts, and the one spelling of them in bytes (docs/object-format.md).
+//! The object: its parts, and the grammar of their one spelling in bytes (docs/object-format.md). It is made of parts, read
+//! and written by `gw_object_bytes`.
 #![tactic(auto)]
 
+mod chains;
 pub mod codes;
-mod entities;
 mod fault;
-mod kinds;
-pub mod laws;
 mod limits;
-mod lists;
 mod object;
 mod parts;
-mod reading;
-mod returns;
-mod rules;
-mod states;
-mod writing;
 
-pub use entities::chains_in;
+pub use chains::chains_in;
 pub use fault::{Fault, Place};
 pub use gw_fields::Items;
 pub use limits::{
@@ -28,6 +21,4 @@ pub use object::Object;
 pub use parts::{
     Entity, Function, Kind, Parts, Point, ReturnRow, Table, TableKind, TableParameter, TableState,
 };
-pub use reading::read;
 pub use std::alloc::AllocError as Memory;
-pub use writing::write;

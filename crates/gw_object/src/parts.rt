@@ -3,7 +3,7 @@
 
 use gw_blocks::{Block, Operand, Units};
 use gw_code::Procedure;
-use gw_fields::Items;
+use gw_fields::{Items, Keyed};
 
 /// The operands of a TABLE: which values it counts, and in which classes.
 #[derive(Clone, Copy, Debug, PartialEq, Eq)]
@@ -77,6 +77,14 @@ pub struct TableParameter {
     pub number: u8,
     /// What it holds.
     pub kind: TableKind,
+}
+
+impl Keyed for TableParameter {
+    ghost key_of = { λ p. p.number };
+
+    fn key(&self) -> u16 {
+        u16::from(self.number)
+    }
 }
 
 /// What a parameter holds by a row of the state table. (Ours: docs/object-format.md.)

@@ -5,6 +5,7 @@ ghost use Rattle.std.specs.Prelude.{◌≡◌, IfOk};
 use gw_blocks::{Block, EntityAttribute, Numbered, Operand};
 use gw_code::Procedure;
 use gw_object::{Entity, Function, Items, Kind, Memory, Object, Parts, Point};
+use gw_object_bytes::build;
 pub(crate) use gw_samples::{
     add_entity, back, empty_parts, first_wrong, no_states, procedure, push, terminate, value,
     value_of,
@@ -89,7 +90,7 @@ fn parts_of(alloc: Global, procedures: Vec<Procedure>) -> Result<Parts, Memory>
 pub(crate) fn object_of(alloc: Global, procedures: Vec<Procedure>) -> Result<Object, Fail>
     ensures { IfOk result (λ o. o.procedures ≡ procedures.items) }
 {
-    match Object::build(parts_of(alloc, procedures)?) {
+    match build(parts_of(alloc, procedures)?) {
         Ok(object) => Ok(object),
         Err(_) => Err(Fail::from("the parts have a spelling")),
     }

@@ -16,6 +16,7 @@ use crate::written::{Stop, Written, table_written};
 use gw_flow::check_flow;
 use gw_object::codes::MEMORY;
 use gw_object::{Fault, Object, Parts, Place};
+use gw_object_bytes::build;
 use std::alloc::{AllocError, Global};
 use std::mem::swap;
 
@@ -77,7 +78,7 @@ fn restored(parts: Parts, table: Written) -> Object
     let mut parts = parts;
     let mut table = table;
     exchange(&mut parts, &mut table);
-    Object::build(parts).unwrap()
+    build(parts).unwrap()
 }
 
 /// An object, if flow passes; else its parts with the table that they had, and the fault.
@@ -110,7 +111,7 @@ fn settle_with(alloc: Global, object: Object, table: Written) -> Result<Object, 
     let mut parts = object.into_parts();
     let mut table = table;
     exchange(&mut parts, &mut table);
-    match Object::build(parts) {
+    match build(parts) {
         Ok(settled) => checked(alloc, settled, table),
         Err((parts, _)) => Err((restored(parts, table), PAST_LIMIT)),
     }

@@ -4,6 +4,7 @@ use crate::models::*;
 use gw_blocks::Block;
 use gw_kinds::check_kinds;
 use gw_object::{Items, Memory, Object, Parts, TableKind, TableParameter, TableState};
+use gw_object_bytes::build;
 use gw_verify::verify;
 use gw_weighing::weigh;
 use std::alloc::Global;
@@ -48,7 +49,7 @@ fn put_table(alloc: Global, parts: &mut Parts) -> Result<(), Memory> {
 fn a_table_by_hand_passes_where_the_assemblers_does_not(rt: HostRuntime) -> Result<(), Fail> {
     let mut parts = object_of(rt.alloc(), SUBROUTINE)?.into_parts();
     put_table(rt.alloc(), &mut parts)?;
-    match Object::build(parts) {
+    match build(parts) {
         Ok(object) => assert!(rt; verify(rt.alloc(), object).is_ok()),
         Err(_) => return Err(Fail::from("the parts have a spelling")),
     }

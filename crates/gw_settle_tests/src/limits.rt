@@ -2,7 +2,8 @@
 
 use crate::models::*;
 use gw_blocks::Block;
-use gw_object::{Fault, Items, Kind, Memory, Object, Parts, Place};
+use gw_object::{Fault, Items, Kind, Memory, Parts, Place};
+use gw_object_bytes::build;
 use std::alloc::Global;
 use std::test::Fail;
 
@@ -132,7 +133,7 @@ fn put_names(alloc: Global, parts: &mut Parts, letters: usize) -> Result<(), Mem
 fn long_rows_settled(alloc: Global, letters: usize) -> Result<Result<(), Fault>, Fail> {
     let mut parts = object_of(alloc, &long_rows(alloc, 3921)?)?.into_parts();
     put_names(alloc, &mut parts, letters)?;
-    match Object::build(parts) {
+    match build(parts) {
         Ok(object) => Ok(settled(alloc, object).map(|_| ())),
         Err(_) => Err(Fail::from("the parts have a spelling")),
     }

@@ -7,6 +7,7 @@ use gw_blocks::Block;
 use gw_flow::check_plus;
 use gw_kinds::check_kinds;
 use gw_object::{Entity, Fault, Items, Kind, Memory, Object, Parts};
+use gw_object_bytes::build;
 pub(crate) use gw_samples::{
     add_entity, advance, advance_by, assign, by_fraction, call, empty_parts, generate, generate_by,
     link, no_states, number, split, terminate, time, units, unlink,
@@ -49,7 +50,7 @@ fn put_blocks(alloc: Global, parts: &mut Parts, blocks: &[Block]) -> Result<(), 
 pub(crate) fn object_of(alloc: Global, blocks: &[Block]) -> Result<Object, Fail> {
     let mut parts = empty_parts(alloc, 1);
     put_blocks(alloc, &mut parts, blocks)?;
-    match Object::build(parts) {
+    match build(parts) {
         Ok(object) => Ok(object),
         Err(_) => Err(Fail::from("the parts have a spelling")),
     }

@@ -9,6 +9,7 @@ ghost use Rattle.gw_weighing.specs.Raising.{IsWeight, DifferInWeights};
 use crate::certificate::Certificate;
 use crate::rounds::raise_in_rounds;
 use gw_object::{Items, Memory, Object, chains_in};
+use gw_object_bytes::build;
 use std::alloc::Global;
 
 /// The weights that the rounds give to an object.
@@ -34,7 +35,7 @@ fn with_weights(object: Object, weights: Vec<u32>, chain_weights: Vec<u32>) -> O
     let mut parts = object.into_parts();
     parts.weights = Items::from_vec(weights);
     parts.chain_weights = Items::from_vec(chain_weights);
-    match Object::build(parts) {
+    match build(parts) {
         Ok(object) => object,
         Err(_) => unreachable!(),
     }

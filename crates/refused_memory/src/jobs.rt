@@ -1,7 +1,8 @@
 //! The job that is run.
 
 use gw_jobs::Pass;
-use gw_object::{Memory, read};
+use gw_object::Memory;
+use gw_object_bytes::read;
 use gw_pool::Service;
 use gw_scan::Spec;
 use gw_verify::verify;

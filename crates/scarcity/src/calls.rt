@@ -2,7 +2,8 @@
 
 use crate::refusals::{Refusals, count};
 use gw_assemble::assemble;
-use gw_object::{Fault, Memory, Object, codes, read, write};
+use gw_object::{Fault, Memory, Object, codes};
+use gw_object_bytes::{read, write};
 use gw_report::report;
 use gw_scan::{Sim, Spec, StartFault, Status};
 use gw_text::{Model, parse};

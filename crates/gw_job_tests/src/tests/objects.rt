@@ -6,6 +6,7 @@ use gw_blocks::{Block, Units};
 use gw_object::{
     Entity, Items, Kind, Memory, Object, Parts, TableKind, TableParameter, TableState,
 };
+use gw_object_bytes::build;
 use gw_samples::{add_entity, empty_parts};
 use gw_scan::{Sim, Spec};
 use gw_verify::{Verified, verify};
@@ -177,7 +178,7 @@ pub(super) fn parts(alloc: Global, count: u64, blocks: &[Block]) -> Result<Parts
 
 /// The object of these parts.
 pub(super) fn built(parts: Parts) -> Result<Object, Fail> {
-    Ok(Object::build(parts).ok().ok_or("parts of an object")?)
+    Ok(build(parts).ok().ok_or("parts of an object")?)
 }
 
 /// An object, accepted.

@@ -1,7 +1,7 @@
 //! The jobs of the tests, and what users and workers do with them.
 
 use gw_jobs::{JobFault, Pass, Returned, State, Table, Task};
-use gw_object::read;
+use gw_object_bytes::read;
 use gw_scan::Spec;
 use gw_verify::verify;
 use std::alloc::Global;

@@ -1,7 +1,7 @@
 //! The jobs of these tests, and slices of the first.
 
 use gw_jobs::{Returned, Table, Task};
-use gw_object::read;
+use gw_object_bytes::read;
 use gw_scan::Spec;
 use gw_verify::verify;
 use std::alloc::Global;

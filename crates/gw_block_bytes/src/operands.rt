@@ -1,0 +1,287 @@
+//! Operands, in bytes and against the rules of the object format.
+
+ghost use Rattle.std.specs.Prelude.{◌≡◌, ◌↔◌, IsTrue, nat_lt};
+ghost use Rattle.gw_blocks.specs.Grammar.{parameter_number, stream_number, numbered, operand, OperandFits, spread, SpreadFits};
+ghost use Rattle.gw_blocks.specs.Grammar.{attribute_byte, attributes, entity_attribute_byte, entity_attributes};
+ghost use Rattle.gw_fields.specs.Codes.{not_canonical};
+ghost use Rattle.gw_fields.specs.Fields.{optional, is_above, tested};
+ghost use Rattle.gw_fields.specs.Answers.{Gives};
+
+use crate::{BlockFormat, Memory};
+use gw_blocks::{
+    Attribute, EntityAttribute, MOST_PARAMETERS, MOST_STREAMS, Numbered, Operand, Spread,
+};
+use gw_fields::codes::{NOT_CANONICAL, TAG};
+use gw_fields::{OneByte, ReadError, Spelled, fault, read_one_of, read_ranged_u8};
+use std::alloc::Global;
+
+/// Whether this is the number of a parameter.
+pub fn is_parameter(number: u8) -> bool
+    ensures { IsTrue result ↔ parameter_number.Fits number }
+{
+    1 <= number && number <= MOST_PARAMETERS as u8
+}
+
+/// Whether this is the number of a stream.
+fn is_stream(number: u8) -> bool
+    ensures { IsTrue result ↔ stream_number.Fits number }
+{
+    1 <= number && number <= MOST_STREAMS as u8
+}
+
+/// A parameter's number.
+pub fn read_parameter_number(alloc: Global, bytes: &[u8]) -> Result<(u8, &[u8]), ReadError>
+    ensures { Gives (λ x. (x.0, x.1.now)) result (parameter_number.read bytes.now) }
+{
+    read_ranged_u8(alloc, bytes, 1, MOST_PARAMETERS as u8)
+}
+
+/// A parameter's number that is above the one before it, if there is one.
+pub fn read_parameter_above(
+    alloc: Global,
+    before: Option<u8>,
+    bytes: &[u8],
+) -> Result<(u8, &[u8]), ReadError>
+    ensures { Gives (λ x. (x.0, x.1.now)) result ((tested (is_above nat_lt before) not_canonical parameter_number).read bytes.now) }
+{
+    let (number, rest) = read_parameter_number(alloc, bytes)?;
+    if before.is_some_and(|before| number <= before) {
+        return Err(fault(NOT_CANONICAL, bytes));
+    }
+    Ok((number, rest))
+}
+
+/// A parameter's number, or none.
+pub fn read_parameter_if_any(alloc: Global, bytes: &[u8]) -> Result<(Option<u8>, &[u8]), ReadError>
+    ensures { Gives (λ x. (x.0, x.1.now)) result ((optional parameter_number).read bytes.now) }
+{
+    let (flag, rest) = u8::read(alloc, bytes)?;
+    match flag {
+        0 => Ok((None, rest)),
+        1 => {
+            let (number, rest) = read_parameter_number(alloc, rest)?;
+            Ok((Some(number), rest))
+        }
+        _ => Err(fault(TAG, bytes)),
+    }
+}
+
+impl OneByte<BlockFormat> for Attribute {
+    ghost byte_of = { attribute_byte };
+
+    ghost values = { attributes };
+
+    fn byte(self) -> u8 {
+        match self {
+            Attribute::Clock => 0,
+            Attribute::AbsoluteClock => 1,
+            Attribute::Priority => 2,
+            Attribute::TransitTime => 3,
+            Attribute::TransactionNumber => 4,
+            Attribute::TerminationCount => 5,
+        }
+    }
+
+    fn of_byte(byte: u8) -> Option<Attribute> {
+        match byte {
+            0 => Some(Attribute::Clock),
+            1 => Some(Attribute::AbsoluteClock),
+            2 => Some(Attribute::Priority),
+            3 => Some(Attribute::TransitTime),
+            4 => Some(Attribute::TransactionNumber),
+            5 => Some(Attribute::TerminationCount),
+            _ => None,
+        }
+    }
+}
+
+impl OneByte<BlockFormat> for EntityAttribute {
+    ghost byte_of = { entity_attribute_byte };
+
+    ghost values = { entity_attributes };
+
+    fn byte(self) -> u8 {
+        match self {
+            EntityAttribute::FacilityOwned => 0,
+            EntityAttribute::StorageContent => 1,
+            EntityAttribute::StorageRemaining => 2,
+            EntityAttribute::QueueContent => 3,
+            EntityAttribute::SavevalueValue => 4,
+            EntityAttribute::SwitchSetting => 5,
+            EntityAttribute::ChainMembers => 6,
+            EntityAttribute::VariableValue => 7,
+            EntityAttribute::BooleanValue => 8,
+            EntityAttribute::FunctionValue => 9,
+            EntityAttribute::BlockEntries => 10,
+            EntityAttribute::BlockCount => 11,
+        }
+    }
+
+    fn of_byte(byte: u8) -> Option<EntityAttribute> {
+        match byte {
+            0 => Some(EntityAttribute::FacilityOwned),
+            1 => Some(EntityAttribute::StorageContent),
+            2 => Some(EntityAttribute::StorageRemaining),
+            3 => Some(EntityAttribute::QueueContent),
+            4 => Some(EntityAttribute::SavevalueValue),
+            5 => Some(EntityAttribute::SwitchSetting),
+            6 => Some(EntityAttribute::ChainMembers),
+            7 => Some(EntityAttribute::VariableValue),
+            8 => Some(EntityAttribute::BooleanValue),
+            9 => Some(EntityAttribute::FunctionValue),
+            10 => Some(EntityAttribute::BlockEntries),
+            11 => Some(EntityAttribute::BlockCount),
+            _ => None,
+        }
+    }
+}
+
+impl Spelled<BlockFormat> for Numbered {
+    ghost spelling = { numbered.spell };
+
+    ghost reading = { numbered.read };
+
+    #[tactic(auto, unfolding(gw_blocks::specs::Grammar::numbered))]
+    fn put(&self, out: &mut Vec<u8>) -> Result<(), Memory> {
+        out.push(self.attribute.byte())?;
+        self.number.put(out)
+    }
+
+    #[tactic(auto, unfolding(gw_blocks::specs::Grammar::numbered))]
+    fn room_after(&self, room: usize) -> Option<usize> {
+        let room = room.checked_sub(1)?;
+        self.number.room_after(room)
+    }
+
+    #[tactic(auto, unfolding(gw_blocks::specs::Grammar::numbered))]
+    fn read(alloc: Global, bytes: &[u8]) -> Result<(Numbered, &[u8]), ReadError> {
+        let (attribute, rest) = read_one_of::<BlockFormat, EntityAttribute>(alloc, bytes)?;
+        let (number, rest) = u16::read(alloc, rest)?;
+        Ok((Numbered { attribute, number }, rest))
+    }
+}
+
+impl Spelled<BlockFormat> for Operand {
+    ghost spelling = { operand.spell };
+
+    ghost reading = { operand.read };
+
+    fn put(&self, out: &mut Vec<u8>) -> Result<(), Memory> {
+        match self {
+            Operand::Constant(number) => {
+                out.push(0)?;
+                number.put(out)?;
+            }
+            Operand::Parameter(number) => {
+                out.push(1)?;
+                number.put(out)?;
+            }
+            Operand::Attribute(attribute) => {
+                out.push(2)?;
+                out.push(attribute.byte())?;
+            }
+            Operand::OfEntity(numbered) => {
+                out.push(3)?;
+                numbered.put(out)?;
+            }
+            Operand::Random(stream) => {
+                out.push(4)?;
+                stream.put(out)?;
+            }
+            Operand::Procedure(procedure) => {
+                out.push(5)?;
+                procedure.put(out)?;
+            }
+        }
+        Ok(())
+    }
+
+    fn room_after(&self, room: usize) -> Option<usize> {
+        let room = room.checked_sub(1)?;
+        match self {
+            Operand::Constant(number) => number.room_after(room),
+            Operand::Parameter(number) | Operand::Random(number) => number.room_after(room),
+            Operand::Attribute(_) => room.checked_sub(1),
+            Operand::OfEntity(numbered) => numbered.room_after(room),
+            Operand::Procedure(procedure) => procedure.room_after(room),
+        }
+    }
+
+    #[tactic(auto, unfolding(gw_blocks::specs::Grammar::operand_read))]
+    fn read(alloc: Global, bytes: &[u8]) -> Result<(Operand, &[u8]), ReadError> {
+        let (tag, rest) = u8::read(alloc, bytes)?;
+        match tag {
+            0 => {
+                let (number, rest) = i64::read(alloc, rest)?;
+                Ok((Operand::Constant(number), rest))
+            }
+            1 => {
+                let (number, rest) = read_parameter_number(alloc, rest)?;
+                Ok((Operand::Parameter(number), rest))
+            }
+            2 => {
+                let (attribute, rest) = read_one_of::<BlockFormat, Attribute>(alloc, rest)?;
+                Ok((Operand::Attribute(attribute), rest))
+            }
+            3 => {
+                let (numbered, rest) = Numbered::read(alloc, rest)?;
+                Ok((Operand::OfEntity(numbered), rest))
+            }
+            4 => {
+                let (stream, rest) = read_ranged_u8(alloc, rest, 1, MOST_STREAMS as u8)?;
+                Ok((Operand::Random(stream), rest))
+            }
+            5 => {
+                let (procedure, rest) = u16::read(alloc, rest)?;
+                Ok((Operand::Procedure(procedure), rest))
+            }
+            _ => Err(fault(TAG, bytes)),
+        }
+    }
+}
+
+/// Whether an operand keeps its limits.
+pub fn operand_fits(operand: Operand) -> bool
+    ensures { IsTrue result ↔ OperandFits operand }
+{
+    match operand {
+        Operand::Constant(_)
+        | Operand::Attribute(_)
+        | Operand::OfEntity(_)
+        | Operand::Procedure(_) => true,
+        Operand::Parameter(number) => is_parameter(number),
+        Operand::Random(stream) => is_stream(stream),
+    }
+}
+
+impl Spelled<BlockFormat> for Spread {
+    ghost spelling = { spread.spell };
+
+    ghost reading = { spread.read };
+
+    #[tactic(auto, unfolding(gw_blocks::specs::Grammar::spread))]
+    fn put(&self, out: &mut Vec<u8>) -> Result<(), Memory> {
+        self.mean.put(out)?;
+        self.half.put(out)
+    }
+
+    #[tactic(auto, unfolding(gw_blocks::specs::Grammar::spread))]
+    fn room_after(&self, room: usize) -> Option<usize> {
+        let room = self.mean.room_after(room)?;
+        self.half.room_after(room)
+    }
+
+    #[tactic(auto, unfolding(gw_blocks::specs::Grammar::spread))]
+    fn read(alloc: Global, bytes: &[u8]) -> Result<(Spread, &[u8]), ReadError> {
+        let (mean, rest) = Operand::read(alloc, bytes)?;
+        let (half, rest) = Operand::read(alloc, rest)?;
+        Ok((Spread { mean, half }, rest))
+    }
+}
+
+/// Whether the operands of a time keep their limits.
+pub fn spread_fits(spread: Spread) -> bool
+    ensures { IsTrue result ↔ SpreadFits spread }
+{
+    operand_fits(spread.mean) && operand_fits(spread.half)
+}

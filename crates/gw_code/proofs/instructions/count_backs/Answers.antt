@@ -1,6 +1,0 @@
-use Rattle.std.proofs.Common.{rules}
-use Rattle.gw_code.proofs.Backs.{backs_counted}
-use Rattle.gw_code.proofs.instructions.count_backs.Goals as goal
-
-pub returns : goal.returns
-returns c = search (rules, backs_counted)

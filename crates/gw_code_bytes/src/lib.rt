@@ -1,0 +1,14 @@
+//! PLUS code in bytes: how procedures and their instructions are put, counted, read and tested against the limits of the
+//! object format (docs/object-format.md).
+#![tactic(auto)]
+
+mod instructions;
+mod procedures;
+
+pub use procedures::{procedures_ascend, procedures_fit};
+
+/// The answer where there was no memory.
+pub use std::alloc::AllocError as Memory;
+
+/// The format of procedures and their instructions.
+pub struct CodeFormat;

@@ -1,0 +1,143 @@
+//! Procedures, in bytes and against the rules of the object format.
+
+ghost use Rattle.std.specs.Prelude.{◌↔◌, IsTrue};
+ghost use Rattle.std.specs.List.{All};
+ghost use Rattle.gw_code.specs.Grammar.{InstructionFits, SnaFits, need, procedure, ProcedureFits, NeedsAscend};
+
+use crate::instructions::*;
+use crate::{CodeFormat, Memory};
+use gw_block_bytes::{is_parameter, read_parameter_above};
+use gw_blocks::MOST_PARAMETERS;
+use gw_code::{Instruction, MOST_BACKS, MOST_INSTRUCTIONS, MOST_LOCALS, Procedure, Sna};
+use gw_fields::{
+    Elements, Items, ReadError, Spelled, keys_ascend, put_listed, read_listed, read_ranged_u8,
+    room_after_listed,
+};
+use std::alloc::Global;
+
+/// The parameters that a procedure needs, ascending.
+struct Needs;
+
+impl Elements for Needs {
+    type Item = u8;
+
+    ghost element_spelling = { need.spell };
+
+    ghost element_reading = { need.read };
+
+    fn put_element(out: &mut Vec<u8>, number: &u8) -> Result<(), Memory> {
+        number.put(out)
+    }
+
+    fn room_after_element(number: &u8, room: usize) -> Option<usize> {
+        number.room_after(room)
+    }
+
+    fn read_element<'a>(
+        alloc: Global,
+        front: &[u8],
+        _left: usize,
+        bytes: &'a [u8],
+    ) -> Result<(u8, &'a [u8]), ReadError> {
+        read_parameter_above(alloc, front.last().copied(), bytes)
+    }
+}
+
+impl Spelled<CodeFormat> for Procedure {
+    ghost spelling = { procedure.spell };
+
+    ghost reading = { procedure.read };
+
+    ghost can_put = { ProcedureFits };
+
+    #[tactic(auto, unfolding(gw_code::specs::Grammar::procedure))]
+    fn put(&self, out: &mut Vec<u8>) -> Result<(), Memory> {
+        self.arguments.put(out)?;
+        self.locals.put(out)?;
+        put_listed::<Needs>(out, self.needs.as_slice())?;
+        put_listed::<Code>(out, self.code.as_slice())
+    }
+
+    #[tactic(auto, unfolding(gw_code::specs::Grammar::procedure))]
+    fn room_after(&self, room: usize) -> Option<usize> {
+        let room = self.arguments.room_after(room)?;
+        let room = self.locals.room_after(room)?;
+        let room = room_after_listed::<Needs>(self.needs.as_slice(), room)?;
+        room_after_listed::<Code>(self.code.as_slice(), room)
+    }
+
+    #[tactic(auto, unfolding(gw_code::specs::Grammar::procedure))]
+    fn read(alloc: Global, bytes: &[u8]) -> Result<(Procedure, &[u8]), ReadError> {
+        let (arguments, rest) = u8::read(alloc, bytes)?;
+        let (locals, rest) = read_ranged_u8(alloc, rest, arguments, MOST_LOCALS)?;
+        let (needs, rest) = read_listed::<Needs>(alloc, rest, 0, MOST_PARAMETERS)?;
+        let (code, rest) = read_listed::<Code>(alloc, rest, 0, MOST_INSTRUCTIONS)?;
+        let procedure = Procedure {
+            arguments,
+            locals,
+            needs: Items::from_vec(needs),
+            code: Items::from_vec(code),
+        };
+        Ok((procedure, rest))
+    }
+}
+
+/// Whether an attribute that code reads keeps its limits.
+fn sna_fits(sna: Sna) -> bool
+    ensures { IsTrue result ↔ SnaFits sna }
+{
+    match sna {
+        Sna::Parameter(number) => is_parameter(number),
+        Sna::Attribute(_) | Sna::OfEntity(_) => true,
+    }
+}
+
+/// Whether an instruction keeps its limits; what the others name does by its type.
+fn instruction_fits(instruction: Instruction) -> bool
+    ensures { IsTrue result ↔ InstructionFits instruction }
+{
+    match instruction {
+        Instruction::Value(sna) => sna_fits(sna),
+        _ => true,
+    }
+}
+
+/// Whether a procedure keeps its limits.
+fn procedure_fits(procedure: &Procedure) -> bool
+    ensures { IsTrue result ↔ ProcedureFits procedure.now }
+{
+    let needs = procedure.needs.as_slice();
+    let code = procedure.code.as_slice();
+    if procedure.arguments > procedure.locals || procedure.locals > MOST_LOCALS {
+        return false;
+    }
+    if needs.len() > MOST_PARAMETERS || code.len() > MOST_INSTRUCTIONS {
+        return false;
+    }
+    count_backs(code) <= MOST_BACKS
+        && needs.iter().all(|number| is_parameter(*number))
+        && code
+            .iter()
+            .all(|instruction| instruction_fits(*instruction))
+}
+
+/// Whether each procedure keeps its limits.
+pub fn procedures_fit(procedures: &[Procedure]) -> bool
+    ensures { IsTrue result ↔ All ProcedureFits procedures.now }
+{
+    procedures.iter().all(procedure_fits)
+}
+
+/// Whether the parameters that a procedure needs ascend.
+fn needs_ascend(procedure: &Procedure) -> bool
+    ensures { IsTrue result ↔ NeedsAscend procedure.now }
+{
+    keys_ascend(procedure.needs.as_slice())
+}
+
+/// Whether the parameters that each procedure needs ascend.
+pub fn procedures_ascend(procedures: &[Procedure]) -> bool
+    ensures { IsTrue result ↔ All NeedsAscend procedures.now }
+{
+    procedures.iter().all(needs_ascend)
+}

@@ -1,7 +1,0 @@
-use Rattle.std.proofs.Common.{refl}
-use Rattle.gw_object.specs.Grammar.{spelling}
-use Rattle.gw_object.proofs.ObjectLaws.{only}
-use Rattle.gw_object.proofs.laws.written_is_read.Goals as goal
-
-pub returns : goal.returns
-returns c p fits = only (spelling p) p (record { fits = fits; is = refl })

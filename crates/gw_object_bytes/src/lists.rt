@@ -1,0 +1,70 @@
+//! The lists of an object whose elements are numbers: seeds and weights.
+
+ghost use Rattle.gw_fields.specs.Fields.{plain};
+ghost use Rattle.gw_object.specs.Grammar.{seed, weight};
+
+use crate::Memory;
+use gw_fields::{Elements, ReadError, Spelled, fault, read_ranged_u32};
+use gw_object::codes::NOT_CANONICAL;
+use gw_object::{GREATEST_SEED, GREATEST_WEIGHT};
+use std::alloc::Global;
+
+/// The seeds; the last isn't 0.
+pub struct Seeds;
+
+impl Elements for Seeds {
+    type Item = u32;
+
+    ghost element_spelling = { seed.spell };
+
+    ghost element_reading = { seed.read };
+
+    fn put_element(out: &mut Vec<u8>, seed: &u32) -> Result<(), Memory> {
+        seed.put(out)
+    }
+
+    fn room_after_element(seed: &u32, room: usize) -> Option<usize> {
+        seed.room_after(room)
+    }
+
+    fn read_element<'a>(
+        alloc: Global,
+        _front: &[u32],
+        left: usize,
+        bytes: &'a [u8],
+    ) -> Result<(u32, &'a [u8]), ReadError> {
+        let (seed, rest) = read_ranged_u32(alloc, bytes, 0, GREATEST_SEED)?;
+        if left == 0 && seed == 0 {
+            return Err(fault(NOT_CANONICAL, bytes));
+        }
+        Ok((seed, rest))
+    }
+}
+
+/// The weights, one for each block.
+pub struct Weights;
+
+impl Elements for Weights {
+    type Item = u32;
+
+    ghost element_spelling = { weight.spell };
+
+    ghost element_reading = { (plain weight).read };
+
+    fn put_element(out: &mut Vec<u8>, weight: &u32) -> Result<(), Memory> {
+        weight.put(out)
+    }
+
+    fn room_after_element(weight: &u32, room: usize) -> Option<usize> {
+        weight.room_after(room)
+    }
+
+    fn read_element<'a>(
+        alloc: Global,
+        _front: &[u32],
+        _left: usize,
+        bytes: &'a [u8],
+    ) -> Result<(u32, &'a [u8]), ReadError> {
+        read_ranged_u32(alloc, bytes, 1, GREATEST_WEIGHT)
+    }
+}

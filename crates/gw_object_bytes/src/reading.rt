@@ -1,0 +1,181 @@
+//! Reading an object from left to right, up to the first fault.
+
+ghost use Rattle.std.specs.Prelude.{◌≡◌, ◌≤◌, ◌<◌, ◌^◌, ◌⊎◌, IfOk, Ok, Err, length};
+ghost use Rattle.gw_object.specs.declared.parts.Parts.{Parts};
+ghost use Rattle.gw_object.specs.Grammar.{head, tables, object, Spells};
+ghost use Rattle.gw_fields.specs.Answers.{Gives};
+ghost use Rattle.gw_object.specs.Limits.{most_bytes};
+ghost use Rattle.gw_object.specs.Reading.{whole_read, placed, too_long, first_fault, out_of_memory};
+
+use crate::ObjectFormat;
+use crate::entities::Entities;
+use crate::lists::{Seeds, Weights};
+use gw_block_bytes::BlockFormat;
+use gw_blocks::Block;
+use gw_code::Procedure;
+use gw_code_bytes::CodeFormat;
+use gw_fields::{
+    Bad, Items, Plain, ReadError, Spelled, fault, read_elements, read_listed, read_ranged_u64,
+};
+use gw_object::codes::{LIMIT, MAGIC, MEMORY, TRAILING, VERSION};
+use gw_object::{
+    Fault, GREATEST_COUNT, MOST_BLOCKS, MOST_BYTES, MOST_ENTITIES, MOST_PROCEDURES,
+    MOST_RETURN_ROWS, MOST_SEEDS, Object, Parts, Place, ReturnRow, TableState, chains_in,
+};
+use std::alloc::Global;
+
+/// The letters `GPSO`.
+const LETTERS: u32 = 0x4750_534f;
+
+/// The letters `GPSO` and the version.
+#[tactic(auto, unfolding(gw_object::specs::Grammar::head))]
+fn read_head(alloc: Global, bytes: &[u8]) -> Result<&[u8], ReadError>
+    ensures { Gives (λ rest. ((tt, tt), rest.now)) result (head.read bytes.now) }
+{
+    let (letters, rest) = u32::read(alloc, bytes)?;
+    if letters != LETTERS {
+        return Err(fault(MAGIC, bytes));
+    }
+    let (version, after) = u16::read(alloc, rest)?;
+    if version != 1 {
+        return Err(fault(VERSION, rest));
+    }
+    Ok(after)
+}
+
+/// What stands for each block, or for each user chain, of an object.
+type Rows = Vec<Option<TableState>>;
+
+/// The return rows, and what stands for each of so many blocks and each of so many user chains: its row of the state table,
+/// and its weight.
+#[tactic(auto, unfolding(gw_object::specs::Grammar::tables))]
+fn read_tables(
+    alloc: Global,
+    blocks: usize,
+    chains: usize,
+    bytes: &[u8],
+) -> Result<
+    (
+        (Vec<ReturnRow>, (Rows, (Rows, (Vec<u32>, Vec<u32>)))),
+        &[u8],
+    ),
+    ReadError,
+>
+    ensures { Gives (λ x. ((x.0.0.items, (x.0.1.0.items, (x.0.1.1.0.items, (x.0.1.1.1.0.items, x.0.1.1.1.1.items)))), x.1.now))
+        result ((tables blocks chains).read bytes.now) }
+{
+    let (returns, rest) = read_listed::<Plain<ObjectFormat, ReturnRow>>(
+        alloc,
+        bytes,
+        0,
+        MOST_RETURN_ROWS,
+    )?;
+    let (states, rest) = read_elements::<Plain<ObjectFormat, Option<TableState>>>(
+        alloc, blocks, rest,
+    )?;
+    let (chain_states, rest) = read_elements::<Plain<ObjectFormat, Option<TableState>>>(
+        alloc, chains, rest,
+    )?;
+    let (weights, rest) = read_elements::<Weights>(alloc, blocks, rest)?;
+    let (chain_weights, rest) = read_elements::<Weights>(alloc, chains, rest)?;
+    Ok((
+        (returns, (states, (chain_states, (weights, chain_weights)))),
+        rest,
+    ))
+}
+
+/// The parts of an object, and the bytes after it.
+#[tactic(auto, unfolding(gw_object::specs::Grammar::object))]
+fn read_parts(alloc: Global, bytes: &[u8]) -> Result<(Parts, &[u8]), ReadError>
+    ensures { Gives (λ x. (x.0, x.1.now)) result (object.read bytes.now) }
+{
+    let rest = read_head(alloc, bytes)?;
+    let (seeds, rest) = read_listed::<Seeds>(alloc, rest, 0, MOST_SEEDS)?;
+    let (count, rest) = read_ranged_u64(alloc, rest, 1, GREATEST_COUNT)?;
+    let (entities, rest) = read_listed::<Entities>(alloc, rest, 0, MOST_ENTITIES)?;
+    let (procedures, rest) = read_listed::<Plain<CodeFormat, Procedure>>(
+        alloc,
+        rest,
+        0,
+        MOST_PROCEDURES,
+    )?;
+    let (blocks, rest) = read_listed::<Plain<BlockFormat, Block>>(alloc, rest, 0, MOST_BLOCKS)?;
+    let chains = chains_in(&entities);
+    let (tables, rest) = read_tables(alloc, blocks.len(), chains, rest)?;
+    let (returns, (states, (chain_states, (weights, chain_weights)))) = tables;
+    let parts = Parts {
+        seeds: Items::from_vec(seeds),
+        count,
+        entities: Items::from_vec(entities),
+        procedures: Items::from_vec(procedures),
+        blocks: Items::from_vec(blocks),
+        returns: Items::from_vec(returns),
+        states: Items::from_vec(states),
+        chain_states: Items::from_vec(chain_states),
+        weights: Items::from_vec(weights),
+        chain_weights: Items::from_vec(chain_weights),
+    };
+    Ok((parts, rest))
+}
+
+/// The parts that all of the bytes spell.
+#[tactic(auto, unfolding(gw_object::specs::Reading::whole_read))]
+fn read_whole(alloc: Global, bytes: &[u8]) -> Result<Parts, ReadError>
+    ensures { Gives (λ parts. parts) result (whole_read bytes.now) }
+{
+    let (parts, rest) = read_parts(alloc, bytes)?;
+    if !rest.is_empty() {
+        return Err(fault(TRAILING, rest));
+    }
+    Ok(parts)
+}
+
+/// A fault in so many bytes, by its field's first byte.
+fn placed_fault(total: usize, fault: Bad) -> Fault
+    requires within { fault.left ≤ total }
+    requires short { total < 2 ^ 32 }
+    ensures { result ≡ placed total fault }
+{
+    Fault {
+        code: fault.code,
+        place: Place::Byte((total - fault.left) as u32),
+    }
+}
+
+/// The object that the bytes spell, or the first fault.
+#[tactic(auto, unfolding(gw_object::specs::Reading::first_fault))]
+fn read_object(alloc: Global, bytes: &[u8]) -> Result<Object, Fault>
+    ensures exact { (result ≡ first_fault bytes.now) ⊎ (result ≡ Err out_of_memory) }
+    ensures long { most_bytes < length bytes.now → result ≡ Err too_long }
+{
+    if bytes.len() > MOST_BYTES {
+        return Err(Fault {
+            code: LIMIT,
+            place: Place::Byte(0),
+        });
+    }
+    match read_whole(alloc, bytes) {
+        Ok(parts) => Ok(Object::of(parts)),
+        Err(ReadError::OutOfMemory) => Err(Fault {
+            code: MEMORY,
+            place: Place::Nowhere,
+        }),
+        Err(ReadError::Wrong(fault)) => Err(placed_fault(bytes.len(), fault)),
+    }
+}
+
+/// The object that the bytes spell, all of the bytes. Else the first fault from the left: its code, the lowest
+/// that applies to its field, and the field's first byte. More than 1 MiB are 5 at byte 0 before all else.
+/// 8 Memory at Nowhere where memory runs out.
+pub fn read(alloc: Global, bytes: &[u8]) -> Result<Object, Fault>
+    // What is read is spelled so.
+    ensures found { IfOk result (λ p. Spells bytes.now p) }
+    // What is spelled so is read.
+    ensures only { (p : Parts) → Spells bytes.now p → (result ≡ Ok p) ⊎ (result ≡ Err out_of_memory) }
+    // A refusal names the first fault.
+    ensures exact { (result ≡ first_fault bytes.now) ⊎ (result ≡ Err out_of_memory) }
+    // What is too long is refused before memory is asked for.
+    ensures long { most_bytes < length bytes.now → result ≡ Err too_long }
+{
+    read_object(alloc, bytes)
+}
