@@ -5,9 +5,9 @@ use gw_flow::codes::CHAIN_STATE;
 use gw_kinds::{chain_place, check_kinds};
 use gw_names::{Known, Ledger, known_names};
 use gw_object::{
-    Entity, Fault, Memory, Object, Parts, Place, TableKind, TableParameter, TableState, codes, read,
+    Entity, Fault, Memory, Object, Parts, Place, TableKind, TableParameter, TableState, codes,
 };
-use gw_object_bytes::build;
+use gw_object_bytes::{build, read};
 use gw_pieces::parts_of;
 use gw_report::text::{put, put_number};
 use gw_settle::table_of;
