@@ -171,8 +171,9 @@ impl DelayList {
         ensures place { self.new.place ≡ self.old.place }
         ensures room { self.old.room ≤ self.new.room }
     {
-        let _ = unlink(&mut self.buckets, &mut self.links, self.walk.spot);
+        let Walk { spot, here, .. } = self.walk;
+        let _ = unlink(&mut self.buckets, &mut self.links, spot, here);
         self.count -= 1;
-        self.walk = walk_at(&self.buckets, &self.links, self.walk.spot);
+        self.walk = walk_at(&self.buckets, &self.links, spot);
     }
 }

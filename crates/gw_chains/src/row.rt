@@ -5,7 +5,7 @@ ghost use Rattle.std.specs.VecDeque.{deque_len, deque_capacity};
 ghost use Rattle.slab.specs.Slab.{get, slab_len, ContainsKey, HasRoomFor};
 ghost use Rattle.gw_chains.specs.Chain.{in_time, placed_behind, first, rest};
 ghost use Rattle.gw_chains.specs.Buckets.{members_of, total, alone, without_first_link, below, IsHead, head_host, headed_by, with_head, Before, AreBuckets};
-ghost use Rattle.gw_chains.specs.Spots.{count_at, place_at, IsSpot, led_past, without_one, without_link};
+ghost use Rattle.gw_chains.specs.Spots.{count_at, place_at, link_at, IsSpot, led_past, without_one, without_link};
 
 use crate::bucket::{Bucket, Link, Ranked};
 use crate::buckets::{alone, link_behind};
@@ -234,15 +234,17 @@ fn shorten_at(row: &mut VecDeque<Bucket>, spot: Spot, next: usize)
     }
 }
 
-/// Takes out the member at a spot. There is one. The spot is then at the next, or at the end of its bucket.
+/// Takes out the member at a spot, whose link is `here`. There is one. The spot is then at the next, or at the end of its bucket.
 pub(crate) fn unlink<T: Ranked>(
     row: &mut VecDeque<Bucket>,
     links: &mut Slab<Link<T>>,
     spot: Spot,
+    here: usize,
 ) -> T
     requires buckets { AreBuckets T.rank (get links.old) row.old.items }
     requires spot { IsSpot (get links.old) row.old.items spot }
     requires there { spot.passed < count_at row.old.items spot.bucket }
+    requires here { here ≡ link_at (get links.old) row.old.items spot.bucket spot.passed }
     ensures value { let place = place_at row.old.items spot.bucket spot.passed in
         slice_get (members_of (get links.old) row.old.items) place ≡ Some result }
     ensures members { let place = place_at row.old.items spot.bucket spot.passed in
@@ -258,8 +260,7 @@ pub(crate) fn unlink<T: Ranked>(
     ensures links { (slab_len links.new ≤ slab_len links.old)
         × (links.new.capacity ≡ links.old.capacity) }
 {
-    let key = link_at(row, links, spot);
-    let link = links.remove(key);
+    let link = links.remove(here);
     lead_past(links, spot, link.next);
     shorten_at(row, spot, link.next);
     link.member
@@ -286,6 +287,7 @@ pub(crate) fn remove_member<T: Ranked>(
         let _ = pop_member(row, links);
     } else {
         let spot = spot_of(row, links, place);
-        let _ = unlink(row, links, spot);
+        let here = link_at(row, links, spot);
+        let _ = unlink(row, links, spot, here);
     }
 }

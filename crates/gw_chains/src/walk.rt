@@ -52,6 +52,9 @@ pub(crate) fn walk_at<T: Ranked>(row: &VecDeque<Bucket>, links: &Slab<Link<T>>, 
     ensures place { place_at row.now.items result.spot.bucket result.spot.passed
         ≡ place_at row.now.items spot.bucket spot.passed }
 {
+    if spot.passed == 0 {
+        return walk_from(row, spot.bucket);
+    }
     let spot = settle(row, spot);
     if row.len() <= spot.bucket {
         return walk_from(row, spot.bucket);

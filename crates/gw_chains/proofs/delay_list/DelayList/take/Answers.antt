@@ -12,6 +12,13 @@ unlink-requires-clause-there c =
     let asked = rw (← c.self.view_is) at c.requires in
     is_inside c.self.inside.buckets.items c.self.inside.walk.spot c.self.invariant.4.settled (omega (arith, asked, c.self.invariant.1, c.self.invariant.2))
 
+pub unlink-requires-clause-here : goal.unlink-requires-clause-here
+unlink-requires-clause-here c =
+    let walk = c.self.invariant.4 in
+    let asked = rw (← c.self.view_is) at c.requires in
+    let inside = is_inside c.self.inside.buckets.items c.self.inside.walk.spot walk.settled (omega (arith, asked, c.self.invariant.1, c.self.invariant.2)) in
+    walk.here (omega (arith, inside, walk.left))
+
 pub overflow_sub-self : goal.overflow_sub-self
 overflow_sub-self c = omega (arith, c.unlink.ensures.total, c.self.invariant.2)
 
