@@ -1,5 +1,5 @@
 -- A list that is kept in chunks: queues of fewer than a number of elements, one behind the other, none of them empty.
-use Rattle.std.specs.Prelude.{◌≡◌, ◌<◌, ◌≤◌, ℕ, ◌-◌, ◌^◌, min, List, [], ◌∷◌, ◌++◌, Option, Some, None, Bool, false}
+use Rattle.std.specs.Prelude.{◌≡◌, ◌<◌, ◌≤◌, ℕ, ◌-◌, ◌^◌, min, List, [], ◌∷◌, ◌++◌, slice_index_or, Option, Some, None, Bool, false}
 use Rattle.std.specs.VecDeque.{deque_len, deque_capacity}
 use Rattle.std.specs.VecDeque.Iter.{deque_iter_rest}
 use Rattle.std.specs.declared.collections.VecDeque.{VecDeque}
@@ -19,6 +19,10 @@ module _ {X Z : Type 0} where
   abbrev pub items_of : Option (VecDeque X Z) → List X
   items_of None = []
   items_of (Some c) = c.items
+
+  -- something holds of the elements of the chunk at a place
+  abbrev pub HoldsInChunk : (List X → Type 0) → List (VecDeque X Z) → ℕ → Type 0
+  HoldsInChunk P chunks place = (d : VecDeque X Z) → P (slice_index_or chunks place d).items
 
   -- a chunk has an element, and room for one more
   pub record IsChunk (c : VecDeque X Z) : Type 0 where

@@ -1,5 +1,6 @@
 pub mod Chain
 pub mod Lists
+pub mod Queues
 pub mod Runs
 pub mod Chunks
 pub mod Newcomers

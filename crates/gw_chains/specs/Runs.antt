@@ -1,5 +1,9 @@
--- The room of a chain that is kept in two runs: it is the settled run's, which the recent ones come to join.
-use Rattle.std.specs.Prelude.{ℕ, ◌-◌, nat_le, if◌then◌else◌}
+-- A chain that is kept in two runs: its events, and its room, which is the settled run's, which the recent ones come to join.
+use Rattle.std.specs.Prelude.{◌≡◌, ℕ, ◌+◌, ◌-◌, nat_le, List, if◌then◌else◌}
+use Rattle.std.specs.VecDeque.{deque_len, deque_capacity}
+use Rattle.std.specs.declared.collections.VecDeque.{VecDeque}
+use Rattle.gw_chains.specs.Chain.{in_time, merged}
+use Rattle.gw_chains.specs.declared.tx.Event.{Event}
 
 -- the most that are recent
 abbrev pub most_recent : ℕ
@@ -8,3 +12,34 @@ most_recent = 512
 -- how many more fit beside so many, where the runs have these capacities
 abbrev pub room_for : ℕ → ℕ → ℕ → ℕ
 room_for members settled recent = if nat_le most_recent recent then settled - members else 0
+
+-- events with one more, behind all that are scheduled for the same time or an earlier one
+abbrev pub with_event : Event → List Event → List Event
+with_event event xs = in_time (λ (e : Event). e.time) event xs
+
+module _ {Z : Type 0} where
+  -- the events of both runs, by their times
+  abbrev pub events_in : VecDeque Event Z → VecDeque Event Z → List Event
+  events_in settled recent = merged (λ (e : Event). e.time) settled.items recent.items
+
+  -- how many they are
+  abbrev pub many_in : VecDeque Event Z → VecDeque Event Z → ℕ
+  many_in settled recent = deque_len settled + deque_len recent
+
+  -- how many more fit
+  abbrev pub room_in : VecDeque Event Z → VecDeque Event Z → ℕ
+  room_in settled recent = room_for (many_in settled recent) (deque_capacity settled) (deque_capacity recent)
+
+  -- both runs have the events that they had
+  abbrev pub HaveSame : VecDeque Event Z → VecDeque Event Z → VecDeque Event Z → VecDeque Event Z → Type 0
+  HaveSame settled recent settled_new recent_new = (settled_new.items ≡ settled.items) × (recent_new.items ≡ recent.items)
+
+  -- and as many
+  abbrev pub HaveAsMany : VecDeque Event Z → VecDeque Event Z → VecDeque Event Z → VecDeque Event Z → Type 0
+  HaveAsMany settled recent settled_new recent_new =
+      (deque_len settled_new ≡ deque_len settled) × (deque_len recent_new ≡ deque_len recent)
+
+  -- and the same capacities
+  abbrev pub HaveCapacities : VecDeque Event Z → VecDeque Event Z → VecDeque Event Z → VecDeque Event Z → Type 0
+  HaveCapacities settled recent settled_new recent_new =
+      (deque_capacity settled_new ≡ deque_capacity settled) × (deque_capacity recent_new ≡ deque_capacity recent)

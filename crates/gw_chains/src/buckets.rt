@@ -7,6 +7,7 @@ ghost use Rattle.std.specs.VecDeque.Iter.{deque_iter_rest};
 ghost use Rattle.slab.specs.Slab.{get, slab_len, ContainsKey, HasRoomFor};
 ghost use Rattle.gw_chains.specs.Chain.{in_time, first, rest};
 ghost use Rattle.gw_chains.specs.Chunks.{all_of, rest_of, IsChunk, IsSpare};
+ghost use Rattle.gw_chains.specs.Queues.{space_in};
 ghost use Rattle.gw_chains.specs.Buckets.{run, members_at, members_of, total, alone, linked_behind, without_first_link, AreBuckets};
 
 use crate::Memory;
@@ -58,8 +59,7 @@ pub(crate) fn insert_member<T: Ranked>(
     ensures total { total (all_of chunks.new.items) ≡ total (all_of chunks.old.items) + 1 }
     ensures chunks { All IsChunk chunks.new.items }
     ensures spare { All IsSpare spare.new.items }
-    ensures room { deque_capacity chunks.old - deque_len chunks.old
-        ≤ deque_capacity chunks.new - deque_len chunks.new + 1 }
+    ensures room { space_in chunks.old ≤ space_in chunks.new + 1 }
     ensures left { length spare.old.items ≤ length spare.new.items + 1 }
     ensures links { (slab_len links.new ≡ slab_len links.old + 1)
         × (links.new.capacity ≡ links.old.capacity) }
@@ -104,8 +104,7 @@ fn shorten(
     ensures items { all_of chunks.new.items ≡ without_first_link next (all_of chunks.old.items) }
     ensures chunks { All IsChunk chunks.new.items }
     ensures spare { All IsSpare spare.new.items }
-    ensures room { deque_capacity chunks.old - deque_len chunks.old
-        ≤ deque_capacity chunks.new - deque_len chunks.new }
+    ensures room { space_in chunks.old ≤ space_in chunks.new }
     ensures kept { length spare.old.items ≤ length spare.new.items }
 {
     if 1 < bucket.count {
@@ -137,8 +136,7 @@ pub(crate) fn pop_member<T: Ranked>(
         ≡ total (all_of chunks.old.items) }
     ensures chunks { All IsChunk chunks.new.items }
     ensures spare { All IsSpare spare.new.items }
-    ensures room { deque_capacity chunks.old - deque_len chunks.old
-        ≤ deque_capacity chunks.new - deque_len chunks.new }
+    ensures room { space_in chunks.old ≤ space_in chunks.new }
     ensures kept { length spare.old.items ≤ length spare.new.items }
     ensures links { (slab_len links.new ≤ slab_len links.old)
         × (links.new.capacity ≡ links.old.capacity) }

@@ -1,12 +1,12 @@
 //! A list that is kept in an order, in chunks, so that a newcomer among tens of thousands moves few of them.
 
 ghost use Rattle.std.specs.Prelude.{◌≡◌, ◌≤◌, ◌<◌, ◌+◌, ◌-◌, [], ◌∷◌, ◌++◌, Bool, true, false, All, length, take, drop, slice_index_or, option_to_list, option_copied, ◌⊎◌, IfSome, OnSome, OnOk, OnErr};
-ghost use Rattle.std.specs.List.Sorted.{IsPartitionedBy, IsPartitionPoint};
 ghost use Rattle.std.specs.VecDeque.{deque_len, deque_capacity};
 ghost use Rattle.std.specs.declared.collections.VecDeque.{VecDeque as DeclaredQueue};
 ghost use Rattle.gw_chains.specs.Chain.{first, rest};
-ghost use Rattle.gw_chains.specs.Newcomers.{host, with_newcomer, IsHostLast};
-ghost use Rattle.gw_chains.specs.Chunks.{most_in_chunk, all_of, items_of, begins_in, IsChunk, IsSpare};
+ghost use Rattle.gw_chains.specs.Newcomers.{host, with_newcomer, IsHostLast, GoFirst, IsPlaceOf};
+ghost use Rattle.gw_chains.specs.Chunks.{most_in_chunk, all_of, items_of, begins_in, HoldsInChunk, IsChunk, IsSpare};
+ghost use Rattle.gw_chains.specs.Queues.{space_in, IsAsLarge, GainsOneAtMost};
 
 use crate::Memory;
 use crate::queue::insert_reserved;
@@ -46,8 +46,10 @@ fn begins_before<T: Placed>(chunk: &VecDeque<T>, newcomer: T) -> bool
 fn place_of<T: Placed>(chunks: &VecDeque<VecDeque<T>>, newcomer: T) -> usize
     requires { 0 < deque_len chunks.now }
     ensures within { result < deque_len chunks.now }
-    ensures behind { (d : DeclaredQueue T Global) → 0 < result → begins_in (λ y. T.goes_first y newcomer) (slice_index_or chunks.now.items result d).items ≡ true }
-    ensures before { (d : DeclaredQueue T Global) → result + 1 < deque_len chunks.now → begins_in (λ y. T.goes_first y newcomer) (slice_index_or chunks.now.items (result + 1) d).items ≡ false }
+    ensures behind { HoldsInChunk (λ ys. 0 < result
+        → begins_in (λ y. T.goes_first y newcomer) ys ≡ true) chunks.now.items result }
+    ensures before { HoldsInChunk (λ ys. result + 1 < deque_len chunks.now
+        → begins_in (λ y. T.goes_first y newcomer) ys ≡ false) chunks.now.items (result + 1) }
 {
     let mut high = chunks.len() - 1;
     if begins_before(&chunks[high], newcomer) {
@@ -71,9 +73,9 @@ fn place_of<T: Placed>(chunks: &VecDeque<VecDeque<T>>, newcomer: T) -> usize
 
 /// The place in a chunk behind all that go ahead of a newcomer; it looks at the last first.
 fn place_in<T: Placed>(chunk: &VecDeque<T>, newcomer: T) -> usize
-    requires { IsPartitionedBy (λ y. T.goes_first y newcomer) chunk.now.items }
+    requires { GoFirst T.goes_first newcomer chunk.now.items }
     ensures within { result ≤ deque_len chunk.now }
-    ensures place { IsPartitionPoint (λ y. T.goes_first y newcomer ≡ true) (λ y. T.goes_first y newcomer ≡ false) chunk.now.items result }
+    ensures place { IsPlaceOf T.goes_first newcomer chunk.now.items result }
 {
     if let Some(last) = chunk.back() {
         if last.goes_first(newcomer) {
@@ -86,7 +88,7 @@ fn place_in<T: Placed>(chunk: &VecDeque<T>, newcomer: T) -> usize
 /// The like of a newcomer in a chunk, if one is there, where the newcomer's place is this one.
 fn host_before<T: Placed>(chunk: &VecDeque<T>, place: usize, newcomer: T) -> Option<T>
     requires within { place ≤ deque_len chunk.now }
-    requires place { IsPartitionPoint (λ y. T.goes_first y newcomer ≡ true) (λ y. T.goes_first y newcomer ≡ false) chunk.now.items place }
+    requires place { IsPlaceOf T.goes_first newcomer chunk.now.items place }
     requires last { IsHostLast T.goes_first newcomer chunk.now.items }
     ensures host { result ≡ host T.goes_first newcomer chunk.now.items }
     ensures before { OnSome result (0 < place) }
@@ -105,12 +107,12 @@ fn host_before<T: Placed>(chunk: &VecDeque<T>, place: usize, newcomer: T) -> Opt
 /// Puts a newcomer at its place in a chunk, where there is room. If its like is there, that takes it in, and is answered as
 /// it was.
 pub(crate) fn join<T: Placed>(chunk: &mut VecDeque<T>, newcomer: T) -> Option<T>
-    requires order { IsPartitionedBy (λ y. T.goes_first y newcomer) chunk.old.items }
+    requires order { GoFirst T.goes_first newcomer chunk.old.items }
     requires last { IsHostLast T.goes_first newcomer chunk.old.items }
     requires room { deque_len chunk.old < deque_capacity chunk.old }
     ensures host { result ≡ host T.goes_first newcomer chunk.old.items }
     ensures items { chunk.new.items ≡ with_newcomer T.goes_first T.with_guest newcomer chunk.old.items }
-    ensures len { (deque_len chunk.old ≤ deque_len chunk.new) × (deque_len chunk.new ≤ deque_len chunk.old + 1) }
+    ensures len { GainsOneAtMost chunk.old chunk.new }
     ensures capacity { deque_capacity chunk.old ≤ deque_capacity chunk.new }
 {
     let place = place_in(chunk, newcomer);
@@ -131,7 +133,8 @@ fn split<T: Placed>(lower: &mut VecDeque<T>, upper: &mut VecDeque<T>)
     requires full { deque_len lower.old ≡ most_in_chunk }
     requires spare { IsSpare upper.old }
     ensures items { lower.new.items ++ upper.new.items ≡ lower.old.items }
-    ensures lower { (0 < deque_len lower.new) × (deque_len lower.new < most_in_chunk) × (deque_capacity lower.new ≡ deque_capacity lower.old) }
+    ensures lower { (0 < deque_len lower.new) × (deque_len lower.new < most_in_chunk)
+        × (deque_capacity lower.new ≡ deque_capacity lower.old) }
     ensures upper { IsChunk upper.new }
 {
     while upper.len() < MOST_IN_CHUNK / 2 {
@@ -149,7 +152,7 @@ fn join_and_split<T: Placed>(
     spare: &mut Vec<VecDeque<T>>,
     newcomer: T,
 ) -> (Option<T>, Option<VecDeque<T>>)
-    requires order { IsPartitionedBy (λ y. T.goes_first y newcomer) chunk.old.items }
+    requires order { GoFirst T.goes_first newcomer chunk.old.items }
     requires last { IsHostLast T.goes_first newcomer chunk.old.items }
     requires chunk { IsChunk chunk.old }
     requires spare { (0 < length spare.old.items) × All IsSpare spare.old.items }
@@ -181,17 +184,17 @@ fn insert_at<T: Placed>(
     newcomer: T,
 ) -> Option<T>
     requires within { place < deque_len chunks.old }
-    requires order { (d : DeclaredQueue T Global) → IsPartitionedBy (λ y. T.goes_first y newcomer) (slice_index_or chunks.old.items place d).items }
-    requires last { (d : DeclaredQueue T Global) → IsHostLast T.goes_first newcomer (slice_index_or chunks.old.items place d).items }
+    requires order { HoldsInChunk (GoFirst T.goes_first newcomer) chunks.old.items place }
+    requires last { HoldsInChunk (IsHostLast T.goes_first newcomer) chunks.old.items place }
     requires chunks { All IsChunk chunks.old.items }
     requires room { deque_len chunks.old < deque_capacity chunks.old }
     requires spare { (0 < length spare.old.items) × All IsSpare spare.old.items }
-    ensures host { (d : DeclaredQueue T Global) → result ≡ host T.goes_first newcomer (slice_index_or chunks.old.items place d).items }
+    ensures host { HoldsInChunk (λ ys. result ≡ host T.goes_first newcomer ys) chunks.old.items place }
     ensures items { (d : DeclaredQueue T Global) → all_of chunks.new.items ≡ all_of (take place chunks.old.items)
         ++ (with_newcomer T.goes_first T.with_guest newcomer (slice_index_or chunks.old.items place d).items ++ all_of (drop (place + 1) chunks.old.items)) }
     ensures chunks { All IsChunk chunks.new.items }
     ensures spare { All IsSpare spare.new.items }
-    ensures room { deque_capacity chunks.old - deque_len chunks.old ≤ deque_capacity chunks.new - deque_len chunks.new + 1 }
+    ensures room { space_in chunks.old ≤ space_in chunks.new + 1 }
     ensures left { length spare.old.items ≤ length spare.new.items + 1 }
 {
     let (host, upper) = join_and_split(&mut chunks[place], spare, newcomer);
@@ -210,7 +213,7 @@ pub(crate) fn insert<T: Placed>(
     spare: &mut Vec<VecDeque<T>>,
     newcomer: T,
 ) -> Option<T>
-    requires order { IsPartitionedBy (λ y. T.goes_first y newcomer) (all_of chunks.old.items) }
+    requires order { GoFirst T.goes_first newcomer (all_of chunks.old.items) }
     requires last { IsHostLast T.goes_first newcomer (all_of chunks.old.items) }
     requires chunks { All IsChunk chunks.old.items }
     requires room { deque_len chunks.old < deque_capacity chunks.old }
@@ -219,7 +222,7 @@ pub(crate) fn insert<T: Placed>(
     ensures items { all_of chunks.new.items ≡ with_newcomer T.goes_first T.with_guest newcomer (all_of chunks.old.items) }
     ensures chunks { All IsChunk chunks.new.items }
     ensures spare { All IsSpare spare.new.items }
-    ensures room { deque_capacity chunks.old - deque_len chunks.old ≤ deque_capacity chunks.new - deque_len chunks.new + 1 }
+    ensures room { space_in chunks.old ≤ space_in chunks.new + 1 }
     ensures left { length spare.old.items ≤ length spare.new.items + 1 }
 {
     if chunks.is_empty() {
@@ -239,7 +242,7 @@ fn begin<T: Placed>(chunks: &mut VecDeque<VecDeque<T>>, spare: &mut Vec<VecDeque
     ensures items { all_of chunks.new.items ≡ newcomer ∷ [] }
     ensures chunks { All IsChunk chunks.new.items }
     ensures spare { All IsSpare spare.new.items }
-    ensures room { deque_capacity chunks.old - deque_len chunks.old ≤ deque_capacity chunks.new - deque_len chunks.new + 1 }
+    ensures room { space_in chunks.old ≤ space_in chunks.new + 1 }
     ensures left { length spare.old.items ≤ length spare.new.items + 1 }
 {
     match spare.pop() {
@@ -274,7 +277,7 @@ pub(crate) fn pop_first<T: Placed>(
     ensures rest { all_of chunks.new.items ≡ rest (all_of chunks.old.items) }
     ensures chunks { All IsChunk chunks.new.items }
     ensures spare { All IsSpare spare.new.items }
-    ensures room { deque_capacity chunks.old - deque_len chunks.old ≤ deque_capacity chunks.new - deque_len chunks.new }
+    ensures room { space_in chunks.old ≤ space_in chunks.new }
     ensures kept { length spare.old.items ≤ length spare.new.items }
 {
     if chunks.is_empty() {
@@ -305,7 +308,7 @@ pub(crate) fn set_front<T: Placed>(chunks: &mut VecDeque<VecDeque<T>>, other: T)
     requires chunks { All IsChunk chunks.old.items }
     ensures items { all_of chunks.new.items ≡ other ∷ rest (all_of chunks.old.items) }
     ensures chunks { All IsChunk chunks.new.items }
-    ensures room { (deque_len chunks.new ≡ deque_len chunks.old) × (deque_capacity chunks.new ≡ deque_capacity chunks.old) }
+    ensures room { IsAsLarge chunks.old chunks.new }
 {
     replace_front(&mut chunks[0], other);
 }

@@ -3,8 +3,8 @@
 
 ghost use Rattle.std.specs.Prelude.{◌≡◌, ◌≤◌, ◌<◌, ◌+◌, ◌-◌, ◌≤ℤ◌, ◌<ℤ◌, [], All, int_lt, OnOk, OnErr, take, drop, slice_index_or, option_copied};
 ghost use Rattle.std.specs.VecDeque.{deque_len, deque_capacity};
-ghost use Rattle.gw_chains.specs.Chain.{IsInTime, in_time, first, rest, merged, begins_recent};
-ghost use Rattle.gw_chains.specs.Runs.{most_recent, room_for};
+ghost use Rattle.gw_chains.specs.Chain.{IsInTime, first, rest, begins_recent};
+ghost use Rattle.gw_chains.specs.Runs.{most_recent, with_event, events_in, many_in, room_in, HaveSame, HaveAsMany, HaveCapacities};
 ghost use Rattle.gw_chains.specs.declared.tx.Event.{Event as DeclaredEvent};
 
 use crate::queue::insert_reserved;
@@ -20,14 +20,13 @@ pub(crate) fn reserve(
     recent: &mut VecDeque<Event>,
     more: usize,
 ) -> Result<(), Memory>
-    requires { deque_len settled.old + deque_len recent.old ≤ deque_capacity settled.old }
-    ensures items { (settled.new.items ≡ settled.old.items) × (recent.new.items ≡ recent.old.items) }
-    ensures len { (deque_len settled.new ≡ deque_len settled.old) × (deque_len recent.new ≡ deque_len recent.old) }
-    ensures within { deque_len settled.new + deque_len recent.new ≤ deque_capacity settled.new }
-    ensures room { OnOk result (more ≤ room_for (deque_len settled.new + deque_len recent.new) (deque_capacity settled.new) (deque_capacity recent.new)) }
-    ensures kept { room_for (deque_len settled.old + deque_len recent.old) (deque_capacity settled.old) (deque_capacity recent.old)
-        ≤ room_for (deque_len settled.new + deque_len recent.new) (deque_capacity settled.new) (deque_capacity recent.new) }
-    ensures refused { OnErr result (room_for (deque_len settled.old + deque_len recent.old) (deque_capacity settled.old) (deque_capacity recent.old) < more) }
+    requires { many_in settled.old recent.old ≤ deque_capacity settled.old }
+    ensures items { HaveSame settled.old recent.old settled.new recent.new }
+    ensures len { HaveAsMany settled.old recent.old settled.new recent.new }
+    ensures within { many_in settled.new recent.new ≤ deque_capacity settled.new }
+    ensures room { OnOk result (more ≤ room_in settled.new recent.new) }
+    ensures kept { room_in settled.old recent.old ≤ room_in settled.new recent.new }
+    ensures refused { OnErr result (room_in settled.old recent.old < more) }
 {
     if more == 0 {
         return Ok(());
@@ -54,7 +53,7 @@ pub(crate) fn front<'a>(
     recent: &'a VecDeque<Event>,
 ) -> Option<&'a Event>
     requires { IsInTime (λ e. e.time) recent.now.items }
-    ensures { option_copied result ≡ first (merged (λ e. e.time) settled.now.items recent.now.items) }
+    ensures { option_copied result ≡ first (events_in settled.now recent.now) }
 {
     if begins_recent(settled, recent) {
         recent.front()
@@ -80,11 +79,11 @@ pub(crate) fn pop_first(
     recent: &mut VecDeque<Event>,
 ) -> Option<Event>
     requires { IsInTime (λ e. e.time) recent.old.items }
-    ensures first { result ≡ first (merged (λ e. e.time) settled.old.items recent.old.items) }
-    ensures rest { merged (λ e. e.time) settled.new.items recent.new.items ≡ rest (merged (λ e. e.time) settled.old.items recent.old.items) }
+    ensures first { result ≡ first (events_in settled.old recent.old) }
+    ensures rest { events_in settled.new recent.new ≡ rest (events_in settled.old recent.old) }
     ensures ordered { IsInTime (λ e. e.time) recent.new.items }
-    ensures len { deque_len settled.new + deque_len recent.new ≤ deque_len settled.old + deque_len recent.old }
-    ensures capacity { (deque_capacity settled.new ≡ deque_capacity settled.old) × (deque_capacity recent.new ≡ deque_capacity recent.old) }
+    ensures len { many_in settled.new recent.new ≤ many_in settled.old recent.old }
+    ensures capacity { HaveCapacities settled.old recent.old settled.new recent.new }
 {
     if begins_recent(settled, recent) {
         pop_front(recent)
@@ -118,11 +117,11 @@ fn count_passed(settled: &VecDeque<Event>, unseen: usize, event: Event) -> usize
 /// Puts each recent one at its place among the settled ones. There is room.
 pub(crate) fn settle(settled: &mut VecDeque<Event>, recent: &mut VecDeque<Event>)
     requires ordered { IsInTime (λ e. e.time) recent.old.items }
-    requires room { deque_len settled.old + deque_len recent.old ≤ deque_capacity settled.old }
-    ensures settled { settled.new.items ≡ merged (λ e. e.time) settled.old.items recent.old.items }
+    requires room { many_in settled.old recent.old ≤ deque_capacity settled.old }
+    ensures settled { settled.new.items ≡ events_in settled.old recent.old }
     ensures none_recent { recent.new.items ≡ [] }
-    ensures len { deque_len settled.new ≡ deque_len settled.old + deque_len recent.old }
-    ensures capacity { (deque_capacity settled.new ≡ deque_capacity settled.old) × (deque_capacity recent.new ≡ deque_capacity recent.old) }
+    ensures len { deque_len settled.new ≡ many_in settled.old recent.old }
+    ensures capacity { HaveCapacities settled.old recent.old settled.new recent.new }
 {
     // Those settled that no recent one has passed yet stand first, and behind them those that are done.
     let mut unseen = settled.len();
@@ -138,12 +137,12 @@ pub(crate) fn settle(settled: &mut VecDeque<Event>, recent: &mut VecDeque<Event>
 /// Settles the recent ones, where they are too many for one more.
 fn make_way(settled: &mut VecDeque<Event>, recent: &mut VecDeque<Event>)
     requires ordered { IsInTime (λ e. e.time) recent.old.items }
-    requires room { deque_len settled.old + deque_len recent.old ≤ deque_capacity settled.old }
-    ensures items { merged (λ e. e.time) settled.new.items recent.new.items ≡ merged (λ e. e.time) settled.old.items recent.old.items }
+    requires room { many_in settled.old recent.old ≤ deque_capacity settled.old }
+    ensures items { events_in settled.new recent.new ≡ events_in settled.old recent.old }
     ensures ordered { IsInTime (λ e. e.time) recent.new.items }
     ensures few { deque_len recent.new < most_recent }
-    ensures len { deque_len settled.new + deque_len recent.new ≡ deque_len settled.old + deque_len recent.old }
-    ensures capacity { (deque_capacity settled.new ≡ deque_capacity settled.old) × (deque_capacity recent.new ≡ deque_capacity recent.old) }
+    ensures len { many_in settled.new recent.new ≡ many_in settled.old recent.old }
+    ensures capacity { HaveCapacities settled.old recent.old settled.new recent.new }
 {
     if recent.len() >= MOST_RECENT {
         settle(settled, recent);
@@ -153,12 +152,13 @@ fn make_way(settled: &mut VecDeque<Event>, recent: &mut VecDeque<Event>)
 /// Puts an event behind all that are scheduled for the same time or an earlier one. There is room.
 pub(crate) fn insert(settled: &mut VecDeque<Event>, recent: &mut VecDeque<Event>, event: Event)
     requires ordered { IsInTime (λ e. e.time) recent.old.items }
-    requires room { deque_len settled.old + deque_len recent.old < deque_capacity settled.old }
+    requires room { many_in settled.old recent.old < deque_capacity settled.old }
     requires run { most_recent ≤ deque_capacity recent.old }
-    ensures items { merged (λ e. e.time) settled.new.items recent.new.items ≡ in_time (λ e. e.time) event (merged (λ e. e.time) settled.old.items recent.old.items) }
+    ensures items { events_in settled.new recent.new ≡ with_event event (events_in settled.old recent.old) }
     ensures ordered { IsInTime (λ e. e.time) recent.new.items }
-    ensures len { deque_len settled.new + deque_len recent.new ≡ deque_len settled.old + deque_len recent.old + 1 }
-    ensures capacity { (deque_capacity settled.new ≡ deque_capacity settled.old) × (deque_capacity recent.old ≤ deque_capacity recent.new) }
+    ensures len { many_in settled.new recent.new ≡ many_in settled.old recent.old + 1 }
+    ensures capacity { (deque_capacity settled.new ≡ deque_capacity settled.old)
+        × (deque_capacity recent.old ≤ deque_capacity recent.new) }
 {
     make_way(settled, recent);
     let place = recent.partition_point(|e| e.time <= event.time);
