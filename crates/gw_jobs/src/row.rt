@@ -1,7 +1,7 @@
 //! A row of the table.
 
-ghost use Rattle.std.specs.Prelude.{◌≡◌, ◌≤◌, ◌^◌, true, Some};
-ghost use Rattle.gw_step.specs.Job.{Alone};
+ghost use Rattle.std.specs.Prelude.{◌≡◌, ℕ, ◌≤◌, ◌^◌, true, Some, IfSome, IfNone};
+ghost use Rattle.gw_step.specs.Job.{Job, Alone};
 ghost use Rattle.gw_service.specs.Rows as rows;
 ghost use Rattle.gw_service.specs.Calls.{state_for};
 ghost use Rattle.gw_jobs.specs.Holding.{standing_of, standing_after, HoldsFor};
@@ -67,6 +67,19 @@ fn standing_back(standing: &Standing, sim: Sim) -> Standing
     match standing {
         Standing::CancelledOut => Standing::Cancelled,
         _ => standing_with(sim),
+    }
+}
+
+/// How a job stands once it was cancelled, where that is another way than before: without its state, or marked while it is out.
+fn standing_off(standing: &Standing) -> Option<Standing>
+    ensures off { IfSome result (λ s. standing_of s ≡ rows.standing_off (standing_of standing.now)) }
+    ensures holds { (j : Job) (n : ℕ) → IfSome result (HoldsFor j n) }
+    ensures stays { IfNone result (rows.standing_off (standing_of standing.now) ≡ standing_of standing.now) }
+{
+    match standing {
+        Standing::Ready(_) => Some(Standing::Cancelled),
+        Standing::Out => Some(Standing::CancelledOut),
+        _ => None,
     }
 }
 
@@ -208,10 +221,8 @@ impl Row {
     pub fn cancel(&mut self)
         ensures { self.new ≡ rows.cancelled_row self.old }
     {
-        match &self.standing {
-            Standing::Ready(_) => self.standing = Standing::Cancelled,
-            Standing::Out => self.standing = Standing::CancelledOut,
-            _ => {}
+        if let Some(standing) = standing_off(&self.standing) {
+            self.standing = standing;
         }
     }
 }
