@@ -4,6 +4,7 @@ pub mod Turning
 pub mod Finding
 mod Merging
 pub mod Newcoming
+pub mod Slices
 pub mod Chunking
 pub mod Linking
 pub mod Joining

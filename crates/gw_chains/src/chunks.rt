@@ -1,6 +1,6 @@
 //! A list that is kept in an order, in chunks, so that a newcomer among tens of thousands moves few of them.
 
-ghost use Rattle.std.specs.Prelude.{◌≡◌, ◌≤◌, ◌<◌, ◌+◌, ◌-◌, [], ◌∷◌, ◌++◌, Bool, true, false, All, length, take, drop, slice_index_or, option_to_list, option_copied, ◌⊎◌, IfSome, OnSome, OnOk, OnErr};
+ghost use Rattle.std.specs.Prelude.{◌≡◌, ◌≤◌, ◌<◌, ◌+◌, ◌-◌, ◌^◌, [], ◌∷◌, ◌++◌, Bool, true, false, All, length, take, drop, slice_index_or, option_to_list, option_copied, ◌⊎◌, IfSome, OnSome, OnOk, OnErr};
 ghost use Rattle.std.specs.VecDeque.{deque_len, deque_capacity};
 ghost use Rattle.std.specs.declared.collections.VecDeque.{VecDeque as DeclaredQueue};
 ghost use Rattle.gw_chains.specs.Chain.{first, rest};
@@ -71,6 +71,20 @@ fn place_of<T: Placed>(chunks: &VecDeque<VecDeque<T>>, newcomer: T) -> usize
     low
 }
 
+/// The place behind all that go ahead of a newcomer, in what lies in two slices, one behind the other.
+fn place_on<T: Placed>(front: &[T], back: &[T], newcomer: T) -> usize
+    requires order { GoFirst T.goes_first newcomer (front.now ++ back.now) }
+    requires few { length front.now + length back.now < 2 ^ 64 }
+    ensures within { result ≤ length front.now + length back.now }
+    ensures place { IsPlaceOf T.goes_first newcomer (front.now ++ back.now) result }
+{
+    let place = front.partition_point(|y| y.goes_first(newcomer));
+    if place < front.len() {
+        return place;
+    }
+    place + back.partition_point(|y| y.goes_first(newcomer))
+}
+
 /// The place in a chunk behind all that go ahead of a newcomer; it looks at the last first.
 fn place_in<T: Placed>(chunk: &VecDeque<T>, newcomer: T) -> usize
     requires { GoFirst T.goes_first newcomer chunk.now.items }
@@ -82,7 +96,8 @@ fn place_in<T: Placed>(chunk: &VecDeque<T>, newcomer: T) -> usize
             return chunk.len();
         }
     }
-    chunk.partition_point(|y| y.goes_first(newcomer))
+    let (front, back) = chunk.as_slices();
+    place_on(front, back, newcomer)
 }
 
 /// The like of a newcomer in a chunk, if one is there, where the newcomer's place is this one.

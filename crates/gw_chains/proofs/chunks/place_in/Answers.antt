@@ -1,5 +1,4 @@
 use Rattle.std.proofs.Common.{rules, ◌≡◌, ◌<◌, ◌-◌, length, get_or, true, refl, arith}
-use Rattle.std.proofs.lemmas.List.Sorted.{IsPartitionPoint-from_clause}
 use Rattle.gw_chains.proofs.Places.{all_pass}
 use Rattle.gw_chains.proofs.chunks.place_in.Goals as goal
 
@@ -9,7 +8,3 @@ returns-then-goes_first-clause-place g c =
     let last : c.in-Some.last.now ≡ get_or c.args.chunk.now.items (length c.args.chunk.now.items - 1) c.in-Some.last.now = rw (c.args.chunk.now.ok.0) at c.in-Some.ensures.lookup in
     let passes : g.T.Placed.goes_first c.in-Some.last.now c.args.newcomer ≡ true = search rules in
     rw (c.len.ensures, c.args.chunk.now.ok.0) (all_pass (λ y. g.T.Placed.goes_first y c.args.newcomer) c.args.chunk.now.items c.in-Some.last.now some last passes c.requires)
-
-pub returns-clause-place : goal.returns-clause-place
-returns-clause-place g c =
-    IsPartitionPoint-from_clause (λ y. g.T.Placed.goes_first y c.args.newcomer) c.args.chunk.now.items c.partition_point.result c.partition_point.ensures.partitioned c.requires (λ a r q k. search rules)
