@@ -57,6 +57,11 @@ impl Certificate {
         self.chains.at(place)
     }
 
+    /// Whether each weight is below the greatest one.
+    pub(crate) fn is_below_greatest(&self) -> bool {
+        self.blocks.are_below_greatest() && self.chains.are_below_greatest()
+    }
+
     /// Raises the weight of the block of this number, from 1, to what is needed there, and tells whether it was below that.
     pub(crate) fn raise_block(&mut self, number: u16, needed: u64) -> bool
         ensures { KeepsCounts self.old self.new }

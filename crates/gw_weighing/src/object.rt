@@ -2,26 +2,45 @@
 
 ghost use Rattle.std.specs.Prelude.{◌≡◌, IfOk, IfErr, All, length};
 ghost use Rattle.gw_object.specs.Entities.{chains_in as chains_among};
+ghost use Rattle.gw_object.specs.Grammar.{HasSpelling};
 ghost use Rattle.gw_kinds.specs.Pass.{KindsPass};
 ghost use Rattle.gw_weighing.specs.Counts.{HasAll};
 ghost use Rattle.gw_weighing.specs.Raising.{IsWeight, DifferInWeights};
 
 use crate::certificate::Certificate;
-use crate::rounds::raise_in_rounds;
-use gw_object::{Items, Memory, Object, chains_in};
+use crate::rounds::{raise_in_rounds, raise_in_sweeps};
+use gw_object::{Items, Memory, Object, Parts, chains_in};
 use gw_object_bytes::build;
 use std::alloc::Global;
 
-/// The weights that the rounds give to an object.
+/// How many sweeps are made before all is left to the rounds.
+const SWEEPS: usize = 32;
+
+/// The weights that the rounds give to an object, which begin with these.
+fn by_rounds(parts: &Parts, least: Certificate) -> Certificate
+    requires spelled { HasSpelling parts.now }
+    requires kinds { KindsPass parts.now }
+    requires all { HasAll parts.now least }
+    ensures { HasAll parts.now result }
+{
+    let mut certificate = least;
+    let rounds = parts.blocks.as_slice().len() + chains_in(parts.entities.as_slice()) + 1;
+    raise_in_rounds(parts, &mut certificate, rounds);
+    certificate
+}
+
+/// The weights that the rounds give to an object. Where a few sweeps come to weights that keep the rules, and none is the
+/// greatest weight, they are the least that do, and so those of the rounds.
 fn certificate_of(alloc: Global, object: &Object) -> Result<Certificate, Memory>
     requires kinds { KindsPass object.now }
     ensures { IfOk result (λ c. HasAll object.now c) }
 {
     let parts = object.parts();
     let mut certificate = Certificate::least(alloc, parts)?;
-    let rounds = parts.blocks.as_slice().len() + chains_in(parts.entities.as_slice()) + 1;
-    raise_in_rounds(parts, &mut certificate, rounds);
-    Ok(certificate)
+    if raise_in_sweeps(parts, &mut certificate, SWEEPS) && certificate.is_below_greatest() {
+        return Ok(certificate);
+    }
+    Ok(by_rounds(parts, Certificate::least(alloc, parts)?))
 }
 
 /// An object with these weights in the place of its own.

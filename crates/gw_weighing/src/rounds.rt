@@ -76,6 +76,18 @@ fn needed_at(parts: &Parts, certificate: &Certificate, number: u16, block: &Bloc
     }
 }
 
+/// Raises the weight of the block at this place, from 0, and tells whether it was below what is needed.
+fn raise_at(parts: &Parts, certificate: &mut Certificate, blocks: &[Block], place: usize) -> bool
+    requires few { length blocks.now ≤ 4096 }
+    requires within { place < length blocks.now }
+    requires next { HaveNext parts.now.returns }
+    ensures { KeepsCounts certificate.old certificate.new }
+{
+    let number = (place + 1) as u16;
+    let needed = needed_at(parts, certificate, number, &blocks[place]);
+    certificate.raise_block(number, needed)
+}
+
 /// Raises the weight of each block, in order, and tells whether one was raised.
 fn raise_blocks(parts: &Parts, certificate: &mut Certificate) -> bool
     requires few { length parts.now.blocks ≤ 4096 }
@@ -85,9 +97,21 @@ fn raise_blocks(parts: &Parts, certificate: &mut Certificate) -> bool
     let blocks = parts.blocks.as_slice();
     let mut raised = false;
     for i in 0..blocks.len() {
-        let number = (i + 1) as u16;
-        let needed = needed_at(parts, certificate, number, &blocks[i]);
-        raised |= certificate.raise_block(number, needed);
+        raised |= raise_at(parts, certificate, blocks, i);
+    }
+    raised
+}
+
+/// The same from the last block to the first.
+fn raise_blocks_back(parts: &Parts, certificate: &mut Certificate) -> bool
+    requires few { length parts.now.blocks ≤ 4096 }
+    requires next { HaveNext parts.now.returns }
+    ensures { KeepsCounts certificate.old certificate.new }
+{
+    let blocks = parts.blocks.as_slice();
+    let mut raised = false;
+    for i in 0..blocks.len() {
+        raised |= raise_at(parts, certificate, blocks, blocks.len() - 1 - i);
     }
     raised
 }
@@ -150,4 +174,23 @@ pub(crate) fn raise_in_rounds(parts: &Parts, certificate: &mut Certificate, roun
             return;
         }
     }
+}
+
+/// Raises all weights in sweeps, in each of them those of the blocks from the last to the first and then in order, and those
+/// of the user chains, until none is raised, or for so many sweeps; tells whether none is left to be raised. A sweep brings
+/// what a way needs along all of it, where its blocks stand in order or in the reverse one, so that few sweeps suffice.
+pub(crate) fn raise_in_sweeps(parts: &Parts, certificate: &mut Certificate, sweeps: usize) -> bool
+    requires few { length parts.now.blocks ≤ 4096 }
+    requires next { HaveNext parts.now.returns }
+    ensures { KeepsCounts certificate.old certificate.new }
+{
+    for _ in 0..sweeps {
+        let back = raise_blocks_back(parts, certificate);
+        let on = raise_blocks(parts, certificate);
+        let chains = raise_chains(parts, certificate);
+        if !back && !on && !chains {
+            return true;
+        }
+    }
+    false
 }

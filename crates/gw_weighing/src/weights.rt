@@ -1,6 +1,8 @@
 //! Weights that are only raised.
 
-ghost use Rattle.std.specs.Prelude.{◌≡◌, IfOk, All, slice_index_or, replicate};
+ghost use Rattle.std.specs.Prelude.{◌≡◌, IfOk, All, slice_index_or, replicate, nat_lt};
+ghost use Rattle.std.specs.List.{list_all};
+ghost use Rattle.gw_object.specs.Limits.{greatest_weight};
 ghost use Rattle.gw_weighing.specs.Raising.{IsWeight, is_below, raised_at};
 
 use gw_object::{GREATEST_WEIGHT, Memory};
@@ -54,6 +56,13 @@ impl Weights {
             }
             _ => false,
         }
+    }
+
+    /// Whether each is below the greatest weight.
+    pub(crate) fn are_below_greatest(&self) -> bool
+        ensures { result ≡ list_all (λ w. nat_lt w greatest_weight) self.now }
+    {
+        self.weights.iter().all(|weight| *weight < GREATEST_WEIGHT)
     }
 
     /// The weights, in order.
