@@ -137,37 +137,34 @@ fn assembled(alloc: Global, text: &[u8]) -> (Vec<u8>, u8) {
 }
 
 #[test]
-fn generate_advance_terminate_assembles_to_97_bytes(rt: HostRuntime) -> Result<(), Fail> {
-    let (object, status) = assembled(
-        rt.alloc(),
-        b" GENERATE 10\n ADVANCE 3\n TERMINATE 1\n START 2\n",
-    );
-    assert_eq!(rt; object.as_slice(), FIRST);
-    assert_eq!(rt; status, 0);
-    Ok(())
-}
-
-#[test]
-fn texts_are_refused_at_a_line_or_a_block(rt: HostRuntime) -> Result<(), Fail> {
-    let cases: [(&[u8], &[u8]); 4] = [
-        (b"FOO 1\n", b"refused 71 Word at line 1\n"),
+fn texts_are_assembled_or_refused_at_a_line_or_a_block(rt: HostRuntime) -> Result<(), Fail> {
+    let cases: [(&[u8], &[u8], u8); 5] = [
+        (
+            b" GENERATE 10\n ADVANCE 3\n TERMINATE 1\n START 2\n",
+            FIRST,
+            0,
+        ),
+        (b"FOO 1\n", b"refused 71 Word at line 1\n", 1),
         (
             b" GENERATE 10\n TRANSFER ,NOWHERE\n TERMINATE 1\n",
             b"refused 80 Name at line 2\n",
+            1,
         ),
         (
             b" GENERATE 10\n ENTER S\n TERMINATE\n",
             b"refused 81 Storage at line 2\n",
+            1,
         ),
         (
             b" GENERATE 10\n RELEASE F\n TERMINATE 1\n",
             b"refused 22 NotOwner at block 2\n",
+            1,
         ),
     ];
-    for (text, line) in cases {
-        let (said, status) = assembled(rt.alloc(), text);
-        assert_eq!(rt; said.as_slice(), line);
-        assert_eq!(rt; status, 1);
+    for (text, due, due_status) in cases {
+        let (written, status) = assembled(rt.alloc(), text);
+        assert_eq!(rt; written.as_slice(), due);
+        assert_eq!(rt; status, due_status);
     }
     Ok(())
 }
@@ -200,29 +197,6 @@ fn refusals_are_one_line_and_status_1(rt: HostRuntime) -> Result<(), Fail> {
         assert_eq!(rt; writer.into_inner().as_slice(), line);
         assert_eq!(rt; status, 1);
     }
-    Ok(())
-}
-
-/// The first object, whose GENERATE weighs 1, and not 2: as much as the ADVANCE that it leads to at once.
-fn too_light(alloc: Global) -> Result<Vec<u8>, AllocError> {
-    let mut bytes = Vec::from_slice(alloc, FIRST)?;
-    if let Some(weight) = bytes.get_mut(88) {
-        *weight = 1;
-    }
-    Ok(bytes)
-}
-
-#[test]
-fn weights_that_are_no_certificate_are_refused(rt: HostRuntime) -> Result<(), Fail> {
-    let bytes = too_light(rt.alloc())?;
-    let mut writer = Output::new(Vec::new(rt.alloc()));
-    let mut reader = Input::new(bytes.as_slice());
-    let status = run(rt.alloc(), 0, 0, &mut reader, &mut writer);
-    assert_eq!(rt;
-        writer.into_inner().as_slice(),
-        b"refused 40 WeightEdge at edge 1 2\n".as_slice()
-    );
-    assert_eq!(rt; status, 1);
     Ok(())
 }
 

@@ -20,15 +20,24 @@ fn schedule(number: u64, time: i64) -> EventCall {
     })
 }
 
-/// What a chain with no member answers to calls.
-fn answers_to<C: EventChain + Drop>(
+/// Whether a chain with no member answers calls so.
+fn is_answered<C: EventChain + Drop>(
     alloc: Global,
     mut chain: C,
     calls: &[EventCall],
-) -> Result<Vec<Option<Tx>>, Memory> {
+    wanted: &[Option<Tx>],
+) -> Result<bool, Memory> {
     let mut answers = Vec::new(alloc);
     make_calls(&mut chain, calls, &mut answers)?;
-    Ok(answers)
+    Ok(answers.as_slice() == wanted)
+}
+
+/// Whether a chain of either body answers calls so.
+fn both_answer(alloc: Global, calls: &[EventCall], wanted: &[Option<Tx>]) -> Result<bool, Memory> {
+    Ok(
+        is_answered(alloc, plain::Fec::new(alloc), calls, wanted)?
+            && is_answered(alloc, Fec::new(alloc), calls, wanted)?,
+    )
 }
 
 /// The calls by which 1 and 3 are scheduled for 9 and 2 for 4, and those that are due at 8 and at 9 leave.
@@ -59,61 +68,52 @@ fn few_answers() -> [Option<Tx>; 8] {
     ]
 }
 
-#[test]
-fn plain_chain_goes_by_time(rt: HostRuntime) -> Result<(), Fail> {
-    let answers = answers_to(rt.alloc(), plain::Fec::new(rt.alloc()), &few_calls())?;
-    let wanted = few_answers();
-    assert!(rt; answers.as_slice() == wanted.as_slice());
-    Ok(())
+/// Whether a chain on which two are scheduled tells how many they are and the earlier time, and an empty one no time.
+fn tells_of_two(alloc: Global) -> Result<bool, Memory> {
+    let mut chain = Fec::new(alloc);
+    let is_empty = chain.len() == 0 && chain.first_time().is_none();
+    chain.reserve(2)?;
+    chain.schedule(tx(1), 9);
+    chain.schedule(tx(2), 4);
+    Ok(is_empty && chain.len() == 2 && chain.first_time() == Some(4))
 }
 
 #[test]
-fn chain_in_buckets_goes_by_time(rt: HostRuntime) -> Result<(), Fail> {
-    let answers = answers_to(rt.alloc(), Fec::new(rt.alloc()), &few_calls())?;
-    let wanted = few_answers();
-    assert!(rt; answers.as_slice() == wanted.as_slice());
+fn both_future_events_chains_go_by_time(rt: HostRuntime) -> Result<(), Fail> {
+    assert!(rt; both_answer(rt.alloc(), &few_calls(), &few_answers())?);
+    assert!(rt; tells_of_two(rt.alloc())?);
     Ok(())
 }
 
-/// The calls by which so many are scheduled, by turns for 1 and for 2, and then as many leave.
-fn calls_by_turns(alloc: Global, count: u64) -> Result<Vec<EventCall>, Memory> {
+/// The calls by which 600 are scheduled, by turns for 1 and for 2, and then as many leave.
+fn calls_by_turns(alloc: Global) -> Result<Vec<EventCall>, Memory> {
     let mut calls = Vec::new(alloc);
-    for number in 0..count {
+    for number in 0..600u64 {
         calls.push(schedule(number, 1 + (number % 2) as i64))?;
     }
-    for _ in 0..count {
+    for _ in 0..600u64 {
         calls.push(EventCall::PopDue(2))?;
     }
     Ok(calls)
 }
 
-/// Whether the last 600 of these answers are that the even numbers below 600 left, in their order, and then the odd ones.
-fn leave_by_turns(answers: &[Option<Tx>]) -> bool {
-    if answers.len() != 1200 {
-        return false;
+/// Nobody leaves by the first 600 of them; then the even numbers leave in their order, and the odd ones after them.
+fn answers_by_turns(alloc: Global) -> Result<Vec<Option<Tx>>, Memory> {
+    let mut answers = vec![in alloc; None; 600]?;
+    for i in 0..300u64 {
+        answers.push(Some(tx(2 * i)))?;
     }
-    for i in 0..300usize {
-        let number = 2 * i as u64;
-        if answers[600 + i] != Some(tx(number)) || answers[900 + i] != Some(tx(number + 1)) {
-            return false;
-        }
+    for i in 0..300u64 {
+        answers.push(Some(tx(2 * i + 1)))?;
     }
-    true
+    Ok(answers)
 }
 
 #[test]
-fn many_leave_a_plain_chain_by_time(rt: HostRuntime) -> Result<(), Fail> {
-    let calls = calls_by_turns(rt.alloc(), 600)?;
-    let answers = answers_to(rt.alloc(), plain::Fec::new(rt.alloc()), calls.as_slice())?;
-    assert!(rt; leave_by_turns(answers.as_slice()));
-    Ok(())
-}
-
-#[test]
-fn many_leave_a_chain_in_buckets_by_time(rt: HostRuntime) -> Result<(), Fail> {
-    let calls = calls_by_turns(rt.alloc(), 600)?;
-    let answers = answers_to(rt.alloc(), Fec::new(rt.alloc()), calls.as_slice())?;
-    assert!(rt; leave_by_turns(answers.as_slice()));
+fn many_leave_both_future_events_chains_by_time(rt: HostRuntime) -> Result<(), Fail> {
+    let calls = calls_by_turns(rt.alloc())?;
+    let wanted = answers_by_turns(rt.alloc())?;
+    assert!(rt; both_answer(rt.alloc(), &calls, &wanted)?);
     Ok(())
 }
 
@@ -129,34 +129,23 @@ fn calls_at_many_times(alloc: Global) -> Result<Vec<EventCall>, Memory> {
     Ok(calls)
 }
 
-/// Whether the last 600 of these answers are that they left by their times: 86 t modulo 601 for the time t, since 7 times 86
-/// is 1 modulo 601, and nobody for the time 594, which would be that of number 600.
-fn leave_at_many_times(answers: &[Option<Tx>]) -> bool {
-    if answers.len() != 1200 {
-        return false;
-    }
-    for i in 0..600usize {
-        let time = if i < 594 { i as u64 } else { i as u64 + 1 };
-        if answers[600 + i] != Some(tx(86 * time % 601)) {
-            return false;
+/// Nobody leaves by the first 600 of them; then they leave by their times: 86 t modulo 601 for the time t, since 7 times
+/// 86 is 1 modulo 601, and nobody for the time 594, which would be that of number 600.
+fn answers_at_many_times(alloc: Global) -> Result<Vec<Option<Tx>>, Memory> {
+    let mut answers = vec![in alloc; None; 600]?;
+    for time in 0..601u64 {
+        if time != 594 {
+            answers.push(Some(tx(86 * time % 601)))?;
         }
     }
-    true
+    Ok(answers)
 }
 
 #[test]
-fn many_leave_a_plain_chain_at_many_times(rt: HostRuntime) -> Result<(), Fail> {
+fn many_leave_both_future_events_chains_at_many_times(rt: HostRuntime) -> Result<(), Fail> {
     let calls = calls_at_many_times(rt.alloc())?;
-    let answers = answers_to(rt.alloc(), plain::Fec::new(rt.alloc()), calls.as_slice())?;
-    assert!(rt; leave_at_many_times(answers.as_slice()));
-    Ok(())
-}
-
-#[test]
-fn many_leave_a_chain_in_buckets_at_many_times(rt: HostRuntime) -> Result<(), Fail> {
-    let calls = calls_at_many_times(rt.alloc())?;
-    let answers = answers_to(rt.alloc(), Fec::new(rt.alloc()), calls.as_slice())?;
-    assert!(rt; leave_at_many_times(answers.as_slice()));
+    let wanted = answers_at_many_times(rt.alloc())?;
+    assert!(rt; both_answer(rt.alloc(), &calls, &wanted)?);
     Ok(())
 }
 
@@ -168,15 +157,16 @@ pub fn member(number: u64, priority: i32) -> Member {
     }
 }
 
-/// What a current events chain with no member answers to calls.
-fn priority_answers_to<C: PriorityChain + Drop>(
+/// Whether a current events chain with no member answers calls so.
+fn is_answered_by_priority<C: PriorityChain + Drop>(
     alloc: Global,
     mut chain: C,
     calls: &[PriorityCall],
-) -> Result<Vec<Option<Tx>>, Memory> {
+    wanted: &[Option<Tx>],
+) -> Result<bool, Memory> {
     let mut answers = Vec::new(alloc);
     make_priority_calls(&mut chain, calls, &mut answers)?;
-    Ok(answers)
+    Ok(answers.as_slice() == wanted)
 }
 
 /// The calls by which 1, 2 and 4 join behind their peers and 3 ahead of them, and all leave.
@@ -211,14 +201,10 @@ fn few_priority_answers() -> [Option<Tx>; 9] {
 
 #[test]
 fn both_current_events_chains_go_by_priority(rt: HostRuntime) -> Result<(), Fail> {
+    let alloc = rt.alloc();
+    let calls = few_priority_calls();
     let wanted = few_priority_answers();
-    let plain = priority_answers_to(
-        rt.alloc(),
-        plain::Cec::new(rt.alloc()),
-        &few_priority_calls(),
-    )?;
-    assert!(rt; plain.as_slice() == wanted.as_slice());
-    let in_buckets = priority_answers_to(rt.alloc(), Cec::new(rt.alloc()), &few_priority_calls())?;
-    assert!(rt; in_buckets.as_slice() == wanted.as_slice());
+    assert!(rt; is_answered_by_priority(alloc, plain::Cec::new(alloc), &calls, &wanted)?);
+    assert!(rt; is_answered_by_priority(alloc, Cec::new(alloc), &calls, &wanted)?);
     Ok(())
 }

@@ -5,15 +5,24 @@ use gw_chains::{DelayCall, DelayChain, DelayList, Memory, Tx, make_delay_calls, 
 use std::alloc::Global;
 use std::test::Fail;
 
-/// What a delay list with no member answers to calls.
-fn answers_to<C: DelayChain + Drop>(
+/// Whether a delay list with no member answers calls so.
+fn is_answered<C: DelayChain + Drop>(
     alloc: Global,
     mut list: C,
     calls: &[DelayCall],
-) -> Result<Vec<Option<Tx>>, Memory> {
+    wanted: &[Option<Tx>],
+) -> Result<bool, Memory> {
     let mut answers = Vec::new(alloc);
     make_delay_calls(&mut list, calls, &mut answers)?;
-    Ok(answers)
+    Ok(answers.as_slice() == wanted)
+}
+
+/// Whether a delay list of either body answers calls so.
+fn both_answer(alloc: Global, calls: &[DelayCall], wanted: &[Option<Tx>]) -> Result<bool, Memory> {
+    Ok(
+        is_answered(alloc, plain::DelayList::new(alloc), calls, wanted)?
+            && is_answered(alloc, DelayList::new(alloc), calls, wanted)?,
+    )
 }
 
 /// Calls, with what is left of the list behind each of them.
@@ -86,18 +95,8 @@ fn few_answers() -> [Option<Tx>; 23] {
 }
 
 #[test]
-fn plain_list_goes_by_priority(rt: HostRuntime) -> Result<(), Fail> {
-    let answers = answers_to(rt.alloc(), plain::DelayList::new(rt.alloc()), &few_calls())?;
-    let wanted = few_answers();
-    assert!(rt; answers.as_slice() == wanted.as_slice());
-    Ok(())
-}
-
-#[test]
-fn list_in_buckets_goes_by_priority(rt: HostRuntime) -> Result<(), Fail> {
-    let answers = answers_to(rt.alloc(), DelayList::new(rt.alloc()), &few_calls())?;
-    let wanted = few_answers();
-    assert!(rt; answers.as_slice() == wanted.as_slice());
+fn both_delay_lists_go_by_priority(rt: HostRuntime) -> Result<(), Fail> {
+    assert!(rt; both_answer(rt.alloc(), &few_calls(), &few_answers())?);
     Ok(())
 }
 
@@ -126,38 +125,24 @@ fn tx_at(place: usize) -> Tx {
     tx(priority + 16 * (place % 40) as u64)
 }
 
-/// Whether these are the answers: all in their order, and then those that were passed.
-fn leave_by_turns(answers: &[Option<Tx>]) -> bool {
-    if answers.len() != 1602 {
-        return false;
-    }
+/// Nobody is passed or taken out while they join and where a walk starts. The first walk meets all in their order, and the
+/// second takes out those that the first passed.
+fn answers_by_turns(alloc: Global) -> Result<Vec<Option<Tx>>, Memory> {
+    let mut answers = vec![in alloc; None; 641]?;
     for place in 0..640usize {
-        let passed = place / 2;
-        if answers[641 + place] != Some(tx_at(place))
-            || answers[1282 + passed] != Some(tx_at(2 * passed))
-        {
-            return false;
-        }
+        answers.push(Some(tx_at(place)))?;
     }
-    true
+    answers.push(None)?;
+    for passed in 0..320usize {
+        answers.push(Some(tx_at(2 * passed)))?;
+    }
+    Ok(answers)
 }
 
 #[test]
-fn a_walk_takes_every_second_of_a_plain_list(rt: HostRuntime) -> Result<(), Fail> {
+fn a_walk_takes_every_second_of_both_delay_lists(rt: HostRuntime) -> Result<(), Fail> {
     let calls = calls_by_turns(rt.alloc())?;
-    let answers = answers_to(
-        rt.alloc(),
-        plain::DelayList::new(rt.alloc()),
-        calls.as_slice(),
-    )?;
-    assert!(rt; leave_by_turns(answers.as_slice()));
-    Ok(())
-}
-
-#[test]
-fn a_walk_takes_every_second_of_a_list_in_buckets(rt: HostRuntime) -> Result<(), Fail> {
-    let calls = calls_by_turns(rt.alloc())?;
-    let answers = answers_to(rt.alloc(), DelayList::new(rt.alloc()), calls.as_slice())?;
-    assert!(rt; leave_by_turns(answers.as_slice()));
+    let wanted = answers_by_turns(rt.alloc())?;
+    assert!(rt; both_answer(rt.alloc(), &calls, &wanted)?);
     Ok(())
 }

@@ -92,6 +92,10 @@ fn a_procedure_needs_what_it_reads(rt: HostRuntime) -> Result<(), Fail> {
             Outcome::Unset,
         ),
         (b"V VARIABLE P2+P1", Outcome::Value(14)),
+        (
+            b"PROCEDURE F(A) RETURN A+P2;\nV VARIABLE F(3)",
+            Outcome::Value(12),
+        ),
     ];
     assert!(rt; wrong_outcome(rt.alloc(), CASES)?.is_none());
     Ok(())

@@ -1,11 +1,9 @@
-//! Tests of compiled expressions, and of PROCEDUREs at their limits: texts are read, compiled, checked and evaluated, and what they
-//! come to was worked out by hand.
+//! Tests of compiled expressions and PROCEDUREs: texts are read, compiled, checked and evaluated, and what they come to
+//! was worked out by hand.
 #![tactic(auto)]
 
 #[cfg(test)]
 mod expressions;
-#[cfg(test)]
-mod limits;
 #[cfg(test)]
 mod models;
 #[cfg(test)]

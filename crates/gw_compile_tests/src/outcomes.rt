@@ -310,7 +310,7 @@ fn compiled_of(
 }
 
 /// What the last procedure of a text comes to.
-pub(crate) fn outcome_of(alloc: Global, text: &[u8]) -> Result<Outcome, Fail> {
+fn outcome_of(alloc: Global, text: &[u8]) -> Result<Outcome, Fail> {
     let model = match parse(alloc, text) {
         Ok(model) => model,
         Err(fault) => return Ok(Outcome::Unread(fault.code)),

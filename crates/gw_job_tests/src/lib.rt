@@ -1,4 +1,5 @@
-//! Tests of jobs: what is seen of a job after each of its steps, how it ends, and its report.
+//! Tests of jobs: what they are made of, and what is seen of one of many customers. What models do is in the cases
+//! (docs/cases.md).
 #![tactic(auto)]
 
 #[cfg(test)]

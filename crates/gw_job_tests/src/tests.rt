@@ -1,9 +1,8 @@
-//! Jobs worked out by hand, and each way in which one ends or is refused.
+//! A job of many customers, worked out by hand, and what jobs are made of.
 
 mod blocks;
 mod entities;
 mod objects;
 mod specs;
-mod times;
 mod views;
 mod weights;

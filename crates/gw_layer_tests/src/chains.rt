@@ -1,9 +1,9 @@
-//! Chains and lists worked by hand.
+//! Delay lists, user chains and assemblies worked by hand, and chains with as many as may live.
 
 ghost use Rattle.std.specs.Prelude.{◌≡◌, ◌<◌, length, IfOk};
 
 use crate::models::first_wrong;
-use gw_chains::{Assemblies, Assembly, Cec, Fec, Memory, Tx, UserChains, Waits};
+use gw_chains::{Assemblies, Assembly, Cec, Memory, Tx, UserChains, Waits};
 use std::alloc::Global;
 use std::test::Fail;
 use std::time::{Duration, Instant};
@@ -13,99 +13,6 @@ const MOST: u64 = 65_536;
 
 fn tx(number: u64) -> Tx {
     Tx { place: 0, number }
-}
-
-/// Puts a transaction behind its peers, or ahead of them.
-fn insert(chain: &mut Cec, number: u64, priority: i32, is_ahead: bool) -> Result<(), Memory> {
-    chain.reserve(1)?;
-    if is_ahead {
-        chain.insert_ahead(tx(number), priority);
-    } else {
-        chain.insert_behind(tx(number), priority);
-    }
-    Ok(())
-}
-
-/// A chain that these joined in order. Of each: its number, its priority, and whether it went ahead of its peers.
-fn chain_of(alloc: Global, newcomers: &[(u64, i32, bool)]) -> Result<Cec, Memory> {
-    let mut chain = Cec::new(alloc);
-    for (number, priority, is_ahead) in newcomers {
-        insert(&mut chain, *number, *priority, *is_ahead)?;
-    }
-    Ok(chain)
-}
-
-/// Whether the members of a chain have these numbers, in the order in which they leave.
-fn leave_in_order(chain: &mut Cec, numbers: &[u64]) -> bool {
-    if chain.len() != numbers.len() {
-        return false;
-    }
-    for number in numbers {
-        if chain.pop_first() != Some(tx(*number)) {
-            return false;
-        }
-    }
-    chain.pop_first().is_none()
-}
-
-#[test]
-fn current_events_chain_goes_by_priority(rt: HostRuntime) -> Result<(), Fail> {
-    const NEWCOMERS: &[(u64, i32, bool)] = &[
-        (1, 0, false),
-        (2, 5, false),
-        (3, 0, true),
-        (4, 5, false),
-    ];
-    assert!(rt; Cec::new(rt.alloc()).is_empty());
-    let mut chain = chain_of(rt.alloc(), NEWCOMERS)?;
-    assert!(rt; leave_in_order(&mut chain, &[2, 4, 3, 1]));
-    Ok(())
-}
-
-/// A chain on which these are scheduled, by number and time.
-fn scheduled(alloc: Global, events: &[(u64, i64)]) -> Result<Fec, Memory> {
-    let mut chain = Fec::new(alloc);
-    for (number, time) in events {
-        chain.reserve(1)?;
-        chain.schedule(tx(*number), *time);
-    }
-    Ok(chain)
-}
-
-/// The place, from 0, of the first of these calls by which another is taken. A call is the time up to which one may be
-/// due, and the number of the one that is.
-fn wrong_pop(chain: &mut Fec, calls: &[(i64, Option<Tx>)]) -> Option<usize> {
-    for i in 0..calls.len() {
-        let (time, due) = calls[i];
-        if chain.pop_due(time) != due {
-            return Some(i);
-        }
-    }
-    None
-}
-
-/// Which answers are right of a chain on which 1 and 3 are scheduled for 9, and 2 for 4.
-fn future_events(chain: &mut Fec) -> [bool; 4] {
-    let calls = [
-        (8, Some(tx(2))),
-        (8, None),
-        (9, Some(tx(1))),
-        (9, Some(tx(3))),
-        (9, None),
-    ];
-    [
-        chain.len() == 3,
-        chain.first_time() == Some(4),
-        wrong_pop(chain, &calls).is_none(),
-        chain.first_time().is_none(),
-    ]
-}
-
-#[test]
-fn future_events_chain_goes_by_time(rt: HostRuntime) -> Result<(), Fail> {
-    let mut chain = scheduled(rt.alloc(), &[(1, 9), (2, 4), (3, 9)])?;
-    assert!(rt; first_wrong(&future_events(&mut chain)).is_none());
-    Ok(())
 }
 
 /// Puts a transaction on the delay list of an entity.
@@ -300,7 +207,8 @@ fn assemblies_are_of_a_block_and_a_set(rt: HostRuntime) -> Result<(), Fail> {
 fn crowd(alloc: Global) -> Result<Cec, Memory> {
     let mut chain = Cec::new(alloc);
     for number in 0..MOST {
-        insert(&mut chain, number, 0, false)?;
+        chain.reserve(1)?;
+        chain.insert_behind(tx(number), 0);
     }
     Ok(chain)
 }
@@ -322,7 +230,7 @@ fn as_many_as_may_live_join_behind_their_peers_within_a_second(
     let start = Instant::now(&rt)?;
     let mut chain = crowd(rt.alloc())?;
     assert!(rt; start.elapsed(&rt)? < Duration::from_secs(1));
-    assert!(rt; out_of_turn(&mut chain).is_none());
+    assert!(rt; out_of_turn(&mut chain).is_none() && chain.is_empty());
     Ok(())
 }
 

@@ -3,16 +3,12 @@
 ghost use Rattle.std.specs.Prelude.{◌≡◌, length, IfOk};
 
 use gw_blocks::{Block, Units};
-use gw_object::{
-    Entity, Fault, Items, Kind, Memory, Object, Parts, Place, ReturnRow, TableKind, TableParameter,
-    TableState,
-};
+use gw_object::{Entity, Fault, Items, Kind, Memory, Object, Parts, Place, TableState};
 use gw_object_bytes::build;
 pub(crate) use gw_samples::{
-    add_entity, advance, assign, by_fraction, constant_time, empty_parts, entity, first_wrong,
-    generate, generate_by, link, no_states, number, of, push, split, terminate, units, unlink,
+    add_entity, advance, by_fraction, constant_time, empty_parts, first_wrong, generate,
+    generate_by, link, no_states, number, terminate, units, unlink,
 };
-use gw_verify::verify;
 use std::alloc::Global;
 use std::test::Fail;
 
@@ -67,62 +63,21 @@ pub(crate) fn state(alloc: Global, row: Row) -> Result<TableState, Memory> {
     })
 }
 
+/// For each of so many places a row that owns and holds nothing.
+pub(crate) fn empty_states(alloc: Global, count: usize) -> Result<Vec<Option<TableState>>, Memory> {
+    let mut states = Vec::new(alloc);
+    for _ in 0..count {
+        states.push(Some(state(alloc, (&[], &[]))?))?;
+    }
+    Ok(states)
+}
+
 /// A row, if there is one, as an object has it.
 pub(crate) fn row_if(alloc: Global, row: Option<Row>) -> Result<Option<TableState>, Memory> {
     match row {
         Some(row) => Ok(Some(state(alloc, row)?)),
         None => Ok(None),
     }
-}
-
-/// The parameters that a row knows, each by its number and what it holds.
-pub(crate) type Known<'a> = &'a [(u8, TableKind)];
-
-/// These parameters, as an object has them.
-fn parameters_knowing(alloc: Global, known: Known) -> Result<Vec<TableParameter>, Memory> {
-    let mut parameters = Vec::new(alloc);
-    for (number, kind) in known {
-        parameters.push(TableParameter {
-            number: *number,
-            kind: *kind,
-        })?;
-    }
-    Ok(parameters)
-}
-
-/// A row that knows these parameters and nothing else, as an object has it.
-pub(crate) fn state_of_parameters(alloc: Global, parameters: Vec<TableParameter>) -> TableState {
-    TableState {
-        parameters: Items::from_vec(parameters),
-        facilities: Items::from_vec(Vec::new(alloc)),
-        units: Items::from_vec(Vec::new(alloc)),
-    }
-}
-
-/// A row that knows these parameters and nothing else, as an object has it.
-pub(crate) fn state_knowing(alloc: Global, known: Known) -> Result<TableState, Memory> {
-    Ok(state_of_parameters(alloc, parameters_knowing(alloc, known)?))
-}
-
-/// A row that knows these parameters, if there is one.
-pub(crate) fn state_if(alloc: Global, known: Option<Known>) -> Result<Option<TableState>, Memory> {
-    match known {
-        Some(known) => Ok(Some(state_knowing(alloc, known)?)),
-        None => Ok(None),
-    }
-}
-
-/// The blocks of each return row.
-pub(crate) type Returns<'a> = &'a [&'a [u16]];
-
-/// These return rows, as an object has them.
-pub(crate) fn return_rows(alloc: Global, returns: Returns) -> Result<Items<ReturnRow>, Memory> {
-    let mut rows = Vec::new(alloc);
-    for blocks in returns {
-        let blocks = Items::from_vec(Vec::from_slice(alloc, *blocks)?);
-        rows.push(ReturnRow { blocks })?;
-    }
-    Ok(Items::from_vec(rows))
 }
 
 /// Parts of these blocks and rows, each of weight 1, with no seeds, termination count 1, no procedures, no return rows, and
@@ -144,30 +99,6 @@ pub(crate) fn parts(
     Ok(parts)
 }
 
-/// Gives parts one user chain of this weight, with this row, if it has one.
-pub(crate) fn put_chain(
-    alloc: Global,
-    parts: &mut Parts,
-    row: Option<TableState>,
-    weight: u32,
-) -> Result<(), Memory> {
-    parts.chain_states = Items::from_vec(vec![in alloc; row]?);
-    parts.chain_weights = Items::from_vec(vec![in alloc; weight]?);
-    Ok(())
-}
-
-/// Gives parts these return rows and these weights of the blocks.
-pub(crate) fn put_returns(
-    alloc: Global,
-    parts: &mut Parts,
-    returns: Returns,
-    weights: &[u32],
-) -> Result<(), Memory> {
-    parts.returns = return_rows(alloc, returns)?;
-    parts.weights = Items::from_vec(Vec::from_slice(alloc, weights)?);
-    Ok(())
-}
-
 /// Parts of these blocks and rows, with the entities F, S of this capacity, and Q.
 pub(crate) fn model_parts(
     alloc: Global,
@@ -177,16 +108,6 @@ pub(crate) fn model_parts(
 ) -> Result<Parts, Memory> {
     let entities = three_entities(alloc, capacity)?;
     let blocks = Vec::from_slice(alloc, blocks)?;
-    parts(alloc, entities, blocks, states)
-}
-
-/// Parts of these blocks and rows, with the entities F, S of 3 units and Q, and a user chain C.
-pub(crate) fn chain_parts(
-    alloc: Global,
-    blocks: Vec<Block>,
-    states: Vec<Option<TableState>>,
-) -> Result<Parts, Memory> {
-    let entities = four_entities(alloc, Kind::Chain, b"C")?;
     parts(alloc, entities, blocks, states)
 }
 
@@ -207,14 +128,6 @@ pub(crate) fn built(parts: Parts) -> Result<Object, Fail>
     match object_or_fault(parts) {
         Ok(object) => Ok(object),
         Err(_) => Err(Fail::from("the parts have a spelling")),
-    }
-}
-
-/// The fault with which an object is refused, if it is.
-pub(crate) fn refusal_of(alloc: Global, object: Object) -> Option<Fault> {
-    match verify(alloc, object) {
-        Ok(_) => None,
-        Err((_, fault)) => Some(fault),
     }
 }
 

@@ -56,15 +56,6 @@ fn is_spelling(alloc: Global, parts: Parts, bytes: &[u8]) -> Result<bool, Memory
     Ok(are_read_as(alloc, bytes, &parts)? && are_built_as(alloc, parts, bytes)?)
 }
 
-/// For each of so many blocks a state that owns and holds nothing.
-fn empty_states(alloc: Global, count: usize) -> Result<Vec<Option<TableState>>, Memory> {
-    let mut states = Vec::new(alloc);
-    for _ in 0..count {
-        states.push(Some(state(alloc, (&[], &[]))?))?;
-    }
-    Ok(states)
-}
-
 /// The parts of the three blocks.
 fn three_blocks(alloc: Global) -> Result<Parts, Memory> {
     let blocks = Vec::from_slice(alloc, &[GENERATE, advance!(3), TERMINATE])?;
@@ -72,13 +63,6 @@ fn three_blocks(alloc: Global) -> Result<Parts, Memory> {
     parts.count = 2;
     parts.weights = Items::from_vec(Vec::from_slice(alloc, &[2, 1, 1])?);
     Ok(parts)
-}
-
-#[test]
-fn three_blocks_are_read_and_written_again(rt: HostRuntime) -> Result<(), Fail> {
-    let parts = three_blocks(rt.alloc())?;
-    assert!(rt; are_read_as(rt.alloc(), &THREE_BLOCKS, &parts)?);
-    Ok(())
 }
 
 /// A GENERATE with all operands, and a TERMINATE.
@@ -131,10 +115,20 @@ const TWO_BLOCKS: [u8; 91] = [
     0x00, 0x00, 0x00, 0x3b, 0x9a, 0xca, 0x00, 0x00, 0x00, 0x00, 0x01,
 ];
 
+/// Whether three blocks are spelled so.
+fn spells_three_blocks(alloc: Global) -> Result<bool, Memory> {
+    is_spelling(alloc, three_blocks(alloc)?, &THREE_BLOCKS)
+}
+
+/// Whether two blocks are spelled so.
+fn spells_two_blocks(alloc: Global) -> Result<bool, Memory> {
+    is_spelling(alloc, two_blocks(alloc)?, &TWO_BLOCKS)
+}
+
 #[test]
-fn two_blocks_are_read_built_and_written(rt: HostRuntime) -> Result<(), Fail> {
-    let parts = two_blocks(rt.alloc())?;
-    assert!(rt; is_spelling(rt.alloc(), parts, &TWO_BLOCKS)?);
+fn objects_are_read_built_and_written(rt: HostRuntime) -> Result<(), Fail> {
+    assert!(rt; spells_three_blocks(rt.alloc())?);
+    assert!(rt; spells_two_blocks(rt.alloc())?);
     Ok(())
 }
 

@@ -1,8 +1,7 @@
-//! Tests of PLUS code: which code is accepted, and what it comes to, on values worked out by hand.
+//! Tests of PLUS code: what it comes to, on values worked out by hand. Which code is accepted is in the cases
+//! (docs/cases.md).
 #![tactic(auto)]
 
-#[cfg(test)]
-mod checks;
 #[cfg(test)]
 mod models;
 #[cfg(test)]

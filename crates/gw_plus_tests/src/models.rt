@@ -7,8 +7,7 @@ use gw_code::Procedure;
 use gw_object::{Entity, Function, Items, Kind, Memory, Object, Parts, Point};
 use gw_object_bytes::build;
 pub(crate) use gw_samples::{
-    add_entity, back, empty_parts, first_wrong, no_states, procedure, push, terminate, value,
-    value_of,
+    add_entity, empty_parts, no_states, procedure, push, terminate, value, value_of,
 };
 use std::alloc::Global;
 use std::test::Fail;

@@ -201,13 +201,8 @@ fn wrong_record(alloc: Global, rows: &[Row]) -> Result<Option<usize>, Fail> {
 }
 
 #[test]
-fn each_word_has_its_record(rt: HostRuntime) -> Result<(), Fail> {
+fn each_word_has_its_record_and_other_statements_have_none(rt: HostRuntime) -> Result<(), Fail> {
     assert!(rt; wrong_record(rt.alloc(), &ROWS)?.is_none());
-    Ok(())
-}
-
-#[test]
-fn statements_that_are_no_block_have_none(rt: HostRuntime) -> Result<(), Fail> {
     assert!(rt; wrong_record(rt.alloc(), &OTHERS)?.is_none());
     Ok(())
 }

@@ -26,14 +26,3 @@ macro_rules! value_of {
         }))
     };
 }
-
-/// A jump back to an instruction, at most so often.
-#[macro_export]
-macro_rules! back {
-    ($target:expr, $count:expr) => {
-        gw_code::Instruction::Back(gw_code::Back {
-            target: $target,
-            count: $count,
-        })
-    };
-}

@@ -1,4 +1,5 @@
-//! Tests of the assembler's state table: objects of a few blocks, built by hand, and what is found out about them.
+//! Tests of the assembler's state table and weights: objects built by hand, and tables at the limits of the object
+//! format. Which rows and weights models have is in the cases (docs/cases.md).
 #![tactic(auto)]
 
 #[cfg(test)]
@@ -7,5 +8,3 @@ mod certificates;
 mod limits;
 #[cfg(test)]
 mod models;
-#[cfg(test)]
-mod tables;

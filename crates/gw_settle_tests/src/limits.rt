@@ -115,7 +115,7 @@ fn long_rows(alloc: Global, count: usize) -> Result<Vec<Block>, Memory> {
     Ok(blocks)
 }
 
-/// Gives parts five queues alone, with names of 32, 32, 32, 32 and so many letters.
+/// Gives parts five queues, with names of 32, 32, 32, 32 and so many letters.
 fn put_names(alloc: Global, parts: &mut Parts, letters: usize) -> Result<(), Memory> {
     let mut entities = Vec::new(alloc);
     for letter in [b'A', b'B', b'C', b'D'] {
@@ -124,8 +124,6 @@ fn put_names(alloc: Global, parts: &mut Parts, letters: usize) -> Result<(), Mem
     let name = vec![in alloc; b'E'; letters]?;
     add_entity(alloc, &mut entities, Kind::Queue, &name)?;
     parts.entities = Items::from_vec(entities);
-    parts.chain_states = Items::from_vec(Vec::new(alloc));
-    parts.chain_weights = Items::from_vec(Vec::new(alloc));
     Ok(())
 }
 

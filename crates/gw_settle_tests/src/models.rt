@@ -1,4 +1,4 @@
-//! Objects of blocks alone, without a state table.
+//! Objects of blocks alone, without a state table, and what settling makes of them.
 
 ghost use Rattle.std.specs.Prelude.{◌≡◌, IfOk};
 ghost use Rattle.gw_kinds.specs.Pass.{KindsPass};
@@ -6,25 +6,14 @@ ghost use Rattle.gw_kinds.specs.Pass.{KindsPass};
 use gw_blocks::Block;
 use gw_flow::check_plus;
 use gw_kinds::check_kinds;
-use gw_object::{Entity, Fault, Items, Kind, Memory, Object, Parts};
+use gw_object::{Fault, Items, Memory, Object, Parts};
 use gw_object_bytes::build;
 pub(crate) use gw_samples::{
-    add_entity, advance, advance_by, assign, by_fraction, call, empty_parts, generate, generate_by,
-    link, no_states, number, split, terminate, time, units, unlink,
+    add_entity, by_fraction, call, empty_parts, generate, no_states, split, terminate,
 };
 use gw_settle::settle;
 use std::alloc::Global;
 use std::test::Fail;
-
-/// A queue Q, a storage S of 3 units, a facility F and a user chain C, in this order.
-fn four_entities(alloc: Global) -> Result<Vec<Entity>, Memory> {
-    let mut entities = Vec::new(alloc);
-    add_entity(alloc, &mut entities, Kind::Queue, b"Q")?;
-    add_entity(alloc, &mut entities, Kind::Storage(3), b"S")?;
-    add_entity(alloc, &mut entities, Kind::Facility, b"F")?;
-    add_entity(alloc, &mut entities, Kind::Chain, b"C")?;
-    Ok(entities)
-}
 
 /// So many weights of 1.
 fn ones(alloc: Global, count: usize) -> Result<Vec<u32>, Memory> {
@@ -35,14 +24,11 @@ fn ones(alloc: Global, count: usize) -> Result<Vec<u32>, Memory> {
     Ok(weights)
 }
 
-/// Gives parts these blocks, four entities, and no state table.
+/// Gives parts these blocks, and no state table.
 fn put_blocks(alloc: Global, parts: &mut Parts, blocks: &[Block]) -> Result<(), Memory> {
-    parts.entities = Items::from_vec(four_entities(alloc)?);
     parts.blocks = Items::from_vec(Vec::from_slice(alloc, blocks)?);
     parts.states = Items::from_vec(no_states(alloc, blocks.len())?);
     parts.weights = Items::from_vec(ones(alloc, blocks.len())?);
-    parts.chain_states = Items::from_vec(no_states(alloc, 1)?);
-    parts.chain_weights = Items::from_vec(ones(alloc, 1)?);
     Ok(())
 }
 

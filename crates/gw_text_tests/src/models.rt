@@ -8,42 +8,34 @@ use std::alloc::Global;
 const TEXT: &[u8] =
     b"* a model\nf1 function rn2,d2 ; two points\n.5,-1\n1,2/\n\nprocedure twice(a)\nbegin /* a\n comment */\n  return a#2;\nend;\nin GENERATE 10,,5\n SAVEVALUE 7+,twice(3)\n TRANSFER .25,,in\n";
 
-/// The statements of the text.
-fn statements(alloc: Global) -> Result<Vec<Statement>, Fault> {
-    Ok(parse(alloc, TEXT)?.statements)
+/// Whether the word, the first and the last line of the statement of a number, from 0, are these.
+fn has_lines(found: &[Statement], i: usize, lines: (Word, u32, u32)) -> bool {
+    match found.get(i) {
+        Some(statement) => (statement.word, statement.line, statement.last_line) == lines,
+        None => false,
+    }
 }
 
-/// The word, the first and the last line of the statement of a number, from 0.
-fn place_of(alloc: Global, i: usize) -> Option<(Word, u32, u32)> {
-    let found = statements(alloc).ok()?;
-    let statement = found.get(i)?;
-    Some((statement.word, statement.line, statement.last_line))
+/// Whether the five statements stand where they are written.
+fn have_lines(found: &[Statement]) -> bool {
+    found.len() == 5
+        && has_lines(found, 0, (Word::Function, 2, 4))
+        && has_lines(found, 1, (Word::Procedure, 6, 10))
+        && has_lines(found, 2, (Word::Generate, 11, 11))
+        && has_lines(found, 4, (Word::Transfer, 13, 13))
 }
 
-#[test]
-fn statements_have_their_lines(rt: HostRuntime) {
-    let alloc = rt.alloc();
-    assert!(rt; place_of(alloc, 0) == Some((Word::Function, 2, 4)));
-    assert!(rt; place_of(alloc, 1) == Some((Word::Procedure, 6, 10)));
-    assert!(rt; place_of(alloc, 2) == Some((Word::Generate, 11, 11)));
-    assert!(rt; place_of(alloc, 4) == Some((Word::Transfer, 13, 13)));
-    assert!(rt; place_of(alloc, 5).is_none());
-}
-
-/// Whether the statement of a number, from 0, has this label.
-fn has_label(alloc: Global, i: usize, label: &str) -> Option<bool> {
-    let found = statements(alloc).ok()?;
-    let statement = found.get(i)?;
-    let name = statement.label.as_ref()?;
+/// Whether the label of the statement of a number, from 0, is this, if it has one.
+fn has_label(found: &[Statement], i: usize, label: &str) -> Option<bool> {
+    let name = found.get(i)?.label.as_ref()?;
     Some(name.as_str() == label)
 }
 
-#[test]
-fn labels_are_in_upper_case(rt: HostRuntime) {
-    let alloc = rt.alloc();
-    assert!(rt; has_label(alloc, 0, "F1") == Some(true));
-    assert!(rt; has_label(alloc, 2, "IN") == Some(true));
-    assert!(rt; has_label(alloc, 3, "").is_none());
+/// Whether labels are in upper case, and stand only where they are written.
+fn have_labels(found: &[Statement]) -> bool {
+    has_label(found, 0, "F1") == Some(true)
+        && has_label(found, 2, "IN") == Some(true)
+        && has_label(found, 3, "").is_none()
 }
 
 /// Whether these are 10, nothing, 5, nothing and nothing.
@@ -84,8 +76,7 @@ fn is_transfer(operands: &[Operand]) -> bool {
 }
 
 /// Whether the operands of the three blocks are as they are written.
-fn has_operands(alloc: Global) -> Option<bool> {
-    let found = statements(alloc).ok()?;
+fn have_operands(found: &[Statement]) -> Option<bool> {
     let change = found.get(3)?;
     Some(
         is_interval(found.get(2)?.operands.as_slice())
@@ -95,14 +86,8 @@ fn has_operands(alloc: Global) -> Option<bool> {
     )
 }
 
-#[test]
-fn operands_are_read(rt: HostRuntime) {
-    assert!(rt; has_operands(rt.alloc()) == Some(true));
-}
-
 /// Whether the points of the FUNCTION are as they are written, in millionths.
-fn has_points(alloc: Global) -> Option<bool> {
-    let found = statements(alloc).ok()?;
+fn has_points(found: &[Statement]) -> Option<bool> {
     let Body::Points(points) = &found.get(0)?.body else {
         return None;
     };
@@ -111,14 +96,8 @@ fn has_points(alloc: Global) -> Option<bool> {
     Some(points.len() == 2 && points.get(0) == Some(&first) && points.get(1) == Some(&second))
 }
 
-#[test]
-fn points_are_read(rt: HostRuntime) {
-    assert!(rt; has_points(rt.alloc()) == Some(true));
-}
-
 /// Whether the PROCEDURE is as it is written: one argument, and a block that returns.
-fn has_procedure(alloc: Global) -> Option<bool> {
-    let found = statements(alloc).ok()?;
+fn has_procedure(found: &[Statement]) -> Option<bool> {
     let Body::Procedure(procedure) = &found.get(1)?.body else {
         return None;
     };
@@ -132,7 +111,20 @@ fn has_procedure(alloc: Global) -> Option<bool> {
     )
 }
 
+/// Which parts of the text are read as they are written: lines, labels, operands, points and the PROCEDURE.
+fn parts_read(alloc: Global) -> Result<[bool; 5], Fault> {
+    let model = parse(alloc, TEXT)?;
+    let found = model.statements.as_slice();
+    Ok([
+        have_lines(found),
+        have_labels(found),
+        have_operands(found) == Some(true),
+        has_points(found) == Some(true),
+        has_procedure(found) == Some(true),
+    ])
+}
+
 #[test]
-fn procedures_are_read(rt: HostRuntime) {
-    assert!(rt; has_procedure(rt.alloc()) == Some(true));
+fn statements_are_read_as_they_are_written(rt: HostRuntime) {
+    assert_eq!(rt; parts_read(rt.alloc()).ok(), Some([true; 5]));
 }

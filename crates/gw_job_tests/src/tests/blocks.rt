@@ -12,15 +12,6 @@ pub(super) const S: u16 = 1;
 /// The number of the queue that each object has.
 pub(super) const L: u16 = 2;
 
-/// The number of the logic switch that each object has, which is reset at first.
-pub(super) const G: u16 = 3;
-
-/// The number of the savevalue that each object has, which is 100 at first.
-pub(super) const X: u16 = 4;
-
-/// The number of the other savevalue that each object has, which is 42 at first.
-pub(super) const Y: u16 = 5;
-
 // BLOCKS
 
 /// SEIZE F.

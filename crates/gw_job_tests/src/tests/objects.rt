@@ -140,22 +140,18 @@ fn straight_table(alloc: Global, blocks: &[Block]) -> Result<Items<Option<TableS
 
 // OBJECTS
 
-/// The entities of each object: the facility F, the storage S of 3 units, the queue L, the logic switch G, and the savevalues
-/// X and Y.
-fn six_entities(alloc: Global) -> Result<Items<Entity>, Memory> {
+/// The entities of each object: the facility F, the storage S of 3 units and the queue L.
+fn three_entities(alloc: Global) -> Result<Items<Entity>, Memory> {
     let mut entities = Vec::new(alloc);
     add_entity(alloc, &mut entities, Kind::Facility, b"F")?;
     add_entity(alloc, &mut entities, Kind::Storage(3), b"S")?;
     add_entity(alloc, &mut entities, Kind::Queue, b"L")?;
-    add_entity(alloc, &mut entities, Kind::Switch(false), b"G")?;
-    add_entity(alloc, &mut entities, Kind::Savevalue(100), b"X")?;
-    add_entity(alloc, &mut entities, Kind::Savevalue(42), b"Y")?;
     Ok(Items::from_vec(entities))
 }
 
 /// The parts of an object of those entities and no block, with a termination count.
 pub(super) fn bare_parts(alloc: Global, count: u64) -> Result<Parts, Memory> {
-    let entities = six_entities(alloc)?;
+    let entities = three_entities(alloc)?;
     let mut parts = empty_parts(alloc, count);
     parts.entities = entities;
     Ok(parts)

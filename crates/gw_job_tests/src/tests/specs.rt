@@ -141,6 +141,13 @@ fn wrong_making(alloc: Global, cases: &[(Making, bool)]) -> Result<Option<usize>
     wrong_equality(alloc, &spec, cases)
 }
 
+/// Whether what the spec that is so made shares is the same job.
+fn shares_itself(alloc: Global, making: Making) -> Result<bool, Fail> {
+    let spec = spec_of(alloc, making)?;
+    let shared = spec.share()?;
+    Ok(shared == spec)
+}
+
 #[test]
 fn specs_are_equal_where_they_are_the_same_job(rt: HostRuntime) -> Result<(), Fail> {
     // Seeds and counts are compared as they result, and not as they are given.
@@ -153,19 +160,7 @@ fn specs_are_equal_where_they_are_the_same_job(rt: HostRuntime) -> Result<(), Fa
         ((&[], 0, AMPLE, LONGER), false),
     ];
     assert!(rt; wrong_making(rt.alloc(), CASES)?.is_none());
-    Ok(())
-}
-
-/// Whether what a spec shares is the same job.
-fn shares_itself(spec: &Spec) -> Result<bool, Fail> {
-    let shared = spec.share()?;
-    Ok(shared == *spec)
-}
-
-#[test]
-fn a_shared_spec_is_the_same_job(rt: HostRuntime) -> Result<(), Fail> {
-    let spec = spec_of(rt.alloc(), (&[1, 8], 3, AMPLE, THREE_BLOCKS))?;
-    assert!(rt; shares_itself(&spec)?);
+    assert!(rt; shares_itself(rt.alloc(), (&[1, 8], 3, AMPLE, THREE_BLOCKS))?);
     Ok(())
 }
 

@@ -21,16 +21,6 @@ fn read_after_one_return(alloc: Global) -> Result<([u64; 4], u32, u64), Fail> {
     Ok(([own, told, again, idle], returned.slot(), returned.steps()))
 }
 
-#[test]
-fn a_published_return_is_read(rt: HostRuntime) -> Result<(), Fail> {
-    let ([own, told, joined, idle], slot, steps) = read_after_one_return(rt.alloc())?;
-    assert!(rt; own == 7 && joined == 7 && idle == 0);
-    // Who was told nothing may read what was there before.
-    assert!(rt; told == 0 || told == 7);
-    assert!(rt; slot == 0 && steps == 7);
-    Ok(())
-}
-
 /// What is read of slot 0 where the second return is published before the first: before both, and after each.
 fn read_after_late_return(alloc: Global) -> Result<[u64; 3], Fail> {
     let mut table = table(alloc)?;
@@ -46,7 +36,13 @@ fn read_after_late_return(alloc: Global) -> Result<[u64; 3], Fail> {
 }
 
 #[test]
-fn a_late_return_lowers_no_count(rt: HostRuntime) -> Result<(), Fail> {
+fn a_published_return_is_read(rt: HostRuntime) -> Result<(), Fail> {
+    let ([own, told, joined, idle], slot, steps) = read_after_one_return(rt.alloc())?;
+    assert!(rt; own == 7 && joined == 7 && idle == 0);
+    // Who was told nothing may read what was there before.
+    assert!(rt; told == 0 || told == 7);
+    assert!(rt; slot == 0 && steps == 7);
+    // A return that comes late lowers no count.
     assert!(rt; read_after_late_return(rt.alloc())? == [0, 14, 14]);
     Ok(())
 }
