@@ -4,10 +4,10 @@ use Rattle.gw_object.specs.declared.fault.Fault.{Fault}
 use Rattle.gw_kinds.specs.Checks.{Check, Finds, first_broken, numbered}
 use Rattle.gw_kinds.proofs.Broken.{stops, stops_first, joined}
 use Rattle.gw_object.specs.Reading.{out_of_memory}
-use Rattle.gw_flow.specs.Flow.{FindsOrLacksMemory}
+use Rattle.gw_flow.specs.Flow.{MayFind}
 
 -- none of the first checks is broken: what a test of the further checks found is what all have
-pub found_later : {X : Type 0} (r : Result X Fault) (cs ds : List Check) → first_broken cs ≡ None → FindsOrLacksMemory r ds → FindsOrLacksMemory r (cs ++ ds)
+pub found_later : {X : Type 0} (r : Result X Fault) (cs ds : List Check) → first_broken cs ≡ None → MayFind r ds → MayFind r (cs ++ ds)
 found_later (Ok x) cs ds none h = joined (Ok x) cs ds none h
 found_later {X} (Err fault) cs ds none (inl h) = inl (joined {X = X} (Err fault) cs ds none h)
 found_later (Err fault) cs ds none (inr h) = inr h
@@ -24,6 +24,6 @@ found_first cs ds fault (inl h) = inl (stops_first cs ds fault h)
 found_first cs ds fault (inr h) = inr h
 
 -- none of the first checks is broken: what a test of the further checks found is what all have, and memory didn't run out
-pub found_after : {X : Type 0} (r : Result X Fault) (cs ds : List Check) → first_broken cs ≡ None → Finds r ds → FindsOrLacksMemory r (cs ++ ds)
+pub found_after : {X : Type 0} (r : Result X Fault) (cs ds : List Check) → first_broken cs ≡ None → Finds r ds → MayFind r (cs ++ ds)
 found_after (Ok x) cs ds none h = joined (Ok x) cs ds none h
 found_after {X} (Err fault) cs ds none h = inl (joined {X = X} (Err fault) cs ds none h)

@@ -7,6 +7,7 @@ use Rattle.std.proofs.lemmas.List.{drop_more}
 use Rattle.std.proofs.lemmas.List.Elements.{All-head, All-tail, All-cons}
 use Rattle.std.proofs.lemmas.List.Folds.{list_all-map, list_any_none}
 use Rattle.gw_flow.specs.Entries.{entry}
+use Rattle.gw_flow.specs.Entries as entries
 use Rattle.gw_flow.proofs.Ascending.{Ascends, AllPairs-head, AllPairs-tail, AllPairs-drop}
 
 or_false : (b : Bool) → (b || false) ≡ b
@@ -26,7 +27,7 @@ module _ {X : Type 0} (key : X → ℕ) (enough : X → X → Bool) where
 
   -- for each that is asked one is held that suffices
   abbrev pub has_each : List X → List X → Bool
-  has_each held asked = list_all (λ a. has held a) asked
+  has_each held asked = entries.has_each key enough held asked
 
   other : (h a : X) → key h ≢ key a → ((key h == key a) && enough h a) ≡ false
   other h a ne = rw (ne_eqb (key h) (key a) ne) refl

@@ -177,6 +177,10 @@ abbrev pub joins : Block → Row → List FlowEdge
 joins (blocks.Link l) state = join l.chain state ∷ []
 joins block state = []
 
+-- the flow edges of the block of number b in a state, in order, of those who enter it and of their copies
+abbrev pub own_edges_in : ℕ → Block → Row → List FlowEdge
+own_edges_in b block state = edges_from b block state ++ joins block state
+
 -- the flow edge of the members whom a block sends on from their user chain, if it is an UNLINK
 abbrev pub members_edges : Table → Block → List FlowEdge
 members_edges table (blocks.Unlink u) = members_move u.target (table (targets.Chain u.chain))
@@ -187,5 +191,9 @@ abbrev pub chain_edges : Table → Block → Row → List FlowEdge
 chain_edges table block state = joins block state ++ members_edges table block
 
 -- the flow edges of the block of number b in a state, in order
+abbrev pub edges_of : Table → ℕ → Block → Row → List FlowEdge
+edges_of table b block state = edges_from b block state ++ chain_edges table block state
+
+-- and in an object, of which they ask nothing
 abbrev pub edges : Parts → Table → ℕ → Block → Row → List FlowEdge
-edges p table b block state = edges_from b block state ++ chain_edges table block state
+edges p table b block state = edges_of table b block state

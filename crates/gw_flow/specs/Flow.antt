@@ -1,5 +1,5 @@
 -- Flow: each block's rules hold in its row of a state table, and what is known of a transaction where it goes on fits the row there.
-use Rattle.std.specs.Prelude.{◌≡◌, ◌⊎◌, ℕ, zero, suc, List, ◌++◌, map, take, Option, Some, None, Result, Ok, Err, Vec, Bool, false, slice_get, option_map, All}
+use Rattle.std.specs.Prelude.{◌≡◌, ◌⊎◌, ℕ, zero, suc, List, ◌++◌, map, take, Option, Some, None, Result, Ok, Err, Vec, Bool, false, slice_get, option_map, All, IfOk}
 use Rattle.std.specs.Option.{option_flatten}
 use Rattle.std.specs.Global.{Global}
 use Rattle.gw_object.specs.Reading.{out_of_memory}
@@ -11,17 +11,18 @@ use Rattle.gw_blocks.specs.declared.parts.Block.TheVariants as blocks
 use Rattle.gw_object.specs.declared.parts.Entity.{Entity}
 use Rattle.gw_object.specs.declared.parts.ReturnRow.{ReturnRow}
 use Rattle.gw_object.specs.declared.parts.Parts.{Parts}
-use Rattle.gw_kinds.specs.Checks.{Check, check, first_broken, numbered}
-use Rattle.gw_kinds.specs.Kinds.{for_chain}
+use Rattle.gw_kinds.specs.Checks.{Check, check, first_broken, numbered, Finds}
+use Rattle.gw_kinds.specs.Kinds.{for_chain, block_at}
 use Rattle.gw_flow.specs.declared.abstract_state.Parameter.{Parameter}
+use Rattle.gw_flow.specs.declared.abstract_state.StateParts.{StateParts}
 use Rattle.gw_flow.specs.declared.edges.Target.{Target}
 use Rattle.gw_flow.specs.declared.edges.Target.TheVariants as targets
 use Rattle.gw_flow.specs.declared.edges.Edge.{Edge}
 use Rattle.gw_flow.specs.declared.edges.FlowEdge.{FlowEdge}
 use Rattle.gw_flow.specs.Entries.{in_place}
 use Rattle.gw_flow.specs.Rows.{Row, fits}
-use Rattle.gw_flow.specs.Seen.{known, seen}
-use Rattle.gw_flow.specs.Blocks.{Table, Rule, rules, rules_without_row, parameter_set, edges}
+use Rattle.gw_flow.specs.Seen.{params_of, known, seen}
+use Rattle.gw_flow.specs.Blocks.{Table, Rule, rules, rules_without_row, parameter_set, after, members_edges, own_edges_in, edges}
 
 -- TABLES
 
@@ -91,9 +92,17 @@ FlowPasses p table = first_broken (flow_checks p table) ≡ None
 -- WHAT IS ANSWERED
 
 -- a test found the first broken of these checks, or that there is none, unless memory ran out
-abbrev pub FindsOrLacksMemory : {X : Type 0} → Result X Fault → List Check → Type 0
-FindsOrLacksMemory (Ok x) cs = first_broken cs ≡ None
-FindsOrLacksMemory (Err fault) cs = (first_broken cs ≡ Some fault) ⊎ (fault ≡ out_of_memory)
+abbrev pub MayFind : {X : Type 0} → Result X Fault → List Check → Type 0
+MayFind (Ok x) cs = first_broken cs ≡ None
+MayFind (Err fault) cs = (first_broken cs ≡ Some fault) ⊎ (fault ≡ out_of_memory)
+
+-- a test found the first of these rules of the block of number b that doesn't hold, or that each holds
+abbrev pub FindsRule : {X : Type 0} → Result X Fault → ℕ → List Rule → Type 0
+FindsRule result b rules = Finds result (map (rule_check b) rules)
+
+-- a state says what is known of a transaction once it has passed the block of number b in another one, by the return rows
+abbrev pub HasPassed : List ReturnRow → ℕ → Block → StateParts → StateParts → Type 0
+HasPassed rows b block s passed = known rows passed ≡ after b block (known rows s)
 
 -- the parameters that are sure to be set once one is set, if one is; each other one is as it was given
 abbrev pub parameters_with : Option Parameter → List Parameter → List Parameter
@@ -112,16 +121,52 @@ said_by_flow e = (e.target, e.state)
 abbrev pub SayTheSame : List ReturnRow → List Edge → List FlowEdge → Type 0
 SayTheSame rows out es = map (said rows) out ≡ map said_by_flow es
 
+-- edges are flow edges in the numbers of these parameters: by any return rows by which they say what each of those says of its own, they say the same
+abbrev pub AreInNumbersOf : List Parameter → List Edge → List FlowEdge → Type 0
+AreInNumbersOf ps out es = (rows : List ReturnRow) → All (λ (e : FlowEdge). e.state.params ≡ params_of rows ps) es → SayTheSame rows out es
+
+-- these are the edges of the block of number b in a state, by the return rows, of those who enter it and of their copies
+abbrev pub AreOwnEdges : List ReturnRow → ℕ → Block → StateParts → List Edge → Type 0
+AreOwnEdges rows b block s out = SayTheSame rows out (own_edges_in b block (known rows s))
+
+-- these are the edges of the members whom a block sends on from their user chain, by an object's own table
+abbrev pub AreMembersEdges : Parts → Block → List Edge → Type 0
+AreMembersEdges p block out = SayTheSame p.returns out (members_edges (own_table p) block)
+
+-- these are the edges of the block of number b in a state, by an object's own table
+abbrev pub AreEdges : Parts → ℕ → Block → StateParts → List Edge → Type 0
+AreEdges p b block s out = SayTheSame p.returns out (edges p (own_table p) b block (known p.returns s))
+
 -- the edges of those who enter the block, and of their copies: all but the one of the members whom an UNLINK takes from a user chain
 abbrev pub own_edges : Block → List Edge → List Edge
 own_edges (blocks.Unlink u) out = take 1 out
 own_edges block out = out
 
--- the states of edges of the block of number b have the parameters that were given, but the one that the block sets
-abbrev pub HaveOwn : List Edge → ℕ → Block → List Parameter → Type 0
-HaveOwn out b block given = All (λ (e : Edge). e.state.parameters ≡ parameters_with (parameter_set b block) given) (own_edges block out)
+-- the states of edges have these parameters
+abbrev pub HaveParameters : List Edge → List Parameter → Type 0
+HaveParameters out ps = All (λ (e : Edge). e.state.parameters ≡ ps) out
 
--- what a call answers for the edges of a block, by these return rows, where these are the checks of its rules: the fault of the first rule that is broken; else where each edge leads and its state, in order, unless memory ran out
-abbrev pub AnswersEdges : List ReturnRow → Result (Vec Edge Global) Fault → List Check → List FlowEdge → Type 0
-AnswersEdges rows (Ok out) rule_checks es = (first_broken rule_checks ≡ None) × SayTheSame rows out.items es
-AnswersEdges rows (Err fault) rule_checks es = (first_broken rule_checks ≡ Some fault) ⊎ ((first_broken rule_checks ≡ None) × (fault ≡ out_of_memory))
+-- the states of edges have the parameters that were given, but the one that the block of number b sets
+abbrev pub HaveGiven : List Edge → ℕ → Block → List Parameter → Type 0
+HaveGiven out b block given = HaveParameters out (parameters_with (parameter_set b block) given)
+
+-- so have the edges of the block of number b but that of the members of a user chain
+abbrev pub HaveOwn : List Edge → ℕ → Block → List Parameter → Type 0
+HaveOwn out b block given = HaveGiven (own_edges block out) b block given
+
+-- so have those that are answered for a state, if there is no error
+abbrev pub KeepOwn : {E : Type 0} → ℕ → StateParts → Result (Vec Edge Global) E → Block → Type 0
+KeepOwn b s result block = IfOk result (λ out. HaveOwn out.items b block s.parameters)
+
+-- a fact of the block of a number, where it is there
+abbrev pub ForBlock : Parts → ℕ → (Block → Type 0) → Type 0
+ForBlock p b fact = (block : Block) → block_at p.blocks b ≡ Some block → fact block
+
+-- the checks of the rules of the block of number b in a state, by an object's return rows
+abbrev pub rule_checks_in : Parts → ℕ → StateParts → Block → List Check
+rule_checks_in p b s block = rule_checks p b block (known p.returns s)
+
+-- what a call answers for the edges of the block of number b in a state: the fault of the first rule that is broken; else its edges, in order, unless memory ran out
+abbrev pub AnswersEdges : Parts → ℕ → StateParts → Result (Vec Edge Global) Fault → Block → Type 0
+AnswersEdges p b s (Ok out) block = (first_broken (rule_checks_in p b s block) ≡ None) × AreEdges p b block s out.items
+AnswersEdges p b s (Err fault) block = (first_broken (rule_checks_in p b s block) ≡ Some fault) ⊎ ((first_broken (rule_checks_in p b s block) ≡ None) × (fault ≡ out_of_memory))

@@ -104,6 +104,10 @@ kind_fits (Some Num) (Some Num) = true
 kind_fits (Some (Ret bs)) (Some (Ret cs)) = list_all (λ b. lists cs b) bs
 kind_fits kind said = false
 
+-- whether what is held suffices where this is asked
+abbrev pub suffices : ParamKind → ParamKind → Bool
+suffices held asked = kind_fits (Some held) (Some asked)
+
 -- a state fits a row: it has at least the row's parameters, exactly its facilities, and at least its units
 pub record Fits (state row : Row) : Type 0 where
   pub params : (p : ℕ) → IsTrue (kind_fits (kind_of state p) (kind_of row p))

@@ -1,11 +1,18 @@
 -- The least of the parameters that are used as numbers and may be none.
 use Rattle.std.specs.Prelude.{ℕ, List, Option, Some, None, Bool, not, if◌then◌else◌, nat_le}
-use Rattle.std.specs.List.{fold}
+use Rattle.std.specs.List.{fold, find}
+use Rattle.gw_blocks.specs.declared.parts.Operand.{Operand}
+use Rattle.gw_object.specs.declared.parts.Parts.{Parts}
 use Rattle.gw_flow.specs.Rows.{Row, kind_of, is_number}
+use Rattle.gw_flow.specs.Blocks.{parameters_read}
 
 -- whether a parameter isn't sure to hold a number
 abbrev pub is_unfit : Row → ℕ → Bool
 is_unfit state p = not (is_number (kind_of state p))
+
+-- the least parameter that operands ask for and that isn't sure to hold a number, if there is one
+abbrev pub first_unfit : Parts → List Operand → Row → Option ℕ
+first_unfit p os state = find (is_unfit state) (parameters_read p os)
 
 -- the lesser of two numbers, or the one that there is
 abbrev pub lower : Option ℕ → ℕ → Option ℕ

@@ -1,9 +1,9 @@
 //! Abstract states, as calls carry them: what is known of a transaction, in numbers of the caller's own.
 
-ghost use Rattle.std.specs.Prelude.{◌≡◌, ◌≢◌, ◌↔◌, ◌<◌, List, map, IsTrue, Ok, IfOk, IfErr, All, AllPairs};
+ghost use Rattle.std.specs.Prelude.{◌≡◌, ◌↔◌, map, IsTrue, Ok, IfOk, IfErr, All};
 ghost use Rattle.gw_object.specs.Grammar.{HeldFits, IsAscending};
-ghost use Rattle.gw_object.specs.declared.parts.ReturnRow.{ReturnRow};
-ghost use Rattle.gw_flow.specs.Seen.{PartsAscend, kind_carried, parameter_carried, known, seen};
+ghost use Rattle.gw_flow.specs.Seen.{ParametersAscend, NumbersAscend, AmountsAscend, AreSome, PartsAscend};
+ghost use Rattle.gw_flow.specs.Seen.{kind_carried, parameter_carried, Carries};
 
 use crate::lists::{amounts_seen, copy_of};
 use gw_object::{Items, Memory, TableKind, TableParameter, TableState};
@@ -70,42 +70,42 @@ impl Model for AbsState {
 
 /// Whether parameters ascend by their numbers.
 fn parameters_ascend(parameters: &[Parameter]) -> bool
-    ensures { IsTrue result ↔ AllPairs (λ (a b : Parameter). a.number < b.number) parameters.now }
+    ensures { IsTrue result ↔ ParametersAscend parameters.now }
 {
     parameters.is_sorted_by(|a, b| a.number < b.number)
 }
 
 /// Whether facilities ascend.
 fn facilities_ascend(facilities: &[u16]) -> bool
-    ensures { IsTrue result ↔ AllPairs (λ a b. a < b) facilities.now }
+    ensures { IsTrue result ↔ NumbersAscend facilities.now }
 {
     facilities.is_sorted_by(|a, b| a < b)
 }
 
 /// Whether amounts ascend by their entities.
 fn amounts_ascend(amounts: &[Amount]) -> bool
-    ensures { IsTrue result ↔ AllPairs (λ (a b : Amount). a.entity < b.entity) amounts.now }
+    ensures { IsTrue result ↔ AmountsAscend amounts.now }
 {
     amounts.is_sorted_by(|a, b| a.entity < b.entity)
 }
 
 /// Whether no amount is 0.
 fn none_is_0(amounts: &[Amount]) -> bool
-    ensures { IsTrue result ↔ All (λ (a : Amount). a.number ≢ 0) amounts.now }
+    ensures { IsTrue result ↔ AreSome amounts.now }
 {
     amounts.iter().all(|a| a.number != 0)
 }
 
-/// Whether the parameters and the facilities of a state ascend.
-fn numbers_ascend(parts: &StateParts) -> bool
-    ensures { IsTrue result ↔ (AllPairs (λ (a b : Parameter). a.number < b.number) parts.now.parameters × AllPairs (λ a b. a < b) parts.now.facilities) }
+/// Whether parameters and facilities ascend.
+fn numbers_ascend(parameters: &[Parameter], facilities: &[u16]) -> bool
+    ensures { IsTrue result ↔ (ParametersAscend parameters.now × NumbersAscend facilities.now) }
 {
-    parameters_ascend(parts.parameters.as_slice()) && facilities_ascend(parts.facilities.as_slice())
+    parameters_ascend(parameters) && facilities_ascend(facilities)
 }
 
 /// Whether amounts ascend by their entities, and none is 0.
 fn amounts_are_ordered(amounts: &[Amount]) -> bool
-    ensures { IsTrue result ↔ (AllPairs (λ (a b : Amount). a.entity < b.entity) amounts.now × All (λ (a : Amount). a.number ≢ 0) amounts.now) }
+    ensures { IsTrue result ↔ (AmountsAscend amounts.now × AreSome amounts.now) }
 {
     amounts_ascend(amounts) && none_is_0(amounts)
 }
@@ -114,7 +114,8 @@ fn amounts_are_ordered(amounts: &[Amount]) -> bool
 fn is_ordered(parts: &StateParts) -> bool
     ensures { IsTrue result ↔ PartsAscend parts.now }
 {
-    numbers_ascend(parts) && amounts_are_ordered(parts.units.as_slice())
+    numbers_ascend(parts.parameters.as_slice(), parts.facilities.as_slice())
+        && amounts_are_ordered(parts.units.as_slice())
 }
 
 /// What a row of the state table says that a parameter holds, in the row's own numbers.
@@ -157,7 +158,7 @@ impl AbsState {
     pub(crate) fn of_row(alloc: Global, row: &TableState) -> Result<AbsState, Memory>
         requires ascending { IsAscending row.now }
         requires amounts { All HeldFits row.now.units }
-        ensures { IfOk result (λ state. (rows : List ReturnRow) → known rows state ≡ seen rows row.now) }
+        ensures { IfOk result (λ state. Carries state row.now) }
     {
         let parameters = parameters_of_row(alloc, row.parameters.as_slice())?;
         let units = amounts_seen(alloc, row.units.as_slice())?;

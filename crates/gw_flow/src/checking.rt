@@ -1,14 +1,14 @@
 //! The checks of flow, in order.
 
-ghost use Rattle.std.specs.Prelude.{◌≡◌, ◌≤◌, ◌++◌, Some, All, map, length};
+ghost use Rattle.std.specs.Prelude.{◌≡◌, ◌≤◌, All, length};
 ghost use Rattle.gw_object.specs.Grammar.{AreAscending, HasSpelling};
 ghost use Rattle.gw_kinds.specs.Pass.{KindsPass};
 ghost use Rattle.gw_flow.specs.Rows.{HasRoom};
-ghost use Rattle.gw_flow.specs.Blocks.{edges_from, chain_edges};
+ghost use Rattle.gw_flow.specs.Blocks.{edges_of};
 ghost use Rattle.gw_flow.specs.Flow as model;
-ghost use Rattle.gw_flow.specs.Flow.{FindsOrLacksMemory};
+ghost use Rattle.gw_flow.specs.Flow.{MayFind, checks_at};
 ghost use Rattle.gw_flow.specs.Seen.{known, HaveNext};
-ghost use Rattle.gw_flow.specs.ViewedTable.{table_viewed, HaveRoom};
+ghost use Rattle.gw_flow.specs.ViewedTable.{table_viewed, HaveRoom, MayFindMisfit, checks_by};
 
 use crate::abstract_state::AbsState;
 use crate::edges::Target;
@@ -33,7 +33,7 @@ fn check_edges_in(
     requires number { number ≤ 4096 }
     requires returns { All AreAscending table.returns.now }
     requires room { HasRoom (known table.returns.now state.now) }
-    ensures { FindsOrLacksMemory result (map (model.edge_check (table_viewed table.entry) number) (edges_from number block.now (known table.entry.returns.now state.now) ++ chain_edges (table_viewed table.entry) block.now (known table.entry.returns.now state.now))) }
+    ensures { MayFindMisfit table.entry number (λ t. edges_of t number block.now) state.now result }
 {
     match passed(alloc, table.returns.rows(), number, block, state) {
         Ok(passed) => check_edges(alloc, table, number, block, state, &passed),
@@ -53,7 +53,7 @@ fn check_in(
     requires number { number ≤ 4096 }
     requires returns { All AreAscending table.returns.now }
     requires room { HasRoom (known table.returns.now state.now) }
-    ensures { FindsOrLacksMemory result (model.checks_in parts.now (table_viewed table.entry) number block.now (Some (known table.entry.returns.now state.now))) }
+    ensures { MayFind result (checks_by parts.now table.entry number block.now state.now) }
 {
     let returns = table.returns.rows();
     check_rules(parts, number, block, &Carried { state, returns })?;
@@ -71,7 +71,7 @@ fn check_block(
     requires number { number ≤ 4096 }
     requires returns { All AreAscending table.returns.now }
     requires room { HaveRoom (table_viewed table) }
-    ensures { FindsOrLacksMemory result (model.checks_at parts.now (table_viewed table.entry) number block.now) }
+    ensures { MayFind result (checks_at parts.now (table_viewed table.entry) number block.now) }
 {
     match table.row(Target::Block(number)) {
         Some(state) => check_in(alloc, parts, table, number, block, state),
@@ -85,7 +85,7 @@ fn check_blocks(alloc: Global, parts: &Parts, table: StateTable<'_, '_>) -> Resu
     requires few { length parts.now.blocks ≤ 4096 }
     requires returns { All AreAscending table.returns.now }
     requires room { HaveRoom (table_viewed table) }
-    ensures { FindsOrLacksMemory result (model.flow_checks parts.now (table_viewed table.entry)) }
+    ensures { MayFind result (model.flow_checks parts.now (table_viewed table.entry)) }
 {
     let blocks = parts.blocks.as_slice();
     for i in 0..blocks.len() {
@@ -100,7 +100,7 @@ fn check_by(alloc: Global, parts: &Parts, returns: &Inclusions<'_>) -> Result<()
     requires returns { returns.now ≡ parts.now.returns }
     requires spelled { HasSpelling parts.now }
     requires next { HaveNext parts.now.returns }
-    ensures { FindsOrLacksMemory result (model.flow_checks parts.now (model.own_table parts.now)) }
+    ensures { MayFind result (model.flow_checks parts.now (model.own_table parts.now)) }
 {
     match rows_of(alloc, parts) {
         Ok(rows) => {
@@ -124,7 +124,7 @@ fn check_by(alloc: Global, parts: &Parts, returns: &Inclusions<'_>) -> Result<()
 /// docs/refusals.md); or 8 Memory at Nowhere where memory runs out. Kinds have to pass before.
 pub fn check_flow(alloc: Global, object: &Object) -> Result<(), Fault>
     requires kinds { KindsPass object.now }
-    ensures { FindsOrLacksMemory result (model.flow_checks object.now (model.own_table object.now)) }
+    ensures { MayFind result (model.flow_checks object.now (model.own_table object.now)) }
 {
     let parts = object.parts();
     let bound = parts.blocks.as_slice().len() + 1;

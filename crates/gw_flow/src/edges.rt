@@ -1,14 +1,11 @@
 //! Flow edges: where a transaction goes on to, and what is known of it there.
 
-ghost use Rattle.std.specs.Prelude.{◌≡◌, ◌≤◌, ◌<◌, ◌++◌, List, map, option_map, option_to_list, IfOk, All, AllPairs};
-ghost use Rattle.gw_object.specs.declared.parts.ReturnRow.{ReturnRow};
+ghost use Rattle.std.specs.Prelude.{◌≡◌, ◌≤◌, ◌<◌, map, option_to_list, IfOk, All};
 ghost use Rattle.gw_kinds.specs.Exits.{returns_to as exit_after};
-ghost use Rattle.gw_flow.specs.declared.abstract_state.Parameter.{Parameter as DeclaredParameter};
-ghost use Rattle.gw_flow.specs.Rows.{HasRoom, return_blocks};
-ghost use Rattle.gw_flow.specs.Viewed.{kind_viewed};
+ghost use Rattle.gw_flow.specs.Rows.{HasRoom};
+ghost use Rattle.gw_flow.specs.Viewed.{blocks_viewed};
 ghost use Rattle.gw_flow.specs.Blocks as model;
-ghost use Rattle.gw_flow.specs.Flow.{said};
-ghost use Rattle.gw_flow.specs.Seen.{params_of};
+ghost use Rattle.gw_flow.specs.Seen.{ParametersAscend, IsInNumbersOf};
 
 use crate::abstract_state::{AbsState, Parameter};
 use crate::codes::{CHAIN_STATE, EDGE_STATE};
@@ -57,8 +54,9 @@ impl<'a> FlowEdge<'a> {
         alloc: Global,
         parameters: &Items<Parameter>,
     ) -> Result<Edge, Memory>
-        requires { AllPairs (λ (a b : DeclaredParameter). a.number < b.number) parameters.now }
-        ensures same { IfOk result (λ e. (rows : List ReturnRow) → self.now.state.params ≡ params_of rows parameters.now → said rows e ≡ (self.now.target, self.now.state)) }
+        requires { ParametersAscend parameters.now }
+        ensures target { IfOk result (λ e. e.target ≡ self.now.target) }
+        ensures same { IfOk result (λ e. IsInNumbersOf parameters.now e.state self.now.state) }
         ensures own { IfOk result (λ e. e.state.parameters ≡ parameters.now) }
     {
         Ok(Edge {
@@ -178,8 +176,8 @@ pub(crate) fn exits_of_return(
     alloc: Global,
     kind: Option<ParamKind<'_>>,
 ) -> Result<Vec<Exit>, Memory>
-    requires { All (λ b. b < 65535) (return_blocks (option_map kind_viewed kind)) }
-    ensures { IfOk result (λ exits. exits.items ≡ map exit_after (return_blocks (option_map kind_viewed kind.entry))) }
+    requires { All (λ b. b < 65535) (blocks_viewed kind) }
+    ensures { IfOk result (λ exits. exits.items ≡ map exit_after (blocks_viewed kind.entry)) }
 {
     match kind {
         Some(ParamKind::Ret(blocks)) => exits_after(alloc, blocks),
@@ -232,7 +230,7 @@ pub fn own_edges_of<'a>(
 ) -> Result<Vec<FlowEdge<'a>>, Memory>
     requires number { number ≤ 4096 }
     requires room { HasRoom state.now }
-    ensures { IfOk result (λ edges. edges.items ≡ model.edges_from number block.now state.now ++ model.joins block.now state.now) }
+    ensures { IfOk result (λ edges. edges.items ≡ model.own_edges_in number block.now state.now) }
 {
     let edges = edges_of(alloc, number, block, state)?;
     with_last(edges, join(alloc, block, state)?)

@@ -1,11 +1,13 @@
 //! Whether what is known of a transaction suffices for what a row of the state table asks. Both lists ascend, so each is
 //! walked once. Returns are compared block by block, or by the numbers of return rows whose inclusions are known.
 
-ghost use Rattle.std.specs.Prelude.{◌≡◌, ◌≢◌, ◌<◌, ℕ, Bool, true, Some, [], ◌∷◌, ◌==◌, ◌&&◌, nat_le, All, AllPairs};
-ghost use Rattle.std.specs.List.{list_all, list_any};
+ghost use Rattle.std.specs.Prelude.{◌≡◌, ◌<◌, ℕ, Bool, true, [], ◌∷◌, nat_le, All, AllPairs};
+ghost use Rattle.std.specs.List.{list_all};
+ghost use Rattle.gw_flow.specs.Entries as entries;
 ghost use Rattle.gw_flow.specs.Entries.{lists};
 ghost use Rattle.gw_flow.specs.Rows as rows;
 ghost use Rattle.gw_flow.specs.Seen.{amounts_of, kind_seen, params_of};
+ghost use Rattle.gw_flow.specs.Seen.{ParametersAscend, NumbersAscend, AmountsAscend, AreSome};
 ghost use Rattle.gw_flow.specs.Viewed.{kind_viewed, params_viewed};
 
 use crate::abstract_state::{Amount, Parameter, ParameterKind};
@@ -38,8 +40,8 @@ impl Entry<()> for u16 {
 
 /// Whether each of these blocks is among others.
 fn are_among(blocks: &[u16], others: &[u16]) -> bool
-    requires blocks { AllPairs (λ a b. a < b) blocks.now }
-    requires others { AllPairs (λ a b. a < b) others.now }
+    requires blocks { NumbersAscend blocks.now }
+    requires others { NumbersAscend others.now }
     ensures { result ≡ list_all (λ b. lists others.now b) blocks.now }
 {
     has_each(others, blocks, ())
@@ -57,7 +59,7 @@ fn are_all(blocks: &[u16], block: u16) -> bool
 fn kind_suffices(held: ParamKind<'_>, asked: ParamKind<'_>) -> bool
     requires held { rows.KindAscends (kind_viewed held) }
     requires asked { rows.KindAscends (kind_viewed asked) }
-    ensures { result ≡ rows.kind_fits (Some (kind_viewed held.entry)) (Some (kind_viewed asked.entry)) }
+    ensures { result ≡ rows.suffices (kind_viewed held.entry) (kind_viewed asked.entry) }
 {
     match held {
         ParamKind::Num => asked == ParamKind::Num,
@@ -75,7 +77,7 @@ fn kind_suffices(held: ParamKind<'_>, asked: ParamKind<'_>) -> bool
 }
 
 impl<'a> Entry<()> for Param<'a> {
-    ghost enough = { λ by held asked. rows.kind_fits (Some (kind_viewed held.kind)) (Some (kind_viewed asked.kind)) };
+    ghost enough = { λ by held asked. rows.suffices (kind_viewed held.kind) (kind_viewed asked.kind) };
 
     ghost can_compare = { λ p. rows.KindAscends (kind_viewed p.kind) };
 
@@ -94,7 +96,7 @@ impl Entry<()> for Amount {
 
 /// Whether what a parameter holds suffices where this is asked, both by the numbers of return rows.
 fn own_suffices(by: &Inclusions<'_>, held: ParameterKind, asked: ParameterKind) -> bool
-    ensures { result ≡ rows.kind_fits (Some (kind_seen by.now held)) (Some (kind_seen by.now asked)) }
+    ensures { result ≡ rows.suffices (kind_seen by.now held) (kind_seen by.now asked) }
 {
     match held {
         ParameterKind::Num => asked == ParameterKind::Num,
@@ -112,7 +114,7 @@ fn own_suffices(by: &Inclusions<'_>, held: ParameterKind, asked: ParameterKind) 
 }
 
 impl<'s, 'a> Entry<&'s Inclusions<'a>> for Parameter {
-    ghost enough = { λ by held asked. rows.kind_fits (Some (kind_seen by.now held.kind)) (Some (kind_seen by.now asked.kind)) };
+    ghost enough = { λ by held asked. rows.suffices (kind_seen by.now held.kind) (kind_seen by.now asked.kind) };
 
     fn suffices(&self, asked: &Parameter, by: &'s Inclusions<'a>) -> bool {
         own_suffices(by, self.kind, asked.kind)
@@ -125,7 +127,7 @@ fn has_each<C: Copy, T: Entry<C>>(held: &[T], asked: &[T], by: C) -> bool
     requires asked { AllPairs (λ a b. T.key a < T.key b) asked.now }
     requires each_held { All T.can_compare held.now }
     requires each_asked { All T.can_compare asked.now }
-    ensures { result ≡ list_all (λ a. list_any (λ h. (T.key h == T.key a) && T.enough by h a) held.now) asked.now }
+    ensures { result ≡ entries.has_each T.key (T.enough by) held.now asked.now }
 {
     let mut left = asked;
     for entry in held {
@@ -147,9 +149,9 @@ fn has_each<C: Copy, T: Entry<C>>(held: &[T], asked: &[T], by: C) -> bool
 
 /// Whether at least these units are held.
 pub(crate) fn has_units(held: &[Amount], asked: &[Amount]) -> bool
-    requires held { AllPairs (λ (a b : Amount). a.entity < b.entity) held.now }
-    requires asked { AllPairs (λ (a b : Amount). a.entity < b.entity) asked.now }
-    requires amounts { All (λ (a : Amount). a.number ≢ 0) asked.now }
+    requires held { AmountsAscend held.now }
+    requires asked { AmountsAscend asked.now }
+    requires amounts { AreSome asked.now }
     ensures { result ≡ rows.units_fit (amounts_of held.now) (amounts_of asked.now) }
 {
     has_each(held, asked, ())
@@ -168,8 +170,8 @@ pub(crate) fn has_params(held: &[Param<'_>], asked: &[Param<'_>]) -> bool
 
 /// Whether at least these parameters are set, to what fits, both by the numbers of return rows.
 pub(crate) fn has_parameters(by: &Inclusions<'_>, held: &[Parameter], asked: &[Parameter]) -> bool
-    requires held { AllPairs (λ (a b : Parameter). a.number < b.number) held.now }
-    requires asked { AllPairs (λ (a b : Parameter). a.number < b.number) asked.now }
+    requires held { ParametersAscend held.now }
+    requires asked { ParametersAscend asked.now }
     ensures { result ≡ rows.params_fit (params_of by.now held.now) (params_of by.now asked.now) }
 {
     has_each(held, asked, by)

@@ -1,19 +1,14 @@
 //! The edges of a block in a state, in the numbers of that state.
 
-ghost use Rattle.std.specs.Prelude.{◌≡◌, ◌<◌, ◌≤◌, ◌++◌, Some, IfOk, IfSome, IsSome, All, AllPairs, List, option_to_list};
-ghost use Rattle.gw_blocks.specs.declared.parts.Block.{Block};
+ghost use Rattle.std.specs.Prelude.{◌≡◌, ◌≤◌, IfOk, IfSome, IsSome, All, option_to_list};
 ghost use Rattle.gw_kinds.specs.Checks.{Finds};
 ghost use Rattle.gw_object.specs.Grammar.{AreAscending, IsAscending, StateFits, HasSpelling};
-ghost use Rattle.gw_object.specs.declared.parts.ReturnRow.{ReturnRow as DeclaredReturnRow};
 ghost use Rattle.gw_kinds.specs.Kinds.{block_at};
-ghost use Rattle.gw_flow.specs.declared.abstract_state.Parameter.{Parameter as DeclaredParameter};
 ghost use Rattle.gw_flow.specs.Rows.{HasRoom};
-ghost use Rattle.gw_flow.specs.Blocks.{parameter_set as set_by, after as after_block, edges_from, joins, members_edges, edges};
 ghost use Rattle.gw_flow.specs.Flow as model;
-ghost use Rattle.gw_flow.specs.Flow.{SayTheSame, HaveOwn, AnswersEdges};
-ghost use Rattle.gw_flow.specs.Seen.{known, params_of};
-ghost use Rattle.gw_flow.specs.declared.edges.Edge.{Edge as DeclaredEdge};
-ghost use Rattle.gw_flow.specs.declared.edges.FlowEdge.{FlowEdge as DeclaredFlowEdge};
+ghost use Rattle.gw_flow.specs.Flow.{HasPassed, HaveParameters, HaveGiven, KeepOwn, ForBlock};
+ghost use Rattle.gw_flow.specs.Flow.{AreInNumbersOf, AreOwnEdges, AreMembersEdges, AreEdges, AnswersEdges};
+ghost use Rattle.gw_flow.specs.Seen.{known, ParametersAscend};
 
 use crate::abstract_state::{AbsState, Parameter};
 use crate::edges::{Edge, FlowEdge, Target, after, own_edges_of};
@@ -61,7 +56,7 @@ pub(crate) fn passed(
 ) -> Result<AbsState, Memory>
     requires returns { All AreAscending returns.now }
     requires room { HasRoom (known returns.now state.now) }
-    ensures { IfOk result (λ s. known returns.now s ≡ after_block number block.now (known returns.now state.now)) }
+    ensures { IfOk result (λ s. HasPassed returns.now number block.now state.now s) }
 {
     let seen = State::of(alloc, returns, state)?;
     let passed = after(alloc, number, block, &seen)?;
@@ -76,9 +71,9 @@ fn in_numbers_of(
     edges: &[FlowEdge<'_>],
     parameters: &Items<Parameter>,
 ) -> Result<Vec<Edge>, Memory>
-    requires { AllPairs (λ (a b : DeclaredParameter). a.number < b.number) parameters.now }
-    ensures same { IfOk result (λ out. (rows : List DeclaredReturnRow) → All (λ (e : DeclaredFlowEdge). e.state.params ≡ params_of rows parameters.now) edges.now → SayTheSame rows out.items edges.now) }
-    ensures own { IfOk result (λ out. All (λ (e : DeclaredEdge). e.state.parameters ≡ parameters.now) out.items) }
+    requires { ParametersAscend parameters.now }
+    ensures same { IfOk result (λ out. AreInNumbersOf parameters.now out.items edges.now) }
+    ensures own { IfOk result (λ out. HaveParameters out.items parameters.now) }
 {
     let mut out = Vec::new(alloc);
     for edge in edges {
@@ -98,8 +93,8 @@ fn own_edges(
     requires number { number ≤ 4096 }
     requires returns { All AreAscending returns.now }
     requires room { HasRoom (known returns.now state.now) }
-    ensures same { IfOk result (λ out. SayTheSame returns.now out.items (edges_from number block.now (known returns.now state.now) ++ joins block.now (known returns.now state.now))) }
-    ensures own { IfOk result (λ out. All (λ (e : DeclaredEdge). e.state.parameters ≡ model.parameters_with (set_by number block.now) state.now.parameters) out.items) }
+    ensures same { IfOk result (λ es. AreOwnEdges returns.now number block.now state.now es.items) }
+    ensures own { IfOk result (λ es. HaveGiven es.items number block.now state.now.parameters) }
 {
     let seen = State::of(alloc, returns, state)?;
     let edges = own_edges_of(alloc, number, block, &seen)?;
@@ -113,7 +108,7 @@ fn own_edges(
 fn members_move(alloc: Global, parts: &Parts, block: &Block) -> Result<Option<Edge>, Memory>
     requires limits { All (λ row. IfSome row StateFits) parts.now.chain_states }
     requires ascending { All (λ row. IfSome row IsAscending) parts.now.chain_states }
-    ensures { IfOk result (λ edge. SayTheSame parts.now.returns (option_to_list edge) (members_edges (model.own_table parts.now) block.now)) }
+    ensures { IfOk result (λ edge. AreMembersEdges parts.now block.now (option_to_list edge)) }
 {
     let Block::Unlink(unlink) = block else {
         return Ok(None);
@@ -138,8 +133,8 @@ fn all_edges(
     requires number { number ≤ 4096 }
     requires spelled { HasSpelling parts.now }
     requires room { HasRoom (known parts.now.returns state.now) }
-    ensures same { IfOk result (λ out. SayTheSame parts.now.returns out.items (edges parts.now (model.own_table parts.now) number block.now (known parts.now.returns state.now))) }
-    ensures own { IfOk result (λ out. HaveOwn out.items number block.now state.now.parameters) }
+    ensures same { IfOk result (λ out. AreEdges parts.now number block.now state.now out.items) }
+    ensures own { KeepOwn number state.now result block.now }
 {
     let edges = own_edges(alloc, parts.returns.as_slice(), number, block, state)?;
     with_last(edges, members_move(alloc, parts, block)?)
@@ -147,7 +142,7 @@ fn all_edges(
 
 /// The fault of the first rule of the block of this number that is broken in a state, if there is one.
 fn check_rules_in(parts: &Parts, number: u16, block: &Block, state: &AbsState) -> Result<(), Fault>
-    ensures { Finds result (model.rule_checks parts.now number block.now (known parts.now.returns state.now)) }
+    ensures { Finds result (model.rule_checks_in parts.now number state.now block.now) }
 {
     let returns = parts.returns.as_slice();
     check_rules(parts, number, block, &Carried { state, returns })
@@ -165,8 +160,8 @@ fn edges_or_fault(
     requires number { number ≤ 4096 }
     requires spelled { HasSpelling parts.now }
     requires room { HasRoom (known parts.now.returns state.now) }
-    ensures edges { AnswersEdges parts.now.returns result (model.rule_checks parts.now number block.now (known parts.now.returns state.now)) (edges parts.now (model.own_table parts.now) number block.now (known parts.now.returns state.now)) }
-    ensures own { IfOk result (λ out. HaveOwn out.items number block.now state.now.parameters) }
+    ensures edges { AnswersEdges parts.now number state.now result block.now }
+    ensures own { KeepOwn number state.now result block.now }
 {
     check_rules_in(parts, number, block, state)?;
     match all_edges(alloc, parts, number, block, state) {
@@ -194,9 +189,8 @@ pub fn out_edges(
 ) -> Result<Vec<Edge>, Fault>
     requires block { IsSome (block_at object.now.blocks block) }
     requires room { HasRoom (known object.now.returns state.now) }
-    ensures edges { (k : Block) → block_at object.now.blocks block ≡ Some k →
-        AnswersEdges object.now.returns result (model.rule_checks object.now block k (known object.now.returns state.now)) (edges object.now (model.own_table object.now) block k (known object.now.returns state.now)) }
-    ensures own { (k : Block) → block_at object.now.blocks block ≡ Some k → IfOk result (λ out. HaveOwn out.items block k state.now.parameters) }
+    ensures edges { ForBlock object.now block (AnswersEdges object.now block state.now result) }
+    ensures own { ForBlock object.now block (KeepOwn block state.now result) }
 {
     let parts = object.parts();
     let there = &parts.blocks.as_slice()[block as usize - 1];

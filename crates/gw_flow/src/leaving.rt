@@ -1,14 +1,11 @@
 //! Checks of where transactions go on from a block: whether what is known of them there fits the row of the target.
 
-ghost use Rattle.std.specs.Prelude.{◌≡◌, ◌≤◌, ◌++◌, map, option_map, option_copied};
-ghost use Rattle.gw_kinds.specs.Checks.{Finds};
-ghost use Rattle.gw_flow.specs.Blocks as model;
-ghost use Rattle.gw_flow.specs.Flow as flow;
-ghost use Rattle.gw_flow.specs.Flow.{FindsOrLacksMemory};
-ghost use Rattle.gw_flow.specs.Rows as rows;
-ghost use Rattle.gw_flow.specs.Rows.{HasRoom};
-ghost use Rattle.gw_flow.specs.Seen.{known};
-ghost use Rattle.gw_flow.specs.ViewedTable.{table_viewed};
+ghost use Rattle.std.specs.Prelude.{◌≡◌, ◌≤◌};
+ghost use Rattle.gw_flow.specs.Blocks.{known_of, edge_along, edges_along, edges_from, edges_of, chain_edges};
+ghost use Rattle.gw_flow.specs.Flow.{fits_row as row_fits, HasPassed};
+ghost use Rattle.gw_flow.specs.Rows.{fits as fits_of, parameters_alone, HasRoom};
+ghost use Rattle.gw_flow.specs.Seen.{known, row_by};
+ghost use Rattle.gw_flow.specs.ViewedTable.{FindsMisfit, MayFindMisfit};
 
 use crate::abstract_state::AbsState;
 use crate::codes::{CHAIN_STATE, EDGE_STATE};
@@ -25,7 +22,7 @@ use std::alloc::{AllocError, Global};
 
 /// Whether a state fits a row: it has at least the row's parameters, exactly its facilities, and at least its units.
 fn fits(by: &Inclusions<'_>, state: &AbsState, row: &AbsState) -> bool
-    ensures { result ≡ rows.fits (known by.now state.now) (known by.now row.now) }
+    ensures { result ≡ fits_of (known by.now state.now) (known by.now row.now) }
 {
     let held = state.parts();
     let asked = row.parts();
@@ -36,7 +33,7 @@ fn fits(by: &Inclusions<'_>, state: &AbsState, row: &AbsState) -> bool
 
 /// Whether a copy of a transaction in a state fits a row: it owns and holds nothing.
 fn copy_fits(by: &Inclusions<'_>, state: &AbsState, row: &AbsState) -> bool
-    ensures { result ≡ rows.fits (rows.parameters_alone (known by.now state.now)) (known by.now row.now) }
+    ensures { result ≡ fits_of (parameters_alone (known by.now state.now)) (known by.now row.now) }
 {
     let none: &[u16] = &[];
     let asked = row.parts();
@@ -50,7 +47,7 @@ fn copy_fits(by: &Inclusions<'_>, state: &AbsState, row: &AbsState) -> bool
 
 /// Whether there is a row, and who goes on fits it, of a transaction in a state.
 fn fits_row(by: &Inclusions<'_>, who: Who, state: &AbsState, row: Option<&AbsState>) -> bool
-    ensures { result ≡ flow.fits_row (model.known_of who (known by.now state.now)) (option_map (known by.now) (option_copied row.entry)) }
+    ensures { result ≡ row_fits (known_of who (known by.now state.now)) (row_by by.now row.entry) }
 {
     match row {
         Some(row) => match who {
@@ -69,7 +66,7 @@ fn check_exit(
     passed: &AbsState,
 ) -> Result<(), Fault>
     requires { number ≤ 4096 }
-    ensures { Finds result (map (flow.edge_check (table_viewed table.entry) number) (model.edge_along number (known table.entry.returns.now passed.now) exit)) }
+    ensures { FindsMisfit table.entry number (λ _ s. edge_along number s exit) passed.now result }
 {
     if !is_used(exit.who) {
         return Ok(());
@@ -88,7 +85,7 @@ fn check_exits(
     passed: &AbsState,
 ) -> Result<(), Fault>
     requires { number ≤ 4096 }
-    ensures { Finds result (map (flow.edge_check (table_viewed table.entry) number) (model.edges_along number exits.now (known table.entry.returns.now passed.now))) }
+    ensures { FindsMisfit table.entry number (λ _. edges_along number exits.now) passed.now result }
 {
     for exit in exits {
         check_exit(table, number, *exit, passed)?;
@@ -107,8 +104,8 @@ fn check_moves(
 ) -> Result<(), Fault>
     requires number { number ≤ 4096 }
     requires room { HasRoom (known table.returns.now state.now) }
-    requires passed { known table.returns.now passed.now ≡ model.after number block.now (known table.returns.now state.now) }
-    ensures { FindsOrLacksMemory result (map (flow.edge_check (table_viewed table.entry) number) (model.edges_from number block.now (known table.entry.returns.now state.now))) }
+    requires passed { HasPassed table.returns.now number block.now state.now passed.now }
+    ensures { MayFindMisfit table.entry number (λ _. edges_from number block.now) state.now result }
 {
     match block {
         Block::TransferByParameter(parameter) => {
@@ -123,14 +120,15 @@ fn check_moves(
     }
 }
 
-/// The fault of the edge of who enters the block of this number to the user chain that it joins, if it is a LINK.
-fn check_join(
+/// The fault of the edge of the block of this number to a user chain or from one, in a state, if there is one: of who joins
+/// the user chain, if it is a LINK; of the members whom it sends on, if it is an UNLINK, and they have a row.
+fn check_chains(
     table: StateTable<'_, '_>,
     number: u16,
     block: &Block,
     state: &AbsState,
 ) -> Result<(), Fault>
-    ensures { Finds result (map (flow.edge_check (table_viewed table.entry) number) (model.joins block.now (known table.entry.returns.now state.now))) }
+    ensures { FindsMisfit table.entry number (λ t. chain_edges t block.now) state.now result }
 {
     match block {
         Block::Link(link) => {
@@ -138,39 +136,16 @@ fn check_join(
             let fits = fits_row(table.returns, Who::Itself, state, row);
             check(CHAIN_STATE, Place::Edge(number, number), fits)
         }
+        Block::Unlink(unlink) => match table.row(Target::Chain(unlink.chain)) {
+            Some(members) => {
+                let row = table.row(Target::Block(unlink.target));
+                let fits = fits_row(table.returns, Who::Itself, members, row);
+                check(CHAIN_STATE, Place::Edge(number, unlink.target), fits)
+            }
+            None => Ok(()),
+        },
         _ => Ok(()),
     }
-}
-
-/// The fault of the edge of the members whom the block of this number sends on from their user chain, if it is an UNLINK,
-/// and they have a row.
-fn check_members(table: StateTable<'_, '_>, number: u16, block: &Block) -> Result<(), Fault>
-    ensures { Finds result (map (flow.edge_check (table_viewed table.entry) number) (model.members_edges (table_viewed table.entry) block.now)) }
-{
-    let Block::Unlink(unlink) = block else {
-        return Ok(());
-    };
-    match table.row(Target::Chain(unlink.chain)) {
-        Some(members) => {
-            let row = table.row(Target::Block(unlink.target));
-            let fits = fits_row(table.returns, Who::Itself, members, row);
-            check(CHAIN_STATE, Place::Edge(number, unlink.target), fits)
-        }
-        None => Ok(()),
-    }
-}
-
-/// The first fault of the edges of the block of this number to user chains and from them, in a state, if there is one.
-fn check_chains(
-    table: StateTable<'_, '_>,
-    number: u16,
-    block: &Block,
-    state: &AbsState,
-) -> Result<(), Fault>
-    ensures { Finds result (map (flow.edge_check (table_viewed table.entry) number) (model.chain_edges (table_viewed table.entry) block.now (known table.entry.returns.now state.now))) }
-{
-    check_join(table, number, block, state)?;
-    check_members(table, number, block)
 }
 
 /// The first fault of the edges of the block of this number in a state, where this is known of those who have passed it, if
@@ -185,8 +160,8 @@ pub(crate) fn check_edges(
 ) -> Result<(), Fault>
     requires number { number ≤ 4096 }
     requires room { HasRoom (known table.returns.now state.now) }
-    requires passed { known table.returns.now passed.now ≡ model.after number block.now (known table.returns.now state.now) }
-    ensures { FindsOrLacksMemory result (map (flow.edge_check (table_viewed table.entry) number) (model.edges_from number block.now (known table.entry.returns.now state.now) ++ model.chain_edges (table_viewed table.entry) block.now (known table.entry.returns.now state.now))) }
+    requires passed { HasPassed table.returns.now number block.now state.now passed.now }
+    ensures { MayFindMisfit table.entry number (λ t. edges_of t number block.now) state.now result }
 {
     check_moves(alloc, table, number, block, state, passed)?;
     check_chains(table, number, block, state)

@@ -3,8 +3,7 @@
 ghost use Rattle.std.specs.Prelude.{◌≡◌, ℕ, ◌==◌, ◌++◌, option_to_list, IfOk};
 ghost use Rattle.std.specs.List.{find};
 ghost use Rattle.gw_flow.specs.Entries as entries;
-ghost use Rattle.gw_flow.specs.Rows as rows;
-ghost use Rattle.gw_flow.specs.Seen.{amounts_of, units_seen};
+ghost use Rattle.gw_flow.specs.Seen.{amounts_of, units_seen, ArePut};
 
 use crate::abstract_state::{Amount, Parameter};
 use gw_blocks::Units;
@@ -142,7 +141,7 @@ pub(crate) fn with_amount(
     entity: u16,
     number: u64,
 ) -> Result<Vec<Amount>, Memory>
-    ensures { IfOk result (λ all. amounts_of all.items ≡ entries.with_entry entity (rows.nonzero number) (amounts_of amounts.now)) }
+    ensures { IfOk result (λ all. ArePut entity number amounts.now all.items) }
 {
     let mut all: Vec<Amount> = amounts
         .iter()

@@ -1,12 +1,12 @@
 //! The rules of blocks: what a transaction must own, hold and have set to enter one.
 
-ghost use Rattle.std.specs.Prelude.{◌≡◌, map};
-ghost use Rattle.std.specs.List.{find};
+ghost use Rattle.std.specs.Prelude.{◌≡◌};
 ghost use Rattle.gw_kinds.specs.Checks.{Finds};
 ghost use Rattle.gw_code_flow.specs.Code.{parameters_asked};
 ghost use Rattle.gw_flow.specs.Blocks as model;
-ghost use Rattle.gw_flow.specs.Flow.{rule_check, rule_checks};
+ghost use Rattle.gw_flow.specs.Flow.{rule_checks, FindsRule};
 ghost use Rattle.gw_flow.specs.Unfit as unfit;
+ghost use Rattle.gw_flow.specs.Unfit.{lowest as lowest_of};
 
 use crate::codes::*;
 use crate::lookups::{Lookups, NoRow};
@@ -53,7 +53,7 @@ fn lowered<S: Lookups>(least: Option<u8>, parameter: u8, state: &S) -> Option<u8
 
 /// The least so far, lowered to those of these parameters that aren't sure to hold a number.
 fn lowest<S: Lookups>(so_far: Option<u8>, parameters: &[u8], state: &S) -> Option<u8>
-    ensures { result ≡ unfit.lowest (S.known state.now) so_far parameters.now }
+    ensures { result ≡ lowest_of (S.known state.now) so_far parameters.now }
 {
     let mut least = so_far;
     for parameter in parameters {
@@ -69,7 +69,7 @@ fn lowest_asked<S: Lookups>(
     operand: Operand,
     state: &S,
 ) -> Option<u8>
-    ensures { result ≡ unfit.lowest (S.known state.now) so_far (parameters_asked parts.now operand) }
+    ensures { result ≡ lowest_of (S.known state.now) so_far (parameters_asked parts.now operand) }
 {
     let asked = parameters_asked(parts, operand);
     lowest(so_far, asked.as_slice(), state)
@@ -77,7 +77,7 @@ fn lowest_asked<S: Lookups>(
 
 /// The least parameter that operands ask for and that isn't sure to hold a number, if there is one.
 fn first_unfit<S: Lookups>(parts: &Parts, operands: &[Operand], state: &S) -> Option<u8>
-    ensures { result ≡ find (unfit.is_unfit (S.known state.now)) (model.parameters_read parts.now operands.now) }
+    ensures { result ≡ unfit.first_unfit parts.now operands.now (S.known state.now) }
 {
     let mut least = None;
     for operand in operands {
@@ -88,7 +88,7 @@ fn first_unfit<S: Lookups>(parts: &Parts, operands: &[Operand], state: &S) -> Op
 
 /// The fault of a parameter that the block of this number uses as a number, if it isn't sure to be one.
 fn check_number<S: Lookups>(number: u16, parameter: u8, state: &S) -> Result<(), Fault>
-    ensures { Finds result (map (rule_check number) (model.number_rules (S.known state.now) parameter)) }
+    ensures { FindsRule result number (model.number_rules (S.known state.now) parameter) }
 {
     let place = Place::Block(number);
     check(UNSET_PARAM, place, state.is_set(parameter))?;
@@ -104,7 +104,7 @@ fn check_values<S: Lookups>(
     block: &Block,
     state: &S,
 ) -> Result<(), Fault>
-    ensures { Finds result (map (rule_check number) (model.value_rules parts.now block.now (S.known state.now))) }
+    ensures { FindsRule result number (model.value_rules parts.now block.now (S.known state.now)) }
 {
     let operands = evaluated(parts.entities.as_slice(), block);
     match first_unfit(parts, operands.as_slice(), state) {
@@ -115,7 +115,7 @@ fn check_values<S: Lookups>(
 
 /// The fault of a parameter that is used as a return: 20 where it isn't sure to be set, 27 where it is to a number.
 fn check_return<S: Lookups>(number: u16, parameter: u8, state: &S) -> Result<(), Fault>
-    ensures { Finds result (map (rule_check number) (model.return_rules (S.known state.now) parameter)) }
+    ensures { FindsRule result number (model.return_rules (S.known state.now) parameter) }
 {
     let place = Place::Block(number);
     check(UNSET_PARAM, place, state.is_set(parameter))?;
@@ -139,7 +139,7 @@ fn check_own_rules<S: Lookups>(
     block: &Block,
     state: &S,
 ) -> Result<(), Fault>
-    ensures { Finds result (map (rule_check number) (model.own_rules parts.now block.now (S.known state.now))) }
+    ensures { FindsRule result number (model.own_rules parts.now block.now (S.known state.now)) }
 {
     let place = Place::Block(number);
     match block {
@@ -181,7 +181,7 @@ pub fn check_rules<S: Lookups>(
 /// The fault of a block for which the state table has no row, if it is to have one: a GENERATE. Where its values ask for
 /// a parameter, that one isn't set.
 pub(crate) fn check_without_row(parts: &Parts, number: u16, block: &Block) -> Result<(), Fault>
-    ensures { Finds result (map (rule_check number) (model.rules_without_row parts.now block.now)) }
+    ensures { FindsRule result number (model.rules_without_row parts.now block.now) }
 {
     match block {
         Block::Generate(_) => {

@@ -1,15 +1,14 @@
 //! What is known of a transaction, as flow works with it: its parameters, the facilities that it owns, and the units
 //! that it is sure to hold.
 
-ghost use Rattle.std.specs.Prelude.{List, ◌≡◌, ◌≤◌, ◌<◌, ◌^◌, ◌≢◌, IfOk, All, AllPairs, length, ◌==◌};
+ghost use Rattle.std.specs.Prelude.{◌≡◌, ◌≤◌, ◌<◌, ◌^◌, ◌≢◌, IfOk, All, length, ◌==◌};
 ghost use Rattle.gw_object.specs.Grammar.{AreAscending};
 ghost use Rattle.gw_blocks.specs.declared.parts.Units.{Units};
 ghost use Rattle.gw_flow.specs.Entries as entries;
 ghost use Rattle.gw_flow.specs.Rows as rows;
-ghost use Rattle.gw_object.specs.declared.parts.ReturnRow.{ReturnRow as DeclaredReturnRow};
-ghost use Rattle.gw_flow.specs.declared.abstract_state.Parameter.{Parameter as DeclaredParameter};
-ghost use Rattle.gw_flow.specs.Rows.{Ret};
+ghost use Rattle.gw_flow.specs.Rows.{Ret, with_parameter};
 ghost use Rattle.gw_flow.specs.Seen.{row_blocks, kind_seen, params_of, known};
+ghost use Rattle.gw_flow.specs.Seen.{ParametersAscend, IsInNumbersOf};
 ghost use Rattle.gw_flow.specs.Viewed.{kind_viewed, params_viewed, viewed};
 
 use crate::abstract_state::{AbsState, Amount, Parameter, ParameterKind, StateParts};
@@ -102,7 +101,7 @@ fn params_seen<'a>(
     returns: &'a [ReturnRow],
     parameters: &[Parameter],
 ) -> Result<Vec<Param<'a>>, Memory>
-    ensures { IfOk result (λ params. params_viewed params.items ≡ params_of returns.now parameters.now) }
+    ensures { IfOk result (λ ps. params_viewed ps.items ≡ params_of returns.now parameters.now) }
 {
     parameters
         .iter()
@@ -155,8 +154,8 @@ impl<'a> State<'a> {
         alloc: Global,
         parameters: &Items<Parameter>,
     ) -> Result<AbsState, Memory>
-        requires { AllPairs (λ (a b : DeclaredParameter). a.number < b.number) parameters.now }
-        ensures same { IfOk result (λ s. (rows : List DeclaredReturnRow) → self.now.params ≡ params_of rows parameters.now → known rows s ≡ self.now) }
+        requires { ParametersAscend parameters.now }
+        ensures same { IfOk result (λ s. IsInNumbersOf parameters.now s self.now) }
         ensures own { IfOk result (λ s. s.parameters ≡ parameters.now) }
     {
         Ok(AbsState::of(StateParts {
@@ -196,7 +195,7 @@ impl<'a> State<'a> {
         kind: ParamKind<'a>,
     ) -> Result<State<'a>, Memory>
         requires { rows.KindAscends (kind_viewed kind) }
-        ensures { IfOk result (λ state. state ≡ rows.with_parameter number (kind_viewed kind.entry) self.now) }
+        ensures { IfOk result (λ s. s ≡ with_parameter number (kind_viewed kind.entry) self.now) }
     {
         let param = Param { number, kind };
         let params = in_place(alloc, self.params.as_slice(), param)?;

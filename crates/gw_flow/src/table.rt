@@ -1,11 +1,10 @@
 //! The rows of a state table, as checks work with them: by the numbers of return rows.
 
-ghost use Rattle.std.specs.Prelude.{◌≡◌, List, IfOk, IfSome, All, map, option_map, option_copied};
+ghost use Rattle.std.specs.Prelude.{◌≡◌, IfOk, IfSome, All, option_copied};
 ghost use Rattle.gw_object.specs.Grammar.{StateFits, IsAscending, HasSpelling};
-ghost use Rattle.gw_object.specs.declared.parts.ReturnRow.{ReturnRow as DeclaredReturnRow};
 ghost use Rattle.gw_kinds.specs.Kinds.{for_chain};
 ghost use Rattle.gw_flow.specs.Flow as model;
-ghost use Rattle.gw_flow.specs.Seen.{seen, known};
+ghost use Rattle.gw_flow.specs.Seen.{row_by, CarriesRow, CarryRows};
 ghost use Rattle.gw_flow.specs.ViewedTable.{table_viewed};
 
 use crate::abstract_state::AbsState;
@@ -19,7 +18,7 @@ use std::alloc::Global;
 fn own_row(alloc: Global, row: &Option<TableState>) -> Result<Option<AbsState>, Memory>
     requires limits { IfSome row.now StateFits }
     requires ascending { IfSome row.now IsAscending }
-    ensures { IfOk result (λ state. (returns : List DeclaredReturnRow) → option_map (known returns) state ≡ option_map (seen returns) row.now) }
+    ensures { IfOk result (λ state. CarriesRow state row.now) }
 {
     match row {
         None => Ok(None),
@@ -31,7 +30,7 @@ fn own_row(alloc: Global, row: &Option<TableState>) -> Result<Option<AbsState>, 
 fn own_rows(alloc: Global, states: &[Option<TableState>]) -> Result<Vec<Option<AbsState>>, Memory>
     requires limits { All (λ row. IfSome row StateFits) states.now }
     requires ascending { All (λ row. IfSome row IsAscending) states.now }
-    ensures { IfOk result (λ rows. (returns : List DeclaredReturnRow) → map (option_map (known returns)) rows.items ≡ map (option_map (seen returns)) states.now) }
+    ensures { IfOk result (λ rows. CarryRows rows.items states.now) }
 {
     let mut rows = Vec::with_capacity(alloc, states.len())?;
     for state in states {
@@ -52,8 +51,8 @@ pub(crate) struct OwnRows {
 /// The rows of an object's blocks, and those of its user chains, each in order.
 pub(crate) fn rows_of(alloc: Global, parts: &Parts) -> Result<OwnRows, Memory>
     requires spelled { HasSpelling parts.now }
-    ensures blocks { IfOk result (λ rows. (returns : List DeclaredReturnRow) → map (option_map (known returns)) rows.blocks.items ≡ map (option_map (seen returns)) parts.now.states) }
-    ensures chains { IfOk result (λ rows. (returns : List DeclaredReturnRow) → map (option_map (known returns)) rows.chains.items ≡ map (option_map (seen returns)) parts.now.chain_states) }
+    ensures blocks { IfOk result (λ rows. CarryRows rows.blocks.items parts.now.states) }
+    ensures chains { IfOk result (λ rows. CarryRows rows.chains.items parts.now.chain_states) }
 {
     Ok(OwnRows {
         blocks: own_rows(alloc, parts.states.as_slice())?,
@@ -98,7 +97,7 @@ pub(crate) struct StateTable<'r, 'a> {
 impl<'r, 'a> StateTable<'r, 'a> {
     /// The row of a target, if it has one.
     pub(crate) fn row(self, target: Target) -> Option<&'r AbsState>
-        ensures { option_map (known self.entry.returns.now) (option_copied result) ≡ table_viewed self.entry target }
+        ensures { row_by self.entry.returns.now result ≡ table_viewed self.entry target }
     {
         match target {
             Target::Block(number) => row_at(self.blocks, number),

@@ -1,13 +1,12 @@
 //! An object that was accepted.
 
-ghost use Rattle.std.specs.Prelude.{◌≡◌, ◌⊎◌, IfOk, IfErr, Some, length, List, ℕ};
-ghost use Rattle.gw_flow.specs.Flow.{FindsOrLacksMemory};
-ghost use Rattle.gw_kinds.specs.Checks.{first_broken, Finds};
+ghost use Rattle.std.specs.Prelude.{◌≡◌, IfOk, IfErr, length, List, ℕ};
+ghost use Rattle.gw_flow.specs.Flow.{MayFind};
+ghost use Rattle.gw_kinds.specs.Checks.{Finds};
 ghost use Rattle.gw_kinds.specs.Pass.{KindsPass};
-ghost use Rattle.gw_object.specs.Reading.{out_of_memory};
-ghost use Rattle.gw_object.specs.declared.fault.Fault.{Fault};
 ghost use Rattle.gw_weights.specs.Weights.{WeightsPass};
-ghost use Rattle.gw_verify.specs.Checks.{Checked, Accepted, first_checks, checks, all_checks, fault_of, heaviest as heaviest_of};
+ghost use Rattle.gw_verify.specs.Checks.{Checked, Accepted, first_checks, checks, all_checks, heaviest as heaviest_of};
+ghost use Rattle.gw_verify.specs.Checks.{IsRefusedFor, TellsFirst};
 
 use gw_flow::{check_flow, check_plus};
 use gw_kinds::check_kinds;
@@ -45,8 +44,8 @@ fn check_first(object: &Object) -> Result<(), Fault>
 /// The first fault of kinds, of PLUS code and of flow, if there is one: kinds before PLUS code, and that before flow.
 #[tactic(auto, unfolding(crate::specs::Checks::checks))]
 fn check_through_flow(alloc: Global, object: &Object) -> Result<(), Fault>
-    ensures found { FindsOrLacksMemory result (checks object.now) }
-    ensures first { (fault : Fault) → first_broken (first_checks object.now) ≡ Some fault → IfErr result (λ e. e ≡ fault) }
+    ensures found { MayFind result (checks object.now) }
+    ensures first { TellsFirst object.now (λ e. e) result }
     ensures kinds { IfOk result (λ _. KindsPass object.now) }
 {
     check_first(object)?;
@@ -55,8 +54,8 @@ fn check_through_flow(alloc: Global, object: &Object) -> Result<(), Fault>
 
 /// The first fault of an object, if there is one: weights after all else.
 fn check_all(alloc: Global, object: &Object) -> Result<(), Fault>
-    ensures found { FindsOrLacksMemory result (all_checks object.now) }
-    ensures first { (fault : Fault) → first_broken (first_checks object.now) ≡ Some fault → IfErr result (λ e. e ≡ fault) }
+    ensures found { MayFind result (all_checks object.now) }
+    ensures first { TellsFirst object.now (λ e. e) result }
 {
     check_through_flow(alloc, object)?;
     check_weights(object)
@@ -68,9 +67,9 @@ fn check_all(alloc: Global, object: &Object) -> Result<(), Fault>
 #[tactic(auto, unfolding(crate::specs::Checks::fault_of))]
 pub fn verify(alloc: Global, object: Object) -> Result<Verified, (Object, Fault)>
     ensures accepted { IfOk result (λ v. (v ≡ object) × Accepted object) }
-    ensures refused { IfErr result (λ e. (e.0 ≡ object) × ((fault_of object ≡ Some e.1) ⊎ (e.1 ≡ out_of_memory))) }
+    ensures refused { IfErr result (λ e. (e.0 ≡ object) × IsRefusedFor object e.1) }
     // Kinds and PLUS code are checked without memory: a fault of theirs is told, whatever the memory.
-    ensures first { (fault : Fault) → first_broken (first_checks object) ≡ Some fault → IfErr result (λ e. e.1 ≡ fault) }
+    ensures first { TellsFirst object (λ e. e.1) result }
 {
     match check_all(alloc, &object) {
         Ok(()) => Ok(Verified { object }),

@@ -6,6 +6,7 @@ use Rattle.gw_blocks.specs.declared.parts.Block.{Block}
 use Rattle.gw_blocks.specs.declared.parts.Block.TheVariants as blocks
 use Rattle.gw_object.specs.declared.fault.Place.TheVariants as places
 use Rattle.gw_object.specs.declared.parts.Parts.{Parts}
+use Rattle.gw_object.specs.declared.parts.TableState.{TableState}
 use Rattle.gw_kinds.specs.Checks.{Check, check, first_broken, numbered}
 use Rattle.gw_kinds.specs.Exits.{leads_to, takes_time, exits_with}
 use Rattle.gw_kinds.specs.Kinds.{chain_place}
@@ -15,6 +16,7 @@ use Rattle.gw_kinds.specs.declared.ways.Exit.{Exit}
 use Rattle.gw_flow.specs.declared.edges.Target.{Target}
 use Rattle.gw_flow.specs.declared.edges.Target.TheVariants as targets
 use Rattle.gw_flow.specs.Rows.{Row}
+use Rattle.gw_flow.specs.Seen.{seen}
 use Rattle.gw_flow.specs.Blocks.{is_used, returns_read}
 use Rattle.gw_flow.specs.Flow.{own_table, own_row}
 use Rattle.gw_weights.specs.Codes as codes
@@ -71,10 +73,26 @@ chain_checks p b block = []
 abbrev pub exit_checks : Parts → ℕ → Exit → List Check
 exit_checks p b exit = if goes_at_once exit then check codes.weight_edge (places.Edge b (leads_to b exit.way)) (nat_le (needed p b exit) (weight_at p.weights b)) ∷ [] else []
 
+-- for where each of these leads
+abbrev pub exits_checks : Parts → ℕ → List Exit → List Check
+exits_checks p b exits = flat_map (exit_checks p b) exits
+
+-- for where its exits lead that it has in a row
+abbrev pub own_exits_checks : Parts → ℕ → Block → Row → List Check
+own_exits_checks p b block row = exits_checks p b (exits_with (returns_read block row) block)
+
 -- the block of number b in its row, if it has one: its user chain, then its exits in order
 abbrev pub row_checks : Parts → ℕ → Block → Option Row → List Check
 row_checks p b block None = []
-row_checks p b block (Some row) = chain_checks p b block ++ flat_map (exit_checks p b) (exits_with (returns_read block row) block)
+row_checks p b block (Some row) = chain_checks p b block ++ own_exits_checks p b block row
+
+-- in this row of the state table: its exits
+abbrev pub exits_checks_in : Parts → ℕ → Block → TableState → List Check
+exits_checks_in p b block row = own_exits_checks p b block (seen p.returns row)
+
+-- and all that is checked of it there
+abbrev pub row_checks_in : Parts → ℕ → Block → TableState → List Check
+row_checks_in p b block row = row_checks p b block (Some (seen p.returns row))
 
 -- the checks of the block of number b
 abbrev pub checks_at : Parts → ℕ → Block → List Check

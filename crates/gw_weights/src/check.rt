@@ -1,11 +1,8 @@
 //! The checks of a weight certificate, in order.
 
-ghost use Rattle.std.specs.Prelude.{◌≡◌, ◌≤◌, Some, length, option_map};
-ghost use Rattle.std.specs.List.{flat_map};
+ghost use Rattle.std.specs.Prelude.{◌≡◌, ◌≤◌, length, option_map};
 ghost use Rattle.gw_kinds.specs.Checks.{Finds};
-ghost use Rattle.gw_kinds.specs.Exits.{exits_with};
 ghost use Rattle.gw_kinds.specs.Pass.{KindsPass};
-ghost use Rattle.gw_flow.specs.Blocks.{returns_read};
 ghost use Rattle.gw_flow.specs.Flow.{own_row as row_of};
 ghost use Rattle.gw_flow.specs.Seen.{seen, HaveNext};
 ghost use Rattle.gw_weights.specs.Weights as model;
@@ -32,7 +29,7 @@ pub fn own_row(parts: &Parts, number: u16) -> Option<&TableState>
 fn check_exits_in(parts: &Parts, number: u16, block: &Block, row: &TableState) -> Result<(), Fault>
     requires number { number ≤ 4096 }
     requires next { HaveNext parts.now.returns }
-    ensures { Finds result (flat_map (model.exit_checks parts.now number) (exits_with (returns_read block.now (seen parts.now.returns row.now)) block.now)) }
+    ensures { Finds result (model.exits_checks_in parts.now number block.now row.now) }
 {
     match block {
         Block::TransferByParameter(parameter) => {
@@ -48,7 +45,7 @@ fn check_exits_in(parts: &Parts, number: u16, block: &Block, row: &TableState) -
 fn check_in(parts: &Parts, number: u16, block: &Block, row: &TableState) -> Result<(), Fault>
     requires number { number ≤ 4096 }
     requires next { HaveNext parts.now.returns }
-    ensures { Finds result (model.row_checks parts.now number block.now (Some (seen parts.now.returns row.now))) }
+    ensures { Finds result (model.row_checks_in parts.now number block.now row.now) }
 {
     check_chain(parts, number, block)?;
     check_exits_in(parts, number, block, row)

@@ -1,7 +1,6 @@
 //! What the exits of a block need: that it pays for the entry, and for where they lead at once.
 
 ghost use Rattle.std.specs.Prelude.{◌≡◌, ◌<◌, ◌≤◌, All, map};
-ghost use Rattle.std.specs.List.{flat_map};
 ghost use Rattle.gw_kinds.specs.Checks.{Finds};
 ghost use Rattle.gw_kinds.specs.Exits.{returns_to as exit_after};
 ghost use Rattle.gw_weights.specs.Weights as model;
@@ -45,7 +44,7 @@ fn check_exit(parts: &Parts, number: u16, exit: Exit) -> Result<(), Fault>
 /// The fault of the first of these exits of the block of this number that the block doesn't pay for, if there is one.
 pub(crate) fn check_exits(parts: &Parts, number: u16, exits: &[Exit]) -> Result<(), Fault>
     requires { number ≤ 4096 }
-    ensures { Finds result (flat_map (model.exit_checks parts.now number) exits.now) }
+    ensures { Finds result (model.exits_checks parts.now number exits.now) }
 {
     for exit in exits {
         check_exit(parts, number, *exit)?;
@@ -58,7 +57,7 @@ pub(crate) fn check_exits(parts: &Parts, number: u16, exits: &[Exit]) -> Result<
 pub(crate) fn check_returns(parts: &Parts, number: u16, blocks: &[u16]) -> Result<(), Fault>
     requires number { number ≤ 4096 }
     requires next { All (λ b. b < 65535) blocks.now }
-    ensures { Finds result (flat_map (model.exit_checks parts.now number) (map exit_after blocks.now)) }
+    ensures { Finds result (model.exits_checks parts.now number (map exit_after blocks.now)) }
 {
     for block in blocks {
         check_exit(parts, number, returns_to(*block))?;

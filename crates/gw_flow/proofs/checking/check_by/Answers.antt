@@ -3,7 +3,7 @@ use Rattle.std.specs.Prelude.{All}
 use Rattle.gw_object.specs.Grammar.{AreAscending}
 use Rattle.gw_flow.specs.Seen.{seen, known}
 use Rattle.gw_flow.specs.Blocks.{Table}
-use Rattle.gw_flow.specs.Flow.{table_of, own_table, flow_checks, FindsOrLacksMemory}
+use Rattle.gw_flow.specs.Flow.{table_of, own_table, flow_checks, MayFind}
 use Rattle.gw_flow.proofs.Rooms.{rows_have_room}
 use Rattle.gw_flow.proofs.checking.check_by.Goals as goal
 
@@ -30,4 +30,4 @@ returns-in-Ok c =
     let chains : map (option_map (known returns)) c.deref-in-Ok.result.now ≡ map (option_map (seen p.returns)) p.chain_states =
     ap (map (option_map (known returns))) c.deref-in-Ok.ensures.value ∙ c.in-Ok.ensures.chains returns ∙ ap (λ rs. map (option_map (seen rs)) p.chain_states) c.requires.returns in
     let table : table_of (map (option_map (known returns)) c.deref.result.now) c.as_slice.result.now (map (option_map (known returns)) c.deref-in-Ok.result.now) ≡ own_table p = rw (blocks, chains, c.as_slice.ensures) refl in
-    subst (λ (t : Table). FindsOrLacksMemory c.check_blocks.result (flow_checks p t)) table c.check_blocks.ensures
+    subst (λ (t : Table). MayFind c.check_blocks.result (flow_checks p t)) table c.check_blocks.ensures

@@ -3,7 +3,7 @@ use Rattle.std.specs.Prelude.{All}
 use Rattle.gw_object.specs.declared.parts.Parts.{Parts}
 use Rattle.gw_kinds.specs.Laws.{ReturnsHold}
 use Rattle.gw_kinds.proofs.KindsHold.{kinds_pass_at_each_place}
-use Rattle.gw_flow.specs.Flow.{own_table, flow_checks, FindsOrLacksMemory}
+use Rattle.gw_flow.specs.Flow.{own_table, flow_checks, MayFind}
 use Rattle.gw_flow.proofs.Rooms.{calls_have_next, calls_are_below}
 use Rattle.gw_flow.proofs.checking.check_flow.Goals as goal
 
@@ -20,4 +20,4 @@ check_by-requires-clause-next c =
     rw c.parts-parts.ensures.value (calls_have_next o c.parts-parts.ensures.limits.limits.blocks calls)
 
 pub returns-in-Ok : goal.returns-in-Ok
-returns-in-Ok c = subst (λ (o : Parts). FindsOrLacksMemory c.check_by.result (flow_checks o (own_table o))) c.parts-parts.ensures.value c.check_by.ensures
+returns-in-Ok c = subst (λ (o : Parts). MayFind c.check_by.result (flow_checks o (own_table o))) c.parts-parts.ensures.value c.check_by.ensures

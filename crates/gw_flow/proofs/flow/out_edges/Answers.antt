@@ -1,11 +1,9 @@
 use Rattle.std.proofs.Common.{◌≡◌, ◌-◌, ℕ, zero, suc, List, [], ◌∷◌, Some, get_or, sym, ap, subst, ◌∙◌, arith}
-use Rattle.std.specs.Prelude.{IfOk, slice_get}
+use Rattle.std.specs.Prelude.{slice_get}
 use Rattle.gw_blocks.specs.declared.parts.Block.{Block}
 use Rattle.gw_object.specs.declared.parts.Parts.{Parts}
 use Rattle.gw_kinds.specs.Kinds.{block_at}
-use Rattle.gw_flow.specs.Seen.{known}
-use Rattle.gw_flow.specs.Blocks.{edges}
-use Rattle.gw_flow.specs.Flow.{own_table, rule_checks, AnswersEdges, HaveOwn}
+use Rattle.gw_flow.specs.Flow.{AnswersEdges, KeepOwn}
 use Rattle.gw_flow.proofs.flow.out_edges.Goals as goal
 
 at_place : (bs : List Block) (i : ℕ) (k d : Block) → slice_get bs i ≡ Some k → get_or bs i d ≡ k
@@ -27,10 +25,10 @@ returns-clause-edges c = λ k is.
     let p = c.parts-parts.result.now in
     let b = c.args.block in
     let there = the_block c.args.object.now p c.as_slice.result.now b k _ c.parts-parts.ensures.value c.as_slice.ensures is in
-    subst (λ (o : Parts). AnswersEdges o.returns c.edges_or_fault.result (rule_checks o b k (known o.returns c.args.state.now)) (edges o (own_table o) b k (known o.returns c.args.state.now))) c.parts-parts.ensures.value
-    (subst (λ (block : Block). AnswersEdges p.returns c.edges_or_fault.result (rule_checks p b block (known p.returns c.args.state.now)) (edges p (own_table p) b block (known p.returns c.args.state.now))) there c.edges_or_fault.ensures.edges)
+    subst (λ (o : Parts). AnswersEdges o b c.args.state.now c.edges_or_fault.result k) c.parts-parts.ensures.value
+    (subst (λ (block : Block). AnswersEdges p b c.args.state.now c.edges_or_fault.result block) there c.edges_or_fault.ensures.edges)
 
 pub returns-clause-own : goal.returns-clause-own
 returns-clause-own c = λ k is.
     let there = the_block c.args.object.now c.parts-parts.result.now c.as_slice.result.now c.args.block k _ c.parts-parts.ensures.value c.as_slice.ensures is in
-    subst (λ (block : Block). IfOk c.edges_or_fault.result (λ out. HaveOwn out.items c.args.block block c.args.state.now.parameters)) there c.edges_or_fault.ensures.own
+    subst (λ (block : Block). KeepOwn c.args.block c.args.state.now c.edges_or_fault.result block) there c.edges_or_fault.ensures.own
