@@ -15,3 +15,4 @@ pub mod Parameters
 pub mod EachBlock
 pub mod Passing
 pub mod Monotone
+pub mod ReturnEdges

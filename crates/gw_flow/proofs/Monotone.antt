@@ -184,7 +184,7 @@ module _ (table : Table) where
   abbrev Arrives : FlowEdge → Type 0
   Arrives edge = IsSomeAnd (table edge.target) (Fits edge.state)
 
-  on : (there : Option Row) (state row : Row) → Fits state row → IsSomeAnd there (Fits row) → IsSomeAnd there (Fits state)
+  pub on : (there : Option Row) (state row : Row) → Fits state row → IsSomeAnd there (Fits row) → IsSomeAnd there (Fits state)
   on None state row h g = g
   on (Some other) state row h g = fits_on state row other h g
 

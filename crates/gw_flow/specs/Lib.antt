@@ -8,5 +8,6 @@ pub mod Blocks
 pub mod Unfit
 pub mod Flow
 pub mod ViewedTable
+pub mod ReturnEdges
 pub mod Laws
 pub mod Values

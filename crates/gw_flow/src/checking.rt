@@ -1,6 +1,7 @@
 //! The checks of flow, in order.
 
 ghost use Rattle.std.specs.Prelude.{◌≡◌, ◌≤◌, All, length};
+ghost use Rattle.gw_blocks.specs.declared.parts.Block.TheVariants as blocks;
 ghost use Rattle.gw_object.specs.Grammar.{AreAscending, HasSpelling};
 ghost use Rattle.gw_kinds.specs.Pass.{KindsPass};
 ghost use Rattle.gw_flow.specs.Rows.{HasRoom};
@@ -9,12 +10,14 @@ ghost use Rattle.gw_flow.specs.Flow as model;
 ghost use Rattle.gw_flow.specs.Flow.{MayFind, checks_at};
 ghost use Rattle.gw_flow.specs.Seen.{known, HaveNext};
 ghost use Rattle.gw_flow.specs.ViewedTable.{table_viewed, HaveRoom, MayFindMisfit, checks_by};
+ghost use Rattle.gw_flow.specs.ReturnEdges.{PassesBy, GoesBy};
 
 use crate::abstract_state::AbsState;
 use crate::edges::Target;
 use crate::flow::{OUT_OF_MEMORY, passed};
 use crate::leaving::check_edges;
 use crate::lookups::Carried;
+use crate::return_edges::{Return, is_like_latest, return_of};
 use crate::rules::{check_rules, check_without_row};
 use crate::table::{StateTable, rows_of};
 use gw_blocks::Block;
@@ -60,21 +63,82 @@ fn check_in(
     check_edges_in(alloc, table, number, block, state)
 }
 
-/// The first fault of the block of this number in its row of a table, if there is one.
-fn check_block(
+/// The first fault of a TRANSFER in parameter mode in a state, if there is one; and what it passes by, behind the earlier ones.
+fn check_way_back<'r>(
     alloc: Global,
     parts: &Parts,
-    table: StateTable<'_, '_>,
+    table: StateTable<'r, '_>,
+    number: u16,
+    parameter: u8,
+    this: Return<'r>,
+    earlier: &mut Vec<Return<'r>>,
+) -> Result<(), Fault>
+    requires number { number ≤ 4096 }
+    requires returns { All AreAscending table.returns.now }
+    requires room { HasRoom (known table.returns.now this.state.now) }
+    requires held { GoesBy table parameter this }
+    requires pass { All (PassesBy table) earlier.old.items }
+    ensures found { MayFind result (checks_by parts.now table.entry number
+        (blocks.TransferByParameter parameter) this.entry.state.now) }
+    ensures pass { All (PassesBy table.entry) earlier.new.items }
+{
+    if is_like_latest(table, this, earlier) {
+        return Ok(());
+    }
+    let block = Block::TransferByParameter(parameter);
+    check_in(alloc, parts, table, number, &block, this.state)?;
+    match earlier.push(this) {
+        Ok(()) => Ok(()),
+        Err(_) => Err(OUT_OF_MEMORY),
+    }
+}
+
+/// The first fault of the block of this number in a state, if there is one. Of a TRANSFER in parameter mode what it passes by
+/// comes behind the earlier ones.
+fn check_with_row<'r>(
+    alloc: Global,
+    parts: &Parts,
+    table: StateTable<'r, '_>,
     number: u16,
     block: &Block,
+    state: &'r AbsState,
+    earlier: &mut Vec<Return<'r>>,
+) -> Result<(), Fault>
+    requires number { number ≤ 4096 }
+    requires returns { All AreAscending table.returns.now }
+    requires room { HasRoom (known table.returns.now state.now) }
+    requires pass { All (PassesBy table) earlier.old.items }
+    ensures found { MayFind result
+        (checks_by parts.now table.entry number block.now state.now) }
+    ensures pass { All (PassesBy table.entry) earlier.new.items }
+{
+    if let Block::TransferByParameter(parameter) = block {
+        if let Some(this) = return_of(*parameter, state) {
+            return check_way_back(alloc, parts, table, number, *parameter, this, earlier);
+        }
+    }
+    check_in(alloc, parts, table, number, block, state)
+}
+
+/// The first fault of the block of this number in its row of a table, if there is one. Of a TRANSFER in parameter mode what it
+/// passes by comes behind the earlier ones.
+fn check_block<'r>(
+    alloc: Global,
+    parts: &Parts,
+    table: StateTable<'r, '_>,
+    number: u16,
+    block: &Block,
+    earlier: &mut Vec<Return<'r>>,
 ) -> Result<(), Fault>
     requires number { number ≤ 4096 }
     requires returns { All AreAscending table.returns.now }
     requires room { HaveRoom (table_viewed table) }
-    ensures { MayFind result (checks_at parts.now (table_viewed table.entry) number block.now) }
+    requires pass { All (PassesBy table) earlier.old.items }
+    ensures found { MayFind result (checks_at parts.now (table_viewed table.entry) number block.now) }
+    ensures pass { All (PassesBy table.entry) earlier.new.items }
 {
     match table.row(Target::Block(number)) {
-        Some(state) => check_in(alloc, parts, table, number, block, state),
+        Some(state) => check_with_row(alloc, parts, table, number, block, state, earlier),
         None => check_without_row(parts, number, block),
     }
 }
@@ -88,8 +152,16 @@ fn check_blocks(alloc: Global, parts: &Parts, table: StateTable<'_, '_>) -> Resu
     ensures { MayFind result (model.flow_checks parts.now (table_viewed table.entry)) }
 {
     let blocks = parts.blocks.as_slice();
+    let mut earlier = Vec::new(alloc);
     for i in 0..blocks.len() {
-        check_block(alloc, parts, table, (i + 1) as u16, &blocks[i])?;
+        check_block(
+            alloc,
+            parts,
+            table,
+            (i + 1) as u16,
+            &blocks[i],
+            &mut earlier,
+        )?;
     }
     Ok(())
 }

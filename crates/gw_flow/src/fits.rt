@@ -95,7 +95,7 @@ impl Entry<()> for Amount {
 }
 
 /// Whether what a parameter holds suffices where this is asked, both by the numbers of return rows.
-fn own_suffices(by: &Inclusions<'_>, held: ParameterKind, asked: ParameterKind) -> bool
+pub(crate) fn own_suffices(by: &Inclusions<'_>, held: ParameterKind, asked: ParameterKind) -> bool
     ensures { result ≡ rows.suffices (kind_seen by.now held) (kind_seen by.now asked) }
 {
     match held {

@@ -21,7 +21,7 @@ use gw_returns::Inclusions;
 use std::alloc::{AllocError, Global};
 
 /// Whether a state fits a row: it has at least the row's parameters, exactly its facilities, and at least its units.
-fn fits(by: &Inclusions<'_>, state: &AbsState, row: &AbsState) -> bool
+pub(crate) fn fits(by: &Inclusions<'_>, state: &AbsState, row: &AbsState) -> bool
     ensures { result ≡ fits_of (known by.now state.now) (known by.now row.now) }
 {
     let held = state.parts();

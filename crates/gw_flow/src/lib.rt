@@ -11,6 +11,7 @@ pub mod laws;
 mod leaving;
 mod lists;
 mod lookups;
+mod return_edges;
 mod rules;
 mod setting;
 mod state;

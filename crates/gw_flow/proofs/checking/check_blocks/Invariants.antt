@@ -1,10 +1,14 @@
 use Rattle.std.proofs.Common.{◌≡◌, ◌+◌, drop}
+use Rattle.std.specs.Prelude.{All}
 use Rattle.gw_kinds.specs.Checks.{first_broken, numbered}
 use Rattle.gw_flow.specs.Flow.{checks_at}
 use Rattle.gw_flow.specs.ViewedTable.{table_viewed}
+use Rattle.gw_flow.specs.ReturnEdges.{PassesBy}
 use Rattle.gw_flow.proofs.checking.check_blocks.Given as goal
 
--- the first fault of the blocks that are left is that of all
+-- the first fault of the blocks that are left is that of all, and the earlier returns pass
 abbrev pub invariant-loop-i : goal.invariant-loop-i
-invariant-loop-i l =
-    first_broken (numbered (checks_at l.parts (table_viewed l.table)) (l.i + 1) (drop l.i l.blocks)) ≡ first_broken (numbered (checks_at l.parts (table_viewed l.table)) 1 l.blocks)
+invariant-loop-i l = record {
+  left : first_broken (numbered (checks_at l.parts (table_viewed l.table)) (l.i + 1) (drop l.i l.blocks)) ≡ first_broken (numbered (checks_at l.parts (table_viewed l.table)) 1 l.blocks);
+  pass : All (PassesBy l.table) l.earlier.items;
+}
