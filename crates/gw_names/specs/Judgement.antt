@@ -110,9 +110,13 @@ mention_fault declared statements i line (Equ name) = named_if (may_use_equ (dec
 mention_fault declared statements i line (Call name given) = named_if (may_call_at statements (declared.procedure name) line given)
 mention_fault declared statements i line (Target name) = Some name_fault
 
+-- how a use is refused at its place, if it is
+abbrev pub fault_at : Declared → List Statement → Mentioned → Option ℕ
+fault_at declared statements m = mention_fault declared statements m.statement m.line m.what
+
 -- the refusal of a use, at the line of its statement
 abbrev pub refusal_of : Declared → List Statement → Mentioned → List Noted
-refusal_of declared statements m = noted_if m.line (mention_fault declared statements m.statement m.line m.what)
+refusal_of declared statements m = noted_if m.line (fault_at declared statements m)
 
 -- those of these uses
 abbrev pub refusals_among : Declared → List Statement → List Mentioned → List Noted

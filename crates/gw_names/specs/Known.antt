@@ -1,5 +1,5 @@
 -- What is known of names.
-use Rattle.std.specs.Prelude.{ℕ, List, Option, None, Bool, true, false, ◌&&◌}
+use Rattle.std.specs.Prelude.{◌≡◌, ℕ, List, Option, None, Bool, true, false, ◌&&◌}
 use Rattle.std.specs.Str.{bytes_eq}
 use Rattle.std.specs.declared.string.String.{String}
 use Rattle.indexmap.specs.IndexMap.{IndexMap, get_by_text}
@@ -10,6 +10,10 @@ use Rattle.gw_names.specs.declared.entities.ByKind.{ByKind}
 -- what a name stands for in a map
 abbrev pub found_in : {X Y S : Type 0} → IndexMap (String Y) X S → List ℕ → Option X
 found_in m name = get_by_text m name
+
+-- in a map each name stands for what this function answers
+abbrev pub Finds : {X Y S : Type 0} → (List ℕ → Option X) → IndexMap (String Y) X S → Type 0
+Finds answer m = (name : List ℕ) → found_in m name ≡ answer name
 
 -- what is kept of the entity of a kind and a name
 abbrev pub entity_of : {X : Type 0} → ByKind X → EntityKind → List ℕ → Option X

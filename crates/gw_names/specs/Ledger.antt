@@ -1,7 +1,8 @@
 -- The first refusal of those that are noted.
-use Rattle.std.specs.Prelude.{ℕ, List, [], ◌∷◌, Option, Some, None, Bool, ◌&&◌, ◌||◌, if◌then◌else◌, nat_lt, ◌==◌, option_map}
+use Rattle.std.specs.Prelude.{◌≡◌, ℕ, List, [], ◌∷◌, Option, Some, None, Bool, ◌&&◌, ◌||◌, if◌then◌else◌, nat_lt, ◌==◌, option_map}
 use Rattle.gw_object.specs.declared.fault.Fault.{Fault}
 use Rattle.gw_object.specs.declared.fault.Place.TheVariants.{Line}
+use Rattle.gw_names.specs.declared.ledger.Ledger.{Ledger}
 use Rattle.gw_names.specs.declared.ledger.Noted.{Noted}
 
 -- whether one refusal goes before another: it is of a line above, or of the same line with a lower code
@@ -17,6 +18,10 @@ with_note (Some least) one = if is_before one least then Some one else Some leas
 abbrev pub with_notes : Option Noted → List Noted → Option Noted
 with_notes least [] = least
 with_notes least (one ∷ more) = with_notes (with_note least one) more
+
+-- a ledger takes note of these refusals
+abbrev pub Notes : Ledger → Ledger → List Noted → Type 0
+Notes old new more = new.least ≡ with_notes old.least more
 
 -- a refusal with this code on this line
 abbrev pub noted_at : ℕ → ℕ → Noted

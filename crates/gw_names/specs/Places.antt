@@ -1,7 +1,9 @@
 -- Which statement of a text a name stands for.
-use Rattle.std.specs.Prelude.{◌≡◌, ℕ, ℤ, ◌+◌, List, [], ◌∷◌, ◌++◌, Option, Some, None, Bool, true, false, if◌then◌else◌, nat_lt, option_map, option_and_then, string_bytes}
+use Rattle.std.specs.Prelude.{◌≡◌, ℕ, ℤ, ◌+◌, List, [], ◌∷◌, ◌++◌, Option, Some, None, Result, OnOk, Bool, true, false, if◌then◌else◌, nat_lt, option_map, option_and_then, string_bytes}
 use Rattle.std.specs.Option.{option_or}
 use Rattle.std.specs.Str.{bytes_eq}
+use Rattle.std.specs.declared.string.String.{String}
+use Rattle.indexmap.specs.IndexMap.{IndexMap}
 use Rattle.gw_kinds.specs.declared.entities.EntityKind.{EntityKind}
 use Rattle.gw_text_tokens.specs.declared.words.Word.{Word}
 use Rattle.gw_text_tokens.specs.declared.words.Word.TheVariants as words
@@ -12,7 +14,8 @@ use Rattle.gw_text.specs.declared.model.Body.{Body}
 use Rattle.gw_text.specs.declared.model.Body.TheVariants as bodies
 use Rattle.gw_text.specs.declared.model.Statement.{Statement}
 use Rattle.gw_uses.specs.Statements.{declared_kind}
-use Rattle.gw_names.specs.Known.{Key, key, is_same}
+use Rattle.gw_names.specs.declared.entities.ByKind.{ByKind}
+use Rattle.gw_names.specs.Known.{Key, key, is_same, found_in, entity_of}
 
 -- LISTS OF WHAT IS DECLARED
 
@@ -32,6 +35,18 @@ Adds more before after = (name : List ℕ) → after name ≡ option_or (last_of
 -- the same of entities
 abbrev pub AddsEntities : {X : Type 0} → List (Key × X) → (EntityKind → List ℕ → Option X) → (EntityKind → List ℕ → Option X) → Type 0
 AddsEntities more before after = (kind : EntityKind) (name : List ℕ) → after kind name ≡ option_or (last_by (is_same (key kind name)) more) (before kind name)
+
+-- where there is memory, names of a map stand for this from now on
+abbrev pub Sets : {A E X Y S : Type 0} → Result A E → IndexMap (String Y) X S → IndexMap (String Y) X S → List (List ℕ × X) → Type 0
+Sets result old new more = OnOk result (Adds more (found_in old) (found_in new))
+
+-- the same of entities by their keys
+abbrev pub SetsKeys : {A E X : Type 0} → Result A E → ByKind X → ByKind X → List (Key × X) → Type 0
+SetsKeys result old new more = OnOk result (AddsEntities more (entity_of old) (entity_of new))
+
+-- what is kept of the entity of a kind and a name
+abbrev pub entry : {X : Type 0} → EntityKind → List ℕ → X → List (Key × X)
+entry kind name x = (key kind name, x) ∷ []
 
 -- what has a name, where it has one
 abbrev pub named : {K X : Type 0} → Option K → X → List (K × X)
@@ -53,6 +68,14 @@ label_of s = option_map string_bytes s.label
 abbrev pub declared_entity : Statement → Option Key
 declared_entity s = option_and_then (λ kind. option_map (key kind) (label_of s)) (declared_kind s.word)
 
+-- with the place of the statement
+abbrev pub declared_at : ℕ → Statement → List (Key × ℕ)
+declared_at i s = named (declared_entity s) i
+
+-- the entities that statements declare, of which the first has this place
+abbrev pub declared_from : ℕ → List Statement → List (Key × ℕ)
+declared_from i ss = places_from declared_entity i ss
+
 -- whether a word is EQU
 unfoldable pub is_equ : Word → Bool
 is_equ words.Equ = true
@@ -73,7 +96,7 @@ declared_procedure s = procedure_in s.body
 
 -- the place of the last statement that declares an entity
 abbrev pub declaration_of : List Statement → Key → Option ℕ
-declaration_of statements entity = last_by (is_same entity) (places_from declared_entity 0 statements)
+declaration_of statements entity = last_by (is_same entity) (declared_from 0 statements)
 
 -- of the last EQU of a name
 abbrev pub equ_of : List Statement → List ℕ → Option ℕ

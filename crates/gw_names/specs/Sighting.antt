@@ -1,5 +1,6 @@
 -- Entities and parameters as they are seen.
-use Rattle.std.specs.Prelude.{◌≡◌, ℕ, List, map, slice_get, option_and_then, string_bytes}
+use Rattle.std.specs.Prelude.{◌≡◌, ℕ, List, [], ◌∷◌, ◌++◌, Vec, map, slice_get, option_and_then, string_bytes}
+use Rattle.std.specs.Global.{Global}
 use Rattle.std.specs.List.{position_from}
 use Rattle.std.specs.Str.{bytes_eq}
 use Rattle.std.specs.declared.string.String.{String}
@@ -18,6 +19,10 @@ key_of s = key s.kind (string_bytes s.name)
 abbrev pub keys_of : List Sighted → List Key
 keys_of sighted = map key_of sighted
 
+-- the entity of a kind and a name comes behind the others
+abbrev pub AddsKey : EntityKind → List ℕ → Vec Sighted Global → Vec Sighted Global → Type 0
+AddsKey kind name old new = keys_of new.items ≡ keys_of old.items ++ key kind name ∷ []
+
 -- entities that were seen have their places for their numbers, and say what declares them
 pub record IsSighted (declarations entities : ByKind ℕ) (sighted : List Sighted) : Type 0 where
   pub number : (kind : EntityKind) (name : List ℕ) → entity_of entities kind name ≡ number_among (keys_of sighted) (key kind name)
@@ -27,6 +32,10 @@ module _ {Y S : Type 0} where
   -- the names of the parameters that were seen, in order
   abbrev pub names_of : IndexMap (String Y) ℕ S → List (List ℕ)
   names_of parameters = map string_bytes (keys parameters)
+
+  -- a parameter of this name comes behind the others
+  abbrev pub AddsName : List ℕ → IndexMap (String Y) ℕ S → IndexMap (String Y) ℕ S → Type 0
+  AddsName name old new = names_of new ≡ names_of old ++ name ∷ []
 
   -- parameters that were seen have these numbers, in order
   abbrev pub HaveNumbers : List ℕ → IndexMap (String Y) ℕ S → Type 0

@@ -58,9 +58,33 @@ entity_in (Target name) = None
 abbrev pub most_entities : ℕ
 most_entities = 1024
 
+-- those seen so far with one more, where it is new and there is room
+abbrev pub with_entity : List Key → Key → List Key
+with_entity seen entity = with_sight entity_in is_same most_entities seen entity
+
+-- and with what a mention speaks of
+abbrev pub with_entity_in : List Key → Mention → List Key
+with_entity_in seen m = with_pick entity_in is_same most_entities seen (entity_in m)
+
+-- and after these mentions
+abbrev pub entities_after : List Key → List Mentioned → List Key
+entities_after seen ms = seen_after entity_in is_same most_entities seen ms
+
+-- the refusal of one more, where it is new and there is no room
+abbrev pub unplaced_entity : List Key → ℕ → Key → List Noted
+unplaced_entity seen line entity = unplaced entity_in is_same most_entities seen line entity
+
+-- and of what a mention speaks of
+abbrev pub unplaced_entity_in : List Key → ℕ → Mention → List Noted
+unplaced_entity_in seen line m = unplaced_pick entity_in is_same most_entities seen line (entity_in m)
+
+-- and those of these mentions
+abbrev pub entity_limits_after : List Key → List Mentioned → List Noted
+entity_limits_after seen ms = limits_after entity_in is_same most_entities seen ms
+
 -- the entities of a text by their numbers: in order of first sight
 abbrev pub entities_of : List Statement → List Key
-entities_of statements = seen_after entity_in is_same most_entities [] (mentioned_in statements)
+entities_of statements = entities_after [] (mentioned_in statements)
 
 -- the number of an entity among these
 abbrev pub number_among : List Key → Key → Option ℕ
@@ -105,9 +129,39 @@ free_up_to ms (suc n) = free_up_to ms n ++ unless_used (is_used ms (suc n)) (suc
 unfoldable pub free_numbers : List Mentioned → List ℕ
 free_numbers ms = free_up_to ms 64
 
--- the named parameters of a text, in order of first sight: as many as there are numbers
+-- where these numbers are free
+module _ (free : List ℕ) where
+  -- the named parameters seen so far with one more, where it is new and a number is left
+  abbrev pub with_parameter : List (List ℕ) → List ℕ → List (List ℕ)
+  with_parameter seen name = with_sight parameter_in bytes_eq (length free) seen name
+
+  -- and with what a mention speaks of
+  abbrev pub with_parameter_in : List (List ℕ) → Mention → List (List ℕ)
+  with_parameter_in seen m = with_pick parameter_in bytes_eq (length free) seen (parameter_in m)
+
+  -- and after these mentions
+  abbrev pub parameters_after : List (List ℕ) → List Mentioned → List (List ℕ)
+  parameters_after seen ms = seen_after parameter_in bytes_eq (length free) seen ms
+
+  -- the refusal of one more, where it is new and no number is left
+  abbrev pub unplaced_parameter : List (List ℕ) → ℕ → List ℕ → List Noted
+  unplaced_parameter seen line name = unplaced parameter_in bytes_eq (length free) seen line name
+
+  -- and of what a mention speaks of
+  abbrev pub unplaced_parameter_in : List (List ℕ) → ℕ → Mention → List Noted
+  unplaced_parameter_in seen line m = unplaced_pick parameter_in bytes_eq (length free) seen line (parameter_in m)
+
+  -- and those of these mentions
+  abbrev pub parameter_limits_after : List (List ℕ) → List Mentioned → List Noted
+  parameter_limits_after seen ms = limits_after parameter_in bytes_eq (length free) seen ms
+
+-- the named parameters of which mentions speak, in order of first sight: as many as there are numbers
+abbrev pub parameters_among : List Mentioned → List (List ℕ)
+parameters_among ms = parameters_after (free_numbers ms) [] ms
+
+-- those of a text
 abbrev pub parameters_of : List Statement → List (List ℕ)
-parameters_of statements = seen_after parameter_in bytes_eq (length (free_numbers (mentioned_in statements))) [] (mentioned_in statements)
+parameters_of statements = parameters_among (mentioned_in statements)
 
 -- the number of a named parameter: the first one has the lowest number that the text doesn't use, and each other one the next
 abbrev pub parameter_of : List Statement → List ℕ → Option ℕ
@@ -115,8 +169,12 @@ parameter_of statements name = option_and_then (slice_get (free_numbers (mention
 
 -- REFUSALS
 
+-- the named parameters for which no number is left
+abbrev pub parameter_limits_among : List Mentioned → List Noted
+parameter_limits_among ms = parameter_limits_after (free_numbers ms) [] ms
+
 -- the entities, and then the named parameters, for which there is no room
 abbrev pub limits_in : List Statement → List Noted
 limits_in statements =
     let ms = mentioned_in statements in
-    limits_after entity_in is_same most_entities [] ms ++ limits_after parameter_in bytes_eq (length (free_numbers ms)) [] ms
+    entity_limits_after [] ms ++ parameter_limits_among ms

@@ -1,9 +1,10 @@
 //! Which statement declares a name.
 
-ghost use Rattle.std.specs.Prelude.{◌≡◌, OnOk, IfOk, ℕ, List};
-ghost use Rattle.gw_names.specs.Known.{found_in, entity_of};
+ghost use Rattle.std.specs.Prelude.{◌≡◌, IfOk};
+ghost use Rattle.gw_names.specs.Known.{Finds};
 ghost use Rattle.gw_names.specs.Places as model;
-ghost use Rattle.gw_names.specs.Places.{Adds, AddsEntities, named};
+ghost use Rattle.gw_names.specs.Places.{Sets, SetsKeys, named, declared_at, declared_from};
+ghost use Rattle.gw_names.specs.Places.{declared_equ, declared_procedure, equ_of, procedure_of};
 
 use crate::entities::Declarations;
 use crate::maps::{set, set_label};
@@ -18,8 +19,7 @@ fn declare(
     place: usize,
     statement: &Statement,
 ) -> Result<(), AllocError>
-    ensures { OnOk result (AddsEntities (named (model.declared_entity statement.now) place)
-        (entity_of declarations.old) (entity_of declarations.new)) }
+    ensures { SetsKeys result declarations.old declarations.new (declared_at place statement.now) }
 {
     match (declared_kind(statement.word), &statement.label) {
         (Some(kind), Some(label)) => declarations.set(kind, label, place),
@@ -32,8 +32,7 @@ pub(crate) fn declare_all(
     declarations: &mut Declarations,
     statements: &[Statement],
 ) -> Result<(), AllocError>
-    ensures { OnOk result (AddsEntities (model.places_from model.declared_entity 0 statements.now)
-        (entity_of declarations.old) (entity_of declarations.new)) }
+    ensures { SetsKeys result declarations.old declarations.new (declared_from 0 statements.now) }
 {
     for i in 0..statements.len() {
         declare(declarations, i, &statements[i])?;
@@ -55,7 +54,7 @@ fn set_equ(
     place: usize,
     statement: &Statement,
 ) -> Result<(), AllocError>
-    ensures { OnOk result (Adds (named (model.declared_equ statement.now) place) (found_in equs.old) (found_in equs.new)) }
+    ensures { Sets result equs.old equs.new (named (declared_equ statement.now) place) }
 {
     if is_equ(statement.word) {
         set_label(equs, &statement.label, place)
@@ -69,7 +68,7 @@ pub(crate) fn equs_in(
     alloc: Global,
     statements: &[Statement],
 ) -> Result<IndexMap<String, usize>, AllocError>
-    ensures { IfOk result (λ equs. (name : List ℕ) → found_in equs name ≡ model.equ_of statements.now name) }
+    ensures { IfOk result (Finds (equ_of statements.now)) }
 {
     let mut equs = IndexMap::new(alloc);
     for i in 0..statements.len() {
@@ -80,15 +79,14 @@ pub(crate) fn equs_in(
 
 /// The PROCEDURE that a statement has, if it has one, has this place from now on.
 fn set_procedure(
-    procedures: &mut IndexMap<String, usize>,
+    places: &mut IndexMap<String, usize>,
     place: usize,
     statement: &Statement,
 ) -> Result<(), AllocError>
-    ensures { OnOk result (Adds (named (model.declared_procedure statement.now) place)
-        (found_in procedures.old) (found_in procedures.new)) }
+    ensures { Sets result places.old places.new (named (declared_procedure statement.now) place) }
 {
     match &statement.body {
-        Body::Procedure(procedure) => set(procedures, &procedure.name, place),
+        Body::Procedure(procedure) => set(places, &procedure.name, place),
         Body::Nothing | Body::Points(_) => Ok(()),
     }
 }
@@ -98,8 +96,7 @@ pub(crate) fn procedures_in(
     alloc: Global,
     statements: &[Statement],
 ) -> Result<IndexMap<String, usize>, AllocError>
-    ensures { IfOk result (λ procedures. (name : List ℕ)
-        → found_in procedures name ≡ model.procedure_of statements.now name) }
+    ensures { IfOk result (Finds (procedure_of statements.now)) }
 {
     let mut procedures = IndexMap::new(alloc);
     for i in 0..statements.len() {

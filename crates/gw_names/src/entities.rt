@@ -1,9 +1,9 @@
 //! What is kept of entities, by kind and name.
 
-ghost use Rattle.std.specs.Prelude.{◌≡◌, ℕ, List, ◌∷◌, [], None, OnOk, string_bytes};
+ghost use Rattle.std.specs.Prelude.{◌≡◌, ℕ, List, None, string_bytes};
 ghost use Rattle.gw_kinds.specs.declared.entities.EntityKind.{EntityKind};
-ghost use Rattle.gw_names.specs.Known as known;
-ghost use Rattle.gw_names.specs.Places as model;
+ghost use Rattle.gw_names.specs.Known.{entity_of};
+ghost use Rattle.gw_names.specs.Places.{SetsKeys, entry};
 
 use crate::maps::set;
 use gw_kinds::EntityKind;
@@ -44,7 +44,7 @@ pub type Declarations = ByKind<usize>;
 impl<T: Copy + Drop> ByKind<T> {
     /// Nothing is kept yet.
     pub(crate) fn new(alloc: Global) -> ByKind<T>
-        ensures { (kind : EntityKind) (name : List ℕ) → known.entity_of result kind name ≡ None }
+        ensures { (kind : EntityKind) (name : List ℕ) → entity_of result kind name ≡ None }
     {
         ByKind {
             facilities: IndexMap::new(alloc),
@@ -62,7 +62,7 @@ impl<T: Copy + Drop> ByKind<T> {
 
     /// What is kept of the entity of a kind and a name, if it is known.
     pub fn get(&self, kind: EntityKind, name: &String) -> Option<T>
-        ensures { result ≡ known.entity_of self.now kind (string_bytes name.now) }
+        ensures { result ≡ entity_of self.now kind (string_bytes name.now) }
     {
         match kind {
             EntityKind::Facility => self.facilities.get(name.as_str()).copied(),
@@ -86,8 +86,7 @@ impl<T: Copy + Drop> ByKind<T> {
         name: &String,
         value: T,
     ) -> Result<(), AllocError>
-        ensures { OnOk result (model.AddsEntities ((known.key kind (string_bytes name.now), value) ∷ [])
-            (known.entity_of self.old) (known.entity_of self.new)) }
+        ensures { SetsKeys result self.old self.new (entry kind (string_bytes name.now) value) }
     {
         match kind {
             EntityKind::Facility => set(&mut self.facilities, name, value),

@@ -1,8 +1,9 @@
 //! EQUs that are numbers.
 
-ghost use Rattle.std.specs.Prelude.{◌≡◌, OnOk, IfOk, ℕ, List};
-ghost use Rattle.gw_names.specs.Known.{found_in};
+ghost use Rattle.std.specs.Prelude.{◌≡◌, OnOk, IfOk};
+ghost use Rattle.gw_names.specs.Known.{Finds, found_in};
 ghost use Rattle.gw_names.specs.Places as model;
+ghost use Rattle.gw_names.specs.Places.{number_below, equ_number_of};
 
 use crate::maps::{found, set};
 use gw_text::{Expression, Operand, Statement, Word};
@@ -35,8 +36,7 @@ fn equ_number_in(numbers: &IndexMap<String, i64>, word: Word, operands: &[Operan
 
 /// Keeps the number of a statement, if it is an EQU of a number.
 fn keep(numbers: &mut IndexMap<String, i64>, statement: &Statement) -> Result<(), AllocError>
-    ensures { OnOk result ((name : List ℕ)
-        → found_in numbers.new name ≡ model.number_below (found_in numbers.old) statement.now name) }
+    ensures { OnOk result (Finds (number_below (found_in numbers.old) statement.now) numbers.new) }
 {
     match (
         equ_number_in(numbers, statement.word, &statement.operands),
@@ -52,7 +52,7 @@ pub(crate) fn equ_numbers_in(
     alloc: Global,
     statements: &[Statement],
 ) -> Result<IndexMap<String, i64>, AllocError>
-    ensures { IfOk result (λ numbers. (name : List ℕ) → found_in numbers name ≡ model.equ_number_of statements.now name) }
+    ensures { IfOk result (Finds (equ_number_of statements.now)) }
 {
     let mut numbers = IndexMap::new(alloc);
     for i in 0..statements.len() {

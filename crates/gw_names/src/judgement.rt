@@ -1,11 +1,10 @@
 //! Whether what a text uses is there.
 
 ghost use Rattle.std.specs.Prelude.{◌≡◌, map, OnOk, OnErr};
-ghost use Rattle.gw_uses.specs.Mentions.{mention};
 ghost use Rattle.gw_uses.specs.Sites.{said};
-ghost use Rattle.gw_names.specs.Ledger.{with_notes};
+ghost use Rattle.gw_names.specs.Ledger.{Notes};
 ghost use Rattle.gw_names.specs.Judgement as model;
-ghost use Rattle.gw_names.specs.Judgement.{declared_by};
+ghost use Rattle.gw_names.specs.Judgement.{declared_by, fault_at, refusals_among, refusals_by};
 
 use crate::codes;
 use crate::declarations::is_equ;
@@ -99,27 +98,21 @@ fn may_call_at(statements: &[Statement], procedure: Option<usize>, line: u32, gi
     }
 }
 
-/// How a use in the statement at a place, which begins on this line, is refused, if it is.
-fn fault_of(
-    known: &Known,
-    statements: &[Statement],
-    place: usize,
-    line: u32,
-    used: Use<'_>,
-) -> Option<u16>
-    ensures { result ≡ model.mention_fault (declared_by known.now) statements.now place line (mention used.entry) }
+/// How a use is refused at its place, if it is.
+fn fault_of(known: &Known, statements: &[Statement], site: Site<'_>) -> Option<u16>
+    ensures { result ≡ fault_at (declared_by known.now) statements.now (said site.entry) }
 {
-    match used {
+    match site.used {
         Use::Entity(kind, name) => unless_declared(kind, known.declarations.get(kind, name)),
         Use::Parameter(_) | Use::ParameterNumber(_) => None,
         Use::Label(label) => named_if(found(&known.blocks, label).is_some()),
         Use::Equ(name) => {
-            let in_equ = is_equ_at(statements, place);
-            named_if(may_use_equ(found(&known.equs, name), in_equ, place))
+            let in_equ = is_equ_at(statements, site.statement);
+            named_if(may_use_equ(found(&known.equs, name), in_equ, site.statement))
         }
         Use::Call(name, given) => {
             let procedure = found(&known.procedures, name);
-            named_if(may_call_at(statements, procedure, line, given))
+            named_if(may_call_at(statements, procedure, site.line, given))
         }
         Use::Target(_) => Some(codes::NAME),
     }
@@ -127,12 +120,12 @@ fn fault_of(
 
 /// Judges these uses.
 fn judge(known: &Known, statements: &[Statement], sites: &[Site<'_>], ledger: &mut Ledger)
-    ensures { ledger.new.least ≡ with_notes ledger.old.least
-        (model.refusals_among (declared_by known.now) statements.now (map said sites.now)) }
+    ensures { Notes ledger.old ledger.new
+        (refusals_among (declared_by known.now) statements.now (map said sites.now)) }
 {
     for i in 0..sites.len() {
         let site = sites[i];
-        let code = fault_of(known, statements, site.statement, site.line, site.used);
+        let code = fault_of(known, statements, site);
         note_if(ledger, site.line, code);
     }
 }
@@ -147,8 +140,8 @@ pub fn check_uses(
     statements: &[Statement],
     ledger: &mut Ledger,
 ) -> Result<(), AllocError>
-    ensures judged { OnOk result (ledger.new.least ≡ with_notes ledger.old.least
-        (model.refusals_by (declared_by known.now) statements.now)) }
+    ensures judged { OnOk result (Notes ledger.old ledger.new
+        (refusals_by (declared_by known.now) statements.now)) }
     ensures unchanged { OnErr result (ledger.new ≡ ledger.old) }
 {
     let sites = uses_in(alloc, statements)?;

@@ -1,7 +1,7 @@
 //! All that is known of a text's names.
 
 ghost use Rattle.std.specs.Prelude.{◌≡◌, OnOk, OnErr, IfOk};
-ghost use Rattle.gw_names.specs.Ledger.{with_notes};
+ghost use Rattle.gw_names.specs.Ledger.{Notes};
 ghost use Rattle.gw_names.specs.Naming.{IsUnknown, Knows, KnowsUses};
 ghost use Rattle.gw_names.specs.Sights.{limits_in};
 
@@ -66,7 +66,7 @@ fn see_all(
 ) -> Result<(), AllocError>
     requires { IsUnknown known.old }
     ensures known { OnOk result (KnowsUses statements.now known.new) }
-    ensures ledger { OnOk result (ledger.new.least ≡ with_notes ledger.old.least (limits_in statements.now)) }
+    ensures ledger { OnOk result (Notes ledger.old ledger.new (limits_in statements.now)) }
 {
     let sites = uses_in(alloc, statements)?;
     declare_all(&mut known.declarations, statements)?;
@@ -102,7 +102,7 @@ fn know_all(
 ) -> Result<(), AllocError>
     requires { IsUnknown known.old }
     ensures known { OnOk result (Knows statements.now known.new) }
-    ensures ledger { OnOk result (ledger.new.least ≡ with_notes ledger.old.least (limits_in statements.now)) }
+    ensures ledger { OnOk result (Notes ledger.old ledger.new (limits_in statements.now)) }
 {
     see_all(alloc, known, statements, ledger)?;
     label_all(alloc, known, statements)
@@ -116,7 +116,7 @@ pub fn known_names(
     ledger: &mut Ledger,
 ) -> Result<Known, AllocError>
     ensures known { IfOk result (Knows statements.now) }
-    ensures ledger { OnOk result (ledger.new.least ≡ with_notes ledger.old.least (limits_in statements.now)) }
+    ensures ledger { OnOk result (Notes ledger.old ledger.new (limits_in statements.now)) }
     ensures unchanged { OnErr result (ledger.new ≡ ledger.old) }
 {
     let mut known = nothing_known(alloc);

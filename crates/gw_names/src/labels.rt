@@ -1,9 +1,9 @@
 //! The numbers of blocks.
 
-ghost use Rattle.std.specs.Prelude.{◌≡◌, OnOk, IfOk, ℕ, List};
-ghost use Rattle.gw_names.specs.Known.{found_in};
+ghost use Rattle.std.specs.Prelude.{◌≡◌, IfOk};
+ghost use Rattle.gw_names.specs.Known.{Finds};
 ghost use Rattle.gw_names.specs.Places as model;
-ghost use Rattle.gw_names.specs.Places.{Adds};
+ghost use Rattle.gw_names.specs.Places.{Sets, block_label, block_of};
 
 use crate::maps::set_label;
 use gw_text::{Statement, Word};
@@ -46,7 +46,7 @@ fn count(
     statement: &Statement,
 ) -> Result<u16, AllocError>
     ensures counted { IfOk result (λ after. after ≡ model.counted number statement.now) }
-    ensures added { OnOk result (Adds (model.block_label number statement.now) (found_in blocks.old) (found_in blocks.new)) }
+    ensures added { Sets result blocks.old blocks.new (block_label number statement.now) }
 {
     if is_block(statement.word) {
         let number = next_block(number);
@@ -62,7 +62,7 @@ pub(crate) fn blocks_in(
     alloc: Global,
     statements: &[Statement],
 ) -> Result<IndexMap<String, u16>, AllocError>
-    ensures { IfOk result (λ blocks. (label : List ℕ) → found_in blocks label ≡ model.block_of statements.now label) }
+    ensures { IfOk result (Finds (block_of statements.now)) }
 {
     let mut blocks = IndexMap::new(alloc);
     let mut number = 0;

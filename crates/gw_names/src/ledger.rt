@@ -82,7 +82,7 @@ impl Ledger {
 
 /// Takes note of a refusal at a line, if there is one.
 pub(crate) fn note_if(ledger: &mut Ledger, line: u32, code: Option<u16>)
-    ensures { ledger.new.least ≡ model.with_notes ledger.old.least (model.noted_if line code) }
+    ensures { model.Notes ledger.old ledger.new (model.noted_if line code) }
 {
     if let Some(code) = code {
         ledger.note(line, code);

@@ -1,8 +1,8 @@
 //! Maps by name.
 
-ghost use Rattle.std.specs.Prelude.{◌≡◌, ◌∷◌, [], OnOk, option_map, string_bytes};
+ghost use Rattle.std.specs.Prelude.{◌≡◌, ◌∷◌, [], option_map, string_bytes};
 ghost use Rattle.gw_names.specs.Known.{found_in};
-ghost use Rattle.gw_names.specs.Places.{Adds, named};
+ghost use Rattle.gw_names.specs.Places.{Sets, named};
 
 use indexmap::IndexMap;
 use std::alloc::AllocError;
@@ -20,7 +20,7 @@ pub fn set<T: Drop>(
     name: &String,
     value: T,
 ) -> Result<(), AllocError>
-    ensures { OnOk result (Adds ((string_bytes name.now, value) ∷ []) (found_in map.old) (found_in map.new)) }
+    ensures { Sets result map.old map.new ((string_bytes name.now, value) ∷ []) }
 {
     let name = name.clone()?;
     map.insert(name, value)?;
@@ -33,7 +33,7 @@ pub(crate) fn set_label<T: Drop>(
     label: &Option<String>,
     value: T,
 ) -> Result<(), AllocError>
-    ensures { OnOk result (Adds (named (option_map string_bytes label.now) value) (found_in map.old) (found_in map.new)) }
+    ensures { Sets result map.old map.new (named (option_map string_bytes label.now) value) }
 {
     match label {
         Some(label) => set(map, label, value),

@@ -1,13 +1,15 @@
 //! The numbers of parameters that have names.
 
-ghost use Rattle.std.specs.Prelude.{◌≡◌, ◌<◌, ◌++◌, ◌∷◌, [], None, Some, length, map, slice_get, OnOk, IfOk, string_bytes};
-ghost use Rattle.std.specs.Str.{bytes_eq};
+ghost use Rattle.std.specs.Prelude.{◌≡◌, ◌<◌, ◌++◌, None, Some, length, map, slice_get, OnOk, IfOk, string_bytes};
 ghost use Rattle.gw_uses.specs.Mentions.{mention};
 ghost use Rattle.gw_uses.specs.Sites.{said};
 ghost use Rattle.gw_names.specs.Known.{found_in};
-ghost use Rattle.gw_names.specs.Ledger.{with_notes};
+ghost use Rattle.gw_names.specs.Ledger.{Notes};
 ghost use Rattle.gw_names.specs.Sights as model;
-ghost use Rattle.gw_names.specs.Sighting.{HaveNumbers, names_of};
+ghost use Rattle.gw_names.specs.Sights.{with_parameter, with_parameter_in, parameters_after};
+ghost use Rattle.gw_names.specs.Sights.{unplaced_parameter, unplaced_parameter_in};
+ghost use Rattle.gw_names.specs.Sights.{parameter_limits_after, parameters_among, parameter_limits_among};
+ghost use Rattle.gw_names.specs.Sighting.{AddsName, HaveNumbers, names_of};
 
 use crate::codes;
 use crate::ledger::Ledger;
@@ -78,7 +80,7 @@ fn add(
     requires number { slice_get free.now (length (names_of parameters.old)) ≡ Some number }
     requires given { HaveNumbers free.now parameters.old }
     ensures given { OnOk result (HaveNumbers free.now parameters.new) }
-    ensures names { OnOk result (names_of parameters.new ≡ names_of parameters.old ++ string_bytes name.now ∷ []) }
+    ensures names { OnOk result (AddsName (string_bytes name.now) parameters.old parameters.new) }
 {
     let _ = free;
     let name = name.clone()?;
@@ -97,9 +99,9 @@ fn see(
     requires given { HaveNumbers free.now parameters.old }
     ensures given { OnOk result (HaveNumbers free.now parameters.new) }
     ensures names { OnOk result (names_of parameters.new
-        ≡ model.with_sight model.parameter_in bytes_eq (length free.now) (names_of parameters.old) (string_bytes name.now)) }
-    ensures ledger { OnOk result (ledger.new.least ≡ with_notes ledger.old.least
-        (model.unplaced model.parameter_in bytes_eq (length free.now) (names_of parameters.old) line (string_bytes name.now))) }
+        ≡ with_parameter free.now (names_of parameters.old) (string_bytes name.now)) }
+    ensures ledger { OnOk result (Notes ledger.old ledger.new
+        (unplaced_parameter free.now (names_of parameters.old) line (string_bytes name.now))) }
 {
     if found(parameters, name).is_some() {
         Ok(())
@@ -123,9 +125,9 @@ fn see_site(
     requires given { HaveNumbers free.now parameters.old }
     ensures given { OnOk result (HaveNumbers free.now parameters.new) }
     ensures names { OnOk result (names_of parameters.new
-        ≡ model.with_pick model.parameter_in bytes_eq (length free.now) (names_of parameters.old) (model.parameter_in (mention used.entry))) }
-    ensures ledger { OnOk result (ledger.new.least ≡ with_notes ledger.old.least
-        (model.unplaced_pick model.parameter_in bytes_eq (length free.now) (names_of parameters.old) line (model.parameter_in (mention used.entry)))) }
+        ≡ with_parameter_in free.now (names_of parameters.old) (mention used.entry)) }
+    ensures ledger { OnOk result (Notes ledger.old ledger.new
+        (unplaced_parameter_in free.now (names_of parameters.old) line (mention used.entry))) }
 {
     match used {
         Use::Parameter(name) => see(parameters, ledger, free, line, name),
@@ -143,9 +145,9 @@ fn see_sites(
     requires given { HaveNumbers free.now parameters.old }
     ensures given { OnOk result (HaveNumbers free.now parameters.new) }
     ensures names { OnOk result (names_of parameters.new
-        ≡ model.seen_after model.parameter_in bytes_eq (length free.now) (names_of parameters.old) (map said sites.now)) }
-    ensures ledger { OnOk result (ledger.new.least ≡ with_notes ledger.old.least
-        (model.limits_after model.parameter_in bytes_eq (length free.now) (names_of parameters.old) (map said sites.now))) }
+        ≡ parameters_after free.now (names_of parameters.old) (map said sites.now)) }
+    ensures ledger { OnOk result (Notes ledger.old ledger.new
+        (parameter_limits_after free.now (names_of parameters.old) (map said sites.now))) }
 {
     for i in 0..sites.len() {
         let site = sites[i];
@@ -162,11 +164,9 @@ pub(crate) fn parameters_in(
     ledger: &mut Ledger,
 ) -> Result<IndexMap<String, u8>, AllocError>
     ensures given { IfOk result (HaveNumbers (model.free_numbers (map said sites.now))) }
-    ensures names { IfOk result (λ parameters. names_of parameters ≡ model.seen_after model.parameter_in bytes_eq
-        (length (model.free_numbers (map said sites.now))) [] (map said sites.now)) }
-    ensures ledger { OnOk result (ledger.new.least ≡ with_notes ledger.old.least
-        (model.limits_after model.parameter_in bytes_eq
-        (length (model.free_numbers (map said sites.now))) [] (map said sites.now))) }
+    ensures names { IfOk result (λ ps. names_of ps ≡ parameters_among (map said sites.now)) }
+    ensures ledger { OnOk result (Notes ledger.old ledger.new
+        (parameter_limits_among (map said sites.now))) }
 {
     let free = free_numbers(alloc, sites)?;
     let mut parameters = IndexMap::new(alloc);

@@ -1,12 +1,13 @@
 //! Entities, in the order in which a text speaks of them first.
 
-ghost use Rattle.std.specs.Prelude.{◌≡◌, ◌<◌, ◌++◌, ◌∷◌, [], None, length, map, OnOk, IfOk, string_bytes};
+ghost use Rattle.std.specs.Prelude.{◌≡◌, ◌<◌, None, length, map, OnOk, IfOk, string_bytes};
 ghost use Rattle.gw_uses.specs.Mentions.{mention};
 ghost use Rattle.gw_uses.specs.Sites.{said};
-ghost use Rattle.gw_names.specs.Known.{key, entity_of, is_same};
-ghost use Rattle.gw_names.specs.Ledger.{with_notes};
-ghost use Rattle.gw_names.specs.Sights as model;
-ghost use Rattle.gw_names.specs.Sighting.{IsSighted, keys_of};
+ghost use Rattle.gw_names.specs.Known.{key, entity_of};
+ghost use Rattle.gw_names.specs.Ledger.{Notes};
+ghost use Rattle.gw_names.specs.Sights.{with_entity, with_entity_in, entities_after};
+ghost use Rattle.gw_names.specs.Sights.{unplaced_entity, unplaced_entity_in, entity_limits_after};
+ghost use Rattle.gw_names.specs.Sighting.{AddsKey, IsSighted, keys_of};
 
 use crate::codes;
 use crate::entities::{Declarations, EntityNames};
@@ -59,7 +60,7 @@ fn add(
     requires new { entity_of entities.old kind (string_bytes name.now) ≡ None }
     requires sighted { IsSighted declarations.now entities.old sighted.old.items }
     ensures sighted { OnOk result (IsSighted declarations.now entities.new sighted.new.items) }
-    ensures keys { OnOk result (keys_of sighted.new.items ≡ keys_of sighted.old.items ++ key kind (string_bytes name.now) ∷ []) }
+    ensures keys { OnOk result (AddsKey kind (string_bytes name.now) sighted.old sighted.new) }
 {
     let entity = sighted_of(declarations, kind, name)?;
     let number = sighted.len() as u16;
@@ -81,9 +82,9 @@ fn see(
     requires sighted { IsSighted declarations.now entities.old sighted.old.items }
     ensures sighted { OnOk result (IsSighted declarations.now entities.new sighted.new.items) }
     ensures keys { OnOk result (keys_of sighted.new.items
-        ≡ model.with_sight model.entity_in is_same model.most_entities (keys_of sighted.old.items) (key kind (string_bytes name.now))) }
-    ensures ledger { OnOk result (ledger.new.least ≡ with_notes ledger.old.least
-        (model.unplaced model.entity_in is_same model.most_entities (keys_of sighted.old.items) line (key kind (string_bytes name.now)))) }
+        ≡ with_entity (keys_of sighted.old.items) (key kind (string_bytes name.now))) }
+    ensures ledger { OnOk result (Notes ledger.old ledger.new
+        (unplaced_entity (keys_of sighted.old.items) line (key kind (string_bytes name.now)))) }
 {
     if entities.get(kind, name).is_some() {
         Ok(())
@@ -107,9 +108,9 @@ fn see_site(
     requires sighted { IsSighted declarations.now entities.old sighted.old.items }
     ensures sighted { OnOk result (IsSighted declarations.now entities.new sighted.new.items) }
     ensures keys { OnOk result (keys_of sighted.new.items
-        ≡ model.with_pick model.entity_in is_same model.most_entities (keys_of sighted.old.items) (model.entity_in (mention used.entry))) }
-    ensures ledger { OnOk result (ledger.new.least ≡ with_notes ledger.old.least
-        (model.unplaced_pick model.entity_in is_same model.most_entities (keys_of sighted.old.items) line (model.entity_in (mention used.entry)))) }
+        ≡ with_entity_in (keys_of sighted.old.items) (mention used.entry)) }
+    ensures ledger { OnOk result (Notes ledger.old ledger.new
+        (unplaced_entity_in (keys_of sighted.old.items) line (mention used.entry))) }
 {
     match used {
         Use::Entity(kind, name) => see(entities, sighted, ledger, declarations, line, kind, name),
@@ -128,9 +129,9 @@ pub(crate) fn see_sites(
     requires sighted { IsSighted declarations.now entities.old sighted.old.items }
     ensures sighted { OnOk result (IsSighted declarations.now entities.new sighted.new.items) }
     ensures keys { OnOk result (keys_of sighted.new.items
-        ≡ model.seen_after model.entity_in is_same model.most_entities (keys_of sighted.old.items) (map said sites.now)) }
-    ensures ledger { OnOk result (ledger.new.least ≡ with_notes ledger.old.least
-        (model.limits_after model.entity_in is_same model.most_entities (keys_of sighted.old.items) (map said sites.now))) }
+        ≡ entities_after (keys_of sighted.old.items) (map said sites.now)) }
+    ensures ledger { OnOk result (Notes ledger.old ledger.new
+        (entity_limits_after (keys_of sighted.old.items) (map said sites.now))) }
 {
     for i in 0..sites.len() {
         let site = sites[i];

@@ -5,7 +5,7 @@ use Rattle.std.proofs.lemmas.List.Folds.{list_any-append}
 use Rattle.std.proofs.lemmas.List.Elements.{All-append}
 use Rattle.gw_text.specs.declared.model.Statement.{Statement}
 use Rattle.gw_text_tokens.specs.Lines.{is_skipped}
-use Rattle.gw_text.specs.Reading.{stands_on, GoesOnAsItMay, IsFoundAt, IsAdded, IsInOrder, StandOn}
+use Rattle.gw_text.specs.Reading.{stands_on, GoesOnAsItMay, IsFoundAt, with_found, last_with_found, IsInOrder, StandOn}
 
 -- the last line of statements, or the line before them
 abbrev pub last_of : ℕ → List Statement → ℕ
@@ -104,10 +104,11 @@ reads_more lines i next statements s behind line last within single r = record {
 
 -- the next line, by what was found on it
 pub reads_next : (lines : List (List ℕ)) (i next : ℕ) (statements : List Statement) (found : Option Statement) (after : ℕ)
-    (more : List Statement) → next ≤ i → IsFoundAt lines i found → IsAdded found next statements after more → Reads lines i next statements → Reads lines (i + 1) after more
-reads_next lines i next statements None after more behind h e r = rw e.0 (rw e.1 (reads_skipped lines i next statements behind h r))
-reads_next lines i next statements (Some s) after more behind h e r =
-    rw e.0 (rw e.1 (reads_more lines i next statements s behind h.0 h.1 h.2 h.3 r))
+    (more : List Statement) → next ≤ i → IsFoundAt lines i found → after ≡ last_with_found found next → more ≡ with_found found statements
+    → Reads lines i next statements → Reads lines (i + 1) after more
+reads_next lines i next statements None after more behind h to grown r = rw to (rw grown (reads_skipped lines i next statements behind h r))
+reads_next lines i next statements (Some s) after more behind h to grown r =
+    rw to (rw grown (reads_more lines i next statements s behind h.0 h.1 h.2 h.3 r))
 
 -- all lines are read
 pub reads_all : (lines : List (List ℕ)) (i next : ℕ) (statements : List Statement) → length lines ≤ i → Reads lines i next statements

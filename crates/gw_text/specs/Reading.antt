@@ -1,6 +1,7 @@
 -- How a model's statements stand on the lines of its text, and where a text is refused.
-use Rattle.std.specs.Prelude.{◌≡◌, ℕ, ◌+◌, ◌<◌, ◌≤◌, List, [], ◌∷◌, ◌++◌, length, slice_index_or, Bool, true, false, ◌&&◌, nat_le, ◌⊎◌, Option, Some, None}
+use Rattle.std.specs.Prelude.{◌≡◌, ℕ, ◌+◌, ◌<◌, ◌≤◌, List, [], ◌∷◌, ◌++◌, length, slice_index_or, Bool, true, false, ◌&&◌, nat_le, ◌⊎◌, Option, Some, None, Result, MatchResult}
 use Rattle.std.specs.List.{All, list_any}
+use Rattle.gw_object.specs.declared.fault.Fault.{Fault}
 use Rattle.gw_object.specs.declared.fault.Place.{Place}
 use Rattle.gw_object.specs.declared.fault.Place.TheVariants.{Byte, Entity, Code, Row, Block, Edge, Chain, Line, Nowhere}
 use Rattle.gw_text_tokens.specs.declared.words.Word.{Word}
@@ -8,6 +9,7 @@ use Rattle.gw_text_tokens.specs.declared.words.Word.TheVariants as words
 use Rattle.gw_text_tokens.specs.Codes as codes
 use Rattle.gw_text_tokens.specs.Lines.{is_skipped}
 use Rattle.gw_text.specs.declared.model.Statement.{Statement}
+use Rattle.gw_text.specs.declared.reader.Read.{Read}
 
 -- STATEMENTS ON LINES
 
@@ -28,10 +30,23 @@ abbrev pub IsFoundAt : List (List ℕ) → ℕ → Option Statement → Type 0
 IsFoundAt lines i None = is_skipped (slice_index_or lines i []) ≡ true
 IsFoundAt lines i (Some s) = (s.line ≡ i + 1) × (s.line ≤ s.last_line) × (s.last_line ≤ length lines) × GoesOnAsItMay s
 
--- the statements with the one that was found, if there is one, and the number of the last line that is read
-abbrev pub IsAdded : Option Statement → ℕ → List Statement → ℕ → List Statement → Type 0
-IsAdded None last statements after more = (after ≡ last) × (more ≡ statements)
-IsAdded (Some s) last statements after more = (after ≡ s.last_line) × (more ≡ statements ++ s ∷ [])
+-- the statements with the one that was found, if there is one
+abbrev pub with_found : Option Statement → List Statement → List Statement
+with_found None statements = statements
+with_found (Some s) statements = statements ++ s ∷ []
+
+-- the number of the last line that is read then
+abbrev pub last_with_found : Option Statement → ℕ → ℕ
+last_with_found None last = last
+last_with_found (Some s) last = s.last_line
+
+-- a statement that begins on the line of this number, from 0, ends on one of so many lines, or it is refused at one of them
+abbrev pub StaysWithin : {B : Type 0} → ℕ → ℕ → Result Read (ℕ × B) → Type 0
+StaysWithin i count result = MatchResult result (λ read. (i ≤ read.last) × (read.last < count)) (λ place. place.0 < count)
+
+-- and it ends or is refused on that line, unless its word is FUNCTION or PROCEDURE
+abbrev pub StaysSingle : {B : Type 0} → Word → ℕ → Result Read (ℕ × B) → Type 0
+StaysSingle word i result = MatchResult result (λ read. IsSingle word i read.last) (λ place. IsSingle word i place.0)
 
 -- the lines of the statements ascend: each begins behind the last line of the one before, and the first behind this line
 abbrev pub IsInOrder : ℕ → List Statement → Type 0
@@ -60,3 +75,10 @@ IsRefusedAt count code (Row n) = ⊥
 IsRefusedAt count code (Block n) = ⊥
 IsRefusedAt count code (Edge b n) = ⊥
 IsRefusedAt count code (Chain n) = ⊥
+
+abbrev pub IsRefused : ℕ → Fault → Type 0
+IsRefused count fault = IsRefusedAt count fault.code fault.place
+
+-- the refusal of a text that is too long
+abbrev pub too_long : Fault
+too_long = record { code = codes.length_fault; place = Line 1 }

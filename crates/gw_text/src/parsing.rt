@@ -2,8 +2,7 @@
 
 ghost use Rattle.std.specs.Prelude.{◌≡◌, ◌<◌, ◌+◌, ◌^◌, ◌∷◌, ◌++◌, ℕ, [], map, length, IfOk, IfErr, OnOk};
 ghost use Rattle.std.specs.Str.Lines.{lines as lines_of_text};
-ghost use Rattle.gw_text_tokens.specs.Codes.{length_fault};
-ghost use Rattle.gw_text.specs.Reading.{IsFoundAt, IsAdded, StandOn, IsRefusedAt};
+ghost use Rattle.gw_text.specs.Reading.{IsFoundAt, with_found, last_with_found, StandOn, IsRefused, too_long};
 
 use crate::model::{Model, Statement};
 use crate::reader::{Read, Reader};
@@ -49,7 +48,9 @@ fn statement_at(reader: &mut Reader, lines: &[&[u8]], i: usize) -> Result<Option
 fn made(line: usize, word: Word, read: Read) -> Statement
     requires line { line + 1 < 2 ^ 32 }
     requires last { read.last + 1 < 2 ^ 32 }
-    ensures { (result.line ≡ line + 1) × (result.last_line ≡ read.last + 1) × (result.word ≡ word) }
+    ensures line { result.line ≡ line + 1 }
+    ensures last { result.last_line ≡ read.last + 1 }
+    ensures word { result.word ≡ word }
 {
     Statement {
         line: (line + 1) as u32,
@@ -65,7 +66,7 @@ fn made(line: usize, word: Word, read: Read) -> Statement
 /// What is told of a line that wasn't read. Lines count from 0 here.
 fn fault_at(place: Where) -> Fault
     requires { place.0 + 1 < 2 ^ 32 }
-    ensures { (count : ℕ) → place.0 < count → IsRefusedAt count result.code result.place }
+    ensures { (count : ℕ) → place.0 < count → IsRefused count result }
 {
     match place.1 {
         Stop::Refused(refusal) => Fault {
@@ -87,7 +88,7 @@ fn found_at(reader: &mut Reader, lines: &[&[u8]], i: usize) -> Result<Option<Sta
     requires within { i < length lines.now }
     requires few { length lines.now < 2 ^ 32 }
     ensures found { IfOk result (λ found. IsFoundAt (map (λ l. l.now) lines.now) i found) }
-    ensures refused { IfErr result (λ fault. IsRefusedAt (length lines.now) fault.code fault.place) }
+    ensures refused { IfErr result (IsRefused (length lines.now)) }
 {
     match statement_at(reader, lines, i) {
         Ok(found) => Ok(found),
@@ -116,8 +117,9 @@ fn add(
     next: &mut usize,
     found: Option<Statement>,
 ) -> Result<(), Fault>
-    ensures added { OnOk result (IsAdded found next.old statements.old.items next.new statements.new.items) }
-    ensures refused { IfErr result (λ fault. (count : ℕ) → IsRefusedAt count fault.code fault.place) }
+    ensures next { OnOk result (next.new ≡ last_with_found found next.old) }
+    ensures added { OnOk result (statements.new.items ≡ with_found found statements.old.items) }
+    ensures refused { IfErr result (λ fault. (count : ℕ) → IsRefused count fault) }
 {
     let Some(statement) = found else {
         return Ok(());
@@ -132,8 +134,8 @@ fn add(
 /// The statements on these lines.
 fn read_all(alloc: Global, lines: &[&[u8]]) -> Result<Vec<Statement>, Fault>
     requires { length lines.now < 2 ^ 32 }
-    ensures read { IfOk result (λ statements. StandOn (map (λ l. l.now) lines.now) statements.items) }
-    ensures refused { IfErr result (λ fault. IsRefusedAt (length lines.now) fault.code fault.place) }
+    ensures read { IfOk result (λ read. StandOn (map (λ l. l.now) lines.now) read.items) }
+    ensures refused { IfErr result (IsRefused (length lines.now)) }
 {
     let mut reader = Reader::new(alloc);
     let mut statements = Vec::new(alloc);
@@ -153,8 +155,8 @@ fn read_all(alloc: Global, lines: &[&[u8]]) -> Result<Vec<Statement>, Fault>
 /// long with 70 at line 1; or with 8 Memory at Nowhere where memory runs out.
 pub fn parse(alloc: Global, text: &[u8]) -> Result<Model, Fault>
     ensures read { IfOk result (λ model. StandOn (lines_of_text text.now) model.statements.items) }
-    ensures refused { IfErr result (λ fault. IsRefusedAt (length (lines_of_text text.now)) fault.code fault.place) }
-    ensures long { 2 ^ 20 < length text.now → result ≡ Err (record { code = length_fault; place = Place.Line 1 }) }
+    ensures refused { IfErr result (IsRefused (length (lines_of_text text.now))) }
+    ensures long { 2 ^ 20 < length text.now → result ≡ Err too_long }
 {
     if text.len() > MOST_BYTES {
         return Err(Fault {

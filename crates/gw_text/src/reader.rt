@@ -1,7 +1,7 @@
 //! Statements, by their heads.
 
-ghost use Rattle.std.specs.Prelude.{◌≡◌, ◌<◌, ◌≤◌, length, MatchResult};
-ghost use Rattle.gw_text.specs.Reading.{IsSingle};
+ghost use Rattle.std.specs.Prelude.{◌≡◌, ◌<◌, length, MatchResult};
+ghost use Rattle.gw_text.specs.Reading.{StaysWithin, StaysSingle};
 
 use crate::model::Body;
 use gw_text_expressions::Sna;
@@ -130,7 +130,7 @@ impl Reader {
     /// A FUNCTION on line `i` and its points on those behind it. Lines count from 0 here.
     fn function(&mut self, head: &Head<'_, '_>, lines: &[&[u8]], i: usize) -> Result<Read, Where>
         requires { i < length lines.now }
-        ensures { MatchResult result (λ x. (i ≤ x.last) × (x.last < length lines.now)) (λ place. place.0 < length lines.now) }
+        ensures { StaysWithin i (length lines.now) result }
     {
         let (first, count) = match self.first_of_function(head) {
             Ok(first) => first,
@@ -145,7 +145,7 @@ impl Reader {
     /// A PROCEDURE that begins on line `i`. Lines count from 0 here.
     fn procedure(&mut self, head: &Head<'_, '_>, lines: &[&[u8]], i: usize) -> Result<Read, Where>
         requires { i < length lines.now }
-        ensures { MatchResult result (λ x. (i ≤ x.last) × (x.last < length lines.now)) (λ place. place.0 < length lines.now) }
+        ensures { StaysWithin i (length lines.now) result }
     {
         if head.label.is_some() {
             return Err((i, Stop::Refused(Refusal::Operand)));
@@ -168,8 +168,8 @@ impl Reader {
         i: usize,
     ) -> Result<Read, Where>
         requires { i < length lines.now }
-        ensures lines { MatchResult result (λ x. (i ≤ x.last) × (x.last < length lines.now)) (λ place. place.0 < length lines.now) }
-        ensures single { MatchResult result (λ x. IsSingle head.now.word i x.last) (λ place. IsSingle head.now.word i place.0) }
+        ensures lines { StaysWithin i (length lines.now) result }
+        ensures single { StaysSingle head.now.word i result }
     {
         match head.word {
             Word::Function => self.function(head, lines, i),

@@ -1,7 +1,9 @@
 -- What expressions and PROCEDUREs use by name.
-use Rattle.std.specs.Prelude.{ℕ, List, [], ◌∷◌, ◌++◌, map, Bool, Option, Some, None, if◌then◌else◌, string_bytes}
-use Rattle.std.specs.List.{list_any}
+use Rattle.std.specs.Prelude.{◌≡◌, ℕ, List, [], ◌∷◌, ◌++◌, map, Bool, Option, Some, None, Result, OnOk, Vec, if◌then◌else◌, string_bytes}
+use Rattle.std.specs.Global.{Global}
+use Rattle.std.specs.List.{list_any, flat_map}
 use Rattle.std.specs.Str.{bytes_eq}
+use Rattle.std.specs.declared.string.String.{String}
 use Rattle.gw_kinds.specs.declared.entities.EntityKind.{EntityKind}
 use Rattle.gw_text_expressions.specs.declared.model.Expression.{Expression, Row_of-Expression, end_of-Expression, more_of-Expression}
 use Rattle.gw_text_expressions.specs.declared.model.Expression.TheVariants.{Whole, Name, Sna as Attribute, Parentheses', Call', Unary', Binary'}
@@ -49,6 +51,10 @@ mention (uses.Target name) = Target (string_bytes name.now)
 abbrev pub mentions : List Use → List Mention
 mentions found = map mention found
 
+-- where there is memory, uses go on with these mentions
+abbrev pub Puts : {A E : Type 0} → Result A E → Vec Use Global → Vec Use Global → List Mention → Type 0
+Puts result old new more = OnOk result (mentions new.items ≡ mentions old.items ++ more)
+
 -- LOCALS
 
 -- whether a name is a local
@@ -63,6 +69,10 @@ with_local scope name = if is_local scope name then scope else scope ++ name ∷
 abbrev pub with_locals : Scope → List (List ℕ) → Scope
 with_locals scope [] = scope
 with_locals scope (name ∷ names) = with_locals (with_local scope name) names
+
+-- and with those that are declared in order
+abbrev pub with_declared : Scope → List (String Global) → Scope
+with_declared scope names = with_locals scope (map string_bytes names)
 
 -- EXPRESSIONS
 
@@ -101,6 +111,10 @@ abbrev mutual
   in_arguments scope end_of-Expression = []
   in_arguments scope (more_of-Expression e es) = in_expression scope e ++ in_arguments scope es
 
+-- expressions, in order
+abbrev pub in_all : Scope → List Expression → List Mention
+in_all scope es = flat_map (in_expression scope) es
+
 -- PROCEDURES
 
 -- the target of an assignment
@@ -116,7 +130,7 @@ abbrev mutual
   -- the locals that hold behind a statement: temporaries hold from where they are declared to the end of the PROCEDURE
   pub scope_after : Scope → PlusStatement → Scope
   scope_after scope (Block' shape ss) = scope_after_block scope ss
-  scope_after scope (Temporary names) = with_locals scope (map string_bytes names.items)
+  scope_after scope (Temporary names) = with_declared scope names.items
   scope_after scope (Assign name e) = scope
   scope_after scope (If' test x a other) = scope_after_else (scope_after scope a) other
   scope_after scope (While' test x a) = scope_after scope a
@@ -154,7 +168,7 @@ abbrev mutual
 
 -- the locals at the beginning of a PROCEDURE: its arguments
 abbrev pub arguments_of : Procedure → Scope
-arguments_of procedure = with_locals [] (map string_bytes procedure.arguments.items)
+arguments_of procedure = with_declared [] procedure.arguments.items
 
 -- a PROCEDURE
 abbrev pub in_procedure : Procedure → List Mention

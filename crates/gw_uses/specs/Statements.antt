@@ -96,6 +96,38 @@ abbrev pub in_gate : Option Modifier → Operand → Operand → List Mention
 in_gate (Some (modifiers.Gate gate)) entity otherwise = in_entity (asked_kind gate) entity ++ in_label otherwise
 in_gate modifier entity otherwise = []
 
+-- ASSIGN
+abbrev pub in_assign : Operand → Operand → List Mention
+in_assign parameter value = in_parameter parameter ++ in_value value
+
+-- SAVEVALUE
+abbrev pub in_save : Operand → Operand → List Mention
+in_save savevalue value = in_entity kinds.Savevalue savevalue ++ in_value value
+
+-- TEST
+abbrev pub in_test : Operand → Operand → Operand → List Mention
+in_test left right otherwise = in_values left right ++ in_label otherwise
+
+-- LOOP
+abbrev pub in_loop : Operand → Operand → List Mention
+in_loop parameter target = in_parameter parameter ++ in_label target
+
+-- UNLINK
+abbrev pub in_unlink : Operand → Operand → List Mention
+in_unlink chain target = in_entity kinds.Chain chain ++ in_label target
+
+-- PLUS
+abbrev pub in_plus_block : Operand → Operand → List Mention
+in_plus_block value parameter = in_value value ++ in_parameter parameter
+
+-- two labels
+abbrev pub in_labels : Operand → Operand → List Mention
+in_labels first second = in_label first ++ in_label second
+
+-- a subroutine, and the parameter by which it returns
+abbrev pub in_call : Operand → Operand → List Mention
+in_call target parameter = in_label target ++ in_parameter parameter
+
 -- TRANSFER to a block, or back from a subroutine by a parameter
 abbrev pub in_transfer_of_two : Operand → Operand → List Mention
 in_transfer_of_two operands.Missing to = in_label to
@@ -104,8 +136,8 @@ in_transfer_of_two form operand = []
 
 -- TRANSFER by a fraction, or to a subroutine, which returns by a parameter
 abbrev pub in_transfer_of_three : Operand → Operand → Operand → List Mention
-in_transfer_of_three (operands.Fraction thousandths) otherwise to = in_label otherwise ++ in_label to
-in_transfer_of_three (operands.Name form) to x = in_label to ++ in_parameter x
+in_transfer_of_three (operands.Fraction thousandths) otherwise to = in_labels otherwise to
+in_transfer_of_three (operands.Name form) to x = in_call to x
 in_transfer_of_three form first second = []
 
 -- the operands of a statement of this word, with this modifier
@@ -119,20 +151,20 @@ in_operands words.Enter m (s ∷ units ∷ []) = in_entity kinds.Storage s
 in_operands words.Leave m (s ∷ units ∷ []) = in_entity kinds.Storage s
 in_operands words.Queue m (q ∷ units ∷ []) = in_entity kinds.Queue q
 in_operands words.Depart m (q ∷ units ∷ []) = in_entity kinds.Queue q
-in_operands words.Assign m (x ∷ value ∷ []) = in_parameter x ++ in_value value
-in_operands words.Savevalue m (x ∷ value ∷ []) = in_entity kinds.Savevalue x ++ in_value value
-in_operands words.Test m (left ∷ right ∷ otherwise ∷ []) = in_values left right ++ in_label otherwise
+in_operands words.Assign m (x ∷ value ∷ []) = in_assign x value
+in_operands words.Savevalue m (x ∷ value ∷ []) = in_save x value
+in_operands words.Test m (left ∷ right ∷ otherwise ∷ []) = in_test left right otherwise
 in_operands words.Gate m (entity ∷ otherwise ∷ []) = in_gate m entity otherwise
 in_operands words.Transfer m (form ∷ operand ∷ []) = in_transfer_of_two form operand
 in_operands words.Transfer m (form ∷ first ∷ second ∷ []) = in_transfer_of_three form first second
-in_operands words.Loop m (x ∷ to ∷ []) = in_parameter x ++ in_label to
+in_operands words.Loop m (x ∷ to ∷ []) = in_loop x to
 in_operands words.Split m (copies ∷ to ∷ []) = in_label to
 in_operands words.Link m (chain ∷ order ∷ []) = in_entity kinds.Chain chain
-in_operands words.Unlink m (chain ∷ to ∷ most ∷ []) = in_entity kinds.Chain chain ++ in_label to
+in_operands words.Unlink m (chain ∷ to ∷ most ∷ []) = in_unlink chain to
 in_operands words.Logic m (e ∷ []) = in_entity kinds.Switch e
 in_operands words.Mark m (x ∷ []) = in_parameter x
 in_operands words.Priority m (value ∷ behind ∷ []) = in_value value
-in_operands words.Plus m (value ∷ x ∷ []) = in_value value ++ in_parameter x
+in_operands words.Plus m (value ∷ x ∷ []) = in_plus_block value x
 in_operands words.Tabulate m (t ∷ []) = in_entity kinds.Table t
 in_operands words.Table m (argument ∷ limit ∷ width ∷ classes ∷ []) = in_value argument
 in_operands words.Function m (argument ∷ []) = in_value argument
@@ -141,6 +173,18 @@ in_operands words.BVariable m (e ∷ []) = in_value e
 in_operands words.Equ m (e ∷ []) = in_value e
 in_operands words.Initial m (entity ∷ value ∷ []) = in_value entity
 in_operands word m operands = []
+
+-- those of a statement of one operand
+abbrev pub in_one : Word → Option Modifier → Operand → List Mention
+in_one word m a = in_operands word m (a ∷ [])
+
+-- of two
+abbrev pub in_two : Word → Option Modifier → Operand → Operand → List Mention
+in_two word m a b = in_operands word m (a ∷ b ∷ [])
+
+-- and of three
+abbrev pub in_three : Word → Option Modifier → Operand → Operand → Operand → List Mention
+in_three word m a b c = in_operands word m (a ∷ b ∷ c ∷ [])
 
 -- the lines behind the first one
 abbrev pub in_body : Body → List Mention

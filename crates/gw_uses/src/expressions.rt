@@ -1,11 +1,9 @@
 //! What expressions use by name.
 
-ghost use Rattle.std.specs.Prelude.{◌≡◌, ◌++◌, [], OnOk, string_bytes};
-ghost use Rattle.std.specs.List.{flat_map};
+ghost use Rattle.std.specs.Prelude.{◌≡◌, [], string_bytes};
 ghost use Rattle.gw_compile.specs.Attributes as attributes;
 ghost use Rattle.gw_uses.specs.Locals.{names_of};
-ghost use Rattle.gw_uses.specs.Mentions as model;
-ghost use Rattle.gw_uses.specs.Mentions.{mentions};
+ghost use Rattle.gw_uses.specs.Mentions.{Puts, of_name, in_attribute, in_expression, in_all};
 
 use crate::locals::is_local;
 use crate::uses::{Use, put};
@@ -33,7 +31,7 @@ fn kind_for(value: EntityValue) -> EntityKind
 
 /// What an attribute uses.
 pub(crate) fn put_attribute<'a>(uses: &mut Vec<Use<'a>>, sna: &'a Sna) -> Result<(), AllocError>
-    ensures { OnOk result (mentions uses.new.items ≡ mentions uses.old.items ++ model.in_attribute sna.now) }
+    ensures { Puts result uses.old uses.new (in_attribute sna.now) }
 {
     match sna {
         Sna::Parameter(Parameter::Number(number)) => put(uses, Use::ParameterNumber(*number)),
@@ -46,7 +44,7 @@ pub(crate) fn put_attribute<'a>(uses: &mut Vec<Use<'a>>, sna: &'a Sna) -> Result
 
 /// What a bare name uses: an EQU, where it is no local.
 fn put_name<'a>(uses: &mut Vec<Use<'a>>, is_local: bool, name: &'a String) -> Result<(), AllocError>
-    ensures { OnOk result (mentions uses.new.items ≡ mentions uses.old.items ++ model.of_name is_local (string_bytes name.now)) }
+    ensures { Puts result uses.old uses.new (of_name is_local (string_bytes name.now)) }
 {
     if is_local {
         Ok(())
@@ -62,7 +60,7 @@ fn put_all<'a>(
     locals: &IndexSet<String>,
     expressions: &'a [Expression],
 ) -> Result<(), AllocError>
-    ensures { OnOk result (mentions uses.new.items ≡ mentions uses.old.items ++ flat_map (model.in_expression (names_of locals.now)) expressions.now) }
+    ensures { Puts result uses.old uses.new (in_all (names_of locals.now) expressions.now) }
 {
     for expression in expressions {
         put_expression(uses, locals, expression)?;
@@ -77,7 +75,7 @@ pub(crate) fn put_expression<'a>(
     locals: &IndexSet<String>,
     expression: &'a Expression,
 ) -> Result<(), AllocError>
-    ensures { OnOk result (mentions uses.new.items ≡ mentions uses.old.items ++ model.in_expression (names_of locals.now) expression.now) }
+    ensures { Puts result uses.old uses.new (in_expression (names_of locals.now) expression.now) }
 {
     match expression {
         Expression::Whole(_) => Ok(()),
@@ -102,7 +100,7 @@ pub fn put_uses_of_operand<'a>(
     uses: &mut Vec<Use<'a>>,
     operand: &'a Expression,
 ) -> Result<(), AllocError>
-    ensures { OnOk result (mentions uses.new.items ≡ mentions uses.old.items ++ model.in_expression [] operand.now) }
+    ensures { Puts result uses.old uses.new (in_expression [] operand.now) }
 {
     let locals = IndexSet::new(*uses.allocator());
     put_expression(uses, &locals, operand)

@@ -1,8 +1,9 @@
 //! The locals of a PROCEDURE: its arguments, and the temporaries declared above.
 
-ghost use Rattle.std.specs.Prelude.{◌≡◌, OnOk, map, string_bytes};
-ghost use Rattle.gw_uses.specs.Locals.{names_of};
+ghost use Rattle.std.specs.Prelude.{◌≡◌, string_bytes};
+ghost use Rattle.gw_uses.specs.Locals.{Hold, names_of};
 ghost use Rattle.gw_uses.specs.Mentions as model;
+ghost use Rattle.gw_uses.specs.Mentions.{with_local, with_declared};
 
 use indexmap::IndexSet;
 use std::alloc::AllocError;
@@ -10,7 +11,7 @@ use std::alloc::AllocError;
 /// One more local.
 #[tactic(auto, using(crate::proofs::Naming::declared_is))]
 fn declare(locals: &mut IndexSet<String>, name: &String) -> Result<(), AllocError>
-    ensures { OnOk result (names_of locals.new ≡ model.with_local (names_of locals.old) (string_bytes name.now)) }
+    ensures { Hold result locals.new (with_local (names_of locals.old) (string_bytes name.now)) }
 {
     match locals.insert(name.clone()?) {
         Ok(_) => Ok(()),
@@ -20,7 +21,7 @@ fn declare(locals: &mut IndexSet<String>, name: &String) -> Result<(), AllocErro
 
 /// More locals, in order.
 pub(crate) fn declare_all(locals: &mut IndexSet<String>, names: &[String]) -> Result<(), AllocError>
-    ensures { OnOk result (names_of locals.new ≡ model.with_locals (names_of locals.old) (map string_bytes names.now)) }
+    ensures { Hold result locals.new (with_declared (names_of locals.old) names.now) }
 {
     for i in 0..names.len() {
         declare(locals, &names[i])?;

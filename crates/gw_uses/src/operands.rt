@@ -1,7 +1,6 @@
 //! What operands use by name.
 
-ghost use Rattle.std.specs.Prelude.{◌≡◌, ◌++◌, OnOk};
-ghost use Rattle.gw_uses.specs.Mentions.{mentions};
+ghost use Rattle.gw_uses.specs.Mentions.{Puts};
 ghost use Rattle.gw_uses.specs.Statements as model;
 
 use crate::expressions::{put_attribute, put_uses_of_operand};
@@ -12,7 +11,7 @@ use std::alloc::AllocError;
 
 /// What an operand uses that is a value.
 pub(crate) fn put_value<'a>(uses: &mut Vec<Use<'a>>, operand: &'a Operand) -> Result<(), AllocError>
-    ensures { OnOk result (mentions uses.new.items ≡ mentions uses.old.items ++ model.in_value operand.now) }
+    ensures { Puts result uses.old uses.new (model.in_value operand.now) }
 {
     match operand {
         Operand::Missing | Operand::Whole(_) | Operand::Fraction(_) => Ok(()),
@@ -28,7 +27,7 @@ pub(crate) fn put_values<'a>(
     first: &'a Operand,
     second: &'a Operand,
 ) -> Result<(), AllocError>
-    ensures { OnOk result (mentions uses.new.items ≡ mentions uses.old.items ++ model.in_values first.now second.now) }
+    ensures { Puts result uses.old uses.new (model.in_values first.now second.now) }
 {
     put_value(uses, first)?;
     put_value(uses, second)
@@ -40,7 +39,7 @@ pub(crate) fn put_entity<'a>(
     kind: EntityKind,
     operand: &'a Operand,
 ) -> Result<(), AllocError>
-    ensures { OnOk result (mentions uses.new.items ≡ mentions uses.old.items ++ model.in_entity kind operand.now) }
+    ensures { Puts result uses.old uses.new (model.in_entity kind operand.now) }
 {
     match operand {
         Operand::Name(name) => put(uses, Use::Entity(kind, name)),
@@ -50,7 +49,7 @@ pub(crate) fn put_entity<'a>(
 
 /// What an operand uses that is a label.
 pub(crate) fn put_label<'a>(uses: &mut Vec<Use<'a>>, operand: &'a Operand) -> Result<(), AllocError>
-    ensures { OnOk result (mentions uses.new.items ≡ mentions uses.old.items ++ model.in_label operand.now) }
+    ensures { Puts result uses.old uses.new (model.in_label operand.now) }
 {
     match operand {
         Operand::Name(label) => put(uses, Use::Label(label)),
@@ -60,7 +59,7 @@ pub(crate) fn put_label<'a>(uses: &mut Vec<Use<'a>>, operand: &'a Operand) -> Re
 
 /// What a parameter's number uses.
 fn put_number<'a>(uses: &mut Vec<Use<'a>>, number: i64) -> Result<(), AllocError>
-    ensures { OnOk result (mentions uses.new.items ≡ mentions uses.old.items ++ model.of_number number) }
+    ensures { Puts result uses.old uses.new (model.of_number number) }
 {
     match u8::try_from(number) {
         Ok(number) => put(uses, Use::ParameterNumber(number)),
@@ -73,7 +72,7 @@ pub(crate) fn put_parameter<'a>(
     uses: &mut Vec<Use<'a>>,
     operand: &'a Operand,
 ) -> Result<(), AllocError>
-    ensures { OnOk result (mentions uses.new.items ≡ mentions uses.old.items ++ model.in_parameter operand.now) }
+    ensures { Puts result uses.old uses.new (model.in_parameter operand.now) }
 {
     match operand {
         Operand::Name(name) => put(uses, Use::Parameter(name)),

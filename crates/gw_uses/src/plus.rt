@@ -1,9 +1,9 @@
 //! What PROCEDUREs use by name.
 
-ghost use Rattle.std.specs.Prelude.{◌≡◌, ◌++◌, OnOk, string_bytes};
-ghost use Rattle.gw_uses.specs.Locals.{names_of};
-ghost use Rattle.gw_uses.specs.Mentions as model;
-ghost use Rattle.gw_uses.specs.Mentions.{mentions};
+ghost use Rattle.std.specs.Prelude.{string_bytes};
+ghost use Rattle.gw_uses.specs.Locals.{Hold, names_of};
+ghost use Rattle.gw_uses.specs.Mentions.{Puts, of_target, in_returned, in_plus, in_sequence, in_procedure};
+ghost use Rattle.gw_uses.specs.Mentions.{scope_after, scope_after_sequence};
 
 use crate::expressions::put_expression;
 use crate::locals::{declare_all, is_local};
@@ -19,7 +19,7 @@ fn put_target<'a>(
     is_local: bool,
     name: &'a String,
 ) -> Result<(), AllocError>
-    ensures { OnOk result (mentions uses.new.items ≡ mentions uses.old.items ++ model.of_target is_local (string_bytes name.now)) }
+    ensures { Puts result uses.old uses.new (of_target is_local (string_bytes name.now)) }
 {
     if is_local {
         Ok(())
@@ -34,7 +34,7 @@ fn put_returned<'a>(
     locals: &IndexSet<String>,
     value: &'a Option<Expression>,
 ) -> Result<(), AllocError>
-    ensures { OnOk result (mentions uses.new.items ≡ mentions uses.old.items ++ model.in_returned (names_of locals.now) value.now) }
+    ensures { Puts result uses.old uses.new (in_returned (names_of locals.now) value.now) }
 {
     match value {
         Some(value) => put_expression(uses, locals, value),
@@ -47,13 +47,13 @@ fn put_returned<'a>(
 fn put_block<'a>(
     uses: &mut Vec<Use<'a>>,
     locals: &mut IndexSet<String>,
-    statements: &'a [PlusStatement],
+    block: &'a [PlusStatement],
 ) -> Result<(), AllocError>
-    ensures uses { OnOk result (mentions uses.new.items ≡ mentions uses.old.items ++ model.in_sequence (names_of locals.old) statements.now) }
-    ensures locals { OnOk result (names_of locals.new ≡ model.scope_after_sequence (names_of locals.old) statements.now) }
+    ensures uses { Puts result uses.old uses.new (in_sequence (names_of locals.old) block.now) }
+    ensures locals { Hold result locals.new (scope_after_sequence (names_of locals.old) block.now) }
 {
-    for i in 0..statements.len() {
-        put_statement(uses, locals, &statements[i])?;
+    for i in 0..block.len() {
+        put_statement(uses, locals, &block[i])?;
     }
     Ok(())
 }
@@ -65,8 +65,8 @@ fn put_statement<'a>(
     locals: &mut IndexSet<String>,
     statement: &'a PlusStatement,
 ) -> Result<(), AllocError>
-    ensures uses { OnOk result (mentions uses.new.items ≡ mentions uses.old.items ++ model.in_plus (names_of locals.old) statement.now) }
-    ensures locals { OnOk result (names_of locals.new ≡ model.scope_after (names_of locals.old) statement.now) }
+    ensures uses { Puts result uses.old uses.new (in_plus (names_of locals.old) statement.now) }
+    ensures locals { Hold result locals.new (scope_after (names_of locals.old) statement.now) }
 {
     match statement {
         PlusStatement::Block(statements) => put_block(uses, locals, statements),
@@ -97,7 +97,7 @@ pub fn put_uses_of_procedure<'a>(
     uses: &mut Vec<Use<'a>>,
     procedure: &'a Procedure,
 ) -> Result<(), AllocError>
-    ensures { OnOk result (mentions uses.new.items ≡ mentions uses.old.items ++ model.in_procedure procedure.now) }
+    ensures { Puts result uses.old uses.new (in_procedure procedure.now) }
 {
     let mut locals = IndexSet::new(*uses.allocator());
     declare_all(&mut locals, &procedure.arguments)?;

@@ -1,10 +1,8 @@
 //! All uses of a text, each with its place.
 
-ghost use Rattle.std.specs.Prelude.{◌≡◌, ◌++◌, ◌∷◌, [], map, OnOk, IfOk};
-ghost use Rattle.gw_uses.specs.Mentions.{mention, mentions};
-ghost use Rattle.gw_uses.specs.Sites as model;
-ghost use Rattle.gw_uses.specs.Sites.{said};
-ghost use Rattle.gw_uses.specs.Statements.{in_statement};
+ghost use Rattle.std.specs.Prelude.{◌≡◌, ◌∷◌, [], map, IfOk};
+ghost use Rattle.gw_uses.specs.Mentions.{mentions};
+ghost use Rattle.gw_uses.specs.Sites.{PutsSites, said, all_at, mentioned_by, mentioned_in};
 
 use crate::statements::put_uses;
 use crate::uses::Use;
@@ -29,28 +27,25 @@ fn put_sites<'a>(
     line: u32,
     uses: &[Use<'a>],
 ) -> Result<(), AllocError>
-    ensures { OnOk result (map said sites.new.items ≡ map said sites.old.items ++ map (model.at_place statement line) (mentions uses.now)) }
+    ensures { PutsSites result sites.old sites.new (all_at statement line (mentions uses.now)) }
 {
     for i in 0..uses.len() {
-        put_site(sites, statement, line, uses[i])?;
+        let used = uses[i];
+        let site = Site {
+            statement,
+            line,
+            used,
+        };
+        put_site(sites, site)?;
     }
     Ok(())
 }
 
 /// One more.
-fn put_site<'a>(
-    sites: &mut Vec<Site<'a>>,
-    statement: usize,
-    line: u32,
-    used: Use<'a>,
-) -> Result<(), AllocError>
-    ensures { OnOk result (map said sites.new.items ≡ map said sites.old.items ++ model.at_place statement line (mention used.entry) ∷ []) }
+fn put_site<'a>(sites: &mut Vec<Site<'a>>, site: Site<'a>) -> Result<(), AllocError>
+    ensures { PutsSites result sites.old sites.new (said site.entry ∷ []) }
 {
-    match sites.push(Site {
-        statement,
-        line,
-        used,
-    }) {
+    match sites.push(site) {
         Ok(()) => Ok(()),
         Err(_) => Err(AllocError),
     }
@@ -63,7 +58,7 @@ fn put_sites_of<'a>(
     number: usize,
     statement: &'a Statement,
 ) -> Result<(), AllocError>
-    ensures { OnOk result (map said sites.new.items ≡ map said sites.old.items ++ map (model.at_place number statement.now.line) (in_statement statement.now)) }
+    ensures { PutsSites result sites.old sites.new (mentioned_by number statement.now) }
 {
     let mut uses = Vec::new(alloc);
     put_uses(&mut uses, statement)?;
@@ -72,7 +67,7 @@ fn put_sites_of<'a>(
 
 /// All uses of a text, in its order.
 pub fn uses_in<'a>(alloc: Global, statements: &'a [Statement]) -> Result<Vec<Site<'a>>, AllocError>
-    ensures { IfOk result (λ sites. map said sites.items ≡ model.mentioned_in statements.now) }
+    ensures { IfOk result (λ sites. map said sites.items ≡ mentioned_in statements.now) }
 {
     let mut sites = Vec::new(alloc);
     for i in 0..statements.len() {

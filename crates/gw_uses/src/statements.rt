@@ -1,8 +1,7 @@
 //! What statements use by name.
 
-ghost use Rattle.std.specs.Prelude.{◌≡◌, ◌++◌, ◌∷◌, [], OnOk};
-ghost use Rattle.gw_kinds.specs.declared.entities.EntityKind.TheVariants as kinds;
-ghost use Rattle.gw_uses.specs.Mentions.{mentions};
+ghost use Rattle.std.specs.Prelude.{◌≡◌};
+ghost use Rattle.gw_uses.specs.Mentions.{Puts};
 ghost use Rattle.gw_uses.specs.Statements as model;
 
 use crate::operands::{put_entity, put_label, put_parameter, put_value, put_values};
@@ -43,7 +42,7 @@ fn put_declared<'a>(
     kind: Option<EntityKind>,
     label: &'a Option<String>,
 ) -> Result<(), AllocError>
-    ensures { OnOk result (mentions uses.new.items ≡ mentions uses.old.items ++ model.in_declared kind label.now) }
+    ensures { Puts result uses.old uses.new (model.in_declared kind label.now) }
 {
     match (kind, label) {
         (Some(kind), Some(name)) => put(uses, Use::Entity(kind, name)),
@@ -58,7 +57,7 @@ fn put_one<'a>(
     modifier: Option<Modifier>,
     a: &'a Operand,
 ) -> Result<(), AllocError>
-    ensures { OnOk result (mentions uses.new.items ≡ mentions uses.old.items ++ model.in_operands word modifier (a.now ∷ [])) }
+    ensures { Puts result uses.old uses.new (model.in_one word modifier a.now) }
 {
     match word {
         Word::Seize | Word::Release => put_entity(uses, EntityKind::Facility, a),
@@ -79,7 +78,7 @@ fn put_gate<'a>(
     entity: &'a Operand,
     otherwise: &'a Operand,
 ) -> Result<(), AllocError>
-    ensures { OnOk result (mentions uses.new.items ≡ mentions uses.old.items ++ model.in_gate modifier entity.now otherwise.now) }
+    ensures { Puts result uses.old uses.new (model.in_gate modifier entity.now otherwise.now) }
 {
     match modifier {
         Some(Modifier::Gate(gate)) => {
@@ -96,7 +95,7 @@ fn put_transfer_of_two<'a>(
     form: &Operand,
     operand: &'a Operand,
 ) -> Result<(), AllocError>
-    ensures { OnOk result (mentions uses.new.items ≡ mentions uses.old.items ++ model.in_transfer_of_two form.now operand.now) }
+    ensures { Puts result uses.old uses.new (model.in_transfer_of_two form.now operand.now) }
 {
     match form {
         Operand::Missing => put_label(uses, operand),
@@ -111,7 +110,7 @@ fn put_assign<'a>(
     parameter: &'a Operand,
     value: &'a Operand,
 ) -> Result<(), AllocError>
-    ensures { OnOk result (mentions uses.new.items ≡ mentions uses.old.items ++ (model.in_parameter parameter.now ++ model.in_value value.now)) }
+    ensures { Puts result uses.old uses.new (model.in_assign parameter.now value.now) }
 {
     put_parameter(uses, parameter)?;
     put_value(uses, value)
@@ -123,7 +122,7 @@ fn put_save<'a>(
     savevalue: &'a Operand,
     value: &'a Operand,
 ) -> Result<(), AllocError>
-    ensures { OnOk result (mentions uses.new.items ≡ mentions uses.old.items ++ (model.in_entity kinds.Savevalue savevalue.now ++ model.in_value value.now)) }
+    ensures { Puts result uses.old uses.new (model.in_save savevalue.now value.now) }
 {
     put_entity(uses, EntityKind::Savevalue, savevalue)?;
     put_value(uses, value)
@@ -135,7 +134,7 @@ fn put_loop<'a>(
     parameter: &'a Operand,
     target: &'a Operand,
 ) -> Result<(), AllocError>
-    ensures { OnOk result (mentions uses.new.items ≡ mentions uses.old.items ++ (model.in_parameter parameter.now ++ model.in_label target.now)) }
+    ensures { Puts result uses.old uses.new (model.in_loop parameter.now target.now) }
 {
     put_parameter(uses, parameter)?;
     put_label(uses, target)
@@ -147,7 +146,7 @@ fn put_plus<'a>(
     value: &'a Operand,
     parameter: &'a Operand,
 ) -> Result<(), AllocError>
-    ensures { OnOk result (mentions uses.new.items ≡ mentions uses.old.items ++ (model.in_value value.now ++ model.in_parameter parameter.now)) }
+    ensures { Puts result uses.old uses.new (model.in_plus_block value.now parameter.now) }
 {
     put_value(uses, value)?;
     put_parameter(uses, parameter)
@@ -161,7 +160,7 @@ fn put_two<'a>(
     a: &'a Operand,
     b: &'a Operand,
 ) -> Result<(), AllocError>
-    ensures { OnOk result (mentions uses.new.items ≡ mentions uses.old.items ++ model.in_operands word modifier (a.now ∷ b.now ∷ [])) }
+    ensures { Puts result uses.old uses.new (model.in_two word modifier a.now b.now) }
 {
     match word {
         Word::Advance => put_values(uses, a, b),
@@ -187,7 +186,7 @@ fn put_test<'a>(
     right: &'a Operand,
     otherwise: &'a Operand,
 ) -> Result<(), AllocError>
-    ensures { OnOk result (mentions uses.new.items ≡ mentions uses.old.items ++ (model.in_values left.now right.now ++ model.in_label otherwise.now)) }
+    ensures { Puts result uses.old uses.new (model.in_test left.now right.now otherwise.now) }
 {
     put_values(uses, left, right)?;
     put_label(uses, otherwise)
@@ -199,7 +198,7 @@ fn put_call<'a>(
     target: &'a Operand,
     parameter: &'a Operand,
 ) -> Result<(), AllocError>
-    ensures { OnOk result (mentions uses.new.items ≡ mentions uses.old.items ++ (model.in_label target.now ++ model.in_parameter parameter.now)) }
+    ensures { Puts result uses.old uses.new (model.in_call target.now parameter.now) }
 {
     put_label(uses, target)?;
     put_parameter(uses, parameter)
@@ -211,7 +210,7 @@ fn put_labels<'a>(
     first: &'a Operand,
     second: &'a Operand,
 ) -> Result<(), AllocError>
-    ensures { OnOk result (mentions uses.new.items ≡ mentions uses.old.items ++ (model.in_label first.now ++ model.in_label second.now)) }
+    ensures { Puts result uses.old uses.new (model.in_labels first.now second.now) }
 {
     put_label(uses, first)?;
     put_label(uses, second)
@@ -224,7 +223,7 @@ fn put_transfer_of_three<'a>(
     a: &'a Operand,
     b: &'a Operand,
 ) -> Result<(), AllocError>
-    ensures { OnOk result (mentions uses.new.items ≡ mentions uses.old.items ++ model.in_transfer_of_three form.now a.now b.now) }
+    ensures { Puts result uses.old uses.new (model.in_transfer_of_three form.now a.now b.now) }
 {
     match form {
         Operand::Fraction(_) => put_labels(uses, a, b),
@@ -239,7 +238,7 @@ fn put_unlink<'a>(
     chain: &'a Operand,
     target: &'a Operand,
 ) -> Result<(), AllocError>
-    ensures { OnOk result (mentions uses.new.items ≡ mentions uses.old.items ++ (model.in_entity kinds.Chain chain.now ++ model.in_label target.now)) }
+    ensures { Puts result uses.old uses.new (model.in_unlink chain.now target.now) }
 {
     put_entity(uses, EntityKind::Chain, chain)?;
     put_label(uses, target)
@@ -254,7 +253,7 @@ fn put_three<'a>(
     b: &'a Operand,
     c: &'a Operand,
 ) -> Result<(), AllocError>
-    ensures { OnOk result (mentions uses.new.items ≡ mentions uses.old.items ++ model.in_operands word modifier (a.now ∷ b.now ∷ c.now ∷ [])) }
+    ensures { Puts result uses.old uses.new (model.in_three word modifier a.now b.now c.now) }
 {
     match word {
         Word::Test => put_test(uses, a, b, c),
@@ -271,7 +270,7 @@ fn put_operands<'a>(
     modifier: Option<Modifier>,
     operands: &'a [Operand],
 ) -> Result<(), AllocError>
-    ensures { OnOk result (mentions uses.new.items ≡ mentions uses.old.items ++ model.in_operands word modifier operands.now) }
+    ensures { Puts result uses.old uses.new (model.in_operands word modifier operands.now) }
 {
     match operands {
         [a] => put_one(uses, word, modifier, a),
@@ -291,7 +290,7 @@ fn put_operands<'a>(
 
 /// What the lines behind the first one use.
 fn put_body<'a>(uses: &mut Vec<Use<'a>>, body: &'a Body) -> Result<(), AllocError>
-    ensures { OnOk result (mentions uses.new.items ≡ mentions uses.old.items ++ model.in_body body.now) }
+    ensures { Puts result uses.old uses.new (model.in_body body.now) }
 {
     match body {
         Body::Procedure(procedure) => put_uses_of_procedure(uses, procedure),
@@ -302,7 +301,7 @@ fn put_body<'a>(uses: &mut Vec<Use<'a>>, body: &'a Body) -> Result<(), AllocErro
 /// Behind what there is, what a statement uses, in the order of the text: the entity that its label declares, its operands,
 /// and what a PROCEDURE does. `Err` where memory runs out; the list may then have grown.
 pub fn put_uses<'a>(uses: &mut Vec<Use<'a>>, statement: &'a Statement) -> Result<(), AllocError>
-    ensures { OnOk result (mentions uses.new.items ≡ mentions uses.old.items ++ model.in_statement statement.now) }
+    ensures { Puts result uses.old uses.new (model.in_statement statement.now) }
 {
     put_declared(uses, declared_kind(statement.word), &statement.label)?;
     put_operands(

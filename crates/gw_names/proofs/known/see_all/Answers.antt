@@ -1,9 +1,7 @@
-use Rattle.std.proofs.Common.{◌≡◌, [], length, map, sym, ap, ◌∙◌}
-use Rattle.std.specs.Str.{bytes_eq}
+use Rattle.std.proofs.Common.{◌≡◌, [], map, sym, ap, ◌∙◌}
 use Rattle.gw_uses.specs.Sites.{said, mentioned_in}
-use Rattle.gw_names.specs.Known.{is_same}
 use Rattle.gw_names.specs.Ledger.{with_notes}
-use Rattle.gw_names.specs.Sights.{limits_after, entity_in, parameter_in, most_entities, free_numbers}
+use Rattle.gw_names.specs.Sights.{entity_limits_after, parameter_limits_among}
 use Rattle.gw_names.specs.Sighting.{keys_of}
 use Rattle.gw_names.proofs.Knowing.{limits_noted}
 use Rattle.gw_names.proofs.known.see_all.Goals as goal
@@ -15,8 +13,8 @@ returns-clause-ledger c =
     let again : map said c.as_slice-2.result.now ≡ ms = ap (map said) (c.as_slice-2.ensures.value ∙ sym c.as_slice.ensures.value) in
     let before = c.args.ledger.now.least in
     let between = c.see_sites.new.ledger.least in
-    let first : between ≡ with_notes before (limits_after entity_in is_same most_entities [] ms) =
-    c.in_ok-see_sites.ensures.ledger ∙ ap (λ l. with_notes before (limits_after entity_in is_same most_entities (keys_of l) ms)) c.requires.sighted in
-    let second : c.parameters_in.new.ledger.least ≡ with_notes between (limits_after parameter_in bytes_eq (length (free_numbers ms)) [] ms) =
-    c.in_ok-known.ensures.ledger ∙ ap (λ l. with_notes between (limits_after parameter_in bytes_eq (length (free_numbers l)) [] l)) again in
+    let first : between ≡ with_notes before (entity_limits_after [] ms) =
+    c.in_ok-see_sites.ensures.ledger ∙ ap (λ l. with_notes before (entity_limits_after (keys_of l) ms)) c.requires.sighted in
+    let second : c.parameters_in.new.ledger.least ≡ with_notes between (parameter_limits_among ms) =
+    c.in_ok-known.ensures.ledger ∙ ap (λ l. with_notes between (parameter_limits_among l)) again in
     limits_noted c.args.statements.now ms is before between c.parameters_in.new.ledger.least first second

@@ -9,7 +9,7 @@ pub loop-i-preserved : goal.loop-i-preserved
 loop-i-preserved c =
     reads_next (map (λ x. x.now) c.args.lines.now) c.loop-i.i c.loop-i.next c.loop-i.statements.items c.in_ok-found.found
     c.add.new.next c.add.new.statements.items
-    (omega (arith, c.if-i-next.false)) c.in_ok-found.ensures.found c.in_ok-add.ensures.added c.loop-i.invariant
+    (omega (arith, c.if-i-next.false)) c.in_ok-found.ensures.found c.in_ok-add.ensures.next c.in_ok-add.ensures.added c.loop-i.invariant
 
 pub returns-clause-read : goal.returns-clause-read
 returns-clause-read c =
