@@ -6,13 +6,13 @@ ghost use Rattle.gw_blocks.specs.Grammar.{generate, GenerateFits, units, fractio
 ghost use Rattle.gw_fields.specs.Answers.{Gives};
 
 use crate::operands::*;
-use crate::{BlockFormat, Memory};
+use crate::BlockFormat;
 use gw_blocks::{
     Assign, Block, Call, Fraction, Gate, Generate, Link, Logic, Loop, Operand, Plus, Priority,
     Save, Split, Spread, Test, Units, Unlink,
 };
 use gw_fields::codes::TAG;
-use gw_fields::{ReadError, Spelled, fault};
+use gw_fields::{ReadError, Receiver, Spelled, fault, put_behind};
 use std::alloc::Global;
 
 impl Spelled<BlockFormat> for Generate {
@@ -21,19 +21,8 @@ impl Spelled<BlockFormat> for Generate {
     ghost reading = { generate.read };
 
     #[tactic(auto, unfolding(gw_blocks::specs::Grammar::generate))]
-    fn put(&self, out: &mut Vec<u8>) -> Result<(), Memory> {
-        self.interval.put(out)?;
-        self.first.put(out)?;
-        self.limit.put(out)?;
-        self.priority.put(out)
-    }
-
-    #[tactic(auto, unfolding(gw_blocks::specs::Grammar::generate))]
-    fn room_after(&self, room: usize) -> Option<usize> {
-        let room = self.interval.room_after(room)?;
-        let room = self.first.room_after(room)?;
-        let room = self.limit.room_after(room)?;
-        self.priority.room_after(room)
+    fn put<R: Receiver>(&self, to: &mut R) -> Result<(), R::Refusal> {
+        (self.interval, (self.first, (self.limit, self.priority))).put(to)
     }
 
     #[tactic(auto, unfolding(gw_blocks::specs::Grammar::generate))]
@@ -58,15 +47,8 @@ impl Spelled<BlockFormat> for Units {
     ghost reading = { units.read };
 
     #[tactic(auto, unfolding(gw_blocks::specs::Grammar::units))]
-    fn put(&self, out: &mut Vec<u8>) -> Result<(), Memory> {
-        self.entity.put(out)?;
-        self.number.put(out)
-    }
-
-    #[tactic(auto, unfolding(gw_blocks::specs::Grammar::units))]
-    fn room_after(&self, room: usize) -> Option<usize> {
-        let room = self.entity.room_after(room)?;
-        self.number.room_after(room)
+    fn put<R: Receiver>(&self, to: &mut R) -> Result<(), R::Refusal> {
+        (self.entity, self.number).put(to)
     }
 
     #[tactic(auto, unfolding(gw_blocks::specs::Grammar::units))]
@@ -83,17 +65,8 @@ impl Spelled<BlockFormat> for Fraction {
     ghost reading = { fraction.read };
 
     #[tactic(auto, unfolding(gw_blocks::specs::Grammar::fraction))]
-    fn put(&self, out: &mut Vec<u8>) -> Result<(), Memory> {
-        self.thousandths.put(out)?;
-        self.otherwise.put(out)?;
-        self.target.put(out)
-    }
-
-    #[tactic(auto, unfolding(gw_blocks::specs::Grammar::fraction))]
-    fn room_after(&self, room: usize) -> Option<usize> {
-        let room = self.thousandths.room_after(room)?;
-        let room = self.otherwise.room_after(room)?;
-        self.target.room_after(room)
+    fn put<R: Receiver>(&self, to: &mut R) -> Result<(), R::Refusal> {
+        (self.thousandths, (self.otherwise, self.target)).put(to)
     }
 
     #[tactic(auto, unfolding(gw_blocks::specs::Grammar::fraction))]
@@ -116,15 +89,8 @@ impl Spelled<BlockFormat> for Call {
     ghost reading = { call.read };
 
     #[tactic(auto, unfolding(gw_blocks::specs::Grammar::call))]
-    fn put(&self, out: &mut Vec<u8>) -> Result<(), Memory> {
-        self.target.put(out)?;
-        self.parameter.put(out)
-    }
-
-    #[tactic(auto, unfolding(gw_blocks::specs::Grammar::call))]
-    fn room_after(&self, room: usize) -> Option<usize> {
-        let room = self.target.room_after(room)?;
-        self.parameter.room_after(room)
+    fn put<R: Receiver>(&self, to: &mut R) -> Result<(), R::Refusal> {
+        (self.target, self.parameter).put(to)
     }
 
     #[tactic(auto, unfolding(gw_blocks::specs::Grammar::call))]
@@ -141,15 +107,8 @@ impl Spelled<BlockFormat> for Split {
     ghost reading = { split.read };
 
     #[tactic(auto, unfolding(gw_blocks::specs::Grammar::split))]
-    fn put(&self, out: &mut Vec<u8>) -> Result<(), Memory> {
-        self.copies.put(out)?;
-        self.target.put(out)
-    }
-
-    #[tactic(auto, unfolding(gw_blocks::specs::Grammar::split))]
-    fn room_after(&self, room: usize) -> Option<usize> {
-        let room = self.copies.room_after(room)?;
-        self.target.room_after(room)
+    fn put<R: Receiver>(&self, to: &mut R) -> Result<(), R::Refusal> {
+        (self.copies, self.target).put(to)
     }
 
     #[tactic(auto, unfolding(gw_blocks::specs::Grammar::split))]
@@ -165,153 +124,36 @@ impl Spelled<BlockFormat> for Block {
 
     ghost reading = { block.read };
 
-    fn put(&self, out: &mut Vec<u8>) -> Result<(), Memory> {
+    fn put<R: Receiver>(&self, to: &mut R) -> Result<(), R::Refusal> {
         match self {
-            Block::Generate(generate) => {
-                out.push(1)?;
-                generate.put(out)?;
-            }
-            Block::Terminate(decrement) => {
-                out.push(2)?;
-                decrement.put(out)?;
-            }
-            Block::Advance(time) => {
-                out.push(3)?;
-                time.put(out)?;
-            }
-            Block::Seize(facility) => {
-                out.push(4)?;
-                facility.put(out)?;
-            }
-            Block::Release(facility) => {
-                out.push(5)?;
-                facility.put(out)?;
-            }
-            Block::Enter(units) => {
-                out.push(6)?;
-                units.put(out)?;
-            }
-            Block::Leave(units) => {
-                out.push(7)?;
-                units.put(out)?;
-            }
-            Block::Queue(units) => {
-                out.push(8)?;
-                units.put(out)?;
-            }
-            Block::Depart(units) => {
-                out.push(9)?;
-                units.put(out)?;
-            }
-            Block::Assign(assign) => {
-                out.push(10)?;
-                assign.put(out)?;
-            }
-            Block::Test(test) => {
-                out.push(11)?;
-                test.put(out)?;
-            }
-            Block::Gate(gate) => {
-                out.push(12)?;
-                gate.put(out)?;
-            }
-            Block::Transfer(target) => {
-                out.push(13)?;
-                target.put(out)?;
-            }
-            Block::TransferByFraction(fraction) => {
-                out.push(14)?;
-                fraction.put(out)?;
-            }
-            Block::TransferToSubroutine(call) => {
-                out.push(15)?;
-                call.put(out)?;
-            }
-            Block::TransferByParameter(parameter) => {
-                out.push(16)?;
-                parameter.put(out)?;
-            }
-            Block::Loop(counted) => {
-                out.push(17)?;
-                counted.put(out)?;
-            }
-            Block::Split(split) => {
-                out.push(18)?;
-                split.put(out)?;
-            }
-            Block::Assemble(size) => {
-                out.push(19)?;
-                size.put(out)?;
-            }
-            Block::Link(link) => {
-                out.push(20)?;
-                link.put(out)?;
-            }
-            Block::Unlink(unlink) => {
-                out.push(21)?;
-                unlink.put(out)?;
-            }
-            Block::Logic(logic) => {
-                out.push(22)?;
-                logic.put(out)?;
-            }
-            Block::Savevalue(save) => {
-                out.push(23)?;
-                save.put(out)?;
-            }
-            Block::Mark(parameter) => {
-                out.push(24)?;
-                parameter.put(out)?;
-            }
-            Block::Priority(priority) => {
-                out.push(25)?;
-                priority.put(out)?;
-            }
-            Block::Buffer => {
-                out.push(26)?;
-            }
-            Block::Plus(plus) => {
-                out.push(27)?;
-                plus.put(out)?;
-            }
-            Block::Tabulate(table) => {
-                out.push(28)?;
-                table.put(out)?;
-            }
-        }
-        Ok(())
-    }
-
-    fn room_after(&self, room: usize) -> Option<usize> {
-        let room = room.checked_sub(1)?;
-        match self {
-            Block::Generate(generate) => generate.room_after(room),
-            Block::Terminate(decrement) => decrement.room_after(room),
-            Block::Advance(time) => time.room_after(room),
-            Block::Seize(facility) | Block::Release(facility) => facility.room_after(room),
-            Block::Enter(units)
-            | Block::Leave(units)
-            | Block::Queue(units)
-            | Block::Depart(units) => { units.room_after(room) }
-            Block::Assign(assign) => assign.room_after(room),
-            Block::Test(test) => test.room_after(room),
-            Block::Gate(gate) => gate.room_after(room),
-            Block::Transfer(target) => target.room_after(room),
-            Block::TransferByFraction(fraction) => fraction.room_after(room),
-            Block::TransferToSubroutine(call) => call.room_after(room),
-            Block::TransferByParameter(parameter) => parameter.room_after(room),
-            Block::Loop(counted) => counted.room_after(room),
-            Block::Split(split) => split.room_after(room),
-            Block::Assemble(size) => size.room_after(room),
-            Block::Link(link) => link.room_after(room),
-            Block::Unlink(unlink) => unlink.room_after(room),
-            Block::Logic(logic) => logic.room_after(room),
-            Block::Savevalue(save) => save.room_after(room),
-            Block::Mark(parameter) => parameter.room_after(room),
-            Block::Priority(priority) => priority.room_after(room),
-            Block::Buffer => Some(room),
-            Block::Plus(plus) => plus.room_after(room),
-            Block::Tabulate(table) => table.room_after(room),
+            Block::Generate(generate) => put_behind(to, 1, generate),
+            Block::Terminate(decrement) => put_behind(to, 2, decrement),
+            Block::Advance(time) => put_behind(to, 3, time),
+            Block::Seize(facility) => put_behind(to, 4, facility),
+            Block::Release(facility) => put_behind(to, 5, facility),
+            Block::Enter(units) => put_behind(to, 6, units),
+            Block::Leave(units) => put_behind(to, 7, units),
+            Block::Queue(units) => put_behind(to, 8, units),
+            Block::Depart(units) => put_behind(to, 9, units),
+            Block::Assign(assign) => put_behind(to, 10, assign),
+            Block::Test(test) => put_behind(to, 11, test),
+            Block::Gate(gate) => put_behind(to, 12, gate),
+            Block::Transfer(target) => put_behind(to, 13, target),
+            Block::TransferByFraction(fraction) => put_behind(to, 14, fraction),
+            Block::TransferToSubroutine(call) => put_behind(to, 15, call),
+            Block::TransferByParameter(parameter) => put_behind(to, 16, parameter),
+            Block::Loop(counted) => put_behind(to, 17, counted),
+            Block::Split(split) => put_behind(to, 18, split),
+            Block::Assemble(size) => put_behind(to, 19, size),
+            Block::Link(link) => put_behind(to, 20, link),
+            Block::Unlink(unlink) => put_behind(to, 21, unlink),
+            Block::Logic(logic) => put_behind(to, 22, logic),
+            Block::Savevalue(save) => put_behind(to, 23, save),
+            Block::Mark(parameter) => put_behind(to, 24, parameter),
+            Block::Priority(priority) => put_behind(to, 25, priority),
+            Block::Buffer => to.put_bytes(&[26]),
+            Block::Plus(plus) => put_behind(to, 27, plus),
+            Block::Tabulate(table) => put_behind(to, 28, table),
         }
     }
 

@@ -4,9 +4,9 @@ ghost use Rattle.std.specs.Prelude.{◌≡◌};
 ghost use Rattle.gw_blocks.specs.Grammar.{order_byte, orders, link, unlink};
 ghost use Rattle.gw_fields.specs.Answers.{Gives};
 
-use crate::{BlockFormat, Memory};
+use crate::BlockFormat;
 use gw_blocks::{Link, LinkOrder, Unlink};
-use gw_fields::{OneByte, ReadError, Spelled, read_one_of};
+use gw_fields::{OneByte, ReadError, Receiver, Spelled, read_one_of};
 use std::alloc::Global;
 
 impl OneByte<BlockFormat> for LinkOrder {
@@ -36,16 +36,8 @@ impl Spelled<BlockFormat> for Link {
     ghost reading = { link.read };
 
     #[tactic(auto, unfolding(gw_blocks::specs::Grammar::link))]
-    fn put(&self, out: &mut Vec<u8>) -> Result<(), Memory> {
-        self.chain.put(out)?;
-        out.push(self.order.byte())?;
-        Ok(())
-    }
-
-    #[tactic(auto, unfolding(gw_blocks::specs::Grammar::link))]
-    fn room_after(&self, room: usize) -> Option<usize> {
-        let room = self.chain.room_after(room)?;
-        room.checked_sub(1)
+    fn put<R: Receiver>(&self, to: &mut R) -> Result<(), R::Refusal> {
+        (self.chain, self.order.byte()).put(to)
     }
 
     #[tactic(auto, unfolding(gw_blocks::specs::Grammar::link))]
@@ -62,17 +54,8 @@ impl Spelled<BlockFormat> for Unlink {
     ghost reading = { unlink.read };
 
     #[tactic(auto, unfolding(gw_blocks::specs::Grammar::unlink))]
-    fn put(&self, out: &mut Vec<u8>) -> Result<(), Memory> {
-        self.chain.put(out)?;
-        self.target.put(out)?;
-        self.most.put(out)
-    }
-
-    #[tactic(auto, unfolding(gw_blocks::specs::Grammar::unlink))]
-    fn room_after(&self, room: usize) -> Option<usize> {
-        let room = self.chain.room_after(room)?;
-        let room = self.target.room_after(room)?;
-        self.most.room_after(room)
+    fn put<R: Receiver>(&self, to: &mut R) -> Result<(), R::Refusal> {
+        (self.chain, (self.target, self.most)).put(to)
     }
 
     #[tactic(auto, unfolding(gw_blocks::specs::Grammar::unlink))]

@@ -6,9 +6,9 @@ ghost use Rattle.gw_blocks.specs.Grammar.{mode_byte, modes, assign, countdown, a
 ghost use Rattle.gw_fields.specs.Answers.{Gives};
 
 use crate::operands::{read_parameter_if_any, read_parameter_number};
-use crate::{BlockFormat, Memory};
+use crate::BlockFormat;
 use gw_blocks::{Assign, Logic, Loop, Mode, Operand, Plus, Priority, Save, SwitchAction};
-use gw_fields::{NumberFormat, OneByte, ReadError, Spelled, read_one_of};
+use gw_fields::{NumberFormat, OneByte, ReadError, Receiver, Spelled, read_one_of};
 use std::alloc::Global;
 
 impl OneByte<BlockFormat> for Mode {
@@ -40,16 +40,8 @@ impl Spelled<BlockFormat> for Assign {
     ghost reading = { assign.read };
 
     #[tactic(auto, unfolding(gw_blocks::specs::Grammar::assign))]
-    fn put(&self, out: &mut Vec<u8>) -> Result<(), Memory> {
-        self.parameter.put(out)?;
-        out.push(self.mode.byte())?;
-        self.value.put(out)
-    }
-
-    #[tactic(auto, unfolding(gw_blocks::specs::Grammar::assign))]
-    fn room_after(&self, room: usize) -> Option<usize> {
-        let room = room.checked_sub(2)?;
-        self.value.room_after(room)
+    fn put<R: Receiver>(&self, to: &mut R) -> Result<(), R::Refusal> {
+        (self.parameter, (self.mode.byte(), self.value)).put(to)
     }
 
     #[tactic(auto, unfolding(gw_blocks::specs::Grammar::assign))]
@@ -72,15 +64,8 @@ impl Spelled<BlockFormat> for Loop {
     ghost reading = { countdown.read };
 
     #[tactic(auto, unfolding(gw_blocks::specs::Grammar::countdown))]
-    fn put(&self, out: &mut Vec<u8>) -> Result<(), Memory> {
-        self.parameter.put(out)?;
-        self.target.put(out)
-    }
-
-    #[tactic(auto, unfolding(gw_blocks::specs::Grammar::countdown))]
-    fn room_after(&self, room: usize) -> Option<usize> {
-        let room = self.parameter.room_after(room)?;
-        self.target.room_after(room)
+    fn put<R: Receiver>(&self, to: &mut R) -> Result<(), R::Refusal> {
+        (self.parameter, self.target).put(to)
     }
 
     #[tactic(auto, unfolding(gw_blocks::specs::Grammar::countdown))]
@@ -120,15 +105,8 @@ impl Spelled<BlockFormat> for Logic {
     ghost reading = { logic.read };
 
     #[tactic(auto, unfolding(gw_blocks::specs::Grammar::logic))]
-    fn put(&self, out: &mut Vec<u8>) -> Result<(), Memory> {
-        out.push(self.action.byte())?;
-        self.switch.put(out)
-    }
-
-    #[tactic(auto, unfolding(gw_blocks::specs::Grammar::logic))]
-    fn room_after(&self, room: usize) -> Option<usize> {
-        let room = room.checked_sub(1)?;
-        self.switch.room_after(room)
+    fn put<R: Receiver>(&self, to: &mut R) -> Result<(), R::Refusal> {
+        (self.action.byte(), self.switch).put(to)
     }
 
     #[tactic(auto, unfolding(gw_blocks::specs::Grammar::logic))]
@@ -145,17 +123,8 @@ impl Spelled<BlockFormat> for Save {
     ghost reading = { save.read };
 
     #[tactic(auto, unfolding(gw_blocks::specs::Grammar::save))]
-    fn put(&self, out: &mut Vec<u8>) -> Result<(), Memory> {
-        self.savevalue.put(out)?;
-        out.push(self.mode.byte())?;
-        self.value.put(out)
-    }
-
-    #[tactic(auto, unfolding(gw_blocks::specs::Grammar::save))]
-    fn room_after(&self, room: usize) -> Option<usize> {
-        let room = self.savevalue.room_after(room)?;
-        let room = room.checked_sub(1)?;
-        self.value.room_after(room)
+    fn put<R: Receiver>(&self, to: &mut R) -> Result<(), R::Refusal> {
+        (self.savevalue, (self.mode.byte(), self.value)).put(to)
     }
 
     #[tactic(auto, unfolding(gw_blocks::specs::Grammar::save))]
@@ -178,16 +147,8 @@ impl Spelled<BlockFormat> for Priority {
     ghost reading = { priority.read };
 
     #[tactic(auto, unfolding(gw_blocks::specs::Grammar::priority))]
-    fn put(&self, out: &mut Vec<u8>) -> Result<(), Memory> {
-        self.value.put(out)?;
-        out.push(self.behind.byte())?;
-        Ok(())
-    }
-
-    #[tactic(auto, unfolding(gw_blocks::specs::Grammar::priority))]
-    fn room_after(&self, room: usize) -> Option<usize> {
-        let room = self.value.room_after(room)?;
-        room.checked_sub(1)
+    fn put<R: Receiver>(&self, to: &mut R) -> Result<(), R::Refusal> {
+        (self.value, self.behind.byte()).put(to)
     }
 
     #[tactic(auto, unfolding(gw_blocks::specs::Grammar::priority))]
@@ -204,15 +165,8 @@ impl Spelled<BlockFormat> for Plus {
     ghost reading = { plus.read };
 
     #[tactic(auto, unfolding(gw_blocks::specs::Grammar::plus))]
-    fn put(&self, out: &mut Vec<u8>) -> Result<(), Memory> {
-        self.value.put(out)?;
-        self.parameter.put(out)
-    }
-
-    #[tactic(auto, unfolding(gw_blocks::specs::Grammar::plus))]
-    fn room_after(&self, room: usize) -> Option<usize> {
-        let room = self.value.room_after(room)?;
-        self.parameter.room_after(room)
+    fn put<R: Receiver>(&self, to: &mut R) -> Result<(), R::Refusal> {
+        (self.value, self.parameter).put(to)
     }
 
     #[tactic(auto, unfolding(gw_blocks::specs::Grammar::plus))]

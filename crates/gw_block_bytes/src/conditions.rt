@@ -4,9 +4,9 @@ ghost use Rattle.std.specs.Prelude.{◌≡◌};
 ghost use Rattle.gw_blocks.specs.Grammar.{comparison_byte, comparisons, test_operands, condition_byte, conditions, gate};
 ghost use Rattle.gw_fields.specs.Answers.{Gives};
 
-use crate::{BlockFormat, Memory};
+use crate::BlockFormat;
 use gw_blocks::{Comparison, Condition, Gate, Operand, Test};
-use gw_fields::{OneByte, ReadError, Spelled, read_one_of};
+use gw_fields::{OneByte, ReadError, Receiver, Spelled, read_one_of};
 use std::alloc::Global;
 
 impl OneByte<BlockFormat> for Comparison {
@@ -44,19 +44,8 @@ impl Spelled<BlockFormat> for Test {
     ghost reading = { test_operands.read };
 
     #[tactic(auto, unfolding(gw_blocks::specs::Grammar::test_operands))]
-    fn put(&self, out: &mut Vec<u8>) -> Result<(), Memory> {
-        out.push(self.comparison.byte())?;
-        self.left.put(out)?;
-        self.right.put(out)?;
-        self.otherwise.put(out)
-    }
-
-    #[tactic(auto, unfolding(gw_blocks::specs::Grammar::test_operands))]
-    fn room_after(&self, room: usize) -> Option<usize> {
-        let room = room.checked_sub(1)?;
-        let room = self.left.room_after(room)?;
-        let room = self.right.room_after(room)?;
-        self.otherwise.room_after(room)
+    fn put<R: Receiver>(&self, to: &mut R) -> Result<(), R::Refusal> {
+        (self.comparison.byte(), (self.left, (self.right, self.otherwise))).put(to)
     }
 
     #[tactic(auto, unfolding(gw_blocks::specs::Grammar::test_operands))]
@@ -114,17 +103,8 @@ impl Spelled<BlockFormat> for Gate {
     ghost reading = { gate.read };
 
     #[tactic(auto, unfolding(gw_blocks::specs::Grammar::gate))]
-    fn put(&self, out: &mut Vec<u8>) -> Result<(), Memory> {
-        out.push(self.condition.byte())?;
-        self.entity.put(out)?;
-        self.otherwise.put(out)
-    }
-
-    #[tactic(auto, unfolding(gw_blocks::specs::Grammar::gate))]
-    fn room_after(&self, room: usize) -> Option<usize> {
-        let room = room.checked_sub(1)?;
-        let room = self.entity.room_after(room)?;
-        self.otherwise.room_after(room)
+    fn put<R: Receiver>(&self, to: &mut R) -> Result<(), R::Refusal> {
+        (self.condition.byte(), (self.entity, self.otherwise)).put(to)
     }
 
     #[tactic(auto, unfolding(gw_blocks::specs::Grammar::gate))]

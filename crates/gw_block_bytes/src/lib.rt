@@ -1,4 +1,4 @@
-//! Blocks in bytes: how they and their operands are put, counted, read and tested against the limits of the object format
+//! Blocks in bytes: how they and their operands are put, read and tested against the limits of the object format
 //! (docs/object-format.md).
 #![tactic(auto)]
 
@@ -10,8 +10,6 @@ mod operands;
 
 pub use blocks::blocks_fit;
 pub use operands::{is_parameter, operand_fits, read_parameter_above, read_parameter_number};
-/// The answer where there was no memory.
-pub use std::alloc::AllocError as Memory;
 
 /// The format of blocks and their operands.
 pub struct BlockFormat;

@@ -3,16 +3,15 @@
 ghost use Rattle.std.specs.Prelude.{◌≡◌, ◌↔◌, IsTrue, nat_lt};
 ghost use Rattle.gw_blocks.specs.Grammar.{parameter_number, stream_number, numbered, operand, OperandFits, spread, SpreadFits};
 ghost use Rattle.gw_blocks.specs.Grammar.{attribute_byte, attributes, entity_attribute_byte, entity_attributes};
-ghost use Rattle.gw_fields.specs.Codes.{not_canonical};
-ghost use Rattle.gw_fields.specs.Fields.{optional, is_above, tested};
+ghost use Rattle.gw_fields.specs.Fields.{optional, key_above};
 ghost use Rattle.gw_fields.specs.Answers.{Gives};
 
-use crate::{BlockFormat, Memory};
+use crate::BlockFormat;
 use gw_blocks::{
     Attribute, EntityAttribute, MOST_PARAMETERS, MOST_STREAMS, Numbered, Operand, Spread,
 };
 use gw_fields::codes::{NOT_CANONICAL, TAG};
-use gw_fields::{OneByte, ReadError, Spelled, fault, read_one_of, read_ranged_u8};
+use gw_fields::{OneByte, ReadError, Receiver, Spelled, fault, put_behind, read_one_of, read_ranged_u8};
 use std::alloc::Global;
 
 /// Whether this is the number of a parameter.
@@ -42,7 +41,7 @@ pub fn read_parameter_above(
     before: Option<u8>,
     bytes: &[u8],
 ) -> Result<(u8, &[u8]), ReadError>
-    ensures { Gives (λ x. (x.0, x.1.now)) result ((tested (is_above nat_lt before) not_canonical parameter_number).read bytes.now) }
+    ensures { Gives (λ x. (x.0, x.1.now)) result ((key_above nat_lt before parameter_number).read bytes.now) }
 {
     let (number, rest) = read_parameter_number(alloc, bytes)?;
     if before.is_some_and(|before| number <= before) {
@@ -142,15 +141,8 @@ impl Spelled<BlockFormat> for Numbered {
     ghost reading = { numbered.read };
 
     #[tactic(auto, unfolding(gw_blocks::specs::Grammar::numbered))]
-    fn put(&self, out: &mut Vec<u8>) -> Result<(), Memory> {
-        out.push(self.attribute.byte())?;
-        self.number.put(out)
-    }
-
-    #[tactic(auto, unfolding(gw_blocks::specs::Grammar::numbered))]
-    fn room_after(&self, room: usize) -> Option<usize> {
-        let room = room.checked_sub(1)?;
-        self.number.room_after(room)
+    fn put<R: Receiver>(&self, to: &mut R) -> Result<(), R::Refusal> {
+        (self.attribute.byte(), self.number).put(to)
     }
 
     #[tactic(auto, unfolding(gw_blocks::specs::Grammar::numbered))]
@@ -166,44 +158,14 @@ impl Spelled<BlockFormat> for Operand {
 
     ghost reading = { operand.read };
 
-    fn put(&self, out: &mut Vec<u8>) -> Result<(), Memory> {
+    fn put<R: Receiver>(&self, to: &mut R) -> Result<(), R::Refusal> {
         match self {
-            Operand::Constant(number) => {
-                out.push(0)?;
-                number.put(out)?;
-            }
-            Operand::Parameter(number) => {
-                out.push(1)?;
-                number.put(out)?;
-            }
-            Operand::Attribute(attribute) => {
-                out.push(2)?;
-                out.push(attribute.byte())?;
-            }
-            Operand::OfEntity(numbered) => {
-                out.push(3)?;
-                numbered.put(out)?;
-            }
-            Operand::Random(stream) => {
-                out.push(4)?;
-                stream.put(out)?;
-            }
-            Operand::Procedure(procedure) => {
-                out.push(5)?;
-                procedure.put(out)?;
-            }
-        }
-        Ok(())
-    }
-
-    fn room_after(&self, room: usize) -> Option<usize> {
-        let room = room.checked_sub(1)?;
-        match self {
-            Operand::Constant(number) => number.room_after(room),
-            Operand::Parameter(number) | Operand::Random(number) => number.room_after(room),
-            Operand::Attribute(_) => room.checked_sub(1),
-            Operand::OfEntity(numbered) => numbered.room_after(room),
-            Operand::Procedure(procedure) => procedure.room_after(room),
+            Operand::Constant(number) => put_behind(to, 0, number),
+            Operand::Parameter(number) => put_behind(to, 1, number),
+            Operand::Attribute(attribute) => put_behind(to, 2, &attribute.byte()),
+            Operand::OfEntity(numbered) => put_behind(to, 3, numbered),
+            Operand::Random(stream) => put_behind(to, 4, stream),
+            Operand::Procedure(procedure) => put_behind(to, 5, procedure),
         }
     }
 
@@ -260,15 +222,8 @@ impl Spelled<BlockFormat> for Spread {
     ghost reading = { spread.read };
 
     #[tactic(auto, unfolding(gw_blocks::specs::Grammar::spread))]
-    fn put(&self, out: &mut Vec<u8>) -> Result<(), Memory> {
-        self.mean.put(out)?;
-        self.half.put(out)
-    }
-
-    #[tactic(auto, unfolding(gw_blocks::specs::Grammar::spread))]
-    fn room_after(&self, room: usize) -> Option<usize> {
-        let room = self.mean.room_after(room)?;
-        self.half.room_after(room)
+    fn put<R: Receiver>(&self, to: &mut R) -> Result<(), R::Refusal> {
+        (self.mean, self.half).put(to)
     }
 
     #[tactic(auto, unfolding(gw_blocks::specs::Grammar::spread))]

@@ -1,53 +1,32 @@
 //! Instructions, in bytes and against the rules of the object format.
 
-ghost use Rattle.std.specs.Prelude.{◌≡◌, ◌<◌, ◌⊎◌, ℕ, List, [], ◌∷◌, ◌++◌, MatchOption, Ok, OnOk};
+ghost use Rattle.std.specs.Prelude.{◌≡◌, ◌<◌, ◌⊎◌, [], ◌∷◌, MatchOption};
 ghost use Rattle.gw_code.specs.Grammar as grammar;
-ghost use Rattle.gw_code.specs.Grammar.{sna, jump_back, instruction, instruction_read, instruction_spelling, backs, next_instruction};
+ghost use Rattle.gw_code.specs.Grammar.{sna, jump_back, instruction, instruction_spelling, backs, next_instruction};
+ghost use Rattle.gw_code_bytes.specs.Operators.{StandsFor};
 
-use crate::{CodeFormat, Memory};
+use crate::CodeFormat;
 use gw_block_bytes::{BlockFormat, read_parameter_number};
 use gw_blocks::{Attribute, Numbered};
 use gw_code::{Back, Instruction, MOST_BACKS, Sna};
 use gw_fields::codes::{LIMIT, TAG};
-use gw_fields::{Elements, OneByte, ReadError, Spelled, fault, read_one_of};
+use gw_fields::{Elements, OneByte, ReadError, Receiver, Spelled, fault, put_behind, read_one_of};
 use gw_num::{Binary, Unary};
 use std::alloc::Global;
 
 /// The tag of a BACK.
 const BACK_TAG: u8 = 23;
 
-/// Puts a tag at the end, and behind it the bytes of a value.
-fn put_behind<Format, T: Spelled<Format>>(
-    out: &mut Vec<u8>,
-    tag: u8,
-    value: &T,
-) -> Result<(), Memory>
-    requires { T.can_put value.now }
-    ensures { OnOk result (out.new.items ≡ out.old.items ++ tag ∷ T.spelling value.now) }
-{
-    out.push(tag)?;
-    value.put(out)
-}
-
 impl Spelled<CodeFormat> for Sna {
     ghost spelling = { sna.spell };
 
     ghost reading = { sna.read };
 
-    fn put(&self, out: &mut Vec<u8>) -> Result<(), Memory> {
+    fn put<R: Receiver>(&self, to: &mut R) -> Result<(), R::Refusal> {
         match self {
-            Sna::Parameter(number) => put_behind(out, 1, number),
-            Sna::Attribute(attribute) => put_behind(out, 2, &attribute.byte()),
-            Sna::OfEntity(numbered) => put_behind(out, 3, numbered),
-        }
-    }
-
-    fn room_after(&self, room: usize) -> Option<usize> {
-        let room = room.checked_sub(1)?;
-        match self {
-            Sna::Parameter(number) => number.room_after(room),
-            Sna::Attribute(_) => room.checked_sub(1),
-            Sna::OfEntity(numbered) => numbered.room_after(room),
+            Sna::Parameter(number) => put_behind(to, 1, number),
+            Sna::Attribute(attribute) => put_behind(to, 2, &attribute.byte()),
+            Sna::OfEntity(numbered) => put_behind(to, 3, numbered),
         }
     }
 
@@ -78,15 +57,8 @@ impl Spelled<CodeFormat> for Back {
     ghost reading = { jump_back.read };
 
     #[tactic(auto, unfolding(gw_code::specs::Grammar::jump_back))]
-    fn put(&self, out: &mut Vec<u8>) -> Result<(), Memory> {
-        self.target.put(out)?;
-        self.count.put(out)
-    }
-
-    #[tactic(auto, unfolding(gw_code::specs::Grammar::jump_back))]
-    fn room_after(&self, room: usize) -> Option<usize> {
-        let room = self.target.room_after(room)?;
-        self.count.room_after(room)
+    fn put<R: Receiver>(&self, to: &mut R) -> Result<(), R::Refusal> {
+        (self.target, self.count).put(to)
     }
 
     #[tactic(auto, unfolding(gw_code::specs::Grammar::jump_back))]
@@ -132,7 +104,7 @@ fn unary_byte(operator: Unary) -> u8
 /// The operator for which a tag stands, as an instruction; `None` where it stands for none: theirs are 4 to 19.
 #[tactic(auto, unfolding(gw_code::specs::Grammar::instruction_read))]
 fn operator_of(tag: u8) -> Option<Instruction>
-    ensures { MatchOption result ((tag < 4) ⊎ (19 < tag)) (λ i. (rest : List ℕ) → instruction_read (tag ∷ rest) ≡ Ok (i, rest)) }
+    ensures { MatchOption result ((tag < 4) ⊎ (19 < tag)) (StandsFor tag) }
 {
     match tag {
         4 => Some(Instruction::Binary(Binary::Add)),
@@ -160,37 +132,20 @@ impl Spelled<CodeFormat> for Instruction {
 
     ghost reading = { instruction.read };
 
-    fn put(&self, out: &mut Vec<u8>) -> Result<(), Memory> {
+    fn put<R: Receiver>(&self, to: &mut R) -> Result<(), R::Refusal> {
         match self {
-            Instruction::Push(number) => put_behind(out, 0, number),
-            Instruction::Get(local) => put_behind(out, 1, local),
-            Instruction::Set(local) => put_behind(out, 2, local),
-            Instruction::Value(sna) => put_behind(out, 3, sna),
-            Instruction::Binary(operator) => binary_byte(*operator).put(out),
-            Instruction::Unary(operator) => unary_byte(*operator).put(out),
-            Instruction::Pop => 20_u8.put(out),
-            Instruction::Jump(target) => put_behind(out, 21, target),
-            Instruction::JumpIfZero(target) => put_behind(out, 22, target),
-            Instruction::Back(back) => put_behind(out, BACK_TAG, back),
-            Instruction::Call(procedure) => put_behind(out, 24, procedure),
-            Instruction::Return => 25_u8.put(out),
-        }
-    }
-
-    fn room_after(&self, room: usize) -> Option<usize> {
-        let room = room.checked_sub(1)?;
-        match self {
-            Instruction::Push(number) => number.room_after(room),
-            Instruction::Get(local) | Instruction::Set(local) => local.room_after(room),
-            Instruction::Value(sna) => sna.room_after(room),
-            Instruction::Jump(number)
-            | Instruction::JumpIfZero(number)
-            | Instruction::Call(number) => number.room_after(room),
-            Instruction::Back(back) => back.room_after(room),
-            Instruction::Binary(_)
-            | Instruction::Unary(_)
-            | Instruction::Pop
-            | Instruction::Return => Some(room),
+            Instruction::Push(number) => put_behind(to, 0, number),
+            Instruction::Get(local) => put_behind(to, 1, local),
+            Instruction::Set(local) => put_behind(to, 2, local),
+            Instruction::Value(sna) => put_behind(to, 3, sna),
+            Instruction::Binary(operator) => binary_byte(*operator).put(to),
+            Instruction::Unary(operator) => unary_byte(*operator).put(to),
+            Instruction::Pop => 20_u8.put(to),
+            Instruction::Jump(target) => put_behind(to, 21, target),
+            Instruction::JumpIfZero(target) => put_behind(to, 22, target),
+            Instruction::Back(back) => put_behind(to, BACK_TAG, back),
+            Instruction::Call(procedure) => put_behind(to, 24, procedure),
+            Instruction::Return => 25_u8.put(to),
         }
     }
 
@@ -241,16 +196,12 @@ pub struct Code;
 impl Elements for Code {
     type Item = Instruction;
 
-    ghost element_spelling = { next_instruction.spell };
+    ghost spelling = { next_instruction.spell };
 
-    ghost element_reading = { next_instruction.read };
+    ghost reading = { next_instruction.read };
 
-    fn put_element(out: &mut Vec<u8>, instruction: &Instruction) -> Result<(), Memory> {
-        instruction.put(out)
-    }
-
-    fn room_after_element(instruction: &Instruction, room: usize) -> Option<usize> {
-        instruction.room_after(room)
+    fn put_element<R: Receiver>(to: &mut R, instruction: &Instruction) -> Result<(), R::Refusal> {
+        instruction.put(to)
     }
 
     fn read_element<'a>(

@@ -1,4 +1,4 @@
-//! PLUS code in bytes: how procedures and their instructions are put, counted, read and tested against the limits of the
+//! PLUS code in bytes: how procedures and their instructions are put, read and tested against the limits of the
 //! object format (docs/object-format.md).
 #![tactic(auto)]
 
@@ -6,9 +6,6 @@ mod instructions;
 mod procedures;
 
 pub use procedures::{procedures_ascend, procedures_fit};
-
-/// The answer where there was no memory.
-pub use std::alloc::AllocError as Memory;
 
 /// The format of procedures and their instructions.
 pub struct CodeFormat;

@@ -5,13 +5,12 @@ ghost use Rattle.std.specs.List.{All};
 ghost use Rattle.gw_code.specs.Grammar.{InstructionFits, SnaFits, need, procedure, ProcedureFits, NeedsAscend};
 
 use crate::instructions::*;
-use crate::{CodeFormat, Memory};
+use crate::CodeFormat;
 use gw_block_bytes::{is_parameter, read_parameter_above};
 use gw_blocks::MOST_PARAMETERS;
 use gw_code::{Instruction, MOST_BACKS, MOST_INSTRUCTIONS, MOST_LOCALS, Procedure, Sna};
 use gw_fields::{
-    Elements, Items, ReadError, Spelled, keys_ascend, put_listed, read_listed, read_ranged_u8,
-    room_after_listed,
+    Elements, Items, ReadError, Receiver, Spelled, keys_ascend, put_listed, read_listed, read_ranged_u8,
 };
 use std::alloc::Global;
 
@@ -21,16 +20,12 @@ struct Needs;
 impl Elements for Needs {
     type Item = u8;
 
-    ghost element_spelling = { need.spell };
+    ghost spelling = { need.spell };
 
-    ghost element_reading = { need.read };
+    ghost reading = { need.read };
 
-    fn put_element(out: &mut Vec<u8>, number: &u8) -> Result<(), Memory> {
-        number.put(out)
-    }
-
-    fn room_after_element(number: &u8, room: usize) -> Option<usize> {
-        number.room_after(room)
+    fn put_element<R: Receiver>(to: &mut R, number: &u8) -> Result<(), R::Refusal> {
+        number.put(to)
     }
 
     fn read_element<'a>(
@@ -48,22 +43,11 @@ impl Spelled<CodeFormat> for Procedure {
 
     ghost reading = { procedure.read };
 
-    ghost can_put = { ProcedureFits };
-
-    #[tactic(auto, unfolding(gw_code::specs::Grammar::procedure))]
-    fn put(&self, out: &mut Vec<u8>) -> Result<(), Memory> {
-        self.arguments.put(out)?;
-        self.locals.put(out)?;
-        put_listed::<Needs>(out, self.needs.as_slice())?;
-        put_listed::<Code>(out, self.code.as_slice())
-    }
-
-    #[tactic(auto, unfolding(gw_code::specs::Grammar::procedure))]
-    fn room_after(&self, room: usize) -> Option<usize> {
-        let room = self.arguments.room_after(room)?;
-        let room = self.locals.room_after(room)?;
-        let room = room_after_listed::<Needs>(self.needs.as_slice(), room)?;
-        room_after_listed::<Code>(self.code.as_slice(), room)
+    #[tactic(auto, using(gw_fields::proofs::Receiving::joining), unfolding(gw_code::specs::Grammar::procedure))]
+    fn put<R: Receiver>(&self, to: &mut R) -> Result<(), R::Refusal> {
+        (self.arguments, self.locals).put(to)?;
+        put_listed::<Needs, R>(to, self.needs.as_slice())?;
+        put_listed::<Code, R>(to, self.code.as_slice())
     }
 
     #[tactic(auto, unfolding(gw_code::specs::Grammar::procedure))]

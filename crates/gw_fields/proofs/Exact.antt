@@ -11,7 +11,7 @@ use Rattle.std.proofs.lemmas.List.Concat.{flat_map-cons}
 use Rattle.std.proofs.lemmas.Nat.{be_bytes_2, be_bytes_4, be_bytes_8, from_be_bytes-to_be_bytes_2, from_be_bytes-to_be_bytes_4, from_be_bytes-to_be_bytes_8}
 use Rattle.gw_fields.specs.Codes as codes
 use Rattle.gw_fields.specs.declared.error.Bad.{Bad}
-use Rattle.gw_fields.specs.Fields.{◌>>=◌, Read, IsProperFront, Field, bad, byte, byte_read, number, signed, read_as, made, tested, and_then, both, fitting, constant, is_within, ranged, nothing, optional, Form, behind, form_read, by_tag, count, count_spelling, count_read, long_count_read, Element, plain, last_tested, elements_read, ElementsFit, elements, listed, listed_read}
+use Rattle.gw_fields.specs.Fields.{◌>>=◌, Read, IsProperFront, Field, bad, byte, byte_read, number, signed, read_as, made, tested, and_then, both, fitting, constant, is_within, ranged, nothing, optional, Form, behind, form_read, by_tag, count, count_spelling, count_read, long_count_read, Element, plain, last_tested, elements_read, ElementsFit, elements, listed, list_read}
 
 -- ---- bytes
 
@@ -723,7 +723,7 @@ listed_exact {A} least most e wide exact = record {
       let spelled : Takes bytes (count_spelling (length a.added) ++ flat_map e.spell a.added) x.1 = rw a.len (Takes-then bytes (count_spelling n.0.0) n.0.1 (flat_map e.spell a.added) x.1 p.0 a.taken) in
       rw a.all (spelled, (omega (arith, a.len, p.1.0), omega (arith, a.len, p.1.1), a.fit));
   again = λ xs rest fits.
-      ap (listed_read e.read least most) (append_assoc (count_spelling (length xs)) (flat_map e.spell xs) rest)
+      ap (list_read e.read least most) (append_assoc (count_spelling (length xs)) (flat_map e.spell xs) rest)
       ∙ rw (count_again least most wide (length xs) (flat_map e.spell xs ++ rest) (fits.0, fits.1)) (elements_again e exact xs [] rest fits.2);
   within = λ bytes d fits h.
       elim (bind_err (count_read least most bytes) (λ n. elements_read e.read n.0 [] n.1) d h) [

@@ -3,3 +3,4 @@ pub mod Ascending
 pub mod Exact
 mod Loop
 pub mod OneOf
+pub mod Receiving

@@ -88,6 +88,10 @@ tested test code f = record {
   Fits = λ x. f.Fits x × IsTrue (test x);
 }
 
+-- what one field reads, and what another reads behind it
+abbrev pub both_read : {A B : Type 0} → (List ℕ → Read A) → (List ℕ → Read B) → List ℕ → Read (A × B)
+both_read f g bytes = f bytes >>= λ x. g x.1 >>= λ y. Ok ((x.0, y.0), y.1)
+
 -- a field, and behind it one that may depend on its value
 abbrev pub and_then : {A B : Type 0} → Field A → (A → Field B) → Field (A × B)
 and_then f g = record {
@@ -229,11 +233,15 @@ abbrev pub is_above : {K : Type 0} → (K → K → Bool) → Option K → K →
 is_above is_below None key = true
 is_above is_below (Some before) key = is_below before key
 
+-- a key that is above the one before it, if there is one; else it is a fault
+abbrev pub key_above : {K : Type 0} → (K → K → Bool) → Option K → Field K → Field K
+key_above is_below before key = tested (is_above is_below before) codes.not_canonical key
+
 -- an element that begins with a key, above that of the last element at the front in this order; else the key is a fault
 abbrev pub ascending : {K A B : Type 0} → (K → K → Bool) → (K × B → A) → (A → K × B) → Field K → Field B → Element A
 ascending {K} {A} is_below make back key f =
     let last = λ (front : List A). option_map (λ x. (back x).0) (slice_get front (length front - 1)) in
-    let at = λ (front : List A). made make back (both (tested (is_above is_below (last front)) codes.not_canonical key) f) in
+    let at = λ (front : List A). made make back (both (key_above is_below (last front) key) f) in
     record { spell = (made make back (both key f)).spell; read = λ front left. (at front).read; Fits = λ front left. (at front).Fits }
 
 -- a number that is above the one before it
@@ -259,13 +267,17 @@ elements e n = record {
 }
 
 -- a count, and as many elements
-abbrev pub listed_read : {A : Type 0} → (List A → ℕ → List ℕ → Read A) → ℕ → ℕ → List ℕ → Read (List A)
-listed_read read least most bytes = count_read least most bytes >>= λ n. elements_read read n.0 [] n.1
+abbrev pub list_spelling : {A : Type 0} → (A → List ℕ) → List A → List ℕ
+list_spelling spell xs = count_spelling (length xs) ++ flat_map spell xs
+
+-- a count within limits, and as many elements
+abbrev pub list_read : {A : Type 0} → (List A → ℕ → List ℕ → Read A) → ℕ → ℕ → List ℕ → Read (List A)
+list_read read least most bytes = count_read least most bytes >>= λ n. elements_read read n.0 [] n.1
 
 -- a count within limits, and as many elements
 abbrev pub listed : {A : Type 0} → ℕ → ℕ → Element A → Field (List A)
 listed least most e = record {
   spell = λ xs. count_spelling (length xs) ++ flat_map e.spell xs;
-  read = listed_read e.read least most;
+  read = list_read e.read least most;
   Fits = λ xs. (least ≤ length xs) × (length xs ≤ most) × ElementsFit e.Fits [] xs;
 }

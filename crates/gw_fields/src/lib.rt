@@ -10,20 +10,18 @@ mod items;
 mod keys;
 mod lists;
 mod numbers;
+mod receivers;
 mod spelled;
 
 pub use choices::{OneByte, read_one_of};
 pub use error::{Bad, ReadError, fault};
 pub use items::Items;
 pub use keys::{Keyed, keys_ascend};
-pub use lists::{
-    Elements, Plain, put_elements, put_listed, read_elements, read_listed, room_after_elements,
-    room_after_listed,
-};
+pub use lists::{Elements, Plain, put_elements, put_listed, read_elements, read_listed};
 pub use numbers::{
     put_count, read_count, read_ranged_u8, read_ranged_u16, read_ranged_u32, read_ranged_u64,
-    room_after_count,
 };
-pub use spelled::{NumberFormat, Spelled};
+pub use receivers::{Receiver, Room};
+pub use spelled::{NumberFormat, Spelled, put_behind};
 /// The answer where there was no memory.
 pub use std::alloc::AllocError as Memory;

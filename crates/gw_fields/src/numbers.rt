@@ -1,14 +1,15 @@
 //! Numbers, counts and optional values.
 
-ghost use Rattle.std.specs.Prelude.{◌≡◌, ◌<◌, ◌^◌, ◌++◌, OnOk, IfSome};
-ghost use Rattle.std.specs.Int.{w16, w32, w64};
-ghost use Rattle.gw_fields.specs.Fields.{Leaves, byte, number, signed, ranged, count, count_spelling, optional_spelling, optional_read};
+ghost use Rattle.std.specs.Prelude.{◌≡◌, ◌∷◌};
+ghost use Rattle.std.specs.Int.{w16, w32, w64, to_be_bytes};
+ghost use Rattle.gw_fields.specs.Fields.{byte, number, signed, ranged, count, count_spelling, optional_spelling, optional_read};
+ghost use Rattle.gw_fields.specs.Receivers.{Puts};
 ghost use Rattle.gw_fields.specs.Answers.{Gives};
 
-use crate::Memory;
 use crate::codes::*;
 use crate::error::*;
-use crate::spelled::{NumberFormat, Spelled};
+use crate::receivers::Receiver;
+use crate::spelled::{NumberFormat, Spelled, put_behind};
 use std::alloc::Global;
 
 impl Spelled<NumberFormat> for u8 {
@@ -16,13 +17,8 @@ impl Spelled<NumberFormat> for u8 {
 
     ghost reading = { byte.read };
 
-    fn put(&self, out: &mut Vec<u8>) -> Result<(), Memory> {
-        out.push(*self)?;
-        Ok(())
-    }
-
-    fn room_after(&self, room: usize) -> Option<usize> {
-        room.checked_sub(1)
+    fn put<R: Receiver>(&self, to: &mut R) -> Result<(), R::Refusal> {
+        to.put_bytes(&[*self])
     }
 
     fn read(_alloc: Global, bytes: &[u8]) -> Result<(u8, &[u8]), ReadError> {
@@ -38,12 +34,8 @@ impl Spelled<NumberFormat> for u16 {
 
     ghost reading = { (number w16).read };
 
-    fn put(&self, out: &mut Vec<u8>) -> Result<(), Memory> {
-        out.extend_from_slice(&self.to_be_bytes())
-    }
-
-    fn room_after(&self, room: usize) -> Option<usize> {
-        room.checked_sub(2)
+    fn put<R: Receiver>(&self, to: &mut R) -> Result<(), R::Refusal> {
+        to.put_bytes(&self.to_be_bytes())
     }
 
     fn read(_alloc: Global, bytes: &[u8]) -> Result<(u16, &[u8]), ReadError> {
@@ -61,12 +53,8 @@ impl Spelled<NumberFormat> for u32 {
 
     ghost reading = { (number w32).read };
 
-    fn put(&self, out: &mut Vec<u8>) -> Result<(), Memory> {
-        out.extend_from_slice(&self.to_be_bytes())
-    }
-
-    fn room_after(&self, room: usize) -> Option<usize> {
-        room.checked_sub(4)
+    fn put<R: Receiver>(&self, to: &mut R) -> Result<(), R::Refusal> {
+        to.put_bytes(&self.to_be_bytes())
     }
 
     fn read(_alloc: Global, bytes: &[u8]) -> Result<(u32, &[u8]), ReadError> {
@@ -84,12 +72,8 @@ impl Spelled<NumberFormat> for u64 {
 
     ghost reading = { (number w64).read };
 
-    fn put(&self, out: &mut Vec<u8>) -> Result<(), Memory> {
-        out.extend_from_slice(&self.to_be_bytes())
-    }
-
-    fn room_after(&self, room: usize) -> Option<usize> {
-        room.checked_sub(8)
+    fn put<R: Receiver>(&self, to: &mut R) -> Result<(), R::Refusal> {
+        to.put_bytes(&self.to_be_bytes())
     }
 
     fn read(_alloc: Global, bytes: &[u8]) -> Result<(u64, &[u8]), ReadError> {
@@ -109,12 +93,8 @@ impl Spelled<NumberFormat> for i32 {
 
     ghost reading = { (signed w32).read };
 
-    fn put(&self, out: &mut Vec<u8>) -> Result<(), Memory> {
-        out.extend_from_slice(&self.to_be_bytes())
-    }
-
-    fn room_after(&self, room: usize) -> Option<usize> {
-        room.checked_sub(4)
+    fn put<R: Receiver>(&self, to: &mut R) -> Result<(), R::Refusal> {
+        to.put_bytes(&self.to_be_bytes())
     }
 
     fn read(alloc: Global, bytes: &[u8]) -> Result<(i32, &[u8]), ReadError> {
@@ -128,12 +108,8 @@ impl Spelled<NumberFormat> for i64 {
 
     ghost reading = { (signed w64).read };
 
-    fn put(&self, out: &mut Vec<u8>) -> Result<(), Memory> {
-        out.extend_from_slice(&self.to_be_bytes())
-    }
-
-    fn room_after(&self, room: usize) -> Option<usize> {
-        room.checked_sub(8)
+    fn put<R: Receiver>(&self, to: &mut R) -> Result<(), R::Refusal> {
+        to.put_bytes(&self.to_be_bytes())
     }
 
     fn read(alloc: Global, bytes: &[u8]) -> Result<(i64, &[u8]), ReadError> {
@@ -147,24 +123,10 @@ impl<Format, T: Spelled<Format>> Spelled<Format> for Option<T> {
 
     ghost reading = { optional_read T.reading };
 
-    ghost can_put = { λ o. IfSome o T.can_put };
-
-    fn put(&self, out: &mut Vec<u8>) -> Result<(), Memory> {
+    fn put<R: Receiver>(&self, to: &mut R) -> Result<(), R::Refusal> {
         match self {
-            None => out.push(0)?,
-            Some(value) => {
-                out.push(1)?;
-                value.put(out)?;
-            }
-        }
-        Ok(())
-    }
-
-    fn room_after(&self, room: usize) -> Option<usize> {
-        let room = room.checked_sub(1)?;
-        match self {
-            None => Some(room),
-            Some(value) => value.room_after(room),
+            None => to.put_bytes(&[0]),
+            Some(value) => put_behind(to, 1, value),
         }
     }
 
@@ -245,25 +207,22 @@ pub fn read_ranged_u64(
     Ok((number, rest))
 }
 
-/// Puts a count at the end.
-pub fn put_count(out: &mut Vec<u8>, count: usize) -> Result<(), Memory>
-    requires { count < 2 ^ 32 }
-    ensures { OnOk result (out.new.items ≡ out.old.items ++ count_spelling count) }
+/// Puts a count into a receiver. A list that is too long for its field is spelled too, by the low four bytes of its length.
+pub fn put_count<R: Receiver>(to: &mut R, count: usize) -> Result<(), R::Refusal>
+    ensures { Puts R.content to.old to.new (count_spelling count) result }
 {
-    if count < 255 {
-        out.push(count as u8)?;
-    } else {
-        out.push(255)?;
-        (count as u32).put(out)?;
+    if count >= 255 {
+        return put_long_count(to, count);
     }
-    Ok(())
+    (count as u8).put(to)
 }
 
-/// How many bytes of a room are left behind those of a count; `None` where they don't fit into it.
-pub fn room_after_count(count: usize, room: usize) -> Option<usize>
-    ensures { Leaves (count_spelling count) room result }
+/// Puts the longer form of a count into a receiver: ff, and its low four bytes.
+fn put_long_count<R: Receiver>(to: &mut R, count: usize) -> Result<(), R::Refusal>
+    ensures { Puts R.content to.old to.new (255 ∷ to_be_bytes w32 count) result }
 {
-    room.checked_sub(if count < 255 { 1 } else { 5 })
+    let [_, _, _, _, a, b, c, d] = (count as u64).to_be_bytes();
+    to.put_bytes(&[255, a, b, c, d])
 }
 
 /// A count within two limits.

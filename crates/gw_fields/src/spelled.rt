@@ -1,11 +1,12 @@
 //! Values that stand in bytes, each in one way.
 
-ghost use Rattle.std.specs.Prelude.{◌≡◌, ℕ, List, ◌++◌, OnOk};
-ghost use Rattle.gw_fields.specs.Fields.{Read, Leaves};
+ghost use Rattle.std.specs.Prelude.{ℕ, List, ◌∷◌, ◌++◌};
+ghost use Rattle.gw_fields.specs.Fields.{Read, both_read};
+ghost use Rattle.gw_fields.specs.Receivers.{Puts};
 ghost use Rattle.gw_fields.specs.Answers.{Gives};
 
-use crate::Memory;
 use crate::error::ReadError;
+use crate::receivers::Receiver;
 use std::alloc::Global;
 
 /// The format of numbers and truth values.
@@ -20,19 +21,43 @@ pub trait Spelled<Format>: Drop {
     /// The value that the front of the bytes spells and the bytes after it, or the first fault.
     ghost reading: { List ℕ → Read Self };
 
-    /// A value may be put: its lists are short enough to be counted.
-    ghost can_put: { Self → Type 0 } = { λ _. Unit {0} };
-
-    /// Puts the bytes of a value at the end.
-    fn put(&self, out: &mut Vec<u8>) -> Result<(), Memory>
-        requires { can_put self.now }
-        ensures { OnOk result (out.new.items ≡ out.old.items ++ spelling self.now) };
-
-    /// How many bytes of a room are left behind those of a value; `None` where they don't fit into it.
-    fn room_after(&self, room: usize) -> Option<usize>
-        ensures { Leaves (spelling self.now) room result };
+    /// Puts the bytes of a value into a receiver.
+    fn put<R: Receiver>(&self, to: &mut R) -> Result<(), R::Refusal>
+        ensures { Puts R.content to.old to.new (spelling self.now) result };
 
     /// The value at the front of the bytes, and the bytes after it.
     fn read(alloc: Global, bytes: &[u8]) -> Result<(Self, &[u8]), ReadError>
         ensures { Gives (λ x. (x.0, x.1.now)) result (reading bytes.now) };
+}
+
+/// A value, and behind it another.
+impl<F, G, A: Spelled<F>, B: Spelled<G>> Spelled<(F, G)> for (A, B) {
+    ghost spelling = { λ x. A.spelling x.0 ++ B.spelling x.1 };
+
+    ghost reading = { both_read A.reading B.reading };
+
+    #[tactic(auto, using(crate::proofs::Receiving::joining))]
+    fn put<R: Receiver>(&self, to: &mut R) -> Result<(), R::Refusal> {
+        self.0.put(to)?;
+        self.1.put(to)
+    }
+
+    fn read(alloc: Global, bytes: &[u8]) -> Result<((A, B), &[u8]), ReadError> {
+        let (first, rest) = A::read(alloc, bytes)?;
+        let (second, rest) = B::read(alloc, rest)?;
+        Ok(((first, second), rest))
+    }
+}
+
+/// Puts a tag, and behind it the bytes of a value.
+#[tactic(auto, using(crate::proofs::Receiving::joining))]
+pub fn put_behind<Format, T: Spelled<Format>, R: Receiver>(
+    to: &mut R,
+    tag: u8,
+    value: &T,
+) -> Result<(), R::Refusal>
+    ensures { Puts R.content to.old to.new (tag ∷ T.spelling value.now) result }
+{
+    to.put_bytes(&[tag])?;
+    value.put(to)
 }

@@ -2,8 +2,7 @@
 
 use gw_fields::codes::TAG;
 use gw_fields::{
-    Memory, NumberFormat, Plain, ReadError, Spelled, read_listed, room_after_count,
-    room_after_listed,
+    Memory, NumberFormat, Plain, ReadError, Room, Spelled, put_count, put_listed, read_listed,
 };
 use std::alloc::Global;
 use std::test::Fail;
@@ -53,10 +52,11 @@ fn a_list_is_read_behind_its_count(rt: HostRuntime) {
 }
 
 #[test]
-fn what_is_put_is_counted_without_putting_it(rt: HostRuntime) {
-    assert_eq!(rt; room_after_count(255, 7), Some(2));
-    assert_eq!(rt;
-        room_after_listed::<Plain<NumberFormat, u16>>(&[1, 258], 4),
-        None
-    );
+fn what_is_put_into_a_room_is_counted(rt: HostRuntime) {
+    let mut room = Room { left: Some(7) };
+    assert!(rt; put_count(&mut room, 255).is_ok());
+    assert_eq!(rt; room.left, Some(2));
+    let mut room = Room { left: Some(4) };
+    assert!(rt; put_listed::<Plain<NumberFormat, u16>, Room>(&mut room, &[1, 258]).is_ok());
+    assert_eq!(rt; room.left, None);
 }

@@ -1,7 +1,8 @@
 //! Making an object of parts.
 
 ghost use Rattle.std.specs.Prelude.{◌≡◌, IfOk, IfErr, Ok};
-ghost use Rattle.gw_object.specs.Grammar.{HasSpelling, Refuses};
+ghost use Rattle.gw_object.specs.Grammar.{HasSpelling};
+ghost use Rattle.gw_object_bytes.specs.Laws.{HandsBack};
 
 use crate::rules::broken_rule;
 use gw_object::{Fault, Object, Parts, Place};
@@ -12,7 +13,7 @@ use gw_object::{Fault, Object, Parts, Place};
 pub fn build(parts: Parts) -> Result<Object, (Parts, Fault)>
     ensures accepted { IfOk result (λ o. (o ≡ parts) × HasSpelling parts) }
     ensures exactly { HasSpelling parts → result ≡ Ok parts }
-    ensures refused { IfErr result (λ e. (e.0 ≡ parts) × (e.1.place ≡ Place.Nowhere) × Refuses e.1.code parts) }
+    ensures refused { IfErr result (HandsBack parts) }
 {
     match broken_rule(&parts) {
         None => Ok(Object::of(parts)),

@@ -6,11 +6,10 @@ ghost use Rattle.gw_fields.specs.Fields.{plain};
 ghost use Rattle.gw_object.specs.Entities.{is_letter, letter, IsLettered, EntityFits, EntityAscends, AreNamesakes, is_named, new_name, entity};
 ghost use Rattle.gw_fields.specs.Answers.{Gives};
 
-use crate::Memory;
-use crate::kinds::{kind_ascends, kind_fits, put_fields, room_after_fields, tag_of};
+use crate::kinds::{kind_ascends, kind_fits, put_fields, tag_of};
 use gw_fields::{
-    Elements, Items, NumberFormat, ReadError, Spelled, fault, put_listed, read_listed, read_one_of,
-    read_ranged_u32, room_after_listed,
+    Elements, Items, NumberFormat, ReadError, Receiver, Spelled, fault, put_listed, read_listed,
+    read_one_of, read_ranged_u32,
 };
 use gw_object::codes::{NOT_CANONICAL, TAG};
 use gw_object::{Entity, Function, GREATEST_CAPACITY, Kind, MOST_LETTERS, Table};
@@ -43,16 +42,12 @@ struct Letters;
 impl Elements for Letters {
     type Item = u8;
 
-    ghost element_spelling = { letter.spell };
+    ghost spelling = { letter.spell };
 
-    ghost element_reading = { (plain letter).read };
+    ghost reading = { (plain letter).read };
 
-    fn put_element(out: &mut Vec<u8>, letter: &u8) -> Result<(), Memory> {
-        letter.put(out)
-    }
-
-    fn room_after_element(letter: &u8, room: usize) -> Option<usize> {
-        letter.room_after(room)
+    fn put_element<R: Receiver>(to: &mut R, letter: &u8) -> Result<(), R::Refusal> {
+        letter.put(to)
     }
 
     fn read_element<'a>(
@@ -91,22 +86,15 @@ pub struct Entities;
 impl Elements for Entities {
     type Item = Entity;
 
-    ghost element_spelling = { entity.spell };
+    ghost spelling = { entity.spell };
 
-    ghost element_reading = { entity.read };
+    ghost reading = { entity.read };
 
-    ghost can_put = { EntityFits };
-
-    fn put_element(out: &mut Vec<u8>, entity: &Entity) -> Result<(), Memory> {
-        out.push(tag_of(&entity.kind))?;
-        put_listed::<Letters>(out, entity.name.as_slice())?;
-        put_fields(out, &entity.kind)
-    }
-
-    fn room_after_element(entity: &Entity, room: usize) -> Option<usize> {
-        let room = room.checked_sub(1)?;
-        let room = room_after_listed::<Letters>(entity.name.as_slice(), room)?;
-        room_after_fields(&entity.kind, room)
+    #[tactic(auto, using(gw_fields::proofs::Receiving::joining))]
+    fn put_element<R: Receiver>(to: &mut R, entity: &Entity) -> Result<(), R::Refusal> {
+        tag_of(&entity.kind).put(to)?;
+        put_listed::<Letters, R>(to, entity.name.as_slice())?;
+        put_fields(to, &entity.kind)
     }
 
     #[tactic(auto, unfolding(gw_object::specs::Entities::entity_read))]

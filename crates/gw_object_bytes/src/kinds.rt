@@ -1,20 +1,20 @@
 //! The kinds of entities and their fields, in bytes and against the rules of the object format.
 
-ghost use Rattle.std.specs.Prelude.{◌≡◌, ◌↔◌, ◌++◌, IsTrue, OnOk, int_lt};
+ghost use Rattle.std.specs.Prelude.{◌≡◌, ◌↔◌, IsTrue, int_lt};
 ghost use Rattle.std.specs.List.{All};
 ghost use Rattle.std.specs.Int.{w64};
-ghost use Rattle.gw_object.specs.Codes.{not_canonical};
-ghost use Rattle.gw_fields.specs.Fields.{Leaves, is_above, signed, tested};
+ghost use Rattle.gw_fields.specs.Fields.{key_above, signed};
+ghost use Rattle.gw_fields.specs.Receivers.{Puts};
 ghost use Rattle.gw_object.specs.Entities.{table, TableFits, point, PointFits, function, FunctionFits, PointsAscend};
 ghost use Rattle.gw_object.specs.Entities.{kind_tag, kind_fields, KindFits, KindAscends};
 ghost use Rattle.gw_fields.specs.Answers.{Gives};
 
-use crate::{Memory, ObjectFormat};
+use crate::ObjectFormat;
 use gw_block_bytes::operand_fits;
 use gw_blocks::Operand;
 use gw_fields::{
-    Elements, Items, OneByte, ReadError, Spelled, fault, put_listed, read_listed, read_ranged_u16,
-    read_ranged_u32, room_after_listed,
+    Elements, Items, OneByte, ReadError, Receiver, Spelled, fault, put_listed, read_listed,
+    read_ranged_u16, read_ranged_u32,
 };
 use gw_object::codes::NOT_CANONICAL;
 use gw_object::{
@@ -47,19 +47,8 @@ impl Spelled<ObjectFormat> for Table {
     ghost reading = { table.read };
 
     #[tactic(auto, unfolding(gw_object::specs::Entities::table))]
-    fn put(&self, out: &mut Vec<u8>) -> Result<(), Memory> {
-        self.argument.put(out)?;
-        self.limit.put(out)?;
-        self.width.put(out)?;
-        self.classes.put(out)
-    }
-
-    #[tactic(auto, unfolding(gw_object::specs::Entities::table))]
-    fn room_after(&self, room: usize) -> Option<usize> {
-        let room = self.argument.room_after(room)?;
-        let room = self.limit.room_after(room)?;
-        let room = self.width.room_after(room)?;
-        self.classes.room_after(room)
+    fn put<R: Receiver>(&self, to: &mut R) -> Result<(), R::Refusal> {
+        (self.argument, (self.limit, (self.width, self.classes))).put(to)
     }
 
     #[tactic(auto, unfolding(gw_object::specs::Entities::table))]
@@ -80,7 +69,7 @@ impl Spelled<ObjectFormat> for Table {
 
 /// An argument that is above the one of the point before it, if there is one.
 fn read_above(alloc: Global, before: Option<i64>, bytes: &[u8]) -> Result<(i64, &[u8]), ReadError>
-    ensures { Gives (λ x. (x.0, x.1.now)) result ((tested (is_above int_lt before) not_canonical (signed w64)).read bytes.now) }
+    ensures { Gives (λ x. (x.0, x.1.now)) result ((key_above int_lt before (signed w64)).read bytes.now) }
 {
     let (x, rest) = i64::read(alloc, bytes)?;
     if before.is_some_and(|before| x <= before) {
@@ -95,18 +84,12 @@ struct Points;
 impl Elements for Points {
     type Item = Point;
 
-    ghost element_spelling = { point.spell };
+    ghost spelling = { point.spell };
 
-    ghost element_reading = { point.read };
+    ghost reading = { point.read };
 
-    fn put_element(out: &mut Vec<u8>, point: &Point) -> Result<(), Memory> {
-        point.x.put(out)?;
-        point.y.put(out)
-    }
-
-    fn room_after_element(point: &Point, room: usize) -> Option<usize> {
-        let room = point.x.room_after(room)?;
-        point.y.room_after(room)
+    fn put_element<R: Receiver>(to: &mut R, point: &Point) -> Result<(), R::Refusal> {
+        (point.x, point.y).put(to)
     }
 
     fn read_element<'a>(
@@ -127,18 +110,10 @@ impl Spelled<ObjectFormat> for Function {
 
     ghost reading = { function.read };
 
-    ghost can_put = { FunctionFits };
-
-    #[tactic(auto, unfolding(gw_object::specs::Entities::function))]
-    fn put(&self, out: &mut Vec<u8>) -> Result<(), Memory> {
-        self.argument.put(out)?;
-        put_listed::<Points>(out, self.points.as_slice())
-    }
-
-    #[tactic(auto, unfolding(gw_object::specs::Entities::function))]
-    fn room_after(&self, room: usize) -> Option<usize> {
-        let room = self.argument.room_after(room)?;
-        room_after_listed::<Points>(self.points.as_slice(), room)
+    #[tactic(auto, using(gw_fields::proofs::Receiving::joining), unfolding(gw_object::specs::Entities::function))]
+    fn put<R: Receiver>(&self, to: &mut R) -> Result<(), R::Refusal> {
+        self.argument.put(to)?;
+        put_listed::<Points, R>(to, self.points.as_slice())
     }
 
     #[tactic(auto, unfolding(gw_object::specs::Entities::function))]
@@ -150,34 +125,19 @@ impl Spelled<ObjectFormat> for Function {
     }
 }
 
-/// Puts the fields of a kind at the end.
-pub fn put_fields(out: &mut Vec<u8>, kind: &Kind) -> Result<(), Memory>
-    requires { KindFits kind.now }
-    ensures { OnOk result (out.new.items ≡ out.old.items ++ kind_fields kind.now) }
+/// Puts the fields of a kind into a receiver.
+#[tactic(auto, using(gw_fields::proofs::Receiving::joining))]
+pub fn put_fields<R: Receiver>(to: &mut R, kind: &Kind) -> Result<(), R::Refusal>
+    ensures { Puts R.content to.old to.new (kind_fields kind.now) result }
 {
     match kind {
         Kind::Facility | Kind::Queue | Kind::Chain => Ok(()),
-        Kind::Storage(capacity) => capacity.put(out),
-        Kind::Switch(set) => Ok(out.push(set.byte())?),
-        Kind::Savevalue(value) => value.put(out),
-        Kind::Table(table) => table.put(out),
-        Kind::Variable(procedure) | Kind::BooleanVariable(procedure) => procedure.put(out),
-        Kind::Function(function) => function.put(out),
-    }
-}
-
-/// How many bytes of a room are left behind the fields of a kind; `None` where they don't fit into it.
-pub fn room_after_fields(kind: &Kind, room: usize) -> Option<usize>
-    ensures { Leaves (kind_fields kind.now) room result }
-{
-    match kind {
-        Kind::Facility | Kind::Queue | Kind::Chain => Some(room),
-        Kind::Storage(capacity) => capacity.room_after(room),
-        Kind::Switch(_) => room.checked_sub(1),
-        Kind::Savevalue(value) => value.room_after(room),
-        Kind::Table(table) => table.room_after(room),
-        Kind::Variable(procedure) | Kind::BooleanVariable(procedure) => procedure.room_after(room),
-        Kind::Function(function) => function.room_after(room),
+        Kind::Storage(capacity) => capacity.put(to),
+        Kind::Switch(set) => set.byte().put(to),
+        Kind::Savevalue(value) => value.put(to),
+        Kind::Table(table) => table.put(to),
+        Kind::Variable(procedure) | Kind::BooleanVariable(procedure) => procedure.put(to),
+        Kind::Function(function) => function.put(to),
     }
 }
 

@@ -3,8 +3,7 @@
 ghost use Rattle.gw_fields.specs.Fields.{plain};
 ghost use Rattle.gw_object.specs.Grammar.{seed, weight};
 
-use crate::Memory;
-use gw_fields::{Elements, ReadError, Spelled, fault, read_ranged_u32};
+use gw_fields::{Elements, ReadError, Receiver, Spelled, fault, read_ranged_u32};
 use gw_object::codes::NOT_CANONICAL;
 use gw_object::{GREATEST_SEED, GREATEST_WEIGHT};
 use std::alloc::Global;
@@ -15,16 +14,12 @@ pub struct Seeds;
 impl Elements for Seeds {
     type Item = u32;
 
-    ghost element_spelling = { seed.spell };
+    ghost spelling = { seed.spell };
 
-    ghost element_reading = { seed.read };
+    ghost reading = { seed.read };
 
-    fn put_element(out: &mut Vec<u8>, seed: &u32) -> Result<(), Memory> {
-        seed.put(out)
-    }
-
-    fn room_after_element(seed: &u32, room: usize) -> Option<usize> {
-        seed.room_after(room)
+    fn put_element<R: Receiver>(to: &mut R, seed: &u32) -> Result<(), R::Refusal> {
+        seed.put(to)
     }
 
     fn read_element<'a>(
@@ -47,16 +42,12 @@ pub struct Weights;
 impl Elements for Weights {
     type Item = u32;
 
-    ghost element_spelling = { weight.spell };
+    ghost spelling = { weight.spell };
 
-    ghost element_reading = { (plain weight).read };
+    ghost reading = { (plain weight).read };
 
-    fn put_element(out: &mut Vec<u8>, weight: &u32) -> Result<(), Memory> {
-        weight.put(out)
-    }
-
-    fn room_after_element(weight: &u32, room: usize) -> Option<usize> {
-        weight.room_after(room)
+    fn put_element<R: Receiver>(to: &mut R, weight: &u32) -> Result<(), R::Refusal> {
+        weight.put(to)
     }
 
     fn read_element<'a>(

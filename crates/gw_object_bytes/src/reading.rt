@@ -1,11 +1,12 @@
 //! Reading an object from left to right, up to the first fault.
 
-ghost use Rattle.std.specs.Prelude.{◌≡◌, ◌≤◌, ◌<◌, ◌^◌, ◌⊎◌, IfOk, Ok, Err, length};
+ghost use Rattle.std.specs.Prelude.{◌≡◌, ◌≤◌, ◌<◌, ◌^◌, IfOk, Ok, Err, length};
 ghost use Rattle.gw_object.specs.declared.parts.Parts.{Parts};
 ghost use Rattle.gw_object.specs.Grammar.{head, tables, object, Spells};
 ghost use Rattle.gw_fields.specs.Answers.{Gives};
 ghost use Rattle.gw_object.specs.Limits.{most_bytes};
-ghost use Rattle.gw_object.specs.Reading.{whole_read, placed, too_long, first_fault, out_of_memory};
+ghost use Rattle.gw_object.specs.Reading.{whole_read, placed, too_long, first_fault};
+ghost use Rattle.gw_object_bytes.specs.Laws.{AnswersUnlessMemory};
 
 use crate::ObjectFormat;
 use crate::entities::Entities;
@@ -43,8 +44,11 @@ fn read_head(alloc: Global, bytes: &[u8]) -> Result<&[u8], ReadError>
     Ok(after)
 }
 
-/// What stands for each block, or for each user chain, of an object.
-type Rows = Vec<Option<TableState>>;
+/// What stands for each block, or for each user chain, of an object: its row of the state table.
+type Rows = Items<Option<TableState>>;
+
+/// The return rows, the rows of the state table and the weights.
+type Tables = (Items<ReturnRow>, (Rows, (Rows, (Items<u32>, Items<u32>))));
 
 /// The return rows, and what stands for each of so many blocks and each of so many user chains: its row of the state table,
 /// and its weight.
@@ -54,15 +58,8 @@ fn read_tables(
     blocks: usize,
     chains: usize,
     bytes: &[u8],
-) -> Result<
-    (
-        (Vec<ReturnRow>, (Rows, (Rows, (Vec<u32>, Vec<u32>)))),
-        &[u8],
-    ),
-    ReadError,
->
-    ensures { Gives (λ x. ((x.0.0.items, (x.0.1.0.items, (x.0.1.1.0.items, (x.0.1.1.1.0.items, x.0.1.1.1.1.items)))), x.1.now))
-        result ((tables blocks chains).read bytes.now) }
+) -> Result<(Tables, &[u8]), ReadError>
+    ensures { Gives (λ x. (x.0, x.1.now)) result ((tables blocks chains).read bytes.now) }
 {
     let (returns, rest) = read_listed::<Plain<ObjectFormat, ReturnRow>>(
         alloc,
@@ -78,10 +75,9 @@ fn read_tables(
     )?;
     let (weights, rest) = read_elements::<Weights>(alloc, blocks, rest)?;
     let (chain_weights, rest) = read_elements::<Weights>(alloc, chains, rest)?;
-    Ok((
-        (returns, (states, (chain_states, (weights, chain_weights)))),
-        rest,
-    ))
+    let weights = (Items::from_vec(weights), Items::from_vec(chain_weights));
+    let states = (Items::from_vec(states), (Items::from_vec(chain_states), weights));
+    Ok(((Items::from_vec(returns), states), rest))
 }
 
 /// The parts of an object, and the bytes after it.
@@ -109,11 +105,11 @@ fn read_parts(alloc: Global, bytes: &[u8]) -> Result<(Parts, &[u8]), ReadError>
         entities: Items::from_vec(entities),
         procedures: Items::from_vec(procedures),
         blocks: Items::from_vec(blocks),
-        returns: Items::from_vec(returns),
-        states: Items::from_vec(states),
-        chain_states: Items::from_vec(chain_states),
-        weights: Items::from_vec(weights),
-        chain_weights: Items::from_vec(chain_weights),
+        returns,
+        states,
+        chain_states,
+        weights,
+        chain_weights,
     };
     Ok((parts, rest))
 }
@@ -145,7 +141,7 @@ fn placed_fault(total: usize, fault: Bad) -> Fault
 /// The object that the bytes spell, or the first fault.
 #[tactic(auto, unfolding(gw_object::specs::Reading::first_fault))]
 fn read_object(alloc: Global, bytes: &[u8]) -> Result<Object, Fault>
-    ensures exact { (result ≡ first_fault bytes.now) ⊎ (result ≡ Err out_of_memory) }
+    ensures exact { AnswersUnlessMemory (first_fault bytes.now) result }
     ensures long { most_bytes < length bytes.now → result ≡ Err too_long }
 {
     if bytes.len() > MOST_BYTES {
@@ -171,9 +167,9 @@ pub fn read(alloc: Global, bytes: &[u8]) -> Result<Object, Fault>
     // What is read is spelled so.
     ensures found { IfOk result (λ p. Spells bytes.now p) }
     // What is spelled so is read.
-    ensures only { (p : Parts) → Spells bytes.now p → (result ≡ Ok p) ⊎ (result ≡ Err out_of_memory) }
+    ensures only { (p : Parts) → Spells bytes.now p → AnswersUnlessMemory (Ok p) result }
     // A refusal names the first fault.
-    ensures exact { (result ≡ first_fault bytes.now) ⊎ (result ≡ Err out_of_memory) }
+    ensures exact { AnswersUnlessMemory (first_fault bytes.now) result }
     // What is too long is refused before memory is asked for.
     ensures long { most_bytes < length bytes.now → result ≡ Err too_long }
 {

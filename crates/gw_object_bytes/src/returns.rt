@@ -5,10 +5,8 @@ ghost use Rattle.std.specs.List.{All};
 ghost use Rattle.gw_object.specs.Grammar.{return_row, ReturnRowFits, AreAscending};
 
 use crate::states::AscendingNumbers;
-use crate::{Memory, ObjectFormat};
-use gw_fields::{
-    Items, ReadError, Spelled, keys_ascend, put_listed, read_listed, room_after_listed,
-};
+use crate::ObjectFormat;
+use gw_fields::{Items, ReadError, Receiver, Spelled, keys_ascend, put_listed, read_listed};
 use gw_object::{MOST_BLOCKS, ReturnRow};
 use std::alloc::Global;
 
@@ -17,16 +15,9 @@ impl Spelled<ObjectFormat> for ReturnRow {
 
     ghost reading = { return_row.read };
 
-    ghost can_put = { ReturnRowFits };
-
     #[tactic(auto, unfolding(gw_object::specs::Grammar::return_row))]
-    fn put(&self, out: &mut Vec<u8>) -> Result<(), Memory> {
-        put_listed::<AscendingNumbers>(out, self.blocks.as_slice())
-    }
-
-    #[tactic(auto, unfolding(gw_object::specs::Grammar::return_row))]
-    fn room_after(&self, room: usize) -> Option<usize> {
-        room_after_listed::<AscendingNumbers>(self.blocks.as_slice(), room)
+    fn put<R: Receiver>(&self, to: &mut R) -> Result<(), R::Refusal> {
+        put_listed::<AscendingNumbers, R>(to, self.blocks.as_slice())
     }
 
     #[tactic(auto, unfolding(gw_object::specs::Grammar::return_row))]

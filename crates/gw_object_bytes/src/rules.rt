@@ -2,8 +2,9 @@
 
 ghost use Rattle.std.specs.Prelude.{◌≡◌, ◌↔◌, ◌≤◌, length, IsTrue, MatchOption};
 ghost use Rattle.std.specs.List.{All};
-ghost use Rattle.gw_object.specs.Limits.{most_bytes, greatest_seed, greatest_weight};
-ghost use Rattle.gw_object.specs.Grammar.{HasLetters, IsWithinLimits, IsCanonical, HasSpelling, Refuses, spelling};
+ghost use Rattle.gw_object.specs.Limits.{most_bytes, greatest_seed};
+ghost use Rattle.gw_object.specs.Grammar.{HasLetters, IsWithinLimits, IsCanonical, HasSpelling};
+ghost use Rattle.gw_object.specs.Grammar.{Refuses, spelling, weight};
 
 use crate::entities::{are_lettered, entities_ascend, entities_fit, names_are_own};
 use crate::returns::{return_rows_ascend, return_rows_fit};
@@ -26,7 +27,7 @@ fn seeds_fit(seeds: &[u32]) -> bool
 
 /// Whether each weight is in range.
 fn weights_fit(weights: &[u32]) -> bool
-    ensures { IsTrue result ↔ All (λ weight. (1 ≤ weight) × (weight ≤ greatest_weight)) weights.now }
+    ensures { IsTrue result ↔ All weight.Fits weights.now }
 {
     weights
         .iter()

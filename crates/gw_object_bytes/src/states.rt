@@ -2,8 +2,7 @@
 
 ghost use Rattle.std.specs.Prelude.{◌≡◌, ◌↔◌, ◌<◌, IsTrue, IfSome, nat_lt};
 ghost use Rattle.std.specs.List.{All, AllPairs};
-ghost use Rattle.gw_object.specs.Codes.{not_canonical};
-ghost use Rattle.gw_fields.specs.Fields.{is_above, tested};
+ghost use Rattle.gw_fields.specs.Fields.{key_above};
 ghost use Rattle.gw_blocks.specs.Grammar.{entity_number, parameter_number};
 ghost use Rattle.gw_object.specs.Grammar.{table_kind, TableKindFits, ParameterFits, parameter};
 ghost use Rattle.gw_object.specs.Grammar.{owned, held, HeldFits, StateFits, IsAscending, state};
@@ -11,12 +10,12 @@ ghost use Rattle.gw_fields.specs.Answers.{Gives};
 ghost use Rattle.gw_blocks.specs.declared.parts.Units.{Units};
 ghost use Rattle.gw_object.specs.declared.parts.TableParameter.{TableParameter};
 
-use crate::{Memory, ObjectFormat};
+use crate::ObjectFormat;
 use gw_block_bytes::{is_parameter, read_parameter_above};
 use gw_blocks::{MOST_PARAMETERS, Units};
 use gw_fields::{
-    Elements, Items, ReadError, Spelled, fault, keys_ascend, put_listed, read_listed,
-    read_ranged_u32, room_after_listed,
+    Elements, Items, ReadError, Receiver, Spelled, fault, keys_ascend, put_behind, put_listed,
+    read_listed, read_ranged_u32,
 };
 use gw_object::codes::{NOT_CANONICAL, TAG};
 use gw_object::{GREATEST_UNITS, MOST_ENTITIES, TableKind, TableParameter, TableState};
@@ -24,7 +23,7 @@ use std::alloc::Global;
 
 /// An entity's number that is above the one before it, if there is one.
 fn read_above(alloc: Global, before: Option<u16>, bytes: &[u8]) -> Result<(u16, &[u8]), ReadError>
-    ensures { Gives (λ x. (x.0, x.1.now)) result ((tested (is_above nat_lt before) not_canonical entity_number).read bytes.now) }
+    ensures { Gives (λ x. (x.0, x.1.now)) result ((key_above nat_lt before entity_number).read bytes.now) }
 {
     let (entity, rest) = u16::read(alloc, bytes)?;
     if before.is_some_and(|before| entity <= before) {
@@ -38,22 +37,10 @@ impl Spelled<ObjectFormat> for TableKind {
 
     ghost reading = { table_kind.read };
 
-    fn put(&self, out: &mut Vec<u8>) -> Result<(), Memory> {
+    fn put<R: Receiver>(&self, to: &mut R) -> Result<(), R::Refusal> {
         match self {
-            TableKind::Num => out.push(0)?,
-            TableKind::Ret(row) => {
-                out.push(1)?;
-                row.put(out)?;
-            }
-        }
-        Ok(())
-    }
-
-    fn room_after(&self, room: usize) -> Option<usize> {
-        let room = room.checked_sub(1)?;
-        match self {
-            TableKind::Num => Some(room),
-            TableKind::Ret(row) => row.room_after(room),
+            TableKind::Num => to.put_bytes(&[0]),
+            TableKind::Ret(row) => put_behind(to, 1, row),
         }
     }
 
@@ -77,18 +64,12 @@ struct SetParameters;
 impl Elements for SetParameters {
     type Item = TableParameter;
 
-    ghost element_spelling = { parameter.spell };
+    ghost spelling = { parameter.spell };
 
-    ghost element_reading = { parameter.read };
+    ghost reading = { parameter.read };
 
-    fn put_element(out: &mut Vec<u8>, parameter: &TableParameter) -> Result<(), Memory> {
-        parameter.number.put(out)?;
-        parameter.kind.put(out)
-    }
-
-    fn room_after_element(parameter: &TableParameter, room: usize) -> Option<usize> {
-        let room = parameter.number.room_after(room)?;
-        parameter.kind.room_after(room)
+    fn put_element<R: Receiver>(to: &mut R, parameter: &TableParameter) -> Result<(), R::Refusal> {
+        (parameter.number, parameter.kind).put(to)
     }
 
     fn read_element<'a>(
@@ -110,16 +91,12 @@ pub struct AscendingNumbers;
 impl Elements for AscendingNumbers {
     type Item = u16;
 
-    ghost element_spelling = { owned.spell };
+    ghost spelling = { owned.spell };
 
-    ghost element_reading = { owned.read };
+    ghost reading = { owned.read };
 
-    fn put_element(out: &mut Vec<u8>, number: &u16) -> Result<(), Memory> {
-        number.put(out)
-    }
-
-    fn room_after_element(number: &u16, room: usize) -> Option<usize> {
-        number.room_after(room)
+    fn put_element<R: Receiver>(to: &mut R, number: &u16) -> Result<(), R::Refusal> {
+        number.put(to)
     }
 
     fn read_element<'a>(
@@ -138,18 +115,13 @@ struct Held;
 impl Elements for Held {
     type Item = Units;
 
-    ghost element_spelling = { held.spell };
+    ghost spelling = { held.spell };
 
-    ghost element_reading = { held.read };
-
-    #[tactic(auto, unfolding(gw_blocks::specs::Grammar::units))]
-    fn put_element(out: &mut Vec<u8>, units: &Units) -> Result<(), Memory> {
-        units.put(out)
-    }
+    ghost reading = { held.read };
 
     #[tactic(auto, unfolding(gw_blocks::specs::Grammar::units))]
-    fn room_after_element(units: &Units, room: usize) -> Option<usize> {
-        units.room_after(room)
+    fn put_element<R: Receiver>(to: &mut R, units: &Units) -> Result<(), R::Refusal> {
+        units.put(to)
     }
 
     fn read_element<'a>(
@@ -170,20 +142,11 @@ impl Spelled<ObjectFormat> for TableState {
 
     ghost reading = { state.read };
 
-    ghost can_put = { StateFits };
-
-    #[tactic(auto, unfolding(gw_object::specs::Grammar::state))]
-    fn put(&self, out: &mut Vec<u8>) -> Result<(), Memory> {
-        put_listed::<SetParameters>(out, self.parameters.as_slice())?;
-        put_listed::<AscendingNumbers>(out, self.facilities.as_slice())?;
-        put_listed::<Held>(out, self.units.as_slice())
-    }
-
-    #[tactic(auto, unfolding(gw_object::specs::Grammar::state, gw_blocks::specs::Grammar::units))]
-    fn room_after(&self, room: usize) -> Option<usize> {
-        let room = room_after_listed::<SetParameters>(self.parameters.as_slice(), room)?;
-        let room = room_after_listed::<AscendingNumbers>(self.facilities.as_slice(), room)?;
-        room_after_listed::<Held>(self.units.as_slice(), room)
+    #[tactic(auto, using(gw_fields::proofs::Receiving::joining), unfolding(gw_object::specs::Grammar::state, gw_blocks::specs::Grammar::units))]
+    fn put<R: Receiver>(&self, to: &mut R) -> Result<(), R::Refusal> {
+        put_listed::<SetParameters, R>(to, self.parameters.as_slice())?;
+        put_listed::<AscendingNumbers, R>(to, self.facilities.as_slice())?;
+        put_listed::<Held, R>(to, self.units.as_slice())
     }
 
     /// Parameters, facilities and units.

@@ -1,9 +1,10 @@
-//! Writing an object: each function puts bytes at the end.
+//! Writing an object: each function puts bytes into a receiver, which keeps or counts them.
 
-ghost use Rattle.std.specs.Prelude.{◌≡◌, ◌++◌, OnOk, IfOk, length};
+ghost use Rattle.std.specs.Prelude.{◌≡◌, IfOk};
 ghost use Rattle.gw_fields.specs.Fields.{Leaves};
-ghost use Rattle.gw_object.specs.Entities.{chains_in};
-ghost use Rattle.gw_object.specs.Grammar.{HasSpelling, head, tables, spelling};
+ghost use Rattle.gw_fields.specs.Receivers.{Puts};
+ghost use Rattle.gw_object.specs.Grammar.{head, spelling};
+ghost use Rattle.gw_object_bytes.specs.Tables.{tables_spelling};
 
 use crate::entities::Entities;
 use crate::lists::{Seeds, Weights};
@@ -12,75 +13,61 @@ use gw_block_bytes::BlockFormat;
 use gw_blocks::Block;
 use gw_code::Procedure;
 use gw_code_bytes::CodeFormat;
-use gw_fields::{Plain, Spelled, put_elements, put_listed, room_after_elements, room_after_listed};
+use gw_fields::{Plain, Room, Receiver, Spelled, put_elements, put_listed};
 use gw_object::{Object, Parts, ReturnRow, TableState};
 use std::alloc::Global;
 
 /// The letters `GPSO` and the version.
 #[tactic(auto, unfolding(gw_object::specs::Grammar::head))]
-fn put_head(out: &mut Vec<u8>) -> Result<(), Memory>
-    ensures { OnOk result (out.new.items ≡ out.old.items ++ head.spell (tt, tt)) }
+fn put_head<R: Receiver>(to: &mut R) -> Result<(), R::Refusal>
+    ensures { Puts R.content to.old to.new (head.spell (tt, tt)) result }
 {
-    out.extend_from_slice(b"GPSO")?;
-    out.extend_from_slice(&[0, 1])?;
-    Ok(())
+    to.put_bytes(b"GPSO\x00\x01")
 }
 
+/// What stands for each block, or for each user chain: its row of the state table.
+type Rows = Plain<ObjectFormat, Option<TableState>>;
+
 /// The return rows, and what stands for each block and each user chain: its row of the state table, and its weight.
-#[tactic(auto, unfolding(gw_object::specs::Grammar::tables))]
-fn put_tables(out: &mut Vec<u8>, parts: &Parts) -> Result<(), Memory>
-    requires { HasSpelling parts.now }
-    ensures { OnOk result (out.new.items ≡ out.old.items ++ (tables (length parts.now.blocks) (chains_in parts.now.entities)).spell
-        (parts.now.returns, (parts.now.states, (parts.now.chain_states, (parts.now.weights, parts.now.chain_weights))))) }
+#[tactic(auto, using(gw_fields::proofs::Receiving::joining), unfolding(gw_object::specs::Grammar::tables))]
+fn put_tables<R: Receiver>(to: &mut R, parts: &Parts) -> Result<(), R::Refusal>
+    ensures { Puts R.content to.old to.new (tables_spelling parts.now) result }
 {
-    put_listed::<Plain<ObjectFormat, ReturnRow>>(out, parts.returns.as_slice())?;
-    put_elements::<Plain<ObjectFormat, Option<TableState>>>(out, parts.states.as_slice())?;
-    put_elements::<Plain<ObjectFormat, Option<TableState>>>(out, parts.chain_states.as_slice())?;
-    put_elements::<Weights>(out, parts.weights.as_slice())?;
-    put_elements::<Weights>(out, parts.chain_weights.as_slice())?;
-    Ok(())
+    put_listed::<Plain<ObjectFormat, ReturnRow>, R>(to, parts.returns.as_slice())?;
+    put_elements::<Rows, R>(to, parts.states.as_slice())?;
+    put_elements::<Rows, R>(to, parts.chain_states.as_slice())?;
+    put_elements::<Weights, R>(to, parts.weights.as_slice())?;
+    put_elements::<Weights, R>(to, parts.chain_weights.as_slice())
 }
 
 /// The bytes that spell parts.
-#[tactic(auto, unfolding(gw_object::specs::Grammar::spelling, gw_object::specs::Grammar::object))]
-fn put_parts(out: &mut Vec<u8>, parts: &Parts) -> Result<(), Memory>
-    requires { HasSpelling parts.now }
-    ensures { OnOk result (out.new.items ≡ out.old.items ++ spelling parts.now) }
+#[tactic(auto, using(gw_fields::proofs::Receiving::joining), unfolding(gw_object::specs::Grammar::spelling, gw_object::specs::Grammar::object))]
+fn put_parts<R: Receiver>(to: &mut R, parts: &Parts) -> Result<(), R::Refusal>
+    ensures { Puts R.content to.old to.new (spelling parts.now) result }
 {
-    put_head(out)?;
-    put_listed::<Seeds>(out, parts.seeds.as_slice())?;
-    parts.count.put(out)?;
-    put_listed::<Entities>(out, parts.entities.as_slice())?;
-    put_listed::<Plain<CodeFormat, Procedure>>(out, parts.procedures.as_slice())?;
-    put_listed::<Plain<BlockFormat, Block>>(out, parts.blocks.as_slice())?;
-    put_tables(out, parts)
+    put_head(to)?;
+    put_listed::<Seeds, R>(to, parts.seeds.as_slice())?;
+    parts.count.put(to)?;
+    put_listed::<Entities, R>(to, parts.entities.as_slice())?;
+    put_listed::<Plain<CodeFormat, Procedure>, R>(to, parts.procedures.as_slice())?;
+    put_listed::<Plain<BlockFormat, Block>, R>(to, parts.blocks.as_slice())?;
+    put_tables(to, parts)
 }
 
 /// How many bytes of a room are left behind those that spell parts; `None` where they don't fit into it.
-#[tactic(auto, unfolding(gw_object::specs::Grammar::spelling, gw_object::specs::Grammar::object, gw_object::specs::Grammar::head, gw_object::specs::Grammar::tables))]
+#[tactic(auto, using(gw_fields::proofs::Receiving::leaves))]
 pub fn room_after_parts(parts: &Parts, room: usize) -> Option<usize>
     ensures { Leaves (spelling parts.now) room result }
 {
-    // The letters and the version.
-    let room = room.checked_sub(6)?;
-    let room = room_after_listed::<Seeds>(parts.seeds.as_slice(), room)?;
-    let room = parts.count.room_after(room)?;
-    let room = room_after_listed::<Entities>(parts.entities.as_slice(), room)?;
-    let room = room_after_listed::<Plain<CodeFormat, Procedure>>(
-        parts.procedures.as_slice(),
-        room,
-    )?;
-    let room = room_after_listed::<Plain<BlockFormat, Block>>(parts.blocks.as_slice(), room)?;
-    let room = room_after_listed::<Plain<ObjectFormat, ReturnRow>>(parts.returns.as_slice(), room)?;
-    let states = parts.states.as_slice();
-    let room = room_after_elements::<Plain<ObjectFormat, Option<TableState>>>(states, room)?;
-    let states = parts.chain_states.as_slice();
-    let room = room_after_elements::<Plain<ObjectFormat, Option<TableState>>>(states, room)?;
-    let room = room_after_elements::<Weights>(parts.weights.as_slice(), room)?;
-    room_after_elements::<Weights>(parts.chain_weights.as_slice(), room)
+    let mut behind = Room { left: Some(room) };
+    match put_parts(&mut behind, parts) {
+        Ok(()) => behind.left,
+        Err(never) => match never {},
+    }
 }
 
 /// The one spelling of an object.
+#[tactic(auto, using(gw_fields::proofs::Receiving::keeps))]
 pub fn write(alloc: Global, object: &Object) -> Result<Vec<u8>, Memory>
     ensures { IfOk result (λ bytes. bytes.items ≡ spelling object.now) }
 {

@@ -4,4 +4,4 @@ use Rattle.gw_fields.proofs.lists.read_elements.Given as goal
 
 abbrev pub invariant-loop-i : goal.invariant-loop-i
 invariant-loop-i g l =
-    elements_read g.L.Elements.element_reading (l.count - l.i) l.items.items l.rest ≡ elements_read g.L.Elements.element_reading l.count [] l.bytes
+    elements_read g.L.Elements.reading (l.n - l.i) l.items.items l.rest ≡ elements_read g.L.Elements.reading l.n [] l.bytes
