@@ -1,8 +1,12 @@
 //! The figures of a report, and how they are called.
 
-ghost use Rattle.std.specs.Prelude.{◌<◌, ◌≤◌, length, IfSome};
+ghost use Rattle.std.specs.Prelude.{◌≡◌, ◌<◌, ◌≤◌, ◌++◌, length, drop, IfOk, OnOk};
+ghost use Rattle.gw_figures.specs.Numbers.{words_in};
+ghost use Rattle.gw_figures.specs.Figures as model;
+ghost use Rattle.gw_figures.specs.Figures.{form, labels, texts, spaced, table_behind, figures_in};
 
 use crate::cutting::words;
+use crate::lines::{Line, line_at};
 use std::alloc::{AllocError, Global};
 
 /// A figure of a report: the place of its word, from 0, and its name for people, as `QUEUE LINE AVG`.
@@ -14,87 +18,16 @@ pub struct Figure {
     pub name: Vec<u8>,
 }
 
-/// What a line of a report tells of.
-#[derive(Clone, Copy, Debug, PartialEq, Eq)]
-enum Line {
-    End,
-    Block,
-    Facility,
-    Storage,
-    Queue,
-    Switch,
-    Savevalue,
-    Table,
-    Class,
-    Chain,
-}
+/// The word of a table.
+const TABLE: &[u8] = b"TABLE";
 
-impl Line {
-    /// The line that begins with a word.
-    fn beginning(word: &[u8]) -> Option<Line> {
-        match word {
-            b"END" => Some(Line::End),
-            b"BLOCK" => Some(Line::Block),
-            b"FACILITY" => Some(Line::Facility),
-            b"STORAGE" => Some(Line::Storage),
-            b"QUEUE" => Some(Line::Queue),
-            b"SWITCH" => Some(Line::Switch),
-            b"SAVEVALUE" => Some(Line::Savevalue),
-            b"TABLE" => Some(Line::Table),
-            b"CLASS" => Some(Line::Class),
-            b"CHAIN" => Some(Line::Chain),
-            _ => None,
-        }
-    }
-
-    /// How many words it has.
-    fn length(self) -> usize
-        ensures { (0 < result) × (result ≤ 14) }
-    {
-        match self {
-            Line::Switch | Line::Savevalue | Line::Class => 3,
-            Line::Chain => 4,
-            Line::Block => 5,
-            Line::Table => 6,
-            Line::End | Line::Facility | Line::Queue => 10,
-            Line::Storage => 14,
-        }
-    }
-
-    /// How many of its first words name what it tells of.
-    fn names(self) -> usize {
-        match self {
-            Line::End => 0,
-            Line::Block => 3,
-            _ => 2,
-        }
-    }
-
-    /// Its figures: the place of each in the line, and what it is called. An owner and a capacity are no figures.
-    fn figures(self) -> &'static [(usize, &'static str)] {
-        match self {
-            Line::End => &[(3, "CLOCK"), (5, "STEPS"), (7, "ENTRIES"), (9, "COUNT")],
-            Line::Block => &[(3, "ENTRIES"), (4, "HERE")],
-            Line::Facility => &[(3, "ENTRIES"), (7, "WAIT"), (9, "UTIL")],
-            Line::Storage => &[
-                (5, "CONTENT"),
-                (7, "MAX"),
-                (9, "ENTRIES"),
-                (11, "WAIT"),
-                (13, "AVG"),
-            ],
-            Line::Queue => &[(3, "CONTENT"), (5, "MAX"), (7, "ENTRIES"), (9, "AVG")],
-            Line::Switch => &[(2, "SET")],
-            Line::Savevalue => &[(2, "VALUE")],
-            Line::Table => &[(3, "COUNT"), (5, "SUM")],
-            Line::Class => &[(2, "VALUES")],
-            Line::Chain => &[(3, "CONTENT")],
-        }
-    }
-}
+/// The word of a class of a table.
+const CLASS: &[u8] = b"CLASS";
 
 /// Appends words, with a blank behind each.
-fn put_words(name: &mut Vec<u8>, words: &[&[u8]]) -> Result<(), AllocError> {
+fn put_words(name: &mut Vec<u8>, words: &[&[u8]]) -> Result<(), AllocError>
+    ensures { OnOk result (name.new.items ≡ name.old.items ++ spaced (texts words.now)) }
+{
     for word in words {
         name.extend_from_slice(word)?;
         name.push(b' ')?;
@@ -102,19 +35,49 @@ fn put_words(name: &mut Vec<u8>, words: &[&[u8]]) -> Result<(), AllocError> {
     Ok(())
 }
 
-/// The name of a figure of a line, whose words these are. Of a class, those of its table are given.
+/// The words that name what a line tells of, which these begin with.
+fn naming_words<'a, 'b>(line: Line, words: &'a [&'b [u8]]) -> &'a [&'b [u8]]
+    ensures { texts result.now ≡ model.naming_words (form line) (texts words.now) }
+{
+    &words[..usize::from(line.names).min(words.len())]
+}
+
+/// The words of a table, where a line tells of one of its classes.
+fn words_above<'a, 'b>(table: &'a [&'b [u8]], line: Line) -> &'a [&'b [u8]]
+    ensures { texts result.now ≡ model.words_above (texts table.now) (form line) }
+{
+    if line.word == CLASS {
+        table
+    } else {
+        &table[..0]
+    }
+}
+
+/// The words that name the table whose classes come behind a line, which these begin with.
+fn table_words<'a, 'b>(table: &'a [&'b [u8]], line: Line, words: &'a [&'b [u8]]) -> &'a [&'b [u8]]
+    ensures { texts result.now ≡ table_behind (texts table.now) (form line) (texts words.now) }
+{
+    if line.word == TABLE {
+        naming_words(line, words)
+    } else {
+        table
+    }
+}
+
+/// The name of a figure of a line, which these words begin with.
 fn name_of(
     alloc: Global,
     table: &[&[u8]],
     line: Line,
     words: &[&[u8]],
     what: &str,
-) -> Result<Vec<u8>, AllocError> {
+) -> Result<Vec<u8>, AllocError>
+    ensures { IfOk result (λ name. name.items
+        ≡ model.name_of (texts table.now) (form line) (texts words.now) what.now) }
+{
     let mut name = Vec::new(alloc);
-    if line == Line::Class {
-        put_words(&mut name, table)?;
-    }
-    put_words(&mut name, &words[..line.names().min(words.len())])?;
+    put_words(&mut name, words_above(table, line))?;
+    put_words(&mut name, naming_words(line, words))?;
     name.extend_from_slice(what.as_bytes())?;
     Ok(name)
 }
@@ -129,54 +92,39 @@ fn put_line(
     first: usize,
 ) -> Result<(), AllocError>
     requires { first ≤ length words.now }
+    ensures { OnOk result (labels figures.new.items ≡ labels figures.old.items
+        ++ model.figures_of (texts table.now) first (form line) (drop first (texts words.now))) }
 {
     let own = &words[first..];
-    for (place, what) in line.figures() {
-        if *place < own.len() {
-            let name = name_of(alloc, table, line, own, what)?;
-            figures.push(Figure {
-                place: first + *place,
-                name,
-            })?;
-        }
+    for (place, what) in line.figures {
+        let name = name_of(alloc, table, line, own, what)?;
+        figures.push(Figure {
+            place: first + usize::from(*place),
+            name,
+        })?;
     }
     Ok(())
 }
 
-/// The line that begins at this place of a report's words, if one does.
-fn line_at(words: &[&[u8]], first: usize) -> Option<Line>
-    ensures { IfSome result (λ _. first < length words.now) }
+/// The figures of a report of these words.
+fn figures_of(alloc: Global, words: &[&[u8]]) -> Result<Vec<Figure>, AllocError>
+    ensures { IfOk result (λ figures. labels figures.items ≡ figures_in (texts words.now)) }
 {
-    Line::beginning(words.get(first)?)
-}
-
-/// The first two words from this place on, as far as there are any.
-fn two_words<'a, 'b>(words: &'a [&'b [u8]], first: usize) -> &'a [&'b [u8]]
-    requires { first ≤ length words.now }
-{
-    let rest = &words[first..];
-    &rest[..2.min(rest.len())]
-}
-
-/// The figures of a report, in order. A figure of a class is called by its table, too.
-pub fn figures(alloc: Global, report: &[u8]) -> Result<Vec<Figure>, AllocError> {
-    let words = words(alloc, report)?;
     let mut figures = Vec::new(alloc);
-    let mut table = 0;
+    let mut table = &words[..0];
     let mut first = 0;
-    while let Some(line) = line_at(&words, first) {
-        put_line(
-            alloc,
-            &mut figures,
-            two_words(&words, table),
-            line,
-            &words,
-            first,
-        )?;
-        if line == Line::Table {
-            table = first;
-        }
-        first = words.len().min(first + line.length());
+    while let Some(line) = line_at(words, first) {
+        put_line(alloc, &mut figures, table, line, words, first)?;
+        table = table_words(table, line, &words[first..]);
+        first = words.len().min(first + usize::from(line.words));
     }
     Ok(figures)
+}
+
+/// The figures of a report, in order, none left out. A figure of a class is called by its table, too.
+pub fn figures(alloc: Global, report: &[u8]) -> Result<Vec<Figure>, AllocError>
+    ensures { IfOk result (λ figures. labels figures.items ≡ figures_in (words_in report.now)) }
+{
+    let words = words(alloc, report)?;
+    figures_of(alloc, &words)
 }

@@ -3,6 +3,7 @@
 
 mod cutting;
 mod labels;
+mod lines;
 mod numbers;
 
 pub use cutting::{values, words};

@@ -1,5 +1,5 @@
 -- The study of a text is that of its object.
-use Rattle.std.proofs.Common.{◌≡◌, ◌≢◌, ℕ, List, Result, Ok, Err, IfOk, inl, inr, subst}
+use Rattle.std.proofs.Common.{◌≡◌, ℕ, List, Result, Ok, Err, IfOk, inl, subst}
 use Rattle.gw_answers.specs.declared.answer.Answer.{Answer}
 use Rattle.gw_answers.specs.Assembly.{IsAssembly}
 use Rattle.gw_answers.specs.Status.{ended}

@@ -1,5 +1,5 @@
 -- Seeds along the generator.
-use Rattle.std.proofs.Common.{◌≡◌, ◌≤◌, ℕ, ◌+◌, suc, add-one, refl, arith}
+use Rattle.std.proofs.Common.{◌≡◌, ℕ, ◌+◌, add-one, refl, arith}
 use Rattle.gw_study.specs.Seeds.{IsSeed, after_jump, seed_at}
 
 -- 789557446 and 2147483647 have no common factor

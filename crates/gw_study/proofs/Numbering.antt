@@ -1,8 +1,8 @@
 -- What holds of each of a list with its number.
-use Rattle.std.proofs.Common.{◌≡◌, ℕ, ◌+◌, List, [], ◌∷◌, ◌++◌, length, map, refl, sym, subst, ap, arith, ◌∙◌}
+use Rattle.std.proofs.Common.{◌≡◌, ℕ, ◌+◌, List, [], ◌∷◌, ◌++◌, length, subst, arith}
 use Rattle.gw_service.specs.Calls.{Pass}
 use Rattle.gw_answers.specs.Answer.{Ends}
-use Rattle.gw_study.specs.Runs.{Numbered, IsPassOf, IsReport, ArePassesFrom, AreReports, AddsReports}
+use Rattle.gw_study.specs.Runs.{Numbered, IsReport, ArePassesFrom, AreReports}
 
 -- one more
 pub numbered_more : {X : Type 0} (P : ℕ → X → Type 0) (k : ℕ) (xs : List X) (x : X) → Numbered P k xs → P (k + length xs) x → Numbered P k (xs ++ x ∷ [])

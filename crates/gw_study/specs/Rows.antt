@@ -1,11 +1,13 @@
--- The rows of a study: each tells what the numbers at one place of all reports are.
-use Rattle.std.specs.Prelude.{◌≡◌, ◌⊎◌, ℕ, ◌-◌, ◌*◌, nat_lt, nat_eq, List, [], ◌++◌, length, map, codes, Bool, ℤ, Option, None, Some, Contains, if◌then◌else◌}
+-- The rows of a study: one for each figure of the first report, which tells what the numbers at its
+-- place of all reports are.
+use Rattle.std.specs.Prelude.{◌≡◌, ◌⊎◌, ℕ, ◌-◌, ◌*◌, nat_lt, nat_eq, List, [], ◌∷◌, ◌++◌, length, map, codes, Bool, ℤ, Option, None, Some, Contains, if◌then◌else◌}
 use Rattle.std.specs.Fmt.{decimal}
-use Rattle.std.specs.List.{All, slice_get, concat, count_by, starts_with}
+use Rattle.std.specs.List.{AllZip, slice_get, concat, count_by, starts_with}
 use Rattle.gw_statistics.specs.Quantiles.{first_enough}
 use Rattle.gw_statistics.specs.Summaries.{mean_of, least_of, greatest_of, ConfidesIn}
 use Rattle.gw_statistics.specs.declared.summary.Summary.{Summary}
-use Rattle.gw_figures.specs.Numbers.{values_in}
+use Rattle.gw_figures.specs.Numbers.{words_in, values_in}
+use Rattle.gw_figures.specs.Figures.{figures_in}
 use Rattle.gw_study.specs.Text.{row_line, missing_line, head_line}
 
 -- the number at a place, if there is one
@@ -33,23 +35,34 @@ IsTold name column text =
     ((xs : List ℤ) × (s : Summary) × (column ≡ map Some xs) × Tells xs s × (text ≡ row_line name s))
     ⊎ (Contains column None × (text ≡ missing_line name))
 
--- the row of a place, under some name
-abbrev pub IsRowOf : List (List (Option ℤ)) → List ℕ → Type 0
-IsRowOf rows text = (place : ℕ) × (name : List ℕ) × IsTold name (column place rows) text
+-- the row of a figure: of its place, under its name
+abbrev pub IsRowOf : List (List (Option ℤ)) → ℕ × List ℕ → List ℕ → Type 0
+IsRowOf rows figure text = IsTold figure.1 (column figure.0 rows) text
 
--- of a place of reports
-abbrev pub IsRow : List (List ℕ) → List ℕ → Type 0
-IsRow reports text = IsRowOf (map values_in reports) text
+-- the rows of figures, one for each, in order, one behind the other
+abbrev pub AreRowsOf : List (List (Option ℤ)) → List (ℕ × List ℕ) → List ℕ → Type 0
+AreRowsOf rows figures text =
+    (texts : List (List ℕ)) × AllZip (IsRowOf rows) figures texts × (text ≡ concat texts)
 
--- rows, one behind the other
+-- the figures that a study tells of: those of the first report
+abbrev pub figures_of : List (List ℕ) → List (ℕ × List ℕ)
+figures_of [] = []
+figures_of (first ∷ others) = figures_in (words_in first)
+
+-- their rows, of the numbers of all reports
 abbrev pub AreRows : List (List ℕ) → List ℕ → Type 0
-AreRows reports text = (rows : List (List ℕ)) × All (IsRow reports) rows × (text ≡ concat rows)
+AreRows reports text = AreRowsOf (map values_in reports) (figures_of reports) text
 
--- the row of numbers at a place, one from each report, is added
-abbrev pub AddsRow : List (List (Option ℤ)) → List ℕ → List ℕ → Type 0
-AddsRow rows old new = (text : List ℕ) × IsRowOf rows text × (new ≡ old ++ text)
+-- the row of a figure is added
+abbrev pub AddsRow : List (List (Option ℤ)) → ℕ × List ℕ → List ℕ → List ℕ → Type 0
+AddsRow rows figure old new = (text : List ℕ) × IsRowOf rows figure text × (new ≡ old ++ text)
 
--- rows are added
+-- the rows of figures are added
+abbrev pub AddsRowsOf : List (List (Option ℤ)) → List (ℕ × List ℕ) → List ℕ → List ℕ → Type 0
+AddsRowsOf rows figures old new =
+    (text : List ℕ) × AreRowsOf rows figures text × (new ≡ old ++ text)
+
+-- all rows of a study are added
 abbrev pub AddsRows : List (List ℕ) → List ℕ → List ℕ → Type 0
 AddsRows reports old new = (text : List ℕ) × AreRows reports text × (new ≡ old ++ text)
 

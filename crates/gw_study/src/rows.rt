@@ -3,7 +3,8 @@
 ghost use Rattle.std.specs.Prelude.{◌≡◌, ◌<◌, ◌≤◌, ◌++◌, length, vec_len, map, Some, None, Contains, IfSome, IfOk, OnOk, MatchOption};
 ghost use Rattle.std.specs.List.{count_by};
 ghost use Rattle.gw_figures.specs.Numbers.{values_in};
-ghost use Rattle.gw_study.specs.Rows.{value_at, is_done, AddsRow, AddsRows, IsTable};
+ghost use Rattle.gw_figures.specs.Figures.{place_and_name, labels};
+ghost use Rattle.gw_study.specs.Rows.{value_at, is_done, AddsRow, AddsRowsOf, AddsRows, IsTable};
 
 use crate::text::{put_head, put_missing, put_more, put_row};
 use gw_figures::{Figure, figures, values};
@@ -50,12 +51,30 @@ fn put_figure(
     figure: &Figure,
 ) -> Result<(), Memory>
     requires { (0 < length rows.now) × (length rows.now ≤ 1024) }
-    ensures { OnOk result (AddsRow (map (λ row. row.items) rows.now) out.old.items out.new.items) }
+    ensures { OnOk result (AddsRow (map (λ row. row.items) rows.now) (place_and_name figure.now)
+        out.old.items out.new.items) }
 {
     match column(alloc, rows, figure.place)? {
         Some(values) => put_row(alloc, out, &figure.name, &summarize(&values)),
         None => put_missing(out, &figure.name),
     }
+}
+
+/// Appends the rows of figures, in order.
+fn put_rows(
+    alloc: Global,
+    out: &mut Vec<u8>,
+    rows: &[Vec<Option<i64>>],
+    figures: &[Figure],
+) -> Result<(), Memory>
+    requires { (0 < length rows.now) × (length rows.now ≤ 1024) }
+    ensures { OnOk result (AddsRowsOf (map (λ row. row.items) rows.now) (labels figures.now)
+        out.old.items out.new.items) }
+{
+    for figure in figures {
+        put_figure(alloc, out, rows, figure)?;
+    }
+    Ok(())
 }
 
 /// The numbers of each report.
@@ -71,16 +90,13 @@ fn numbers_of(alloc: Global, reports: &[Vec<u8>]) -> Result<Vec<Vec<Option<i64>>
 }
 
 /// Appends the rows of all figures of the first report.
-fn put_rows(alloc: Global, out: &mut Vec<u8>, reports: &[Vec<u8>]) -> Result<(), Memory>
+fn put_figures(alloc: Global, out: &mut Vec<u8>, reports: &[Vec<u8>]) -> Result<(), Memory>
     requires { (0 < length reports.now) × (length reports.now ≤ 1024) }
     ensures { OnOk result (AddsRows (map (λ r. r.items) reports.now) out.old.items out.new.items) }
 {
     let rows = numbers_of(alloc, reports)?;
     let figures = figures(alloc, &reports[0])?;
-    for figure in &figures {
-        put_figure(alloc, out, &rows, figure)?;
-    }
-    Ok(())
+    put_rows(alloc, out, &rows, &figures)
 }
 
 /// How many of the runs came to their count.
@@ -105,7 +121,7 @@ pub(crate) fn table(alloc: Global, reports: &[Vec<u8>]) -> Result<Vec<u8>, Memor
     let first = format!(in alloc; "RUNS {runs} DONE {done}\n")?;
     out.extend_from_slice(first.as_bytes())?;
     put_head(&mut out)?;
-    put_rows(alloc, &mut out, reports)?;
+    put_figures(alloc, &mut out, reports)?;
     put_more(alloc, &mut out, runs)?;
     Ok(out)
 }

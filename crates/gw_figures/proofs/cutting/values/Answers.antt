@@ -1,4 +1,4 @@
-use Rattle.std.proofs.Common.{◌≡◌, ◌∙◌, ℕ, List, map, ap, subst, IfOk}
+use Rattle.std.proofs.Common.{◌≡◌, ◌∙◌, map, ap, subst, IfOk}
 use Rattle.gw_figures.specs.Numbers.{value_in, values_in}
 use Rattle.gw_figures.proofs.Mapping.{map_map}
 use Rattle.gw_figures.proofs.cutting.values.Goals as goal

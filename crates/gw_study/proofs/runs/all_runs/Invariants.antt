@@ -1,4 +1,4 @@
-use Rattle.std.proofs.Common.{◌≡◌, ◌≤◌, ◌-◌, ℕ, length, map}
+use Rattle.std.proofs.Common.{◌≡◌, ◌≤◌, ◌-◌, map}
 use Rattle.std.specs.Vec.{vec_len}
 use Rattle.gw_study.specs.Runs.{AreReports}
 use Rattle.gw_study.proofs.runs.all_runs.Given as goal

@@ -1,4 +1,4 @@
-use Rattle.std.proofs.Common.{◌≡◌, ◌+◌, ◌∷◌, ◌++◌, [], length, length-append, true, not, ◌∙◌, sym, ap, subst, arith}
+use Rattle.std.proofs.Common.{◌≡◌, ◌∷◌, [], length, length-append, true, not, ◌∙◌, sym, ap, subst, arith}
 use Rattle.std.specs.Result.{is_ok}
 use Rattle.gw_study.specs.Runs.{IsPassOf, ArePassesFrom}
 use Rattle.gw_study.proofs.Numbering.{numbered_more}

@@ -1,4 +1,4 @@
-use Rattle.std.proofs.Common.{◌≡◌, ◌∙◌, sym, ap, arith}
+use Rattle.std.proofs.Common.{◌∙◌, sym, ap, arith}
 use Rattle.gw_study.specs.Seeds.{after_jump}
 use Rattle.gw_study.proofs.Jumping.{first_seed, seed_more}
 use Rattle.gw_study.proofs.seeds.seed.Goals as goal

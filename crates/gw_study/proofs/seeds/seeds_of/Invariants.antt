@@ -1,5 +1,5 @@
 use Rattle.std.proofs.Common.{◌≡◌, ◌≤◌, ℕ, ◌<◌, ◌+◌, ◌*◌, length, get_or}
-use Rattle.gw_study.specs.Seeds.{IsSeed, seed_at}
+use Rattle.gw_study.specs.Seeds.{seed_at}
 use Rattle.gw_study.proofs.seeds.seeds_of.Given as goal
 
 -- each seed so far stands at its place
