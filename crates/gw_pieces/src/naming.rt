@@ -1,9 +1,11 @@
 //! What the names of PROCEDUREs and EQUs stand for, once their procedures have numbers.
 
-ghost use Rattle.std.specs.Prelude.{◌≡◌, OnOk, IfOk, ℕ, List, Some, min, length, string_bytes};
-ghost use Rattle.gw_names.specs.Known.{found_in};
-ghost use Rattle.gw_names.specs.Places.{Adds, label_of, named};
-ghost use Rattle.gw_pieces.specs.Naming as model;
+ghost use Rattle.std.specs.Prelude.{◌≡◌, IfOk, Some, min, length, string_bytes};
+ghost use Rattle.gw_names.specs.Known.{Finds, found_in};
+ghost use Rattle.gw_names.specs.Places.{Sets, label_of, named};
+ghost use Rattle.gw_pieces.specs.Naming.{number_at, callee_of_body, callee_of_origin, callees_of, callee_of};
+ghost use Rattle.gw_pieces.specs.Naming.{equ_of_body, equ_of_origin, equs_of, equ_by};
+ghost use Rattle.gw_pieces.specs.Naming.{numbered, equ_of_number, equs_of_numbers};
 
 use crate::origins::Origin;
 use gw_compile::{Callee, Equ};
@@ -23,7 +25,7 @@ pub(crate) struct Meanings {
 
 /// The number of the procedure at a place.
 fn number_at(place: usize) -> u16
-    ensures { result ≡ model.number_at place }
+    ensures { result ≡ number_at place }
 {
     u16::try_from(place).unwrap_or(u16::MAX)
 }
@@ -37,17 +39,17 @@ fn arguments_of(procedure: &Procedure) -> u8
 
 /// What a PROCEDURE stands for that becomes the procedure at this place.
 fn put_callee(
-    procedures: &mut IndexMap<String, Callee>,
+    callees: &mut IndexMap<String, Callee>,
     body: &Body,
     place: usize,
 ) -> Result<(), AllocError>
-    ensures { OnOk result (Adds (model.callee_of_body body.now place) (found_in procedures.old) (found_in procedures.new)) }
+    ensures { Sets result callees.old callees.new (callee_of_body body.now place) }
 {
     match body {
         Body::Procedure(procedure) => {
             let number = number_at(place);
             let arguments = arguments_of(procedure);
-            set(procedures, &procedure.name, Callee { number, arguments })
+            set(callees, &procedure.name, Callee { number, arguments })
         }
         Body::Nothing | Body::Points(_) => Ok(()),
     }
@@ -55,31 +57,30 @@ fn put_callee(
 
 /// The PROCEDURE of an origin, if it is one, which becomes the procedure at this place.
 fn put_callee_of(
-    procedures: &mut IndexMap<String, Callee>,
+    callees: &mut IndexMap<String, Callee>,
     text: &Model,
     origin: Origin,
     place: usize,
 ) -> Result<(), AllocError>
-    ensures { OnOk result (Adds (model.callee_of_origin text.now.statements.items origin place)
-        (found_in procedures.old) (found_in procedures.new)) }
+    ensures { Sets result callees.old callees.new
+        (callee_of_origin text.now.statements.items origin place) }
 {
     match text.statements.get(origin.statement) {
-        Some(statement) => put_callee(procedures, &statement.body, place),
+        Some(statement) => put_callee(callees, &statement.body, place),
         None => Ok(()),
     }
 }
 
 /// The PROCEDUREs of these origins, by their numbers.
 fn put_callees(
-    procedures: &mut IndexMap<String, Callee>,
+    callees: &mut IndexMap<String, Callee>,
     text: &Model,
     order: &[Origin],
 ) -> Result<(), AllocError>
-    ensures { OnOk result (Adds (model.entries_from (model.callee_of_origin text.now.statements.items) 0 order.now)
-        (found_in procedures.old) (found_in procedures.new)) }
+    ensures { Sets result callees.old callees.new (callees_of text.now.statements.items order.now) }
 {
     for i in 0..order.len() {
-        put_callee_of(procedures, text, order[i], i)?;
+        put_callee_of(callees, text, order[i], i)?;
     }
     Ok(())
 }
@@ -90,7 +91,7 @@ fn put_named(
     statement: &Statement,
     equ: Equ,
 ) -> Result<(), AllocError>
-    ensures { OnOk result (Adds (named (label_of statement.now) equ) (found_in equs.old) (found_in equs.new)) }
+    ensures { Sets result equs.old equs.new (named (label_of statement.now) equ) }
 {
     match &statement.label {
         Some(name) => set(equs, name, equ),
@@ -104,8 +105,7 @@ fn put_equ(
     statement: &Statement,
     place: usize,
 ) -> Result<(), AllocError>
-    ensures { OnOk result (Adds (model.equ_of_body statement.now.body statement.now place)
-        (found_in equs.old) (found_in equs.new)) }
+    ensures { Sets result equs.old equs.new (equ_of_body statement.now.body statement.now place) }
 {
     match &statement.body {
         Body::Nothing => {
@@ -126,8 +126,8 @@ fn put_equ_of(
     origin: Origin,
     place: usize,
 ) -> Result<(), AllocError>
-    ensures { OnOk result (Adds (model.equ_of_origin text.now.statements.items origin place)
-        (found_in equs.old) (found_in equs.new)) }
+    ensures { Sets result equs.old equs.new
+        (equ_of_origin text.now.statements.items origin place) }
 {
     match text.statements.get(origin.statement) {
         Some(statement) => put_equ(equs, statement, place),
@@ -141,8 +141,7 @@ fn put_equs(
     text: &Model,
     order: &[Origin],
 ) -> Result<(), AllocError>
-    ensures { OnOk result (Adds (model.entries_from (model.equ_of_origin text.now.statements.items) 0 order.now)
-        (found_in equs.old) (found_in equs.new)) }
+    ensures { Sets result equs.old equs.new (equs_of text.now.statements.items order.now) }
 {
     for i in 0..order.len() {
         put_equ_of(equs, text, order[i], i)?;
@@ -156,8 +155,8 @@ fn put_number_of(
     known: &Known,
     name: &String,
 ) -> Result<(), AllocError>
-    ensures { OnOk result (Adds (model.numbered (Some (string_bytes name.now)) (found_in known.now.equ_numbers (string_bytes name.now)))
-        (found_in equs.old) (found_in equs.new)) }
+    ensures { Sets result equs.old equs.new (numbered
+        (Some (string_bytes name.now)) (found_in known.now.equ_numbers (string_bytes name.now))) }
 {
     match found(&known.equ_numbers, name) {
         Some(number) => set(equs, name, Equ::Number(number)),
@@ -172,8 +171,8 @@ fn put_number(
     statement: &Statement,
     place: usize,
 ) -> Result<(), AllocError>
-    ensures { OnOk result (Adds (model.equ_of_number (found_in known.now.equ_numbers) statement.now place)
-        (found_in equs.old) (found_in equs.new)) }
+    ensures { Sets result equs.old equs.new
+        (equ_of_number (found_in known.now.equ_numbers) statement.now place) }
 {
     match &statement.label {
         Some(name) => {
@@ -193,8 +192,8 @@ fn put_numbers(
     known: &Known,
     statements: &[Statement],
 ) -> Result<(), AllocError>
-    ensures { OnOk result (Adds (model.entries_from (model.equ_of_number (found_in known.now.equ_numbers)) 0 statements.now)
-        (found_in equs.old) (found_in equs.new)) }
+    ensures { Sets result equs.old equs.new
+        (equs_of_numbers (found_in known.now.equ_numbers) statements.now) }
 {
     for i in 0..statements.len() {
         put_number(equs, known, &statements[i], i)?;
@@ -209,10 +208,10 @@ pub(crate) fn meanings_of(
     known: &Known,
     order: &[Origin],
 ) -> Result<Meanings, AllocError>
-    ensures procedures { IfOk result (λ m. (name : List ℕ)
-        → found_in m.procedures name ≡ model.callee_of text.now.statements.items order.now name) }
-    ensures equs { IfOk result (λ m. (name : List ℕ) → found_in m.equs name
-        ≡ model.equ_by (found_in known.now.equ_numbers) text.now.statements.items order.now name) }
+    ensures procedures { IfOk result (λ m.
+        Finds (callee_of text.now.statements.items order.now) m.procedures) }
+    ensures equs { IfOk result (λ m. Finds
+        (equ_by (found_in known.now.equ_numbers) text.now.statements.items order.now) m.equs) }
 {
     let mut procedures = IndexMap::new(alloc);
     put_callees(&mut procedures, text, order)?;
