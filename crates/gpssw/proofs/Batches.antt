@@ -7,7 +7,7 @@ use Rattle.gw_verdicts.specs.Refusal.{refusal_line}
 use Rattle.gw_answers.specs.Status.{refused}
 use Rattle.gw_batch.specs.Codes.{words_fault}
 use Rattle.gw_batch.specs.declared.entry.Entry.{Entry as StoredEntry}
-use Rattle.gw_batch.specs.Batch.{seen, entries, unread, most_objects}
+use Rattle.gw_batch.specs.Batch.{entry_of, entries, unread, most_objects}
 use Rattle.gw_batch.specs.Parts.{IsBatchTold, IsPool}
 use Rattle.gw_console.specs.Output.{AnswersReader}
 use Rattle.gpssw.specs.Framing.{left_of, GivesBatch, LosesEntries, LosesBatch}
@@ -19,7 +19,7 @@ all_of (Some bytes) None read taken = absurd taken
 all_of (Some bytes) (Some left) read taken = taken
 
 pub batch_answered : (workers slice : ℕ) (old new : Option (List ℕ)) (es : List StoredEntry) (text : List ℕ) (status : ℕ) → words_fault workers slice ≡ None → GivesBatch es old new
-    → IsBatchTold (map seen es) text status → AnswersReader (IsPool workers slice) old text status
+    → IsBatchTold (map entry_of es) text status → AnswersReader (IsPool workers slice) old text status
 batch_answered workers slice old new es text status in_range given told =
     let bytes = given.read ++ left_of new in
     let answer : IsBatchTold (entries most_objects bytes) text status = subst (λ all. IsBatchTold all text status) (sym given.entries) told in

@@ -13,7 +13,7 @@ use Rattle.gw_object.specs.Codes.{truncated, limit}
 use Rattle.gw_batch.specs.Codes.{nowhere, service_full}
 use Rattle.gw_batch.specs.declared.entry.Entry.{Entry as StoredEntry}
 use Rattle.gw_batch.specs.declared.entry.Entry.TheVariants as stored
-use Rattle.gw_batch.specs.Batch.{Entry, Object, Broken, Front, front, seen, sized, behind_length, first_entry, surplus, next_entry, with_next, past, entries, unread, most_objects}
+use Rattle.gw_batch.specs.Batch.{Entry, Object, Broken, Front, front, entry_of, sized, behind_length, first_entry, surplus, next_entry, with_next, past, entries, unread, most_objects}
 use Rattle.gw_console.specs.Calls.{LosesAtMost}
 use Rattle.gpssw.specs.Framing.{left_of, IsFirst, surplus_entry, GivesEntry, GivesBatch}
 
@@ -111,7 +111,7 @@ read_one old new bytes (suc (suc n)) count few taken end = absurd (omega (arith,
 pub record GoesOn (left : ℕ) (es : List StoredEntry) (old mid : Option (List ℕ)) : Type 0 where
   pub read : List ℕ
   pub taken : Consumes old mid read
-  pub entries : (more : List ℕ) → entries most_objects (read ++ more) ≡ map seen es ++ entries left more
+  pub entries : (more : List ℕ) → entries most_objects (read ++ more) ≡ map entry_of es ++ entries left more
   pub rest : (more : List ℕ) → unread most_objects (read ++ more) ≡ unread left more
 
 pub begin : (old : Option (List ℕ)) → GoesOn most_objects [] old old
@@ -127,8 +127,8 @@ unfolding unread
 past_object left bytes object behind first = rw (first, unread) refl
 
 -- one entry more, at the end of several
-snoc : (es : List StoredEntry) (e : StoredEntry) (rest : List Entry) → map seen es ++ (seen e ∷ rest) ≡ map seen (es ++ e ∷ []) ++ rest
-snoc es e rest = sym (ap (λ bs. bs ++ rest) (map-append seen es (e ∷ [])) ∙ append_assoc (map seen es) (seen e ∷ []) rest)
+snoc : (es : List StoredEntry) (e : StoredEntry) (rest : List Entry) → map entry_of es ++ (entry_of e ∷ rest) ≡ map entry_of (es ++ e ∷ []) ++ rest
+snoc es e rest = sym (ap (λ bs. bs ++ rest) (map-append entry_of es (e ∷ [])) ∙ append_assoc (map entry_of es) (entry_of e ∷ []) rest)
 
 next_object : (left : ℕ) (es : List StoredEntry) (old mid new : Option (List ℕ)) (object : Vec ℕ Global) → GoesOn (suc left) es old mid
     → GivesEntry first_entry (Some (stored.Object object)) mid new → GoesOn left (es ++ stored.Object object ∷ []) old new
@@ -137,7 +137,7 @@ next_object left es old mid new object so_far given = record {
   taken = Consumes-trans old mid new so_far.read given.0 so_far.taken given.1;
   entries = λ more.
       ap (entries most_objects) (append_assoc so_far.read given.0 more) ∙ so_far.entries (given.0 ++ more)
-      ∙ ap (λ rest. map seen es ++ rest) (of_object left (given.0 ++ more) object.items more (given.2 more)) ∙ snoc es (stored.Object object) (entries left more);
+      ∙ ap (λ rest. map entry_of es ++ rest) (of_object left (given.0 ++ more) object.items more (given.2 more)) ∙ snoc es (stored.Object object) (entries left more);
   rest = λ more.
       ap (unread most_objects) (append_assoc so_far.read given.0 more) ∙ so_far.rest (given.0 ++ more)
       ∙ past_object left (given.0 ++ more) object.items more (given.2 more);
@@ -192,7 +192,7 @@ ended_by_none left es old mid new so_far given = record {
   taken = Consumes-trans old mid new so_far.read given.0 so_far.taken given.1;
   entries =
       ap (entries most_objects) (append_assoc so_far.read given.0 (left_of new)) ∙ so_far.entries (given.0 ++ left_of new)
-      ∙ ap (λ rest. map seen es ++ rest) (of_none left (given.0 ++ left_of new) given.2) ∙ append-nil (map seen es);
+      ∙ ap (λ rest. map entry_of es ++ rest) (of_none left (given.0 ++ left_of new) given.2) ∙ append-nil (map entry_of es);
   rest =
       ap (unread most_objects) (append_assoc so_far.read given.0 (left_of new)) ∙ so_far.rest (given.0 ++ left_of new)
       ∙ past_none left (given.0 ++ left_of new) given.2 ∙ sym (nothing_left left given.0 (left_of new) given.2);
@@ -206,7 +206,7 @@ ended_by_fault left es old mid new fault so_far given = record {
   taken = Consumes-trans old mid new so_far.read given.0 so_far.taken given.1;
   entries =
       ap (entries most_objects) (append_assoc so_far.read given.0 (left_of new)) ∙ so_far.entries (given.0 ++ left_of new)
-      ∙ ap (λ rest. map seen es ++ rest) (of_broken left (given.0 ++ left_of new) (left_of new) fault given.2) ∙ sym (map-append seen es (stored.Broken fault ∷ []));
+      ∙ ap (λ rest. map entry_of es ++ rest) (of_broken left (given.0 ++ left_of new) (left_of new) fault given.2) ∙ sym (map-append entry_of es (stored.Broken fault ∷ []));
   rest =
       ap (unread most_objects) (append_assoc so_far.read given.0 (left_of new)) ∙ so_far.rest (given.0 ++ left_of new)
       ∙ past_broken left (given.0 ++ left_of new) (left_of new) fault given.2;

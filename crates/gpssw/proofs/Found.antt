@@ -10,7 +10,7 @@ use Rattle.gw_answers.specs.Requests.{answering}
 use Rattle.gw_answers.specs.Status.{refused}
 use Rattle.gw_batch.specs.Codes.{words_fault}
 use Rattle.gw_batch.specs.declared.entry.Entry.{Entry as StoredEntry}
-use Rattle.gw_batch.specs.Batch.{seen}
+use Rattle.gw_batch.specs.Batch.{entry_of}
 use Rattle.gw_batch.specs.Parts.{IsBatchTold, IsPool}
 use Rattle.gw_console.specs.declared.fault.ProgramFault.{ProgramFault}
 use Rattle.gw_console.specs.declared.fault.ProgramFault.TheVariants as faults
@@ -39,7 +39,7 @@ words_told workers slice old fault out (Err e) told answers same = rw same tt
 
 -- what is told of a batch
 pub batch_told : {E : Type 0} (workers slice : ℕ) (old new : Option (List ℕ)) (es : List StoredEntry) → words_fault workers slice ≡ None → GivesBatch es old new
-    → (r : Result Answer E) (told : Result Answer ProgramFault) → IfOk r (λ a. IsBatchTold (map seen es) a.text.items a.status) → Tells r told
+    → (r : Result Answer E) (told : Result Answer ProgramFault) → IfOk r (λ a. IsBatchTold (map entry_of es) a.text.items a.status) → Tells r told
     → IfOk told (λ a. AnswersReader (IsPool workers slice) old a.text.items a.status)
 batch_told workers slice old new es in_range given (Ok a) told answers same = rw same (batch_answered workers slice old new es a.text.items a.status in_range given answers)
 batch_told workers slice old new es in_range given (Err e) told answers same = rw same tt

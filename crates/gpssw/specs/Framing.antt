@@ -5,7 +5,7 @@ use Rattle.gw_object.specs.declared.limits.TheConstants.{MOST_BYTES}
 use Rattle.gw_batch.specs.Codes.{words_fault, nowhere, service_full}
 use Rattle.gw_batch.specs.declared.entry.Entry.{Entry as StoredEntry}
 use Rattle.gw_batch.specs.declared.entry.Entry.TheVariants as stored
-use Rattle.gw_batch.specs.Batch.{Entry, Object, Broken, Front, front, seen, first_entry, entries, unread, most_objects}
+use Rattle.gw_batch.specs.Batch.{Entry, Object, Broken, Front, front, entry_of, first_entry, entries, unread, most_objects}
 
 -- the bytes that a reader has left; none where it doesn't tell them
 abbrev pub left_of : Option (List ℕ) → List ℕ
@@ -30,7 +30,7 @@ surplus_entry is_there = if is_there then Some (stored.Broken (nowhere service_f
 pub record GivesBatch (es : List StoredEntry) (old new : Option (List ℕ)) : Type 0 where
   pub read : List ℕ
   pub taken : Consumes old new read
-  pub entries : entries most_objects (read ++ left_of new) ≡ map seen es
+  pub entries : entries most_objects (read ++ left_of new) ≡ map entry_of es
   pub rest : unread most_objects (read ++ left_of new) ≡ left_of new
 
 -- at most so many bytes are read of a batch

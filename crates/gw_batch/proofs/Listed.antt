@@ -2,7 +2,7 @@
 use Rattle.std.proofs.Common.{◌≡◌, ◌+◌, ℕ, List, [], ◌∷◌, ◌++◌, append_assoc, append-nil, length, map, Bool, ◌||◌, true, false, refl, sym, subst, ap, ◌∙◌}
 use Rattle.gw_batch.specs.declared.ticket.Ticket.{Ticket}
 use Rattle.gw_batch.specs.declared.entry.Entry.{Entry as StoredEntry}
-use Rattle.gw_batch.specs.Batch.{Entry, seen}
+use Rattle.gw_batch.specs.Batch.{Entry, entry_of}
 use Rattle.gw_batch.specs.Tickets.{IsTicket, AreTickets, TellsTicket, IsTicketPart, AreTicketParts}
 use Rattle.gw_batch.specs.Parts.{job_line}
 
@@ -14,14 +14,14 @@ pub next_ticket : (i : ℕ) (e : Entry) (es : List Entry) (t : Ticket) (ts : Lis
 next_ticket i e es t ts all lead ticket later tickets = rw (append_assoc ts (t ∷ []) later) (lead (t ∷ later) (ticket, tickets))
 
 -- with no entry left all have their tickets
-no_entry : (es : List StoredEntry) → length es ≡ 0 → map seen es ≡ []
+no_entry : (es : List StoredEntry) → length es ≡ 0 → map entry_of es ≡ []
 no_entry [] none = refl
 no_entry (e ∷ es) none = absurd cc
 
 none_left : (i : ℕ) (ts : List Ticket) (all : List Entry) → Lead i [] ts all → AreTickets 0 all ts
 none_left i ts all lead = let whole = lead [] tt in rw (append-nil ts) at whole
 
-pub listed_whole : (i : ℕ) (es : List StoredEntry) (ts : List Ticket) (all : List Entry) → length es ≡ 0 → Lead i (map seen es) ts all → AreTickets 0 all ts
+pub listed_whole : (i : ℕ) (es : List StoredEntry) (ts : List Ticket) (all : List Entry) → length es ≡ 0 → Lead i (map entry_of es) ts all → AreTickets 0 all ts
 listed_whole i es ts all none lead = none_left i ts all (subst (λ xs. Lead i xs ts all) (no_entry es none) lead)
 
 -- this text, with that of the other tickets behind it, is that of all tickets

@@ -22,9 +22,9 @@ is_object (Object bytes) = true
 is_object (Broken fault) = false
 
 -- the entry that a stored one is
-abbrev pub seen : StoredEntry → Entry
-seen (stored.Object bytes) = Object bytes.items
-seen (stored.Broken fault) = Broken fault
+abbrev pub entry_of : StoredEntry → Entry
+entry_of (stored.Object bytes) = Object bytes.items
+entry_of (stored.Broken fault) = Broken fault
 
 -- THE FIRST ENTRY
 

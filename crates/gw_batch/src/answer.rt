@@ -2,7 +2,7 @@
 
 ghost use Rattle.std.specs.Prelude.{◌≡◌, IfOk, map};
 ghost use Rattle.gw_pool.specs.Shares.{AreWhole};
-ghost use Rattle.gw_batch.specs.Batch.{seen};
+ghost use Rattle.gw_batch.specs.Batch.{entry_of};
 ghost use Rattle.gw_batch.specs.Parts.{status_if, IsBatchTold};
 
 use crate::entry::Entry;
@@ -59,7 +59,7 @@ fn answer_by<R: Ledger + Send + Sync, S: Ledger + Send + Sync, W: Threads + Wait
     requires names { (rows.name ≡ R.name) × (steps.name ≡ S.name) }
     requires parts { (rows.parts ≡ R.parts) × (steps.parts ≡ S.parts) }
     requires whole { AreWhole rows.parts steps.parts }
-    ensures { IfOk result (λ a. IsBatchTold (map seen entries.items) a.text.items a.status) }
+    ensures { IfOk result (λ a. IsBatchTold (map entry_of entries.items) a.text.items a.status) }
 {
     let (service, mut crew, _seat) = Service::<R, S>::new(alloc, rows, steps)?;
     let tickets = submit_all(rt, alloc, service.table(), entries)?;
@@ -81,7 +81,7 @@ pub fn answer_batch<W: Threads + Wait + Sync>(
     slice: u32,
     entries: VecDeque<Entry>,
 ) -> Result<Answer, Memory>
-    ensures { IfOk result (λ a. IsBatchTold (map seen entries.items) a.text.items a.status) }
+    ensures { IfOk result (λ a. IsBatchTold (map entry_of entries.items) a.text.items a.status) }
 {
     answer_by::<Brand, Brand, W>(
         rt,

@@ -1,7 +1,7 @@
 //! Submitting the jobs of a batch.
 
 ghost use Rattle.std.specs.Prelude.{◌≡◌, IfOk, map};
-ghost use Rattle.gw_batch.specs.Batch.{seen, Object};
+ghost use Rattle.gw_batch.specs.Batch.{entry_of, Object};
 ghost use Rattle.gw_batch.specs.Tickets.{user_of, IsTicket, IsTicketFor, AreTickets};
 
 use crate::entry::Entry;
@@ -68,7 +68,7 @@ fn ticket_of<R: Ledger, S: Ledger, W: Wait>(
     number: usize,
     entry: Entry,
 ) -> Ticket
-    ensures { IsTicket number (seen entry) result }
+    ensures { IsTicket number (entry_of entry) result }
 {
     match entry {
         Entry::Object(bytes) => ticket_of_object(rt, alloc, table, number, &bytes),
@@ -83,7 +83,7 @@ pub fn submit_all<R: Ledger, S: Ledger, W: Wait>(
     table: &Mutex<Shared<R, S>>,
     mut entries: VecDeque<Entry>,
 ) -> Result<VecDeque<Ticket>, Memory>
-    ensures { IfOk result (λ tickets. AreTickets 0 (map seen entries.items) tickets.items) }
+    ensures { IfOk result (λ tickets. AreTickets 0 (map entry_of entries.items) tickets.items) }
 {
     let mut tickets = VecDeque::new(alloc);
     let mut number = 0;

@@ -37,7 +37,7 @@ use Rattle.gw_blocks.specs.declared.parts.Save.{Save}
 use Rattle.gw_blocks.specs.declared.parts.Priority.{Priority as PriorityOperands}
 use Rattle.gw_blocks.specs.declared.parts.Plus.{Plus as PlusOperands}
 use Rattle.gw_blocks.specs.declared.parts.Block.TheVariants.{Generate, Terminate, Advance, Seize, Release, Enter, Leave, Queue, Depart, Assign, Test, Gate, Transfer, TransferByFraction, TransferToSubroutine, TransferByParameter, Loop, Split, Assemble, Link, Unlink, Logic, Savevalue, Mark, Priority as NewPriority, Buffer, Plus, Tabulate}
-use Rattle.gw_fields.specs.Fields.{Read, Field, byte, number, signed, flag, nothing, made, both, fitting, ranged, optional, Form, behind, by_tag, one_of}
+use Rattle.gw_fields.specs.Fields.{Read, Field, byte, number, signed, flag, nothing, as_type, both, fitting, ranged, optional, Form, behind, by_tag, one_of}
 
 -- ---- numbers
 
@@ -105,7 +105,7 @@ NumberedFits n = n.number < 2 ^ 16
 
 -- an attribute, and the number of the entity or the block
 unfoldable pub numbered : Field Numbered
-numbered = fitting NumberedFits (made
+numbered = fitting NumberedFits (as_type
     (λ (of, n). record { attribute = of; number = n })
     (λ n. (n.attribute, n.number))
     (both (one_of entity_attribute_byte entity_attributes) (number w16)))
@@ -154,7 +154,7 @@ pub record SpreadFits (s : Spread) : Type 0 where
 
 -- the mean and half the range
 unfoldable pub spread : Field Spread
-spread = fitting SpreadFits (made (λ (mean, half). record { mean = mean; half = half }) (λ s. (s.mean, s.half)) (both operand operand))
+spread = fitting SpreadFits (as_type (λ (mean, half). record { mean = mean; half = half }) (λ s. (s.mean, s.half)) (both operand operand))
 
 -- ---- blocks
 
@@ -167,7 +167,7 @@ pub record GenerateFits (g : GenerateOperands) : Type 0 where
 
 -- the interval, the first arrival, the limit and the priority
 unfoldable pub generate : Field GenerateOperands
-generate = fitting GenerateFits (made
+generate = fitting GenerateFits (as_type
     (λ (interval, (first, (limit, priority))). record { interval = interval; first = first; limit = limit; priority = priority })
     (λ g. (g.interval, (g.first, (g.limit, g.priority))))
     (both spread (both (optional (signed w64)) (both (optional (number w32)) (signed w32)))))
@@ -179,7 +179,7 @@ pub record UnitsFit (u : Units) : Type 0 where
 
 -- the entity's number and the number of units
 unfoldable pub units : Field Units
-units = fitting UnitsFit (made (λ (entity, n). record { entity = entity; number = n }) (λ u. (u.entity, u.number)) (both entity_number (number w32)))
+units = fitting UnitsFit (as_type (λ (entity, n). record { entity = entity; number = n }) (λ u. (u.entity, u.number)) (both entity_number (number w32)))
 
 -- each operand fits
 pub record FractionFits (f : Fraction) : Type 0 where
@@ -189,7 +189,7 @@ pub record FractionFits (f : Fraction) : Type 0 where
 
 -- the thousandths, the block for the others, and the target
 unfoldable pub fraction : Field Fraction
-fraction = fitting FractionFits (made
+fraction = fitting FractionFits (as_type
     (λ (thousandths, (otherwise, target)). record { thousandths = thousandths; otherwise = otherwise; target = target })
     (λ f. (f.thousandths, (f.otherwise, f.target)))
     (both (number w16) (both (optional block_number) block_number)))
@@ -215,7 +215,7 @@ pub record AssignFits (a : AssignOperands) : Type 0 where
 
 -- the parameter's number, the mode and the value
 unfoldable pub assign : Field AssignOperands
-assign = fitting AssignFits (made
+assign = fitting AssignFits (as_type
     (λ (parameter, (how, value)). record { parameter = parameter; mode = how; value = value })
     (λ a. (a.parameter, (a.mode, a.value)))
     (both parameter_number (both mode operand)))
@@ -241,7 +241,7 @@ pub record TestFits (t : TestOperands) : Type 0 where
 
 -- how they are compared, the two values, and the block for those for whom it is false
 unfoldable pub test_operands : Field TestOperands
-test_operands = fitting TestFits (made
+test_operands = fitting TestFits (as_type
     (λ (comparison, (left, (right, otherwise))). record { comparison = comparison; left = left; right = right; otherwise = otherwise })
     (λ t. (t.comparison, (t.left, (t.right, t.otherwise))))
     (both (one_of comparison_byte comparisons) (both operand (both operand (optional block_number)))))
@@ -268,7 +268,7 @@ pub record GateFits (g : GateOperands) : Type 0 where
 
 -- what is asked, the entity's number, and the block for those for whom it isn't so
 unfoldable pub gate : Field GateOperands
-gate = fitting GateFits (made
+gate = fitting GateFits (as_type
     (λ (condition, (entity, otherwise)). record { condition = condition; entity = entity; otherwise = otherwise })
     (λ g. (g.condition, (g.entity, g.otherwise)))
     (both (one_of condition_byte conditions) (both entity_number (optional block_number))))
@@ -280,7 +280,7 @@ pub record CallFits (c : Call) : Type 0 where
 
 -- the target and the parameter's number
 unfoldable pub call : Field Call
-call = fitting CallFits (made (λ (target, parameter). record { target = target; parameter = parameter }) (λ c. (c.target, c.parameter)) (both block_number parameter_number))
+call = fitting CallFits (as_type (λ (target, parameter). record { target = target; parameter = parameter }) (λ c. (c.target, c.parameter)) (both block_number parameter_number))
 
 -- each operand fits
 pub record LoopFits (l : LoopOperands) : Type 0 where
@@ -289,7 +289,7 @@ pub record LoopFits (l : LoopOperands) : Type 0 where
 
 -- the parameter's number and the target
 unfoldable pub countdown : Field LoopOperands
-countdown = fitting LoopFits (made (λ (parameter, target). record { parameter = parameter; target = target }) (λ l. (l.parameter, l.target)) (both parameter_number block_number))
+countdown = fitting LoopFits (as_type (λ (parameter, target). record { parameter = parameter; target = target }) (λ l. (l.parameter, l.target)) (both parameter_number block_number))
 
 -- each operand fits
 pub record SplitFits (s : SplitOperands) : Type 0 where
@@ -298,7 +298,7 @@ pub record SplitFits (s : SplitOperands) : Type 0 where
 
 -- the number of copies and their target
 unfoldable pub split : Field SplitOperands
-split = fitting SplitFits (made (λ (copies, target). record { copies = copies; target = target }) (λ s. (s.copies, s.target)) (both (number w16) (optional block_number)))
+split = fitting SplitFits (as_type (λ (copies, target). record { copies = copies; target = target }) (λ s. (s.copies, s.target)) (both (number w16) (optional block_number)))
 
 -- how many transactions an assembly waits for in all
 abbrev pub set_size : Field ℕ
@@ -319,7 +319,7 @@ LinkFits l = entity_number.Fits l.chain
 
 -- the user chain's number, and the end at which it is joined
 unfoldable pub link : Field LinkOperands
-link = fitting LinkFits (made (λ (chain, order). record { chain = chain; order = order }) (λ l. (l.chain, l.order)) (both entity_number (one_of order_byte orders)))
+link = fitting LinkFits (as_type (λ (chain, order). record { chain = chain; order = order }) (λ l. (l.chain, l.order)) (both entity_number (one_of order_byte orders)))
 
 -- each operand fits
 pub record UnlinkFits (u : UnlinkOperands) : Type 0 where
@@ -329,7 +329,7 @@ pub record UnlinkFits (u : UnlinkOperands) : Type 0 where
 
 -- the user chain's number, the block to which its members go, and how many are taken at most
 unfoldable pub unlink : Field UnlinkOperands
-unlink = fitting UnlinkFits (made
+unlink = fitting UnlinkFits (as_type
     (λ (chain, (target, most)). record { chain = chain; target = target; most = most })
     (λ u. (u.chain, (u.target, u.most)))
     (both entity_number (both block_number (optional (number w32)))))
@@ -350,7 +350,7 @@ LogicFits l = entity_number.Fits l.switch
 
 -- what is done, and the switch's number
 unfoldable pub logic : Field LogicOperands
-logic = fitting LogicFits (made (λ (action, switch). record { action = action; switch = switch }) (λ l. (l.action, l.switch)) (both (one_of action_byte actions) entity_number))
+logic = fitting LogicFits (as_type (λ (action, switch). record { action = action; switch = switch }) (λ l. (l.action, l.switch)) (both (one_of action_byte actions) entity_number))
 
 -- each operand fits
 pub record SaveFits (s : Save) : Type 0 where
@@ -359,7 +359,7 @@ pub record SaveFits (s : Save) : Type 0 where
 
 -- the savevalue's number, the mode and the value
 unfoldable pub save : Field Save
-save = fitting SaveFits (made
+save = fitting SaveFits (as_type
     (λ (savevalue, (how, value)). record { savevalue = savevalue; mode = how; value = value })
     (λ s. (s.savevalue, (s.mode, s.value)))
     (both entity_number (both mode operand)))
@@ -370,7 +370,7 @@ PriorityFits p = OperandFits p.value
 
 -- the new priority, and whether the transaction goes behind its peers
 unfoldable pub priority : Field PriorityOperands
-priority = fitting PriorityFits (made (λ (value, behind_peers). record { value = value; behind = behind_peers }) (λ p. (p.value, p.behind)) (both operand flag))
+priority = fitting PriorityFits (as_type (λ (value, behind_peers). record { value = value; behind = behind_peers }) (λ p. (p.value, p.behind)) (both operand flag))
 
 -- each operand fits
 pub record PlusFits (a : PlusOperands) : Type 0 where
@@ -379,7 +379,7 @@ pub record PlusFits (a : PlusOperands) : Type 0 where
 
 -- what is evaluated, and the parameter that takes it
 unfoldable pub plus : Field PlusOperands
-plus = fitting PlusFits (made (λ (value, parameter). record { value = value; parameter = parameter }) (λ a. (a.value, a.parameter)) (both operand (optional parameter_number)))
+plus = fitting PlusFits (as_type (λ (value, parameter). record { value = value; parameter = parameter }) (λ a. (a.value, a.parameter)) (both operand (optional parameter_number)))
 
 -- the operands of a block fit
 abbrev pub BlockFits : Block → Type 0

@@ -8,7 +8,7 @@ use Rattle.std.specs.List.Sorted.{IsPartitionedBy}
 use Rattle.std.proofs.lemmas.List.Elements.{All-head, All-tail, All-cons, All-nil}
 use Rattle.gw_chains.specs.Chain.{placed_behind}
 use Rattle.gw_chains.specs.Chunks.{begins_in}
-use Rattle.gw_chains.specs.Buckets.{once, times, last_or, Links, run, links_of, member_at, members_at, members_of, total, alone, one_if_there, below, IsHead, head_host, headed_by, with_head, Before, IsBucket, AreBuckets}
+use Rattle.gw_chains.specs.Buckets.{once, times, last_or, Links, run, links_of, member_at, members_at, members_of, total, bucket_of_one, one_if_there, below, IsHead, head_host, headed_by, with_head, Before, IsBucket, AreBuckets}
 use Rattle.gw_chains.specs.declared.bucket.Bucket.{Bucket}
 use Rattle.gw_chains.proofs.Places.{pairs_cons, pairs_first, pairs_rest}
 use Rattle.gw_chains.proofs.Linking.{once-same, once-other, times-append, Alike, run_some, run-same, links-same, members-same, members-append, buckets-same, bucket-same, was_other, run_alone, alone_is_bucket, placed_past, placed_first, AreLed, led_back, led_front, begins_at}
@@ -107,11 +107,11 @@ module _ {X : Type 0} (rank : X → ℤ) (S T : Links X) (e : X) (j x : ℕ) (va
   alike_led ks led k some = others k (was_other S T e j x vacant there k (led.leads k some))
 
   -- it stands before all buckets
-  before_all : (bs : List Bucket) → AreLed S (links_of S bs) → AllByRecursion (IsBucket rank S) bs → begins_in (lower rank e) (members_of S bs) ≡ false → Headed bs (alone rank e j ∷ bs)
+  before_all : (bs : List Bucket) → AreLed S (links_of S bs) → AllByRecursion (IsBucket rank S) bs → begins_in (lower rank e) (members_of S bs) ≡ false → Headed bs (bucket_of_one rank e j ∷ bs)
   before_all bs led each fails =
       let alike = alike_led (links_of S bs) led in
       let same = links-same S T bs alike in
-      let whole : links_of T (alone rank e j ∷ bs) ≡ j ∷ links_of S bs = ap (λ zs. zs ++ links_of T bs) (run_alone S T e j x vacant there) ∙ ap (λ zs. j ∷ zs) same in
+      let whole : links_of T (bucket_of_one rank e j ∷ bs) ≡ j ∷ links_of S bs = ap (λ zs. zs ++ links_of T bs) (run_alone S T e j x vacant there) ∙ ap (λ zs. j ∷ zs) same in
       record {
         members =
             ap (members_at T) whole
@@ -124,7 +124,7 @@ module _ {X : Type 0} (rank : X → ℤ) (S T : Links X) (e : X) (j x : ℕ) (va
       }
 
   -- a bucket takes it in before its own
-  taken_in : (b : Bucket) (bs : List Bucket) → AreLed S (links_of S (b ∷ bs)) → AllByRecursion (IsBucket rank S) (b ∷ bs) → total (b ∷ bs) < 2 ^ 62 → int_lt b.rank (rank e) ≡ false → int_lt (rank e) b.rank ≡ false → x ≡ b.first → Headed (b ∷ bs) (headed_by (alone rank e j) b ∷ bs)
+  taken_in : (b : Bucket) (bs : List Bucket) → AreLed S (links_of S (b ∷ bs)) → AllByRecursion (IsBucket rank S) (b ∷ bs) → total (b ∷ bs) < 2 ^ 62 → int_lt b.rank (rank e) ≡ false → int_lt (rank e) b.rank ≡ false → x ≡ b.first → Headed (b ∷ bs) (headed_by (bucket_of_one rank e j) b ∷ bs)
   taken_in b bs led each few from_e upto_e first =
       let here = run S b.count b.first in
       let back = links_of S bs in
@@ -139,7 +139,7 @@ module _ {X : Type 0} (rank : X → ℤ) (S T : Links X) (e : X) (j x : ℕ) (va
       ∙ run_some T b.count j (record { member = e; next = x }) there
       ∙ ap (λ k. j ∷ run T b.count k) first
       ∙ ap (λ zs. j ∷ zs) same in
-      let whole : links_of T (headed_by (alone rank e j) b ∷ bs) ≡ j ∷ (here ++ back) = ap (λ zs. zs ++ links_of T bs) run_here ∙ ap (λ zs. j ∷ (here ++ zs)) (links-same S T bs alike_back) in
+      let whole : links_of T (headed_by (bucket_of_one rank e j) b ∷ bs) ≡ j ∷ (here ++ back) = ap (λ zs. zs ++ links_of T bs) run_here ∙ ap (λ zs. j ∷ (here ++ zs)) (links-same S T bs alike_back) in
       let shown : (ks : List ℕ) → Alike S T ks → members_at T (j ∷ ks) ≡ e ∷ members_at S ks =
       λ ks alike. ap (λ o. member_at o ++ members_at T ks) there ∙ ap (λ zs. e ∷ zs) (members-same S T ks (λ k some. ap member_at (alike k some))) in
       let fails : begins_in (lower rank e) (members_of S (b ∷ bs)) ≡ false =
@@ -179,16 +179,16 @@ module _ {X : Type 0} (rank : X → ℤ) (S T : Links X) (e : X) (j x : ℕ) (va
         many = omega (arith, headed.many);
       }
 
-  headed : (bs : List Bucket) → AreLed S (links_of S bs) → AllByRecursion (IsBucket rank S) bs → total bs < 2 ^ 62 → IfSome (head_host (alone rank e j) bs) (λ h. x ≡ h.first) → Headed bs (with_head (alone rank e j) bs)
+  headed : (bs : List Bucket) → AreLed S (links_of S bs) → AllByRecursion (IsBucket rank S) bs → total bs < 2 ^ 62 → IfSome (head_host (bucket_of_one rank e j) bs) (λ h. x ≡ h.first) → Headed bs (with_head (bucket_of_one rank e j) bs)
   headed [] led each few host = before_all [] led each refl
   headed (b ∷ bs) led each few host =
       by_test (int_lt b.rank (rank e)) (int_lt (rank e) b.rank) refl refl host
       (λ here. headed bs (led_back S (run S b.count b.first) (links_of S bs) led) each.1 (omega (arith, few)) here)
     where
-      by_test : (p q : Bool) → int_lt b.rank (rank e) ≡ p → int_lt (rank e) b.rank ≡ q → IfSome (if p then head_host (alone rank e j) bs else (if q then None else Some b)) (λ h. x ≡ h.first)
-          → (IfSome (head_host (alone rank e j) bs) (λ h. x ≡ h.first) → Headed bs (with_head (alone rank e j) bs))
-          → Headed (b ∷ bs) (if p then b ∷ with_head (alone rank e j) bs else (if q then alone rank e j ∷ b ∷ bs else headed_by (alone rank e j) b ∷ bs))
-      by_test true q under over found rest = past b bs (with_head (alone rank e j) bs) led each under (rest found)
+      by_test : (p q : Bool) → int_lt b.rank (rank e) ≡ p → int_lt (rank e) b.rank ≡ q → IfSome (if p then head_host (bucket_of_one rank e j) bs else (if q then None else Some b)) (λ h. x ≡ h.first)
+          → (IfSome (head_host (bucket_of_one rank e j) bs) (λ h. x ≡ h.first) → Headed bs (with_head (bucket_of_one rank e j) bs))
+          → Headed (b ∷ bs) (if p then b ∷ with_head (bucket_of_one rank e j) bs else (if q then bucket_of_one rank e j ∷ b ∷ bs else headed_by (bucket_of_one rank e j) b ∷ bs))
+      by_test true q under over found rest = past b bs (with_head (bucket_of_one rank e j) bs) led each under (rest found)
       by_test false true under over found rest = before_all (b ∷ bs) led each (begins_at rank S (λ t. int_lt t (rank e)) b.count b.first b.rank (links_of S bs) each.0.some (led_front S (run S b.count b.first) (links_of S bs) led).leads each.0.alike ∙ under)
       by_test false false under over found rest = taken_in b bs led each few under over found
 
@@ -230,13 +230,13 @@ pub record Led {X : Type 0} (rank : X → ℤ) (S T : Links X) (e : X) (bs ws : 
   pub many : total ws ≡ total bs + 1
 
 pub led : {X : Type 0} (rank : X → ℤ) (S T : Links X) (e : X) (j x : ℕ) → S j ≡ None → T j ≡ Some (record { member = e; next = x }) → ((k : ℕ) → k ≢ j → T k ≡ S k)
-    → (bs : List Bucket) → AreBuckets rank S bs → total bs < 2 ^ 62 → IfSome (head_host (alone rank e j) bs) (λ h. x ≡ h.first) → Led rank S T e bs (with_head (alone rank e j) bs)
+    → (bs : List Bucket) → AreBuckets rank S bs → total bs < 2 ^ 62 → IfSome (head_host (bucket_of_one rank e j) bs) (λ h. x ≡ h.first) → Led rank S T e bs (with_head (bucket_of_one rank e j) bs)
 led {X} rank S T e j x vacant there others bs are few host =
     let done = headed rank S T e j x vacant there others bs (led_of rank S bs are) are.each few host in
     record {
       members = done.members;
       buckets = record {
-        order = order_headed (alone rank e j) bs are.order;
+        order = order_headed (bucket_of_one rank e j) bs are.order;
         each = done.each;
         owned = λ i. elim (cases_eq i j) [
           | inl is ↦

@@ -9,7 +9,7 @@ use Rattle.std.specs.List.Sorted.{IsPartitionedBy}
 use Rattle.gw_chains.specs.Chain.{placed_behind, in_time}
 use Rattle.gw_chains.specs.Chunks.{begins_in}
 use Rattle.gw_chains.specs.Newcomers.{host, with_newcomer, IsHostLast}
-use Rattle.gw_chains.specs.Buckets.{once, times, last_or, Links, run, links_of, member_at, members_at, members_of, total, alone, one_if_there, linked_to, linked_behind, Before, IsBucket, AreBuckets}
+use Rattle.gw_chains.specs.Buckets.{once, times, last_or, Links, run, links_of, member_at, members_at, members_of, total, bucket_of_one, one_if_there, linked_to, linked_behind, Before, IsBucket, AreBuckets}
 use Rattle.gw_chains.specs.declared.bucket.Bucket.{Bucket}
 use Rattle.gw_chains.specs.declared.bucket.Link.{Link}
 use Rattle.std.proofs.lemmas.List.Elements.{All-head, All-tail, All-cons, All-nil}
@@ -72,11 +72,11 @@ module _ {X : Type 0} (rank : X → ℤ) (S T : Links X) (e : X) (j x : ℕ) (va
     pub many : total ws ≡ total bs + 1
 
   -- the newcomer stands before all buckets
-  stands_first : (bs : List Bucket) → AreLed S (links_of S bs) → AllByRecursion (IsBucket rank S) bs → ((k : ℕ) → k ≢ j → T k ≡ S k) → begins_in (upto rank e) (members_of S bs) ≡ false → Joined bs (alone rank e j ∷ bs)
+  stands_first : (bs : List Bucket) → AreLed S (links_of S bs) → AllByRecursion (IsBucket rank S) bs → ((k : ℕ) → k ≢ j → T k ≡ S k) → begins_in (upto rank e) (members_of S bs) ≡ false → Joined bs (bucket_of_one rank e j ∷ bs)
   stands_first bs led each others fails =
       let alike : Alike S T (links_of S bs) = λ k some. others k (was_other S T e j x vacant there k (led.leads k some)) in
       let same = links-same S T bs alike in
-      let whole : links_of T (alone rank e j ∷ bs) ≡ j ∷ links_of S bs = ap (λ zs. zs ++ links_of T bs) (run_alone S T e j x vacant there) ∙ ap (λ zs. j ∷ zs) same in
+      let whole : links_of T (bucket_of_one rank e j ∷ bs) ≡ j ∷ links_of S bs = ap (λ zs. zs ++ links_of T bs) (run_alone S T e j x vacant there) ∙ ap (λ zs. j ∷ zs) same in
       record {
         members =
             ap (members_at T) whole
@@ -95,7 +95,7 @@ module _ {X : Type 0} (rank : X → ℤ) (S T : Links X) (e : X) (j x : ℕ) (va
       subst (λ i. run T i k ≡ run S (suc n) k ++ j ∷ []) two (run-longer S T e j x vacant there l n k linked others last leads single)
 
   -- a bucket takes the newcomer in
-  taken_in : (b : Bucket) (bs : List Bucket) → AreLed S (links_of S (b ∷ bs)) → AllByRecursion (IsBucket rank S) (b ∷ bs) → All (λ (c : Bucket). b.rank <ℤ c.rank) bs → total (b ∷ bs) < 2 ^ 62 → int_le b.rank (rank e) ≡ true → int_le (rank e) b.rank ≡ true → ((k : ℕ) → k ≢ j → T k ≡ linked_behind (Some b) j S k) → Joined (b ∷ bs) (unite b (alone rank e j) ∷ bs)
+  taken_in : (b : Bucket) (bs : List Bucket) → AreLed S (links_of S (b ∷ bs)) → AllByRecursion (IsBucket rank S) (b ∷ bs) → All (λ (c : Bucket). b.rank <ℤ c.rank) bs → total (b ∷ bs) < 2 ^ 62 → int_le b.rank (rank e) ≡ true → int_le (rank e) b.rank ≡ true → ((k : ℕ) → k ≢ j → T k ≡ linked_behind (Some b) j S k) → Joined (b ∷ bs) (unite b (bucket_of_one rank e j) ∷ bs)
   taken_in b bs led each later few upto_e from_e linked =
       let here = run S b.count b.first in
       let back = links_of S bs in
@@ -111,7 +111,7 @@ module _ {X : Type 0} (rank : X → ℤ) (S T : Links X) (e : X) (j x : ℕ) (va
       let apart : (k : ℕ) → 0 < times k back → k ≢ b.last =
       λ k some same. absurd (omega (arith, led.single b.last, times-append b.last here back, within, subst (λ i. 0 < times i back) same some)) in
       let alike : Alike S T back = λ k some. others k (was_other S T e j x vacant there k (led_later.leads k some)) (apart k some) in
-      let whole : links_of T (unite b (alone rank e j) ∷ bs) ≡ (here ++ j ∷ []) ++ back = ap (λ zs. zs ++ links_of T bs) run_here ∙ ap (λ zs. (here ++ j ∷ []) ++ zs) (links-same S T bs alike) in
+      let whole : links_of T (unite b (bucket_of_one rank e j) ∷ bs) ≡ (here ++ j ∷ []) ++ back = ap (λ zs. zs ++ links_of T bs) run_here ∙ ap (λ zs. (here ++ j ∷ []) ++ zs) (links-same S T bs alike) in
       let kept = λ (k : ℕ) (old : k ≢ j). ap member_at (linked k old) ∙ member_linked S j (Some b) k in
       let old = members_at S here in
       let shown : members_at T (here ++ j ∷ []) ≡ old ++ e ∷ [] =
@@ -142,18 +142,18 @@ module _ {X : Type 0} (rank : X → ℤ) (S T : Links X) (e : X) (j x : ℕ) (va
       }
 
   -- the newcomer goes past a bucket
-  goes_past : (b : Bucket) (bs ws : List Bucket) → AreLed S (links_of S (b ∷ bs)) → AllByRecursion (IsBucket rank S) (b ∷ bs) → int_le b.rank (rank e) ≡ true → ((k : ℕ) → k ≢ j → T k ≡ linked_behind (host goes (alone rank e j) bs) j S k) → Joined bs ws → Joined (b ∷ bs) (b ∷ ws)
+  goes_past : (b : Bucket) (bs ws : List Bucket) → AreLed S (links_of S (b ∷ bs)) → AllByRecursion (IsBucket rank S) (b ∷ bs) → int_le b.rank (rank e) ≡ true → ((k : ℕ) → k ≢ j → T k ≡ linked_behind (host goes (bucket_of_one rank e j) bs) j S k) → Joined bs ws → Joined (b ∷ bs) (b ∷ ws)
   goes_past b bs ws led each upto_e linked joined =
       let here = run S b.count b.first in
       let back = links_of S bs in
       let led_here = led_front S here back led in
-      let apart : (k : ℕ) → 0 < times k here → (c : Bucket) → host goes (alone rank e j) bs ≡ Some c → k ≢ c.last =
+      let apart : (k : ℕ) → 0 < times k here → (c : Bucket) → host goes (bucket_of_one rank e j) bs ≡ Some c → k ≢ c.last =
       λ k some c found same.
-      absurd (omega (arith, led.single c.last, times-append c.last here back, host_within_links rank S (alone rank e j) bs c each.1 found, subst (λ i. 0 < times i here) same some)) in
+      absurd (omega (arith, led.single c.last, times-append c.last here back, host_within_links rank S (bucket_of_one rank e j) bs c each.1 found, subst (λ i. 0 < times i here) same some)) in
       let alike : Alike S T here =
       λ k some.
       linked k (was_other S T e j x vacant there k (led_here.leads k some))
-      ∙ unlinked S j (host goes (alone rank e j) bs) k (apart k some) in
+      ∙ unlinked S j (host goes (bucket_of_one rank e j) bs) k (apart k some) in
       let same = run-same S T b.count b.first alike in
       let old = members_at S here in
       record {
@@ -172,15 +172,15 @@ module _ {X : Type 0} (rank : X → ℤ) (S T : Links X) (e : X) (j x : ℕ) (va
   later_than : (b : Bucket) (bs : List Bucket) → AllPairs Before (b ∷ bs) → All (λ (c : Bucket). b.rank <ℤ c.rank) bs
   later_than b bs order = λ k d below. order 0 (suc k) d (omega arith) (omega arith)
 
-  pub joined : (bs : List Bucket) → AreLed S (links_of S bs) → AllByRecursion (IsBucket rank S) bs → AllPairs Before bs → total bs < 2 ^ 62 → ((k : ℕ) → k ≢ j → T k ≡ linked_behind (host goes (alone rank e j) bs) j S k) → Joined bs (with_newcomer goes unite (alone rank e j) bs)
+  pub joined : (bs : List Bucket) → AreLed S (links_of S bs) → AllByRecursion (IsBucket rank S) bs → AllPairs Before bs → total bs < 2 ^ 62 → ((k : ℕ) → k ≢ j → T k ≡ linked_behind (host goes (bucket_of_one rank e j) bs) j S k) → Joined bs (with_newcomer goes unite (bucket_of_one rank e j) bs)
   joined [] led each order few linked = stands_first [] led each linked refl
   joined (b ∷ bs) led each order few linked =
       by_test (int_le b.rank (rank e)) (int_le (rank e) b.rank) refl refl linked
       (λ here. joined bs (led_back S (run S b.count b.first) (links_of S bs) led) each.1 (λ i k d lt below. order (suc i) (suc k) d (omega arith) (omega arith)) (omega (arith, few)) here)
     where
-      by_test : (p q : Bool) → int_le b.rank (rank e) ≡ p → int_le (rank e) b.rank ≡ q → ((k : ℕ) → k ≢ j → T k ≡ linked_behind (if p then (if q then Some b else host goes (alone rank e j) bs) else None) j S k) → (((k : ℕ) → k ≢ j → T k ≡ linked_behind (host goes (alone rank e j) bs) j S k) → Joined bs (with_newcomer goes unite (alone rank e j) bs)) → Joined (b ∷ bs) (if p then (if q then unite b (alone rank e j) ∷ bs else b ∷ with_newcomer goes unite (alone rank e j) bs) else alone rank e j ∷ b ∷ bs)
+      by_test : (p q : Bool) → int_le b.rank (rank e) ≡ p → int_le (rank e) b.rank ≡ q → ((k : ℕ) → k ≢ j → T k ≡ linked_behind (if p then (if q then Some b else host goes (bucket_of_one rank e j) bs) else None) j S k) → (((k : ℕ) → k ≢ j → T k ≡ linked_behind (host goes (bucket_of_one rank e j) bs) j S k) → Joined bs (with_newcomer goes unite (bucket_of_one rank e j) bs)) → Joined (b ∷ bs) (if p then (if q then unite b (bucket_of_one rank e j) ∷ bs else b ∷ with_newcomer goes unite (bucket_of_one rank e j) bs) else bucket_of_one rank e j ∷ b ∷ bs)
       by_test true true upto_e from_e link rest = taken_in b bs led each (later_than b bs order) few upto_e from_e link
-      by_test true false upto_e from_e link rest = goes_past b bs (with_newcomer goes unite (alone rank e j) bs) led each upto_e link (rest link)
+      by_test true false upto_e from_e link rest = goes_past b bs (with_newcomer goes unite (bucket_of_one rank e j) bs) led each upto_e link (rest link)
       by_test false q upto_e from_e link rest = stands_first (b ∷ bs) led each link (begins_at rank S (λ t. int_le t (rank e)) b.count b.first b.rank (links_of S bs) each.0.some (led_front S (run S b.count b.first) (links_of S bs) led).leads each.0.alike ∙ upto_e)
 
 -- THE ORDER OF BUCKETS
@@ -281,19 +281,19 @@ module _ {X : Type 0} (rank : X → ℤ) where
     linked_alike None k other = same k other
     linked_alike (Some b) k other = ap (λ o. if k == b.last then linked_to j o else o) (same k other)
 
-    pub inserted : (bs : List Bucket) → AreBuckets rank S bs → total bs < 2 ^ 62 → ((k : ℕ) → T k ≡ linked_behind (host goes (alone rank e j) bs) j S1 k) → Inserted S T e bs (with_newcomer goes unite (alone rank e j) bs)
+    pub inserted : (bs : List Bucket) → AreBuckets rank S bs → total bs < 2 ^ 62 → ((k : ℕ) → T k ≡ linked_behind (host goes (bucket_of_one rank e j) bs) j S1 k) → Inserted S T e bs (with_newcomer goes unite (bucket_of_one rank e j) bs)
     inserted bs are few linked =
         let led = led_of S bs are in
         let there : T j ≡ Some (record { member = e; next = x }) =
         linked j
-        ∙ unlinked S1 j (host goes (alone rank e j) bs) j (λ b found clash. vacant_last b (host_leads S (alone rank e j) bs b are found) clash)
+        ∙ unlinked S1 j (host goes (bucket_of_one rank e j) bs) j (λ b found clash. vacant_last b (host_leads S (bucket_of_one rank e j) bs b are found) clash)
         ∙ here in
-        let after = λ (k : ℕ) (other : k ≢ j). linked k ∙ linked_alike (host goes (alone rank e j) bs) k other in
+        let after = λ (k : ℕ) (other : k ≢ j). linked k ∙ linked_alike (host goes (bucket_of_one rank e j) bs) k other in
         let done = joined rank S T e j x vacant there bs led are.each are.order few after in
         record {
           members = done.members;
           buckets = record {
-            order = order_with (alone rank e j) bs are.order;
+            order = order_with (bucket_of_one rank e j) bs are.order;
             each = done.each;
             owned = λ i. elim (cases_eq i j) [
               | inl is ↦
@@ -301,7 +301,7 @@ module _ {X : Type 0} (rank : X → ℤ) where
                   let one : one_if_there (T i) ≡ 1 = ap one_if_there (ap T is ∙ there) in
                   omega (arith, done.links i, none, one, once-same i j (sym is))
               | inr other ↦
-                  let as_before : one_if_there (T i) ≡ one_if_there (S i) = ap (λ b. one_if b) (ap is_some (after i other) ∙ some_linked S j (host goes (alone rank e j) bs) i) in
+                  let as_before : one_if_there (T i) ≡ one_if_there (S i) = ap (λ b. one_if b) (ap is_some (after i other) ∙ some_linked S j (host goes (bucket_of_one rank e j) bs) i) in
                   omega (arith, done.links i, are.owned i, as_before, once-other i j (λ clash. other (sym clash)))
             ];
           };

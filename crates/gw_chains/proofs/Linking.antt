@@ -7,7 +7,7 @@ use Rattle.std.specs.List.{AllByRecursion}
 use Rattle.gw_chains.specs.Chain.{placed_behind}
 use Rattle.gw_chains.specs.Chunks.{begins_in}
 use Rattle.gw_chains.specs.Newcomers.{host}
-use Rattle.gw_chains.specs.Buckets.{once, times, last_or, Links, links_behind, run, links_of, member_at, members_at, members_of, linked_to, alone, IsBucket}
+use Rattle.gw_chains.specs.Buckets.{once, times, last_or, Links, links_behind, run, links_of, member_at, members_at, members_of, linked_to, bucket_of_one, IsBucket}
 use Rattle.gw_chains.specs.declared.bucket.Bucket.{Bucket}
 use Rattle.gw_chains.specs.declared.bucket.Link.{Link}
 
@@ -123,7 +123,7 @@ module _ {X : Type 0} (S T : Links X) (e : X) (j x : ℕ) (vacant : S j ≡ None
   pub run_alone : run T 1 j ≡ j ∷ []
   run_alone = run_some T 0 j (record { member = e; next = x }) there
 
-  pub alone_is_bucket : (rank : X → ℤ) → IsBucket rank T (alone rank e j)
+  pub alone_is_bucket : (rank : X → ℤ) → IsBucket rank T (bucket_of_one rank e j)
   alone_is_bucket rank = record {
     some = omega arith;
     last = ap (last_or j) run_alone;

@@ -2,7 +2,7 @@
 use Rattle.std.proofs.Common.{◌≡◌, ℕ, suc, ◌+◌, ◌-◌, ◌<◌, ◌≤◌, List, [], ◌∷◌, ◌++◌, length, take, drop, refl, sym, ap, ◌∙◌, append_assoc, length-drop, length-take, length-append, arith}
 use Rattle.std.specs.Prelude.{remove}
 use Rattle.std.proofs.lemmas.List.{take-append-le, drop-append-le}
-use Rattle.gw_chains.specs.Lists.{turned}
+use Rattle.gw_chains.specs.Lists.{rotation}
 
 module _ {T : Type 0} where
   pub remove-middle : (xs : List T) (x : T) (ys : List T) → remove (xs ++ x ∷ ys) (length xs) ≡ xs ++ ys
@@ -10,7 +10,7 @@ module _ {T : Type 0} where
   remove-middle (z ∷ zs) x ys = ap (λ ws. z ∷ ws) (remove-middle zs x ys)
 
   -- the first of the rest goes behind those that are passed
-  pub passed : (old left new : List T) (x : T) (n m place : ℕ) → old ≡ x ∷ left → new ≡ left ++ x ∷ [] → length old ≡ n → m ≡ n → place < n → turned (m - (place + 1)) new ≡ turned (n - place) old
+  pub passed : (old left new : List T) (x : T) (n m place : ℕ) → old ≡ x ∷ left → new ≡ left ++ x ∷ [] → length old ≡ n → m ≡ n → place < n → rotation (m - (place + 1)) new ≡ rotation (n - place) old
   passed old left new x n m place is made long same within =
       let rest : ℕ = m - (place + 1) in
       let one : n - place ≡ suc rest = omega arith in
@@ -18,7 +18,7 @@ module _ {T : Type 0} where
       rw (one, is, made) (rw (drop-append-le rest left (x ∷ []) fits, take-append-le rest left (x ∷ []) fits) (append_assoc (drop rest left) (x ∷ []) (take rest left)))
 
   -- the first of the rest is taken out
-  pub taken : (old left : List T) (n m place : ℕ) → left ≡ drop 1 old → length old ≡ n → m + 1 ≡ n → place < n → turned (m - place) left ≡ remove (turned (n - place) old) place
+  pub taken : (old left : List T) (n m place : ℕ) → left ≡ drop 1 old → length old ≡ n → m + 1 ≡ n → place < n → rotation (m - place) left ≡ remove (rotation (n - place) old) place
   taken [] left n m place is long fewer within = absurd (omega arith)
   taken (x ∷ xs) left n m place is long fewer within =
       let rest : ℕ = m - place in
@@ -26,5 +26,5 @@ module _ {T : Type 0} where
       let front : length (drop rest xs) ≡ place = omega (arith, length-drop rest xs) in
       rw (one, is) (sym (ap (remove (drop rest xs ++ x ∷ take rest xs)) (sym front) ∙ remove-middle (drop rest xs) x (take rest xs)))
 
-  pub length-turned : (n : ℕ) (xs : List T) → length (turned n xs) ≡ length xs
+  pub length-turned : (n : ℕ) (xs : List T) → length (rotation n xs) ≡ length xs
   length-turned n xs = omega (arith, length-append (drop n xs) (take n xs), length-drop n xs, length-take n xs)

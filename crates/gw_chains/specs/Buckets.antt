@@ -107,8 +107,8 @@ module _ {X : Type 0} where
 
   module _ (rank : X → ℤ) where
     -- the bucket of a member alone, whose link is this one
-    abbrev pub alone : X → ℕ → Bucket
-    alone member link = record { rank = rank member; first = link; last = link; count = 1 }
+    abbrev pub bucket_of_one : X → ℕ → Bucket
+    bucket_of_one member link = record { rank = rank member; first = link; last = link; count = 1 }
 
     -- a bucket has a member, ends at its last link, and all its members have its rank
     pub record IsBucket (links : Links X) (b : Bucket) : Type 0 where

@@ -30,8 +30,8 @@ module _ {T : Type 0} where
   changed entity f lists = put [] lists entity (f (at [] lists entity))
 
   -- a list kept in memory as those from n on, and behind them the first n
-  abbrev pub turned : ℕ → List T → List T
-  turned n xs = drop n xs ++ take n xs
+  abbrev pub rotation : ℕ → List T → List T
+  rotation n xs = drop n xs ++ take n xs
 
 -- each list has room for at most n fewer than before
 abbrev pub LosesRoom : ℕ → List ℕ → List ℕ → Type 0

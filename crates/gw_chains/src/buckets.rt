@@ -8,7 +8,7 @@ ghost use Rattle.slab.specs.Slab.{get, slab_len, ContainsKey, HasRoomFor};
 ghost use Rattle.gw_chains.specs.Chain.{in_time, first, rest};
 ghost use Rattle.gw_chains.specs.Chunks.{all_of, rest_of, IsChunk, IsSpare};
 ghost use Rattle.gw_chains.specs.Queues.{space_in};
-ghost use Rattle.gw_chains.specs.Buckets.{run, members_at, members_of, total, alone, linked_behind, without_first_link, AreBuckets};
+ghost use Rattle.gw_chains.specs.Buckets.{run, members_at, members_of, total, bucket_of_one, linked_behind, without_first_link, AreBuckets};
 
 use crate::Memory;
 use crate::bucket::{Bucket, Link, Ranked};
@@ -29,8 +29,8 @@ pub(crate) fn link_behind<T: Ranked>(links: &mut Slab<Link<T>>, host: Option<Buc
 }
 
 /// The bucket of a member alone, whose link is this one.
-pub(crate) fn alone<T: Ranked>(member: T, link: usize) -> Bucket
-    ensures { result ≡ alone T.rank member link }
+pub(crate) fn bucket_of_one<T: Ranked>(member: T, link: usize) -> Bucket
+    ensures { result ≡ bucket_of_one T.rank member link }
 {
     Bucket {
         rank: member.rank(),
@@ -65,7 +65,7 @@ pub(crate) fn insert_member<T: Ranked>(
         × (links.new.capacity ≡ links.old.capacity) }
 {
     let link = links.insert_reserved(Link { member, next: 0 });
-    let host = insert(chunks, spare, alone(member, link));
+    let host = insert(chunks, spare, bucket_of_one(member, link));
     link_behind(links, host, link);
 }
 

@@ -4,7 +4,7 @@ ghost use Rattle.std.specs.Prelude.{◌≡◌, ◌≤◌, ◌<◌, ◌+◌, ◌-
 ghost use Rattle.std.specs.Iterator.{YieldsFirstRef, item_count};
 ghost use Rattle.std.specs.VecDeque.{deque_len, deque_capacity};
 ghost use Rattle.gw_chains.specs.Chain.{behind, ahead, in_time, due, first, rest};
-ghost use Rattle.gw_chains.specs.Lists.{turned};
+ghost use Rattle.gw_chains.specs.Lists.{rotation};
 ghost use Rattle.gw_chains.specs.declared.tx.Event.{Event};
 ghost use Rattle.gw_chains.specs.declared.tx.Member.{Member};
 
@@ -256,16 +256,16 @@ impl Model for DelayList {
     ghost use Rattle.std.specs.Prelude.{◌-◌, ◌≤◌};
     ghost use Rattle.std.specs.VecDeque.{deque_len, deque_capacity};
     ghost use Rattle.gw_chains.specs.Chain.{IsByPriority};
-    ghost use Rattle.gw_chains.specs.Lists.{Walked, turned};
+    ghost use Rattle.gw_chains.specs.Lists.{Walked, rotation};
     ghost use Rattle.gw_chains.specs.declared.tx.Member.{Member};
 
     ghost Value = { Walked };
 
     ghost invariant = { λ l. (l.passed ≤ deque_len l.ring)
-        × IsByPriority (λ (m : Member). m.priority) (turned (deque_len l.ring - l.passed) l.ring.items) };
+        × IsByPriority (λ (m : Member). m.priority) (rotation (deque_len l.ring - l.passed) l.ring.items) };
 
     ghost view = { λ l. record {
-      members = turned (deque_len l.ring - l.passed) l.ring.items;
+      members = rotation (deque_len l.ring - l.passed) l.ring.items;
       room = deque_capacity l.ring - deque_len l.ring;
       place = l.passed;
     } };
@@ -393,7 +393,7 @@ impl DelayList {
 /// Ends a walk: those that it has passed go to the front again.
 fn turn_back(ring: &mut VecDeque<Member>, passed: &mut usize)
     requires { passed.old ≤ deque_len ring.old }
-    ensures items { ring.new.items ≡ turned (deque_len ring.old - passed.old) ring.old.items }
+    ensures items { ring.new.items ≡ rotation (deque_len ring.old - passed.old) ring.old.items }
     ensures len { deque_len ring.new ≡ deque_len ring.old }
     ensures capacity { deque_capacity ring.new ≡ deque_capacity ring.old }
     ensures passed { passed.new ≡ 0 }

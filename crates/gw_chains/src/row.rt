@@ -4,11 +4,11 @@ ghost use Rattle.std.specs.Prelude.{◌≡◌, ◌≤◌, ◌<◌, ◌+◌, ◌-
 ghost use Rattle.std.specs.VecDeque.{deque_len, deque_capacity};
 ghost use Rattle.slab.specs.Slab.{get, slab_len, ContainsKey, HasRoomFor};
 ghost use Rattle.gw_chains.specs.Chain.{in_time, placed_behind, first, rest};
-ghost use Rattle.gw_chains.specs.Buckets.{members_of, total, alone, without_first_link, below, IsHead, head_host, headed_by, with_head, Before, AreBuckets};
+ghost use Rattle.gw_chains.specs.Buckets.{members_of, total, bucket_of_one, without_first_link, below, IsHead, head_host, headed_by, with_head, Before, AreBuckets};
 ghost use Rattle.gw_chains.specs.Spots.{count_at, place_at, link_at, IsSpot, led_past, without_one, without_link};
 
 use crate::bucket::{Bucket, Link, Ranked};
-use crate::buckets::{alone, link_behind};
+use crate::buckets::{bucket_of_one, link_behind};
 use crate::chunks::{join, replace_front};
 use crate::queue::insert_reserved;
 use crate::spot::{Spot, link_at, spot_of};
@@ -35,7 +35,7 @@ pub(crate) fn insert_behind<T: Ranked>(
         × (links.new.capacity ≡ links.old.capacity) }
 {
     let link = links.insert_reserved(Link { member, next: 0 });
-    let host = join(row, alone(member, link));
+    let host = join(row, bucket_of_one(member, link));
     link_behind(links, host, link);
 }
 
@@ -131,12 +131,12 @@ pub(crate) fn insert_ahead<T: Ranked>(
     ensures links { (slab_len links.new ≡ slab_len links.old + 1)
         × (links.new.capacity ≡ links.old.capacity) }
 {
-    let sought = alone(member, 0);
+    let sought = bucket_of_one(member, 0);
     let place = place_ahead(row, sought);
     let host = host_at(row, place, sought);
     let next = first_link(host);
     let link = links.insert_reserved(Link { member, next });
-    put_ahead(row, place, host, alone(member, link));
+    put_ahead(row, place, host, bucket_of_one(member, link));
 }
 
 /// The first bucket, if there is one.

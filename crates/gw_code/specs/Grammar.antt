@@ -3,7 +3,7 @@ use Rattle.std.specs.Prelude.{ℕ, ◌+◌, ◌^◌, ◌≤◌, ◌<◌, ◌==�
 use Rattle.std.specs.List.{All, AllPairs}
 use Rattle.std.specs.Int.{w16, w32, w64}
 use Rattle.gw_fields.specs.Codes as codes
-use Rattle.gw_fields.specs.Fields.{Read, Field, bad, byte, number, signed, made, both, and_then, ranged, fitting, nothing, Form, behind, by_tag, Element, above_last, listed}
+use Rattle.gw_fields.specs.Fields.{Read, Field, bad, byte, number, signed, as_type, both, and_then, ranged, fitting, nothing, Form, behind, by_tag, Element, above_last, listed}
 use Rattle.gw_num.specs.declared.operators.Binary.TheVariants.{Power, Multiply, Divide, Remainder, Add, Subtract, Greater, GreaterOrEqual, Less, LessOrEqual, Equal, NotEqual, And, Or}
 use Rattle.gw_num.specs.declared.operators.Unary.TheVariants.{Negate, Not}
 use Rattle.gw_blocks.specs.Limits.{most_parameters}
@@ -55,7 +55,7 @@ pub record BackFits (b : JumpBack) : Type 0 where
 
 -- the target and the count of a jump back
 unfoldable pub jump_back : Field JumpBack
-jump_back = fitting BackFits (made (λ (target, count). record { target = target; count = count }) (λ b. (b.target, b.count)) (both (number w16) (number w32)))
+jump_back = fitting BackFits (as_type (λ (target, count). record { target = target; count = count }) (λ b. (b.target, b.count)) (both (number w16) (number w32)))
 
 -- what an instruction names fits
 abbrev pub InstructionFits : Instruction → Type 0
@@ -99,8 +99,8 @@ instruction_spelling (Call procedure) = 24 ∷ (number w16).spell procedure
 instruction_spelling Return = 25 ∷ []
 
 -- an instruction of which nothing is behind the tag
-abbrev pub alone : ℕ → Instruction → Form Instruction
-alone tag instruction = behind tag (λ _. instruction) nothing
+abbrev pub tag_form : ℕ → Instruction → Form Instruction
+tag_form tag instruction = behind tag (λ _. instruction) nothing
 
 -- the instructions
 abbrev pub instruction_forms : List (Form Instruction)
@@ -109,28 +109,28 @@ instruction_forms =
     ∷ behind 1 (λ local. Get local) byte
     ∷ behind 2 (λ local. Set local) byte
     ∷ behind 3 (λ a. Value a) sna
-    ∷ alone 4 (Binary Add)
-    ∷ alone 5 (Binary Subtract)
-    ∷ alone 6 (Binary Multiply)
-    ∷ alone 7 (Binary Divide)
-    ∷ alone 8 (Binary Remainder)
-    ∷ alone 9 (Binary Power)
-    ∷ alone 10 (Unary Negate)
-    ∷ alone 11 (Binary Equal)
-    ∷ alone 12 (Binary NotEqual)
-    ∷ alone 13 (Binary Greater)
-    ∷ alone 14 (Binary GreaterOrEqual)
-    ∷ alone 15 (Binary Less)
-    ∷ alone 16 (Binary LessOrEqual)
-    ∷ alone 17 (Binary And)
-    ∷ alone 18 (Binary Or)
-    ∷ alone 19 (Unary Not)
-    ∷ alone 20 Pop
+    ∷ tag_form 4 (Binary Add)
+    ∷ tag_form 5 (Binary Subtract)
+    ∷ tag_form 6 (Binary Multiply)
+    ∷ tag_form 7 (Binary Divide)
+    ∷ tag_form 8 (Binary Remainder)
+    ∷ tag_form 9 (Binary Power)
+    ∷ tag_form 10 (Unary Negate)
+    ∷ tag_form 11 (Binary Equal)
+    ∷ tag_form 12 (Binary NotEqual)
+    ∷ tag_form 13 (Binary Greater)
+    ∷ tag_form 14 (Binary GreaterOrEqual)
+    ∷ tag_form 15 (Binary Less)
+    ∷ tag_form 16 (Binary LessOrEqual)
+    ∷ tag_form 17 (Binary And)
+    ∷ tag_form 18 (Binary Or)
+    ∷ tag_form 19 (Unary Not)
+    ∷ tag_form 20 Pop
     ∷ behind 21 (λ target. Jump target) (number w16)
     ∷ behind 22 (λ target. JumpIfZero target) (number w16)
     ∷ behind 23 (λ b. Back b) jump_back
     ∷ behind 24 (λ procedure. Call procedure) (number w16)
-    ∷ alone 25 Return
+    ∷ tag_form 25 Return
     ∷ []
 
 -- by its tag; another tag is a fault
@@ -192,7 +192,7 @@ NeedsAscend p = AllPairs (λ a b. a < b) p.needs
 
 -- the counts, the parameters that are needed, and the code
 unfoldable pub procedure : Field Procedure
-procedure = fitting (λ p. ProcedureFits p × NeedsAscend p) (made
+procedure = fitting (λ p. ProcedureFits p × NeedsAscend p) (as_type
     (λ (counts, (needs, code)). record { arguments = counts.0; locals = counts.1; needs = needs; code = code })
     (λ p. ((p.arguments, p.locals), (p.needs, p.code)))
     (both counts (both (listed 0 most_parameters need) (listed 0 most_instructions next_instruction))))

@@ -17,7 +17,7 @@ use Rattle.gw_code.specs.declared.parts.Procedure.{Procedure}
 use Rattle.gw_fields.specs.Codes as codes
 use Rattle.gw_fields.specs.declared.error.Bad.{Bad}
 use Rattle.gw_fields.specs.Fields.{bad, byte, number, signed, nothing, form_read, by_tag, ElementsFit}
-use Rattle.gw_code.specs.Grammar.{SnaFits, sna_spelling, sna_forms, sna_read, sna, BackFits, jump_back, InstructionFits, instruction_spelling, alone, instruction_forms, instruction_read, instruction, is_back, backs, begins_with_back, next_instruction, need, counts, ProcedureFits, NeedsAscend, procedure}
+use Rattle.gw_code.specs.Grammar.{SnaFits, sna_spelling, sna_forms, sna_read, sna, BackFits, jump_back, InstructionFits, instruction_spelling, tag_form, instruction_forms, instruction_read, instruction, is_back, backs, begins_with_back, next_instruction, need, counts, ProcedureFits, NeedsAscend, procedure}
 use Rattle.gw_fields.proofs.AboveLast.{above_last_exact, above_last_fit, above_last_ascends}
 use Rattle.gw_code.proofs.Backs.{backs_within, code_fits, begins_as_it_is, front_of_back}
 use Rattle.gw_fields.proofs.Exact.{IsBytes, Takes, CutsFronts, chosen, err_is, not_both, ReadsBack, ◌also◌, tag_reads_back, IsExactForm, AreExactForms, behind_exact, by_tag_exact, IsExact, IsExactElement, byte_exact, wide16, wide32, wide64, number_exact, signed_exact, nothing_exact, made_exact, both_exact, and_then_exact, fitting_exact, ranged_exact, listed_exact, All-from_fit}
@@ -50,7 +50,7 @@ jump_back_exact = fitting_exact BackFits _ (λ b h. record { target = h.0; count
     (made_exact _ _ _ (λ x h. refl) (λ b h. refl) (both_exact _ _ (number_exact w16 wide16) (number_exact w32 wide32)))
 
 -- an instruction of which nothing is behind the tag
-alone_exact : (tag : ℕ) (i : Instruction) → tag ∷ [] ≡ instruction_spelling i → InstructionFits i → IsExactForm instruction_spelling InstructionFits (alone tag i)
+alone_exact : (tag : ℕ) (i : Instruction) → tag ∷ [] ≡ instruction_spelling i → InstructionFits i → IsExactForm instruction_spelling InstructionFits (tag_form tag i)
 alone_exact tag i spelled fits = behind_exact instruction_spelling InstructionFits tag (λ _. i) nothing (λ _. spelled) (λ _ _. fits) nothing_exact
 
 instruction_forms_exact : AreExactForms instruction_spelling InstructionFits instruction_forms

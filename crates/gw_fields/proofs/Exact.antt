@@ -11,7 +11,7 @@ use Rattle.std.proofs.lemmas.List.Concat.{flat_map-cons}
 use Rattle.std.proofs.lemmas.Nat.{be_bytes_2, be_bytes_4, be_bytes_8, from_be_bytes-to_be_bytes_2, from_be_bytes-to_be_bytes_4, from_be_bytes-to_be_bytes_8}
 use Rattle.gw_fields.specs.Codes as codes
 use Rattle.gw_fields.specs.declared.error.Bad.{Bad}
-use Rattle.gw_fields.specs.Fields.{◌>>=◌, Read, IsProperFront, Field, bad, byte, byte_read, number, signed, read_as, made, tested, and_then, both, fitting, constant, is_within, ranged, nothing, optional, Form, behind, form_read, by_tag, count, count_spelling, count_read, long_count_read, Element, plain, last_tested, elements_read, ElementsFit, elements, listed, list_read}
+use Rattle.gw_fields.specs.Fields.{◌>>=◌, Read, IsProperFront, Field, bad, byte, byte_read, number, signed, read_as, as_type, tested, and_then, both, fitting, constant, is_within, ranged, nothing, optional, Form, behind, form_read, by_tag, count, count_spelling, count_read, long_count_read, Element, plain, last_tested, elements_read, ElementsFit, elements, listed, list_read}
 
 -- ---- bytes
 
@@ -263,7 +263,7 @@ signed_exact w wide = record { takes = signed_takes w wide; again = signed_again
 
 -- ---- fields made of others
 
-pub made_exact : {A B : Type 0} (make : A → B) (back : B → A) (f : Field A) → ((x : A) → f.Fits x → back (make x) ≡ x) → ((y : B) → f.Fits (back y) → make (back y) ≡ y) → IsExact f → IsExact (made make back f)
+pub made_exact : {A B : Type 0} (make : A → B) (back : B → A) (f : Field A) → ((x : A) → f.Fits x → back (make x) ≡ x) → ((y : B) → f.Fits (back y) → make (back y) ≡ y) → IsExact f → IsExact (as_type make back f)
 made_exact {A} {B} make back f there here exact = record {
   takes = λ bytes x fits e.
       let a = bind_ok (f.read bytes) (λ x. Ok (make x.0, x.1)) x e in
@@ -343,7 +343,7 @@ fitting_exact Fits f here there exact = record {
 pub constant_exact : (value code : ℕ) (f : Field ℕ) → f.Fits value → IsExact f → IsExact (constant value code f)
 constant_exact value code f fits exact =
     let test = λ (n : ℕ). eqb n value in
-    fitting_exact (λ _. Unit {0}) (made (λ _. tt) (λ _. value) (tested test code f)) (λ x h. tt) (λ x h. (fits, eq-eqb value value refl))
+    fitting_exact (λ _. Unit {0}) (as_type (λ _. tt) (λ _. value) (tested test code f)) (λ x h. tt) (λ x h. (fits, eq-eqb value value refl))
     (made_exact (λ _. tt) (λ _. value) (tested test code f) (λ x h. sym (eqb-true x value h.1)) (λ y h. refl) (tested_exact test code f exact))
 
 and_true : (a b : Bool) → (a && b) ≡ true → (a ≡ true) × (b ≡ true)

@@ -19,7 +19,7 @@ use Rattle.gw_flow.specs.declared.abstract_state.StateParts.{StateParts}
 use Rattle.gw_flow.specs.declared.state.Param.{Param}
 use Rattle.gw_flow.specs.Entries.{in_place, with_number, with_entry}
 use Rattle.gw_flow.specs.Rows.{Row, ParamKind, KindAscends, IsOrdered, with_parameter, with_facility, without_facility, with_units, nonzero}
-use Rattle.gw_flow.specs.Seen.{row_blocks, kind_seen, kind_said, PartsAscend, known, seen}
+use Rattle.gw_flow.specs.Seen.{row_blocks, kind_seen, kind_said, PartsAscend, known, row_meaning}
 use Rattle.gw_flow.specs.Viewed.{kind_viewed, viewed}
 use Rattle.gw_flow.proofs.Ascending.{Ascends, All-from_map, AllPairs-map, AllPairs-from_map, ascends_placed}
 
@@ -62,7 +62,7 @@ module _ (rows : List ReturnRow) (up : All AreAscending rows) where
   -- ROWS
 
   -- what a row of the state table says is ordered
-  pub row_ordered : (row : TableState) → IsAscending row → All HeldFits row.units → IsOrdered (seen rows row)
+  pub row_ordered : (row : TableState) → IsAscending row → All HeldFits row.units → IsOrdered (row_meaning rows row)
   row_ordered row h held = record {
     params = AllPairs-map (λ (a b : ℕ × ParamKind). a.0 < b.0) (λ (p : TableParameter). (p.number, kind_said rows p.kind)) row.parameters h.parameters;
     returns = All-map (λ (e : ℕ × ParamKind). KindAscends e.1) (λ (p : TableParameter). (p.number, kind_said rows p.kind)) row.parameters (λ i d within. said_ascends (get_or row.parameters i d).kind);

@@ -19,7 +19,7 @@ use Rattle.gw_flow.specs.declared.abstract_state.Amount.{Amount}
 use Rattle.gw_flow.specs.Entries.{entry, amount_of}
 use Rattle.gw_flow.specs.Rows.{Row, ParamKind, HasRoom, return_blocks}
 use Rattle.gw_flow.specs.Flow.{row_at}
-use Rattle.gw_flow.specs.Seen.{HaveNext, kind_said, params_said, amounts_of, units_seen, seen}
+use Rattle.gw_flow.specs.Seen.{HaveNext, kind_said, params_said, amounts_of, units_seen, row_meaning}
 use Rattle.gw_flow.proofs.Ordered.{row_blocks_keep}
 
 first_or_later : (b : Bool) (n : ℕ) (later : Option ℕ) → n ≤ 2 ^ 62 → unwrap_or later 0 ≤ 2 ^ 62 → unwrap_or (if b then Some n else later) 0 ≤ 2 ^ 62
@@ -57,16 +57,16 @@ returns_have_room rows next (p ∷ ps) q = this_or_later (p.number == q) (kind_s
 -- ROWS
 
 -- a row of an object's table has room
-seen_has_room : (rows : List ReturnRow) → HaveNext rows → (row : TableState) → StateFits row → HasRoom (seen rows row)
+seen_has_room : (rows : List ReturnRow) → HaveNext rows → (row : TableState) → StateFits row → HasRoom (row_meaning rows row)
 seen_has_room rows next row fits = record { amounts = units_have_room row.units fits.each_unit; returns = returns_have_room rows next row.parameters }
 
 module _ (returns : List ReturnRow) (next : HaveNext returns) where
-  this_has_room : (own : Option TableState) (row : Row) → IfSome own StateFits → option_map (seen returns) own ≡ Some row → HasRoom row
+  this_has_room : (own : Option TableState) (row : Row) → IfSome own StateFits → option_map (row_meaning returns) own ≡ Some row → HasRoom row
   this_has_room None row fits is = absurd cc
-  this_has_room (Some own) row fits is = subst HasRoom (ap (λ r. unwrap_or r (seen returns own)) is) (seen_has_room returns next own fits)
+  this_has_room (Some own) row fits is = subst HasRoom (ap (λ r. unwrap_or r (row_meaning returns own)) is) (seen_has_room returns next own fits)
 
   -- and so has the one of each block
-  pub rows_have_room : (states : List (Option TableState)) → All (λ own. IfSome own StateFits) states → (b : ℕ) (row : Row) → row_at (map (option_map (seen returns)) states) b ≡ Some row → HasRoom row
+  pub rows_have_room : (states : List (Option TableState)) → All (λ own. IfSome own StateFits) states → (b : ℕ) (row : Row) → row_at (map (option_map (row_meaning returns)) states) b ≡ Some row → HasRoom row
   rows_have_room states fits zero row is = absurd cc
   rows_have_room [] fits (suc b) row is = absurd cc
   rows_have_room (own ∷ states) fits (suc zero) row is = this_has_room own row (All-head (λ r. IfSome r StateFits) own states fits) is

@@ -12,7 +12,7 @@ use Rattle.gw_object.specs.declared.parts.Parts.{Parts}
 use Rattle.gw_kinds.specs.Evaluated.{operand_at, source_of, is_function_value}
 use Rattle.gw_code_flow.specs.declared.ends.PlusEnd.{PlusEnd}
 use Rattle.gw_code_flow.specs.Environment.{Environment, kept_value}
-use Rattle.gw_code_flow.specs.Made.{made}
+use Rattle.gw_code_flow.specs.Made.{operand_value}
 use Rattle.gw_code_flow.specs.Meaning.{ended_by}
 use Rattle.gw_code_flow.specs.Outcome.{Answer, outcome_of}
 
@@ -85,7 +85,7 @@ source_value p env bound source streams = if_set (kept_value env source) >>= λ 
 
 -- an operand's value, which is made of its source's, and the streams then
 abbrev pub operand_value : Parts → Environment → Operand → List ℕ → Evaluation (ℤ × List ℕ)
-operand_value p env o streams = source_value p env (draws_below o) (source_of p.entities o) streams >>= λ value. Value (made p.entities o value.0, value.1)
+operand_value p env o streams = source_value p env (draws_below o) (source_of p.entities o) streams >>= λ value. Value (operand_value p.entities o value.0, value.1)
 
 -- a time of this mean and half-range, which are evaluated first; where half the range is 0 nothing more is drawn
 abbrev pub drawn_time : Parts → Environment → Spread → List ℕ → Evaluation (ℤ × List ℕ)
@@ -96,24 +96,24 @@ drawn_time p env spread streams =
     Value (time.0, with_first time.1 half.1)
 
 -- the one value that a block has
-abbrev pub alone : ℤ × List ℕ → List ℤ × List ℕ
-alone value = (value.0 ∷ [], value.1)
+abbrev pub single_value : ℤ × List ℕ → List ℤ × List ℕ
+single_value value = (value.0 ∷ [], value.1)
 
 -- the one operand of a block, which a TABULATE of no table lacks
 abbrev pub one_operand : Parts → Environment → Option Operand → List ℕ → Evaluation (List ℤ × List ℕ)
 one_operand p env None streams = Unset
-one_operand p env (Some o) streams = operand_value p env o streams >>= λ value. Value (alone value)
+one_operand p env (Some o) streams = operand_value p env o streams >>= λ value. Value (single_value value)
 
 -- the operand values of a block, and the streams after their draws: at a TABULATE that of its table's argument. A GENERATE's interval is evaluated where an arrival is scheduled: it is the coming transaction's
 abbrev pub operands : Parts → Environment → Block → List ℕ → Evaluation (List ℤ × List ℕ)
 operands p env (blocks.Terminate by) streams = one_operand p env (Some by) streams
-operands p env (blocks.Advance time) streams = drawn_time p env time streams >>= λ time. Value (alone time)
+operands p env (blocks.Advance time) streams = drawn_time p env time streams >>= λ time. Value (single_value time)
 operands p env (blocks.Assign a) streams = one_operand p env (Some a.value) streams
 operands p env (blocks.Test t) streams =
     operand_value p env t.left streams >>= λ left.
     operand_value p env t.right left.1 >>= λ right.
     Value (left.0 ∷ right.0 ∷ [], right.1)
-operands p env (blocks.TransferByFraction f) streams = Value (alone (drawn_thousandths 1 streams))
+operands p env (blocks.TransferByFraction f) streams = Value (single_value (drawn_thousandths 1 streams))
 operands p env (blocks.Savevalue a) streams = one_operand p env (Some a.value) streams
 operands p env (blocks.Priority a) streams = one_operand p env (Some a.value) streams
 operands p env (blocks.Plus a) streams = one_operand p env (Some a.value) streams

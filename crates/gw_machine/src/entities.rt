@@ -9,7 +9,7 @@ ghost use Rattle.gw_entities.specs.Storage.{has_room, entered, left, entering};
 ghost use Rattle.gw_entities.specs.Table.{table_at};
 ghost use Rattle.gw_entities.specs.Tabulation.{tabulating};
 ghost use Rattle.gw_step.specs.Blocks as model;
-ghost use Rattle.gw_step.specs.Blocks.{has_to_wait, turned};
+ghost use Rattle.gw_step.specs.Blocks.{has_to_wait, switch_after};
 ghost use Rattle.gw_step.specs.Changes.{facility, storage, queue, switch, table};
 ghost use Rattle.gw_step.specs.Changes.{put_savevalue, put_table};
 ghost use Rattle.gw_machine.specs.View.{state_of};
@@ -154,7 +154,7 @@ impl Machine {
     pub fn turn_switch(&mut self, logic: Logic)
         requires { logic.switch < length self.old.switches }
         ensures state { state_of self.new
-            ≡ switch_by (turned logic.action) logic.switch (state_of self.old) }
+            ≡ switch_by (switch_after logic.action) logic.switch (state_of self.old) }
         ensures frame { self.new ≡ record self.old { switches = self.new.switches } }
     {
         match logic.action {

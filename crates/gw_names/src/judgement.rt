@@ -1,7 +1,7 @@
 //! Whether what a text uses is there.
 
 ghost use Rattle.std.specs.Prelude.{◌≡◌, map, OnOk, OnErr};
-ghost use Rattle.gw_uses.specs.Sites.{said};
+ghost use Rattle.gw_uses.specs.Sites.{mention_at};
 ghost use Rattle.gw_names.specs.Ledger.{Notes};
 ghost use Rattle.gw_names.specs.Judgement as model;
 ghost use Rattle.gw_names.specs.Judgement.{declared_by, fault_at, refusals_among, refusals_by};
@@ -100,7 +100,7 @@ fn may_call_at(statements: &[Statement], procedure: Option<usize>, line: u32, gi
 
 /// How a use is refused at its place, if it is.
 fn fault_of(known: &Known, statements: &[Statement], site: Site<'_>) -> Option<u16>
-    ensures { result ≡ fault_at (declared_by known.now) statements.now (said site.entry) }
+    ensures { result ≡ fault_at (declared_by known.now) statements.now (mention_at site.entry) }
 {
     match site.used {
         Use::Entity(kind, name) => unless_declared(kind, known.declarations.get(kind, name)),
@@ -121,7 +121,7 @@ fn fault_of(known: &Known, statements: &[Statement], site: Site<'_>) -> Option<u
 /// Judges these uses.
 fn judge(known: &Known, statements: &[Statement], sites: &[Site<'_>], ledger: &mut Ledger)
     ensures { Notes ledger.old ledger.new
-        (refusals_among (declared_by known.now) statements.now (map said sites.now)) }
+        (refusals_among (declared_by known.now) statements.now (map mention_at sites.now)) }
 {
     for i in 0..sites.len() {
         let site = sites[i];

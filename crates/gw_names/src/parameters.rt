@@ -2,7 +2,7 @@
 
 ghost use Rattle.std.specs.Prelude.{◌≡◌, ◌<◌, ◌++◌, None, Some, length, map, slice_get, OnOk, IfOk, string_bytes};
 ghost use Rattle.gw_uses.specs.Mentions.{mention};
-ghost use Rattle.gw_uses.specs.Sites.{said};
+ghost use Rattle.gw_uses.specs.Sites.{mention_at};
 ghost use Rattle.gw_names.specs.Known.{found_in};
 ghost use Rattle.gw_names.specs.Ledger.{Notes};
 ghost use Rattle.gw_names.specs.Sights as model;
@@ -33,7 +33,7 @@ fn uses_number(used: Use<'_>, number: u8) -> bool
 
 /// Whether a text uses the parameter of this number.
 fn is_used(sites: &[Site<'_>], number: u8) -> bool
-    ensures { result ≡ model.is_used (map said sites.now) number }
+    ensures { result ≡ model.is_used (map mention_at sites.now) number }
 {
     for i in 0..sites.len() {
         let site = sites[i];
@@ -59,7 +59,7 @@ fn put_free(free: &mut Vec<u8>, is_used: bool, number: u8) -> Result<(), AllocEr
 
 /// The numbers from 1 to 64 that a text doesn't use, ascending.
 fn free_numbers(alloc: Global, sites: &[Site<'_>]) -> Result<Vec<u8>, AllocError>
-    ensures { IfOk result (λ free. free.items ≡ model.free_numbers (map said sites.now)) }
+    ensures { IfOk result (λ free. free.items ≡ model.free_numbers (map mention_at sites.now)) }
 {
     let mut free = Vec::new(alloc);
     for below in 0..MOST_PARAMETERS {
@@ -145,9 +145,9 @@ fn see_sites(
     requires given { HaveNumbers free.now parameters.old }
     ensures given { OnOk result (HaveNumbers free.now parameters.new) }
     ensures names { OnOk result (names_of parameters.new
-        ≡ parameters_after free.now (names_of parameters.old) (map said sites.now)) }
+        ≡ parameters_after free.now (names_of parameters.old) (map mention_at sites.now)) }
     ensures ledger { OnOk result (Notes ledger.old ledger.new
-        (parameter_limits_after free.now (names_of parameters.old) (map said sites.now))) }
+        (parameter_limits_after free.now (names_of parameters.old) (map mention_at sites.now))) }
 {
     for i in 0..sites.len() {
         let site = sites[i];
@@ -163,10 +163,10 @@ pub(crate) fn parameters_in(
     sites: &[Site<'_>],
     ledger: &mut Ledger,
 ) -> Result<IndexMap<String, u8>, AllocError>
-    ensures given { IfOk result (HaveNumbers (model.free_numbers (map said sites.now))) }
-    ensures names { IfOk result (λ ps. names_of ps ≡ parameters_among (map said sites.now)) }
+    ensures given { IfOk result (HaveNumbers (model.free_numbers (map mention_at sites.now))) }
+    ensures names { IfOk result (λ ps. names_of ps ≡ parameters_among (map mention_at sites.now)) }
     ensures ledger { OnOk result (Notes ledger.old ledger.new
-        (parameter_limits_among (map said sites.now))) }
+        (parameter_limits_among (map mention_at sites.now))) }
 {
     let free = free_numbers(alloc, sites)?;
     let mut parameters = IndexMap::new(alloc);

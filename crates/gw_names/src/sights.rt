@@ -2,7 +2,7 @@
 
 ghost use Rattle.std.specs.Prelude.{◌≡◌, ◌<◌, None, length, map, OnOk, IfOk, string_bytes};
 ghost use Rattle.gw_uses.specs.Mentions.{mention};
-ghost use Rattle.gw_uses.specs.Sites.{said};
+ghost use Rattle.gw_uses.specs.Sites.{mention_at};
 ghost use Rattle.gw_names.specs.Known.{key, entity_of};
 ghost use Rattle.gw_names.specs.Ledger.{Notes};
 ghost use Rattle.gw_names.specs.Sights.{with_entity, with_entity_in, entities_after};
@@ -129,9 +129,9 @@ pub(crate) fn see_sites(
     requires sighted { IsSighted declarations.now entities.old sighted.old.items }
     ensures sighted { OnOk result (IsSighted declarations.now entities.new sighted.new.items) }
     ensures keys { OnOk result (keys_of sighted.new.items
-        ≡ entities_after (keys_of sighted.old.items) (map said sites.now)) }
+        ≡ entities_after (keys_of sighted.old.items) (map mention_at sites.now)) }
     ensures ledger { OnOk result (Notes ledger.old ledger.new
-        (entity_limits_after (keys_of sighted.old.items) (map said sites.now))) }
+        (entity_limits_after (keys_of sighted.old.items) (map mention_at sites.now))) }
 {
     for i in 0..sites.len() {
         let site = sites[i];

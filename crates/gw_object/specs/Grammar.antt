@@ -12,7 +12,7 @@ use Rattle.gw_object.specs.declared.parts.TableParameter.{TableParameter}
 use Rattle.gw_object.specs.declared.parts.TableState.{TableState}
 use Rattle.gw_object.specs.declared.parts.ReturnRow.{ReturnRow}
 use Rattle.gw_object.specs.declared.parts.Parts.{Parts}
-use Rattle.gw_fields.specs.Fields.{Read, Field, number, made, both, and_then, constant, fitting, ranged, optional, Form, behind, by_tag, nothing, Element, plain, last_tested, ascending, above_last, elements, listed}
+use Rattle.gw_fields.specs.Fields.{Read, Field, number, as_type, both, and_then, constant, fitting, ranged, optional, Form, behind, by_tag, nothing, Element, plain, last_tested, ascending, above_last, elements, listed}
 use Rattle.gw_code.specs.Grammar.{ProcedureFits, NeedsAscend, procedure}
 use Rattle.gw_object.specs.Entities.{entity, EntityFits, EntityAscends, IsLettered, AreNamesakes, chains_in}
 use Rattle.gw_blocks.specs.Grammar.{entity_number, block_number, parameter_number, BlockFits, block}
@@ -35,7 +35,7 @@ AreAscending row = AllPairs (λ a b. a < b) row.blocks
 
 -- a return row: at least one block
 unfoldable pub return_row : Field ReturnRow
-return_row = fitting (λ row. ReturnRowFits row × AreAscending row) (made (λ blocks. record { blocks = blocks }) (λ row. row.blocks) (listed 1 most_blocks returned))
+return_row = fitting (λ row. ReturnRowFits row × AreAscending row) (as_type (λ blocks. record { blocks = blocks }) (λ row. row.blocks) (listed 1 most_blocks returned))
 
 -- a return row's number
 abbrev pub row_number : Field ℕ
@@ -103,7 +103,7 @@ pub record IsAscending (s : TableState) : Type 0 where
 
 -- parameters, facilities and units
 unfoldable pub state : Field TableState
-state = fitting (λ s. StateFits s × IsAscending s) (made
+state = fitting (λ s. StateFits s × IsAscending s) (as_type
     (λ (parameters, (facilities, units)). record { parameters = parameters; facilities = facilities; units = units })
     (λ s. (s.parameters, (s.facilities, s.units)))
     (both (listed 0 most_parameters parameter) (both (listed 0 most_entities owned) (listed 0 most_entities held))))
@@ -140,7 +140,7 @@ start_count = ranged 1 greatest_count (number w64)
 
 -- the head, seeds, termination count, entities, procedures, blocks, and what stands for each block and each user chain
 unfoldable pub object : Field Parts
-object = made
+object = as_type
     (λ (_, (seeds, (count, (entities, (procedures, (blocks, (returns, (states, (chain_states, (weights, chain_weights)))))))))). record { seeds = seeds; count = count; entities = entities; procedures = procedures; blocks = blocks; returns = returns; states = states; chain_states = chain_states; weights = weights; chain_weights = chain_weights })
     (λ p. ((tt, tt), (p.seeds, (p.count, (p.entities, (p.procedures, (p.blocks, (p.returns, (p.states, (p.chain_states, (p.weights, p.chain_weights)))))))))))
     (both head (both (listed 0 most_seeds seed) (both start_count (and_then (listed 0 most_entities entity) (λ entities. both (listed 0 most_procedures (plain procedure))

@@ -9,7 +9,7 @@ use Rattle.gw_blocks.specs.declared.parts.Plus.{Plus}
 use Rattle.gw_blocks.specs.declared.parts.Block.TheVariants as blocks
 use Rattle.gw_object.specs.declared.parts.Parts.{Parts}
 use Rattle.gw_kinds.specs.Evaluated.{operand_at}
-use Rattle.gw_flow.specs.Values.{Evaluation, Value, Fails, Unset, ◌>>=◌ as ◌then◌, operand_value, one_operand, drawn_time, alone}
+use Rattle.gw_flow.specs.Values.{Evaluation, Value, Fails, Unset, ◌>>=◌ as ◌then◌, operand_value, one_operand, drawn_time, single_value}
 use Rattle.gw_transactions.specs.declared.Transaction.{Transaction}
 use Rattle.gw_step.specs.Outcome.{Outcome, Gives, EndsBy, HasNoCase, ◌>>=◌, evaluated}
 use Rattle.gw_step.specs.State.{State, with_streams}
@@ -69,6 +69,6 @@ module _ (p : Parts) (n : ℕ) (t : Transaction) (s : State) where
   pub act-advance : (time : Spread) (o : Outcome (ℤ × List ℕ)) → drawn_moment p (environment_of n t s) time s.clock s.streams ≡ o → act p n t (blocks.Advance time) s ≡ (o >>= advanced)
   unfolding act effect
   act-advance time o is =
-      one-value (drawn_time p (environment_of n t s) time s.streams) alone (λ read. meets p n t (blocks.Advance time) read.0 (with_streams read.1 s))
+      one-value (drawn_time p (environment_of n t s) time s.streams) single_value (λ read. meets p n t (blocks.Advance time) read.0 (with_streams read.1 s))
       ∙ resting (evaluated (drawn_time p (environment_of n t s) time s.streams))
       ∙ ap (λ x. x >>= advanced) is

@@ -17,7 +17,7 @@ use Rattle.gw_kinds.specs.Kinds.{is_call_at, chain_place, chain_row}
 use Rattle.gw_kinds.specs.Pass.{KindsPass}
 use Rattle.gw_flow.specs.declared.edges.Target.TheVariants as targets
 use Rattle.gw_flow.specs.Rows.{Row, ParamKind, Num, Ret}
-use Rattle.gw_flow.specs.Seen.{seen}
+use Rattle.gw_flow.specs.Seen.{row_meaning}
 use Rattle.gw_flow.specs.Flow.{own_table, flow_checks, FlowPasses}
 use Rattle.gw_flow.proofs.Ascending.{All-from_map}
 use Rattle.gw_settle.specs.declared.written.Written.{Written}
@@ -65,18 +65,18 @@ all_from_at : (P : Row → Type 0) (rows : List (Option Row)) → ((k : ℕ) →
 all_from_at P [] h = All-nil (λ r. IfSome r P)
 all_from_at P (row ∷ rows) h = All-cons (λ r. IfSome r P) row rows (h zero) (all_from_at P rows (λ k. h (suc k)))
 
-one_well : (es : List Entity) (returns : List ReturnRow) (n : ℕ) (o : Option TableState) → IfSome (option_map (seen returns) o) (IsNamed es) → IfSome o (NamesRows n) → IfSome o (IsRowWell es n)
+one_well : (es : List Entity) (returns : List ReturnRow) (n : ℕ) (o : Option TableState) → IfSome (option_map (row_meaning returns) o) (IsNamed es) → IfSome o (NamesRows n) → IfSome o (IsRowWell es n)
 one_well es returns n None h g = tt
 one_well es returns n (Some state) h g = written_well es returns n state h g
 
-list_well : (es : List Entity) (returns : List ReturnRow) (n : ℕ) (states : List (Option TableState)) → All (λ r. IfSome r (IsNamed es)) (map (option_map (seen returns)) states) → All (λ s. IfSome s (NamesRows n)) states → All (λ s. IfSome s (IsRowWell es n)) states
+list_well : (es : List Entity) (returns : List ReturnRow) (n : ℕ) (states : List (Option TableState)) → All (λ r. IfSome r (IsNamed es)) (map (option_map (row_meaning returns)) states) → All (λ s. IfSome s (NamesRows n)) states → All (λ s. IfSome s (IsRowWell es n)) states
 list_well es returns n [] h g = All-nil (λ s. IfSome s (IsRowWell es n))
 list_well es returns n (s ∷ states) h g =
     All-cons (λ s. IfSome s (IsRowWell es n)) s states
-    (one_well es returns n s (All-head (λ r. IfSome r (IsNamed es)) (option_map (seen returns) s) (map (option_map (seen returns)) states) h) (All-head (λ s. IfSome s (NamesRows n)) s states g))
-    (list_well es returns n states (All-tail (λ r. IfSome r (IsNamed es)) (option_map (seen returns) s) (map (option_map (seen returns)) states) h) (All-tail (λ s. IfSome s (NamesRows n)) s states g))
+    (one_well es returns n s (All-head (λ r. IfSome r (IsNamed es)) (option_map (row_meaning returns) s) (map (option_map (row_meaning returns)) states) h) (All-head (λ s. IfSome s (NamesRows n)) s states g))
+    (list_well es returns n states (All-tail (λ r. IfSome r (IsNamed es)) (option_map (row_meaning returns) s) (map (option_map (row_meaning returns)) states) h) (All-tail (λ s. IfSome s (NamesRows n)) s states g))
 
-at_map : (returns : List ReturnRow) (states : List (Option TableState)) (k : ℕ) → option_flatten (slice_get (map (option_map (seen returns)) states) k) ≡ option_map (seen returns) (option_flatten (slice_get states k))
+at_map : (returns : List ReturnRow) (states : List (Option TableState)) (k : ℕ) → option_flatten (slice_get (map (option_map (row_meaning returns)) states) k) ≡ option_map (row_meaning returns) (option_flatten (slice_get states k))
 at_map returns [] k = refl
 at_map returns (s ∷ states) zero = refl
 at_map returns (s ∷ states) (suc k) = at_map returns states k
@@ -101,7 +101,7 @@ module _ (p : Parts) (w : Written) (well : IsWell p) (t : IsTableOf p w) where
   chain_rows : (e : ℕ) → IfSome (chain_row q e) (IsRowWell p.entities (length w.returns))
   chain_rows e =
       let k = chain_place p.entities e in
-      let named : IfSome (option_map (seen w.returns) (option_flatten (slice_get w.chain_states k))) (IsNamed p.entities) =
+      let named : IfSome (option_map (row_meaning w.returns) (option_flatten (slice_get w.chain_states k))) (IsNamed p.entities) =
       subst (λ o. IfSome o (IsNamed p.entities)) (ap (λ (rows : List (Option Row)). option_flatten (slice_get rows k)) (sym t.says.chains) ∙ at_map w.returns w.chain_states k) (t.kept.named (targets.Chain e)) in
       one_well p.entities w.returns (length w.returns) (option_flatten (slice_get w.chain_states k)) named (all_at (NamesRows (length w.returns)) w.chain_states k t.says.chain_numbers)
 

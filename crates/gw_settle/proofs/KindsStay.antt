@@ -26,7 +26,7 @@ use Rattle.gw_kinds.specs.Laws.{IsEntity}
 use Rattle.gw_kinds.specs.Procedures.{procedure_checks}
 use Rattle.gw_kinds.specs.Pass.{kinds_checks, KindsPass}
 use Rattle.gw_kinds.proofs.Broken.{first, first_broken-append}
-use Rattle.gw_flow.specs.Seen.{seen}
+use Rattle.gw_flow.specs.Seen.{row_meaning}
 use Rattle.gw_flow.proofs.Ascending.{All-from_map}
 use Rattle.gw_settle.specs.Keeps.{IsNamed}
 use Rattle.gw_settle.specs.Written.{NamesRows}
@@ -139,7 +139,7 @@ kinds_with p returns states chain_states passes calls rows chains =
     (hold_both new_chains bs (chains_hold q chains 0 p.entities) five.1))))
 
 -- a row that was written of one whose entities are of the right kinds is well
-pub written_well : (es : List Entity) (returns : List ReturnRow) (n : ℕ) (state : TableState) → IsNamed es (seen returns state) → NamesRows n state → IsRowWell es n state
+pub written_well : (es : List Entity) (returns : List ReturnRow) (n : ℕ) (state : TableState) → IsNamed es (row_meaning returns state) → NamesRows n state → IsRowWell es n state
 written_well es returns n state h numbers = record {
   entities = All-append (IsEntity es) (map (needs Facility) state.facilities) (map (λ (u : Units). needs StorageOrQueue u.entity) state.units)
       (All-map (IsEntity es) (needs Facility) state.facilities h.facilities)

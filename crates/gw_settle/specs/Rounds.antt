@@ -12,7 +12,7 @@ use Rattle.gw_flow.specs.declared.edges.Target.{Target}
 use Rattle.gw_flow.specs.declared.edges.Target.TheVariants as targets
 use Rattle.gw_flow.specs.declared.edges.FlowEdge.{FlowEdge}
 use Rattle.gw_flow.specs.Rows.{Row, nothing_known}
-use Rattle.gw_flow.specs.Seen.{seen}
+use Rattle.gw_flow.specs.Seen.{row_meaning}
 use Rattle.gw_flow.specs.Blocks.{Table, Rule, rules, members_move, edges}
 use Rattle.gw_flow.specs.Flow.{table_of}
 use Rattle.gw_settle.specs.declared.table.Change.{Change}
@@ -34,7 +34,7 @@ as_table p rows = table_of rows.blocks p.entities rows.chains
 
 -- the rows of an object's own table
 abbrev pub own_rows : Parts → TableRows
-own_rows p = record { blocks = map (option_map (seen p.returns)) p.states; chains = map (option_map (seen p.returns)) p.chain_states }
+own_rows p = record { blocks = map (option_map (row_meaning p.returns)) p.states; chains = map (option_map (row_meaning p.returns)) p.chain_states }
 
 -- A VISIT
 

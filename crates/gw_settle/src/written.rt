@@ -5,7 +5,7 @@ ghost use Rattle.std.specs.List.{list_any};
 ghost use Rattle.std.specs.Cmp.Lexicographic.{pointwise};
 ghost use Rattle.gw_object.specs.declared.parts.TableParameter.{TableParameter as DeclaredParameter};
 ghost use Rattle.gw_kinds.specs.Kinds.{return_row_of};
-ghost use Rattle.gw_flow.specs.Seen.{row_blocks, kind_said, params_said, units_seen, amounts_of, seen};
+ghost use Rattle.gw_flow.specs.Seen.{row_blocks, kind_said, params_said, units_seen, amounts_of, row_meaning};
 ghost use Rattle.gw_settle.specs.Known.{kind_known, params_known};
 ghost use Rattle.gw_settle.specs.Numbers as numbers;
 ghost use Rattle.gw_settle.specs.Numbers.{sets_of};
@@ -194,7 +194,7 @@ fn units_written(alloc: Global, units: &[Amount]) -> Result<Vec<Units>, Stop>
 /// A row of a state table, by the return rows.
 fn row_written(alloc: Global, returns: &[ReturnRow], row: &Known) -> Result<TableState, Stop>
     requires { length returns.now ≤ 4096 }
-    ensures seen { IfOk result (λ state. seen returns.now state ≡ row.now) }
+    ensures seen { IfOk result (λ state. row_meaning returns.now state ≡ row.now) }
     ensures numbers { IfOk result (λ state. NamesRows (length returns.now) state) }
 {
     let parameters = params_written(alloc, returns, row.params())?;
@@ -214,7 +214,7 @@ fn state_written(
     row: &Option<Known>,
 ) -> Result<Option<TableState>, Stop>
     requires { length returns.now ≤ 4096 }
-    ensures seen { IfOk result (λ state. option_map (seen returns.now) state ≡ row.now) }
+    ensures seen { IfOk result (λ state. option_map (row_meaning returns.now) state ≡ row.now) }
     ensures numbers { IfOk result (λ state. IfSome state (NamesRows (length returns.now))) }
 {
     match row {
@@ -230,7 +230,7 @@ fn states_written(
     rows: &[Option<Known>],
 ) -> Result<Vec<Option<TableState>>, Stop>
     requires { length returns.now ≤ 4096 }
-    ensures seen { IfOk result (λ all. map (option_map (seen returns.now)) all.items ≡ rows.now) }
+    ensures seen { IfOk result (λ all. map (option_map (row_meaning returns.now)) all.items ≡ rows.now) }
     ensures numbers { IfOk result (λ all. All (λ state. IfSome state (NamesRows (length returns.now))) all.items) }
 {
     let mut all = Vec::with_capacity(alloc, rows.len())?;

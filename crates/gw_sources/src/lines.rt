@@ -2,7 +2,7 @@
 
 ghost use Rattle.std.specs.Prelude.{◌≡◌, ◌++◌, ◌∷◌, [], map, slice_get, OnOk, IfOk, string_bytes};
 ghost use Rattle.gw_uses.specs.Mentions.{mention};
-ghost use Rattle.gw_uses.specs.Sites.{said, mentioned_in};
+ghost use Rattle.gw_uses.specs.Sites.{mention_at, mentioned_in};
 ghost use Rattle.gw_names.specs.Known as known;
 ghost use Rattle.gw_names.specs.Naming.{Knows};
 ghost use Rattle.gw_names.specs.Sights.{entity_in};
@@ -86,7 +86,7 @@ fn is_entity(entity: &Sighted, used: Use<'_>) -> bool
 
 /// The line of the first mention of an entity, or 0.
 fn first_line(sites: &[Site<'_>], entity: &Sighted) -> u32
-    ensures { result ≡ model.first_line (key_of entity.now) (map said sites.now) }
+    ensures { result ≡ model.first_line (key_of entity.now) (map mention_at sites.now) }
 {
     for i in 0..sites.len() {
         let site = sites[i];
@@ -109,7 +109,7 @@ fn line_of(statements: &[Statement], number: usize) -> u32
 
 /// The line of an entity.
 fn entity_line(statements: &[Statement], sites: &[Site<'_>], entity: &Sighted) -> u32
-    requires { map said sites.now ≡ mentioned_in statements.now }
+    requires { map mention_at sites.now ≡ mentioned_in statements.now }
     ensures { result ≡ model.line_by statements.now (key_of entity.now) entity.now.declaration }
 {
     match entity.declaration {
@@ -125,7 +125,7 @@ fn put_entity(
     sites: &[Site<'_>],
     entity: &Sighted,
 ) -> Result<(), Memory>
-    requires { map said sites.now ≡ mentioned_in statements.now }
+    requires { map mention_at sites.now ≡ mentioned_in statements.now }
     ensures { OnOk result (lines.new.items ≡ lines.old.items ++ model.sighted_line statements.now entity.now ∷ []) }
 {
     put(lines, entity_line(statements, sites, entity))
@@ -138,7 +138,7 @@ fn lines_of(
     sites: &[Site<'_>],
     entities: &[Sighted],
 ) -> Result<Vec<u32>, Memory>
-    requires { map said sites.now ≡ mentioned_in statements.now }
+    requires { map mention_at sites.now ≡ mentioned_in statements.now }
     ensures { IfOk result (λ lines. lines.items ≡ map (model.sighted_line statements.now) entities.now) }
 {
     let mut lines = Vec::new(alloc);

@@ -30,7 +30,7 @@ use Rattle.gw_step.specs.Changes.{copied, copies_made, assembled, come_to, leave
 use Rattle.gw_step.specs.declared.placement.Placement.TheVariants.{StaysActive}
 use Rattle.gw_step.specs.Placing.{placed, woken_if_stirred}
 use Rattle.gw_step.specs.Typing.{IsWoken}
-use Rattle.gw_step.specs.Blocks.{refuses, refusal, is_owed, next_arrival, chosen, passes_test, is_so, led_by, block_after, put_by, looped, turned, the_value, plus, split, assembly_at, joined_by_one, first_unlinked, unlinked, taken_by, unlink, assemble_in, assemble, is_priority, effect, then_placed, meets, act}
+use Rattle.gw_step.specs.Blocks.{refuses, refusal, is_owed, next_arrival, chosen, passes_test, is_so, led_by, block_after, put_by, looped, switch_after, the_value, plus, split, assembly_at, joined_by_one, first_unlinked, unlinked, taken_by, unlink, assemble_in, assemble, is_priority, effect, then_placed, meets, act}
 use Rattle.gw_step.specs.Step.{next_event, next_active, scan}
 use Rattle.gw_step.proofs.Outcomes.{OnGives, on_bind, on_test, on_if, on_both, choose, by_option}
 use Rattle.gw_step.proofs.Placed.{Leaves, placed-leaves}
@@ -196,7 +196,7 @@ module _ (s : State) where
       (λ old _. on_bind Entered (evaluated (answered (difference_of old (pos 1)))) _
       (λ left _. on_test Entered (may_enter (block_at p.blocks (looped t.next l.target left))) _ (passed (entered n t (looped t.next l.target left) (assigned n l.parameter left s)) refl refl refl refl)))
   effect_counted p n t (blocks.Logic l) values =
-      on_test Entered (may_enter (block_at p.blocks (t.next + 1))) _ (passed (put_switch l.switch (turned l.action (switch l.switch s)) (enters_and_falls n t s)) refl refl refl refl)
+      on_test Entered (may_enter (block_at p.blocks (t.next + 1))) _ (passed (put_switch l.switch (switch_after l.action (switch l.switch s)) (enters_and_falls n t s)) refl refl refl refl)
   effect_counted p n t (blocks.Savevalue a) values =
       on_bind Entered (evaluated (answered (put_by a.mode (savevalue a.savevalue s) (the_value values)))) _
       (λ new _. on_test Entered (may_enter (block_at p.blocks (t.next + 1))) _ (passed (put_savevalue a.savevalue new (enters_and_falls n t s)) refl refl refl refl))

@@ -19,10 +19,10 @@ use Rattle.gw_kinds.proofs.Sources.{source_holds}
 use Rattle.gw_code_flow.specs.declared.ends.PlusEnd.{PlusEnd}
 use Rattle.gw_code_flow.specs.Environment.{Environment, attribute_value}
 use Rattle.gw_code_flow.specs.Code.{procedure_at, needs_of, asked_by_source, parameters_asked}
-use Rattle.gw_code_flow.specs.Made.{made}
+use Rattle.gw_code_flow.specs.Made.{operand_value}
 use Rattle.gw_code_flow.specs.Outcome.{outcome_of}
 use Rattle.gw_code_flow.specs.Laws.{HasSet, MayBegin}
-use Rattle.gw_flow.specs.Values.{Evaluation, Value, Fails, Unset, ◌>>=◌, answered, stream_at, with_stream, first_stream, with_first, drawn_below, if_set, came_to, draws_below, source_value, operand_value, drawn_time, alone, one_operand, operands as operand_values}
+use Rattle.gw_flow.specs.Values.{Evaluation, Value, Fails, Unset, ◌>>=◌, answered, stream_at, with_stream, first_stream, with_first, drawn_below, if_set, came_to, draws_below, source_value, operand_value, drawn_time, single_value, one_operand, operands as operand_values}
 use Rattle.gw_step.specs.Outcome.{Gives, evaluated}
 use Rattle.gw_step.specs.Times.{moment_after, drawn_moment}
 use Rattle.gw_step.proofs.AtBlock.{is_table}
@@ -99,9 +99,9 @@ module _ (p : Parts) (sound : IsSound p) (env : Environment) where
     of_operand : (o : Operand) (streams : List ℕ) (f : ℤ × List ℕ → Evaluation A) → IsRead p env o → ((d : ℤ × List ℕ) → KeepStreams streams d.1 → Safe P (evaluated (f d))) → Safe P (evaluated (operand_value p env o streams >>= f))
     of_operand o streams f read h =
         let source = source_of p.entities o in
-        let finish : ℤ × List ℕ → Evaluation (ℤ × List ℕ) = λ value. Value (made p.entities o value.0, value.1) in
+        let finish : ℤ × List ℕ → Evaluation (ℤ × List ℕ) = λ value. Value (operand_value p.entities o value.0, value.1) in
         subst (λ e. Safe P (evaluated e)) (sym (in_turn (source_value p env (draws_below o) source streams) finish f))
-        (of_source (draws_below o) source streams (λ value. finish value >>= f) (source_holds p sound.entities o read.holds) read.set (λ d keeps. h (made p.entities o d.0, d.1) keeps))
+        (of_source (draws_below o) source streams (λ value. finish value >>= f) (source_holds p sound.entities o read.holds) read.set (λ d keeps. h (operand_value p.entities o d.0, d.1) keeps))
 
     -- a drawn time, and what comes of it
     of_time : (spread : Spread) (streams : List ℕ) (f : ℤ × List ℕ → Evaluation A) → AreRead p env (spread.mean ∷ spread.half ∷ [])
@@ -120,7 +120,7 @@ module _ (p : Parts) (sound : IsSound p) (env : Environment) where
 
   -- one value of a block
   safe_value : (o : Operand) (streams : List ℕ) → AreRead p env (o ∷ []) → Safe (Read streams) (evaluated (one_operand p env (Some o) streams))
-  safe_value o streams read = of_operand (Read streams) o streams (λ value. Value (alone value)) (All-head (IsRead p env) o [] read) (λ d keeps. keeps)
+  safe_value o streams read = of_operand (Read streams) o streams (λ value. Value (single_value value)) (All-head (IsRead p env) o [] read) (λ d keeps. keeps)
 
   -- two values
   safe_values : (left right : Operand) (streams : List ℕ) → AreRead p env (left ∷ right ∷ []) → Safe (Read streams) (evaluated (operand_value p env left streams >>= λ l. operand_value p env right l.1 >>= λ r. Value (l.0 ∷ r.0 ∷ [], r.1)))
@@ -131,7 +131,7 @@ module _ (p : Parts) (sound : IsSound p) (env : Environment) where
   -- the values of a block
   pub safe_operands : (b : ℕ) (block : Block) (streams : List ℕ) → BlockHolds p b block → AreRead p env (evaluated_at p.entities block) → Safe (Read streams) (evaluated (operand_values p env block streams))
   safe_operands b (blocks.Terminate by) streams kinds read = safe_value by streams read
-  safe_operands b (blocks.Advance time) streams kinds read = of_time (Read streams) time streams (λ d. Value (alone d)) read (λ d keeps. keeps)
+  safe_operands b (blocks.Advance time) streams kinds read = of_time (Read streams) time streams (λ d. Value (single_value d)) read (λ d keeps. keeps)
   safe_operands b (blocks.Assign a) streams kinds read = safe_value a.value streams read
   safe_operands b (blocks.Test test) streams kinds read = safe_values test.left test.right streams read
   safe_operands b (blocks.TransferByFraction f) streams kinds read = with_stream_keeps 1 streams (generator.next_after (first_stream streams))

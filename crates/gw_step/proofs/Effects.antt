@@ -57,7 +57,7 @@ use Rattle.gw_step.specs.State.{State, delay_list}
 use Rattle.gw_step.specs.Times.{moment_after, parameters_of}
 use Rattle.gw_step.specs.Changes.{entered, assigned, enters_and_falls, facility, storage, queue, switch, savevalue, table, put_facility, put_storage, put_queue, put_switch, put_savevalue, put_table}
 use Rattle.gw_step.specs.Placing.{placed}
-use Rattle.gw_step.specs.Blocks.{has_to_wait, leads, stays, until, advance, hand_over, release, admission, leave, join_queue, depart, transfer, chosen, passes_test, is_so, led_by, put_by, assign, loop, call, block_after, come_back, plus, mark, turned, logic, save, tabulate, terminate, effect, then_placed, meets}
+use Rattle.gw_step.specs.Blocks.{has_to_wait, leads, stays, until, advance, hand_over, release, admission, leave, join_queue, depart, transfer, chosen, passes_test, is_so, led_by, put_by, assign, loop, call, block_after, come_back, plus, mark, switch_after, logic, save, tabulate, terminate, effect, then_placed, meets}
 use Rattle.gw_step.proofs.Outcomes.{choose, on_when}
 use Rattle.gw_step.proofs.Residence.{at-le-sum}
 use Rattle.gw_step.proofs.Owning.{idle-released}
@@ -462,8 +462,8 @@ module _ (p : Parts) (each_block : (b : ℕ) (block : Block) → block_at p.bloc
       let may = first_may_be_entered p t.next _ [] acts.kinds.exits in
       let below = named_below p.entities (needs needed.Switch l.switch) [] acts.kinds.entities in
       safe_leads p (Enters p k s n) (t.next + 1) _ may
-      (just_goes p s n t (blocks.Logic l) row acts k (t.next + 1) row (put_switch l.switch (turned l.action (switch l.switch s)) s).entities (λ q. refl) (at_first _ []) may
-      (balanced-switch p n l.switch (turned l.action (switch l.switch s)) row s.entities below) (falls_paid p s n t (blocks.Logic l) row acts Falls [] refl 0))
+      (just_goes p s n t (blocks.Logic l) row acts k (t.next + 1) row (put_switch l.switch (switch_after l.action (switch l.switch s)) s).entities (λ q. refl) (at_first _ []) may
+      (balanced-switch p n l.switch (switch_after l.action (switch l.switch s)) row s.entities below) (falls_paid p s n t (blocks.Logic l) row acts Falls [] refl 0))
 
   pub safe_save : (a : Save) (value : ℤ) (row : Row) → Acts p s n t (blocks.Savevalue a) row → Safe (Enters p k s n) (save p.blocks n t a value s)
   safe_save a value row acts =

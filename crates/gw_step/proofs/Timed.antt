@@ -15,7 +15,7 @@ use Rattle.gw_num.specs.Generator as generator
 use Rattle.gw_num.proofs.Draws.{times_lie_within}
 use Rattle.gw_kinds.specs.Exits.{takes_time}
 use Rattle.gw_code_flow.specs.Environment.{Environment}
-use Rattle.gw_flow.specs.Values.{Evaluation, Value, Fails, Unset, ◌>>=◌, answered, first_stream, with_first, drawn_time, alone, operands as operand_values}
+use Rattle.gw_flow.specs.Values.{Evaluation, Value, Fails, Unset, ◌>>=◌, answered, first_stream, with_first, drawn_time, single_value, operands as operand_values}
 use Rattle.gw_step.specs.declared.ends.End.TheVariants.{NegativeTime}
 use Rattle.gw_step.specs.Outcome.{EndsBy, evaluated}
 use Rattle.gw_step.specs.Times.{moment_after, drawn_moment}
@@ -71,7 +71,7 @@ TellsTime block values = Unit {0}
 pub values_tell : (p : Parts) (env : Environment) (block : Block) (streams : List ℕ) → OnGives (λ (read : List ℤ × List ℕ). TellsTime block read.0) (evaluated (operand_values p env block streams))
 values_tell p env (blocks.Advance time) streams = by_time (drawn_time p env time streams) (drawn_passes p env streams time)
   where
-    by_time : (e : Evaluation (ℤ × List ℕ)) → OnGives (λ (d : ℤ × List ℕ). takes_time time.mean time.half ≡ true → pos 0 <ℤ d.0) (evaluated e) → OnGives (λ (read : List ℤ × List ℕ). takes_time time.mean time.half ≡ true → pos 0 <ℤ the_value read.0) (evaluated (e >>= λ d. Value (alone d)))
+    by_time : (e : Evaluation (ℤ × List ℕ)) → OnGives (λ (d : ℤ × List ℕ). takes_time time.mean time.half ≡ true → pos 0 <ℤ d.0) (evaluated e) → OnGives (λ (read : List ℤ × List ℕ). takes_time time.mean time.half ≡ true → pos 0 <ℤ the_value read.0) (evaluated (e >>= λ d. Value (single_value d)))
     by_time (Value d) h = h
     by_time (Fails end) h = tt
     by_time Unset h = tt

@@ -368,14 +368,14 @@ buffer bs n t s = leads bs (t.next + 1) (Gives (enters_and_falls n t s, RestsBeh
 -- LOGIC SWITCHES, SAVEVALUES AND TABLES
 
 -- what becomes of a logic switch
-abbrev pub turned : SwitchAction → Bool → Bool
-turned switches.Set on = true
-turned switches.Reset on = false
-turned switches.Invert on = not on
+abbrev pub switch_after : SwitchAction → Bool → Bool
+switch_after switches.Set on = true
+switch_after switches.Reset on = false
+switch_after switches.Invert on = not on
 
 -- the effect of LOGIC: the transaction enters, and the logic switch is set, reset or inverted
 abbrev pub logic : List Block → ℕ → Transaction → Logic → State → Outcome (State × Placement)
-logic bs n t l s = leads bs (t.next + 1) (stays (put_switch l.switch (turned l.action (switch l.switch s)) (enters_and_falls n t s)))
+logic bs n t l s = leads bs (t.next + 1) (stays (put_switch l.switch (switch_after l.action (switch l.switch s)) (enters_and_falls n t s)))
 
 -- the effect of SAVEVALUE: the transaction enters, and the savevalue has another value
 abbrev pub save : List Block → ℕ → Transaction → Save → ℤ → State → Outcome (State × Placement)

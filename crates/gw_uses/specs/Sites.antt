@@ -20,12 +20,12 @@ abbrev pub at_place : ℕ → ℕ → Mention → Mentioned
 at_place statement line what = record { statement = statement; line = line; what = what }
 
 -- what a site says
-abbrev pub said : Site → Mentioned
-said site = at_place site.statement site.line (mention site.used)
+abbrev pub mention_at : Site → Mentioned
+mention_at site = at_place site.statement site.line (mention site.used)
 
 -- where there is memory, sites go on with what is mentioned here
 abbrev pub PutsSites : {A E : Type 0} → Result A E → Vec Site Global → Vec Site Global → List Mentioned → Type 0
-PutsSites result old new more = OnOk result (map said new.items ≡ map said old.items ++ more)
+PutsSites result old new more = OnOk result (map mention_at new.items ≡ map mention_at old.items ++ more)
 
 -- all these at one place
 abbrev pub all_at : ℕ → ℕ → List Mention → List Mentioned

@@ -2,7 +2,7 @@
 
 ghost use Rattle.std.specs.Prelude.{◌≡◌, ◌∷◌, [], map, IfOk};
 ghost use Rattle.gw_uses.specs.Mentions.{mentions};
-ghost use Rattle.gw_uses.specs.Sites.{PutsSites, said, all_at, mentioned_by, mentioned_in};
+ghost use Rattle.gw_uses.specs.Sites.{PutsSites, mention_at, all_at, mentioned_by, mentioned_in};
 
 use crate::statements::put_uses;
 use crate::uses::Use;
@@ -43,7 +43,7 @@ fn put_sites<'a>(
 
 /// One more.
 fn put_site<'a>(sites: &mut Vec<Site<'a>>, site: Site<'a>) -> Result<(), AllocError>
-    ensures { PutsSites result sites.old sites.new (said site.entry ∷ []) }
+    ensures { PutsSites result sites.old sites.new (mention_at site.entry ∷ []) }
 {
     match sites.push(site) {
         Ok(()) => Ok(()),
@@ -67,7 +67,7 @@ fn put_sites_of<'a>(
 
 /// All uses of a text, in its order.
 pub fn uses_in<'a>(alloc: Global, statements: &'a [Statement]) -> Result<Vec<Site<'a>>, AllocError>
-    ensures { IfOk result (λ sites. map said sites.items ≡ mentioned_in statements.now) }
+    ensures { IfOk result (λ sites. map mention_at sites.items ≡ mentioned_in statements.now) }
 {
     let mut sites = Vec::new(alloc);
     for i in 0..statements.len() {

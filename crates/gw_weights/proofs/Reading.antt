@@ -8,12 +8,12 @@ use Rattle.gw_object.specs.declared.parts.TableParameter.{TableParameter}
 use Rattle.gw_object.specs.declared.parts.TableState.{TableState}
 use Rattle.gw_object.specs.declared.parts.ReturnRow.{ReturnRow}
 use Rattle.gw_flow.specs.Rows.{Row, kind_of}
-use Rattle.gw_flow.specs.Seen.{seen, kind_said}
+use Rattle.gw_flow.specs.Seen.{row_meaning, kind_said}
 use Rattle.gw_flow.specs.Flow.{row_at}
 use Rattle.gw_flow.proofs.Entries.{entry-of_key}
 
 -- what a row says of a parameter is what the first of its parameters of that number says
-pub kind_read : (rows : List ReturnRow) (row : TableState) (q : ℕ) → kind_of (seen rows row) q ≡ option_map (λ (set : TableParameter). kind_said rows set.kind) (find (λ (set : TableParameter). set.number == q) row.parameters)
+pub kind_read : (rows : List ReturnRow) (row : TableState) (q : ℕ) → kind_of (row_meaning rows row) q ≡ option_map (λ (set : TableParameter). kind_said rows set.kind) (find (λ (set : TableParameter). set.number == q) row.parameters)
 kind_read rows row q = sym (entry-of_key (λ (set : TableParameter). set.number) (λ (set : TableParameter). kind_said rows set.kind) q row.parameters)
 
 flat_seen : (see : TableState → Row) (row : Option (Option TableState)) → option_flatten (option_map (option_map see) row) ≡ option_map see (option_flatten row)

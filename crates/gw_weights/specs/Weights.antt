@@ -16,7 +16,7 @@ use Rattle.gw_kinds.specs.declared.ways.Exit.{Exit}
 use Rattle.gw_flow.specs.declared.edges.Target.{Target}
 use Rattle.gw_flow.specs.declared.edges.Target.TheVariants as targets
 use Rattle.gw_flow.specs.Rows.{Row}
-use Rattle.gw_flow.specs.Seen.{seen}
+use Rattle.gw_flow.specs.Seen.{row_meaning}
 use Rattle.gw_flow.specs.Blocks.{is_used, returns_read}
 use Rattle.gw_flow.specs.Flow.{own_table, own_row}
 use Rattle.gw_weights.specs.Codes as codes
@@ -88,11 +88,11 @@ row_checks p b block (Some row) = chain_checks p b block ++ own_exits_checks p b
 
 -- in this row of the state table: its exits
 abbrev pub exits_checks_in : Parts → ℕ → Block → TableState → List Check
-exits_checks_in p b block row = own_exits_checks p b block (seen p.returns row)
+exits_checks_in p b block row = own_exits_checks p b block (row_meaning p.returns row)
 
 -- and all that is checked of it there
 abbrev pub row_checks_in : Parts → ℕ → Block → TableState → List Check
-row_checks_in p b block row = row_checks p b block (Some (seen p.returns row))
+row_checks_in p b block row = row_checks p b block (Some (row_meaning p.returns row))
 
 -- the checks of the block of number b
 abbrev pub checks_at : Parts → ℕ → Block → List Check

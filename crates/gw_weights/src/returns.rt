@@ -3,7 +3,7 @@
 ghost use Rattle.std.specs.Prelude.{◌≡◌, ◌==◌, Some};
 ghost use Rattle.std.specs.List.{find};
 ghost use Rattle.gw_flow.specs.Rows.{kind_of, return_blocks};
-ghost use Rattle.gw_flow.specs.Seen.{seen, kind_said, row_blocks};
+ghost use Rattle.gw_flow.specs.Seen.{row_meaning, kind_said, row_blocks};
 
 use gw_object::{ReturnRow, TableKind, TableParameter, TableState};
 
@@ -42,7 +42,7 @@ fn parameter_of(parameters: &[TableParameter], number: u8) -> Option<TableParame
 /// The blocks to one of which this parameter returns by a row of the state table, if that says that it holds a return
 /// (ours: docs/object-format.md).
 pub fn blocks_read<'a>(returns: &'a [ReturnRow], row: &TableState, parameter: u8) -> &'a [u16]
-    ensures { result.now ≡ return_blocks (kind_of (seen returns.now row.now) parameter) }
+    ensures { result.now ≡ return_blocks (kind_of (row_meaning returns.now row.now) parameter) }
 {
     match parameter_of(row.parameters.as_slice(), parameter) {
         Some(set) => blocks_of_kind(returns, set.kind),

@@ -1,8 +1,8 @@
 use Rattle.std.proofs.Common.{◌≡◌, List, map, take, option_map}
 use Rattle.gw_object.specs.declared.parts.ReturnRow.{ReturnRow}
-use Rattle.gw_flow.specs.Seen.{seen, known}
+use Rattle.gw_flow.specs.Seen.{row_meaning, known}
 use Rattle.gw_flow.proofs.table.own_rows.Given as goal
 
 -- the rows so far say what those of the states so far say
 abbrev pub invariant-loop-state : goal.invariant-loop-state
-invariant-loop-state l = (returns : List ReturnRow) → map (option_map (known returns)) l.rows.items ≡ map (option_map (seen returns)) (take l.state-index l.states)
+invariant-loop-state l = (returns : List ReturnRow) → map (option_map (known returns)) l.rows.items ≡ map (option_map (row_meaning returns)) (take l.state-index l.states)

@@ -1,5 +1,5 @@
 use Rattle.std.proofs.Common.{◌≡◌, [], map, sym, ap, ◌∙◌}
-use Rattle.gw_uses.specs.Sites.{said, mentioned_in}
+use Rattle.gw_uses.specs.Sites.{mention_at, mentioned_in}
 use Rattle.gw_names.specs.Ledger.{with_notes}
 use Rattle.gw_names.specs.Sights.{entity_limits_after, parameter_limits_among}
 use Rattle.gw_names.specs.Sighting.{keys_of}
@@ -8,9 +8,9 @@ use Rattle.gw_names.proofs.known.see_all.Goals as goal
 
 pub returns-clause-ledger : goal.returns-clause-ledger
 returns-clause-ledger c =
-    let ms = map said c.as_slice.result.now in
-    let is : ms ≡ mentioned_in c.args.statements.now = ap (map said) c.as_slice.ensures.value ∙ c.in_ok-sites.ensures in
-    let again : map said c.as_slice-2.result.now ≡ ms = ap (map said) (c.as_slice-2.ensures.value ∙ sym c.as_slice.ensures.value) in
+    let ms = map mention_at c.as_slice.result.now in
+    let is : ms ≡ mentioned_in c.args.statements.now = ap (map mention_at) c.as_slice.ensures.value ∙ c.in_ok-sites.ensures in
+    let again : map mention_at c.as_slice-2.result.now ≡ ms = ap (map mention_at) (c.as_slice-2.ensures.value ∙ sym c.as_slice.ensures.value) in
     let before = c.args.ledger.now.least in
     let between = c.see_sites.new.ledger.least in
     let first : between ≡ with_notes before (entity_limits_after [] ms) =

@@ -1,7 +1,7 @@
 use Rattle.std.proofs.Common.{◌≡◌, ◌<◌, ◌≤ℤ◌, ◌+◌, ◌-◌, arith, ap, sym, length-drop, subst, length}
 use Rattle.std.proofs.lemmas.List.Quantifiers.{all_pairs_remove}
 use Rattle.gw_chains.specs.declared.tx.Member.{Member}
-use Rattle.gw_chains.specs.Lists.{turned}
+use Rattle.gw_chains.specs.Lists.{rotation}
 use Rattle.gw_chains.specs.Chain.{IsByPriority}
 use Rattle.gw_chains.proofs.Turning.{taken, length-turned}
 use Rattle.gw_chains.proofs.plain.DelayList.take.Goals as goal
@@ -15,7 +15,7 @@ invariant_of-self c =
     let fewer : c.pop_front.new.self.len + 1 ≡ ring.len = omega (arith, length-drop 1 ring.items, ap length c.pop_front.ensures.rest, c.pop_front.new.self.ok.0) in (
       omega arith,
       subst (IsByPriority (λ (m : Member). m.priority)) (sym (taken ring.items c.pop_front.new.self.items ring.len c.pop_front.new.self.len place c.pop_front.ensures.rest long fewer within))
-          (all_pairs_remove (λ (x y : Member). y.priority ≤ℤ x.priority) (turned (ring.len - place) ring.items) place (omega (arith, length-turned (ring.len - place) ring.items)) c.self.invariant.1),
+          (all_pairs_remove (λ (x y : Member). y.priority ≤ℤ x.priority) (rotation (ring.len - place) ring.items) place (omega (arith, length-turned (ring.len - place) ring.items)) c.self.invariant.1),
     )
 
 pub returns-clause-members : goal.returns-clause-members
