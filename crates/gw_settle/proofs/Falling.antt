@@ -19,10 +19,10 @@ use Rattle.gw_settle.specs.declared.table.Change.{Change}
 use Rattle.gw_settle.specs.declared.table.Change.TheVariants.{Same, Less, More}
 use Rattle.gw_settle.specs.Joins.{is_within, Within, with_state}
 use Rattle.gw_settle.specs.Rounds.{TableRows, as_table, sent_at, sent_to, sent, all_sent, sends_in, sends, visited_to, change_of, followed_by, changes_of, change_at, change_to}
-use Rattle.gw_settle.specs.Keeps.{sets_return, IsKindGrounded, IsGrounded, absent, IsWell, AreKept, IsIdle, IsIdleAt, IsSettled}
+use Rattle.gw_settle.specs.Keeps.{sets_return, IsKindGrounded, IsGrounded, absent, IsWell, AreSound, IsIdle, IsIdleAt, IsSettled}
 use Rattle.gw_settle.proofs.Size.{BlocksBelow, row_size, join_smaller}
 use Rattle.gw_settle.proofs.Rows.{absent_same, fewer_sent}
-use Rattle.gw_settle.proofs.Kept.{MaySend, may_still, kept_sent, sends_may, visited_keep}
+use Rattle.gw_settle.proofs.Kept.{MaySend, may_still, sound_sent, sends_may, visited_sound}
 
 -- THE MEASURE
 
@@ -96,33 +96,33 @@ falls_if : (p : Parts) (stays : Bool) (e : FlowEdge) (row : Row) (rows : TableRo
 falls_if p true e row rows g is within = same_to p e.state row e.target rows is (rw within refl)
 falls_if p false e row rows g is within = less_to p (length p.blocks + 1) e.state row e.target rows is (rw within (join_smaller (length p.blocks + 1) row e.state (λ q. kind_below p q (kind_of e.state q) (g q)) within))
 
-falls_row : (p : Parts) (e : FlowEdge) (row : Option Row) (rows : TableRows) → AreKept p rows → MaySend p rows e → as_table p rows e.target ≡ row → Falls (length p.blocks + 1) (change_of e.state row) rows (sent p e rows)
-falls_row p e None rows kept may is = fewer_sent p e rows may.enters kept.shape is
-falls_row p e (Some row) rows kept may is = falls_if p (is_within e.state row) e row rows may.grounded is refl
+falls_row : (p : Parts) (e : FlowEdge) (row : Option Row) (rows : TableRows) → AreSound p rows → MaySend p rows e → as_table p rows e.target ≡ row → Falls (length p.blocks + 1) (change_of e.state row) rows (sent p e rows)
+falls_row p e None rows sound may is = fewer_sent p e rows may.enters sound.shape is
+falls_row p e (Some row) rows sound may is = falls_if p (is_within e.state row) e row rows may.grounded is refl
 
-falls_sent : (p : Parts) (e : FlowEdge) (rows : TableRows) → AreKept p rows → MaySend p rows e → Falls (length p.blocks + 1) (change_of e.state (as_table p rows e.target)) rows (sent p e rows)
-falls_sent p e rows kept may = falls_row p e (as_table p rows e.target) rows kept may refl
+falls_sent : (p : Parts) (e : FlowEdge) (rows : TableRows) → AreSound p rows → MaySend p rows e → Falls (length p.blocks + 1) (change_of e.state (as_table p rows e.target)) rows (sent p e rows)
+falls_sent p e rows sound may = falls_row p e (as_table p rows e.target) rows sound may refl
 
 -- SEVERAL
 
 all_still : (p : Parts) (d : FlowEdge) (es : List FlowEdge) (rows : TableRows) → All (MaySend p rows) es → All (MaySend p (sent p d rows)) es
 all_still p d es rows h = λ k e within. may_still p d _ rows (h k e within)
 
-falls_all : (p : Parts) (es : List FlowEdge) (rows : TableRows) → AreKept p rows → All (MaySend p rows) es → Falls (length p.blocks + 1) (changes_of p es rows) rows (all_sent p es rows)
-falls_all p [] rows kept h = refl
-falls_all p (e ∷ es) rows kept h =
+falls_all : (p : Parts) (es : List FlowEdge) (rows : TableRows) → AreSound p rows → All (MaySend p rows) es → Falls (length p.blocks + 1) (changes_of p es rows) rows (all_sent p es rows)
+falls_all p [] rows sound h = refl
+falls_all p (e ∷ es) rows sound h =
     let may = All-head (MaySend p rows) e es h in
     falls_on (length p.blocks + 1) (change_of e.state (as_table p rows e.target)) (changes_of p es (sent p e rows)) rows (sent p e rows) (all_sent p es (sent p e rows))
-    (falls_sent p e rows kept may)
-    (falls_all p es (sent p e rows) (kept_sent p e rows kept may) (all_still p e es rows (All-tail (MaySend p rows) e es h)))
+    (falls_sent p e rows sound may)
+    (falls_all p es (sent p e rows) (sound_sent p e rows sound may) (all_still p e es rows (All-tail (MaySend p rows) e es h)))
 
 -- what falls in visits of the blocks up to a number
-pub falls_to : (p : Parts) (k : ℕ) (rows : TableRows) → IsWell p → AreKept p rows → Falls (length p.blocks + 1) (change_to p k rows) rows (visited_to p k rows)
-falls_to p zero rows well kept = refl
-falls_to p (suc k) rows well kept =
-    let before = visited_keep p k rows well kept in
+pub falls_to : (p : Parts) (k : ℕ) (rows : TableRows) → IsWell p → AreSound p rows → Falls (length p.blocks + 1) (change_to p k rows) rows (visited_to p k rows)
+falls_to p zero rows well sound = refl
+falls_to p (suc k) rows well sound =
+    let before = visited_sound p k rows well sound in
     falls_on (length p.blocks + 1) (change_to p k rows) (change_at p (suc k) (visited_to p k rows)) rows (visited_to p k rows) (visited_to p (suc k) rows)
-    (falls_to p k rows well kept)
+    (falls_to p k rows well sound)
     (falls_all p (sends p (as_table p (visited_to p k rows)) (suc k)) (visited_to p k rows) before (sends_may p (suc k) (visited_to p k rows) well before))
 
 -- NOTHING CHANGES
@@ -154,43 +154,43 @@ idle_row state (Some row) h = idle_if (is_within state row) state row refl h
 falls_same : (n : ℕ) (c : Change) (s t : TableRows) → c ≡ Same → Falls n c s t → t ≡ s
 falls_same n c s t is h = subst (λ d. Falls n d s t) is h
 
-idle_all : (p : Parts) (es : List FlowEdge) (rows : TableRows) → AreKept p rows → All (MaySend p rows) es → changes_of p es rows ≡ Same → All (IsIdle (as_table p rows)) es
-idle_all p [] rows kept h is = All-nil (IsIdle (as_table p rows))
-idle_all p (e ∷ es) rows kept h is =
+idle_all : (p : Parts) (es : List FlowEdge) (rows : TableRows) → AreSound p rows → All (MaySend p rows) es → changes_of p es rows ≡ Same → All (IsIdle (as_table p rows)) es
+idle_all p [] rows sound h is = All-nil (IsIdle (as_table p rows))
+idle_all p (e ∷ es) rows sound h is =
     let both = both_same (change_of e.state (as_table p rows e.target)) (changes_of p es (sent p e rows)) is in
     let may = All-head (MaySend p rows) e es h in
-    let stays = falls_same (length p.blocks + 1) (change_of e.state (as_table p rows e.target)) rows (sent p e rows) both.0 (falls_sent p e rows kept may) in
-    let later = idle_all p es (sent p e rows) (kept_sent p e rows kept may) (all_still p e es rows (All-tail (MaySend p rows) e es h)) both.1 in
+    let stays = falls_same (length p.blocks + 1) (change_of e.state (as_table p rows e.target)) rows (sent p e rows) both.0 (falls_sent p e rows sound may) in
+    let later = idle_all p es (sent p e rows) (sound_sent p e rows sound may) (all_still p e es rows (All-tail (MaySend p rows) e es h)) both.1 in
     All-cons (IsIdle (as_table p rows)) e es (idle_row e.state (as_table p rows e.target) both.0) (subst (λ r. All (IsIdle (as_table p r)) es) stays later)
 
 -- the blocks up to a number send nothing that changes the table
-idle_to : (p : Parts) (k : ℕ) (rows : TableRows) → IsWell p → AreKept p rows → change_to p k rows ≡ Same → (b : ℕ) → b < k → IsIdleAt p (as_table p rows) (suc b)
-idle_to p zero rows well kept is b lt = absurd (omega arith)
-idle_to p (suc k) rows well kept is b lt =
+idle_to : (p : Parts) (k : ℕ) (rows : TableRows) → IsWell p → AreSound p rows → change_to p k rows ≡ Same → (b : ℕ) → b < k → IsIdleAt p (as_table p rows) (suc b)
+idle_to p zero rows well sound is b lt = absurd (omega arith)
+idle_to p (suc k) rows well sound is b lt =
     let both = both_same (change_to p k rows) (change_at p (suc k) (visited_to p k rows)) is in
-    let stays = falls_same (length p.blocks + 1) (change_to p k rows) rows (visited_to p k rows) both.0 (falls_to p k rows well kept) in
+    let stays = falls_same (length p.blocks + 1) (change_to p k rows) rows (visited_to p k rows) both.0 (falls_to p k rows well sound) in
     ⊎_elim
     (λ (q : b ≡ k).
-    let before = visited_keep p k rows well kept in
+    let before = visited_sound p k rows well sound in
     let here = idle_all p (sends p (as_table p (visited_to p k rows)) (suc k)) (visited_to p k rows) before (sends_may p (suc k) (visited_to p k rows) well before) both.1 in
     subst (λ n. IsIdleAt p (as_table p rows) (suc n)) (sym q) (subst (λ r. IsIdleAt p (as_table p r) (suc k)) stays here))
-    (λ (ne : b ≢ k). idle_to p k rows well kept both.0 b (omega arith))
+    (λ (ne : b ≢ k). idle_to p k rows well sound both.0 b (omega arith))
     (cases_eq b k)
 
 pub none_sent : (p : Parts) (table : Table) (b : ℕ) → block_at p.blocks b ≡ None → IsIdleAt p table b
 none_sent p table b is = subst (λ o. All (IsIdle table) (sends_in p table b o (table (targets.Block b)))) (sym is) (All-nil (IsIdle table))
 
-idle_each : (p : Parts) (rows : TableRows) → IsWell p → AreKept p rows → change_to p (length p.blocks) rows ≡ Same → (b : ℕ) → IsIdleAt p (as_table p rows) b
-idle_each p rows well kept is zero = none_sent p (as_table p rows) zero refl
-idle_each p rows well kept is (suc b) =
+idle_each : (p : Parts) (rows : TableRows) → IsWell p → AreSound p rows → change_to p (length p.blocks) rows ≡ Same → (b : ℕ) → IsIdleAt p (as_table p rows) b
+idle_each p rows well sound is zero = none_sent p (as_table p rows) zero refl
+idle_each p rows well sound is (suc b) =
     ⊎_elim
-    (λ (lt : b < length p.blocks). idle_to p (length p.blocks) rows well kept is b lt)
+    (λ (lt : b < length p.blocks). idle_to p (length p.blocks) rows well sound is b lt)
     (λ (le : length p.blocks ≤ b). none_sent p (as_table p rows) (suc b) (slice_get_past p.blocks b le))
     (cases_lt b (length p.blocks))
 
 -- where a round changes nothing the table is settled, and is what it was
-pub same_settles : (p : Parts) (rows : TableRows) → IsWell p → AreKept p rows → change_to p (length p.blocks) rows ≡ Same → IsSettled p rows
-same_settles p rows well kept is = record { each = idle_each p rows well kept is }
+pub same_settles : (p : Parts) (rows : TableRows) → IsWell p → AreSound p rows → change_to p (length p.blocks) rows ≡ Same → IsSettled p rows
+same_settles p rows well sound is = record { each = idle_each p rows well sound is }
 
-pub same_stays : (p : Parts) (rows : TableRows) → IsWell p → AreKept p rows → change_to p (length p.blocks) rows ≡ Same → visited_to p (length p.blocks) rows ≡ rows
-same_stays p rows well kept is = falls_same (length p.blocks + 1) (change_to p (length p.blocks) rows) rows (visited_to p (length p.blocks) rows) is (falls_to p (length p.blocks) rows well kept)
+pub same_stays : (p : Parts) (rows : TableRows) → IsWell p → AreSound p rows → change_to p (length p.blocks) rows ≡ Same → visited_to p (length p.blocks) rows ≡ rows
+same_stays p rows well sound is = falls_same (length p.blocks + 1) (change_to p (length p.blocks) rows) rows (visited_to p (length p.blocks) rows) is (falls_to p (length p.blocks) rows well sound)

@@ -94,7 +94,7 @@ only_joined (Some k) l = refl
 pub kind_joined : (row state : Row) (p : ℕ) → kind_of (joined row state) p ≡ joined_kind (kind_of row p) (kind_of state p)
 kind_joined row state p = entry-keep (λ q. joined_kind (kind_of row q) (kind_of state q)) row.params p ∙ only_joined (kind_of row p) (kind_of state p)
 
-nonzero_is : (n : ℕ) → unwrap_or (nonzero n) 0 ≡ n
+pub nonzero_is : (n : ℕ) → unwrap_or (nonzero n) 0 ≡ n
 nonzero_is n =
     ⊎_elim
     (λ (q : n ≡ 0). rw (eq-eqb n 0 q) (sym q))

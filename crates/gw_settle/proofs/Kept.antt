@@ -32,7 +32,7 @@ use Rattle.gw_flow.specs.Blocks.{Table, Rule, rules, after, edges}
 use Rattle.gw_flow.specs.Flow.{FlowPasses}
 use Rattle.gw_settle.specs.Joins.{is_within, joined_kind, joined, with_state}
 use Rattle.gw_settle.specs.Rounds.{TableRows, as_table, sent, all_sent, sends_in, sends, visited, visited_to, start_row, start}
-use Rattle.gw_settle.specs.Keeps.{NoneChanged, IsOnePlace, IsByPlace, IsBelow, may_enter, MayEnter, sets_return, IsKindGrounded, IsGrounded, IsNamed, KindNamesCalls, NamesCalls, absent, HasFew, IsGood, HasShape, IsWell, AreKept}
+use Rattle.gw_settle.specs.Keeps.{NoneChanged, IsOnePlace, IsByPlace, IsBelow, may_enter, MayEnter, sets_return, IsKindGrounded, IsGrounded, IsNamed, KindNamesCalls, NamesCalls, absent, HasFew, IsGood, HasShape, IsWell, AreSound, AreKept}
 use Rattle.gw_settle.proofs.Joining.{units_joined}
 use Rattle.gw_settle.proofs.Ordering.{keep_all, given_all}
 use Rattle.gw_settle.proofs.Rows.{lookup_sent, shape_sent, absent_sent, fewer_sent, absent_length, by_place, if_has, with_state_has, at_target, all_sent_to}
@@ -53,7 +53,14 @@ pub record MaySend (p : Parts) (rows : TableRows) (e : FlowEdge) : Type 0 where
   pub named : IsNamed p.entities e.state
   pub calls : NamesCalls p.blocks e.state
   pub nearly : HasNearlyFew p rows e.state
-  pub fit : NoneChanged p → (t : Table) → IsByPlace p t → FlowPasses p t → IsSomeAnd (t e.target) (Fits e.state)
+
+-- the state of an edge fits the row of its target in each table that passes
+abbrev pub FitsEach : Parts → FlowEdge → Type 0
+FitsEach p e = NoneChanged p → (t : Table) → IsByPlace p t → FlowPasses p t → IsSomeAnd (t e.target) (Fits e.state)
+
+-- what is kept is sound
+pub sound_if_kept : (p : Parts) (rows : TableRows) → AreKept p rows → AreSound p rows
+sound_if_kept p rows h = record { shape = h.shape; grounded = h.good.grounded; named = h.named; block_calls = h.block_calls; chain_calls = h.chain_calls; few = h.few }
 
 below_if : (row there : Option Row) → IsBelow row there → IfSome row (λ r. IsSomeAnd there (Fits r))
 below_if None there h = tt
@@ -85,7 +92,7 @@ calls_joined p row state h g =
     given_all (KindNamesCalls p.blocks) (λ n. joined_kind (kind_of row n) (kind_of state n)) row.params
     (λ n v is. kind_calls p n v (subst (IsKindGrounded p n) is (grounded_kinds p n (kind_of row n) (kind_of state n) (h n) (g n))))
 
-pub calls_at : (p : Parts) (rows : TableRows) → AreKept p rows → (x : Target) → IfSome (as_table p rows x) (NamesCalls p.blocks)
+pub calls_at : (p : Parts) (rows : TableRows) → AreSound p rows → (x : Target) → IfSome (as_table p rows x) (NamesCalls p.blocks)
 calls_at p rows kept = at_target p (NamesCalls p.blocks) rows kept.block_calls kept.chain_calls
 
 abbrev CallsWell : Parts → Row → Type 0
@@ -103,7 +110,7 @@ enters_none : (p : Parts) (b : ℕ) (x : Target) → is_generate (block_at p.blo
 enters_none p b (targets.Block c) is same enters = no_arrival (block_at p.blocks b) is (subst (λ n. may_enter (block_at p.blocks n) ≡ true) same enters)
 enters_none p b (targets.Chain c) is same enters = same
 
-module _ (p : Parts) (e : FlowEdge) (rows : TableRows) (kept : AreKept p rows) (may : MaySend p rows e) where
+module _ (p : Parts) (e : FlowEdge) (rows : TableRows) (sound : AreSound p rows) (may : MaySend p rows e) where
   abbrev s : Table
   s = as_table p rows
 
@@ -111,41 +118,27 @@ module _ (p : Parts) (e : FlowEdge) (rows : TableRows) (kept : AreKept p rows) (
   s' = as_table p (sent p e rows)
 
   looked : (x : Target) → (s' x ≡ s x) ⊎ (IsOnePlace p.entities e.target x × (s' x ≡ Some (with_state e.state (s x))))
-  looked = lookup_sent p e rows may.enters kept.shape
+  looked = lookup_sent p e rows may.enters sound.shape
 
-  good_sent : IsGood p s'
-  good_sent = record {
-    arrivals = λ b is. ⊎_elim
-        (λ (q : s' (targets.Block b) ≡ s (targets.Block b)). q ∙ kept.good.arrivals b is)
-        (λ (q : IsOnePlace p.entities e.target (targets.Block b) × (s' (targets.Block b) ≡ Some (with_state e.state (s (targets.Block b))))). absurd (enters_none p b e.target is q.0 may.enters))
-        (looked (targets.Block b));
-    grounded = λ x. ⊎_elim
-        (λ (q : s' x ≡ s x). subst (λ row. IfSome row (IsGrounded p)) (sym q) (kept.good.grounded x))
-        (λ (q : IsOnePlace p.entities e.target x × (s' x ≡ Some (with_state e.state (s x)))).
-        subst (λ row. IfSome row (IsGrounded p)) (sym q.1) (with_state_has (IsGrounded p) e.state (s x) (kept.good.grounded x) may.grounded (λ r h g. grounded_joined p r e.state h g)))
-        (looked x);
-    below = λ none t by pass x. ⊎_elim
-        (λ (q : s' x ≡ s x). subst (λ y. IsBelow y (t x)) (sym q) (kept.good.below none t by pass x))
-        (λ (q : IsOnePlace p.entities e.target x × (s' x ≡ Some (with_state e.state (s x)))).
-        subst (λ y. IsBelow y (t x)) (sym q.1)
-        (with_state_has (λ r. IsSomeAnd (t x) (Fits r)) e.state (s x) (below_if (s x) (t x) (kept.good.below none t by pass x))
-        (subst (λ y. IsSomeAnd y (Fits e.state)) (by e.target x q.0) (may.fit none t by pass))
-        (λ r h g. fits_both (t x) r e.state h g)))
-        (looked x);
-  }
+  grounded_sent : (x : Target) → IfSome (s' x) (IsGrounded p)
+  grounded_sent x = ⊎_elim
+      (λ (q : s' x ≡ s x). subst (λ row. IfSome row (IsGrounded p)) (sym q) (sound.grounded x))
+      (λ (q : IsOnePlace p.entities e.target x × (s' x ≡ Some (with_state e.state (s x)))).
+      subst (λ row. IfSome row (IsGrounded p)) (sym q.1) (with_state_has (IsGrounded p) e.state (s x) (sound.grounded x) may.grounded (λ r h g. grounded_joined p r e.state h g)))
+      (looked x)
 
   named_sent : (x : Target) → IfSome (s' x) (IsNamed p.entities)
   named_sent x = ⊎_elim
-      (λ (q : s' x ≡ s x). subst (λ row. IfSome row (IsNamed p.entities)) (sym q) (kept.named x))
+      (λ (q : s' x ≡ s x). subst (λ row. IfSome row (IsNamed p.entities)) (sym q) (sound.named x))
       (λ (q : IsOnePlace p.entities e.target x × (s' x ≡ Some (with_state e.state (s x)))).
-      subst (λ row. IfSome row (IsNamed p.entities)) (sym q.1) (with_state_has (IsNamed p.entities) e.state (s x) (kept.named x) may.named (λ r h g. named_joined p.entities r e.state h)))
+      subst (λ row. IfSome row (IsNamed p.entities)) (sym q.1) (with_state_has (IsNamed p.entities) e.state (s x) (sound.named x) may.named (λ r h g. named_joined p.entities r e.state h)))
       (looked x)
 
   calls_sent : All (λ row. IfSome row (NamesCalls p.blocks)) (sent p e rows).blocks × All (λ row. IfSome row (NamesCalls p.blocks)) (sent p e rows).chains
   calls_sent =
-      all_sent_to p (NamesCalls p.blocks) e.state e.target rows kept.block_calls kept.chain_calls
+      all_sent_to p (NamesCalls p.blocks) e.state e.target rows sound.block_calls sound.chain_calls
       (with_state_has (CallsWell p) e.state (s e.target)
-      (calls_well p (s e.target) (calls_at p rows kept e.target) (kept.good.grounded e.target)) (may.calls, may.grounded)
+      (calls_well p (s e.target) (calls_at p rows sound e.target) (sound.grounded e.target)) (may.calls, may.grounded)
       (λ r h g. (calls_joined p r e.state h.1 g.1, grounded_joined p r e.state h.1 g.1))).0
 
   few_still : (row : Option Row) → IfSome row (HasFew p rows) → IfSome row (HasFew p (sent p e rows))
@@ -153,7 +146,7 @@ module _ (p : Parts) (e : FlowEdge) (rows : TableRows) (kept : AreKept p rows) (
   few_still (Some row) h = λ q. omega (arith, h q, absent_sent p e rows)
 
   few_row : (row : Option Row) → s e.target ≡ row → IfSome row (HasFew p rows) → HasFew p (sent p e rows) (with_state e.state row)
-  few_row None is h = λ q. omega (arith, may.nearly q, fewer_sent p e rows may.enters kept.shape is)
+  few_row None is h = λ q. omega (arith, may.nearly q, fewer_sent p e rows may.enters sound.shape is)
   few_row (Some row) is h =
       if_has (HasFew p (sent p e rows)) (is_within e.state row) row (joined row e.state)
       (λ q. omega (arith, h q, absent_sent p e rows))
@@ -161,24 +154,60 @@ module _ (p : Parts) (e : FlowEdge) (rows : TableRows) (kept : AreKept p rows) (
 
   few_sent : (x : Target) → IfSome (s' x) (HasFew p (sent p e rows))
   few_sent x = ⊎_elim
-      (λ (q : s' x ≡ s x). subst (λ row. IfSome row (HasFew p (sent p e rows))) (sym q) (few_still (s x) (kept.few x)))
+      (λ (q : s' x ≡ s x). subst (λ row. IfSome row (HasFew p (sent p e rows))) (sym q) (few_still (s x) (sound.few x)))
       (λ (q : IsOnePlace p.entities e.target x × (s' x ≡ Some (with_state e.state (s x)))).
-      subst (λ row. IfSome row (HasFew p (sent p e rows))) (sym q.1) (few_row (s x) (by_place p rows e.target x q.0) (kept.few x)))
+      subst (λ row. IfSome row (HasFew p (sent p e rows))) (sym q.1) (few_row (s x) (by_place p rows e.target x q.0) (sound.few x)))
       (looked x)
 
+  pub sound_sent : AreSound p (sent p e rows)
+  sound_sent = record { shape = shape_sent p e rows sound.shape; grounded = grounded_sent; named = named_sent; block_calls = calls_sent.0; chain_calls = calls_sent.1; few = few_sent }
+
+module _ (p : Parts) (e : FlowEdge) (rows : TableRows) (kept : AreKept p rows) (may : MaySend p rows e) (fit : FitsEach p e) where
+  abbrev before : Table
+  before = as_table p rows
+
+  abbrev next : Table
+  next = as_table p (sent p e rows)
+
+  sound_after : AreSound p (sent p e rows)
+  sound_after = sound_sent p e rows (sound_if_kept p rows kept) may
+
+  good_sent : IsGood p next
+  good_sent = record {
+    arrivals = λ b is. ⊎_elim
+        (λ (q : next (targets.Block b) ≡ before (targets.Block b)). q ∙ kept.good.arrivals b is)
+        (λ (q : IsOnePlace p.entities e.target (targets.Block b) × (next (targets.Block b) ≡ Some (with_state e.state (before (targets.Block b))))). absurd (enters_none p b e.target is q.0 may.enters))
+        (lookup_sent p e rows may.enters kept.shape (targets.Block b));
+    grounded = sound_after.grounded;
+    below = λ none t by pass x. ⊎_elim
+        (λ (q : next x ≡ before x). subst (λ y. IsBelow y (t x)) (sym q) (kept.good.below none t by pass x))
+        (λ (q : IsOnePlace p.entities e.target x × (next x ≡ Some (with_state e.state (before x)))).
+        subst (λ y. IsBelow y (t x)) (sym q.1)
+        (with_state_has (λ r. IsSomeAnd (t x) (Fits r)) e.state (before x) (below_if (before x) (t x) (kept.good.below none t by pass x))
+        (subst (λ y. IsSomeAnd y (Fits e.state)) (by e.target x q.0) (fit none t by pass))
+        (λ r h g. fits_both (t x) r e.state h g)))
+        (lookup_sent p e rows may.enters kept.shape x);
+  }
+
   pub kept_sent : AreKept p (sent p e rows)
-  kept_sent = record { shape = shape_sent p e rows kept.shape; good = good_sent; named = named_sent; block_calls = calls_sent.0; chain_calls = calls_sent.1; few = few_sent }
+  kept_sent = record { shape = sound_after.shape; good = good_sent; named = sound_after.named; block_calls = sound_after.block_calls; chain_calls = sound_after.chain_calls; few = sound_after.few }
 
 -- what may be sent may be sent after another edge was
 pub may_still : (p : Parts) (d e : FlowEdge) (rows : TableRows) → MaySend p rows e → MaySend p (sent p d rows) e
-may_still p d e rows h = record { grounded = h.grounded; enters = h.enters; named = h.named; calls = h.calls; nearly = λ q. omega (arith, h.nearly q, absent_sent p d rows); fit = h.fit }
+may_still p d e rows h = record { grounded = h.grounded; enters = h.enters; named = h.named; calls = h.calls; nearly = λ q. omega (arith, h.nearly q, absent_sent p d rows) }
 
 -- several edges
-pub kept_all : (p : Parts) (es : List FlowEdge) (rows : TableRows) → AreKept p rows → All (MaySend p rows) es → AreKept p (all_sent p es rows)
-kept_all p [] rows kept h = kept
-kept_all p (e ∷ es) rows kept h =
-    kept_all p es (sent p e rows) (kept_sent p e rows kept (All-head (MaySend p rows) e es h))
-    (All-weaker (MaySend p rows) (MaySend p (sent p e rows)) (λ d g. may_still p e d rows g) es (All-tail (MaySend p rows) e es h))
+may_still_all : (p : Parts) (e : FlowEdge) (es : List FlowEdge) (rows : TableRows) → All (MaySend p rows) (e ∷ es) → All (MaySend p (sent p e rows)) es
+may_still_all p e es rows h = All-weaker (MaySend p rows) (MaySend p (sent p e rows)) (λ d g. may_still p e d rows g) es (All-tail (MaySend p rows) e es h)
+
+pub sound_all : (p : Parts) (es : List FlowEdge) (rows : TableRows) → AreSound p rows → All (MaySend p rows) es → AreSound p (all_sent p es rows)
+sound_all p [] rows sound h = sound
+sound_all p (e ∷ es) rows sound h = sound_all p es (sent p e rows) (sound_sent p e rows sound (All-head (MaySend p rows) e es h)) (may_still_all p e es rows h)
+
+pub kept_all : (p : Parts) (es : List FlowEdge) (rows : TableRows) → AreKept p rows → All (MaySend p rows) es → All (FitsEach p) es → AreKept p (all_sent p es rows)
+kept_all p [] rows kept h fit = kept
+kept_all p (e ∷ es) rows kept h fit =
+    kept_all p es (sent p e rows) (kept_sent p e rows kept (All-head (MaySend p rows) e es h) (All-head (FitsEach p) e es fit)) (may_still_all p e es rows h) (All-tail (FitsEach p) e es fit)
 
 -- WHAT KINDS GIVE
 
@@ -231,42 +260,61 @@ if_nearly p rows (Some row) h = λ e. omega (arith, h e)
 all_absent : (p : Parts) (rows : TableRows) → HasShape p rows → absent rows ≤ length p.blocks + chains_in p.entities
 all_absent p rows s = omega (arith, absent_length rows.blocks, absent_length rows.chains, s.blocks, s.chains)
 
-edges_may : (p : Parts) (b : ℕ) (block : Block) (row : Row) (rows : TableRows) → IsWell p → AreKept p rows → block_at p.blocks b ≡ Some block → as_table p rows (targets.Block b) ≡ Some row → All (MaySend p rows) (edges p (as_table p rows) b block row)
-edges_may p b block row rows well kept is has =
+edges_may : (p : Parts) (b : ℕ) (block : Block) (row : Row) (rows : TableRows) → IsWell p → AreSound p rows → block_at p.blocks b ≡ Some block → as_table p rows (targets.Block b) ≡ Some row → All (MaySend p rows) (edges p (as_table p rows) b block row)
+edges_may p b block row rows well sound is has =
     let table = as_table p rows in
     let holds = block_holds p well b block is in
-    let few : HasFew p rows row = subst (λ r. IfSome r (HasFew p rows)) has (kept.few (targets.Block b)) in
-    let named : IsNamed p.entities row = subst (λ r. IfSome r (IsNamed p.entities)) has (kept.named (targets.Block b)) in
-    let grounded : IsGrounded p row = subst (λ r. IfSome r (IsGrounded p)) has (kept.good.grounded (targets.Block b)) in
-    let sound = sound_edges p (leads_well p well) table b block row is grounded kept.good.grounded in
-    let names = at_edges (IsNamed p.entities) table b block row named (named_after p.entities b block row holds.entities named) (named_alone p.entities (after b block row)) (λ e. kept.named (targets.Chain e)) in
-    let own_calls : NamesCalls p.blocks row = subst (λ r. IfSome r (NamesCalls p.blocks)) has (calls_at p rows kept (targets.Block b)) in
+    let few : HasFew p rows row = subst (λ r. IfSome r (HasFew p rows)) has (sound.few (targets.Block b)) in
+    let named : IsNamed p.entities row = subst (λ r. IfSome r (IsNamed p.entities)) has (sound.named (targets.Block b)) in
+    let grounded : IsGrounded p row = subst (λ r. IfSome r (IsGrounded p)) has (sound.grounded (targets.Block b)) in
+    let leads = sound_edges p (leads_well p well) table b block row is grounded sound.grounded in
+    let names = at_edges (IsNamed p.entities) table b block row named (named_after p.entities b block row holds.entities named) (named_alone p.entities (after b block row)) (λ e. sound.named (targets.Chain e)) in
+    let own_calls : NamesCalls p.blocks row = subst (λ r. IfSome r (NamesCalls p.blocks)) has (calls_at p rows sound (targets.Block b)) in
     let then_calls = calls_after p.blocks b block row is own_calls in
-    let calls = at_edges (NamesCalls p.blocks) table b block row own_calls then_calls then_calls (λ e. calls_at p rows kept (targets.Chain e)) in
-    let nearly = at_edges (HasNearlyFew p rows) table b block row (few_nearly p rows row row few (λ e. omega arith)) (few_nearly p rows row (after b block row) few (more_after b block row holds.constants)) (nearly_alone p rows (after b block row) (all_absent p rows kept.shape)) (λ e. if_nearly p rows (table (targets.Chain e)) (kept.few (targets.Chain e))) in
+    let calls = at_edges (NamesCalls p.blocks) table b block row own_calls then_calls then_calls (λ e. calls_at p rows sound (targets.Chain e)) in
+    let nearly = at_edges (HasNearlyFew p rows) table b block row (few_nearly p rows row row few (λ e. omega arith)) (few_nearly p rows row (after b block row) few (more_after b block row holds.constants)) (nearly_alone p rows (after b block row) (all_absent p rows sound.shape)) (λ e. if_nearly p rows (table (targets.Chain e)) (sound.few (targets.Chain e))) in
     λ k d within. record {
-      grounded = (sound k d within).0;
-      enters = (sound k d within).1;
+      grounded = (leads k d within).0;
+      enters = (leads k d within).1;
       named = names k d within;
       calls = calls k d within;
       nearly = nearly k d within;
-      fit = λ none t by pass. (row_passes p table t kept.good none by pass b block row is has).1 k d within;
     }
 
-sends_may_in : (p : Parts) (b : ℕ) (block : Option Block) (row : Option Row) (rows : TableRows) → IsWell p → AreKept p rows → block_at p.blocks b ≡ block → as_table p rows (targets.Block b) ≡ row → All (MaySend p rows) (sends_in p (as_table p rows) b block row)
-sends_may_in p b None row rows well kept is has = All-nil (MaySend p rows)
-sends_may_in p b (Some block) None rows well kept is has = All-nil (MaySend p rows)
-sends_may_in p b (Some block) (Some row) rows well kept is has =
-    all_if (MaySend p rows) (list_all (λ (rule : Rule). rule.holds) (rules p block row)) (edges p (as_table p rows) b block row) (edges_may p b block row rows well kept is has)
+edges_fit : (p : Parts) (b : ℕ) (block : Block) (row : Row) (rows : TableRows) → AreKept p rows → block_at p.blocks b ≡ Some block → as_table p rows (targets.Block b) ≡ Some row → All (FitsEach p) (edges p (as_table p rows) b block row)
+edges_fit p b block row rows kept is has = λ k d within none t by pass. (row_passes p (as_table p rows) t kept.good none by pass b block row is has).1 k d within
+
+sends_may_in : (p : Parts) (b : ℕ) (block : Option Block) (row : Option Row) (rows : TableRows) → IsWell p → AreSound p rows → block_at p.blocks b ≡ block → as_table p rows (targets.Block b) ≡ row → All (MaySend p rows) (sends_in p (as_table p rows) b block row)
+sends_may_in p b None row rows well sound is has = All-nil (MaySend p rows)
+sends_may_in p b (Some block) None rows well sound is has = All-nil (MaySend p rows)
+sends_may_in p b (Some block) (Some row) rows well sound is has =
+    all_if (MaySend p rows) (list_all (λ (rule : Rule). rule.holds) (rules p block row)) (edges p (as_table p rows) b block row) (edges_may p b block row rows well sound is has)
 
 -- what a block sends may be sent
-pub sends_may : (p : Parts) (b : ℕ) (rows : TableRows) → IsWell p → AreKept p rows → All (MaySend p rows) (sends p (as_table p rows) b)
-sends_may p b rows well kept = sends_may_in p b (block_at p.blocks b) (as_table p rows (targets.Block b)) rows well kept refl refl
+pub sends_may : (p : Parts) (b : ℕ) (rows : TableRows) → IsWell p → AreSound p rows → All (MaySend p rows) (sends p (as_table p rows) b)
+sends_may p b rows well sound = sends_may_in p b (block_at p.blocks b) (as_table p rows (targets.Block b)) rows well sound refl refl
+
+sends_fit_in : (p : Parts) (b : ℕ) (block : Option Block) (row : Option Row) (rows : TableRows) → AreKept p rows → block_at p.blocks b ≡ block → as_table p rows (targets.Block b) ≡ row → All (FitsEach p) (sends_in p (as_table p rows) b block row)
+sends_fit_in p b None row rows kept is has = All-nil (FitsEach p)
+sends_fit_in p b (Some block) None rows kept is has = All-nil (FitsEach p)
+sends_fit_in p b (Some block) (Some row) rows kept is has =
+    all_if (FitsEach p) (list_all (λ (rule : Rule). rule.holds) (rules p block row)) (edges p (as_table p rows) b block row) (edges_fit p b block row rows kept is has)
+
+-- what a block sends fits where it comes
+sends_fit : (p : Parts) (b : ℕ) (rows : TableRows) → AreKept p rows → All (FitsEach p) (sends p (as_table p rows) b)
+sends_fit p b rows kept = sends_fit_in p b (block_at p.blocks b) (as_table p rows (targets.Block b)) rows kept refl refl
 
 -- ROUNDS
 
 pub visits_keep : (p : Parts) (b : ℕ) (rows : TableRows) → IsWell p → AreKept p rows → AreKept p (visited p b rows)
-visits_keep p b rows well kept = kept_all p (sends p (as_table p rows) b) rows kept (sends_may p b rows well kept)
+visits_keep p b rows well kept = kept_all p (sends p (as_table p rows) b) rows kept (sends_may p b rows well (sound_if_kept p rows kept)) (sends_fit p b rows kept)
+
+visit_sound : (p : Parts) (b : ℕ) (rows : TableRows) → IsWell p → AreSound p rows → AreSound p (visited p b rows)
+visit_sound p b rows well sound = sound_all p (sends p (as_table p rows) b) rows sound (sends_may p b rows well sound)
+
+pub visited_sound : (p : Parts) (k : ℕ) (rows : TableRows) → IsWell p → AreSound p rows → AreSound p (visited_to p k rows)
+visited_sound p zero rows well sound = sound
+visited_sound p (suc k) rows well sound = visit_sound p (suc k) (visited_to p k rows) well (visited_sound p k rows well sound)
 
 pub visited_keep : (p : Parts) (k : ℕ) (rows : TableRows) → IsWell p → AreKept p rows → AreKept p (visited_to p k rows)
 visited_keep p zero rows well kept = kept
@@ -352,15 +400,15 @@ chains_few : (p : Parts) → IsWell p → chains_in p.entities ≤ 1024
 chains_few p well = omega (arith, count_by-le-length (λ (e : Entity). is_chain e.kind) p.entities, well.spelled.limits.entities)
 
 -- a row has room for what a block adds
-pub row_room : (p : Parts) (b : ℕ) (row : Row) (rows : TableRows) → IsWell p → AreKept p rows → as_table p rows (targets.Block b) ≡ Some row → HasRoom row
-row_room p b row rows well kept has =
-    let few : HasFew p rows row = subst (λ r. IfSome r (HasFew p rows)) has (kept.few (targets.Block b)) in
-    let grounded : IsGrounded p row = subst (λ r. IfSome r (IsGrounded p)) has (kept.good.grounded (targets.Block b)) in
+pub row_room : (p : Parts) (b : ℕ) (row : Row) (rows : TableRows) → IsWell p → AreSound p rows → as_table p rows (targets.Block b) ≡ Some row → HasRoom row
+row_room p b row rows well sound has =
+    let few : HasFew p rows row = subst (λ r. IfSome r (HasFew p rows)) has (sound.few (targets.Block b)) in
+    let grounded : IsGrounded p row = subst (λ r. IfSome r (IsGrounded p)) has (sound.grounded (targets.Block b)) in
     record {
       amounts = λ e. omega (arith, few e, chains_few p well, well.spelled.limits.blocks);
       returns = λ q. returns_room p q (kind_of row q) well.spelled.limits.blocks (grounded q);
     }
 
 -- each edge that a block sends leads to a place
-pub sends_enter : (p : Parts) (b : ℕ) (rows : TableRows) → IsWell p → AreKept p rows → All (λ (e : FlowEdge). MayEnter p e.target) (sends p (as_table p rows) b)
-sends_enter p b rows well kept = All-weaker (MaySend p rows) (λ (e : FlowEdge). MayEnter p e.target) (λ e h. h.enters) (sends p (as_table p rows) b) (sends_may p b rows well kept)
+pub sends_enter : (p : Parts) (b : ℕ) (rows : TableRows) → IsWell p → AreSound p rows → All (λ (e : FlowEdge). MayEnter p e.target) (sends p (as_table p rows) b)
+sends_enter p b rows well sound = All-weaker (MaySend p rows) (λ (e : FlowEdge). MayEnter p e.target) (λ e h. h.enters) (sends p (as_table p rows) b) (sends_may p b rows well sound)

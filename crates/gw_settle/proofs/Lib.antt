@@ -14,6 +14,15 @@ pub mod Marking
 pub mod Sharing
 pub mod Reached
 pub mod Writing
+pub mod Alike
+pub mod Courses
+pub mod CourseRounds
+pub mod Lowered
+pub mod Slopes
+pub mod Jumping
+pub mod Far
+pub mod Leaping
+pub mod Placing
 pub mod Tabled
 pub mod KindsStay
 pub mod Answered

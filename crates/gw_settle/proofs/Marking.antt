@@ -25,7 +25,7 @@ use Rattle.gw_settle.specs.declared.table.Change.{Change}
 use Rattle.gw_settle.specs.declared.table.Change.TheVariants.{Same, Less, More}
 use Rattle.gw_settle.specs.Joins.{is_within, Within, joined, with_state}
 use Rattle.gw_settle.specs.Rounds.{TableRows, rows_of, as_table, sent_at, sent_to, sent, all_sent, sends_in, sends, visited, change_of, changes_of, change_at}
-use Rattle.gw_settle.specs.Keeps.{MayEnter, HasShape, IsWell, AreKept, IsIdle, IsIdleAt}
+use Rattle.gw_settle.specs.Keeps.{MayEnter, HasShape, IsWell, AreSound, IsIdle, IsIdleAt}
 use Rattle.gw_settle.specs.Marks.{is_marked, with_mark, MarksGrow, UnlinksMarked, MarksSuffice, MarksFollow}
 use Rattle.gw_settle.proofs.Joining.{join_is_below_both}
 use Rattle.gw_settle.proofs.Rows.{at_place, at_other, block_within, lookup_sent, shape_sent, if_has}
@@ -325,7 +325,7 @@ module _ (p : Parts) where
   pub unmarked_changes_none : (marks : List Bool) (rows : TableRows) (b : ℕ) → MarksSuffice p marks rows → is_marked marks b ≡ false → (visited p b rows ≡ rows) × (change_at p b rows ≡ Same)
   unmarked_changes_none marks rows b h is = idle_changes_none p (sends p (as_table p rows) b) rows (idle_unmarked marks rows b h is)
 
-  module _ (marks after : List Bool) (k : ℕ) (rows : TableRows) (well : IsWell p) (kept : AreKept p rows) (h : MarksSuffice p marks rows) where
+  module _ (marks after : List Bool) (k : ℕ) (rows : TableRows) (well : IsWell p) (sound : AreSound p rows) (h : MarksSuffice p marks rows) where
     abbrev before : Table
     before = as_table p rows
 
@@ -333,12 +333,12 @@ module _ (p : Parts) where
     next = as_table p (visited p (suc k) rows)
 
     fallen : IsFallen before next
-    fallen = fallen_all p (sends p before (suc k)) rows (sends_enter p (suc k) rows well kept) kept.shape
+    fallen = fallen_all p (sends p before (suc k)) rows (sends_enter p (suc k) rows well sound) sound.shape
 
     still : (b : ℕ) → is_marked (set marks k false) b ≡ false → All (IsIdle next) (sends p before b)
     still zero is = idle_all_on before next (sends p before zero) fallen (none_sent p before zero refl)
     still (suc j) is = ⊎_elim
-        (λ (q : j ≡ k). subst (λ n. All (IsIdle next) (sends p before (suc n))) (sym q) (idle_all p (sends p before (suc k)) rows (sends_enter p (suc k) rows well kept) kept.shape))
+        (λ (q : j ≡ k). subst (λ n. All (IsIdle next) (sends p before (suc n))) (sym q) (idle_all p (sends p before (suc k)) rows (sends_enter p (suc k) rows well sound) sound.shape))
         (λ (ne : j ≢ k). idle_all_on before next (sends p before (suc j)) fallen (idle_unmarked marks rows (suc j) h (sym (get_or-set_other marks k j false false ne) ∙ is)))
         (cases_eq j k)
 
@@ -350,9 +350,9 @@ module _ (p : Parts) where
     suffice_after g = record { length = g.length ∙ length-set marks k false ∙ h.length; each = λ b. each_after b (g.each b) }
 
   -- and once one that is marked was visited
-  pub suffice_visited : (marks after : List Bool) (b : ℕ) (rows new : TableRows) → 1 ≤ b → IsWell p → AreKept p rows → MarksSuffice p marks rows → new ≡ visited p b rows → MarksFollow p (set marks (b - 1) false) after (as_table p rows) (as_table p new) → MarksSuffice p after new
-  suffice_visited marks after zero rows new first well kept h is g = absurd (omega (arith, first))
-  suffice_visited marks after (suc k) rows new first well kept h is g =
+  pub suffice_visited : (marks after : List Bool) (b : ℕ) (rows new : TableRows) → 1 ≤ b → IsWell p → AreSound p rows → MarksSuffice p marks rows → new ≡ visited p b rows → MarksFollow p (set marks (b - 1) false) after (as_table p rows) (as_table p new) → MarksSuffice p after new
+  suffice_visited marks after zero rows new first well sound h is g = absurd (omega (arith, first))
+  suffice_visited marks after (suc k) rows new first well sound h is g =
       let place : suc k - 1 ≡ k = omega arith in
       let follows : MarksFollow p (set marks k false) after (as_table p rows) (as_table p (visited p (suc k) rows)) = rw (place, is) at g in
-      rw is (suffice_after marks after k rows well kept h follows)
+      rw is (suffice_after marks after k rows well sound h follows)

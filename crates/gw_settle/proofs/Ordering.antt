@@ -32,7 +32,7 @@ kept_ascends : {X : Type 0} (n : ℕ) (value : Option X) (es : List (ℕ × X)) 
 kept_ascends n None es over up = up
 kept_ascends n (Some v) es over up = AllPairs-cons (λ a b. a.0 < b.0) (n, v) es over up
 
-keep_ascends : {X : Type 0} (f : ℕ → Option X) (es : List (ℕ × X)) → AllPairs (λ a b. a.0 < b.0) es → AllPairs (λ a b. a.0 < b.0) (keep f es)
+pub keep_ascends : {X : Type 0} (f : ℕ → Option X) (es : List (ℕ × X)) → AllPairs (λ a b. a.0 < b.0) es → AllPairs (λ a b. a.0 < b.0) (keep f es)
 keep_ascends f [] up = up
 keep_ascends f (e ∷ es) up =
     kept_ascends e.0 (f e.0) (keep f es)
@@ -90,7 +90,7 @@ kind_ascends (Some (Ret bs)) None v up also is = absurd (cc)
 kind_ascends (Some (Ret bs)) (Some Num) v up also is = absurd (cc)
 kind_ascends (Some (Ret bs)) (Some (Ret cs)) v up also is = let same : Ret (united bs cs) ≡ v = cc in subst KindAscends same (united_ascends bs cs (up (Ret bs) refl) (also (Ret cs) refl))
 
-not_zero : (n v : ℕ) → nonzero n ≡ Some v → v ≢ 0
+pub not_zero : (n v : ℕ) → nonzero n ≡ Some v → v ≢ 0
 not_zero n v is =
     ⊎_elim
     (λ (q : n ≡ 0). let none : None ≡ Some v = rw (eq-eqb n 0 q) at is in absurd (cc))

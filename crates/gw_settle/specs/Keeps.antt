@@ -132,6 +132,15 @@ pub record HasShape (p : Parts) (rows : TableRows) : Type 0 where
   pub blocks : length rows.blocks ≡ length p.blocks
   pub chains : length rows.chains ≡ chains_in p.entities
 
+-- what visits keep of any rows, also of such as no round has reached
+pub record AreSound (p : Parts) (rows : TableRows) : Type 0 where
+  pub shape : HasShape p rows
+  pub grounded : (x : Target) → IfSome (as_table p rows x) (IsGrounded p)
+  pub named : (x : Target) → IfSome (as_table p rows x) (IsNamed p.entities)
+  pub block_calls : All (λ row. IfSome row (NamesCalls p.blocks)) rows.blocks
+  pub chain_calls : All (λ row. IfSome row (NamesCalls p.blocks)) rows.chains
+  pub few : (x : Target) → IfSome (as_table p rows x) (HasFew p rows)
+
 -- what the rounds keep of the rows of a table
 pub record AreKept (p : Parts) (rows : TableRows) : Type 0 where
   pub shape : HasShape p rows

@@ -6,4 +6,6 @@ pub mod Marks
 pub mod Versions
 pub mod Numbers
 pub mod Written
+pub mod Jumps
+pub mod Drafts
 pub mod Settles

@@ -115,6 +115,10 @@ abbrev pub rounds : Parts → ℕ → TableRows
 rounds p zero = start p
 rounds p (suc k) = round p (rounds p k)
 
+-- these rows are those after some rounds
+abbrev pub AreReached : Parts → TableRows → Type 0
+AreReached p rows = (k : ℕ) × (rows ≡ rounds p k)
+
 -- these are the rows of the assembler's table: those after some rounds, which a further round doesn't change
 pub record AreSettled (p : Parts) (rows : TableRows) : Type 0 where
   pub count : ℕ
@@ -149,3 +153,7 @@ change_at p b rows = changes_of p (sends p (as_table p rows) b) rows
 abbrev pub change_to : Parts → ℕ → TableRows → Change
 change_to p zero rows = Same
 change_to p (suc k) rows = followed_by (change_to p k rows) (change_at p (suc k) (visited_to p k rows))
+
+-- what a round changes
+abbrev pub change_in : Parts → TableRows → Change
+change_in p rows = change_to p (length p.blocks) rows

@@ -6,6 +6,8 @@ ghost use Rattle.gw_flow.specs.Rows.{IsOrdered, KindAscends, Ret, kind_of, retur
 ghost use Rattle.gw_flow.specs.Seen.{amounts_of};
 ghost use Rattle.gw_flow.specs.Viewed.{kind_viewed, params_viewed};
 ghost use Rattle.gw_settle.specs.Joins as model;
+ghost use Rattle.gw_settle.specs.Jumps as jumps;
+ghost use Rattle.gw_settle.specs.Drafts.{held_units_after};
 ghost use Rattle.gw_settle.specs.Known.{kind_known, params_known, known_viewed};
 
 use crate::sets::united;
@@ -233,6 +235,31 @@ fn units_joined(alloc: Global, units: &[Amount], state: &State<'_>) -> Result<Ve
     Ok(all)
 }
 
+/// What a number is once it has fallen so many times by as much as to the next.
+pub(crate) fn number_after(number: u64, next: u64, times: u64) -> u64
+    ensures { result ≡ jumps.number_after times number next }
+{
+    number.saturating_sub(times.saturating_mul(number.saturating_sub(next)))
+}
+
+/// Units once they have fallen so many times by as much as to the next row.
+fn units_after(
+    alloc: Global,
+    units: &[Amount],
+    next: &Known,
+    times: u64,
+) -> Result<Vec<Amount>, Memory>
+    requires { AllPairs (λ (a b : Amount). a.entity < b.entity) units.now }
+    ensures { IfOk result (λ all. amounts_of all.items ≡ held_units_after times units.now next.now) }
+{
+    let mut all = Vec::with_capacity(alloc, units.len())?;
+    for amount in units {
+        let number = number_after(amount.number, next.units_of(amount.entity), times);
+        push_units(&mut all, amount.entity, number)?;
+    }
+    Ok(all)
+}
+
 impl Known {
     /// The row of these lists.
     fn of_lists(alloc: Global, lists: Lists) -> Result<Known, Memory>
@@ -323,6 +350,17 @@ impl Known {
         )
     }
 
+    /// This row once its amounts have fallen so many times by as much as to the next row.
+    pub(crate) fn after(&self, alloc: Global, next: &Known, times: u64) -> Result<Known, Memory>
+        ensures { IfOk result (λ row. row ≡ jumps.row_after times self.now next.now) }
+    {
+        let lists = self.lists.as_ref();
+        let params = params_lent(alloc, lists.params.as_slice())?;
+        let owned = Vec::from_slice(alloc, lists.facilities.as_slice())?;
+        let units = units_after(alloc, lists.units.as_slice(), next, times)?;
+        Known::of(alloc, &State::of_lists(params, owned, units))
+    }
+
     /// The parameters that are sure to be set, ascending.
     pub(crate) fn params(&self) -> &[KnownParam]
         ensures value { params_known result.now ≡ self.now.params }
@@ -349,6 +387,19 @@ impl Known {
         ensures { result.now ≡ self.now.facilities }
     {
         self.lists.as_ref().facilities.as_slice()
+    }
+
+    /// The units of a storage or queue that are sure to be held.
+    pub(crate) fn units_of(&self, entity: u16) -> u64
+        ensures { result ≡ units_of self.now entity }
+    {
+        let units = self.lists.as_ref().units.as_slice();
+        for i in 0..units.len() {
+            if units[i].entity == entity {
+                return units[i].number;
+            }
+        }
+        0
     }
 
     /// The units that are sure to be held, ascending by entity.

@@ -1,6 +1,7 @@
 //! Laws of joins and of rounds, as functions with nothing to do, whose clauses are the laws.
 
 ghost use Rattle.gw_settle.specs.Joins.{JoinIsBelowBoth, JoinIsGreatest, JoinIsOrdered};
+ghost use Rattle.gw_settle.specs.Jumps.{JumpsAreRounds};
 ghost use Rattle.gw_settle.specs.Keeps.{VisitsKeep, StartIsKept, SettledPasses};
 
 /// What a join knows is known by the row and by the state, and it is all that both know.
@@ -23,4 +24,9 @@ pub fn rounds_keep()
 /// And where such a table is settled, it passes if any table does.
 pub fn settled_passes()
     ensures { SettledPasses }
+{}
+
+/// Where two rounds, and one some rounds on, lower amounts alone and alike, all rounds between do.
+pub fn jumps_are_rounds()
+    ensures { JumpsAreRounds }
 {}

@@ -2,8 +2,12 @@
 #![tactic(auto)]
 
 pub mod codes;
+mod draft;
+mod falls;
 mod known;
 pub mod laws;
+mod leaps;
+mod pace;
 mod returns;
 mod rounds;
 mod sets;

@@ -69,7 +69,7 @@ fn is_same_kind(kind: &KnownKind, other: &KnownKind) -> bool
 }
 
 /// Whether the same parameters hold the same.
-fn are_same_params(params: &[KnownParam], others: &[KnownParam]) -> bool
+pub(crate) fn are_same_params(params: &[KnownParam], others: &[KnownParam]) -> bool
     ensures { result ≡ true → params_known params.now ≡ params_known others.now }
 {
     if params.len() != others.len() {

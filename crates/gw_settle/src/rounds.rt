@@ -1,25 +1,18 @@
 //! The rounds that compute the assembler's state table.
 
-ghost use Rattle.std.specs.Prelude.{◌≡◌, IfOk, None, map, replicate, true};
+ghost use Rattle.std.specs.Prelude.{◌≡◌, IfOk, None, map, replicate};
+ghost use Rattle.gw_settle.specs.Drafts.{rows_held, AreNoted, DraftAdvances};
 ghost use Rattle.gw_settle.specs.Keeps.{IsWell, IsSettled, AreKept};
-ghost use Rattle.gw_settle.specs.Marks.{MarksSuffice};
-ghost use Rattle.gw_settle.specs.Versions.{AreVersions};
 ghost use Rattle.gw_settle.specs.Rounds as model;
 
+use crate::draft::{Draft, TableRows, draft_of, next_round};
 use crate::known::Known;
-use crate::table::{Change, round};
+use crate::leaps::leap;
+use crate::pace::Pace;
+use crate::table::Change;
 use gw_blocks::Block;
 use gw_object::{Memory, Parts, chains_in};
 use std::alloc::Global;
-
-/// The rows of a state table.
-#[derive(Debug, Drop)]
-pub(crate) struct TableRows {
-    /// The rows of the blocks, in order.
-    pub blocks: Vec<Option<Known>>,
-    /// The rows of those entities that are user chains, in order.
-    pub chains: Vec<Option<Known>>,
-}
 
 /// The row of a block at the start.
 fn start_row(alloc: Global, block: &Block) -> Result<Option<Known>, Memory>
@@ -53,48 +46,47 @@ fn start_chains(alloc: Global, count: usize) -> Result<Vec<Option<Known>>, Memor
     Ok(rows)
 }
 
-/// So many marks, each set.
-fn all_marked(alloc: Global, count: usize) -> Result<Vec<bool>, Memory>
-    ensures { IfOk result (λ marks. marks.items ≡ replicate count true) }
+/// The rows at the start.
+fn start_rows(alloc: Global, parts: &Parts) -> Result<TableRows, Memory>
+    ensures { IfOk result (λ rows. rows_held rows ≡ model.start parts.now) }
 {
-    let mut marks = Vec::with_capacity(alloc, count)?;
-    for _ in 0..count {
-        marks.push(true)?;
-    }
-    Ok(marks)
+    let blocks = start_blocks(alloc, parts.blocks.as_slice())?;
+    let chains = start_chains(alloc, chains_in(parts.entities.as_slice()))?;
+    Ok(TableRows { blocks, chains })
 }
 
-/// So many rows' versions: none.
-fn no_versions(alloc: Global, count: usize) -> Result<Vec<u64>, Memory>
-    ensures { IfOk result (λ versions. versions.items ≡ replicate count 0) }
+/// One more round, or, where a leap is due, as many as it makes.
+fn advance(
+    alloc: Global,
+    parts: &Parts,
+    draft: &mut Draft,
+    pace: &mut Pace,
+) -> Result<Change, Memory>
+    requires well { IsWell parts.now }
+    requires reached { model.AreReached parts.now (rows_held draft.old.rows) }
+    requires noted { AreNoted parts.now draft.old }
+    ensures rows { IfOk result (DraftAdvances parts.now draft.old draft.new) }
+    ensures noted { IfOk result (λ _. AreNoted parts.now draft.new) }
 {
-    let mut versions = Vec::with_capacity(alloc, count)?;
-    for _ in 0..count {
-        versions.push(0)?;
+    if pace.is_due() {
+        return leap(alloc, parts, draft, pace);
     }
-    Ok(versions)
+    next_round(alloc, parts, draft)
 }
 
 /// Visits the blocks that are marked in rounds, until one changes nothing.
-fn settle_rows(
-    alloc: Global,
-    parts: &Parts,
-    blocks: &mut [Option<Known>],
-    chains: &mut [Option<Known>],
-    marks: &mut [bool],
-    versions: &mut [u64],
-) -> Result<(), Memory>
+fn settle_rows(alloc: Global, parts: &Parts, draft: &mut Draft) -> Result<(), Memory>
     requires well { IsWell parts.now }
-    requires marks { MarksSuffice parts.now marks.old (model.rows_of blocks.old chains.old) }
-    requires versions { AreVersions versions.old blocks.old }
-    requires start { model.rows_of blocks.old chains.old ≡ model.start parts.now }
-    ensures table { IfOk result (λ _. model.AreSettled parts.now (model.rows_of blocks.new chains.new)) }
-    ensures kept { IfOk result (λ _. AreKept parts.now (model.rows_of blocks.new chains.new)) }
-    ensures settled { IfOk result (λ _. IsSettled parts.now (model.rows_of blocks.new chains.new)) }
+    requires noted { AreNoted parts.now draft.old }
+    requires start { rows_held draft.old.rows ≡ model.start parts.now }
+    ensures table { IfOk result (λ _. model.AreSettled parts.now (rows_held draft.new.rows)) }
+    ensures kept { IfOk result (λ _. AreKept parts.now (rows_held draft.new.rows)) }
+    ensures settled { IfOk result (λ _. IsSettled parts.now (rows_held draft.new.rows)) }
 {
+    let mut pace = Pace::new();
     'more: loop {
         'less: loop {
-            match round(alloc, parts, blocks, chains, marks, versions)? {
+            match advance(alloc, parts, draft, &mut pace)? {
                 Change::Same => return Ok(()),
                 Change::Less => {}
                 Change::More => break 'less,
@@ -106,21 +98,12 @@ fn settle_rows(
 /// The rows of the assembler's state table: those after as many rounds as change something.
 pub(crate) fn settled_rows(alloc: Global, parts: &Parts) -> Result<TableRows, Memory>
     requires { IsWell parts.now }
-    ensures table { IfOk result (λ rows. model.AreSettled parts.now (model.rows_of rows.blocks.items rows.chains.items)) }
-    ensures kept { IfOk result (λ rows. AreKept parts.now (model.rows_of rows.blocks.items rows.chains.items)) }
-    ensures settled { IfOk result (λ rows. IsSettled parts.now (model.rows_of rows.blocks.items rows.chains.items)) }
+    ensures table { IfOk result (λ rows. model.AreSettled parts.now (rows_held rows)) }
+    ensures kept { IfOk result (λ rows. AreKept parts.now (rows_held rows)) }
+    ensures settled { IfOk result (λ rows. IsSettled parts.now (rows_held rows)) }
 {
-    let mut blocks = start_blocks(alloc, parts.blocks.as_slice())?;
-    let mut chains = start_chains(alloc, chains_in(parts.entities.as_slice()))?;
-    let mut marks = all_marked(alloc, parts.blocks.as_slice().len())?;
-    let mut versions = no_versions(alloc, blocks.len())?;
-    settle_rows(
-        alloc,
-        parts,
-        &mut blocks,
-        &mut chains,
-        &mut marks,
-        &mut versions,
-    )?;
-    Ok(TableRows { blocks, chains })
+    let rows = start_rows(alloc, parts)?;
+    let mut draft = draft_of(alloc, parts, rows)?;
+    settle_rows(alloc, parts, &mut draft)?;
+    Ok(draft.rows)
 }

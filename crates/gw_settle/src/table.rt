@@ -7,7 +7,7 @@ ghost use Rattle.gw_flow.specs.declared.edges.Target.TheVariants as targets;
 ghost use Rattle.gw_flow.specs.declared.edges.FlowEdge.{FlowEdge as DeclaredEdge};
 ghost use Rattle.gw_flow.specs.Blocks.{Table as FlowTable};
 ghost use Rattle.gw_flow.specs.Rows.{Row, HasRoom};
-ghost use Rattle.gw_settle.specs.Keeps.{MayEnter, HasShape, IsWell, AreKept};
+ghost use Rattle.gw_settle.specs.Keeps.{MayEnter, HasShape, IsWell, AreSound};
 ghost use Rattle.gw_settle.specs.Marks.{with_mark, UnlinksMarked, MarksFollow, MarksSuffice};
 ghost use Rattle.gw_settle.specs.Versions.{without_version, AreVersions};
 ghost use Rattle.gw_settle.specs.Rounds as model;
@@ -283,7 +283,7 @@ fn visit_in(
     requires number { number ≤ 4096 }
     requires there { block_at parts.now.blocks number ≡ Some block.now }
     requires well { IsWell parts.now }
-    requires kept { AreKept parts.now (model.rows_of blocks.old chains.old) }
+    requires sound { AreSound parts.now (model.rows_of blocks.old chains.old) }
     requires row { model.as_table parts.now (model.rows_of blocks.old chains.old) (targets.Block number) ≡ Some row.now }
     requires members { option_copied members ≡ model.members_in (model.as_table parts.now (model.rows_of blocks.old chains.old)) block.now }
     requires marks { length marks.old ≡ length parts.now.blocks }
@@ -316,7 +316,7 @@ fn visit(
 ) -> Result<Change, Memory>
     requires there { IsSome (block_at parts.now.blocks number) }
     requires well { IsWell parts.now }
-    requires kept { AreKept parts.now (model.rows_of blocks.old chains.old) }
+    requires sound { AreSound parts.now (model.rows_of blocks.old chains.old) }
     requires marks { length marks.old ≡ length parts.now.blocks }
     requires versions { AreVersions versions.old blocks.old }
     ensures rows { IfOk result (λ _. model.rows_of blocks.new chains.new ≡ model.visited parts.now number (model.rows_of blocks.old chains.old)) }
@@ -356,7 +356,7 @@ fn visit_marked(
     requires there { IsSome (block_at parts.now.blocks number) }
     requires first { 1 ≤ number }
     requires well { IsWell parts.now }
-    requires kept { AreKept parts.now (model.rows_of blocks.old chains.old) }
+    requires sound { AreSound parts.now (model.rows_of blocks.old chains.old) }
     requires marks { MarksSuffice parts.now marks.old (model.rows_of blocks.old chains.old) }
     requires versions { AreVersions versions.old blocks.old }
     ensures rows { IfOk result (λ _. model.rows_of blocks.new chains.new ≡ model.visited parts.now number (model.rows_of blocks.old chains.old)) }
@@ -383,7 +383,7 @@ pub(crate) fn round(
     versions: &mut [u64],
 ) -> Result<Change, Memory>
     requires well { IsWell parts.now }
-    requires kept { AreKept parts.now (model.rows_of blocks.old chains.old) }
+    requires sound { AreSound parts.now (model.rows_of blocks.old chains.old) }
     requires marks { MarksSuffice parts.now marks.old (model.rows_of blocks.old chains.old) }
     requires versions { AreVersions versions.old blocks.old }
     ensures rows { IfOk result (λ _. model.rows_of blocks.new chains.new ≡ model.round parts.now (model.rows_of blocks.old chains.old)) }

@@ -1,12 +1,12 @@
 use Rattle.std.proofs.Common.{rules, ◌≡◌, ◌+◌, suc, sym, ap, subst, ◌∙◌, arith}
 use Rattle.gw_settle.specs.Rounds.{rows_of, visited, visited_to, change_at, change_to, followed_by}
-use Rattle.gw_settle.specs.Keeps.{AreKept}
+use Rattle.gw_settle.specs.Keeps.{AreSound}
 use Rattle.gw_settle.specs.Marks.{MarksSuffice}
-use Rattle.gw_settle.proofs.Kept.{visited_keep}
+use Rattle.gw_settle.proofs.Kept.{visited_sound}
 use Rattle.gw_settle.proofs.table.round.Goals as goal
 
-pub visit_marked-requires-clause-kept : goal.visit_marked-requires-clause-kept
-visit_marked-requires-clause-kept c = subst (AreKept c.args.parts.now) (sym c.loop-i.invariant.rows) (visited_keep c.args.parts.now c.loop-i.i (rows_of c.args.blocks.now c.args.chains.now) c.requires.well c.requires.kept)
+pub visit_marked-requires-clause-sound : goal.visit_marked-requires-clause-sound
+visit_marked-requires-clause-sound c = subst (AreSound c.args.parts.now) (sym c.loop-i.invariant.rows) (visited_sound c.args.parts.now c.loop-i.i (rows_of c.args.blocks.now c.args.chains.now) c.requires.well c.requires.sound)
 
 pub loop-i-preserved : goal.loop-i-preserved
 loop-i-preserved c =

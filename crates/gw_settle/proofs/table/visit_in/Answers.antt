@@ -16,7 +16,7 @@ use Rattle.gw_settle.proofs.table.visit_in.Goals as goal
 pub edges_sent-requires-clause-room : goal.edges_sent-requires-clause-room
 edges_sent-requires-clause-room c =
     let is : c.in_ok-state.state ≡ c.args.row.now = search rules in
-    subst HasRoom (sym is) (row_room c.args.parts.now c.args.number c.args.row.now (rows_of c.args.blocks.now c.args.chains.now) c.requires.well c.requires.kept c.requires.row)
+    subst HasRoom (sym is) (row_room c.args.parts.now c.args.number c.args.row.now (rows_of c.args.blocks.now c.args.chains.now) c.requires.well c.requires.sound c.requires.row)
 
 pub send_all-requires-clause-enter : goal.send_all-requires-clause-enter
 send_all-requires-clause-enter c =
@@ -25,7 +25,7 @@ send_all-requires-clause-enter c =
     let edges : c.deref.result.now ≡ c.in_ok-edges.edges.items = search rules in
     let sent : c.deref.result.now ≡ sends c.args.parts.now table c.args.number =
     edges ∙ rw is at (c.in_ok-edges.ensures table c.requires.members) ∙ sends_are c.args.parts.now table c.args.number c.args.block.now c.args.row.now c.requires.there c.requires.row in
-    subst (All (λ (e : FlowEdge). MayEnter c.args.parts.now e.target)) (sym sent) (sends_enter c.args.parts.now c.args.number (rows_of c.args.blocks.now c.args.chains.now) c.requires.well c.requires.kept)
+    subst (All (λ (e : FlowEdge). MayEnter c.args.parts.now e.target)) (sym sent) (sends_enter c.args.parts.now c.args.number (rows_of c.args.blocks.now c.args.chains.now) c.requires.well c.requires.sound)
 
 pub returns-clause-rows : goal.returns-clause-rows
 returns-clause-rows c =
@@ -50,8 +50,8 @@ visit_return-requires-clause-callers c = λ holds.
     let p = c.args.parts.now in
     let rows = rows_of c.args.blocks.now c.args.chains.now in
     let there : block_at p.blocks c.args.number ≡ Some (blocks.TransferByParameter c.in-TransferByParameter.parameter) = c.requires.there ∙ ap Some c.in-TransferByParameter.is in
-    let within = returns_within p c.args.number c.in-TransferByParameter.parameter c.args.row.now c.args.blocks.now c.args.chains.now there c.requires.row (sends_enter p c.args.number rows c.requires.well c.requires.kept) holds in
-    subst (λ n. All (λ b. b < n) (return_blocks (kind_of c.args.row.now c.in-TransferByParameter.parameter))) (sym c.requires.kept.shape.blocks) within
+    let within = returns_within p c.args.number c.in-TransferByParameter.parameter c.args.row.now c.args.blocks.now c.args.chains.now there c.requires.row (sends_enter p c.args.number rows c.requires.well c.requires.sound) holds in
+    subst (λ n. All (λ b. b < n) (return_blocks (kind_of c.args.row.now c.in-TransferByParameter.parameter))) (sym c.requires.sound.shape.blocks) within
 
 pub returns-in-TransferByParameter-clause-rows : goal.returns-in-TransferByParameter-clause-rows
 returns-in-TransferByParameter-clause-rows c =

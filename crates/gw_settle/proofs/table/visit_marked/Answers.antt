@@ -21,4 +21,4 @@ returns-clause-marks c =
     let next = rows_of c.visit.new.blocks c.visit.new.chains in
     let is : next ≡ visited p c.args.number rows = search rules in
     let follows : MarksFollow p (set c.args.marks.now (c.args.number - 1) false) c.visit.new.marks (as_table p rows) (as_table p next) = search rules in
-    suffice_visited p c.args.marks.now c.visit.new.marks c.args.number rows next c.requires.first c.requires.well c.requires.kept c.requires.marks is follows
+    suffice_visited p c.args.marks.now c.visit.new.marks c.args.number rows next c.requires.first c.requires.well c.requires.sound c.requires.marks is follows

@@ -1,5 +1,5 @@
 use Rattle.std.proofs.Common.{◌≡◌, replicate}
-use Rattle.gw_settle.proofs.rounds.no_versions.Given as goal
+use Rattle.gw_settle.proofs.draft.no_versions.Given as goal
 
 -- as many versions so far as rows so far
 abbrev pub invariant-loop : goal.invariant-loop

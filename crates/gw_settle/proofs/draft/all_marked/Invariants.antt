@@ -1,5 +1,5 @@
 use Rattle.std.proofs.Common.{◌≡◌, true, replicate}
-use Rattle.gw_settle.proofs.rounds.all_marked.Given as goal
+use Rattle.gw_settle.proofs.draft.all_marked.Given as goal
 
 -- as many marks so far as blocks so far
 abbrev pub invariant-loop : goal.invariant-loop

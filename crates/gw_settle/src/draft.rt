@@ -1,0 +1,117 @@
+//! A state table in the making, with what rounds over its blocks note.
+
+ghost use Rattle.std.specs.Prelude.{◌≡◌, IfOk, length, replicate, true};
+ghost use Rattle.gw_settle.specs.Drafts.{rows_held, AreNoted, IsRound};
+ghost use Rattle.gw_settle.specs.Keeps.{IsWell, AreSound};
+
+use crate::known::Known;
+use crate::table::{Change, round};
+use gw_object::{Memory, Parts};
+use std::alloc::Global;
+
+/// The rows of a state table.
+#[derive(Debug, Drop)]
+pub(crate) struct TableRows {
+    /// The rows of the blocks, in order.
+    pub blocks: Vec<Option<Known>>,
+    /// The rows of those entities that are user chains, in order.
+    pub chains: Vec<Option<Known>>,
+}
+
+/// Rows in the making.
+#[derive(Debug, Drop)]
+pub(crate) struct Draft {
+    /// The rows.
+    pub rows: TableRows,
+    /// Which blocks are to be visited, in order.
+    pub marks: Vec<bool>,
+    /// The versions of the blocks' rows, in order.
+    pub versions: Vec<u64>,
+}
+
+/// So many marks, each set.
+fn all_marked(alloc: Global, count: usize) -> Result<Vec<bool>, Memory>
+    ensures { IfOk result (λ marks. marks.items ≡ replicate count true) }
+{
+    let mut marks = Vec::with_capacity(alloc, count)?;
+    for _ in 0..count {
+        marks.push(true)?;
+    }
+    Ok(marks)
+}
+
+/// So many rows' versions: none.
+fn no_versions(alloc: Global, count: usize) -> Result<Vec<u64>, Memory>
+    ensures { IfOk result (λ versions. versions.items ≡ replicate count 0) }
+{
+    let mut versions = Vec::with_capacity(alloc, count)?;
+    for _ in 0..count {
+        versions.push(0)?;
+    }
+    Ok(versions)
+}
+
+/// A draft of these rows: each block is to be visited.
+pub(crate) fn draft_of(alloc: Global, parts: &Parts, rows: TableRows) -> Result<Draft, Memory>
+    requires { length rows.blocks.items ≡ length parts.now.blocks }
+    ensures rows { IfOk result (λ draft. rows_held draft.rows ≡ rows_held rows) }
+    ensures noted { IfOk result (AreNoted parts.now) }
+{
+    let count = parts.blocks.as_slice().len();
+    let marks = all_marked(alloc, count)?;
+    let versions = no_versions(alloc, count)?;
+    Ok(Draft {
+        rows,
+        marks,
+        versions,
+    })
+}
+
+/// One more round.
+pub(crate) fn next_round(alloc: Global, parts: &Parts, draft: &mut Draft) -> Result<Change, Memory>
+    requires well { IsWell parts.now }
+    requires sound { AreSound parts.now (rows_held draft.old.rows) }
+    requires noted { AreNoted parts.now draft.old }
+    ensures round { IfOk result (IsRound parts.now draft.old draft.new) }
+    ensures noted { IfOk result (λ _. AreNoted parts.now draft.new) }
+{
+    let change = round(
+        alloc,
+        parts,
+        &mut draft.rows.blocks,
+        &mut draft.rows.chains,
+        &mut draft.marks,
+        &mut draft.versions,
+    )?;
+    Ok(change)
+}
+
+/// The row at a place once more, if there is one.
+fn place_shared(place: &Option<Known>) -> Result<Option<Known>, Memory>
+    ensures { IfOk result (λ row. row ≡ place.now) }
+{
+    match place {
+        Some(row) => Ok(Some(row.share()?)),
+        None => Ok(None),
+    }
+}
+
+/// Rows once more.
+fn places_shared(alloc: Global, rows: &[Option<Known>]) -> Result<Vec<Option<Known>>, Memory>
+    ensures { IfOk result (λ all. all.items ≡ rows.now) }
+{
+    let mut all = Vec::with_capacity(alloc, rows.len())?;
+    for row in rows {
+        all.push(place_shared(row)?)?;
+    }
+    Ok(all)
+}
+
+/// The rows of a table once more.
+pub(crate) fn rows_shared(alloc: Global, rows: &TableRows) -> Result<TableRows, Memory>
+    ensures { IfOk result (λ all. rows_held all ≡ rows_held rows.now) }
+{
+    let blocks = places_shared(alloc, &rows.blocks)?;
+    let chains = places_shared(alloc, &rows.chains)?;
+    Ok(TableRows { blocks, chains })
+}
