@@ -1,5 +1,4 @@
 pub mod Ascii
-pub mod Forms
 pub mod Mapping
 pub mod Naming
 pub mod Walking

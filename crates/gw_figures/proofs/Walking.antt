@@ -2,7 +2,7 @@
 use Rattle.std.proofs.Common.{◌≡◌, ◌∙◌, ◌<◌, ℕ, zero, suc, ◌+◌, ◌-◌, min, List, [], ◌∷◌, ◌++◌, append_assoc, length, drop, Some, None, get_or, refl, sym, ap, inl, inr, add-zero, arith, Bor}
 use Rattle.std.proofs.lemmas.Bool.{cases_lt}
 use Rattle.std.proofs.lemmas.List.{drop-drop, drop_all}
-use Rattle.gw_figures.specs.Figures.{Form, form_of, form_at_front, figures_of, table_behind, figures_behind, texts}
+use Rattle.gw_figures.specs.Figures.{Form, form_of, form_at_front, figures_of_line, table_behind, figures_behind, texts}
 
 -- the words that are passed over
 passed : (left : ℕ) (table : List (List ℕ)) (first : ℕ) (words : List (List ℕ)) → figures_behind left table first words ≡ figures_behind 0 table (first + left) (drop left words)
@@ -23,11 +23,11 @@ behind (suc n) table first word words some =
 
 -- where a line begins, its figures come, and then those behind it
 line_first : (table : List (List ℕ)) (first : ℕ) (words : List (List ℕ)) (form : Form) → form_at_front words ≡ Some form → 0 < form.words
-    → figures_behind 0 table first words ≡ figures_of table first form words ++ figures_behind 0 (table_behind table form words) (first + form.words) (drop form.words words)
+    → figures_behind 0 table first words ≡ figures_of_line table first form words ++ figures_behind 0 (table_behind table form words) (first + form.words) (drop form.words words)
 unfolding figures_behind
 line_first table first [] form is some = absurd (cc)
 line_first table first (word ∷ words) form is some =
-    rw is (ap (λ xs. figures_of table first form (word ∷ words) ++ xs) (behind form.words (table_behind table form (word ∷ words)) first word words some))
+    rw is (ap (λ xs. figures_of_line table first form (word ∷ words) ++ xs) (behind form.words (table_behind table form (word ∷ words)) first word words some))
 
 -- where none begins, there are no more
 pub none_more : (table : List (List ℕ)) (first : ℕ) (words : List (List ℕ)) → form_at_front words ≡ None → figures_behind 0 table first words ≡ []
@@ -51,7 +51,7 @@ up_to_end table first words =
 -- one line more
 pub line_more : (table : List (List ℕ)) (front all : List (ℕ × List ℕ)) (first : ℕ) (words : List (List ℕ)) (form : Form) → form_at_front (drop first words) ≡ Some form → 0 < form.words
     → front ++ figures_behind 0 table first (drop first words) ≡ all
-    → (front ++ figures_of table first form (drop first words))
+    → (front ++ figures_of_line table first form (drop first words))
     ++ figures_behind 0 (table_behind table form (drop first words)) (min (length words) (first + form.words)) (drop (min (length words) (first + form.words)) words) ≡ all
 line_more table front all first words form is some before =
     let own = drop first words in
@@ -60,7 +60,7 @@ line_more table front all first words form is some before =
     let same : figures_behind 0 table' (first + form.words) (drop (first + form.words) words) ≡ rest =
     ap (λ xs. figures_behind 0 table' (first + form.words) xs) (sym (drop-drop form.words first words)) in
     rw (up_to_end table' (first + form.words) words, same)
-    (append_assoc front (figures_of table first form own) rest ∙ (ap (λ xs. front ++ xs) (sym (line_first table first own form is some)) ∙ before))
+    (append_assoc front (figures_of_line table first form own) rest ∙ (ap (λ xs. front ++ xs) (sym (line_first table first own form is some)) ∙ before))
 
 -- the first of the words from a place on
 pub front_at : (words : List (Bor (List ℕ))) (first : ℕ) (word : Bor (List ℕ)) → first < length words → word ≡ get_or words first word → form_at_front (drop first (texts words)) ≡ form_of word.now

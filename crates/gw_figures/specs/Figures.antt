@@ -63,8 +63,8 @@ abbrev pub figure_of : List (List ℕ) → ℕ → Form → List (List ℕ) → 
 figure_of table first form words figure = (first + figure.0, name_of table form words figure.1)
 
 -- all of that line's
-abbrev pub figures_of : List (List ℕ) → ℕ → Form → List (List ℕ) → List (ℕ × List ℕ)
-figures_of table first form words = map (figure_of table first form words) form.figures
+abbrev pub figures_of_line : List (List ℕ) → ℕ → Form → List (List ℕ) → List (ℕ × List ℕ)
+figures_of_line table first form words = map (figure_of table first form words) form.figures
 
 -- the words that name the table whose classes come behind that line: its own, if it's a table's
 abbrev pub table_behind : List (List ℕ) → Form → List (List ℕ) → List (List ℕ)
@@ -78,7 +78,7 @@ figures_behind left table first [] = []
 figures_behind (suc left) table first (word ∷ words) = figures_behind left table (first + 1) words
 figures_behind zero table first (word ∷ words) =
     option_map_or
-    (λ form. figures_of table first form (word ∷ words)
+    (λ form. figures_of_line table first form (word ∷ words)
     ++ figures_behind (form.words - 1) (table_behind table form (word ∷ words)) (first + 1) words)
     (form_of word) []
 

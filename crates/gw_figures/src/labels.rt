@@ -92,8 +92,8 @@ fn put_line(
     first: usize,
 ) -> Result<(), AllocError>
     requires { first ≤ length words.now }
-    ensures { OnOk result (labels figures.new.items ≡ labels figures.old.items
-        ++ model.figures_of (texts table.now) first (form line) (drop first (texts words.now))) }
+    ensures { OnOk result (labels figures.new.items ≡ labels figures.old.items ++
+        model.figures_of_line (texts table.now) first (form line) (drop first (texts words.now))) }
 {
     let own = &words[first..];
     for (place, what) in line.figures {

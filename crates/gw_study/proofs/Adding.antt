@@ -5,7 +5,7 @@ use Rattle.std.specs.List.{AllZip, concat}
 use Rattle.std.specs.Prelude.{ℤ, Option, Result, Ok, Err, OnOk}
 use Rattle.gw_figures.specs.Numbers.{words_in, values_in}
 use Rattle.gw_figures.specs.Figures.{figures_in}
-use Rattle.gw_study.specs.Rows.{IsRowOf, figures_of, AddsRow, AddsRowsOf, AddsRows}
+use Rattle.gw_study.specs.Rows.{IsRowOf, figures_of_first, AddsRow, AddsRowsOf, AddsRows}
 
 -- one pair more
 push : {A B : Type 0} (R : A → B → Type 0) (xs : List A) (ys : List B) (x : A) (y : B) → AllZip R xs ys → R x y → AllZip R (xs ++ x ∷ []) (ys ++ y ∷ [])
@@ -32,13 +32,13 @@ row_more rows figures figure first old new before row =
     (text ++ t, (texts ++ t ∷ [], push (IsRowOf rows) figures texts figure t before.1.1 row.1, joined text t texts before.1.2), grown)
 
 -- the figures of the first report
-pub of_first : {X : Type 0} (f : X → List ℕ) (reports : List X) (first : X) → first ≡ get_or reports 0 first → 0 < length reports → figures_in (words_in (f first)) ≡ figures_of (map f reports)
+pub of_first : {X : Type 0} (f : X → List ℕ) (reports : List X) (first : X) → first ≡ get_or reports 0 first → 0 < length reports → figures_in (words_in (f first)) ≡ figures_of_first (map f reports)
 of_first f [] first is some = absurd (omega arith)
 of_first f (x ∷ xs) first is some = ap (λ r. figures_in (words_in (f r))) is
 
 -- the rows of all figures
 pub all_rows : {E : Type 0} (r : Result (Unit {0}) E) (reports : List (List ℕ)) (rows : List (List (Option ℤ))) (figures : List (ℕ × List ℕ)) (old new : List ℕ)
-    → rows ≡ map values_in reports → figures ≡ figures_of reports → OnOk r (AddsRowsOf rows figures old new) → OnOk r (AddsRows reports old new)
+    → rows ≡ map values_in reports → figures ≡ figures_of_first reports → OnOk r (AddsRowsOf rows figures old new) → OnOk r (AddsRows reports old new)
 all_rows (Ok u) reports rows figures old new numbers own h =
     subst (λ xs. AddsRowsOf (map values_in reports) xs old new) own (subst (λ xs. AddsRowsOf xs figures old new) numbers h)
 all_rows (Err e) reports rows figures old new numbers own h = tt

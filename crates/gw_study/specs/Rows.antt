@@ -45,13 +45,13 @@ AreRowsOf rows figures text =
     (texts : List (List ℕ)) × AllZip (IsRowOf rows) figures texts × (text ≡ concat texts)
 
 -- the figures that a study tells of: those of the first report
-abbrev pub figures_of : List (List ℕ) → List (ℕ × List ℕ)
-figures_of [] = []
-figures_of (first ∷ others) = figures_in (words_in first)
+abbrev pub figures_of_first : List (List ℕ) → List (ℕ × List ℕ)
+figures_of_first [] = []
+figures_of_first (first ∷ others) = figures_in (words_in first)
 
 -- their rows, of the numbers of all reports
 abbrev pub AreRows : List (List ℕ) → List ℕ → Type 0
-AreRows reports text = AreRowsOf (map values_in reports) (figures_of reports) text
+AreRows reports text = AreRowsOf (map values_in reports) (figures_of_first reports) text
 
 -- the row of a figure is added
 abbrev pub AddsRow : List (List (Option ℤ)) → ℕ × List ℕ → List ℕ → List ℕ → Type 0
