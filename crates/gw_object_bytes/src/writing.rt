@@ -4,7 +4,7 @@ ghost use Rattle.std.specs.Prelude.{◌≡◌, IfOk};
 ghost use Rattle.gw_fields.specs.Fields.{Leaves};
 ghost use Rattle.gw_fields.specs.Receivers.{Puts};
 ghost use Rattle.gw_object.specs.Grammar.{head, spelling};
-ghost use Rattle.gw_object_bytes.specs.Tables.{tables_spelling};
+ghost use Rattle.gw_object_bytes.specs.Tables.{lists_spelling, tables_spelling};
 
 use crate::entities::Entities;
 use crate::lists::{Seeds, Weights};
@@ -40,6 +40,17 @@ fn put_tables<R: Receiver>(to: &mut R, parts: &Parts) -> Result<(), R::Refusal>
     put_elements::<Weights, R>(to, parts.chain_weights.as_slice())
 }
 
+/// The entities, procedures and blocks, and what stands behind them.
+#[tactic(auto, using(gw_fields::proofs::Receiving::joining))]
+fn put_lists<R: Receiver>(to: &mut R, parts: &Parts) -> Result<(), R::Refusal>
+    ensures { Puts R.content to.old to.new (lists_spelling parts.now) result }
+{
+    put_listed::<Entities, R>(to, parts.entities.as_slice())?;
+    put_listed::<Plain<CodeFormat, Procedure>, R>(to, parts.procedures.as_slice())?;
+    put_listed::<Plain<BlockFormat, Block>, R>(to, parts.blocks.as_slice())?;
+    put_tables(to, parts)
+}
+
 /// The bytes that spell parts.
 #[tactic(auto, using(gw_fields::proofs::Receiving::joining), unfolding(gw_object::specs::Grammar::spelling, gw_object::specs::Grammar::object))]
 fn put_parts<R: Receiver>(to: &mut R, parts: &Parts) -> Result<(), R::Refusal>
@@ -48,10 +59,7 @@ fn put_parts<R: Receiver>(to: &mut R, parts: &Parts) -> Result<(), R::Refusal>
     put_head(to)?;
     put_listed::<Seeds, R>(to, parts.seeds.as_slice())?;
     parts.count.put(to)?;
-    put_listed::<Entities, R>(to, parts.entities.as_slice())?;
-    put_listed::<Plain<CodeFormat, Procedure>, R>(to, parts.procedures.as_slice())?;
-    put_listed::<Plain<BlockFormat, Block>, R>(to, parts.blocks.as_slice())?;
-    put_tables(to, parts)
+    put_lists(to, parts)
 }
 
 /// How many bytes of a room are left behind those that spell parts; `None` where they don't fit into it.
