@@ -5,8 +5,8 @@ ghost use Rattle.std.specs.List.{All};
 ghost use Rattle.gw_blocks.specs.Grammar.{generate, GenerateFits, units, fraction, call, split, block, BlockFits};
 ghost use Rattle.gw_fields.specs.Answers.{Gives};
 
-use crate::operands::*;
 use crate::BlockFormat;
+use crate::operands::*;
 use gw_blocks::{
     Assign, Block, Call, Fraction, Gate, Generate, Link, Logic, Loop, Operand, Plus, Priority,
     Save, Split, Spread, Test, Units, Unlink,

@@ -5,8 +5,8 @@ ghost use Rattle.std.specs.Prelude.{◌≡◌};
 ghost use Rattle.gw_blocks.specs.Grammar.{mode_byte, modes, assign, countdown, action_byte, actions, logic, save, priority, plus};
 ghost use Rattle.gw_fields.specs.Answers.{Gives};
 
-use crate::operands::{read_parameter_if_any, read_parameter_number};
 use crate::BlockFormat;
+use crate::operands::{read_parameter_if_any, read_parameter_number};
 use gw_blocks::{Assign, Logic, Loop, Mode, Operand, Plus, Priority, Save, SwitchAction};
 use gw_fields::{NumberFormat, OneByte, ReadError, Receiver, Spelled, read_one_of};
 use std::alloc::Global;

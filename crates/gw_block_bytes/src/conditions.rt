@@ -45,7 +45,11 @@ impl Spelled<BlockFormat> for Test {
 
     #[tactic(auto, unfolding(gw_blocks::specs::Grammar::test_operands))]
     fn put<R: Receiver>(&self, to: &mut R) -> Result<(), R::Refusal> {
-        (self.comparison.byte(), (self.left, (self.right, self.otherwise))).put(to)
+        (
+            self.comparison.byte(),
+            (self.left, (self.right, self.otherwise)),
+        )
+            .put(to)
     }
 
     #[tactic(auto, unfolding(gw_blocks::specs::Grammar::test_operands))]

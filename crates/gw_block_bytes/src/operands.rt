@@ -11,7 +11,9 @@ use gw_blocks::{
     Attribute, EntityAttribute, MOST_PARAMETERS, MOST_STREAMS, Numbered, Operand, Spread,
 };
 use gw_fields::codes::{NOT_CANONICAL, TAG};
-use gw_fields::{OneByte, ReadError, Receiver, Spelled, fault, put_behind, read_one_of, read_ranged_u8};
+use gw_fields::{
+    OneByte, ReadError, Receiver, Spelled, fault, put_behind, read_one_of, read_ranged_u8,
+};
 use std::alloc::Global;
 
 /// Whether this is the number of a parameter.

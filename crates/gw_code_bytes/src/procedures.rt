@@ -4,13 +4,14 @@ ghost use Rattle.std.specs.Prelude.{◌↔◌, IsTrue};
 ghost use Rattle.std.specs.List.{All};
 ghost use Rattle.gw_code.specs.Grammar.{InstructionFits, SnaFits, need, procedure, ProcedureFits, NeedsAscend};
 
-use crate::instructions::*;
 use crate::CodeFormat;
+use crate::instructions::*;
 use gw_block_bytes::{is_parameter, read_parameter_above};
 use gw_blocks::MOST_PARAMETERS;
 use gw_code::{Instruction, MOST_BACKS, MOST_INSTRUCTIONS, MOST_LOCALS, Procedure, Sna};
 use gw_fields::{
-    Elements, Items, ReadError, Receiver, Spelled, keys_ascend, put_listed, read_listed, read_ranged_u8,
+    Elements, Items, ReadError, Receiver, Spelled, keys_ascend, put_listed, read_listed,
+    read_ranged_u8,
 };
 use std::alloc::Global;
 

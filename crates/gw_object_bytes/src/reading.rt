@@ -76,7 +76,10 @@ fn read_tables(
     let (weights, rest) = read_elements::<Weights>(alloc, blocks, rest)?;
     let (chain_weights, rest) = read_elements::<Weights>(alloc, chains, rest)?;
     let weights = (Items::from_vec(weights), Items::from_vec(chain_weights));
-    let states = (Items::from_vec(states), (Items::from_vec(chain_states), weights));
+    let states = (
+        Items::from_vec(states),
+        (Items::from_vec(chain_states), weights),
+    );
     Ok(((Items::from_vec(returns), states), rest))
 }
 

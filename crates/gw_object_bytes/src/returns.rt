@@ -4,8 +4,8 @@ ghost use Rattle.std.specs.Prelude.{◌≡◌, ◌↔◌, IsTrue};
 ghost use Rattle.std.specs.List.{All};
 ghost use Rattle.gw_object.specs.Grammar.{return_row, ReturnRowFits, AreAscending};
 
-use crate::states::AscendingNumbers;
 use crate::ObjectFormat;
+use crate::states::AscendingNumbers;
 use gw_fields::{Items, ReadError, Receiver, Spelled, keys_ascend, put_listed, read_listed};
 use gw_object::{MOST_BLOCKS, ReturnRow};
 use std::alloc::Global;

@@ -13,7 +13,7 @@ use gw_block_bytes::BlockFormat;
 use gw_blocks::Block;
 use gw_code::Procedure;
 use gw_code_bytes::CodeFormat;
-use gw_fields::{Plain, Room, Receiver, Spelled, put_elements, put_listed};
+use gw_fields::{Plain, Receiver, Room, Spelled, put_elements, put_listed};
 use gw_object::{Object, Parts, ReturnRow, TableState};
 use std::alloc::Global;
 
