@@ -24,7 +24,7 @@ use Rattle.gw_kinds.specs.Laws.{EntityHolds, ProcedureHolds, InstructionHolds}
 use Rattle.gw_code_flow.specs.declared.ends.PlusEnd.TheVariants.{LoopLimit}
 use Rattle.gw_code_flow.specs.Environment.{Environment, attribute_value}
 use Rattle.gw_code_flow.specs.Code.{procedure_at, arguments_of, needs_of, most_values, takes, targets, leads_well, called_in, calls_lower, asks_for, is_among, cost_of_called, cost_of_instruction, cost_of_body}
-use Rattle.gw_code_flow.specs.Made.{operand_value}
+use Rattle.gw_code_flow.specs.Made.{value_by_operand}
 use Rattle.gw_code_flow.specs.PlusChecks.{Heights, height_after}
 use Rattle.gw_code_flow.specs.Meaning.{taken_at, take_once, Frame, Next, Goes, Calls, Returns, Ends, Stuck, on, pushed, popped, calculated, calls_with, reads_source, act, next, opening}
 use Rattle.gw_code_flow.specs.Laws.{HasSet, CodeHolds}
@@ -189,10 +189,10 @@ module _ (p : Parts) (env : Environment) (n : ℕ) (pr : Procedure) (heights : H
   source_well f finish (Random j) may w = absurd may
   source_well f finish (ValueOf q) may w = record { procedure = may.procedure; there = may.there; lower = may.lower; count = sym may.none; needs = may.needs; answered = λ v. answered f (on f) q v w }
 
-  value_well : (sna : Sna) (f : Frame) → Known f (Value sna) → Well f (reads_source env (source_of p.entities (as_operand sna)) (operand_value p.entities (as_operand sna)) (on f))
+  value_well : (sna : Sna) (f : Frame) → Known f (Value sna) → Well f (reads_source env (source_of p.entities (as_operand sna)) (value_by_operand p.entities (as_operand sna)) (on f))
   value_well sna f k =
       let cost = cost_of_called costs (called_in p.entities (Value sna)) in
-      source_well f (operand_value p.entities (as_operand sna)) (source_of p.entities (as_operand sna))
+      source_well f (value_by_operand p.entities (as_operand sna)) (source_of p.entities (as_operand sna))
       (may_read p env n pr.locals sna k.entities k.holds k.calls_lower k.set)
       (awaits f (on f) (Value sna) _ k.here refl k.leads_well refl k.locals k.leads.0 (omega arith) k.room cost (omega arith))
 

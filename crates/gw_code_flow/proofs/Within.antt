@@ -12,7 +12,7 @@ use Rattle.gw_kinds.specs.Evaluated.{source_of, as_operand}
 use Rattle.gw_code_flow.specs.declared.ends.PlusEnd.{PlusEnd}
 use Rattle.gw_code_flow.specs.Environment.{Environment, ReadTheSame}
 use Rattle.gw_code_flow.specs.Code.{procedure_at}
-use Rattle.gw_code_flow.specs.Made.{operand_value}
+use Rattle.gw_code_flow.specs.Made.{value_by_operand}
 use Rattle.gw_code_flow.specs.PlusChecks.{costs_of}
 use Rattle.gw_code_flow.specs.Meaning.{Frame, Next, Goes, Calls, Returns, Ends, Stuck, on, pushed, given, reads_source, act, next, opening, Derives, returns, ends, goes, call_ends, call_gives}
 use Rattle.gw_code_flow.specs.Outcome.{Answer, if_going, once_called, answer_by, answer_within, outcome_of}
@@ -99,7 +99,7 @@ module _ (p : Parts) (a b : Environment) (same : ReadTheSame a b) where
   act_same (Push v) f = refl
   act_same (Get local) f = refl
   act_same (Set local) f = refl
-  act_same (Value sna) f = source_same (source_of p.entities (as_operand sna)) (operand_value p.entities (as_operand sna)) (on f)
+  act_same (Value sna) f = source_same (source_of p.entities (as_operand sna)) (value_by_operand p.entities (as_operand sna)) (on f)
   act_same (Binary operator) f = refl
   act_same (Unary operator) f = refl
   act_same Pop f = refl

@@ -52,5 +52,5 @@ function_made es (OfEntity a) v = at_points a.attribute (points_of (kind_at es a
 function_made es operand v = v
 
 -- what an operand makes of the value of its source
-abbrev pub operand_value : List Entity → Operand → ℤ → ℤ
-operand_value es o v = function_made es o (truth_made (argument_in es o) v)
+abbrev pub value_by_operand : List Entity → Operand → ℤ → ℤ
+value_by_operand es o v = function_made es o (truth_made (argument_in es o) v)

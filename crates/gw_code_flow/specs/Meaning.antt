@@ -19,7 +19,7 @@ use Rattle.gw_code.specs.declared.parts.Sna.{Sna}
 use Rattle.gw_kinds.specs.Evaluated.{source_of, as_operand}
 use Rattle.gw_code_flow.specs.Environment.{Environment, kept_value}
 use Rattle.gw_code_flow.specs.Code.{most_values, procedure_at}
-use Rattle.gw_code_flow.specs.Made.{operand_value}
+use Rattle.gw_code_flow.specs.Made.{value_by_operand}
 
 -- ACTIVATIONS
 
@@ -144,7 +144,7 @@ reads_source env source finish f = given (kept_value env source) (λ v. pushed (
 
 -- VALUE
 abbrev pub reads : Parts → Environment → Sna → Frame → Next
-reads p env sna f = reads_source env (source_of p.entities (as_operand sna)) (operand_value p.entities (as_operand sna)) (on f)
+reads p env sna f = reads_source env (source_of p.entities (as_operand sna)) (value_by_operand p.entities (as_operand sna)) (on f)
 
 -- what an instruction does
 unfoldable pub act : Parts → Environment → Instruction → Frame → Next

@@ -21,7 +21,7 @@ use Rattle.gw_code_flow.specs.declared.ends.PlusEnd.{PlusEnd}
 use Rattle.gw_code_flow.specs.Environment.{Environment, attribute_value as own_value}
 use Rattle.gw_code_flow.specs.Code.{procedure_at, arguments_of, needs_of, most_values}
 use Rattle.gw_code_flow.specs.PlusChecks.{PlusPasses}
-use Rattle.gw_code_flow.specs.Made.{operand_value}
+use Rattle.gw_code_flow.specs.Made.{value_by_operand}
 use Rattle.gw_code_flow.specs.Meaning.{Taken, Frame, Next, Goes, Calls, Returns, Stuck, pushed, given, popped, calculated, calls_with, reads_source, act, next, opened, opening, Derives}
 use Rattle.gw_code_flow.specs.Outcome.{outcome_of}
 use Rattle.gw_code_flow.specs.Laws.{HasSet, MayBegin}
@@ -161,7 +161,7 @@ module _ (names : Numbers) (scope : Scope) (p : Parts) (env : Environment) (fits
   does_value : (sna : Sna) (place : ℕ) (stack locals : List ℤ) (taken : Taken) (k : ℕ) (r : Result ℤ PlusEnd) → slice_get pr.code place ≡ Some (Value sna) → Derives p env n (frame place stack locals taken) k r → GoesOn single (sna_value p env sna) (place + 1) stack locals taken r
   unfolding act
   does_value sna place stack locals taken k r here d =
-      reads (source_of p.entities (as_operand sna)) (operand_value p.entities (as_operand sna)) (place + 1) stack locals taken k r (read_may p env fits kinds passes n pr place sna there set here) (step (frame place stack locals taken) (Value sna) k r here d)
+      reads (source_of p.entities (as_operand sna)) (value_by_operand p.entities (as_operand sna)) (place + 1) stack locals taken k r (read_may p env fits kinds passes n pr place sna there set here) (step (frame place stack locals taken) (Value sna) k r here d)
 
   does_unary : (operator : UnaryOperator) (v : ℤ) (place : ℕ) (stack locals : List ℤ) (taken : Taken) (k : ℕ) (r : Result ℤ PlusEnd) → slice_get pr.code place ≡ Some (Unary operator) → Derives p env n (frame place (stack ++ v ∷ []) locals taken) k r → GoesOn single (arithmetic_value (unary_value operator v)) (place + 1) stack locals taken r
   unfolding act

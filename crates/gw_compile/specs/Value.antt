@@ -12,7 +12,7 @@ use Rattle.gw_code_flow.specs.declared.ends.PlusEnd.{PlusEnd}
 use Rattle.gw_code_flow.specs.Environment.{Environment, kept_value}
 use Rattle.gw_code_flow.specs.Code.{procedure_at}
 use Rattle.gw_code_flow.specs.PlusChecks.{costs_of}
-use Rattle.gw_code_flow.specs.Made.{operand_value}
+use Rattle.gw_code_flow.specs.Made.{value_by_operand}
 use Rattle.gw_code_flow.specs.Meaning.{ended_by, opening}
 use Rattle.gw_code_flow.specs.Outcome.{answer_within}
 use Rattle.gw_text_expressions.specs.declared.model.Expression.{Expression, Row_of-Expression, end_of-Expression, more_of-Expression}
@@ -60,7 +60,7 @@ source_value p env source = if_there (kept_value env source)
 
 -- the value of an attribute: what it makes of that of its source
 abbrev pub sna_value : Parts → Environment → Sna → Came ℤ
-sna_value p env sna = with_value (source_value p env (source_of p.entities (as_operand sna))) (λ v. comes (operand_value p.entities (as_operand sna) v))
+sna_value p env sna = with_value (source_value p env (source_of p.entities (as_operand sna))) (λ v. comes (value_by_operand p.entities (as_operand sna) v))
 
 -- the value of an EQU
 abbrev pub equ_value : Parts → Environment → Equ → Came ℤ

@@ -12,7 +12,7 @@ use Rattle.gw_object.specs.declared.parts.Parts.{Parts}
 use Rattle.gw_kinds.specs.Evaluated.{operand_at, source_of, is_function_value}
 use Rattle.gw_code_flow.specs.declared.ends.PlusEnd.{PlusEnd}
 use Rattle.gw_code_flow.specs.Environment.{Environment, kept_value}
-use Rattle.gw_code_flow.specs.Made.{operand_value}
+use Rattle.gw_code_flow.specs.Made.{value_by_operand}
 use Rattle.gw_code_flow.specs.Meaning.{ended_by}
 use Rattle.gw_code_flow.specs.Outcome.{Answer, outcome_of}
 
@@ -85,7 +85,7 @@ source_value p env bound source streams = if_set (kept_value env source) >>= λ 
 
 -- an operand's value, which is made of its source's, and the streams then
 abbrev pub operand_value : Parts → Environment → Operand → List ℕ → Evaluation (ℤ × List ℕ)
-operand_value p env o streams = source_value p env (draws_below o) (source_of p.entities o) streams >>= λ value. Value (operand_value p.entities o value.0, value.1)
+operand_value p env o streams = source_value p env (draws_below o) (source_of p.entities o) streams >>= λ value. Value (value_by_operand p.entities o value.0, value.1)
 
 -- a time of this mean and half-range, which are evaluated first; where half the range is 0 nothing more is drawn
 abbrev pub drawn_time : Parts → Environment → Spread → List ℕ → Evaluation (ℤ × List ℕ)

@@ -16,7 +16,7 @@ use Rattle.gw_code.specs.declared.parts.Procedure.{Procedure}
 use Rattle.gw_object.specs.declared.parts.Parts.{Parts}
 use Rattle.gw_kinds.specs.Evaluated.{source_of, as_operand}
 use Rattle.gw_code_flow.specs.Environment.{Environment, attribute_value}
-use Rattle.gw_code_flow.specs.Made.{operand_value}
+use Rattle.gw_code_flow.specs.Made.{value_by_operand}
 use Rattle.gw_code_flow.specs.Code.{most_values, procedure_at}
 use Rattle.gw_code_flow.specs.declared.ends.PlusEnd.TheVariants.{LoopLimit}
 use Rattle.gw_code_flow.specs.Meaning.{Taken, taken_at, take_once, Frame, Next, Goes, Calls, Returns, Ends, Stuck, on, pushed, given, popped, calculated, calls_with, reads_source, act}
@@ -168,7 +168,7 @@ module _ (code : List Instruction) where
         by : (v : ℤ) (rest : List ℤ) (b : Bool) → KeepsRoom code (if b then Goes (record f { place = f.place + 1; stack = rest; locals = slice_set f.locals local v }) else Stuck)
         by v rest true = room
         by v rest false = tt
-    act_keeps (Value sna) there = read_keeps env (source_of p.entities (as_operand sna)) (operand_value p.entities (as_operand sna)) (on f) room
+    act_keeps (Value sna) there = read_keeps env (source_of p.entities (as_operand sna)) (value_by_operand p.entities (as_operand sna)) (on f) room
     act_keeps (Binary operator) there =
         popped_keeps f.stack (λ right rest. popped rest (λ left below. calculated (binary_value operator left right) (record f { place = f.place + 1; stack = below }))) (λ right rest.
         popped_keeps rest (λ left below. calculated (binary_value operator left right) (record f { place = f.place + 1; stack = below })) (λ left below.

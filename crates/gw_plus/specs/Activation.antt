@@ -11,7 +11,7 @@ use Rattle.gw_kinds.specs.Evaluated.{as_operand}
 use Rattle.gw_code_flow.specs.Code.{procedure_at}
 use Rattle.gw_code_flow.specs.Environment.{Environment}
 use Rattle.gw_code_flow.specs.Laws.{MayBegin, CodeHolds}
-use Rattle.gw_code_flow.specs.Made.{operand_value}
+use Rattle.gw_code_flow.specs.Made.{value_by_operand}
 use Rattle.gw_code_flow.specs.PlusChecks.{PlusPasses}
 use Rattle.gw_code_flow.specs.Meaning.{Taken, Frame, Next, Goes, Calls, Returns, Ends, opening}
 use Rattle.gw_plus.specs.declared.activation.Turns.{Turns}
@@ -68,7 +68,7 @@ CanCountEach code taken = length taken + untaken taken 0 code ≤ most_backs
 
 -- what an instruction makes of the value of the procedure that it calls: VALUE what its attribute makes of it, and CALL leaves it as it is
 abbrev pub finish_of : Parts → Instruction → ℤ → ℤ
-finish_of p (Value sna) = operand_value p.entities (as_operand sna)
+finish_of p (Value sna) = value_by_operand p.entities (as_operand sna)
 finish_of p other = λ v. v
 
 -- an activation did what comes next, which is what this instruction does: it stands here then, and its step tells what was called, returned or ended

@@ -19,7 +19,7 @@ use Rattle.gw_kinds.proofs.Sources.{source_holds}
 use Rattle.gw_code_flow.specs.declared.ends.PlusEnd.{PlusEnd}
 use Rattle.gw_code_flow.specs.Environment.{Environment, attribute_value}
 use Rattle.gw_code_flow.specs.Code.{procedure_at, needs_of, asked_by_source, parameters_asked}
-use Rattle.gw_code_flow.specs.Made.{operand_value}
+use Rattle.gw_code_flow.specs.Made.{value_by_operand}
 use Rattle.gw_code_flow.specs.Outcome.{outcome_of}
 use Rattle.gw_code_flow.specs.Laws.{HasSet, MayBegin}
 use Rattle.gw_flow.specs.Values.{Evaluation, Value, Fails, Unset, ◌>>=◌, answered, stream_at, with_stream, first_stream, with_first, drawn_below, if_set, came_to, draws_below, source_value, operand_value, drawn_time, single_value, one_operand, operands as operand_values}
@@ -99,9 +99,9 @@ module _ (p : Parts) (sound : IsSound p) (env : Environment) where
     of_operand : (o : Operand) (streams : List ℕ) (f : ℤ × List ℕ → Evaluation A) → IsRead p env o → ((d : ℤ × List ℕ) → KeepStreams streams d.1 → Safe P (evaluated (f d))) → Safe P (evaluated (operand_value p env o streams >>= f))
     of_operand o streams f read h =
         let source = source_of p.entities o in
-        let finish : ℤ × List ℕ → Evaluation (ℤ × List ℕ) = λ value. Value (operand_value p.entities o value.0, value.1) in
+        let finish : ℤ × List ℕ → Evaluation (ℤ × List ℕ) = λ value. Value (value_by_operand p.entities o value.0, value.1) in
         subst (λ e. Safe P (evaluated e)) (sym (in_turn (source_value p env (draws_below o) source streams) finish f))
-        (of_source (draws_below o) source streams (λ value. finish value >>= f) (source_holds p sound.entities o read.holds) read.set (λ d keeps. h (operand_value p.entities o d.0, d.1) keeps))
+        (of_source (draws_below o) source streams (λ value. finish value >>= f) (source_holds p sound.entities o read.holds) read.set (λ d keeps. h (value_by_operand p.entities o d.0, d.1) keeps))
 
     -- a drawn time, and what comes of it
     of_time : (spread : Spread) (streams : List ℕ) (f : ℤ × List ℕ → Evaluation A) → AreRead p env (spread.mean ∷ spread.half ∷ [])

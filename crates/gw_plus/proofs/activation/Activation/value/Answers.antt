@@ -5,7 +5,7 @@ use Rattle.gw_blocks.specs.declared.parts.Operand.{Operand}
 use Rattle.gw_code.specs.declared.parts.Instruction.TheVariants.{Value}
 use Rattle.gw_kinds.specs.Evaluated.{source_of, as_operand}
 use Rattle.gw_code_flow.specs.Environment.{kept_value}
-use Rattle.gw_code_flow.specs.Made.{operand_value}
+use Rattle.gw_code_flow.specs.Made.{value_by_operand}
 use Rattle.gw_code_flow.specs.Meaning.{on, pushed}
 use Rattle.gw_code_flow.proofs.Reading.{source_is_good}
 use Rattle.gw_plus.specs.Activation.{frame_of, Did}
@@ -24,7 +24,7 @@ kept-requires c =
     let good = source_is_good parts c.requires.holds.0 c.args.sna c.requires.code.entities c.requires.holds.1 in
     let is = source_is (goal.at.kept-requires c).After-source_of in
     subst (MayReadKept c.args.env.now) (sym is)
-    (may_read_kept parts c.args.env.now c.requires.environment (source_of parts.entities operand) (operand_value parts.entities operand) (on (frame_of c.args.self.now)) good c.requires.going (λ q same. c.in_default.not-Procedure q (is ∙ same)))
+    (may_read_kept parts c.args.env.now c.requires.environment (source_of parts.entities operand) (value_by_operand parts.entities operand) (on (frame_of c.args.self.now)) good c.requires.going (λ q same. c.in_default.not-Procedure q (is ∙ same)))
 
 pub returns-in_default : goal.returns-in_default
 returns-in_default c =
@@ -35,7 +35,7 @@ returns-in_default c =
     let value_fits : SFits w64 c.kept.result = search rules in
     let made_fits : SFits w64 c.made.result = search rules in
     let kept = subst (λ (o : Operand). kept_value env o ≡ Some c.kept.result) (source_is (goal.at.returns-in_default c).After-source_of) c.kept.ensures in
-    let value : c.made.result ≡ operand_value parts.entities operand c.kept.result = rw (c.as_slice-entities.ensures, c.as_operand-operand.ensures, to_z-of_z) at c.made.ensures in
-    let reads = kept_read env (source_of parts.entities operand) (operand_value parts.entities operand) next c.kept.result kept in
+    let value : c.made.result ≡ value_by_operand parts.entities operand c.kept.result = rw (c.as_slice-entities.ensures, c.as_operand-operand.ensures, to_z-of_z) at c.made.ensures in
+    let reads = kept_read env (source_of parts.entities operand) (value_by_operand parts.entities operand) next c.kept.result kept in
     subst (λ x. Did parts (Value c.args.sna) x c.push_and_go.result (frame_of c.push_and_go.new.self)) (ap (λ v. pushed v next) value ∙ sym reads)
     (rw to_z-of_z at (c.push_and_go.ensures parts (Value c.args.sna)))
