@@ -1,5 +1,5 @@
 -- The entities of a model text.
-use Rattle.std.specs.Prelude.{◌≡◌, ℕ, ℤ, pos, List, [], ◌∷◌, ◌++◌, Option, Some, None, Bool, not, slice_get, string_bytes, unwrap_or}
+use Rattle.std.specs.Prelude.{◌≡◌, ℕ, ℤ, pos, List, [], ◌∷◌, ◌++◌, Option, Some, None, not, slice_get, string_bytes, unwrap_or}
 use Rattle.std.specs.List.{flat_map}
 use Rattle.gw_num.specs.Arithmetic.{is_zero}
 use Rattle.gw_blocks.specs.declared.parts.Numbered.{Numbered}
@@ -70,21 +70,17 @@ savevalues_in ss = flat_map savevalue_by ss
 abbrev pub switches_in : List Statement → List (List ℕ × ℤ)
 switches_in ss = flat_map switch_by ss
 
--- an initial value, or 0
-abbrev pub or_zero : Option ℤ → ℤ
-or_zero value = unwrap_or value (pos 0)
-
--- whether a switch of this initial value is set
-abbrev pub is_set : Option ℤ → Bool
-is_set value = not (is_zero (or_zero value))
+-- the initial value by the last INITIAL, or 0
+abbrev pub initial_of : List (List ℕ × ℤ) → List ℕ → ℤ
+initial_of set name = unwrap_or (last_of set name) (pos 0)
 
 -- KINDS
 
 -- what an entity is that needs no declaration
 abbrev pub undeclared_kind : List Statement → EntityKind → List ℕ → Kind
 undeclared_kind ss needed.Queue name = kinds.Queue
-undeclared_kind ss needed.Switch name = kinds.Switch (is_set (last_of (switches_in ss) name))
-undeclared_kind ss needed.Savevalue name = kinds.Savevalue (or_zero (last_of (savevalues_in ss) name))
+undeclared_kind ss needed.Switch name = kinds.Switch (not (is_zero (initial_of (switches_in ss) name)))
+undeclared_kind ss needed.Savevalue name = kinds.Savevalue (initial_of (savevalues_in ss) name)
 undeclared_kind ss needed.Chain name = kinds.Chain
 undeclared_kind ss kind name = kinds.Facility
 
@@ -92,30 +88,22 @@ undeclared_kind ss kind name = kinds.Facility
 abbrev pub GrowsBy : (Entity → Type 0) → List Entity → List Entity → Type 0
 GrowsBy P old new = (e : Entity) × P e × (new ≡ old ++ e ∷ [])
 
--- what the declaration of this number makes of an entity
-abbrev pub declared_kind : Numbers → List Origin → Statement → ℕ → Option Kind
-declared_kind n order s i = entity_kind n (numbers_for n order s i) s
-
 module _ (n : Numbers) (order : List Origin) (ss : List Statement) where
   -- what a declaration makes of an entity
   abbrev pub IsDeclaredKind : ℕ → Kind → Type 0
   IsDeclaredKind i kind =
       (s : Statement) × (slice_get ss i ≡ Some s)
-      × ((source : Numbered → Operand) × (declared_kind (with_source n source) order s i ≡ Some kind))
+      × ((source : Numbered → Operand) × (entity_kind (with_source n source) (numbers_for (with_source n source) order s i) s ≡ Some kind))
 
   -- what an entity is: by its declaration, if there is one
   abbrev pub IsKindBy : Option ℕ → EntityKind → List ℕ → Kind → Type 0
   IsKindBy None needed name kind = kind ≡ undeclared_kind ss needed name
   IsKindBy (Some i) needed name kind = IsDeclaredKind i kind
 
-  -- what an entity is that was sighted in the text
-  abbrev pub IsKindOf : Sighted → Kind → Type 0
-  IsKindOf sighted kind = IsKindBy sighted.declaration sighted.kind (string_bytes sighted.name) kind
-
   -- an entity of an object is one that was sighted in the text
   pub record IsSightedAs (sighted : Sighted) (e : Entity) : Type 0 where
     pub name : e.name ≡ string_bytes sighted.name
-    pub kind : IsKindOf sighted e.kind
+    pub kind : IsKindBy sighted.declaration sighted.kind (string_bytes sighted.name) e.kind
 
   -- so is each of these, one by one
   abbrev pub AreSightedAs : List Sighted → List Entity → Type 0

@@ -9,10 +9,6 @@ use Rattle.gw_pieces.specs.Reasons.{line_of}
 abbrev pub line_of_origin : List Statement → Origin → ℕ
 line_of_origin ss origin = line_of (slice_get ss origin.statement)
 
--- the lines of origins, in order
-abbrev pub lines_of : List Statement → List Origin → List ℕ
-lines_of ss order = map (line_of_origin ss) order
-
 -- the lines of the origins of a text's procedures, in the order of the procedures
 unfoldable pub procedure_lines : List Statement → List ℕ
-procedure_lines ss = lines_of ss (order_in ss)
+procedure_lines ss = map (line_of_origin ss) (order_in ss)

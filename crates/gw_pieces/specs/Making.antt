@@ -1,11 +1,10 @@
 -- What is made of a model text, before it is an object.
-use Rattle.std.specs.Prelude.{◌≡◌, ◌⊎◌, ℕ, List, [], Option, Some, None}
+use Rattle.std.specs.Prelude.{◌≡◌, ◌⊎◌, ℕ, List, Option, Some, None}
 use Rattle.gw_blocks.specs.declared.parts.Block.{Block}
 use Rattle.gw_code.specs.declared.parts.Procedure.{Procedure}
 use Rattle.gw_object.specs.declared.parts.Entity.{Entity}
 use Rattle.gw_object.specs.declared.fault.Fault.{Fault}
 use Rattle.gw_object.specs.Reading.{out_of_memory}
-use Rattle.gw_names.specs.declared.ledger.Ledger.{Ledger}
 use Rattle.gw_names.specs.declared.ledger.Noted.{Noted}
 use Rattle.gw_names.specs.Ledger.{as_fault, with_notes}
 use Rattle.gw_names.specs.Judgement.{refusals_in}
@@ -17,9 +16,6 @@ use Rattle.gw_names.specs.declared.known.Known.{Known}
 use Rattle.gw_names.specs.declared.names.Names.{Names}
 use Rattle.gw_names.specs.declared.sights.Sighted.{Sighted}
 use Rattle.gw_pieces.specs.declared.naming.Meanings.{Meanings}
-use Rattle.gw_pieces.specs.declared.pieces.Code.{Code}
-use Rattle.gw_pieces.specs.declared.pieces.Ordered.{Ordered}
-use Rattle.gw_pieces.specs.declared.pieces.Pieces.{Pieces}
 use Rattle.gw_pieces.specs.Numbers.{with_source}
 use Rattle.gw_pieces.specs.declared.origins.Origin.{Origin}
 use Rattle.gw_names.specs.Sights.{entities_of, limits_in}
@@ -30,7 +26,6 @@ use Rattle.gw_pieces.specs.Reasons.{CodeLimit, PieceMissing, surplus_in}
 use Rattle.gw_names.specs.Known.{found_in}
 use Rattle.gw_pieces.specs.Entities.{AreSightedAs, AreEntitiesOf}
 use Rattle.gw_pieces.specs.Pieces.{NumbersText, HasCode, IsNamed}
-use Rattle.gw_pieces.specs.Sources.{AreFew}
 
 -- entities, procedures and blocks are those that statements become, where these entities were sighted
 pub record HasAll (n : Numbers) (order : List Origin) (ss : List Statement) (sighted : List Sighted) (entities : List Entity) (procedures : List Procedure) (blocks : List Block) : Type 0 where
@@ -40,19 +35,6 @@ pub record HasAll (n : Numbers) (order : List Origin) (ss : List Statement) (sig
 -- the same, whatever is evaluated for attributes in the end, as long as the names stay the same
 abbrev pub HasAllBy : Numbers → List Origin → List Statement → List Sighted → List Entity → List Procedure → List Block → Type 0
 HasAllBy n order ss sighted entities procedures blocks = (source : Numbered → Operand) × HasAll (with_source n source) order ss sighted entities procedures blocks
-
-module _ (n : Numbers) (order : List Origin) (ss : List Statement) where
-  -- procedures and blocks are those that statements become, if an object has room for the procedures
-  abbrev pub IsCodeOf : Code → Type 0
-  IsCodeOf code = AreFew order → HasCode n order ss code.procedures.items code.blocks.items
-
-  -- so are these entities with them
-  abbrev pub IsCodeBeside : List Sighted → List Entity → Code → Type 0
-  IsCodeBeside sighted entities code = AreFew order → HasAllBy n order ss sighted entities code.procedures.items code.blocks.items
-
-  -- and all pieces
-  abbrev pub ArePieces : List Sighted → Pieces → Type 0
-  ArePieces sighted pieces = AreFew order → HasAllBy n order ss sighted pieces.entities.items pieces.procedures.items pieces.blocks.items
 
 -- names are those that are known, with these meanings
 pub record NamesOf (known : Known) (meanings : Meanings) (names : Names) : Type 0 where
@@ -75,25 +57,10 @@ pub record AreMadeNamed (ss : List Statement) (entities : List Entity) (procedur
   pub made : AreMade ss entities procedures blocks
   pub named : IsNamed ss
 
--- the same of pieces
-abbrev pub IsMade : List Statement → Pieces → Type 0
-IsMade ss pieces = AreMade ss pieces.entities.items pieces.procedures.items pieces.blocks.items
-
-abbrev pub IsMadeNamed : List Statement → Pieces → Type 0
-IsMadeNamed ss pieces = AreMadeNamed ss pieces.entities.items pieces.procedures.items pieces.blocks.items
-
 -- what the names of PROCEDUREs and EQUs stand for is known, where the procedures have these origins, in order
 pub record AreMeanings (ss : List Statement) (order : List Origin) (meanings : Meanings) : Type 0 where
   pub procedures : (name : List ℕ) → found_in meanings.procedures name ≡ callee_of ss order name
   pub equs : (name : List ℕ) → found_in meanings.equs name ≡ equ_meant ss order name
-
--- so it is of origins that are in order
-abbrev pub HasMeanings : List Statement → Ordered → Type 0
-HasMeanings ss ordered = AreMeanings ss ordered.order.items ordered.meanings
-
--- no use of a name is refused
-abbrev pub NamesAreKnown : List Statement → Type 0
-NamesAreKnown ss = refusals_in ss ≡ []
 
 -- what was noted goes on with what the pieces of a text lack
 pub record NotesPieces (ss : List Statement) (before after : Option Noted) : Type 0 where
@@ -101,32 +68,12 @@ pub record NotesPieces (ss : List Statement) (before after : Option Noted) : Typ
   pub names : NumbersText numbers (order_in ss) ss
   pub notes : NotesMore (CodeLimit numbers (order_in ss) ss) (PieceMissing numbers (order_in ss) ss) before after
 
--- the refusal of a procedure too many
-abbrev pub surplus : List Statement → List Noted
-surplus ss = surplus_in ss (order_in ss)
-
 -- the first refusal behind those of names and of a procedure too many
 abbrev pub noted_of_names : List Statement → Option Noted → Option Noted
-noted_of_names ss before = with_notes (with_notes before (refusals_in ss)) (surplus ss)
+noted_of_names ss before = with_notes (with_notes before (refusals_in ss)) (surplus_in ss (order_in ss))
 
 abbrev pub noted_of_text : List Statement → Option Noted → Option Noted
 noted_of_text ss before = noted_of_names ss (with_notes before (limits_in ss))
-
--- a ledger takes note of what is wrong with names and of a procedure too many
-abbrev pub NotesNames : List Statement → Ledger → Ledger → Type 0
-NotesNames ss old new = new.least ≡ noted_of_names ss old.least
-
--- of what the pieces of a text lack
-abbrev pub NotesLacks : List Statement → Ledger → Ledger → Type 0
-NotesLacks ss old new = NotesPieces ss old.least new.least
-
--- of both
-abbrev pub NotesKnown : List Statement → Ledger → Ledger → Type 0
-NotesKnown ss old new = NotesPieces ss (noted_of_names ss old.least) new.least
-
--- and of names for which there is no room
-abbrev pub NotesText : List Statement → Ledger → Ledger → Type 0
-NotesText ss old new = NotesPieces ss (noted_of_text ss old.least) new.least
 
 -- a text is refused at a line: by the first of the refusals of its names, of a procedure too many, and of what its pieces lack
 pub record IsRefusedAtLine (ss : List Statement) (fault : Fault) : Type 0 where

@@ -35,13 +35,9 @@ callee_of_statement (Some s) place = callee_of_body s.body place
 abbrev pub callee_of_origin : List Statement → Origin → ℕ → List (List ℕ × Callee)
 callee_of_origin ss o place = callee_of_statement (slice_get ss o.statement) place
 
--- the PROCEDUREs of origins, by their numbers
-abbrev pub callees_of : List Statement → List Origin → List (List ℕ × Callee)
-callees_of ss order = entries_from (callee_of_origin ss) 0 order
-
 -- what the name of a PROCEDURE stands for
 abbrev pub callee_of : List Statement → List Origin → List ℕ → Option Callee
-callee_of ss order name = last_of (callees_of ss order) name
+callee_of ss order name = last_of (entries_from (callee_of_origin ss) 0 order) name
 
 -- an EQU stands for its procedure
 abbrev pub equ_of_body : Body → Statement → ℕ → List (List ℕ × Equ)
@@ -56,10 +52,6 @@ equ_of_statement (Some s) place = equ_of_body s.body s place
 abbrev pub equ_of_origin : List Statement → Origin → ℕ → List (List ℕ × Equ)
 equ_of_origin ss o place = equ_of_statement (slice_get ss o.statement) place
 
--- the EQUs of origins, by the numbers of their procedures
-abbrev pub equs_of : List Statement → List Origin → List (List ℕ × Equ)
-equs_of ss order = entries_from (equ_of_origin ss) 0 order
-
 -- or for the number that it is
 abbrev pub numbered : Option (List ℕ) → Option ℤ → List (List ℕ × Equ)
 numbered name None = []
@@ -68,13 +60,9 @@ numbered name (Some z) = named name (Number z)
 abbrev pub equ_of_number : (List ℕ → Option ℤ) → Statement → ℕ → List (List ℕ × Equ)
 equ_of_number numbers s i = if is_equ s.word then numbered (label_of s) (option_and_then numbers (label_of s)) else []
 
--- the EQUs that are numbers
-abbrev pub equs_of_numbers : (List ℕ → Option ℤ) → List Statement → List (List ℕ × Equ)
-equs_of_numbers numbers ss = entries_from (equ_of_number numbers) 0 ss
-
 -- what a name stands for, where these names are numbers
 abbrev pub equ_by : (List ℕ → Option ℤ) → List Statement → List Origin → List ℕ → Option Equ
-equ_by numbers ss order name = option_or (last_of (equs_of_numbers numbers ss) name) (last_of (equs_of ss order) name)
+equ_by numbers ss order name = option_or (last_of (entries_from (equ_of_number numbers) 0 ss) name) (last_of (entries_from (equ_of_origin ss) 0 order) name)
 
 -- what the name of an EQU stands for
 abbrev pub equ_meant : List Statement → List Origin → List ℕ → Option Equ

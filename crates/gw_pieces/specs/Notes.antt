@@ -1,7 +1,6 @@
 -- What a pass over a text adds to the ledger.
 use Rattle.std.specs.Prelude.{◌≡◌, ◌⊎◌, ℕ, List, Option, Some, None}
 use Rattle.std.specs.List.{All}
-use Rattle.gw_names.specs.declared.ledger.Ledger.{Ledger}
 use Rattle.gw_names.specs.declared.ledger.Noted.{Noted}
 use Rattle.gw_names.specs.Codes.{name_fault}
 use Rattle.gw_names.specs.Ledger.{with_notes, noted_at}
@@ -15,10 +14,6 @@ or_missing (Some least) line = Some least
 abbrev pub unless_piece : {A : Type 0} → Option A → Option Noted → ℕ → Option Noted
 unless_piece None least line = or_missing least line
 unless_piece (Some piece) least line = least
-
--- a ledger takes note of that
-abbrev pub NotesUnless : {A : Type 0} → Option A → ℕ → Ledger → Ledger → Type 0
-NotesUnless piece line old new = new.least ≡ unless_piece piece old.least line
 
 -- a refusal is that of a line, and there is this reason for it
 abbrev pub IsFor : Type 0 → ℕ → ℕ → Noted → Type 0

@@ -1,11 +1,8 @@
 -- The numbers of names, as functions.
-use Rattle.std.specs.Prelude.{Vec}
-use Rattle.std.specs.Global.{Global}
 use Rattle.gw_blocks.specs.declared.parts.Numbered.{Numbered}
 use Rattle.gw_blocks.specs.declared.parts.Operand.{Operand}
 use Rattle.gw_blocks.specs.declared.parts.Operand.TheVariants as operands
 use Rattle.gw_kinds.specs.Evaluated.{source_of}
-use Rattle.gw_object.specs.declared.parts.Entity.{Entity}
 use Rattle.gw_compile.specs.Numbers.{Numbers}
 use Rattle.gw_names.specs.declared.names.Names.{Names}
 use Rattle.gw_names.specs.Known.{found_in, entity_of}
@@ -20,10 +17,6 @@ numbers_of names = record {
   equ = found_in names.equs;
   source = λ of. source_of names.list.items (operands.OfEntity of);
 }
-
--- the same, where the object has these entities
-abbrev pub numbers_with : Names → Vec Entity Global → Numbers
-numbers_with names entities = numbers_of (record names { list = entities })
 
 -- numbers of names, where this is evaluated for attributes in the end: what that is doesn't matter while entities are made
 abbrev pub with_source : Numbers → (Numbered → Operand) → Numbers

@@ -1,5 +1,5 @@
 -- The procedures of a text and their order: that of the text, but what one calls comes before it, in order of first sight.
-use Rattle.std.specs.Prelude.{◌≡◌, Result, OnOk, ℕ, zero, suc, ◌+◌, ℤ, List, [], ◌∷◌, ◌++◌, length, replicate, set, Option, Some, None, option_and_then, option_to_list, Bool, true, false, ◌&&◌, not, is_some, is_none, if◌then◌else◌, nat_lt, ◌==◌, slice_get, string_bytes}
+use Rattle.std.specs.Prelude.{ℕ, zero, suc, ◌+◌, ℤ, List, [], ◌∷◌, ◌++◌, length, replicate, set, Option, Some, None, option_and_then, option_to_list, Bool, true, false, ◌&&◌, not, is_some, is_none, if◌then◌else◌, nat_lt, ◌==◌, slice_get, string_bytes}
 use Rattle.std.specs.List.{flat_map}
 use Rattle.gw_kinds.specs.declared.entities.EntityKind.{EntityKind}
 use Rattle.gw_kinds.specs.declared.entities.EntityKind.TheVariants as kinds
@@ -235,10 +235,6 @@ lookup_of text = lookup_by text.known.now text.model.now.statements.items text.o
 -- the order while it is found, as it is kept
 abbrev pub search_of : Order → Search
 search_of order = record { visited = order.visited.items; done = order.done.items }
-
--- where there is memory, the search comes to this
-abbrev pub Reaches : {A E : Type 0} → Result A E → Order → Search → Type 0
-Reaches result order s = OnOk result (search_of order ≡ s)
 
 -- what is looked up in a text
 abbrev pub lookup_in : List Statement → Lookup

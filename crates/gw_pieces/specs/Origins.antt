@@ -84,17 +84,13 @@ number_by n own true called = own
 number_by n own false None = own
 number_by n own false (Some name) = number_called n name
 
--- the same by the expression
-abbrev pub expression_number : Numbers → Option ℕ → Bool → Expression → Option ℕ
-expression_number n own is_own e = number_by n own is_own (whole_call e)
-
 -- the number of the procedure that the operand at a position becomes, if it is an expression; a PROCEDURE has no operand
 abbrev pub number_in : Numbers → Option ℕ → Word → Body → Option Expression → Option ℕ
 number_in n own word (Procedure pr) e = None
 number_in n own word Nothing None = None
-number_in n own word Nothing (Some e) = expression_number n own (is_variable word) e
+number_in n own word Nothing (Some e) = number_by n own (is_variable word) (whole_call e)
 number_in n own word (Points points) None = None
-number_in n own word (Points points) (Some e) = expression_number n own (is_variable word) e
+number_in n own word (Points points) (Some e) = number_by n own (is_variable word) (whole_call e)
 
 -- the number of the procedure that the operand at a position of a statement becomes
 abbrev pub number_for : Numbers → List Origin → Statement → ℕ → ℕ → Option ℕ

@@ -16,21 +16,20 @@ use Rattle.gw_compile.specs.Keeps.{ExceedsLimits}
 use Rattle.gw_compile.specs.Numbers.{Numbers}
 use Rattle.gw_compile.specs.Statements.{body_of}
 use Rattle.gw_compile.specs.Unknown.{Blame, first_blame}
-use Rattle.gw_names.specs.declared.ledger.Ledger.{Ledger}
 use Rattle.gw_names.specs.declared.ledger.Noted.{Noted}
 use Rattle.gw_names.specs.declared.sights.Sighted.{Sighted}
 use Rattle.gw_names.specs.Codes.{name_fault, limit_fault}
 use Rattle.gw_names.specs.Known.{Key}
 use Rattle.gw_names.specs.Ledger.{noted_at, with_note}
 use Rattle.gw_names.specs.Places.{is_block, declaration_of}
+use Rattle.gw_records.specs.Entities.{entity_kind}
 use Rattle.gw_pieces.specs.declared.compiling.Blamed.{Blamed}
 use Rattle.gw_pieces.specs.declared.compiling.Blamed.TheVariants as blamed
 use Rattle.gw_pieces.specs.declared.origins.Origin.{Origin}
 use Rattle.gw_pieces.specs.Blocks.{record_at}
-use Rattle.gw_pieces.specs.Entities.{declared_kind}
-use Rattle.gw_pieces.specs.Notes.{or_missing, unless_piece, IsFor}
+use Rattle.gw_pieces.specs.Notes.{or_missing, unless_piece}
 use Rattle.gw_pieces.specs.Numbers.{with_source}
-use Rattle.gw_pieces.specs.Origins.{expression_at}
+use Rattle.gw_pieces.specs.Origins.{expression_at, numbers_for}
 
 -- CODE
 
@@ -60,26 +59,14 @@ module _ (n : Numbers) where
   abbrev pub NamesUnknown : Statement → ℕ → Type 0
   NamesUnknown s k = (e : Expression) × (expression_at s k ≡ Some e) × IsBlamed (first_blame n [] e)
 
-  -- there is no expression there that can be compiled
-  abbrev pub LacksExpressionCode : Statement → ℕ → Type 0
-  LacksExpressionCode s k = LacksExpression s k ⊎ NamesUnknown s k
-
   -- what stands at a position of a statement can't be compiled: its PROCEDURE, or else the expression there
   abbrev pub LacksByBody : Body → Statement → ℕ → Type 0
   LacksByBody (bodies.Procedure procedure) s k = IsBlamed (body_of n procedure).blame
-  LacksByBody bodies.Nothing s k = LacksExpressionCode s k
-  LacksByBody (bodies.Points points) s k = LacksExpressionCode s k
+  LacksByBody bodies.Nothing s k = LacksExpression s k ⊎ NamesUnknown s k
+  LacksByBody (bodies.Points points) s k = LacksExpression s k ⊎ NamesUnknown s k
 
   abbrev pub LacksCode : Statement → ℕ → Type 0
   LacksCode s k = LacksByBody s.body s k
-
-  -- the code of a position is too long, at the line of its statement
-  abbrev pub StatementLimit : Statement → ℕ → Noted → Type 0
-  StatementLimit s k = IsFor (Exceeds s k) s.line limit_fault
-
-  -- or there is none
-  abbrev pub StatementMissing : Statement → ℕ → Noted → Type 0
-  StatementMissing s k = IsFor (LacksCode s k) s.line name_fault
 
 -- what is to blame, as one word
 abbrev pub blamed_by : CompileFault → Blamed
@@ -179,15 +166,11 @@ module _ (n : Numbers) (order : List Origin) where
 
   -- a declaration makes no entity
   abbrev pub LacksKind : ℕ → Statement → Type 0
-  LacksKind i s = BySome n (λ m. declared_kind m order s i ≡ None)
+  LacksKind i s = BySome n (λ m. entity_kind m (numbers_for m order s i) s ≡ None)
 
   -- the first refusal behind a statement: 80 where it is a block and has no record
   abbrev pub least_after_block : Statement → ℕ → Option Noted → Option Noted
   least_after_block s i least = if is_block s.word then unless_piece (record_at n order s i) least s.line else least
-
-  -- a ledger takes note of that
-  abbrev pub NotesBlock : Statement → ℕ → Ledger → Ledger → Type 0
-  NotesBlock s i old new = new.least ≡ least_after_block s i old.least
 
 module _ (n : Numbers) (ss : List Statement) where
   -- the code of an origin is too long
@@ -228,10 +211,6 @@ module _ (n : Numbers) (order : List Origin) (ss : List Statement) where
   -- of an entity that the statement at this place declares
   abbrev pub DeclarationMissing : Option ℕ → Noted → Type 0
   DeclarationMissing declaration note = KindMissing (λ i. declaration ≡ Some i) note ⊎ IsAstray ss (λ i. declaration ≡ Some i) note
-
-  -- of an entity that was sighted
-  abbrev pub SightMissing : Sighted → Noted → Type 0
-  SightMissing sighted = DeclarationMissing sighted.declaration
 
   -- while entities are made
   abbrev pub EntityMissing : List Sighted → Noted → Type 0

@@ -57,14 +57,10 @@ abbrev pub seed_from : ℕ → List Statement → ℕ → ℕ
 seed_from seed [] stream = seed
 seed_from seed (s ∷ ss) stream = seed_from (later seed (seed_by s stream)) ss stream
 
--- the seed of a stream by all these statements, or 0
-abbrev pub seed_in : List Statement → ℕ → ℕ
-seed_in ss stream = seed_from 0 ss stream
-
 -- the seeds of so many streams, from this one on
 abbrev pub seeds_from : List Statement → ℕ → ℕ → List ℕ
 seeds_from ss stream zero = []
-seeds_from ss stream (suc n) = seed_in ss stream ∷ seeds_from ss (stream + 1) n
+seeds_from ss stream (suc n) = seed_from 0 ss stream ∷ seeds_from ss (stream + 1) n
 
 -- how many of these come up to the last that isn't 0, where those from this place on are left
 abbrev pub used_from : ℕ → ℕ → List ℕ → ℕ

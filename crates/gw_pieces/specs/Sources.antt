@@ -1,5 +1,5 @@
 -- What the procedures of a model text are compiled from.
-use Rattle.std.specs.Prelude.{◌≡◌, ◌≤◌, ℕ, List, length, Some, slice_get, [], ◌∷◌, ◌++◌}
+use Rattle.std.specs.Prelude.{◌≡◌, ℕ, List, length, Some, slice_get, [], ◌∷◌, ◌++◌}
 use Rattle.gw_code.specs.declared.parts.Procedure.{Procedure}
 use Rattle.gw_text_expressions.specs.declared.model.Expression.{Expression}
 use Rattle.gw_text.specs.declared.model.Body.{Body}
@@ -7,10 +7,6 @@ use Rattle.gw_text.specs.declared.model.Body.TheVariants as bodies
 use Rattle.gw_text.specs.declared.model.Statement.{Statement}
 use Rattle.gw_compile.specs.Numbers.{Numbers}
 use Rattle.gw_compile.specs.Keeps.{IsCompiled, IsCompiledProcedure}
-use Rattle.gw_object.specs.declared.limits.TheConstants.{MOST_PROCEDURES}
-use Rattle.gw_text_plus.specs.declared.model.Procedure.{Procedure as TextProcedure}
-use Rattle.gw_names.specs.declared.names.Names.{Names}
-use Rattle.gw_pieces.specs.Numbers.{numbers_of}
 use Rattle.gw_pieces.specs.declared.origins.Origin.{Origin}
 use Rattle.gw_pieces.specs.Origins.{expression_at}
 
@@ -26,24 +22,6 @@ IsProcedureOfBody n before (bodies.Points points) s k pr = IsFromExpression n be
 
 abbrev pub IsProcedureOf : Numbers → List Procedure → Statement → ℕ → Procedure → Type 0
 IsProcedureOf n before s k pr = IsProcedureOfBody n before s.body s k pr
-
--- where names have the numbers that are known of them, and these procedures are compiled before
-module _ (names : Names) (before : List Procedure) where
-  -- a procedure is compiled from the expression at a position of a statement
-  abbrev pub CompilesExpression : Statement → ℕ → Procedure → Type 0
-  CompilesExpression s k pr = IsFromExpression (numbers_of names) before s k pr
-
-  -- from a PROCEDURE
-  abbrev pub CompilesProcedure : TextProcedure → Procedure → Type 0
-  CompilesProcedure procedure pr = IsCompiledProcedure (numbers_of names) before procedure pr
-
-  -- or from the PROCEDURE of a statement, or else from the expression at a position of it
-  abbrev pub Compiles : Statement → ℕ → Procedure → Type 0
-  Compiles s k pr = IsProcedureOf (numbers_of names) before s k pr
-
--- an object has room for the procedures of these origins
-abbrev pub AreFew : List Origin → Type 0
-AreFew order = length order ≤ MOST_PROCEDURES
 
 -- the procedure of an origin
 pub record ComesFrom (n : Numbers) (ss : List Statement) (origin : Origin) (pr : Procedure) : Type 0 where

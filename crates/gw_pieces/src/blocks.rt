@@ -2,13 +2,11 @@
 
 ghost use Rattle.std.specs.Prelude.{◌≡◌, ◌++◌, ◌∷◌, [], OnOk, IfOk, IsSome, option_to_list, string_bytes};
 ghost use Rattle.gw_pieces.specs.Blocks as model;
-ghost use Rattle.gw_pieces.specs.Blocks.{block_at};
-ghost use Rattle.gw_pieces.specs.Clear.{StaysClear, OnClear};
+ghost use Rattle.gw_pieces.specs.Clear.{StaysClear};
 ghost use Rattle.gw_pieces.specs.Origins as numbers;
-ghost use Rattle.gw_pieces.specs.Origins.{expression_number, number_for};
-ghost use Rattle.gw_pieces.specs.Notes.{NotesMore, NotesUnless, Never, or_missing};
+ghost use Rattle.gw_pieces.specs.Notes.{NotesMore, Never, or_missing, unless_piece};
 ghost use Rattle.gw_pieces.specs.Numbers.{numbers_of};
-ghost use Rattle.gw_pieces.specs.Reasons.{BlockMissing, NotesBlock};
+ghost use Rattle.gw_pieces.specs.Reasons.{BlockMissing, least_after_block};
 
 use crate::origins::{Origin, expression_at, is_variable, place_of, whole_call};
 use gw_blocks::Block;
@@ -73,7 +71,7 @@ fn number_by(
     is_variable: bool,
     expression: &Expression,
 ) -> Option<u16>
-    ensures { result ≡ expression_number (numbers_of names.now) own is_variable expression.now }
+    ensures { result ≡ numbers.number_by (numbers_of names.now) own is_variable (numbers.whole_call expression.now) }
 {
     if is_variable {
         return own;
@@ -92,7 +90,7 @@ fn number_for(
     number: usize,
     position: usize,
 ) -> Option<u16>
-    ensures { result ≡ number_for (numbers_of names.now) order.now statement.now number position }
+    ensures { result ≡ numbers.number_for (numbers_of names.now) order.now statement.now number position }
 {
     let own = own_number(order, number, position);
     let is_variable = is_variable(statement.word);
@@ -149,8 +147,8 @@ fn put_record(
     ledger: &mut Ledger,
 ) -> Result<(), AllocError>
     ensures blocks { OnOk result (blocks.new.items ≡ blocks.old.items ++ option_to_list block) }
-    ensures ledger { OnClear result ledger.old ledger.new (IsSome block) }
-    ensures notes { OnOk result (NotesUnless block statement.now.line ledger.old ledger.new) }
+    ensures ledger { OnOk result (StaysClear ledger.old ledger.new (IsSome block)) }
+    ensures notes { OnOk result (ledger.new.least ≡ unless_piece block ledger.old.least statement.now.line) }
 {
     match block {
         Some(block) => blocks.push(block).map_err(|_| AllocError),
@@ -171,11 +169,11 @@ fn put_block(
     ledger: &mut Ledger,
 ) -> Result<(), AllocError>
     ensures blocks { OnOk result (blocks.new.items
-        ≡ blocks.old.items ++ block_at (numbers_of names.now) order.now statement.now number) }
-    ensures ledger { OnClear result ledger.old ledger.new
-        (model.IsRecorded (numbers_of names.now) order.now statement.now number) }
-    ensures notes { OnOk result (NotesBlock (numbers_of names.now) order.now
-        statement.now number ledger.old ledger.new) }
+        ≡ blocks.old.items ++ model.block_at (numbers_of names.now) order.now statement.now number) }
+    ensures ledger { OnOk result (StaysClear ledger.old ledger.new
+        (model.IsRecorded (numbers_of names.now) order.now statement.now number)) }
+    ensures notes { OnOk result (ledger.new.least
+        ≡ least_after_block (numbers_of names.now) order.now statement.now number ledger.old.least) }
 {
     if is_block(statement.word) {
         put_record(
@@ -199,8 +197,8 @@ pub(crate) fn blocks_of(
 ) -> Result<Vec<Block>, AllocError>
     ensures blocks { IfOk result (λ blocks. blocks.items
         ≡ model.blocks_from (numbers_of names.now) order.now 0 text.now.statements.items) }
-    ensures ledger { OnClear result ledger.old ledger.new
-        (model.AllRecorded (numbers_of names.now) order.now 0 text.now.statements.items) }
+    ensures ledger { OnOk result (StaysClear ledger.old ledger.new
+        (model.AllRecorded (numbers_of names.now) order.now 0 text.now.statements.items)) }
     ensures notes { OnOk result (NotesMore Never
         (BlockMissing (numbers_of names.now) order.now text.now.statements.items)
         ledger.old.least ledger.new.least) }

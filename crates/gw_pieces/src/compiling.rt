@@ -1,17 +1,16 @@
 //! The procedures of a model text.
 
-ghost use Rattle.std.specs.Prelude.{◌≡◌, OnOk, IfOk, IfErr};
-ghost use Rattle.gw_compile.specs.Keeps.{ExceedsLimits};
+ghost use Rattle.std.specs.Prelude.{◌≡◌, ◌≤◌, ◌⊎◌, length, OnOk, IfOk, IfErr, MatchResult};
+ghost use Rattle.gw_object.specs.declared.limits.TheConstants.{MOST_PROCEDURES};
+ghost use Rattle.gw_compile.specs.Keeps.{IsCompiledProcedure, ExceedsLimits};
 ghost use Rattle.gw_compile.specs.Statements.{body_of};
-ghost use Rattle.gw_pieces.specs.Clear.{OnClear, IfClear, IsNoted};
-ghost use Rattle.gw_pieces.specs.Sources.{CompilesExpression, CompilesProcedure, Compiles};
-ghost use Rattle.gw_pieces.specs.Sources.{ComesFrom, AreCompiled, AreFew, Grows};
-ghost use Rattle.gw_pieces.specs.Notes.{NotesMore};
+ghost use Rattle.gw_names.specs.Codes.{name_fault, limit_fault};
+ghost use Rattle.gw_pieces.specs.Clear.{StaysClear, IsNoted};
+ghost use Rattle.gw_pieces.specs.Sources.{IsFromExpression, IsProcedureOf, ComesFrom, AreCompiled, Grows};
+ghost use Rattle.gw_pieces.specs.Notes.{NotesMore, IsFor};
 ghost use Rattle.gw_pieces.specs.Numbers.{numbers_of};
-ghost use Rattle.gw_pieces.specs.Reasons.{IsTooLong, Exceeds, IsBlamed, LacksExpressionCode, LacksCode};
-ghost use Rattle.gw_pieces.specs.Reasons.{blamed_by, least_after, Explains};
-ghost use Rattle.gw_pieces.specs.Reasons.{StatementLimit, StatementMissing, OriginLimit, OriginMissing};
-ghost use Rattle.gw_pieces.specs.Reasons.{CodeLimit, ProcedureMissing};
+ghost use Rattle.gw_pieces.specs.Reasons.{IsTooLong, Exceeds, IsBlamed, LacksExpression, NamesUnknown, LacksCode};
+ghost use Rattle.gw_pieces.specs.Reasons.{blamed_by, least_after, Explains, OriginLimit, OriginMissing, CodeLimit, ProcedureMissing};
 
 use crate::origins::{Origin, expression_at};
 use gw_code::Procedure;
@@ -52,7 +51,7 @@ fn from_procedure(
     procedures: &[Procedure],
     procedure: &TextProcedure,
 ) -> Result<Procedure, Blamed>
-    ensures compiled { IfOk result (CompilesProcedure names.now procedures.now procedure.now) }
+    ensures compiled { IfOk result (IsCompiledProcedure (numbers_of names.now) procedures.now procedure.now) }
     ensures blamed { IfErr result (λ b. Explains b
         (ExceedsLimits (body_of (numbers_of names.now) procedure.now))
         (IsBlamed (body_of (numbers_of names.now) procedure.now).blame)) }
@@ -67,17 +66,17 @@ fn from_procedure(
 fn from_expression(
     alloc: Global,
     names: &Names,
-    before: &[Procedure],
+    procedures: &[Procedure],
     statement: &Statement,
     operand: usize,
 ) -> Result<Procedure, Blamed>
-    ensures compiled { IfOk result (CompilesExpression names.now before.now statement.now operand) }
+    ensures compiled { IfOk result (IsFromExpression (numbers_of names.now) procedures.now statement.now operand) }
     ensures blamed { IfErr result (λ b. Explains b
         (IsTooLong (numbers_of names.now) statement.now operand)
-        (LacksExpressionCode (numbers_of names.now) statement.now operand)) }
+        (LacksExpression statement.now operand ⊎ NamesUnknown (numbers_of names.now) statement.now operand)) }
 {
     match expression_at(statement, operand) {
-        Some(expression) => match compile(alloc, names, before, expression) {
+        Some(expression) => match compile(alloc, names, procedures, expression) {
             Ok(procedure) => Ok(procedure),
             Err(fault) => Err(blamed_of(fault)),
         },
@@ -93,7 +92,7 @@ fn procedure_of(
     statement: &Statement,
     operand: usize,
 ) -> Result<Procedure, Blamed>
-    ensures compiled { IfOk result (Compiles names.now procedures.now statement.now operand) }
+    ensures compiled { IfOk result (IsProcedureOf (numbers_of names.now) procedures.now statement.now operand) }
     ensures blamed { IfErr result (λ b. Explains b
         (Exceeds (numbers_of names.now) statement.now operand)
         (LacksCode (numbers_of names.now) statement.now operand)) }
@@ -134,12 +133,12 @@ fn put_procedure(
     operand: usize,
     ledger: &mut Ledger,
 ) -> Result<(), AllocError>
-    ensures grown { OnClear result ledger.old ledger.new
-        (Grows (Compiles names.now procedures.old.items statement.now operand)
-        procedures.old.items procedures.new.items) }
+    ensures grown { OnOk result (StaysClear ledger.old ledger.new
+        (Grows (IsProcedureOf (numbers_of names.now) procedures.old.items statement.now operand)
+        procedures.old.items procedures.new.items)) }
     ensures notes { OnOk result (NotesMore
-        (StatementLimit (numbers_of names.now) statement.now operand)
-        (StatementMissing (numbers_of names.now) statement.now operand)
+        (IsFor (Exceeds (numbers_of names.now) statement.now operand) statement.now.line limit_fault)
+        (IsFor (LacksCode (numbers_of names.now) statement.now operand) statement.now.line name_fault)
         ledger.old.least ledger.new.least) }
 {
     match procedure_of(alloc, names, procedures, statement, operand) {
@@ -157,9 +156,9 @@ fn put_procedure_from(
     origin: Origin,
     ledger: &mut Ledger,
 ) -> Result<(), AllocError>
-    ensures grown { OnClear result ledger.old ledger.new
+    ensures grown { OnOk result (StaysClear ledger.old ledger.new
         (Grows (ComesFrom (numbers_of names.now) text.now.statements.items origin)
-        procedures.old.items procedures.new.items) }
+        procedures.old.items procedures.new.items)) }
     ensures notes { OnOk result (NotesMore
         (OriginLimit (numbers_of names.now) text.now.statements.items origin)
         (OriginMissing (numbers_of names.now) text.now.statements.items origin)
@@ -182,8 +181,8 @@ pub(crate) fn procedures_of(
     order: &[Origin],
     ledger: &mut Ledger,
 ) -> Result<Vec<Procedure>, AllocError>
-    ensures compiled { IfClear result ledger.old ledger.new (λ procedures. AreFew order.now
-        → AreCompiled (numbers_of names.now) text.now.statements.items order.now procedures.items) }
+    ensures compiled { IfOk result (λ procedures. StaysClear ledger.old ledger.new
+        (length order.now ≤ MOST_PROCEDURES → AreCompiled (numbers_of names.now) text.now.statements.items order.now procedures.items)) }
     ensures notes { OnOk result (NotesMore
         (CodeLimit (numbers_of names.now) order.now text.now.statements.items)
         (ProcedureMissing (numbers_of names.now) order.now text.now.statements.items)

@@ -1,15 +1,16 @@
 //! The entities of a model text, in order of first sight.
 
-ghost use Rattle.std.specs.Prelude.{◌≡◌, List, Some, OnOk, string_bytes};
+ghost use Rattle.std.specs.Prelude.{◌≡◌, ◌++◌, ◌∷◌, [], ℕ, List, Some, IfOk, OnOk, string_bytes};
 ghost use Rattle.gw_text.specs.declared.model.Statement.{Statement};
-ghost use Rattle.gw_names.specs.Known.{Finds};
-ghost use Rattle.gw_names.specs.Places.{last_of};
-ghost use Rattle.gw_pieces.specs.Clear.{OnClear, IfClear};
+ghost use Rattle.gw_names.specs.Known.{Key, key, found_in};
+ghost use Rattle.gw_names.specs.Places.{last_of, declaration_of};
+ghost use Rattle.gw_pieces.specs.Clear.{StaysClear};
 ghost use Rattle.gw_pieces.specs.Entities as model;
-ghost use Rattle.gw_pieces.specs.Entities.{declared_kind};
-ghost use Rattle.gw_pieces.specs.Notes.{NotesMore, NotesUnless, Never};
+ghost use Rattle.gw_pieces.specs.Notes.{NotesMore, Never, unless_piece};
 ghost use Rattle.gw_pieces.specs.Numbers.{numbers_of};
-ghost use Rattle.gw_pieces.specs.Reasons.{SightMissing, EntityMissing};
+ghost use Rattle.gw_pieces.specs.Reasons.{DeclarationMissing, EntityMissing};
+ghost use Rattle.gw_pieces.specs.Origins as numbers;
+ghost use Rattle.gw_records.specs.Entities.{entity_kind};
 
 use crate::blocks::{Numbers, note_none, numbers_for};
 use crate::initials::Initials;
@@ -30,11 +31,11 @@ fn declared_kind(
     number: usize,
     ledger: &mut Ledger,
 ) -> Result<Kind, AllocError>
-    ensures kind { IfClear result ledger.old ledger.new (λ kind.
-        declared_kind (numbers_of names.now) order.now statement.now number ≡ Some kind) }
-    ensures notes { OnOk result (NotesUnless
-        (declared_kind (numbers_of names.now) order.now statement.now number)
-        statement.now.line ledger.old ledger.new) }
+    ensures kind { IfOk result (λ kind. StaysClear ledger.old ledger.new
+        (entity_kind (numbers_of names.now) (numbers.numbers_for (numbers_of names.now) order.now statement.now number) statement.now ≡ Some kind)) }
+    ensures notes { OnOk result (ledger.new.least ≡ unless_piece
+        (entity_kind (numbers_of names.now) (numbers.numbers_for (numbers_of names.now) order.now statement.now number) statement.now)
+        ledger.old.least statement.now.line) }
 {
     let Numbers { first, second } = numbers_for(names, order, statement, number);
     let procedures = [first, second];
@@ -50,8 +51,8 @@ fn declared_kind(
 /// What an entity is that needs no declaration. (One that needs it and has none was noted when the names were looked at.)
 fn undeclared_kind(initials: &Initials, kind: EntityKind, name: &String) -> Kind
     ensures { (ss : List Statement)
-        → Finds (last_of (model.savevalues_in ss)) initials.now.savevalues
-        → Finds (last_of (model.switches_in ss)) initials.now.switches
+        → ((x : List ℕ) → found_in initials.now.savevalues x ≡ last_of (model.savevalues_in ss) x)
+        → ((x : List ℕ) → found_in initials.now.switches x ≡ last_of (model.switches_in ss) x)
         → result ≡ model.undeclared_kind ss kind (string_bytes name.now) }
 {
     match kind {
@@ -73,14 +74,15 @@ fn kind_of_sighted(
     sighted: &Sighted,
     ledger: &mut Ledger,
 ) -> Result<Kind, AllocError>
-    requires savevalues { Finds
-        (last_of (model.savevalues_in text.now.statements.items)) initials.now.savevalues }
-    requires switches { Finds
-        (last_of (model.switches_in text.now.statements.items)) initials.now.switches }
-    ensures kind { IfClear result ledger.old ledger.new
-        (model.IsKindOf (numbers_of names.now) order.now text.now.statements.items sighted.now) }
+    requires savevalues { (x : List ℕ) → found_in initials.now.savevalues x
+        ≡ last_of (model.savevalues_in text.now.statements.items) x }
+    requires switches { (x : List ℕ) → found_in initials.now.switches x
+        ≡ last_of (model.switches_in text.now.statements.items) x }
+    ensures kind { IfOk result (λ kind. StaysClear ledger.old ledger.new
+        (model.IsKindBy (numbers_of names.now) order.now text.now.statements.items sighted.now.declaration
+        sighted.now.kind (string_bytes sighted.now.name) kind)) }
     ensures notes { OnOk result (NotesMore Never
-        (SightMissing (numbers_of names.now) order.now text.now.statements.items sighted.now)
+        (DeclarationMissing (numbers_of names.now) order.now text.now.statements.items sighted.now.declaration)
         ledger.old.least ledger.new.least) }
 {
     match sighted.declaration {
@@ -106,15 +108,15 @@ fn put_entity(
     sighted: &Sighted,
     ledger: &mut Ledger,
 ) -> Result<(), AllocError>
-    requires savevalues { Finds
-        (last_of (model.savevalues_in text.now.statements.items)) initials.now.savevalues }
-    requires switches { Finds
-        (last_of (model.switches_in text.now.statements.items)) initials.now.switches }
-    ensures grown { OnClear result ledger.old ledger.new (model.GrowsBy
+    requires savevalues { (x : List ℕ) → found_in initials.now.savevalues x
+        ≡ last_of (model.savevalues_in text.now.statements.items) x }
+    requires switches { (x : List ℕ) → found_in initials.now.switches x
+        ≡ last_of (model.switches_in text.now.statements.items) x }
+    ensures grown { OnOk result (StaysClear ledger.old ledger.new (model.GrowsBy
         (model.IsSightedAs (numbers_of names.now) order.now text.now.statements.items sighted.now)
-        entities.old.items entities.new.items) }
+        entities.old.items entities.new.items)) }
     ensures notes { OnOk result (NotesMore Never
-        (SightMissing (numbers_of names.now) order.now text.now.statements.items sighted.now)
+        (DeclarationMissing (numbers_of names.now) order.now text.now.statements.items sighted.now.declaration)
         ledger.old.least ledger.new.least) }
 {
     let kind = kind_of_sighted(alloc, names, text, order, initials, sighted, ledger)?;
@@ -131,8 +133,8 @@ pub(crate) fn entities_of(
     sighted: &[Sighted],
     ledger: &mut Ledger,
 ) -> Result<Vec<Entity>, AllocError>
-    ensures sighted { IfClear result ledger.old ledger.new (λ entities. model.AreSightedAs
-        (numbers_of names.now) order.now text.now.statements.items sighted.now entities.items) }
+    ensures sighted { IfOk result (λ entities. StaysClear ledger.old ledger.new (model.AreSightedAs
+        (numbers_of names.now) order.now text.now.statements.items sighted.now entities.items)) }
     ensures notes { OnOk result (NotesMore Never
         (EntityMissing (numbers_of names.now) order.now text.now.statements.items sighted.now)
         ledger.old.least ledger.new.least) }

@@ -1,9 +1,10 @@
 //! What INITIAL sets.
 
-ghost use Rattle.std.specs.Prelude.{◌≡◌, IfOk, option_map, slice_get, string_bytes};
+ghost use Rattle.std.specs.Prelude.{◌≡◌, ℕ, List, pos, not, OnOk, IfOk, option_map, unwrap_or, slice_get, string_bytes};
 ghost use Rattle.std.specs.Option.{option_copied};
-ghost use Rattle.gw_names.specs.Known.{Finds, found_in};
-ghost use Rattle.gw_names.specs.Places.{Sets, last_of};
+ghost use Rattle.gw_num.specs.Arithmetic.{is_zero};
+ghost use Rattle.gw_names.specs.Known.{found_in};
+ghost use Rattle.gw_names.specs.Places.{Adds, last_of};
 ghost use Rattle.gw_pieces.specs.Entities as model;
 
 use crate::settings::number_at;
@@ -74,7 +75,8 @@ fn set_savevalue(
     initials: &mut IndexMap<String, i64>,
     statement: &Statement,
 ) -> Result<(), AllocError>
-    ensures { Sets result initials.old initials.new (model.savevalue_by statement.now) }
+    ensures { OnOk result (Adds (model.savevalue_by statement.now)
+        (found_in initials.old) (found_in initials.new)) }
 {
     match (statement.word, savevalue_in(&statement.operands)) {
         (Word::Initial, Some(name)) => set(initials, name, number_at(&statement.operands, 1)),
@@ -84,7 +86,8 @@ fn set_savevalue(
 
 /// What a statement sets, if it is an INITIAL of a switch.
 fn set_switch(initials: &mut IndexMap<String, i64>, statement: &Statement) -> Result<(), AllocError>
-    ensures { Sets result initials.old initials.new (model.switch_by statement.now) }
+    ensures { OnOk result (Adds (model.switch_by statement.now)
+        (found_in initials.old) (found_in initials.new)) }
 {
     match (statement.word, switch_in(&statement.operands)) {
         (Word::Initial, Some(name)) => set(initials, name, number_at(&statement.operands, 1)),
@@ -97,7 +100,8 @@ fn savevalues_in(
     alloc: Global,
     statements: &[Statement],
 ) -> Result<IndexMap<String, i64>, AllocError>
-    ensures { IfOk result (Finds (last_of (model.savevalues_in statements.now))) }
+    ensures { IfOk result (λ m. (name : List ℕ)
+        → found_in m name ≡ last_of (model.savevalues_in statements.now) name) }
 {
     let mut initials = IndexMap::new(alloc);
     for statement in statements {
@@ -108,7 +112,8 @@ fn savevalues_in(
 
 /// What the INITIALs of switches set.
 fn switches_in(alloc: Global, statements: &[Statement]) -> Result<IndexMap<String, i64>, AllocError>
-    ensures { IfOk result (Finds (last_of (model.switches_in statements.now))) }
+    ensures { IfOk result (λ m. (name : List ℕ)
+        → found_in m name ≡ last_of (model.switches_in statements.now) name) }
 {
     let mut initials = IndexMap::new(alloc);
     for statement in statements {
@@ -120,10 +125,10 @@ fn switches_in(alloc: Global, statements: &[Statement]) -> Result<IndexMap<Strin
 impl Initials {
     /// What the INITIALs among these statements set.
     pub(crate) fn of(alloc: Global, statements: &[Statement]) -> Result<Initials, AllocError>
-        ensures savevalues { IfOk result (λ i.
-            Finds (last_of (model.savevalues_in statements.now)) i.savevalues) }
-        ensures switches { IfOk result (λ i.
-            Finds (last_of (model.switches_in statements.now)) i.switches) }
+        ensures savevalues { IfOk result (λ i. (name : List ℕ)
+            → found_in i.savevalues name ≡ last_of (model.savevalues_in statements.now) name) }
+        ensures switches { IfOk result (λ i. (name : List ℕ)
+            → found_in i.switches name ≡ last_of (model.switches_in statements.now) name) }
     {
         Ok(Initials {
             savevalues: savevalues_in(alloc, statements)?,
@@ -133,14 +138,14 @@ impl Initials {
 
     /// The initial value of a savevalue.
     pub(crate) fn savevalue(&self, name: &String) -> i64
-        ensures { result ≡ model.or_zero (found_in self.now.savevalues (string_bytes name.now)) }
+        ensures { result ≡ unwrap_or (found_in self.now.savevalues (string_bytes name.now)) (pos 0) }
     {
         self.savevalues.get(name.as_str()).copied().unwrap_or(0)
     }
 
     /// Whether a switch is set at first.
     pub(crate) fn switch(&self, name: &String) -> bool
-        ensures { result ≡ model.is_set (found_in self.now.switches (string_bytes name.now)) }
+        ensures { result ≡ not (is_zero (unwrap_or (found_in self.now.switches (string_bytes name.now)) (pos 0))) }
     {
         self.switches.get(name.as_str()).copied().unwrap_or(0) != 0
     }

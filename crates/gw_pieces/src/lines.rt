@@ -1,8 +1,8 @@
 //! The lines of the statements that procedures come from.
 
-ghost use Rattle.std.specs.Prelude.{◌≡◌, ◌++◌, ◌∷◌, [], OnOk, IfOk};
+ghost use Rattle.std.specs.Prelude.{◌≡◌, ◌++◌, ◌∷◌, [], map, OnOk, IfOk};
 ghost use Rattle.gw_names.specs.Naming.{Knows};
-ghost use Rattle.gw_pieces.specs.Lines.{line_of_origin, lines_of, procedure_lines};
+ghost use Rattle.gw_pieces.specs.Lines as model;
 
 use crate::origins::Origin;
 use crate::pieces::{line_of, order_of};
@@ -13,14 +13,14 @@ use std::alloc::{AllocError, Global};
 /// The line of an origin, behind others.
 fn put_line(lines: &mut Vec<u32>, text: &Model, origin: Origin) -> Result<(), AllocError>
     ensures { OnOk result (lines.new.items
-        ≡ lines.old.items ++ line_of_origin text.now.statements.items origin ∷ []) }
+        ≡ lines.old.items ++ model.line_of_origin text.now.statements.items origin ∷ []) }
 {
     lines.push(line_of(text, origin)).map_err(|_| AllocError)
 }
 
 /// The lines of origins, in order.
 fn lines_of(alloc: Global, text: &Model, order: &[Origin]) -> Result<Vec<u32>, AllocError>
-    ensures { IfOk result (λ lines. lines.items ≡ lines_of text.now.statements.items order.now) }
+    ensures { IfOk result (λ lines. lines.items ≡ map (model.line_of_origin text.now.statements.items) order.now) }
 {
     let mut lines = Vec::new(alloc);
     for i in 0..order.len() {
@@ -34,7 +34,7 @@ fn lines_of(alloc: Global, text: &Model, order: &[Origin]) -> Result<Vec<u32>, A
 #[tactic(auto, unfolding(crate::specs::Lines::procedure_lines))]
 pub fn procedure_lines(alloc: Global, text: &Model, known: &Known) -> Result<Vec<u32>, AllocError>
     requires { Knows text.now.statements.items known.now }
-    ensures { IfOk result (λ lines. lines.items ≡ procedure_lines text.now.statements.items) }
+    ensures { IfOk result (λ lines. lines.items ≡ model.procedure_lines text.now.statements.items) }
 {
     let order = order_of(alloc, text, known, &mut Ledger::new())?;
     lines_of(alloc, text, &order)

@@ -1,11 +1,9 @@
 //! What the names of PROCEDUREs and EQUs stand for, once their procedures have numbers.
 
-ghost use Rattle.std.specs.Prelude.{◌≡◌, IfOk, Some, min, length, string_bytes};
-ghost use Rattle.gw_names.specs.Known.{Finds, found_in};
-ghost use Rattle.gw_names.specs.Places.{Sets, label_of, named};
-ghost use Rattle.gw_pieces.specs.Naming.{number_at, callee_of_body, callee_of_origin, callees_of, callee_of};
-ghost use Rattle.gw_pieces.specs.Naming.{equ_of_body, equ_of_origin, equs_of, equ_by};
-ghost use Rattle.gw_pieces.specs.Naming.{numbered, equ_of_number, equs_of_numbers};
+ghost use Rattle.std.specs.Prelude.{◌≡◌, OnOk, IfOk, ℕ, List, Some, min, length, string_bytes};
+ghost use Rattle.gw_names.specs.Known.{found_in};
+ghost use Rattle.gw_names.specs.Places.{Adds, label_of, named};
+ghost use Rattle.gw_pieces.specs.Naming as model;
 
 use crate::origins::Origin;
 use gw_compile::{Callee, Equ};
@@ -25,7 +23,7 @@ pub(crate) struct Meanings {
 
 /// The number of the procedure at a place.
 fn number_at(place: usize) -> u16
-    ensures { result ≡ number_at place }
+    ensures { result ≡ model.number_at place }
 {
     u16::try_from(place).unwrap_or(u16::MAX)
 }
@@ -39,17 +37,17 @@ fn arguments_of(procedure: &Procedure) -> u8
 
 /// What a PROCEDURE stands for that becomes the procedure at this place.
 fn put_callee(
-    callees: &mut IndexMap<String, Callee>,
+    procedures: &mut IndexMap<String, Callee>,
     body: &Body,
     place: usize,
 ) -> Result<(), AllocError>
-    ensures { Sets result callees.old callees.new (callee_of_body body.now place) }
+    ensures { OnOk result (Adds (model.callee_of_body body.now place) (found_in procedures.old) (found_in procedures.new)) }
 {
     match body {
         Body::Procedure(procedure) => {
             let number = number_at(place);
             let arguments = arguments_of(procedure);
-            set(callees, &procedure.name, Callee { number, arguments })
+            set(procedures, &procedure.name, Callee { number, arguments })
         }
         Body::Nothing | Body::Points(_) => Ok(()),
     }
@@ -57,30 +55,31 @@ fn put_callee(
 
 /// The PROCEDURE of an origin, if it is one, which becomes the procedure at this place.
 fn put_callee_of(
-    callees: &mut IndexMap<String, Callee>,
+    procedures: &mut IndexMap<String, Callee>,
     text: &Model,
     origin: Origin,
     place: usize,
 ) -> Result<(), AllocError>
-    ensures { Sets result callees.old callees.new
-        (callee_of_origin text.now.statements.items origin place) }
+    ensures { OnOk result (Adds (model.callee_of_origin text.now.statements.items origin place)
+        (found_in procedures.old) (found_in procedures.new)) }
 {
     match text.statements.get(origin.statement) {
-        Some(statement) => put_callee(callees, &statement.body, place),
+        Some(statement) => put_callee(procedures, &statement.body, place),
         None => Ok(()),
     }
 }
 
 /// The PROCEDUREs of these origins, by their numbers.
 fn put_callees(
-    callees: &mut IndexMap<String, Callee>,
+    procedures: &mut IndexMap<String, Callee>,
     text: &Model,
     order: &[Origin],
 ) -> Result<(), AllocError>
-    ensures { Sets result callees.old callees.new (callees_of text.now.statements.items order.now) }
+    ensures { OnOk result (Adds (model.entries_from (model.callee_of_origin text.now.statements.items) 0 order.now)
+        (found_in procedures.old) (found_in procedures.new)) }
 {
     for i in 0..order.len() {
-        put_callee_of(callees, text, order[i], i)?;
+        put_callee_of(procedures, text, order[i], i)?;
     }
     Ok(())
 }
@@ -91,7 +90,7 @@ fn put_named(
     statement: &Statement,
     equ: Equ,
 ) -> Result<(), AllocError>
-    ensures { Sets result equs.old equs.new (named (label_of statement.now) equ) }
+    ensures { OnOk result (Adds (named (label_of statement.now) equ) (found_in equs.old) (found_in equs.new)) }
 {
     match &statement.label {
         Some(name) => set(equs, name, equ),
@@ -105,7 +104,8 @@ fn put_equ(
     statement: &Statement,
     place: usize,
 ) -> Result<(), AllocError>
-    ensures { Sets result equs.old equs.new (equ_of_body statement.now.body statement.now place) }
+    ensures { OnOk result (Adds (model.equ_of_body statement.now.body statement.now place)
+        (found_in equs.old) (found_in equs.new)) }
 {
     match &statement.body {
         Body::Nothing => {
@@ -126,8 +126,8 @@ fn put_equ_of(
     origin: Origin,
     place: usize,
 ) -> Result<(), AllocError>
-    ensures { Sets result equs.old equs.new
-        (equ_of_origin text.now.statements.items origin place) }
+    ensures { OnOk result (Adds (model.equ_of_origin text.now.statements.items origin place)
+        (found_in equs.old) (found_in equs.new)) }
 {
     match text.statements.get(origin.statement) {
         Some(statement) => put_equ(equs, statement, place),
@@ -141,7 +141,8 @@ fn put_equs(
     text: &Model,
     order: &[Origin],
 ) -> Result<(), AllocError>
-    ensures { Sets result equs.old equs.new (equs_of text.now.statements.items order.now) }
+    ensures { OnOk result (Adds (model.entries_from (model.equ_of_origin text.now.statements.items) 0 order.now)
+        (found_in equs.old) (found_in equs.new)) }
 {
     for i in 0..order.len() {
         put_equ_of(equs, text, order[i], i)?;
@@ -155,8 +156,8 @@ fn put_number_of(
     known: &Known,
     name: &String,
 ) -> Result<(), AllocError>
-    ensures { Sets result equs.old equs.new (numbered
-        (Some (string_bytes name.now)) (found_in known.now.equ_numbers (string_bytes name.now))) }
+    ensures { OnOk result (Adds (model.numbered (Some (string_bytes name.now)) (found_in known.now.equ_numbers (string_bytes name.now)))
+        (found_in equs.old) (found_in equs.new)) }
 {
     match found(&known.equ_numbers, name) {
         Some(number) => set(equs, name, Equ::Number(number)),
@@ -171,8 +172,8 @@ fn put_number(
     statement: &Statement,
     place: usize,
 ) -> Result<(), AllocError>
-    ensures { Sets result equs.old equs.new
-        (equ_of_number (found_in known.now.equ_numbers) statement.now place) }
+    ensures { OnOk result (Adds (model.equ_of_number (found_in known.now.equ_numbers) statement.now place)
+        (found_in equs.old) (found_in equs.new)) }
 {
     match &statement.label {
         Some(name) => {
@@ -192,8 +193,8 @@ fn put_numbers(
     known: &Known,
     statements: &[Statement],
 ) -> Result<(), AllocError>
-    ensures { Sets result equs.old equs.new
-        (equs_of_numbers (found_in known.now.equ_numbers) statements.now) }
+    ensures { OnOk result (Adds (model.entries_from (model.equ_of_number (found_in known.now.equ_numbers)) 0 statements.now)
+        (found_in equs.old) (found_in equs.new)) }
 {
     for i in 0..statements.len() {
         put_number(equs, known, &statements[i], i)?;
@@ -208,10 +209,10 @@ pub(crate) fn meanings_of(
     known: &Known,
     order: &[Origin],
 ) -> Result<Meanings, AllocError>
-    ensures procedures { IfOk result (λ m.
-        Finds (callee_of text.now.statements.items order.now) m.procedures) }
-    ensures equs { IfOk result (λ m. Finds
-        (equ_by (found_in known.now.equ_numbers) text.now.statements.items order.now) m.equs) }
+    ensures procedures { IfOk result (λ m. (name : List ℕ)
+        → found_in m.procedures name ≡ model.callee_of text.now.statements.items order.now name) }
+    ensures equs { IfOk result (λ m. (name : List ℕ) → found_in m.equs name
+        ≡ model.equ_by (found_in known.now.equ_numbers) text.now.statements.items order.now name) }
 {
     let mut procedures = IndexMap::new(alloc);
     put_callees(&mut procedures, text, order)?;

@@ -5,7 +5,6 @@ ghost use Rattle.std.specs.List.{flat_map};
 ghost use Rattle.gw_uses.specs.Mentions.{mention, mentions};
 ghost use Rattle.gw_pieces.specs.Order as model;
 ghost use Rattle.gw_pieces.specs.Order.{lookup_by, lookup_of, ordered_by, search_of, search_to};
-ghost use Rattle.gw_pieces.specs.Order.{Reaches, place_called, places_called, search_all, unvisited};
 ghost use Rattle.gw_pieces.specs.Origins as operands;
 ghost use Rattle.gw_pieces.specs.Origins.{place_in};
 
@@ -155,7 +154,7 @@ fn put_callees(
     uses: &[Use<'_>],
 ) -> Result<(), AllocError>
     ensures { OnOk result (callees.new.items
-        ≡ callees.old.items ++ flat_map (place_called (lookup_of text.now)) (mentions uses.now)) }
+        ≡ callees.old.items ++ flat_map (model.place_called (lookup_of text.now)) (mentions uses.now)) }
 {
     for i in 0..uses.len() {
         put_callee(callees, text, uses[i])?;
@@ -204,7 +203,7 @@ fn uses_of<'a>(
 
 /// The places of the origins of what is called at an origin, in order of first sight.
 fn callees_of(alloc: Global, text: &Text<'_>, origin: Origin) -> Result<Vec<usize>, AllocError>
-    ensures { IfOk result (λ places. places.items ≡ places_called (lookup_of text.now) origin) }
+    ensures { IfOk result (λ callees. callees.items ≡ model.places_called (lookup_of text.now) origin) }
 {
     let mut callees = Vec::new(alloc);
     match text.model.statements.get(origin.statement) {
@@ -219,7 +218,7 @@ fn callees_of(alloc: Global, text: &Text<'_>, origin: Origin) -> Result<Vec<usiz
 
 /// The origin at a place, unless it was come to.
 fn unvisited(visited: &[bool], origins: &[Origin], place: usize) -> Option<Origin>
-    ensures { result ≡ unvisited (slice_get visited.now place) (slice_get origins.now place) }
+    ensures { result ≡ model.unvisited (slice_get visited.now place) (slice_get origins.now place) }
 {
     match visited.get(place) {
         Some(true) => None,
@@ -254,7 +253,7 @@ fn visit(
     place: usize,
     depth: usize,
 ) -> Result<(), AllocError>
-    ensures { Reaches result order.new (model.visit_with (lookup_of text.now)
+    ensures { OnOk result (search_of order.new ≡ model.visit_with (lookup_of text.now)
         (search_to (lookup_of text.now) depth) (search_of order.old) place) }
 {
     match unvisited(&order.visited, text.origins, place) {
@@ -276,7 +275,7 @@ fn visit_callees(
     origin: Origin,
     depth: usize,
 ) -> Result<(), AllocError>
-    ensures { Reaches result order.new (search_to (lookup_of text.now) depth
+    ensures { OnOk result (search_of order.new ≡ search_to (lookup_of text.now) depth
         (search_of order.old) (model.places_called (lookup_of text.now) origin)) }
 {
     if depth == 0 {
@@ -295,7 +294,7 @@ fn visit_all(
     places: &[usize],
     depth: usize,
 ) -> Result<(), AllocError>
-    ensures { Reaches result order.new (model.visit_each (lookup_of text.now)
+    ensures { OnOk result (search_of order.new ≡ model.visit_each (lookup_of text.now)
         (search_to (lookup_of text.now) depth) (search_of order.old) places.now) }
 {
     for i in 0..places.len() {
@@ -306,7 +305,7 @@ fn visit_all(
 
 /// The same for all origins, in the order of the text.
 fn visit_each(alloc: Global, text: &Text<'_>, order: &mut Order) -> Result<(), AllocError>
-    ensures { Reaches result order.new (search_all (lookup_of text.now) (search_of order.old)) }
+    ensures { OnOk result (search_of order.new ≡ model.search_all (lookup_of text.now) (search_of order.old)) }
 {
     for place in 0..text.origins.len() {
         visit(alloc, text, order, place, text.origins.len())?;

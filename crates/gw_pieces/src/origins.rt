@@ -5,9 +5,7 @@ ghost use Rattle.std.specs.Option.{option_copied};
 ghost use Rattle.gw_names.specs.Known.{found_in};
 ghost use Rattle.gw_names.specs.Places.{label_of};
 ghost use Rattle.gw_pieces.specs.Order as order;
-ghost use Rattle.gw_pieces.specs.Order.{is_operand_origin};
 ghost use Rattle.gw_pieces.specs.Origins as model;
-ghost use Rattle.gw_pieces.specs.Origins.{whole_call};
 
 use gw_names::{Known, found, is_equ};
 use gw_text::{Body, Expression, Model, Operand, Statement, Word};
@@ -31,7 +29,7 @@ pub(crate) fn is_variable(word: Word) -> bool
 
 /// The name of the PROCEDURE that an expression calls as a whole, without arguments: no procedure of its own is made of it.
 pub(crate) fn whole_call(expression: &Expression) -> Option<&String>
-    ensures { option_map (λ name. string_bytes name.now) result ≡ whole_call expression.now }
+    ensures { option_map (λ name. string_bytes name.now) result ≡ model.whole_call expression.now }
 {
     match expression {
         Expression::Call(name, arguments) => {
@@ -77,7 +75,7 @@ fn is_own(statement: &Statement, operand: usize) -> bool
 
 /// Whether a procedure comes from this position of a statement that has no PROCEDURE.
 fn is_operand_origin(known: &Known, statement: &Statement, operand: usize) -> bool
-    ensures { result ≡ is_operand_origin (found_in known.now.equ_numbers) statement.now operand }
+    ensures { result ≡ order.is_operand_origin (found_in known.now.equ_numbers) statement.now operand }
 {
     if is_equ(statement.word) {
         operand == 0 && !is_number(known, statement) && expression_at(statement, operand).is_some()

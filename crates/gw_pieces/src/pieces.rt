@@ -1,22 +1,19 @@
 //! The parts of the object that a model text becomes.
 
-ghost use Rattle.std.specs.Prelude.{◌≡◌, [], slice_get, IfOk, IfErr, OnOk};
+ghost use Rattle.std.specs.Prelude.{◌≡◌, ◌≤◌, [], length, slice_get, IfOk, IfErr, OnOk};
 ghost use Rattle.gw_object.specs.Reading.{out_of_memory};
-ghost use Rattle.gw_names.specs.Ledger.{Notes};
+ghost use Rattle.gw_object.specs.declared.limits.TheConstants.{MOST_PROCEDURES};
+ghost use Rattle.gw_names.specs.Judgement.{refusals_in};
+ghost use Rattle.gw_names.specs.Ledger.{with_notes};
 ghost use Rattle.gw_names.specs.Naming.{Knows};
-ghost use Rattle.gw_pieces.specs.Clear.{StaysClear, OnClear, IfClear};
+ghost use Rattle.gw_pieces.specs.Clear.{StaysClear};
 ghost use Rattle.gw_pieces.specs.Making as making;
-ghost use Rattle.gw_pieces.specs.Making.{IsCodeOf, IsCodeBeside, ArePieces, IsMade, IsMadeNamed};
-ghost use Rattle.gw_pieces.specs.Making.{HasMeanings, NamesAreKnown, surplus};
-ghost use Rattle.gw_pieces.specs.Making.{NotesNames, NotesLacks, NotesKnown, NotesText};
 ghost use Rattle.gw_pieces.specs.Notes.{NotesMore};
-ghost use Rattle.gw_pieces.specs.Numbers.{numbers_of, numbers_with};
+ghost use Rattle.gw_pieces.specs.Numbers.{numbers_of};
 ghost use Rattle.gw_pieces.specs.Order.{lookup_by, order_by, order_in};
-ghost use Rattle.gw_pieces.specs.Pieces.{IsMadeOf};
+ghost use Rattle.gw_pieces.specs.Pieces.{HasCode, IsMadeOf};
 ghost use Rattle.gw_pieces.specs.Reasons as reasons;
-ghost use Rattle.gw_pieces.specs.Reasons.{surplus_in};
 ghost use Rattle.gw_pieces.specs.Settings.{seeds_in};
-ghost use Rattle.gw_pieces.specs.Sources.{AreFew};
 
 use crate::blocks::blocks_of;
 use crate::compiling::procedures_of;
@@ -51,8 +48,9 @@ pub(crate) fn line_of(text: &Model, origin: Origin) -> u32
 
 /// Notes the first origin that is one too many.
 fn note_surplus(text: &Model, origins: &[Origin], ledger: &mut Ledger)
-    ensures few { StaysClear ledger.old ledger.new (AreFew origins.now) }
-    ensures notes { Notes ledger.old ledger.new (surplus_in text.now.statements.items origins.now) }
+    ensures few { StaysClear ledger.old ledger.new (length origins.now ≤ MOST_PROCEDURES) }
+    ensures notes { ledger.new.least
+        ≡ with_notes ledger.old.least (reasons.surplus_in text.now.statements.items origins.now) }
 {
     if origins.len() > MOST_PROCEDURES {
         ledger.note(line_of(text, origins[MOST_PROCEDURES]), codes::LIMIT);
@@ -84,8 +82,9 @@ pub(crate) fn order_of(
     ledger: &mut Ledger,
 ) -> Result<Vec<Origin>, AllocError>
     requires { Knows text.now.statements.items known.now }
-    ensures few { IfClear result ledger.old ledger.new (λ order. AreFew order.items) }
-    ensures notes { OnOk result (Notes ledger.old ledger.new (surplus text.now.statements.items)) }
+    ensures few { IfOk result (λ order. StaysClear ledger.old ledger.new (length order.items ≤ MOST_PROCEDURES)) }
+    ensures notes { OnOk result (ledger.new.least
+        ≡ with_notes ledger.old.least (reasons.surplus_in text.now.statements.items (order_in text.now.statements.items))) }
     ensures order { IfOk result (λ order. order.items ≡ order_in text.now.statements.items) }
 {
     let origins = origins_of(alloc, known, text)?;
@@ -109,8 +108,8 @@ fn code_of(
     order: &[Origin],
     ledger: &mut Ledger,
 ) -> Result<Code, AllocError>
-    ensures made { IfClear result ledger.old ledger.new
-        (IsCodeOf (numbers_of names.now) order.now text.now.statements.items) }
+    ensures made { IfOk result (λ code. StaysClear ledger.old ledger.new
+        (length order.now ≤ MOST_PROCEDURES → HasCode (numbers_of names.now) order.now text.now.statements.items code.procedures.items code.blocks.items)) }
     ensures notes { OnOk result (NotesMore
         (reasons.CodeLimit (numbers_of names.now) order.now text.now.statements.items)
         (reasons.CodeOrBlockMissing (numbers_of names.now) order.now text.now.statements.items)
@@ -131,8 +130,9 @@ fn code_with(
     ledger: &mut Ledger,
 ) -> Result<Code, AllocError>
     ensures names { names.new ≡ record names.old { list = entities } }
-    ensures made { IfClear result ledger.old ledger.new
-        (IsCodeOf (numbers_with names.old entities) order.now text.now.statements.items) }
+    ensures made { IfOk result (λ code. StaysClear ledger.old ledger.new
+        (length order.now ≤ MOST_PROCEDURES → HasCode (numbers_of (record names.old { list = entities })) order.now text.now.statements.items
+        code.procedures.items code.blocks.items)) }
     ensures notes { OnOk result (NotesMore
         (reasons.CodeLimit (numbers_of names.old) order.now text.now.statements.items)
         (reasons.CodeOrBlockMissing (numbers_of names.old) order.now text.now.statements.items)
@@ -151,9 +151,9 @@ fn code_and_entities(
     sighted: &[Sighted],
     ledger: &mut Ledger,
 ) -> Result<Code, AllocError>
-    ensures made { IfClear result ledger.old ledger.new
-        (IsCodeBeside (numbers_of names.old) order.now text.now.statements.items
-        sighted.now names.new.list.items) }
+    ensures made { IfOk result (λ code. StaysClear ledger.old ledger.new
+        (length order.now ≤ MOST_PROCEDURES → making.HasAllBy (numbers_of names.old) order.now text.now.statements.items sighted.now
+        names.new.list.items code.procedures.items code.blocks.items)) }
     ensures notes { OnOk result (NotesMore
         (reasons.CodeLimit (numbers_of names.old) order.now text.now.statements.items)
         (reasons.AnyMissing (numbers_of names.old) order.now text.now.statements.items sighted.now)
@@ -180,8 +180,9 @@ fn pieces_by(
     sighted: &[Sighted],
     ledger: &mut Ledger,
 ) -> Result<Pieces, AllocError>
-    ensures made { IfClear result ledger.old ledger.new
-        (ArePieces (numbers_of names) order.now text.now.statements.items sighted.now) }
+    ensures made { IfOk result (λ pieces. StaysClear ledger.old ledger.new
+        (length order.now ≤ MOST_PROCEDURES → making.HasAllBy (numbers_of names) order.now text.now.statements.items sighted.now
+        pieces.entities.items pieces.procedures.items pieces.blocks.items)) }
     ensures notes { OnOk result (NotesMore
         (reasons.CodeLimit (numbers_of names) order.now text.now.statements.items)
         (reasons.AnyMissing (numbers_of names) order.now text.now.statements.items sighted.now)
@@ -241,10 +242,11 @@ fn ordered_by(
     ledger: &mut Ledger,
 ) -> Result<Ordered, AllocError>
     requires { Knows text.now.statements.items known.now }
-    ensures few { IfClear result ledger.old ledger.new (λ o. AreFew o.order.items) }
-    ensures notes { OnOk result (Notes ledger.old ledger.new (surplus text.now.statements.items)) }
+    ensures few { IfOk result (λ o. StaysClear ledger.old ledger.new (length o.order.items ≤ MOST_PROCEDURES)) }
+    ensures notes { OnOk result (ledger.new.least
+        ≡ with_notes ledger.old.least (reasons.surplus_in text.now.statements.items (order_in text.now.statements.items))) }
     ensures order { IfOk result (λ o. o.order.items ≡ order_in text.now.statements.items) }
-    ensures meanings { IfOk result (HasMeanings text.now.statements.items) }
+    ensures meanings { IfOk result (λ o. making.AreMeanings text.now.statements.items o.order.items o.meanings) }
 {
     let order = order_of(alloc, text, known, ledger)?;
     let meanings = meanings_of(alloc, text, known, &order)?;
@@ -259,11 +261,11 @@ fn judged(
     ledger: &mut Ledger,
 ) -> Result<Ordered, AllocError>
     requires { Knows text.now.statements.items known.now }
-    ensures few { IfClear result ledger.old ledger.new (λ o. AreFew o.order.items) }
-    ensures named { OnClear result ledger.old ledger.new (NamesAreKnown text.now.statements.items) }
-    ensures notes { OnOk result (NotesNames text.now.statements.items ledger.old ledger.new) }
+    ensures few { IfOk result (λ o. StaysClear ledger.old ledger.new (length o.order.items ≤ MOST_PROCEDURES)) }
+    ensures named { OnOk result (StaysClear ledger.old ledger.new (refusals_in text.now.statements.items ≡ [])) }
+    ensures notes { OnOk result (ledger.new.least ≡ making.noted_of_names text.now.statements.items ledger.old.least) }
     ensures order { IfOk result (λ o. o.order.items ≡ order_in text.now.statements.items) }
-    ensures meanings { IfOk result (HasMeanings text.now.statements.items) }
+    ensures meanings { IfOk result (λ o. making.AreMeanings text.now.statements.items o.order.items o.meanings) }
 {
     check_uses(alloc, known, text.statements.as_slice(), ledger)?;
     ordered_by(alloc, text, known, ledger)
@@ -279,11 +281,12 @@ fn pieces_with(
     ledger: &mut Ledger,
 ) -> Result<Pieces, AllocError>
     requires known { Knows text.now.statements.items known }
-    requires meanings { HasMeanings text.now.statements.items ordered }
+    requires meanings { making.AreMeanings text.now.statements.items ordered.order.items ordered.meanings }
     requires order { ordered.order.items ≡ order_in text.now.statements.items }
-    ensures made { IfClear result ledger.old ledger.new (λ pieces.
-        AreFew ordered.order.items → IsMade text.now.statements.items pieces) }
-    ensures notes { OnOk result (NotesLacks text.now.statements.items ledger.old ledger.new) }
+    ensures made { IfOk result (λ pieces. StaysClear ledger.old ledger.new
+        (length ordered.order.items ≤ MOST_PROCEDURES → making.AreMade text.now.statements.items
+        pieces.entities.items pieces.procedures.items pieces.blocks.items)) }
+    ensures notes { OnOk result (making.NotesPieces text.now.statements.items ledger.old.least ledger.new.least) }
 {
     let Ordered { order, meanings } = ordered;
     let (names, sighted) = names_with(known, meanings, Vec::new(alloc));
@@ -298,9 +301,11 @@ fn pieces_known(
     ledger: &mut Ledger,
 ) -> Result<Pieces, AllocError>
     requires { Knows text.now.statements.items known }
-    ensures made { IfClear result ledger.old ledger.new (IsMade text.now.statements.items) }
-    ensures named { OnClear result ledger.old ledger.new (NamesAreKnown text.now.statements.items) }
-    ensures notes { OnOk result (NotesKnown text.now.statements.items ledger.old ledger.new) }
+    ensures made { IfOk result (λ pieces. StaysClear ledger.old ledger.new (making.AreMade text.now.statements.items
+        pieces.entities.items pieces.procedures.items pieces.blocks.items)) }
+    ensures named { OnOk result (StaysClear ledger.old ledger.new (refusals_in text.now.statements.items ≡ [])) }
+    ensures notes { OnOk result (making.NotesPieces text.now.statements.items
+        (making.noted_of_names text.now.statements.items ledger.old.least) ledger.new.least) }
 {
     match judged(alloc, text, &known, ledger) {
         Ok(ordered) => pieces_with(alloc, text, known, ordered, ledger),
@@ -310,8 +315,10 @@ fn pieces_known(
 
 /// What is made of a model text. What can't be made is noted.
 fn pieces_of(alloc: Global, text: &Model, ledger: &mut Ledger) -> Result<Pieces, AllocError>
-    ensures made { IfClear result ledger.old ledger.new (IsMadeNamed text.now.statements.items) }
-    ensures notes { OnOk result (NotesText text.now.statements.items ledger.old ledger.new) }
+    ensures made { IfOk result (λ pieces. StaysClear ledger.old ledger.new (making.AreMadeNamed text.now.statements.items
+        pieces.entities.items pieces.procedures.items pieces.blocks.items)) }
+    ensures notes { OnOk result (making.NotesPieces text.now.statements.items
+        (making.noted_of_text text.now.statements.items ledger.old.least) ledger.new.least) }
 {
     match known_names(alloc, text.statements.as_slice(), ledger) {
         Ok(known) => pieces_known(alloc, text, known, ledger),
@@ -376,7 +383,8 @@ fn parts_with(alloc: Global, count: u64, pieces: Pieces, rest: Rest) -> Parts
 
 /// The parts of an object of a text's pieces.
 fn completed(alloc: Global, text: &Model, pieces: Pieces) -> Result<Parts, Fault>
-    requires { IsMadeNamed text.now.statements.items pieces }
+    requires { making.AreMadeNamed text.now.statements.items
+        pieces.entities.items pieces.procedures.items pieces.blocks.items }
     ensures made { IfOk result (IsMadeOf text.now.statements.items) }
     ensures refused { IfErr result (λ fault. fault ≡ out_of_memory) }
 {

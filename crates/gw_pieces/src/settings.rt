@@ -2,7 +2,6 @@
 
 ghost use Rattle.std.specs.Prelude.{◌≡◌, ◌++◌, ◌∷◌, [], OnOk, IfOk, slice_get};
 ghost use Rattle.gw_pieces.specs.Settings as model;
-ghost use Rattle.gw_pieces.specs.Settings.{seed_in};
 
 use gw_text::{Operand, Statement, Word};
 use std::alloc::{AllocError, Global};
@@ -66,7 +65,7 @@ fn later(earlier: u32, later: u32) -> u32
 
 /// The seed that the statements give to a stream, from 0: that of the last RMULT that gives one, or 0.
 fn seed_of(statements: &[Statement], stream: usize) -> u32
-    ensures { result ≡ seed_in statements.now stream }
+    ensures { result ≡ model.seed_from 0 statements.now stream }
 {
     let mut seed = 0;
     for statement in statements {
@@ -75,11 +74,13 @@ fn seed_of(statements: &[Statement], stream: usize) -> u32
     seed
 }
 
-/// A seed, behind others.
-fn put_seed(seeds: &mut Vec<u32>, seed: u32) -> Result<(), AllocError>
-    ensures { OnOk result (seeds.new.items ≡ seeds.old.items ++ seed ∷ []) }
+/// The seed of a stream, from 0, behind others.
+fn put_seed(seeds: &mut Vec<u32>, statements: &[Statement], stream: usize) -> Result<(), AllocError>
+    ensures { OnOk result (seeds.new.items ≡ seeds.old.items ++ model.seed_from 0 statements.now stream ∷ []) }
 {
-    seeds.push(seed).map_err(|_| AllocError)
+    seeds
+        .push(seed_of(statements, stream))
+        .map_err(|_| AllocError)
 }
 
 /// The seeds of all streams.
@@ -88,7 +89,7 @@ fn all_seeds(alloc: Global, statements: &[Statement]) -> Result<Vec<u32>, AllocE
 {
     let mut seeds = Vec::new(alloc);
     for stream in 0..SEEDS {
-        put_seed(&mut seeds, seed_of(statements, stream))?;
+        put_seed(&mut seeds, statements, stream)?;
     }
     Ok(seeds)
 }

@@ -9,4 +9,4 @@ loop-i-preserved c = λ name.
     let order = c.args.order.now in
     let i = c.loop-i.i in
     let at = slice_get-get_or order i (record { statement = 0; operand = 0 }) c.loop-i-test.true in
-    entries_step (callee_of_origin c.args.text.now.statements.items) order i _ name (found_in c.loop-i.callees name) (found_in c.put_callee_of.new.callees name) _ at (c.in_ok-put_callee_of.ensures name) (c.loop-i.invariant name)
+    entries_step (callee_of_origin c.args.text.now.statements.items) order i _ name (found_in c.loop-i.procedures name) (found_in c.put_callee_of.new.procedures name) _ at (c.in_ok-put_callee_of.ensures name) (c.loop-i.invariant name)
