@@ -2,6 +2,7 @@
 #![tactic(auto)]
 
 mod certificate;
+mod descent;
 mod object;
 mod rounds;
 mod weights;

@@ -8,6 +8,7 @@ ghost use Rattle.gw_weighing.specs.Counts.{HasAll};
 ghost use Rattle.gw_weighing.specs.Raising.{IsWeight, DifferInWeights};
 
 use crate::certificate::Certificate;
+use crate::descent::raise_by_descent;
 use crate::rounds::{raise_in_rounds, raise_in_sweeps};
 use gw_object::{Items, Memory, Object, Parts, chains_in};
 use gw_object_bytes::build;
@@ -29,14 +30,15 @@ fn by_rounds(parts: &Parts, least: Certificate) -> Certificate
     certificate
 }
 
-/// The weights that the rounds give to an object. Where a few sweeps come to weights that keep the rules, and none is the
-/// greatest weight, they are the least that do, and so those of the rounds.
+/// The weights that the rounds give to an object. Where a descent and a few sweeps come to weights that keep the rules, and
+/// none is the greatest weight, they are the least that do, and so those of the rounds.
 fn certificate_of(alloc: Global, object: &Object) -> Result<Certificate, Memory>
     requires kinds { KindsPass object.now }
     ensures { IfOk result (λ c. HasAll object.now c) }
 {
     let parts = object.parts();
     let mut certificate = Certificate::least(alloc, parts)?;
+    raise_by_descent(alloc, parts, &mut certificate)?;
     if raise_in_sweeps(parts, &mut certificate, SWEEPS) && certificate.is_below_greatest() {
         return Ok(certificate);
     }

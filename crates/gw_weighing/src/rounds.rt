@@ -77,7 +77,12 @@ fn needed_at(parts: &Parts, certificate: &Certificate, number: u16, block: &Bloc
 }
 
 /// Raises the weight of the block at this place, from 0, and tells whether it was below what is needed.
-fn raise_at(parts: &Parts, certificate: &mut Certificate, blocks: &[Block], place: usize) -> bool
+pub(crate) fn raise_at(
+    parts: &Parts,
+    certificate: &mut Certificate,
+    blocks: &[Block],
+    place: usize,
+) -> bool
     requires few { length blocks.now ≤ 4096 }
     requires within { place < length blocks.now }
     requires next { HaveNext parts.now.returns }

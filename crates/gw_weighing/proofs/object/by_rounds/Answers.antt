@@ -1,11 +1,5 @@
-use Rattle.std.specs.Prelude.{All}
-use Rattle.gw_kinds.specs.Laws.{ReturnsHold}
-use Rattle.gw_kinds.proofs.KindsHold.{kinds_pass_at_each_place}
-use Rattle.gw_flow.proofs.Rooms.{calls_have_next}
+use Rattle.gw_weighing.proofs.Calls.{kinds_give_next}
 use Rattle.gw_weighing.proofs.object.by_rounds.Goals as goal
 
 pub raise_in_rounds-requires-clause-next : goal.raise_in_rounds-requires-clause-next
-raise_in_rounds-requires-clause-next c =
-    let o = c.args.parts.now in
-    let calls : All (ReturnsHold o) o.returns = ((kinds_pass_at_each_place o).0 c.requires.kinds).2 in
-    calls_have_next o c.requires.spelled.limits.blocks calls
+raise_in_rounds-requires-clause-next c = kinds_give_next c.args.parts.now c.requires.spelled.limits.blocks c.requires.kinds

@@ -1,11 +1,8 @@
-use Rattle.std.specs.Prelude.{All}
-use Rattle.gw_kinds.specs.Laws.{ReturnsHold}
-use Rattle.gw_kinds.proofs.KindsHold.{kinds_pass_at_each_place}
-use Rattle.gw_flow.proofs.Rooms.{calls_have_next}
+use Rattle.gw_weighing.proofs.Calls.{kinds_give_next}
 use Rattle.gw_weighing.proofs.object.certificate_of.Goals as goal
 
+pub raise_by_descent-requires-clause-next : goal.raise_by_descent-requires-clause-next
+raise_by_descent-requires-clause-next c = rw c.parts-parts.ensures.value (kinds_give_next c.args.object.now c.parts-parts.ensures.limits.limits.blocks c.requires.kinds)
+
 pub raise_in_sweeps-requires-clause-next : goal.raise_in_sweeps-requires-clause-next
-raise_in_sweeps-requires-clause-next c =
-    let o = c.args.object.now in
-    let calls : All (ReturnsHold o) o.returns = ((kinds_pass_at_each_place o).0 c.requires.kinds).2 in
-    rw c.parts-parts.ensures.value (calls_have_next o c.parts-parts.ensures.limits.limits.blocks calls)
+raise_in_sweeps-requires-clause-next c = rw c.parts-parts.ensures.value (kinds_give_next c.args.object.now c.parts-parts.ensures.limits.limits.blocks c.requires.kinds)

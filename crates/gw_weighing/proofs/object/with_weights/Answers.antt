@@ -1,4 +1,4 @@
-use Rattle.std.proofs.Common.{◌≡◌, Ok, refl, sym, ◌∙◌}
+use Rattle.std.proofs.Common.{sym, ◌∙◌}
 use Rattle.gw_weighing.proofs.Spelled.{still_spelled}
 use Rattle.gw_weighing.proofs.object.with_weights.Goals as goal
 
