@@ -1,10 +1,10 @@
 -- Two lists that ascend, united in one pass.
-use Rattle.std.proofs.Common.{◌≡◌, ◌≢◌, ℕ, ◌<◌, ◌≤◌, ◌+◌, nat_lt, List, [], ◌∷◌, ◌++◌, drop, get_or, length, Bool, true, false, cond, not, refl, sym, ap, subst, append_assoc, ◌∙◌, arith, add-one, drop-cons}
+use Rattle.std.proofs.Common.{◌≡◌, ◌≢◌, ℕ, ◌<◌, ◌≤◌, ◌+◌, nat_lt, List, [], ◌∷◌, ◌++◌, drop, take, zero, suc, get_or, length, Bool, true, false, cond, not, refl, sym, ap, subst, append_assoc, ◌∙◌, arith, add-one, drop-cons}
 use Rattle.std.specs.Prelude.{All, AllPairs, filter}
 use Rattle.std.proofs.lemmas.Bool.{lt-ltb, le-ltb, ltb-true, ltb-false}
 use Rattle.std.proofs.lemmas.List.Elements.{All-nil, All-cons, All-head, All-tail, All-weaker}
 use Rattle.std.proofs.lemmas.List.Kept.{AllPairs-filter}
-use Rattle.gw_flow.proofs.Ascending.{AllPairs-head, AllPairs-tail}
+use Rattle.gw_flow.proofs.Ascending.{AllPairs-head, AllPairs-tail, AllPairs-drop}
 use Rattle.gw_settle.specs.Joins.{united}
 
 -- FILTERS
@@ -26,20 +26,32 @@ Ascend ns = AllPairs (λ a b. a < b) ns
 pub all_above : (bound first : ℕ) (later : List ℕ) → Ascend (first ∷ later) → bound ≤ first → All (λ n. bound ≤ n) (first ∷ later)
 all_above bound first later up le = All-cons (λ n. bound ≤ n) first later le (All-weaker (λ n. first < n) (λ n. bound ≤ n) (λ n lt. omega (arith, lt, le)) later (AllPairs-head (λ a b. a < b) first later up))
 
+-- ELEMENTS
+
+-- what is left of a list begins with the element at a place
+pub drop_at : {X : Type 0} (xs : List X) (i : ℕ) (d : X) → i < length xs → drop i xs ≡ get_or xs i d ∷ drop (i + 1) xs
+drop_at xs i d lt = rw add-one (drop-cons xs i d lt)
+
 -- BELOW A BOUND
 
--- what was added, and what is left
-pub record Passed (bound : ℕ) (old numbers all rest : List ℕ) : Type 0 where
-  pub added : all ++ filter (λ n. nat_lt n bound) rest ≡ old ++ filter (λ n. nat_lt n bound) numbers
-  pub left : filter (λ n. not (nat_lt n bound)) rest ≡ filter (λ n. not (nat_lt n bound)) numbers
-  pub ascends : Ascend rest
+-- one more that is below it
+pub under_more : (bound i : ℕ) (ns : List ℕ) (d : ℕ) → i < length ns → get_or ns i d < bound → All (λ n. n < bound) (take i ns) → All (λ n. n < bound) (take (suc i) ns)
+under_more bound i [] d within lt h = absurd (omega (arith, within))
+under_more bound zero (n ∷ ns) d within lt h = All-cons (λ n. n < bound) n [] lt (All-nil (λ n. n < bound))
+under_more bound (suc i) (n ∷ ns) d within lt h =
+    All-cons (λ n. n < bound) n (take (suc i) ns) (All-head (λ n. n < bound) n (take i ns) h)
+    (under_more bound i ns d (omega (arith, within)) lt (All-tail (λ n. n < bound) n (take i ns) h))
 
-pub passed_first : (bound : ℕ) (old numbers all : List ℕ) (first : ℕ) (later : List ℕ) → first < bound → Passed bound old numbers all (first ∷ later) → Passed bound old numbers (all ++ first ∷ []) later
-passed_first bound old numbers all first later lt h = record {
-  added = append_assoc all (first ∷ []) (filter (λ n. nat_lt n bound) later) ∙ rw (lt-ltb first bound lt) at h.added;
-  left = rw (lt-ltb first bound lt) at h.left;
-  ascends = AllPairs-tail (λ a b. a < b) first later h.ascends;
-}
+-- where the one at a place is not below it, none from there on is
+pub over_from : (bound i : ℕ) (ns : List ℕ) (d : ℕ) → Ascend ns → i < length ns → bound ≤ get_or ns i d → All (λ n. bound ≤ n) (drop i ns)
+over_from bound i ns d up within le =
+    let at : drop i ns ≡ get_or ns i d ∷ drop (i + 1) ns = drop_at ns i d within in
+    subst (All (λ n. bound ≤ n)) (sym at) (all_above bound (get_or ns i d) (drop (i + 1) ns) (subst Ascend at (AllPairs-drop (λ a b. a < b) i ns up)) le)
+
+-- behind the last there is none
+pub over_end : (bound : ℕ) (ns : List ℕ) → All (λ n. bound ≤ n) (drop (length ns) ns)
+over_end bound [] = All-nil (λ n. bound ≤ n)
+over_end bound (n ∷ ns) = over_end bound ns
 
 none_below : (bound : ℕ) (rest : List ℕ) → All (λ n. bound ≤ n) rest → filter (λ n. nat_lt n bound) rest ≡ []
 none_below bound rest h = filter-none (λ n. nat_lt n bound) rest (All-weaker (λ n. bound ≤ n) (λ n. nat_lt n bound ≡ false) (λ n le. le-ltb n bound le) rest h)
@@ -47,14 +59,18 @@ none_below bound rest h = filter-none (λ n. nat_lt n bound) rest (All-weaker (�
 all_left : (bound : ℕ) (rest : List ℕ) → All (λ n. bound ≤ n) rest → filter (λ n. not (nat_lt n bound)) rest ≡ rest
 all_left bound rest h = filter-all (λ n. not (nat_lt n bound)) rest (All-weaker (λ n. bound ≤ n) (λ n. not (nat_lt n bound) ≡ true) (λ n le. ap not (le-ltb n bound le)) rest h)
 
-append_nil : (xs : List ℕ) → xs ++ [] ≡ xs
-append_nil [] = refl
-append_nil (x ∷ xs) = ap (λ ys. x ∷ ys) (append_nil xs)
+-- where the numbers before a place are below a bound, and the others aren't, these are those below it, and the others
+pub record IsSplit (bound i : ℕ) (ns : List ℕ) : Type 0 where
+  pub below : take i ns ≡ filter (λ n. nat_lt n bound) ns
+  pub others : drop i ns ≡ filter (λ n. not (nat_lt n bound)) ns
 
--- where all that is left is at least the bound
-pub passed_all : (bound : ℕ) (old numbers all rest : List ℕ) → All (λ n. bound ≤ n) rest → Passed bound old numbers all rest → (all ≡ old ++ filter (λ n. nat_lt n bound) numbers) × (rest ≡ filter (λ n. not (nat_lt n bound)) numbers)
-passed_all bound old numbers all rest le h =
-    (sym (append_nil all) ∙ ap (λ xs. all ++ xs) (sym (none_below bound rest le)) ∙ h.added, sym (all_left bound rest le) ∙ h.left)
+pub split_at : (bound i : ℕ) (ns : List ℕ) → All (λ n. n < bound) (take i ns) → All (λ n. bound ≤ n) (drop i ns) → IsSplit bound i ns
+split_at bound zero ns under over = record { below = sym (none_below bound ns over); others = sym (all_left bound ns over) }
+split_at bound (suc i) [] under over = record { below = refl; others = refl }
+split_at bound (suc i) (n ∷ ns) under over =
+    let lt : nat_lt n bound ≡ true = lt-ltb n bound (All-head (λ n. n < bound) n (take i ns) under) in
+    let later = split_at bound i ns (All-tail (λ n. n < bound) n (take i ns) under) over in
+    record { below = rw lt (ap (λ xs. n ∷ xs) later.below); others = rw lt later.others }
 
 -- THE BOUND ITSELF
 
@@ -97,20 +113,27 @@ left_above bound (n ∷ ns) = by_test (nat_lt n bound) n bound (filter (λ n. no
     by_test true n bound rest is h = h
     by_test false n bound rest is h = All-cons (λ n. bound ≤ n) n rest (ltb-false n bound is) h
 
+-- WHAT IS COMMON
+
+-- what two lists have in common at the front is in front of both
+pub common_first : (k : ℕ) (ns ms : List ℕ) → Ascend ns → Ascend ms → take k ns ≡ take k ms → k ≤ length ns → k ≤ length ms → take k ns ++ united (drop k ns) (drop k ms) ≡ united ns ms
+common_first zero ns ms up vp e le me = refl
+common_first (suc k) [] ms up vp e le me = absurd (omega (arith, le))
+common_first (suc k) (n ∷ ns) [] up vp e le me = absurd (omega (arith, me))
+common_first (suc k) (n ∷ ns) (m ∷ ms) up vp e le me =
+    let same : n ≡ m = ap (λ xs. get_or xs 0 0) e in
+    let over : All (λ x. m ≤ x) (n ∷ ns) = all_above m n ns up (omega (arith, same)) in
+    let later = common_first k ns ms (AllPairs-tail (λ a b. a < b) n ns up) (AllPairs-tail (λ a b. a < b) m ms vp) (ap (λ xs. drop 1 xs) e) (omega (arith, le)) (omega (arith, me)) in
+    rw (none_below m (n ∷ ns) over, sym (above_first m n ns same up), same) (ap (λ xs. m ∷ xs) later)
+
 -- THE UNION SO FAR
 
-pub record United (numbers others all rest : List ℕ) (left : List ℕ) : Type 0 where
-  pub same : all ++ united rest left ≡ united numbers others
+pub record United (old numbers others all rest : List ℕ) (left : List ℕ) : Type 0 where
+  pub same : all ++ united rest left ≡ old ++ united numbers others
   pub ascends : Ascend rest
 
-pub united_more : (numbers others all rest : List ℕ) (m : ℕ) (left : List ℕ) → United numbers others all rest (m ∷ left) → United numbers others ((all ++ filter (λ n. nat_lt n m) rest) ++ m ∷ []) (filter (λ n. nat_lt m n) rest) left
-united_more numbers others all rest m left h = record {
+pub united_more : (old numbers others all rest : List ℕ) (m : ℕ) (left : List ℕ) → United old numbers others all rest (m ∷ left) → United old numbers others ((all ++ filter (λ n. nat_lt n m) rest) ++ m ∷ []) (filter (λ n. nat_lt m n) rest) left
+united_more old numbers others all rest m left h = record {
   same = append_assoc (all ++ filter (λ n. nat_lt n m) rest) (m ∷ []) (united (filter (λ n. nat_lt m n) rest) left) ∙ append_assoc all (filter (λ n. nat_lt n m) rest) (m ∷ united (filter (λ n. nat_lt m n) rest) left) ∙ h.same;
   ascends = AllPairs-filter (λ a b. a < b) (λ n. nat_lt m n) rest h.ascends;
 }
-
--- ELEMENTS
-
--- what is left of a list begins with the element at a place
-pub drop_at : {X : Type 0} (xs : List X) (i : ℕ) (d : X) → i < length xs → drop i xs ≡ get_or xs i d ∷ drop (i + 1) xs
-drop_at xs i d lt = rw add-one (drop-cons xs i d lt)

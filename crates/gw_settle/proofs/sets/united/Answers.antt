@@ -1,27 +1,16 @@
-use Rattle.std.proofs.Common.{rules, ◌≡◌, ◌≤◌, ◌∷◌, ◌++◌, ◌+◌, [], drop, get_or, sym, ap, subst, ◌∙◌}
-use Rattle.std.specs.Prelude.{All, filter, nat_lt, not}
-use Rattle.gw_settle.proofs.Uniting.{Ascend, United, united_more, left_ascends, left_above, above_of_left, drop_at}
+use Rattle.std.proofs.Common.{rules, ◌≡◌, ◌≤◌, ◌++◌, ◌-◌, ◌∙◌, ℕ, List, drop, take, length, arith}
+use Rattle.std.proofs.lemmas.List.{take_all, length-drop}
+use Rattle.gw_settle.specs.Joins.{united}
+use Rattle.gw_settle.proofs.Uniting.{common_first}
 use Rattle.gw_settle.proofs.sets.united.Goals as goal
 
-pub above-rest-requires-clause-ascending : goal.above-rest-requires-clause-ascending
-above-rest-requires-clause-ascending c =
-    let m = get_or c.args.others.now c.loop-number.number-index 0 in
-    let is : c.in_ok-left.left.now ≡ filter (λ n. not (nat_lt n m)) c.loop-number.rest.now = search rules in
-    subst Ascend (sym is) (left_ascends m c.loop-number.rest.now c.loop-number.invariant.ascends)
+whole : (k : ℕ) (ns : List ℕ) → take (length ns - k) (drop k ns) ≡ drop k ns
+whole k ns = take_all (length ns - k) (drop k ns) (omega (arith, length-drop k ns))
 
-pub above-rest-requires-clause-least : goal.above-rest-requires-clause-least
-above-rest-requires-clause-least c =
-    let m = get_or c.args.others.now c.loop-number.number-index 0 in
-    let is : c.in_ok-left.left.now ≡ filter (λ n. not (nat_lt n m)) c.loop-number.rest.now = search rules in
-    subst (All (λ n. m ≤ n)) (sym is) (left_above m c.loop-number.rest.now)
-
-pub loop-number-preserved : goal.loop-number-preserved
-loop-number-preserved c =
-    let m = get_or c.args.others.now c.loop-number.number-index 0 in
-    let later = drop (c.loop-number.number-index + 1) c.args.others.now in
-    let left : c.in_ok-left.left.now ≡ filter (λ n. not (nat_lt n m)) c.loop-number.rest.now = search rules in
-    let above : c.above-rest.result.now ≡ filter (λ n. nat_lt m n) c.in_ok-left.left.now = search rules in
-    let rest : c.above-rest.result.now ≡ filter (λ n. nat_lt m n) c.loop-number.rest.now = above ∙ ap (λ ns. filter (λ n. nat_lt m n) ns) left ∙ above_of_left m c.loop-number.rest.now in
-    let all : c.push.new.self.items ≡ (c.loop-number.all.items ++ filter (λ n. nat_lt n m) c.loop-number.rest.now) ++ m ∷ [] = search rules in
-    let before = subst (United c.args.numbers.now c.args.others.now c.loop-number.all.items c.loop-number.rest.now) (drop_at c.args.others.now c.loop-number.number-index 0 c.loop-number-test.true) c.loop-number.invariant in
-    rw (all, rest) (united_more c.args.numbers.now c.args.others.now c.loop-number.all.items c.loop-number.rest.now m later before)
+pub returns : goal.returns
+returns c =
+    let k = c.count_common-common.result in
+    let ns = c.args.numbers.now in
+    let ms = c.args.others.now in
+    let all : c.push_united.new.all.items ≡ take k ns ++ united (take (length ns - k) (drop k ns)) (take (length ms - k) (drop k ms)) = search rules in
+    rw (whole k ns, whole k ms) at all ∙ common_first k ns ms c.requires.numbers c.requires.others c.count_common-common.ensures.same c.count_common-common.ensures.numbers c.count_common-common.ensures.others
