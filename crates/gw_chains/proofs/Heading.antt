@@ -1,17 +1,16 @@
 -- Members in buckets: a newcomer joins them ahead of all of its rank.
-use Rattle.std.proofs.Common.{◌≡◌, ◌≢◌, ◌∙◌, ℕ, ℤ, zero, suc, ◌+◌, ◌-◌, ◌^◌, ◌<◌, ◌≤◌, min, List, [], ◌∷◌, ◌++◌, length, Some, None, Bool, true, false, if◌then◌else◌, refl, sym, ap, subst, arith, inl, inr, get_or, set}
-use Rattle.std.proofs.lemmas.Bool.{cases_eq, cases_order}
+use Rattle.std.proofs.Common.{◌≡◌, ◌≢◌, ◌∙◌, ℕ, ℤ, zero, suc, ◌+◌, ◌-◌, ◌^◌, ◌<◌, ◌≤◌, min, List, [], ◌∷◌, ◌++◌, length, Some, None, Bool, true, false, if◌then◌else◌, refl, sym, ap, subst, arith, get_or, set}
 use Rattle.std.proofs.lemmas.Int.{ints}
 use Rattle.std.specs.Prelude.{All, AllPairs, IfSome, insert, int_lt}
 use Rattle.std.specs.List.{AllByRecursion}
 use Rattle.std.specs.List.Sorted.{IsPartitionedBy}
 use Rattle.std.proofs.lemmas.List.Elements.{All-head, All-tail, All-cons, All-nil}
-use Rattle.gw_chains.specs.Chain.{placed_behind}
 use Rattle.gw_chains.specs.Chunks.{begins_in}
-use Rattle.gw_chains.specs.Buckets.{once, times, last_or, Links, run, links_of, member_at, members_at, members_of, total, bucket_of_one, one_if_there, below, IsHead, head_host, headed_by, with_head, Before, IsBucket, AreBuckets}
+use Rattle.gw_chains.specs.Buckets.{times, last_or, Links, run, links_of, member_at, members_at, members_of, total, lower, bucket_of_one, one_if_there, below, IsHead, head_host, headed_by, with_head, Before, IsBucket, AreBuckets, GainMember}
 use Rattle.gw_chains.specs.declared.bucket.Bucket.{Bucket}
-use Rattle.gw_chains.proofs.Places.{pairs_cons, pairs_first, pairs_rest}
-use Rattle.gw_chains.proofs.Linking.{once-same, once-other, times-append, Alike, run_some, run-same, links-same, members-same, members-append, buckets-same, bucket-same, was_other, run_alone, alone_is_bucket, placed_past, placed_first, AreLed, led_back, led_front, begins_at}
+use Rattle.gw_chains.proofs.Places.{parts_in_order, pairs_cons, pairs_first, pairs_rest}
+use Rattle.gw_chains.proofs.Gaining.{Gain as GainAhead, alike_led, before_all, past, gain_member}
+use Rattle.gw_chains.proofs.Linking.{times-append, Alike, run_some, run-same, links-same, members-same, buckets-same, placed_first, AreLed, led_back, led_front, begins_at}
 use Rattle.gw_chains.proofs.Joining.{led_of}
 use Rattle.gw_chains.proofs.Leaving.{last_or_run}
 
@@ -74,21 +73,12 @@ module _ (n : Bucket) where
 
 -- those of a lower rank stand first
 pub parted_below : (n : Bucket) (bs : List Bucket) → AllPairs Before bs → IsPartitionedBy (λ b. below b n) bs
-parted_below n bs order i j d le within passes =
-    elim (cases_order i j) [
-      | inl same ↦ subst (λ m. below (get_or bs m d) n ≡ true) (sym same) passes
-      | inr (inl under) ↦ falls (get_or bs i d) (get_or bs j d) (order i j d under within) passes
-      | inr (inr over) ↦ absurd (omega arith)
-    ]
+parted_below n bs order = parts_in_order Before (λ b. below b n) bs falls order
   where
     falls : (a b : Bucket) → Before a b → below b n ≡ true → below a n ≡ true
     falls a b under passes = grind (arith, ints)
 
 -- THE NEWCOMER
-
--- whether a member has a lower rank than another
-abbrev pub lower : {X : Type 0} → (X → ℤ) → X → X → Bool
-lower rank e y = int_lt (rank y) (rank e)
 
 -- all members of a bucket of a lower rank
 all_lower : {X : Type 0} (rank : X → ℤ) (e : X) (t : ℤ) (ys : List X) → int_lt t (rank e) ≡ true → AllByRecursion (λ (y : X). rank y ≡ t) ys → AllByRecursion (λ y. lower rank e y ≡ true) ys
@@ -96,43 +86,26 @@ all_lower rank e t [] passes all = tt
 all_lower rank e t (y ∷ ys) passes all = (ap (λ u. int_lt u (rank e)) all.0 ∙ passes, all_lower rank e t ys passes all.1)
 
 module _ {X : Type 0} (rank : X → ℤ) (S T : Links X) (e : X) (j x : ℕ) (vacant : S j ≡ None) (there : T j ≡ Some (record { member = e; next = x })) (others : (k : ℕ) → k ≢ j → T k ≡ S k) where
-  -- what buckets are after the newcomer
-  pub record Headed (bs ws : List Bucket) : Type 0 where
-    pub members : members_of T ws ≡ placed_behind (lower rank e) e (members_of S bs)
-    pub links : (i : ℕ) → times i (links_of T ws) ≡ times i (links_of S bs) + once i j
-    pub each : AllByRecursion (IsBucket rank T) ws
-    pub many : total ws ≡ total bs + 1
+  alike : (ks : List ℕ) → AreLed S ks → Alike S T ks
+  alike ks led = alike_led rank S T e j x vacant there ks led others
 
-  alike_led : (ks : List ℕ) → AreLed S ks → Alike S T ks
-  alike_led ks led k some = others k (was_other S T e j x vacant there k (led.leads k some))
+  abbrev Gain : List Bucket → List Bucket → Type 0
+  Gain = GainAhead rank S T e j x vacant there (lower rank e)
 
   -- it stands before all buckets
-  before_all : (bs : List Bucket) → AreLed S (links_of S bs) → AllByRecursion (IsBucket rank S) bs → begins_in (lower rank e) (members_of S bs) ≡ false → Headed bs (bucket_of_one rank e j ∷ bs)
-  before_all bs led each fails =
-      let alike = alike_led (links_of S bs) led in
-      let same = links-same S T bs alike in
-      let whole : links_of T (bucket_of_one rank e j ∷ bs) ≡ j ∷ links_of S bs = ap (λ zs. zs ++ links_of T bs) (run_alone S T e j x vacant there) ∙ ap (λ zs. j ∷ zs) same in
-      record {
-        members =
-            ap (members_at T) whole
-            ∙ ap (λ o. member_at o ++ members_at T (links_of S bs)) there
-            ∙ ap (λ zs. e ∷ zs) (members-same S T (links_of S bs) (λ k some. ap member_at (alike k some)))
-            ∙ sym (placed_first (lower rank e) e (members_of S bs) fails);
-        links = λ i. omega (arith, ap (times i) whole);
-        each = (alone_is_bucket S T e j x vacant there rank, buckets-same rank S T bs alike each);
-        many = omega arith;
-      }
+  stands_first : (bs : List Bucket) → AreLed S (links_of S bs) → AllByRecursion (IsBucket rank S) bs → begins_in (lower rank e) (members_of S bs) ≡ false → Gain bs (bucket_of_one rank e j ∷ bs)
+  stands_first bs led each fails = before_all rank S T e j x vacant there (lower rank e) bs (alike (links_of S bs) led) each fails
 
   -- a bucket takes it in before its own
-  taken_in : (b : Bucket) (bs : List Bucket) → AreLed S (links_of S (b ∷ bs)) → AllByRecursion (IsBucket rank S) (b ∷ bs) → total (b ∷ bs) < 2 ^ 62 → int_lt b.rank (rank e) ≡ false → int_lt (rank e) b.rank ≡ false → x ≡ b.first → Headed (b ∷ bs) (headed_by (bucket_of_one rank e j) b ∷ bs)
+  taken_in : (b : Bucket) (bs : List Bucket) → AreLed S (links_of S (b ∷ bs)) → AllByRecursion (IsBucket rank S) (b ∷ bs) → total (b ∷ bs) < 2 ^ 62 → int_lt b.rank (rank e) ≡ false → int_lt (rank e) b.rank ≡ false → x ≡ b.first → Gain (b ∷ bs) (headed_by (bucket_of_one rank e j) b ∷ bs)
   taken_in b bs led each few from_e upto_e first =
       let here = run S b.count b.first in
       let back = links_of S bs in
       let m = min (b.count + 1) (2 ^ 64 - 1) in
       let more : suc b.count ≡ m = omega (arith, few) in
       let led_here = led_front S here back led in
-      let alike_here = alike_led here led_here in
-      let alike_back = alike_led back (led_back S here back led) in
+      let alike_here = alike here led_here in
+      let alike_back = alike back (led_back S here back led) in
       let same = run-same S T b.count b.first alike_here in
       let run_here : run T m j ≡ j ∷ here =
       sym (ap (λ k. run T k j) more)
@@ -141,11 +114,11 @@ module _ {X : Type 0} (rank : X → ℤ) (S T : Links X) (e : X) (j x : ℕ) (va
       ∙ ap (λ zs. j ∷ zs) same in
       let whole : links_of T (headed_by (bucket_of_one rank e j) b ∷ bs) ≡ j ∷ (here ++ back) = ap (λ zs. zs ++ links_of T bs) run_here ∙ ap (λ zs. j ∷ (here ++ zs)) (links-same S T bs alike_back) in
       let shown : (ks : List ℕ) → Alike S T ks → members_at T (j ∷ ks) ≡ e ∷ members_at S ks =
-      λ ks alike. ap (λ o. member_at o ++ members_at T ks) there ∙ ap (λ zs. e ∷ zs) (members-same S T ks (λ k some. ap member_at (alike k some))) in
+      λ ks same. ap (λ o. member_at o ++ members_at T ks) there ∙ ap (λ zs. e ∷ zs) (members-same S T ks (λ k some. ap member_at (same k some))) in
       let fails : begins_in (lower rank e) (members_of S (b ∷ bs)) ≡ false =
       begins_at rank S (λ t. int_lt t (rank e)) b.count b.first b.rank back each.0.some led_here.leads each.0.alike ∙ from_e in
       record {
-        members = ap (members_at T) whole ∙ shown (here ++ back) (alike_led (here ++ back) led) ∙ sym (placed_first (lower rank e) e (members_of S (b ∷ bs)) fails);
+        members = ap (members_at T) whole ∙ shown (here ++ back) (alike (here ++ back) led) ∙ sym (placed_first (lower rank e) e (members_of S (b ∷ bs)) fails);
         links = λ i. omega (arith, ap (times i) whole, times-append i here back);
         each = (
           record {
@@ -159,37 +132,22 @@ module _ {X : Type 0} (rank : X → ℤ) (S T : Links X) (e : X) (j x : ℕ) (va
       }
 
   -- it goes past a bucket
-  past : (b : Bucket) (bs ws : List Bucket) → AreLed S (links_of S (b ∷ bs)) → AllByRecursion (IsBucket rank S) (b ∷ bs) → int_lt b.rank (rank e) ≡ true → Headed bs ws → Headed (b ∷ bs) (b ∷ ws)
-  past b bs ws led each under headed =
+  goes_past : (b : Bucket) (bs ws : List Bucket) → AreLed S (links_of S (b ∷ bs)) → AllByRecursion (IsBucket rank S) (b ∷ bs) → int_lt b.rank (rank e) ≡ true → Gain bs ws → Gain (b ∷ bs) (b ∷ ws)
+  goes_past b bs ws led each under gain =
       let here = run S b.count b.first in
-      let back = links_of S bs in
-      let alike = alike_led here (led_front S here back led) in
-      let same = run-same S T b.count b.first alike in
-      let old = members_at S here in
-      record {
-        members =
-            ap (λ zs. members_at T (zs ++ links_of T ws)) same
-            ∙ members-append T here (links_of T ws)
-            ∙ ap (λ zs. zs ++ members_of T ws) (members-same S T here (λ k some. ap member_at (alike k some)))
-            ∙ ap (λ zs. old ++ zs) headed.members
-            ∙ sym (placed_past (lower rank e) e old (members_of S bs) (all_lower rank e b.rank old under each.0.alike))
-            ∙ ap (placed_behind (lower rank e) e) (sym (members-append S here back));
-        links = λ i. omega (arith, ap (λ zs. times i (zs ++ links_of T ws)) same, times-append i here (links_of T ws), times-append i here back, headed.links i);
-        each = (bucket-same rank S T b alike each.0, headed.each);
-        many = omega (arith, headed.many);
-      }
+      past rank S T e j x vacant there (lower rank e) b bs ws (alike here (led_front S here (links_of S bs) led)) (all_lower rank e b.rank (members_at S here) under each.0.alike) each.0 gain
 
-  headed : (bs : List Bucket) → AreLed S (links_of S bs) → AllByRecursion (IsBucket rank S) bs → total bs < 2 ^ 62 → IfSome (head_host (bucket_of_one rank e j) bs) (λ h. x ≡ h.first) → Headed bs (with_head (bucket_of_one rank e j) bs)
-  headed [] led each few host = before_all [] led each refl
+  headed : (bs : List Bucket) → AreLed S (links_of S bs) → AllByRecursion (IsBucket rank S) bs → total bs < 2 ^ 62 → IfSome (head_host (bucket_of_one rank e j) bs) (λ h. x ≡ h.first) → Gain bs (with_head (bucket_of_one rank e j) bs)
+  headed [] led each few host = stands_first [] led each refl
   headed (b ∷ bs) led each few host =
       by_test (int_lt b.rank (rank e)) (int_lt (rank e) b.rank) refl refl host
       (λ here. headed bs (led_back S (run S b.count b.first) (links_of S bs) led) each.1 (omega (arith, few)) here)
     where
       by_test : (p q : Bool) → int_lt b.rank (rank e) ≡ p → int_lt (rank e) b.rank ≡ q → IfSome (if p then head_host (bucket_of_one rank e j) bs else (if q then None else Some b)) (λ h. x ≡ h.first)
-          → (IfSome (head_host (bucket_of_one rank e j) bs) (λ h. x ≡ h.first) → Headed bs (with_head (bucket_of_one rank e j) bs))
-          → Headed (b ∷ bs) (if p then b ∷ with_head (bucket_of_one rank e j) bs else (if q then bucket_of_one rank e j ∷ b ∷ bs else headed_by (bucket_of_one rank e j) b ∷ bs))
-      by_test true q under over found rest = past b bs (with_head (bucket_of_one rank e j) bs) led each under (rest found)
-      by_test false true under over found rest = before_all (b ∷ bs) led each (begins_at rank S (λ t. int_lt t (rank e)) b.count b.first b.rank (links_of S bs) each.0.some (led_front S (run S b.count b.first) (links_of S bs) led).leads each.0.alike ∙ under)
+          → (IfSome (head_host (bucket_of_one rank e j) bs) (λ h. x ≡ h.first) → Gain bs (with_head (bucket_of_one rank e j) bs))
+          → Gain (b ∷ bs) (if p then b ∷ with_head (bucket_of_one rank e j) bs else (if q then bucket_of_one rank e j ∷ b ∷ bs else headed_by (bucket_of_one rank e j) b ∷ bs))
+      by_test true q under over found rest = goes_past b bs (with_head (bucket_of_one rank e j) bs) led each under (rest found)
+      by_test false true under over found rest = stands_first (b ∷ bs) led each (begins_at rank S (λ t. int_lt t (rank e)) b.count b.first b.rank (links_of S bs) each.0.some (led_front S (run S b.count b.first) (links_of S bs) led).leads each.0.alike ∙ under)
       by_test false false under over found rest = taken_in b bs led each few under over found
 
 all_headed : (a n : Bucket) (bs : List Bucket) → Before a n → All (Before a) bs → All (Before a) (with_head n bs)
@@ -224,29 +182,8 @@ order_headed n (b ∷ bs) order = by_test (below b n) (below n b) refl refl (ord
     by_test false false one other later = pairs_cons Before (headed_by n b) bs (pairs_first Before b bs order) (pairs_rest Before b bs order)
 
 -- what becomes of buckets that a member joins ahead of its rank
-pub record Led {X : Type 0} (rank : X → ℤ) (S T : Links X) (e : X) (bs ws : List Bucket) : Type 0 where
-  pub members : members_of T ws ≡ placed_behind (lower rank e) e (members_of S bs)
-  pub buckets : AreBuckets rank T ws
-  pub many : total ws ≡ total bs + 1
-
-pub led : {X : Type 0} (rank : X → ℤ) (S T : Links X) (e : X) (j x : ℕ) → S j ≡ None → T j ≡ Some (record { member = e; next = x }) → ((k : ℕ) → k ≢ j → T k ≡ S k)
-    → (bs : List Bucket) → AreBuckets rank S bs → total bs < 2 ^ 62 → IfSome (head_host (bucket_of_one rank e j) bs) (λ h. x ≡ h.first) → Led rank S T e bs (with_head (bucket_of_one rank e j) bs)
-led {X} rank S T e j x vacant there others bs are few host =
-    let done = headed rank S T e j x vacant there others bs (led_of rank S bs are) are.each few host in
-    record {
-      members = done.members;
-      buckets = record {
-        order = order_headed (bucket_of_one rank e j) bs are.order;
-        each = done.each;
-        owned = λ i. elim (cases_eq i j) [
-          | inl is ↦
-              let none : times i (links_of S bs) ≡ 0 = are.owned i ∙ ap one_if_there (ap S is ∙ vacant) in
-              let one : one_if_there (T i) ≡ 1 = ap one_if_there (ap T is ∙ there) in
-              omega (arith, done.links i, none, one, once-same i j (sym is))
-          | inr other ↦
-              let as_before : one_if_there (T i) ≡ one_if_there (S i) = ap one_if_there (others i other) in
-              omega (arith, done.links i, are.owned i, as_before, once-other i j (λ clash. other (sym clash)))
-        ];
-      };
-      many = done.many;
-    }
+pub gains_ahead : {X : Type 0} (rank : X → ℤ) (S T : Links X) (e : X) (j x : ℕ) → S j ≡ None → T j ≡ Some (record { member = e; next = x }) → ((k : ℕ) → k ≢ j → T k ≡ S k)
+    → (bs : List Bucket) → AreBuckets rank S bs → total bs < 2 ^ 62 → IfSome (head_host (bucket_of_one rank e j) bs) (λ h. x ≡ h.first) → GainMember rank (lower rank e) e S bs T (with_head (bucket_of_one rank e j) bs)
+gains_ahead rank S T e j x vacant there others bs are few host =
+    gain_member rank S T e j x vacant there (lower rank e) bs (with_head (bucket_of_one rank e j) bs) are (order_headed (bucket_of_one rank e j) bs are.order) (λ i other. ap one_if_there (others i other))
+    (headed rank S T e j x vacant there others bs (led_of rank S bs are) are.each few host)

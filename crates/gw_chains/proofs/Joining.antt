@@ -1,20 +1,21 @@
 -- Members in buckets: a newcomer joins them.
-use Rattle.std.proofs.Common.{◌≡◌, ◌≢◌, ◌∙◌, ℕ, zero, suc, ◌+◌, ◌-◌, ◌^◌, ◌<◌, ◌≤◌, min, ℤ, List, [], ◌∷◌, ◌++◌, Option, Some, None, IsSome, is_some, Bool, true, false, if◌then◌else◌, refl, sym, ap, subst, arith, append_assoc, inl, inr, get_or}
-use Rattle.std.proofs.lemmas.Bool.{cases_eq, cases_order}
+use Rattle.std.proofs.Common.{◌≡◌, ◌≢◌, ◌∙◌, ℕ, zero, suc, ◌+◌, ◌-◌, ◌^◌, ◌<◌, ◌≤◌, min, ℤ, List, [], ◌∷◌, ◌++◌, Option, Some, None, IsSome, Bool, true, false, if◌then◌else◌, refl, sym, ap, subst, arith, append_assoc, inl, inr, get_or}
+use Rattle.std.proofs.lemmas.Bool.{cases_eq}
 use Rattle.std.proofs.lemmas.Grind.{common_steps}
 use Rattle.std.proofs.lemmas.Int.{ints}
 use Rattle.std.specs.Prelude.{All, IfSome, AllPairs, int_le, ◌<ℤ◌, ◌==◌}
 use Rattle.std.specs.List.{AllByRecursion}
 use Rattle.std.specs.List.Sorted.{IsPartitionedBy}
-use Rattle.gw_chains.specs.Chain.{placed_behind, in_time}
+use Rattle.gw_chains.specs.Chain.{placed_behind}
 use Rattle.gw_chains.specs.Chunks.{begins_in}
 use Rattle.gw_chains.specs.Newcomers.{host, with_newcomer, IsHostLast}
-use Rattle.gw_chains.specs.Buckets.{once, times, last_or, Links, run, links_of, member_at, members_at, members_of, total, bucket_of_one, one_if_there, linked_to, linked_behind, Before, IsBucket, AreBuckets}
+use Rattle.gw_chains.specs.Buckets.{times, last_or, Links, run, links_of, member_at, members_at, members_of, total, upto, bucket_of_one, one_if_there, linked_to, linked_behind, Before, IsBucket, AreBuckets, GainMember}
 use Rattle.gw_chains.specs.declared.bucket.Bucket.{Bucket}
 use Rattle.gw_chains.specs.declared.bucket.Link.{Link}
 use Rattle.std.proofs.lemmas.List.Elements.{All-head, All-tail, All-cons, All-nil}
-use Rattle.gw_chains.proofs.Places.{pairs_cons, pairs_first, pairs_rest}
-use Rattle.gw_chains.proofs.Linking.{goes, unite, upto, once-same, once-other, times-append, last_in_run, Alike, run-same, links-same, members-same, members-append, buckets-same, bucket-same, was_other, run_alone, alone_is_bucket, run-longer, kept_members, placed_past, placed_first, all_upto, AreLed, led_back, led_front, begins_at, rest_fails, host_within_links}
+use Rattle.gw_chains.proofs.Places.{parts_in_order, pairs_cons, pairs_first, pairs_rest}
+use Rattle.gw_chains.proofs.Gaining.{Gain as GainBehind, alike_led, before_all, past, gain_member}
+use Rattle.gw_chains.proofs.Linking.{goes, unite, times-append, last_in_run, Alike, links-same, members-append, buckets-same, was_other, run-longer, member_kept, there_kept, kept_members, placed_past, placed_first, all_upto, AreLed, led_back, led_front, begins_at, rest_fails, host_within_links}
 
 -- WHAT IS LINKED, AND WHAT ISN'T
 
@@ -29,26 +30,12 @@ module _ {X : Type 0} (S : Links X) (j : ℕ) where
   unlinked None k other = refl
   unlinked (Some b) k other = linked_off b k (other b refl)
 
-  same_member : (o : Option (Link X)) → member_at (linked_to j o) ≡ member_at o
-  same_member None = refl
-  same_member (Some l) = refl
-
-  member_linked : (h : Option Bucket) (k : ℕ) → member_at (linked_behind h j S k) ≡ member_at (S k)
-  member_linked None k = refl
-  member_linked (Some b) k = elim (cases_eq k b.last) [
-    | inl same ↦ ap member_at (linked_at b k same) ∙ same_member (S k)
-    | inr other ↦ ap member_at (linked_off b k other)
-  ]
-
-  same_some : (o : Option (Link X)) → is_some (linked_to j o) ≡ is_some o
-  same_some None = refl
-  same_some (Some l) = refl
-
-  some_linked : (h : Option Bucket) (k : ℕ) → is_some (linked_behind h j S k) ≡ is_some (S k)
-  some_linked None k = refl
-  some_linked (Some b) k = elim (cases_eq k b.last) [
-    | inl same ↦ ap is_some (linked_at b k same) ∙ same_some (S k)
-    | inr other ↦ ap is_some (linked_off b k other)
+  -- what a link keeps that is linked to another
+  keeps : {Y : Type 0} (f : Option (Link X) → Y) → ((o : Option (Link X)) → f (linked_to j o) ≡ f o) → (h : Option Bucket) (k : ℕ) → f (linked_behind h j S k) ≡ f (S k)
+  keeps f kept None k = refl
+  keeps f kept (Some b) k = elim (cases_eq k b.last) [
+    | inl same ↦ ap f (linked_at b k same) ∙ kept (S k)
+    | inr other ↦ ap f (linked_off b k other)
   ]
 
 -- LISTS
@@ -64,29 +51,13 @@ all_appended P (y ∷ ys) x all this = (all.0, all_appended P ys x all.1 this)
 -- THE NEWCOMER
 
 module _ {X : Type 0} (rank : X → ℤ) (S T : Links X) (e : X) (j x : ℕ) (vacant : S j ≡ None) (there : T j ≡ Some (record { member = e; next = x })) where
-  -- what buckets are after the newcomer
-  pub record Joined (bs ws : List Bucket) : Type 0 where
-    pub members : members_of T ws ≡ in_time rank e (members_of S bs)
-    pub links : (i : ℕ) → times i (links_of T ws) ≡ times i (links_of S bs) + once i j
-    pub each : AllByRecursion (IsBucket rank T) ws
-    pub many : total ws ≡ total bs + 1
+  abbrev Gain : List Bucket → List Bucket → Type 0
+  Gain = GainBehind rank S T e j x vacant there (upto rank e)
 
   -- the newcomer stands before all buckets
-  stands_first : (bs : List Bucket) → AreLed S (links_of S bs) → AllByRecursion (IsBucket rank S) bs → ((k : ℕ) → k ≢ j → T k ≡ S k) → begins_in (upto rank e) (members_of S bs) ≡ false → Joined bs (bucket_of_one rank e j ∷ bs)
+  stands_first : (bs : List Bucket) → AreLed S (links_of S bs) → AllByRecursion (IsBucket rank S) bs → ((k : ℕ) → k ≢ j → T k ≡ S k) → begins_in (upto rank e) (members_of S bs) ≡ false → Gain bs (bucket_of_one rank e j ∷ bs)
   stands_first bs led each others fails =
-      let alike : Alike S T (links_of S bs) = λ k some. others k (was_other S T e j x vacant there k (led.leads k some)) in
-      let same = links-same S T bs alike in
-      let whole : links_of T (bucket_of_one rank e j ∷ bs) ≡ j ∷ links_of S bs = ap (λ zs. zs ++ links_of T bs) (run_alone S T e j x vacant there) ∙ ap (λ zs. j ∷ zs) same in
-      record {
-        members =
-            ap (members_at T) whole
-            ∙ ap (λ o. member_at o ++ members_at T (links_of S bs)) there
-            ∙ ap (λ zs. e ∷ zs) (members-same S T (links_of S bs) (λ k some. ap member_at (alike k some)))
-            ∙ sym (placed_first (upto rank e) e (members_of S bs) fails);
-        links = λ i. omega (arith, ap (times i) whole);
-        each = (alone_is_bucket S T e j x vacant there rank, buckets-same rank S T bs alike each);
-        many = omega arith;
-      }
+      before_all rank S T e j x vacant there (upto rank e) bs (alike_led rank S T e j x vacant there (links_of S bs) led others) each fails
 
   longer : (l n m k : ℕ) → 0 < n → m ≡ n + 1 → T l ≡ linked_to j (S l) → ((i : ℕ) → i ≢ j → i ≢ l → T i ≡ S i) → last_or k (run S n k) ≡ l → ((i : ℕ) → 0 < times i (run S n k) → IsSome (S i)) → times l (run S n k) ≤ 1 → run T m k ≡ run S n k ++ j ∷ []
   longer l zero m k some one linked others last leads single = absurd (omega (arith, some))
@@ -95,7 +66,7 @@ module _ {X : Type 0} (rank : X → ℤ) (S T : Links X) (e : X) (j x : ℕ) (va
       subst (λ i. run T i k ≡ run S (suc n) k ++ j ∷ []) two (run-longer S T e j x vacant there l n k linked others last leads single)
 
   -- a bucket takes the newcomer in
-  taken_in : (b : Bucket) (bs : List Bucket) → AreLed S (links_of S (b ∷ bs)) → AllByRecursion (IsBucket rank S) (b ∷ bs) → All (λ (c : Bucket). b.rank <ℤ c.rank) bs → total (b ∷ bs) < 2 ^ 62 → int_le b.rank (rank e) ≡ true → int_le (rank e) b.rank ≡ true → ((k : ℕ) → k ≢ j → T k ≡ linked_behind (Some b) j S k) → Joined (b ∷ bs) (unite b (bucket_of_one rank e j) ∷ bs)
+  taken_in : (b : Bucket) (bs : List Bucket) → AreLed S (links_of S (b ∷ bs)) → AllByRecursion (IsBucket rank S) (b ∷ bs) → All (λ (c : Bucket). b.rank <ℤ c.rank) bs → total (b ∷ bs) < 2 ^ 62 → int_le b.rank (rank e) ≡ true → int_le (rank e) b.rank ≡ true → ((k : ℕ) → k ≢ j → T k ≡ linked_behind (Some b) j S k) → Gain (b ∷ bs) (unite b (bucket_of_one rank e j) ∷ bs)
   taken_in b bs led each later few upto_e from_e linked =
       let here = run S b.count b.first in
       let back = links_of S bs in
@@ -112,7 +83,7 @@ module _ {X : Type 0} (rank : X → ℤ) (S T : Links X) (e : X) (j x : ℕ) (va
       λ k some same. absurd (omega (arith, led.single b.last, times-append b.last here back, within, subst (λ i. 0 < times i back) same some)) in
       let alike : Alike S T back = λ k some. others k (was_other S T e j x vacant there k (led_later.leads k some)) (apart k some) in
       let whole : links_of T (unite b (bucket_of_one rank e j) ∷ bs) ≡ (here ++ j ∷ []) ++ back = ap (λ zs. zs ++ links_of T bs) run_here ∙ ap (λ zs. (here ++ j ∷ []) ++ zs) (links-same S T bs alike) in
-      let kept = λ (k : ℕ) (old : k ≢ j). ap member_at (linked k old) ∙ member_linked S j (Some b) k in
+      let kept = λ (k : ℕ) (old : k ≢ j). ap member_at (linked k old) ∙ keeps S j member_at (member_kept j) (Some b) k in
       let old = members_at S here in
       let shown : members_at T (here ++ j ∷ []) ≡ old ++ e ∷ [] =
       members-append T here (j ∷ []) ∙ ap (λ zs. zs ++ members_at T (j ∷ [])) (kept_members S T e j x vacant there here kept led_here.leads) ∙ ap (λ o. old ++ (member_at o ++ [])) there in
@@ -142,8 +113,8 @@ module _ {X : Type 0} (rank : X → ℤ) (S T : Links X) (e : X) (j x : ℕ) (va
       }
 
   -- the newcomer goes past a bucket
-  goes_past : (b : Bucket) (bs ws : List Bucket) → AreLed S (links_of S (b ∷ bs)) → AllByRecursion (IsBucket rank S) (b ∷ bs) → int_le b.rank (rank e) ≡ true → ((k : ℕ) → k ≢ j → T k ≡ linked_behind (host goes (bucket_of_one rank e j) bs) j S k) → Joined bs ws → Joined (b ∷ bs) (b ∷ ws)
-  goes_past b bs ws led each upto_e linked joined =
+  goes_past : (b : Bucket) (bs ws : List Bucket) → AreLed S (links_of S (b ∷ bs)) → AllByRecursion (IsBucket rank S) (b ∷ bs) → int_le b.rank (rank e) ≡ true → ((k : ℕ) → k ≢ j → T k ≡ linked_behind (host goes (bucket_of_one rank e j) bs) j S k) → Gain bs ws → Gain (b ∷ bs) (b ∷ ws)
+  goes_past b bs ws led each upto_e linked gain =
       let here = run S b.count b.first in
       let back = links_of S bs in
       let led_here = led_front S here back led in
@@ -154,31 +125,18 @@ module _ {X : Type 0} (rank : X → ℤ) (S T : Links X) (e : X) (j x : ℕ) (va
       λ k some.
       linked k (was_other S T e j x vacant there k (led_here.leads k some))
       ∙ unlinked S j (host goes (bucket_of_one rank e j) bs) k (apart k some) in
-      let same = run-same S T b.count b.first alike in
-      let old = members_at S here in
-      record {
-        members =
-            ap (λ zs. members_at T (zs ++ links_of T ws)) same
-            ∙ members-append T here (links_of T ws)
-            ∙ ap (λ zs. zs ++ members_of T ws) (members-same S T here (λ k some. ap member_at (alike k some)))
-            ∙ ap (λ zs. old ++ zs) joined.members
-            ∙ sym (placed_past (upto rank e) e old (members_of S bs) (all_upto rank e b.rank old upto_e each.0.alike))
-            ∙ ap (placed_behind (upto rank e) e) (sym (members-append S here back));
-        links = λ i. omega (arith, ap (λ zs. times i (zs ++ links_of T ws)) same, times-append i here (links_of T ws), times-append i here back, joined.links i);
-        each = (bucket-same rank S T b alike each.0, joined.each);
-        many = omega (arith, joined.many);
-      }
+      past rank S T e j x vacant there (upto rank e) b bs ws alike (all_upto rank e b.rank (members_at S here) upto_e each.0.alike) each.0 gain
 
   later_than : (b : Bucket) (bs : List Bucket) → AllPairs Before (b ∷ bs) → All (λ (c : Bucket). b.rank <ℤ c.rank) bs
   later_than b bs order = λ k d below. order 0 (suc k) d (omega arith) (omega arith)
 
-  pub joined : (bs : List Bucket) → AreLed S (links_of S bs) → AllByRecursion (IsBucket rank S) bs → AllPairs Before bs → total bs < 2 ^ 62 → ((k : ℕ) → k ≢ j → T k ≡ linked_behind (host goes (bucket_of_one rank e j) bs) j S k) → Joined bs (with_newcomer goes unite (bucket_of_one rank e j) bs)
+  pub joined : (bs : List Bucket) → AreLed S (links_of S bs) → AllByRecursion (IsBucket rank S) bs → AllPairs Before bs → total bs < 2 ^ 62 → ((k : ℕ) → k ≢ j → T k ≡ linked_behind (host goes (bucket_of_one rank e j) bs) j S k) → Gain bs (with_newcomer goes unite (bucket_of_one rank e j) bs)
   joined [] led each order few linked = stands_first [] led each linked refl
   joined (b ∷ bs) led each order few linked =
       by_test (int_le b.rank (rank e)) (int_le (rank e) b.rank) refl refl linked
       (λ here. joined bs (led_back S (run S b.count b.first) (links_of S bs) led) each.1 (λ i k d lt below. order (suc i) (suc k) d (omega arith) (omega arith)) (omega (arith, few)) here)
     where
-      by_test : (p q : Bool) → int_le b.rank (rank e) ≡ p → int_le (rank e) b.rank ≡ q → ((k : ℕ) → k ≢ j → T k ≡ linked_behind (if p then (if q then Some b else host goes (bucket_of_one rank e j) bs) else None) j S k) → (((k : ℕ) → k ≢ j → T k ≡ linked_behind (host goes (bucket_of_one rank e j) bs) j S k) → Joined bs (with_newcomer goes unite (bucket_of_one rank e j) bs)) → Joined (b ∷ bs) (if p then (if q then unite b (bucket_of_one rank e j) ∷ bs else b ∷ with_newcomer goes unite (bucket_of_one rank e j) bs) else bucket_of_one rank e j ∷ b ∷ bs)
+      by_test : (p q : Bool) → int_le b.rank (rank e) ≡ p → int_le (rank e) b.rank ≡ q → ((k : ℕ) → k ≢ j → T k ≡ linked_behind (if p then (if q then Some b else host goes (bucket_of_one rank e j) bs) else None) j S k) → (((k : ℕ) → k ≢ j → T k ≡ linked_behind (host goes (bucket_of_one rank e j) bs) j S k) → Gain bs (with_newcomer goes unite (bucket_of_one rank e j) bs)) → Gain (b ∷ bs) (if p then (if q then unite b (bucket_of_one rank e j) ∷ bs else b ∷ with_newcomer goes unite (bucket_of_one rank e j) bs) else bucket_of_one rank e j ∷ b ∷ bs)
       by_test true true upto_e from_e link rest = taken_in b bs led each (later_than b bs order) few upto_e from_e link
       by_test true false upto_e from_e link rest = goes_past b bs (with_newcomer goes unite (bucket_of_one rank e j) bs) led each upto_e link (rest link)
       by_test false q upto_e from_e link rest = stands_first (b ∷ bs) led each link (begins_at rank S (λ t. int_le t (rank e)) b.count b.first b.rank (links_of S bs) each.0.some (led_front S (run S b.count b.first) (links_of S bs) led).leads each.0.alike ∙ upto_e)
@@ -186,12 +144,7 @@ module _ {X : Type 0} (rank : X → ℤ) (S T : Links X) (e : X) (j x : ℕ) (va
 -- THE ORDER OF BUCKETS
 
 pub parted_by_rank : (n : Bucket) (bs : List Bucket) → AllPairs Before bs → IsPartitionedBy (λ y. goes y n) bs
-parted_by_rank n bs order i j d le within passes =
-    elim (cases_order i j) [
-      | inl same ↦ subst (λ m. goes (get_or bs m d) n ≡ true) (sym same) passes
-      | inr (inl under) ↦ falls (get_or bs i d) (get_or bs j d) (order i j d under within) passes
-      | inr (inr over) ↦ absurd (omega arith)
-    ]
+parted_by_rank n bs order = parts_in_order Before (λ y. goes y n) bs falls order
   where
     falls : (a b : Bucket) → Before a b → goes b n ≡ true → goes a n ≡ true
     falls a b under passes = grind (arith, ints)
@@ -235,9 +188,6 @@ order_with n (b ∷ bs) order = by_test (goes b n) (goes n b) refl refl (order_w
 
 -- ALL THAT IS KNOWN OF BUCKETS
 
-abbrev one_if : Bool → ℕ
-one_if b = if b then 1 else 0
-
 leads_somewhere : {X : Type 0} (o : Option (Link X)) (t : ℕ) → t ≡ one_if_there o → 0 < t → IsSome o
 leads_somewhere None t is some = absurd (omega (arith, is, some))
 leads_somewhere (Some l) t is some = refl
@@ -270,43 +220,22 @@ module _ {X : Type 0} (rank : X → ℤ) where
       none None is e = cc
       none (Some l) is e = cc
 
-  -- what becomes of buckets that a member joins
-  pub record Inserted (S T : Links X) (e : X) (bs ws : List Bucket) : Type 0 where
-    pub members : members_of T ws ≡ in_time rank e (members_of S bs)
-    pub buckets : AreBuckets rank T ws
-    pub many : total ws ≡ total bs + 1
-
   module _ (S S1 T : Links X) (e : X) (j x : ℕ) (vacant : S j ≡ None) (here : S1 j ≡ Some (record { member = e; next = x })) (same : (k : ℕ) → k ≢ j → S1 k ≡ S k) where
     linked_alike : (h : Option Bucket) (k : ℕ) → k ≢ j → linked_behind h j S1 k ≡ linked_behind h j S k
     linked_alike None k other = same k other
     linked_alike (Some b) k other = ap (λ o. if k == b.last then linked_to j o else o) (same k other)
 
-    pub inserted : (bs : List Bucket) → AreBuckets rank S bs → total bs < 2 ^ 62 → ((k : ℕ) → T k ≡ linked_behind (host goes (bucket_of_one rank e j) bs) j S1 k) → Inserted S T e bs (with_newcomer goes unite (bucket_of_one rank e j) bs)
-    inserted bs are few linked =
+    pub gains_behind : (bs : List Bucket) → AreBuckets rank S bs → total bs < 2 ^ 62 → ((k : ℕ) → T k ≡ linked_behind (host goes (bucket_of_one rank e j) bs) j S1 k) → GainMember rank (upto rank e) e S bs T (with_newcomer goes unite (bucket_of_one rank e j) bs)
+    gains_behind bs are few linked =
         let led = led_of S bs are in
         let there : T j ≡ Some (record { member = e; next = x }) =
         linked j
         ∙ unlinked S1 j (host goes (bucket_of_one rank e j) bs) j (λ b found clash. vacant_last b (host_leads S (bucket_of_one rank e j) bs b are found) clash)
         ∙ here in
         let after = λ (k : ℕ) (other : k ≢ j). linked k ∙ linked_alike (host goes (bucket_of_one rank e j) bs) k other in
-        let done = joined rank S T e j x vacant there bs led are.each are.order few after in
-        record {
-          members = done.members;
-          buckets = record {
-            order = order_with (bucket_of_one rank e j) bs are.order;
-            each = done.each;
-            owned = λ i. elim (cases_eq i j) [
-              | inl is ↦
-                  let none : times i (links_of S bs) ≡ 0 = are.owned i ∙ ap one_if_there (ap S is ∙ vacant) in
-                  let one : one_if_there (T i) ≡ 1 = ap one_if_there (ap T is ∙ there) in
-                  omega (arith, done.links i, none, one, once-same i j (sym is))
-              | inr other ↦
-                  let as_before : one_if_there (T i) ≡ one_if_there (S i) = ap (λ b. one_if b) (ap is_some (after i other) ∙ some_linked S j (host goes (bucket_of_one rank e j) bs) i) in
-                  omega (arith, done.links i, are.owned i, as_before, once-other i j (λ clash. other (sym clash)))
-            ];
-          };
-          many = done.many;
-        }
+        gain_member rank S T e j x vacant there (upto rank e) bs (with_newcomer goes unite (bucket_of_one rank e j) bs) are (order_with (bucket_of_one rank e j) bs are.order)
+        (λ i other. ap one_if_there (after i other) ∙ keeps S j one_if_there (there_kept j) (host goes (bucket_of_one rank e j) bs) i)
+        (joined rank S T e j x vacant there bs led are.each are.order few after)
       where
         none : (o : Option (Link X)) → IsSome o → o ≡ None → ⊥
         none None is e = cc

@@ -5,7 +5,7 @@ use Rattle.std.proofs.lemmas.Grind.{common_steps}
 use Rattle.std.specs.Prelude.{AllPairs, nat_le, option_map, option_to_list}
 use Rattle.std.specs.List.{AllByRecursion}
 use Rattle.gw_chains.specs.Chain.{first, rest}
-use Rattle.gw_chains.specs.Buckets.{times, last_or, Links, run, links_of, member_at, members_at, members_of, total, one_if_there, without_first_link, Before, IsBucket, AreBuckets}
+use Rattle.gw_chains.specs.Buckets.{times, last_or, Links, run, links_of, member_at, members_at, members_of, total, one_if_there, without_first_link, Before, IsBucket, AreBuckets, LoseFirst}
 use Rattle.gw_chains.specs.declared.bucket.Bucket.{Bucket}
 use Rattle.gw_chains.specs.declared.bucket.Link.{Link}
 use Rattle.gw_chains.proofs.Places.{pairs_cons, pairs_first, pairs_rest}
@@ -24,12 +24,6 @@ same_bucket : (a c : Bucket) → Some a ≡ Some c → a ≡ c
 same_bucket a c e = cc
 
 module _ {X : Type 0} (rank : X → ℤ) where
-  -- what becomes of buckets that the first member leaves, whose link this is
-  pub record Left (S T : Links X) (l : Link X) (bs ws : List Bucket) : Type 0 where
-    pub first : first (members_of S bs) ≡ Some l.member
-    pub rest : members_of T ws ≡ rest (members_of S bs)
-    pub buckets : AreBuckets rank T ws
-
   module _ (S T : Links X) (l : Link X) (b : Bucket) (bs : List Bucket) (is : S b.first ≡ Some l) (gone : T b.first ≡ None) (others : (k : ℕ) → k ≢ b.first → T k ≡ S k) (are : AreBuckets rank S (b ∷ bs)) where
     abbrev tail : List ℕ
     tail = run S (b.count - 1) l.next
@@ -65,11 +59,11 @@ module _ {X : Type 0} (rank : X → ℤ) where
 
     -- where these are the buckets that are left
     module _ (ws : List Bucket) (links : links_of T ws ≡ tail ++ back) (order : AllPairs Before ws) (each : AllByRecursion (IsBucket rank T) ws) where
-      left_with : Left S T l (b ∷ bs) ws
-      left_with = record {
-        first = ap first shown;
-        rest = ap (members_at T) links ∙ members-same S T (tail ++ back) (λ k some. ap member_at (alike k some)) ∙ sym (ap rest shown);
-        buckets = record {
+      left_with : LoseFirst rank (Some l.member) S (b ∷ bs) T ws
+      left_with = (
+        sym (ap first shown),
+        ap (members_at T) links ∙ members-same S T (tail ++ back) (λ k some. ap member_at (alike k some)) ∙ sym (ap rest shown),
+        record {
           order = order;
           each = each;
           owned = λ i. elim (cases_eq i b.first) [
@@ -81,15 +75,15 @@ module _ {X : Type 0} (rank : X → ℤ) where
                 let as_before : one_if_there (T i) ≡ one_if_there (S i) = ap one_if_there (others i other) in
                 omega (arith, ap (times i) links, are.owned i, ap (times i) whole, as_before, once-other i b.first (λ clash. other (sym clash)))
           ];
-        };
-      }
+        },
+      )
 
-    left_one : nat_le b.count 1 ≡ true → Left S T l (b ∷ bs) bs
+    left_one : nat_le b.count 1 ≡ true → LoseFirst rank (Some l.member) S (b ∷ bs) T bs
     left_one few =
         let none : b.count - 1 ≡ 0 = grind (arith, common_steps) in
         left_with bs (links-same S T bs alike_back ∙ sym (ap (λ m. run S m l.next ++ back) none)) (pairs_rest Before b bs are.order) (buckets-same rank S T bs alike_back are.each.1)
 
-    left_more : nat_le b.count 1 ≡ false → Left S T l (b ∷ bs) (shorter ∷ bs)
+    left_more : nat_le b.count 1 ≡ false → LoseFirst rank (Some l.member) S (b ∷ bs) T (shorter ∷ bs)
     left_more many =
         let some : 0 < b.count - 1 = grind (arith, common_steps) in
         let same = run-same S T (b.count - 1) l.next alike_tail in
@@ -104,10 +98,10 @@ module _ {X : Type 0} (rank : X → ℤ) where
           buckets-same rank S T bs alike_back are.each.1,
         )
 
-    left_first : Left S T l (b ∷ bs) (without_first_link l.next (b ∷ bs))
+    left_first : LoseFirst rank (Some l.member) S (b ∷ bs) T (without_first_link l.next (b ∷ bs))
     left_first = by_test (nat_le b.count 1) refl
       where
-        by_test : (p : Bool) → nat_le b.count 1 ≡ p → Left S T l (b ∷ bs) (if p then bs else shorter ∷ bs)
+        by_test : (p : Bool) → nat_le b.count 1 ≡ p → LoseFirst rank (Some l.member) S (b ∷ bs) T (if p then bs else shorter ∷ bs)
         by_test true few = left_one few
         by_test false many = left_more many
 
@@ -118,7 +112,7 @@ module _ {X : Type 0} (rank : X → ℤ) where
       subst (λ (d : Bucket). IsSome (S d.first)) (sym (same_bucket b c is))
       ((led_of rank S (c ∷ cs) are).leads c.first (omega (arith, first_in_run S c.count c.first are.each.0.some, times-append c.first (run S c.count c.first) (links_of S cs))))
 
-  pub left : (S T : Links X) (l : Link X) (bs : List Bucket) (b : Bucket) → Some b ≡ first bs → S b.first ≡ Some l → T b.first ≡ None → ((k : ℕ) → k ≢ b.first → T k ≡ S k) → AreBuckets rank S bs → Left S T l bs (without_first_link l.next bs)
+  pub left : (S T : Links X) (l : Link X) (bs : List Bucket) (b : Bucket) → Some b ≡ first bs → S b.first ≡ Some l → T b.first ≡ None → ((k : ℕ) → k ≢ b.first → T k ≡ S k) → AreBuckets rank S bs → LoseFirst rank (Some l.member) S bs T (without_first_link l.next bs)
   left S T l [] b is there gone others are = absurd cc
   left S T l (c ∷ cs) b is there gone others are =
       let same : b ≡ c = same_bucket b c is in

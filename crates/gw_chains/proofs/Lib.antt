@@ -1,4 +1,6 @@
+pub mod Calling
 pub mod Each
+pub mod Waiting
 pub mod Places
 pub mod Turning
 pub mod Finding
@@ -7,10 +9,12 @@ pub mod Newcoming
 pub mod Slices
 pub mod Chunking
 pub mod Linking
+pub mod Gaining
 pub mod Joining
 pub mod Leaving
 pub mod Heading
 pub mod Ranking
+pub mod Counting
 pub mod Filing
 pub mod Unlinking
 pub mod Spotting

@@ -7,7 +7,7 @@ use Rattle.std.specs.List.{AllByRecursion}
 use Rattle.gw_chains.specs.Chain.{placed_behind}
 use Rattle.gw_chains.specs.Chunks.{begins_in}
 use Rattle.gw_chains.specs.Newcomers.{host}
-use Rattle.gw_chains.specs.Buckets.{once, times, last_or, Links, links_behind, run, links_of, member_at, members_at, members_of, linked_to, bucket_of_one, IsBucket}
+use Rattle.gw_chains.specs.Buckets.{once, times, last_or, Links, links_behind, run, links_of, member_at, members_at, members_of, linked_to, one_if_there, upto, bucket_of_one, IsBucket}
 use Rattle.gw_chains.specs.declared.bucket.Bucket.{Bucket}
 use Rattle.gw_chains.specs.declared.bucket.Link.{Link}
 
@@ -158,6 +158,17 @@ module _ {X : Type 0} (S T : Links X) (e : X) (j x : ℕ) (vacant : S j ≡ None
   pub kept_members : (ks : List ℕ) → Kept → ((i : ℕ) → 0 < times i ks → IsSome (S i)) → members_at T ks ≡ members_at S ks
   kept_members ks kept leads = members-same S T ks (λ k some. kept k (was_other k (leads k some)))
 
+-- WHAT A LINK KEEPS THAT IS LINKED TO ANOTHER
+
+module _ {X : Type 0} (next : ℕ) where
+  pub member_kept : (o : Option (Link X)) → member_at (linked_to next o) ≡ member_at o
+  member_kept None = refl
+  member_kept (Some l) = refl
+
+  pub there_kept : (o : Option (Link X)) → one_if_there (linked_to next o) ≡ one_if_there o
+  there_kept None = refl
+  there_kept (Some l) = refl
+
 -- THE MEMBERS OF BUCKETS
 
 -- a newcomer's place among members
@@ -169,10 +180,6 @@ module _ {X : Type 0} (p : X → Bool) (e : X) where
   pub placed_first : (back : List X) → begins_in p back ≡ false → placed_behind p e back ≡ e ∷ back
   placed_first [] fails = refl
   placed_first (z ∷ zs) fails = rw fails refl
-
--- whether a member has the same rank as another or a lower one
-abbrev pub upto : {X : Type 0} → (X → ℤ) → X → X → Bool
-upto rank e y = int_le (rank y) (rank e)
 
 -- all members of a bucket are ahead of one of the same rank or a higher one
 pub all_upto : {X : Type 0} (rank : X → ℤ) (e : X) (t : ℤ) (ys : List X) → int_le t (rank e) ≡ true → AllByRecursion (λ (y : X). rank y ≡ t) ys → AllByRecursion (λ y. upto rank e y ≡ true) ys

@@ -1,5 +1,5 @@
 -- A newcomer among those that are kept in an order, at its place: its like takes it in, or it stands there.
-use Rattle.std.proofs.Common.{◌≡◌, ◌∙◌, ℕ, zero, suc, ◌-◌, ◌<◌, ◌≤◌, List, [], ◌∷◌, ◌++◌, length, Some, None, Bool, true, false, if◌then◌else◌, refl, ap, arith, get_or, set}
+use Rattle.std.proofs.Common.{◌≡◌, ◌∙◌, ℕ, zero, suc, ◌-◌, ◌<◌, ◌≤◌, List, [], ◌∷◌, ◌++◌, length, Some, None, Bool, true, false, if◌then◌else◌, refl, sym, ap, arith, get_or, set}
 use Rattle.std.specs.Prelude.{insert}
 use Rattle.std.specs.List.Sorted.{IsPartitionPoint}
 use Rattle.std.specs.List.{AllByRecursion}
@@ -31,6 +31,17 @@ module _ {A : Type 0} (goes : A → A → Bool) (x : A) where
       rw (point.0 0 y (omega arith) (omega arith)) (ap (λ o. if goes x y then Some y else o) (host-none ys (place_rest y ys 0 point)))
   host-before (y ∷ ys) (suc i) d within point last =
       rw (point.0 0 y (omega arith) (omega arith), early y ys i d (omega (arith, within)) point last) (host-before ys i d (omega (arith, within)) (place_rest y ys (suc i) point) (last_rest y ys last))
+
+  -- the one before a newcomer's place is its host, if it would go first of that one too
+  pub host-tested : (xs : List A) (n : ℕ) (y : A) (t : Bool) → 0 < n → n ≤ length xs → IsPlace xs n → IsHostLast goes x xs → y ≡ get_or xs (n - 1) y → goes x y ≡ t → (if t then Some y else None) ≡ host goes x xs
+  host-tested xs zero y t some within point last is test = absurd (omega (arith, some))
+  host-tested xs (suc i) y t some within point last is test =
+      let one : suc i - 1 ≡ i = omega arith in
+      sym (
+      host-before xs i y within point last
+      ∙ ap (λ z. if goes x z then Some z else None) (sym (is ∙ ap (λ m. get_or xs m y) one))
+      ∙ ap (λ b. if b then Some y else None) test
+      )
 
   module _ (unite : A → A → A) where
     pub first-newcomer : (xs : List A) → IsPlace xs 0 → insert xs 0 x ≡ with_newcomer goes unite x xs

@@ -50,13 +50,16 @@ module _ {A : Type 0} where
     pub before : (y : A) → p y ≡ false → R x y
 
   -- in a list in order, none that passes comes after one that fails
-  pub partitioned : (R : A → A → Type 0) (p : A → Bool) (x : A) (xs : List A) → Ranks R p x → AllPairs R xs → IsPartitionedBy p xs
-  partitioned R p x xs ranks ordered i j d le within passes =
+  pub parts_in_order : (R : A → A → Type 0) (p : A → Bool) (xs : List A) → ((y z : A) → R y z → p z ≡ true → p y ≡ true) → AllPairs R xs → IsPartitionedBy p xs
+  parts_in_order R p xs falls ordered i j d le within passes =
       elim (cases_order i j) [
         | inl same ↦ subst (λ n. p (get_or xs n d) ≡ true) (sym same) passes
-        | inr (inl under) ↦ ranks.falls (get_or xs i d) (get_or xs j d) (ordered i j d under within) passes
+        | inr (inl under) ↦ falls (get_or xs i d) (get_or xs j d) (ordered i j d under within) passes
         | inr (inr over) ↦ absurd (omega arith)
       ]
+
+  pub partitioned : (R : A → A → Type 0) (p : A → Bool) (x : A) (xs : List A) → Ranks R p x → AllPairs R xs → IsPartitionedBy p xs
+  partitioned R p x xs ranks ordered = parts_in_order R p xs ranks.falls ordered
 
   -- where the last passes, all do, and the partition point is the end
   pub all_pass : (p : A → Bool) (xs : List A) (last : A) → 0 < length xs → last ≡ get_or xs (length xs - 1) last → p last ≡ true → IsPartitionedBy p xs → IsPartitionPoint (λ y. p y ≡ true) (λ y. p y ≡ false) xs (length xs)

@@ -12,7 +12,7 @@ use Rattle.gw_chains.specs.declared.bucket.Link.{Link}
 use Rattle.gw_chains.specs.declared.spot.Spot.{Spot}
 use Rattle.gw_chains.proofs.Places.{pairs_cons, pairs_first, pairs_rest}
 use Rattle.gw_chains.proofs.Turning.{remove-middle}
-use Rattle.gw_chains.proofs.Linking.{once-same, once-other, times-append, some_of, Alike, run-same, links-same, members-same, members-append, bucket-same, buckets-same, AreLed, led_back, led_front}
+use Rattle.gw_chains.proofs.Linking.{once-same, once-other, times-append, some_of, Alike, run-same, links-same, members-same, members-append, bucket-same, buckets-same, member_kept, there_kept, AreLed, led_back, led_front}
 use Rattle.gw_chains.proofs.Joining.{led_of}
 use Rattle.gw_chains.proofs.Spotting.{filled, place_first, link-first, link_within}
 use Rattle.gw_chains.proofs.Unlinking.{middle, all_without, run_length, led_upto, parted, Passed, left_run, left_before, left_last}
@@ -107,21 +107,19 @@ module _ {X : Type 0} (rank : X → ℤ) (S U T : Links X) (s : Spot) (j : ℕ) 
       by_test true = refl
       by_test false = refl
 
-  kept : (k : ℕ) → k ≢ j → member_at (T k) ≡ member_at (S k)
-  kept k other = ap member_at (led_on k) ∙ by_test (nat_lt 0 s.passed && (k == s.before)) (U k) ∙ ap member_at (others k other)
+  -- what another link keeps
+  keeps : {Y : Type 0} (f : Option (Link X) → Y) → ((o : Option (Link X)) → f (linked_to l.next o) ≡ f o) → (k : ℕ) → k ≢ j → f (T k) ≡ f (S k)
+  keeps f same k other = ap f (led_on k) ∙ by_test (nat_lt 0 s.passed && (k == s.before)) ∙ ap f (others k other)
     where
-      by_test : (t : Bool) (o : Option (Link X)) → member_at (if t then linked_to l.next o else o) ≡ member_at o
-      by_test true None = refl
-      by_test true (Some m) = refl
-      by_test false o = refl
+      by_test : (t : Bool) → f (if t then linked_to l.next (U k) else U k) ≡ f (U k)
+      by_test true = same (U k)
+      by_test false = refl
+
+  kept : (k : ℕ) → k ≢ j → member_at (T k) ≡ member_at (S k)
+  kept = keeps member_at (member_kept l.next)
 
   still_there : (k : ℕ) → k ≢ j → one_if_there (T k) ≡ one_if_there (S k)
-  still_there k other = ap one_if_there (led_on k) ∙ by_test (nat_lt 0 s.passed && (k == s.before)) (U k) ∙ ap one_if_there (others k other)
-    where
-      by_test : (t : Bool) (o : Option (Link X)) → one_if_there (if t then linked_to l.next o else o) ≡ one_if_there o
-      by_test true None = refl
-      by_test true (Some m) = refl
-      by_test false o = refl
+  still_there = keeps one_if_there (there_kept l.next)
 
   -- buckets, and what they are without the one that stands at the spot
   record Taken (bs ws : List Bucket) (n : ℕ) : Type 0 where

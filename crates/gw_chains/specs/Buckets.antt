@@ -1,8 +1,9 @@
 -- Members in buckets: all of one rank stand in one bucket, each linked to the next, and the buckets by
 -- their ranks.
-use Rattle.std.specs.Prelude.{◌≡◌, ◌<◌, ◌<ℤ◌, ℕ, ℤ, zero, suc, ◌+◌, ◌-◌, ◌==◌, ◌^◌, min, nat_le, int_lt, is_some, Bool, true, false, List, [], ◌∷◌, ◌++◌, AllPairs, Option, Some, None, if◌then◌else◌}
+use Rattle.std.specs.Prelude.{◌≡◌, ◌<◌, ◌≤◌, ◌<ℤ◌, ℕ, ℤ, zero, suc, ◌+◌, ◌-◌, ◌==◌, ◌^◌, min, nat_le, int_le, int_lt, is_some, Bool, true, false, List, [], ◌∷◌, ◌++◌, length, AllPairs, Option, Some, None, if◌then◌else◌}
 use Rattle.std.specs.List.{AllByRecursion}
 use Rattle.std.specs.List.Sorted.{IsPartitionPoint}
+use Rattle.gw_chains.specs.Chain.{placed_behind, first, rest}
 use Rattle.gw_chains.specs.declared.bucket.Bucket.{Bucket}
 use Rattle.gw_chains.specs.declared.bucket.Link.{Link}
 
@@ -106,6 +107,14 @@ module _ {X : Type 0} where
   linked_behind (Some b) next links k = if k == b.last then linked_to next (links k) else links k
 
   module _ (rank : X → ℤ) where
+    -- whether a member has the same rank as another or a lower one
+    abbrev pub upto : X → X → Bool
+    upto e y = int_le (rank y) (rank e)
+
+    -- whether a member has a lower rank than another
+    abbrev pub lower : X → X → Bool
+    lower e y = int_lt (rank y) (rank e)
+
     -- the bucket of a member alone, whose link is this one
     abbrev pub bucket_of_one : X → ℕ → Bucket
     bucket_of_one member link = record { rank = rank member; first = link; last = link; count = 1 }
@@ -122,3 +131,18 @@ module _ {X : Type 0} where
       pub order : AllPairs Before bs
       pub each : AllByRecursion (IsBucket links) bs
       pub owned : (k : ℕ) → times k (links_of links bs) ≡ one_if_there (links k)
+
+    -- buckets, and how many members stand in them: not more than memory can hold
+    abbrev pub AreCounted : Links X → List Bucket → ℕ → Type 0
+    AreCounted links bs n =
+        AreBuckets links bs × (n ≡ length (members_of links bs)) × (n ≡ total bs) × (n ≤ 2 ^ 62)
+
+    -- buckets gain a member, which stands behind the longest front of members that pass
+    abbrev pub GainMember : (X → Bool) → X → Links X → List Bucket → Links X → List Bucket → Type 0
+    GainMember passes e old bs new ws =
+        (members_of new ws ≡ placed_behind passes e (members_of old bs)) × AreBuckets new ws × (total ws ≡ total bs + 1)
+
+    -- buckets lose their first member, which is this one, if there is one
+    abbrev pub LoseFirst : Option X → Links X → List Bucket → Links X → List Bucket → Type 0
+    LoseFirst x old bs new ws =
+        (x ≡ first (members_of old bs)) × (members_of new ws ≡ rest (members_of old bs)) × AreBuckets new ws

@@ -1,5 +1,6 @@
 -- Lists of calls on a future events chain: what they leave of it, and what they answer.
-use Rattle.std.specs.Prelude.{ℤ, List, [], ◌∷◌, Option, None, option_map, is_some, if◌then◌else◌}
+use Rattle.std.specs.Prelude.{ℤ, List, Option, None, option_map, is_some, if◌then◌else◌}
+use Rattle.gw_chains.specs.Calling.{state_after, answers_in_turn}
 use Rattle.gw_chains.specs.Chain.{in_time, due, first, rest}
 use Rattle.gw_chains.specs.declared.tx.Event.{Event}
 use Rattle.gw_chains.specs.declared.tx.Tx.{Tx}
@@ -22,9 +23,7 @@ answer_of (PopDue time) xs = first_due time xs
 
 -- a chain after calls, made in their order, and what each of them answers
 abbrev pub after_calls : List EventCall → List Event → List Event
-after_calls [] xs = xs
-after_calls (call ∷ calls) xs = after_calls calls (after_call call xs)
+after_calls = state_after after_call
 
 abbrev pub answers_of : List EventCall → List Event → List (Option Tx)
-answers_of [] xs = []
-answers_of (call ∷ calls) xs = answer_of call xs ∷ answers_of calls (after_call call xs)
+answers_of = answers_in_turn after_call answer_of

@@ -1,5 +1,6 @@
 -- Lists of calls on a delay list with a walk over it: what they leave of it, and what they answer.
-use Rattle.std.specs.Prelude.{ℕ, ◌+◌, List, [], ◌∷◌, Option, None, option_map, is_some, if◌then◌else◌, slice_get, remove}
+use Rattle.std.specs.Prelude.{ℕ, ◌+◌, List, Option, None, option_map, is_some, if◌then◌else◌, slice_get, remove}
+use Rattle.gw_chains.specs.Calling.{state_after, answers_in_turn}
 use Rattle.gw_chains.specs.Chain.{behind}
 use Rattle.gw_chains.specs.declared.tx.Member.{Member}
 use Rattle.gw_chains.specs.declared.tx.Tx.{Tx}
@@ -50,9 +51,7 @@ after_call Take l = after_take l
 
 -- a list after calls, made in their order, and what each of them answers
 abbrev pub after_calls : List DelayCall → DelayState → DelayState
-after_calls [] l = l
-after_calls (call ∷ calls) l = after_calls calls (after_call call l)
+after_calls = state_after after_call
 
 abbrev pub answers_of : List DelayCall → DelayState → List (Option Tx)
-answers_of [] l = []
-answers_of (call ∷ calls) l = answer_of call l ∷ answers_of calls (after_call call l)
+answers_of = answers_in_turn after_call answer_of

@@ -1,5 +1,6 @@
 -- Lists of calls on a current events chain: what they leave of it, and what they answer.
-use Rattle.std.specs.Prelude.{List, [], ◌∷◌, Option, None, option_map}
+use Rattle.std.specs.Prelude.{List, Option, None, option_map}
+use Rattle.gw_chains.specs.Calling.{state_after, answers_in_turn}
 use Rattle.gw_chains.specs.Chain.{behind, ahead, first, rest}
 use Rattle.gw_chains.specs.declared.tx.Member.{Member}
 use Rattle.gw_chains.specs.declared.tx.Tx.{Tx}
@@ -20,9 +21,7 @@ answer_of PopFirst xs = option_map (λ (m : Member). m.tx) (first xs)
 
 -- a chain after calls, made in their order, and what each of them answers
 abbrev pub after_calls : List PriorityCall → List Member → List Member
-after_calls [] xs = xs
-after_calls (call ∷ calls) xs = after_calls calls (after_call call xs)
+after_calls = state_after after_call
 
 abbrev pub answers_of : List PriorityCall → List Member → List (Option Tx)
-answers_of [] xs = []
-answers_of (call ∷ calls) xs = answer_of call xs ∷ answers_of calls (after_call call xs)
+answers_of = answers_in_turn after_call answer_of

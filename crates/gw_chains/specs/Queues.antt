@@ -15,3 +15,12 @@ module _ {X Z : Type 0} where
   -- a queue has as many elements as before, or one more
   abbrev pub GainsOneAtMost : VecDeque X Z → VecDeque X Z → Type 0
   GainsOneAtMost old new = (deque_len old ≤ deque_len new) × (deque_len new ≤ deque_len old + 1)
+
+  -- a queue has at most one element more than before, and no smaller capacity
+  abbrev pub GrowsByOneAtMost : VecDeque X Z → VecDeque X Z → Type 0
+  GrowsByOneAtMost old new =
+      (deque_len new ≤ deque_len old + 1) × (deque_capacity old ≤ deque_capacity new)
+
+  -- a queue has no more elements than before, and the same capacity
+  abbrev pub DoesNotGrow : VecDeque X Z → VecDeque X Z → Type 0
+  DoesNotGrow old new = (deque_len new ≤ deque_len old) × (deque_capacity new ≡ deque_capacity old)

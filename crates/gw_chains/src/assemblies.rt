@@ -4,7 +4,7 @@ ghost use Rattle.std.specs.Prelude.{◌≡◌, ◌≤◌, ◌<◌, ◌+◌, ◌-
 ghost use Rattle.std.specs.List.{find};
 ghost use Rattle.gw_chains.specs.Assembling.{is_of, without_first, with_first_changed};
 
-use crate::register::{Entry, add, count_down, find, make_way, reserve, strike_out};
+use crate::register::{Entry, Key, add, count_down, find, make_way, reserve, strike_out};
 use crate::tx::MOST;
 use crate::{Memory, Tx};
 use std::alloc::Global;
@@ -96,7 +96,7 @@ impl Assemblies {
     pub fn find(&self, block: u16, set: u64) -> Option<Assembly>
         ensures { result ≡ find (is_of block set) self.now.items }
     {
-        find(&self.entries, &self.buckets, block, set)
+        find(&self.entries, &self.buckets, Key { block, set })
     }
 
     /// An assembly begins, in room that `reserve` made.
@@ -113,10 +113,12 @@ impl Assemblies {
     /// One more has come to the assembly of a set at a block, which has begun.
     pub fn come(&mut self, block: u16, set: u64)
         requires { IsSome (find (is_of block set) self.old.items) }
-        ensures items { self.new.items ≡ with_first_changed (is_of block set) (λ a. record a { missing = a.missing - 1 }) self.old.items }
+        ensures items { self.new.items
+            ≡ with_first_changed (is_of block set) (λ a. record a { missing = a.missing - 1 })
+            self.old.items }
         ensures room { self.old.room ≤ self.new.room }
     {
-        count_down(&mut self.entries, &self.buckets, block, set);
+        count_down(&mut self.entries, &self.buckets, Key { block, set });
     }
 
     /// The last of a set has come to a block: its assembly, which has begun, is taken out and answered.
@@ -126,7 +128,7 @@ impl Assemblies {
         ensures items { self.new.items ≡ without_first (is_of block set) self.old.items }
         ensures room { self.old.room < self.new.room }
     {
-        match strike_out(&mut self.entries, &self.buckets, block, set) {
+        match strike_out(&mut self.entries, &self.buckets, Key { block, set }) {
             Some(assembly) => {
                 self.waiting -= 1;
                 assembly

@@ -5,10 +5,11 @@ ghost use Rattle.std.specs.Prelude.{◌≡◌, ◌≤◌, ◌<◌, ◌+◌, ◌-
 ghost use Rattle.std.specs.VecDeque.{deque_len, deque_capacity};
 ghost use Rattle.std.specs.VecDeque.Iter.{deque_iter_rest};
 ghost use Rattle.slab.specs.Slab.{get, slab_len, ContainsKey, HasRoomFor};
-ghost use Rattle.gw_chains.specs.Chain.{in_time, first, rest};
+ghost use Rattle.gw_chains.specs.Chain.{first};
 ghost use Rattle.gw_chains.specs.Chunks.{all_of, rest_of, IsChunk, IsSpare};
 ghost use Rattle.gw_chains.specs.Queues.{space_in};
-ghost use Rattle.gw_chains.specs.Buckets.{run, members_at, members_of, total, bucket_of_one, linked_behind, without_first_link, AreBuckets};
+ghost use Rattle.gw_chains.specs.Slots.{TakesOneSlot, TakesNoSlot, KeepsSlots};
+ghost use Rattle.gw_chains.specs.Buckets.{run, members_at, total, upto, bucket_of_one, linked_behind, without_first_link, AreBuckets, GainMember, LoseFirst};
 
 use crate::Memory;
 use crate::bucket::{Bucket, Link, Ranked};
@@ -20,8 +21,7 @@ use std::collections::{VecDeque, vec_deque};
 pub(crate) fn link_behind<T: Ranked>(links: &mut Slab<Link<T>>, host: Option<Bucket>, next: usize)
     requires { IfSome host (λ b. ContainsKey links.old b.last) }
     ensures links { (k : ℕ) → get links.new k ≡ linked_behind host next (get links.old) k }
-    ensures room { (slab_len links.new ≡ slab_len links.old)
-        × (links.new.capacity ≡ links.old.capacity) }
+    ensures room { KeepsSlots links.old links.new }
 {
     if let Some(bucket) = host {
         links[bucket.last].next = next;
@@ -53,16 +53,13 @@ pub(crate) fn insert_member<T: Ranked>(
     requires room { deque_len chunks.old < deque_capacity chunks.old }
     requires spare { (0 < length spare.old.items) × All IsSpare spare.old.items }
     requires links { HasRoomFor links.old 1 }
-    ensures members { members_of (get links.new) (all_of chunks.new.items)
-        ≡ in_time T.rank member (members_of (get links.old) (all_of chunks.old.items)) }
-    ensures buckets { AreBuckets T.rank (get links.new) (all_of chunks.new.items) }
-    ensures total { total (all_of chunks.new.items) ≡ total (all_of chunks.old.items) + 1 }
+    ensures gain { GainMember T.rank (upto T.rank member) member
+        (get links.old) (all_of chunks.old.items) (get links.new) (all_of chunks.new.items) }
     ensures chunks { All IsChunk chunks.new.items }
     ensures spare { All IsSpare spare.new.items }
     ensures room { space_in chunks.old ≤ space_in chunks.new + 1 }
     ensures left { length spare.old.items ≤ length spare.new.items + 1 }
-    ensures links { (slab_len links.new ≡ slab_len links.old + 1)
-        × (links.new.capacity ≡ links.old.capacity) }
+    ensures links { TakesOneSlot links.old links.new }
 {
     let link = links.insert_reserved(Link { member, next: 0 });
     let host = insert(chunks, spare, bucket_of_one(member, link));
@@ -91,6 +88,18 @@ pub(crate) fn first_rank(chunks: &VecDeque<VecDeque<Bucket>>) -> Option<i64>
     Some(bucket.rank)
 }
 
+/// A bucket without its first link, behind which `next` is. It has another.
+pub(crate) fn shorter(bucket: Bucket, next: usize) -> Bucket
+    requires { 1 < bucket.count }
+    ensures { result ≡ record bucket { first = next; count = bucket.count - 1 } }
+{
+    Bucket {
+        first: next,
+        count: bucket.count - 1,
+        ..bucket
+    }
+}
+
 /// The first bucket, which is this one, loses its first link, behind which `next` is.
 fn shorten(
     chunks: &mut VecDeque<VecDeque<Bucket>>,
@@ -108,12 +117,7 @@ fn shorten(
     ensures kept { length spare.old.items ≤ length spare.new.items }
 {
     if 1 < bucket.count {
-        let shorter = Bucket {
-            first: next,
-            count: bucket.count - 1,
-            ..bucket
-        };
-        set_front(chunks, shorter);
+        set_front(chunks, shorter(bucket, next));
     } else {
         let _ = pop_first(chunks, spare);
     }
@@ -128,18 +132,15 @@ pub(crate) fn pop_member<T: Ranked>(
     requires buckets { AreBuckets T.rank (get links.old) (all_of chunks.old.items) }
     requires chunks { All IsChunk chunks.old.items }
     requires spare { All IsSpare spare.old.items }
-    ensures first { result ≡ first (members_of (get links.old) (all_of chunks.old.items)) }
-    ensures rest { members_of (get links.new) (all_of chunks.new.items)
-        ≡ rest (members_of (get links.old) (all_of chunks.old.items)) }
-    ensures buckets { AreBuckets T.rank (get links.new) (all_of chunks.new.items) }
+    ensures first { LoseFirst T.rank result
+        (get links.old) (all_of chunks.old.items) (get links.new) (all_of chunks.new.items) }
     ensures total { total (all_of chunks.new.items) + length (option_to_list result)
         ≡ total (all_of chunks.old.items) }
     ensures chunks { All IsChunk chunks.new.items }
     ensures spare { All IsSpare spare.new.items }
     ensures room { space_in chunks.old ≤ space_in chunks.new }
     ensures kept { length spare.old.items ≤ length spare.new.items }
-    ensures links { (slab_len links.new ≤ slab_len links.old)
-        × (links.new.capacity ≡ links.old.capacity) }
+    ensures links { TakesNoSlot links.old links.new }
 {
     let bucket = *front(chunks)?;
     let link = links.remove(bucket.first);

@@ -28,21 +28,18 @@ pub struct Cec {
 }
 
 impl Model for Cec {
-    ghost use Rattle.std.specs.Prelude.{◌≡◌, ◌≤◌, ◌-◌, ◌^◌, length, min, neg_ℤ};
+    ghost use Rattle.std.specs.Prelude.{◌-◌, min, neg_ℤ};
     ghost use Rattle.std.specs.VecDeque.{deque_len, deque_capacity};
     ghost use Rattle.slab.specs.Slab.{get, slab_len};
     ghost use Rattle.gw_chains.specs.Chain.{Chain};
     ghost use Rattle.gw_chains.specs.Lists.{room_of};
-    ghost use Rattle.gw_chains.specs.Buckets.{members_of, total, AreBuckets};
+    ghost use Rattle.gw_chains.specs.Buckets.{members_of, AreCounted};
     ghost use Rattle.gw_chains.specs.declared.tx.Member.{Member};
 
     ghost Value = { Chain Member };
 
     ghost invariant = { λ c.
-        AreBuckets (λ (m : Member). neg_ℤ m.priority) (get c.links) c.buckets.items
-        × (c.count ≡ length (members_of (get c.links) c.buckets.items))
-        × (c.count ≡ total c.buckets.items)
-        × (c.count ≤ 2 ^ 62) };
+        AreCounted (λ (m : Member). neg_ℤ m.priority) (get c.links) c.buckets.items c.count };
 
     ghost view = { λ c. record {
       items = members_of (get c.links) c.buckets.items;

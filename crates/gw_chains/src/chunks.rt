@@ -126,7 +126,8 @@ pub(crate) fn join<T: Placed>(chunk: &mut VecDeque<T>, newcomer: T) -> Option<T>
     requires last { IsHostLast T.goes_first newcomer chunk.old.items }
     requires room { deque_len chunk.old < deque_capacity chunk.old }
     ensures host { result ≡ host T.goes_first newcomer chunk.old.items }
-    ensures items { chunk.new.items ≡ with_newcomer T.goes_first T.with_guest newcomer chunk.old.items }
+    ensures items { chunk.new.items
+        ≡ with_newcomer T.goes_first T.with_guest newcomer chunk.old.items }
     ensures len { GainsOneAtMost chunk.old chunk.new }
     ensures capacity { deque_capacity chunk.old ≤ deque_capacity chunk.new }
 {
@@ -172,11 +173,13 @@ fn join_and_split<T: Placed>(
     requires chunk { IsChunk chunk.old }
     requires spare { (0 < length spare.old.items) × All IsSpare spare.old.items }
     ensures host { result.0 ≡ host T.goes_first newcomer chunk.old.items }
-    ensures items { chunk.new.items ++ items_of result.1 ≡ with_newcomer T.goes_first T.with_guest newcomer chunk.old.items }
+    ensures items { chunk.new.items ++ items_of result.1
+        ≡ with_newcomer T.goes_first T.with_guest newcomer chunk.old.items }
     ensures chunk { IsChunk chunk.new }
     ensures upper { IfSome result.1 IsChunk }
     ensures spare { All IsSpare spare.new.items }
-    ensures left { length spare.old.items ≤ length spare.new.items + length (option_to_list result.1) }
+    ensures left { length spare.old.items
+        ≤ length spare.new.items + length (option_to_list result.1) }
 {
     let host = join(chunk, newcomer);
     if chunk.len() < MOST_IN_CHUNK {
@@ -204,9 +207,13 @@ fn insert_at<T: Placed>(
     requires chunks { All IsChunk chunks.old.items }
     requires room { deque_len chunks.old < deque_capacity chunks.old }
     requires spare { (0 < length spare.old.items) × All IsSpare spare.old.items }
-    ensures host { HoldsInChunk (λ ys. result ≡ host T.goes_first newcomer ys) chunks.old.items place }
-    ensures items { (d : DeclaredQueue T Global) → all_of chunks.new.items ≡ all_of (take place chunks.old.items)
-        ++ (with_newcomer T.goes_first T.with_guest newcomer (slice_index_or chunks.old.items place d).items ++ all_of (drop (place + 1) chunks.old.items)) }
+    ensures host { HoldsInChunk (λ ys. result ≡ host T.goes_first newcomer ys)
+        chunks.old.items place }
+    ensures items { (d : DeclaredQueue T Global) → all_of chunks.new.items
+        ≡ all_of (take place chunks.old.items)
+        ++ (with_newcomer T.goes_first T.with_guest newcomer
+        (slice_index_or chunks.old.items place d).items
+        ++ all_of (drop (place + 1) chunks.old.items)) }
     ensures chunks { All IsChunk chunks.new.items }
     ensures spare { All IsSpare spare.new.items }
     ensures room { space_in chunks.old ≤ space_in chunks.new + 1 }
@@ -234,7 +241,8 @@ pub(crate) fn insert<T: Placed>(
     requires room { deque_len chunks.old < deque_capacity chunks.old }
     requires spare { (0 < length spare.old.items) × All IsSpare spare.old.items }
     ensures host { result ≡ host T.goes_first newcomer (all_of chunks.old.items) }
-    ensures items { all_of chunks.new.items ≡ with_newcomer T.goes_first T.with_guest newcomer (all_of chunks.old.items) }
+    ensures items { all_of chunks.new.items
+        ≡ with_newcomer T.goes_first T.with_guest newcomer (all_of chunks.old.items) }
     ensures chunks { All IsChunk chunks.new.items }
     ensures spare { All IsSpare spare.new.items }
     ensures room { space_in chunks.old ≤ space_in chunks.new + 1 }
@@ -343,13 +351,15 @@ pub(crate) fn reserve<T: Placed>(
     more: usize,
 ) -> Result<(), Memory>
     requires { All IsSpare spare.old.items }
-    ensures items { (chunks.new.items ≡ chunks.old.items) × (deque_len chunks.new ≡ deque_len chunks.old) }
+    ensures items { chunks.new.items ≡ chunks.old.items }
+    ensures len { deque_len chunks.new ≡ deque_len chunks.old }
     ensures spare { All IsSpare spare.new.items }
     ensures room { OnOk result (deque_len chunks.new + more ≤ deque_capacity chunks.new) }
     ensures chunks { OnOk result (more ≤ length spare.new.items) }
     ensures kept { deque_capacity chunks.old ≤ deque_capacity chunks.new }
     ensures spare_kept { length spare.old.items ≤ length spare.new.items }
-    ensures refused { OnErr result ((deque_capacity chunks.old < deque_len chunks.old + more) ⊎ (length spare.old.items < more)) }
+    ensures refused { OnErr result ((deque_capacity chunks.old < deque_len chunks.old + more)
+        ⊎ (length spare.old.items < more)) }
 {
     chunks.reserve(more)?;
     while spare.len() < more {

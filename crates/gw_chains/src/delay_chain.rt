@@ -1,7 +1,7 @@
 //! What each body of a delay list does: the one in buckets, and the plain one.
 
 ghost use Rattle.std.specs.Prelude.{◌≡◌, ◌≤◌, ◌<◌, ◌+◌, ◌++◌, ℕ, length, remove, OnOk, OnErr};
-ghost use Rattle.gw_chains.specs.DelayCalls.{DelayState, tx_at, with_member, without_member, after_remove, after_pass, after_take, after_call, answer_of, after_calls, answers_of};
+ghost use Rattle.gw_chains.specs.DelayCalls.{DelayState, tx_at, with_member, without_member, after_call, answer_of, after_calls, answers_of};
 
 use crate::{DelayList, Member, Memory, Tx, plain};
 
@@ -47,7 +47,8 @@ pub trait DelayChain {
     /// The walk goes on past the member to which it has come. It is not at the end.
     fn pass(&mut self)
         requires { (state self.old).place < length (state self.old).members }
-        ensures state { state self.new ≡ record (state self.old) { place = (state self.old).place + 1 } }
+        ensures state { state self.new
+            ≡ record (state self.old) { place = (state self.old).place + 1 } }
         ensures room { room self.old ≤ room self.new };
 
     /// Takes out the member to which the walk has come, which is then at the next. It is not at the end.
@@ -149,39 +150,6 @@ pub enum DelayCall {
     Take,
 }
 
-/// Removes the member at a place, if there is one, which it answers.
-fn remove_at<C: DelayChain>(list: &mut C, place: usize) -> Option<Tx>
-    ensures state { C.state list.new ≡ after_remove place (C.state list.old) }
-    ensures answer { result ≡ tx_at place (C.state list.old).members }
-    ensures room { C.room list.old ≤ C.room list.new }
-{
-    let tx = list.get(place)?;
-    list.remove(place);
-    Some(tx)
-}
-
-/// Goes on past the member to which a walk has come, if it is not at the end, and answers it.
-fn pass_current<C: DelayChain>(list: &mut C) -> Option<Tx>
-    ensures state { C.state list.new ≡ after_pass (C.state list.old) }
-    ensures answer { result ≡ tx_at (C.state list.old).place (C.state list.old).members }
-    ensures room { C.room list.old ≤ C.room list.new }
-{
-    let tx = list.current()?;
-    list.pass();
-    Some(tx)
-}
-
-/// Takes out the member to which a walk has come, if it is not at the end, and answers it.
-fn take_current<C: DelayChain>(list: &mut C) -> Option<Tx>
-    ensures state { C.state list.new ≡ after_take (C.state list.old) }
-    ensures answer { result ≡ tx_at (C.state list.old).place (C.state list.old).members }
-    ensures room { C.room list.old ≤ C.room list.new }
-{
-    let tx = list.current()?;
-    list.take();
-    Some(tx)
-}
-
 /// Makes a call on a list that has room for one more.
 fn make_call<C: DelayChain>(list: &mut C, call: DelayCall) -> Option<Tx>
     requires { 0 < C.room list.old }
@@ -194,13 +162,25 @@ fn make_call<C: DelayChain>(list: &mut C, call: DelayCall) -> Option<Tx>
             list.insert_behind(member);
             None
         }
-        DelayCall::Remove(place) => remove_at(list, place),
+        DelayCall::Remove(place) => {
+            let tx = list.get(place)?;
+            list.remove(place);
+            Some(tx)
+        }
         DelayCall::StartWalk => {
             list.start_walk();
             None
         }
-        DelayCall::Pass => pass_current(list),
-        DelayCall::Take => take_current(list),
+        DelayCall::Pass => {
+            let tx = list.current()?;
+            list.pass();
+            Some(tx)
+        }
+        DelayCall::Take => {
+            let tx = list.current()?;
+            list.take();
+            Some(tx)
+        }
     }
 }
 

@@ -31,21 +31,18 @@ pub struct DelayList {
 }
 
 impl Model for DelayList {
-    ghost use Rattle.std.specs.Prelude.{◌≡◌, ◌≤◌, ◌-◌, ◌^◌, length, min, neg_ℤ};
+    ghost use Rattle.std.specs.Prelude.{◌-◌, min, neg_ℤ};
     ghost use Rattle.std.specs.VecDeque.{deque_len, deque_capacity};
     ghost use Rattle.slab.specs.Slab.{get, slab_len};
     ghost use Rattle.gw_chains.specs.Lists.{Walked, room_of};
-    ghost use Rattle.gw_chains.specs.Buckets.{members_of, total, AreBuckets};
+    ghost use Rattle.gw_chains.specs.Buckets.{members_of, AreCounted};
     ghost use Rattle.gw_chains.specs.Spots.{place_at, IsWalk};
     ghost use Rattle.gw_chains.specs.declared.tx.Member.{Member};
 
     ghost Value = { Walked };
 
     ghost invariant = { λ l.
-        AreBuckets (λ (m : Member). neg_ℤ m.priority) (get l.links) l.buckets.items
-        × (l.count ≡ length (members_of (get l.links) l.buckets.items))
-        × (l.count ≡ total l.buckets.items)
-        × (l.count ≤ 2 ^ 62)
+        AreCounted (λ (m : Member). neg_ℤ m.priority) (get l.links) l.buckets.items l.count
         × IsWalk (get l.links) l.buckets.items l.walk };
 
     ghost view = { λ l. record {
@@ -143,7 +140,8 @@ impl DelayList {
 
     /// The transaction to which the walk has come, if it is not at the end.
     pub fn current(&self) -> Option<Tx>
-        ensures value { result ≡ option_map (λ m. m.tx) (slice_get self.now.members self.now.place) }
+        ensures value { result
+            ≡ option_map (λ m. m.tx) (slice_get self.now.members self.now.place) }
         ensures there { IsSome result ↔ (self.now.place < length self.now.members) }
     {
         if self.walk.left == 0 {

@@ -30,7 +30,8 @@ pub trait EventChain {
     /// Takes the first, if it is scheduled for `time`, in clock units, or earlier.
     fn pop_due(&mut self, time: i64) -> Option<Tx>
         ensures first { result ≡ first_due time (items self.old) }
-        ensures rest { items self.new ≡ (if is_some result then rest (items self.old) else items self.old) }
+        ensures rest { items self.new
+            ≡ (if is_some result then rest (items self.old) else items self.old) }
         ensures room { room self.old ≤ room self.new };
 }
 
@@ -105,8 +106,10 @@ pub fn make_calls<C: EventChain>(
     answers: &mut Vec<Option<Tx>>,
 ) -> Result<(), Memory>
     ensures items { OnOk result (C.items chain.new ≡ after_calls calls.now (C.items chain.old)) }
-    ensures answers { OnOk result (answers.new.items ≡ answers.old.items ++ answers_of calls.now (C.items chain.old)) }
-    ensures refused { OnErr result ((C.items chain.new ≡ C.items chain.old) × (answers.new.items ≡ answers.old.items)) }
+    ensures answers { OnOk result
+        (answers.new.items ≡ answers.old.items ++ answers_of calls.now (C.items chain.old)) }
+    ensures refused { OnErr result
+        ((C.items chain.new ≡ C.items chain.old) × (answers.new.items ≡ answers.old.items)) }
 {
     chain.reserve(calls.len())?;
     answers.reserve(calls.len())?;

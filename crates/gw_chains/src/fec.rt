@@ -34,22 +34,20 @@ pub struct Fec {
 }
 
 impl Model for Fec {
-    ghost use Rattle.std.specs.Prelude.{◌≡◌, ◌≤◌, ◌-◌, ◌^◌, All, length};
+    ghost use Rattle.std.specs.Prelude.{◌-◌, All, length};
     ghost use Rattle.std.specs.VecDeque.{deque_len, deque_capacity};
     ghost use Rattle.slab.specs.Slab.{get, slab_len};
     ghost use Rattle.gw_chains.specs.Chain.{Chain};
     ghost use Rattle.gw_chains.specs.Chunks.{all_of, room_beside, IsChunk, IsSpare};
-    ghost use Rattle.gw_chains.specs.Buckets.{members_of, total, AreBuckets};
+    ghost use Rattle.gw_chains.specs.Buckets.{members_of, AreCounted};
     ghost use Rattle.gw_chains.specs.declared.tx.Event.{Event};
 
     ghost Value = { Chain Event };
 
-    ghost invariant = { λ c. AreBuckets (λ (e : Event). e.time) (get c.links) (all_of c.chunks.items)
+    ghost invariant = { λ c.
+        AreCounted (λ (e : Event). e.time) (get c.links) (all_of c.chunks.items) c.scheduled
         × All IsChunk c.chunks.items
-        × All IsSpare c.spare.items
-        × (c.scheduled ≡ length (members_of (get c.links) (all_of c.chunks.items)))
-        × (c.scheduled ≡ total (all_of c.chunks.items))
-        × (c.scheduled ≤ 2 ^ 62) };
+        × All IsSpare c.spare.items };
 
     ghost view = { λ c. record {
       items = members_of (get c.links) (all_of c.chunks.items);

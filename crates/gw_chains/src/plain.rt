@@ -352,7 +352,8 @@ impl DelayList {
 
     /// The transaction to which the walk has come, if it is not at the end.
     pub fn current(&self) -> Option<Tx>
-        ensures value { result ≡ option_map (λ m. m.tx) (slice_get self.now.members self.now.place) }
+        ensures value { result
+            ≡ option_map (λ m. m.tx) (slice_get self.now.members self.now.place) }
         ensures there { IsSome result ↔ (self.now.place < length self.now.members) }
     {
         if self.passed == self.ring.len() {

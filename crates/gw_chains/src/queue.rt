@@ -46,7 +46,8 @@ pub fn join_behind(queue: &mut VecDeque<Member>, tx: Tx, priority: i32)
 fn place_behind(queue: &VecDeque<Member>, priority: i32) -> usize
     requires { IsByPriority (λ m. m.priority) queue.now.items }
     ensures within { result ≤ deque_len queue.now }
-    ensures place { IsPartitionPoint (λ m. int_le priority m.priority ≡ true) (λ m. int_le priority m.priority ≡ false) queue.now.items result }
+    ensures place { IsPartitionPoint (λ m. int_le priority m.priority ≡ true)
+        (λ m. int_le priority m.priority ≡ false) queue.now.items result }
 {
     if let Some(last) = queue.back() {
         if priority <= last.priority {

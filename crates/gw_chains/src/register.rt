@@ -19,62 +19,56 @@ pub struct Entry {
     pub older: Option<usize>,
 }
 
+/// What an assembly is found by.
+#[derive(Clone, Copy, Debug)]
+pub struct Key {
+    /// The block at which it waits.
+    pub block: u16,
+    /// The number of its set.
+    pub set: u64,
+}
+
 /// The bucket of a set at a block, where there are so many.
-fn bucket_of(buckets: usize, block: u16, set: u64) -> usize
+fn bucket_of(buckets: usize, key: Key) -> usize
     requires { 0 < buckets }
-    ensures value { result ≡ bucket_of buckets block set }
+    ensures value { result ≡ bucket_of buckets key.block key.set }
     ensures within { result < buckets }
 {
-    let key = set.wrapping_add(block as u64 * (1 << 40));
-    let mixed = key.wrapping_mul(11_400_714_819_323_198_485);
+    let sum = key.set.wrapping_add(key.block as u64 * (1 << 40));
+    let mixed = sum.wrapping_mul(11_400_714_819_323_198_485);
     ((mixed >> 20) % buckets as u64) as usize
 }
 
 impl Entry {
     /// Whether it stands, and is that of a set at a block.
-    fn is_of(&self, block: u16, set: u64) -> bool
-        ensures { result ≡ is_entry_of block set self.now }
+    fn is_of(&self, key: Key) -> bool
+        ensures { result ≡ is_entry_of key.block key.set self.now }
     {
-        self.stands && self.assembly.block == block && self.assembly.set == set
+        self.stands && self.assembly.block == key.block && self.assembly.set == key.set
     }
 }
 
 /// A place, where the entry there is that of a set at a block, else the place that was found among newer ones.
-fn older_found(
-    entry: &Entry,
-    place: usize,
-    found: Option<usize>,
-    block: u16,
-    set: u64,
-) -> Option<usize>
-    ensures { result ≡ (if is_entry_of block set entry.now then Some place else found) }
+fn older_found(entry: &Entry, place: usize, found: Option<usize>, key: Key) -> Option<usize>
+    ensures { result ≡ (if is_entry_of key.block key.set entry.now then Some place else found) }
 {
-    if entry.is_of(block, set) {
-        Some(place)
-    } else {
-        found
-    }
+    if entry.is_of(key) { Some(place) } else { found }
 }
 
 /// The place of the first entry that stands of a set at a block, if there is one.
-pub(crate) fn place_of(
-    entries: &[Entry],
-    buckets: &[Option<usize>],
-    block: u16,
-    set: u64,
-) -> Option<usize>
+pub(crate) fn place_of(entries: &[Entry], buckets: &[Option<usize>], key: Key) -> Option<usize>
     requires filed { AreFiled entries.now buckets.now (length entries.now) }
     requires some { 0 < length entries.now → 0 < length buckets.now }
-    ensures { result ≡ position (is_entry_of block set) entries.now }
+    ensures { result ≡ position (is_entry_of key.block key.set) entries.now }
 {
     if buckets.is_empty() {
         return None;
     }
-    let mut at = buckets[bucket_of(buckets.len(), block, set)];
+    let mut at = buckets[bucket_of(buckets.len(), key)];
     let mut found = None;
     while let Some(place) = at {
         let entry = &entries[place];
-        found = older_found(entry, place, found, block, set);
+        found = older_found(entry, place, found, key);
         at = entry.older;
     }
     found
@@ -91,7 +85,11 @@ pub(crate) fn file(entries: &mut [Entry], buckets: &mut [Option<usize>], place: 
         × (length buckets.new ≡ length buckets.old) }
 {
     let assembly = entries[place].assembly;
-    let bucket = bucket_of(buckets.len(), assembly.block, assembly.set);
+    let key = Key {
+        block: assembly.block,
+        set: assembly.set,
+    };
+    let bucket = bucket_of(buckets.len(), key);
     entries[place].older = buckets[bucket];
     buckets[bucket] = Some(place);
 }
@@ -182,32 +180,27 @@ pub(crate) fn add(entries: &mut Vec<Entry>, buckets: &mut [Option<usize>], assem
 }
 
 /// The assembly of a set at a block, if one stands.
-pub(crate) fn find(
-    entries: &[Entry],
-    buckets: &[Option<usize>],
-    block: u16,
-    set: u64,
-) -> Option<Assembly>
+pub(crate) fn find(entries: &[Entry], buckets: &[Option<usize>], key: Key) -> Option<Assembly>
     requires filed { AreFiled entries.now buckets.now (length entries.now) }
     requires some { 0 < length entries.now → 0 < length buckets.now }
-    ensures { result ≡ find (is_of block set) (standing entries.now) }
+    ensures { result ≡ find (is_of key.block key.set) (standing entries.now) }
 {
-    let place = place_of(entries, buckets, block, set)?;
+    let place = place_of(entries, buckets, key)?;
     Some(entries[place].assembly)
 }
 
 /// One fewer is missing from the assembly of a set at a block, if one stands.
-pub(crate) fn count_down(entries: &mut [Entry], buckets: &[Option<usize>], block: u16, set: u64)
+pub(crate) fn count_down(entries: &mut [Entry], buckets: &[Option<usize>], key: Key)
     requires filed { AreFiled entries.old buckets.now (length entries.old) }
     requires some { 0 < length entries.old → 0 < length buckets.now }
     ensures standing { standing entries.new
-        ≡ with_first_changed (is_of block set) (λ a. record a { missing = a.missing - 1 })
-        (standing entries.old) }
+        ≡ with_first_changed (is_of key.block key.set)
+        (λ a. record a { missing = a.missing - 1 }) (standing entries.old) }
     ensures count { length (standing entries.new) ≡ length (standing entries.old) }
     ensures filed { AreFiled entries.new buckets.now (length entries.new) }
     ensures len { length entries.new ≡ length entries.old }
 {
-    if let Some(place) = place_of(entries, buckets, block, set) {
+    if let Some(place) = place_of(entries, buckets, key) {
         let missing = entries[place].assembly.missing;
         entries[place].assembly.missing = missing.saturating_sub(1);
     }
@@ -217,20 +210,19 @@ pub(crate) fn count_down(entries: &mut [Entry], buckets: &[Option<usize>], block
 pub(crate) fn strike_out(
     entries: &mut [Entry],
     buckets: &[Option<usize>],
-    block: u16,
-    set: u64,
+    key: Key,
 ) -> Option<Assembly>
     requires filed { AreFiled entries.old buckets.now (length entries.old) }
     requires some { 0 < length entries.old → 0 < length buckets.now }
-    ensures value { result ≡ find (is_of block set) (standing entries.old) }
+    ensures value { result ≡ find (is_of key.block key.set) (standing entries.old) }
     ensures standing { standing entries.new
-        ≡ without_first (is_of block set) (standing entries.old) }
+        ≡ without_first (is_of key.block key.set) (standing entries.old) }
     ensures count { length (standing entries.new) + length (option_to_list result)
         ≡ length (standing entries.old) }
     ensures filed { AreFiled entries.new buckets.now (length entries.new) }
     ensures len { length entries.new ≡ length entries.old }
 {
-    let place = place_of(entries, buckets, block, set)?;
+    let place = place_of(entries, buckets, key)?;
     let assembly = entries[place].assembly;
     entries[place].stands = false;
     Some(assembly)

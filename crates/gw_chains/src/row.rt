@@ -1,14 +1,16 @@
 //! Members in buckets that stand in one row: where few ranks occur.
 
-ghost use Rattle.std.specs.Prelude.{◌≡◌, ◌≤◌, ◌<◌, ◌+◌, ◌-◌, ◌^◌, ℕ, AllPairs, Some, IfSome, length, option_to_list, int_lt, slice_get, remove};
+ghost use Rattle.std.specs.Prelude.{◌≡◌, ◌≤◌, ◌<◌, ◌+◌, ◌-◌, ◌^◌, ℕ, AllPairs, Some, IfSome, length, option_to_list, slice_get, remove};
 ghost use Rattle.std.specs.VecDeque.{deque_len, deque_capacity};
-ghost use Rattle.slab.specs.Slab.{get, slab_len, ContainsKey, HasRoomFor};
-ghost use Rattle.gw_chains.specs.Chain.{in_time, placed_behind, first, rest};
-ghost use Rattle.gw_chains.specs.Buckets.{members_of, total, bucket_of_one, without_first_link, below, IsHead, head_host, headed_by, with_head, Before, AreBuckets};
+ghost use Rattle.slab.specs.Slab.{get, ContainsKey, HasRoomFor};
+ghost use Rattle.gw_chains.specs.Chain.{first};
+ghost use Rattle.gw_chains.specs.Buckets.{members_of, total, upto, lower, bucket_of_one, without_first_link, below, IsHead, head_host, headed_by, with_head, Before, AreBuckets, GainMember, LoseFirst};
+ghost use Rattle.gw_chains.specs.Queues.{GrowsByOneAtMost, DoesNotGrow};
+ghost use Rattle.gw_chains.specs.Slots.{TakesOneSlot, TakesNoSlot, KeepsSlots};
 ghost use Rattle.gw_chains.specs.Spots.{count_at, place_at, link_at, IsSpot, led_past, without_one, without_link};
 
 use crate::bucket::{Bucket, Link, Ranked};
-use crate::buckets::{bucket_of_one, link_behind};
+use crate::buckets::{bucket_of_one, link_behind, shorter};
 use crate::chunks::{join, replace_front};
 use crate::queue::insert_reserved;
 use crate::spot::{Spot, link_at, spot_of};
@@ -25,14 +27,10 @@ pub(crate) fn insert_behind<T: Ranked>(
     requires few { total row.old.items < 2 ^ 62 }
     requires room { deque_len row.old < deque_capacity row.old }
     requires links { HasRoomFor links.old 1 }
-    ensures members { members_of (get links.new) row.new.items
-        ≡ in_time T.rank member (members_of (get links.old) row.old.items) }
-    ensures buckets { AreBuckets T.rank (get links.new) row.new.items }
-    ensures total { total row.new.items ≡ total row.old.items + 1 }
-    ensures room { (deque_len row.new ≤ deque_len row.old + 1)
-        × (deque_capacity row.old ≤ deque_capacity row.new) }
-    ensures links { (slab_len links.new ≡ slab_len links.old + 1)
-        × (links.new.capacity ≡ links.old.capacity) }
+    ensures gain { GainMember T.rank (upto T.rank member) member
+        (get links.old) row.old.items (get links.new) row.new.items }
+    ensures room { GrowsByOneAtMost row.old row.new }
+    ensures links { TakesOneSlot links.old links.new }
 {
     let link = links.insert_reserved(Link { member, next: 0 });
     let host = join(row, bucket_of_one(member, link));
@@ -90,8 +88,7 @@ fn put_ahead(row: &mut VecDeque<Bucket>, place: usize, host: Option<Bucket>, new
     requires host { host ≡ head_host newcomer row.old.items }
     requires room { deque_len row.old < deque_capacity row.old }
     ensures items { row.new.items ≡ with_head newcomer row.old.items }
-    ensures room { (deque_len row.new ≤ deque_len row.old + 1)
-        × (deque_capacity row.old ≤ deque_capacity row.new) }
+    ensures room { GrowsByOneAtMost row.old row.new }
 {
     match host {
         Some(bucket) => {
@@ -121,15 +118,10 @@ pub(crate) fn insert_ahead<T: Ranked>(
     requires few { total row.old.items < 2 ^ 62 }
     requires room { deque_len row.old < deque_capacity row.old }
     requires links { HasRoomFor links.old 1 }
-    ensures members { members_of (get links.new) row.new.items
-        ≡ placed_behind (λ x. int_lt (T.rank x) (T.rank member)) member
-        (members_of (get links.old) row.old.items) }
-    ensures buckets { AreBuckets T.rank (get links.new) row.new.items }
-    ensures total { total row.new.items ≡ total row.old.items + 1 }
-    ensures room { (deque_len row.new ≤ deque_len row.old + 1)
-        × (deque_capacity row.old ≤ deque_capacity row.new) }
-    ensures links { (slab_len links.new ≡ slab_len links.old + 1)
-        × (links.new.capacity ≡ links.old.capacity) }
+    ensures gain { GainMember T.rank (lower T.rank member) member
+        (get links.old) row.old.items (get links.new) row.new.items }
+    ensures room { GrowsByOneAtMost row.old row.new }
+    ensures links { TakesOneSlot links.old links.new }
 {
     let sought = bucket_of_one(member, 0);
     let place = place_ahead(row, sought);
@@ -153,16 +145,10 @@ fn front(row: &VecDeque<Bucket>) -> Option<Bucket>
 fn shorten(row: &mut VecDeque<Bucket>, bucket: Bucket, next: usize)
     requires { Some bucket ≡ first row.old.items }
     ensures items { row.new.items ≡ without_first_link next row.old.items }
-    ensures room { (deque_len row.new ≤ deque_len row.old)
-        × (deque_capacity row.new ≡ deque_capacity row.old) }
+    ensures room { DoesNotGrow row.old row.new }
 {
     if 1 < bucket.count {
-        let shorter = Bucket {
-            first: next,
-            count: bucket.count - 1,
-            ..bucket
-        };
-        replace_front(row, shorter);
+        replace_front(row, shorter(bucket, next));
     } else {
         let _ = row.pop_front();
     }
@@ -174,15 +160,11 @@ pub(crate) fn pop_member<T: Ranked>(
     links: &mut Slab<Link<T>>,
 ) -> Option<T>
     requires { AreBuckets T.rank (get links.old) row.old.items }
-    ensures first { result ≡ first (members_of (get links.old) row.old.items) }
-    ensures rest { members_of (get links.new) row.new.items
-        ≡ rest (members_of (get links.old) row.old.items) }
-    ensures buckets { AreBuckets T.rank (get links.new) row.new.items }
+    ensures first { LoseFirst T.rank result
+        (get links.old) row.old.items (get links.new) row.new.items }
     ensures total { total row.new.items + length (option_to_list result) ≡ total row.old.items }
-    ensures room { (deque_len row.new ≤ deque_len row.old)
-        × (deque_capacity row.new ≡ deque_capacity row.old) }
-    ensures links { (slab_len links.new ≤ slab_len links.old)
-        × (links.new.capacity ≡ links.old.capacity) }
+    ensures room { DoesNotGrow row.old row.new }
+    ensures links { TakesNoSlot links.old links.new }
 {
     let bucket = front(row)?;
     let link = links.remove(bucket.first);
@@ -194,8 +176,7 @@ pub(crate) fn pop_member<T: Ranked>(
 fn lead_past<T: Ranked>(links: &mut Slab<Link<T>>, spot: Spot, next: usize)
     requires { 0 < spot.passed → ContainsKey links.old spot.before }
     ensures links { (k : ℕ) → get links.new k ≡ led_past (get links.old) spot next k }
-    ensures room { (slab_len links.new ≡ slab_len links.old)
-        × (links.new.capacity ≡ links.old.capacity) }
+    ensures room { KeepsSlots links.old links.new }
 {
     if 0 < spot.passed {
         links[spot.before].next = next;
@@ -223,8 +204,7 @@ fn without_one(bucket: Bucket, spot: Spot, next: usize) -> Bucket
 fn shorten_at(row: &mut VecDeque<Bucket>, spot: Spot, next: usize)
     requires { spot.passed < count_at row.old.items spot.bucket }
     ensures items { row.new.items ≡ without_link spot next row.old.items spot.bucket }
-    ensures room { (deque_len row.new ≤ deque_len row.old)
-        × (deque_capacity row.new ≡ deque_capacity row.old) }
+    ensures room { DoesNotGrow row.old row.new }
 {
     let bucket = row[spot.bucket];
     if 1 < bucket.count {
@@ -255,10 +235,8 @@ pub(crate) fn unlink<T: Ranked>(
     ensures spot { IsSpot (get links.new) row.new.items spot }
     ensures place { place_at row.new.items spot.bucket spot.passed
         ≡ place_at row.old.items spot.bucket spot.passed }
-    ensures room { (deque_len row.new ≤ deque_len row.old)
-        × (deque_capacity row.new ≡ deque_capacity row.old) }
-    ensures links { (slab_len links.new ≤ slab_len links.old)
-        × (links.new.capacity ≡ links.old.capacity) }
+    ensures room { DoesNotGrow row.old row.new }
+    ensures links { TakesNoSlot links.old links.new }
 {
     let link = links.remove(here);
     lead_past(links, spot, link.next);
@@ -278,10 +256,8 @@ pub(crate) fn remove_member<T: Ranked>(
         ≡ remove (members_of (get links.old) row.old.items) place }
     ensures buckets { AreBuckets T.rank (get links.new) row.new.items }
     ensures total { total row.new.items + 1 ≡ total row.old.items }
-    ensures room { (deque_len row.new ≤ deque_len row.old)
-        × (deque_capacity row.new ≡ deque_capacity row.old) }
-    ensures links { (slab_len links.new ≤ slab_len links.old)
-        × (links.new.capacity ≡ links.old.capacity) }
+    ensures room { DoesNotGrow row.old row.new }
+    ensures links { TakesNoSlot links.old links.new }
 {
     if place == 0 {
         let _ = pop_member(row, links);

@@ -103,8 +103,10 @@ fn is_earlier(one: Event, other: Event) -> bool
 fn count_passed(settled: &VecDeque<Event>, unseen: usize, event: Event) -> usize
     requires { unseen ≤ deque_len settled.now }
     ensures bound { result ≤ unseen }
-    ensures passed { All (λ (e : DeclaredEvent). e.time ≤ℤ event.time) (take result settled.now.items) }
-    ensures next { (d : DeclaredEvent) → result < unseen → event.time <ℤ (slice_index_or settled.now.items result d).time }
+    ensures passed { All (λ (e : DeclaredEvent). e.time ≤ℤ event.time)
+        (take result settled.now.items) }
+    ensures next { (d : DeclaredEvent) → result < unseen
+        → event.time <ℤ (slice_index_or settled.now.items result d).time }
 {
     for i in 0..unseen {
         if is_earlier(event, settled[i]) {
@@ -154,7 +156,8 @@ pub(crate) fn insert(settled: &mut VecDeque<Event>, recent: &mut VecDeque<Event>
     requires ordered { IsInTime (λ e. e.time) recent.old.items }
     requires room { many_in settled.old recent.old < deque_capacity settled.old }
     requires run { most_recent ≤ deque_capacity recent.old }
-    ensures items { events_in settled.new recent.new ≡ with_event event (events_in settled.old recent.old) }
+    ensures items { events_in settled.new recent.new
+        ≡ with_event event (events_in settled.old recent.old) }
     ensures ordered { IsInTime (λ e. e.time) recent.new.items }
     ensures len { many_in settled.new recent.new ≡ many_in settled.old recent.old + 1 }
     ensures capacity { (deque_capacity settled.new ≡ deque_capacity settled.old)

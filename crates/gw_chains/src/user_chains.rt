@@ -4,6 +4,8 @@ ghost use Rattle.std.specs.Prelude.{◌≡◌, ◌≤◌, ◌<◌, ◌+◌, ◌^
 ghost use Rattle.gw_num.specs.Table.{at};
 ghost use Rattle.gw_chains.specs.Chain.{first, rest};
 ghost use Rattle.gw_chains.specs.Lists.{changed, LosesRoom};
+ghost use Rattle.gw_chains.specs.Ends.{with_one_at};
+ghost use Rattle.std.specs.VecDeque.{deque_len, deque_capacity};
 
 use crate::tx::MOST;
 use crate::{Memory, Tx};
@@ -64,7 +66,8 @@ impl UserChains {
         ensures lists { self.new.lists ≡ self.old.lists }
         ensures room { OnOk result (EachIndex self.new.lists (λ c. more ≤ at 0 self.new.rooms c)) }
         ensures kept { LosesRoom 0 self.old.rooms self.new.rooms }
-        ensures refused { OnErr result (SomeIndex self.old.lists (λ c. at 0 self.old.rooms c < more)) }
+        ensures refused { OnErr result
+            (SomeIndex self.old.lists (λ c. at 0 self.old.rooms c < more)) }
     {
         for c in 0..self.chains.len() {
             self.reserve_at(c, more)?;
@@ -94,8 +97,7 @@ impl UserChains {
         ensures count { length self.new.lists ≡ length self.old.lists }
         ensures room { LosesRoom 1 self.old.rooms self.new.rooms }
     {
-        self.chains[chain as usize].push_front_reserved(tx);
-        self.linked += 1;
+        self.push_at(chain, End::Front, tx);
     }
 
     /// Puts it at the back of this chain. There is room.
@@ -106,7 +108,18 @@ impl UserChains {
         ensures count { length self.new.lists ≡ length self.old.lists }
         ensures room { LosesRoom 1 self.old.rooms self.new.rooms }
     {
-        self.chains[chain as usize].push_back_reserved(tx);
+        self.push_at(chain, End::Back, tx);
+    }
+
+    /// Puts it at an end of this chain. There is room.
+    fn push_at(&mut self, chain: u16, end: End, tx: Tx)
+        requires there { chain < length self.old.lists }
+        requires room { 0 < at 0 self.old.rooms chain }
+        ensures lists { self.new.lists ≡ changed chain (with_one_at end tx) self.old.lists }
+        ensures count { length self.new.lists ≡ length self.old.lists }
+        ensures room { LosesRoom 1 self.old.rooms self.new.rooms }
+    {
+        put_at(&mut self.chains[chain as usize], end, tx);
         self.linked += 1;
     }
 
@@ -137,5 +150,27 @@ impl UserChains {
         ensures { result ≡ sum_by length self.now.lists }
     {
         self.linked
+    }
+}
+
+/// An end of a chain.
+#[derive(Clone, Copy, Debug)]
+pub enum End {
+    /// Where the first is.
+    Front,
+    /// Where the last is.
+    Back,
+}
+
+/// Puts it at an end of a queue. There is room.
+fn put_at(queue: &mut VecDeque<Tx>, end: End, tx: Tx)
+    requires { deque_len queue.old < deque_capacity queue.old }
+    ensures items { queue.new.items ≡ with_one_at end tx queue.old.items }
+    ensures len { deque_len queue.new ≡ deque_len queue.old + 1 }
+    ensures capacity { deque_capacity queue.new ≡ deque_capacity queue.old }
+{
+    match end {
+        End::Front => queue.push_front_reserved(tx),
+        End::Back => queue.push_back_reserved(tx),
     }
 }

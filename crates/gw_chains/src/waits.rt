@@ -114,7 +114,8 @@ impl Waits {
     fn reserve_at(&mut self, e: usize, more: usize) -> Result<(), Memory>
         requires { e < length self.old.lists }
         ensures lists { self.new.lists ≡ self.old.lists }
-        ensures retry { (self.new.retry ≡ self.old.retry) × (self.new.retry_room ≡ self.old.retry_room) }
+        ensures retry { self.new.retry ≡ self.old.retry }
+        ensures retry_room { self.new.retry_room ≡ self.old.retry_room }
         ensures room { OnOk result (more ≤ at 0 self.new.rooms e) }
         ensures kept { LosesRoom 0 self.old.rooms self.new.rooms }
         ensures refused { OnErr result (at 0 self.old.rooms e < more) }
@@ -191,7 +192,8 @@ impl Waits {
         requires { entity < length self.now.lists }
         ensures value { let delay_list = at [] self.now.lists entity in
             result ≡ option_map (λ m. m.tx) (slice_get delay_list (at 0 self.now.places entity)) }
-        ensures there { IsSome result ↔ (at 0 self.now.places entity < length (at [] self.now.lists entity)) }
+        ensures there { IsSome result
+            ↔ (at 0 self.now.places entity < length (at [] self.now.lists entity)) }
     {
         self.delay_lists[entity as usize].current()
     }

@@ -1,9 +1,9 @@
 use Rattle.std.proofs.Common.{◌≡◌, ◌∙◌, ap, sym}
 use Rattle.slab.specs.Slab.{get}
 use Rattle.gw_chains.specs.Newcomers.{host, with_newcomer}
-use Rattle.gw_chains.specs.Buckets.{bucket_of_one, linked_behind}
+use Rattle.gw_chains.specs.Buckets.{bucket_of_one, linked_behind, upto, GainMember}
 use Rattle.gw_chains.proofs.Linking.{goes, unite}
-use Rattle.gw_chains.proofs.Joining.{parted_by_rank, host_is_last, host_there, Inserted, inserted}
+use Rattle.gw_chains.proofs.Joining.{parted_by_rank, host_is_last, host_there, gains_behind}
 use Rattle.gw_chains.proofs.row.insert_behind.Goals as goal
 
 pub join-host-requires-clause-order : goal.join-host-requires-clause-order
@@ -17,20 +17,14 @@ link_behind-requires g c =
     host_there g.T.Ranked.rank (get c.args.links.now) (get c.insert_reserved-link.new.self) c.bucket_of_one.result c.args.row.now.items c.insert_reserved-link.result c.insert_reserved-link.ensures.was_vacant c.insert_reserved-link.ensures.updates.others c.requires.buckets c.join-host.result (sym c.join-host.ensures.host)
 
 -- what became of the buckets
-abbrev done : (g : _) (c : goal.After-link_behind g) → Inserted g.T.Ranked.rank (get c.args.links.now) (get c.link_behind.new.links) c.args.member c.args.row.now.items (with_newcomer goes unite (bucket_of_one g.T.Ranked.rank c.args.member c.insert_reserved-link.result) c.args.row.now.items)
+abbrev done : (g : _) (c : goal.After-link_behind g) → GainMember g.T.Ranked.rank (upto g.T.Ranked.rank c.args.member) c.args.member (get c.args.links.now) c.args.row.now.items (get c.link_behind.new.links) (with_newcomer goes unite (bucket_of_one g.T.Ranked.rank c.args.member c.insert_reserved-link.result) c.args.row.now.items)
 done g c =
-    inserted g.T.Ranked.rank (get c.args.links.now) (get c.insert_reserved-link.new.self) (get c.link_behind.new.links) c.args.member c.insert_reserved-link.result 0 c.insert_reserved-link.ensures.was_vacant c.insert_reserved-link.ensures.updates.changed c.insert_reserved-link.ensures.updates.others c.args.row.now.items c.requires.buckets c.requires.few
+    gains_behind g.T.Ranked.rank (get c.args.links.now) (get c.insert_reserved-link.new.self) (get c.link_behind.new.links) c.args.member c.insert_reserved-link.result 0 c.insert_reserved-link.ensures.was_vacant c.insert_reserved-link.ensures.updates.changed c.insert_reserved-link.ensures.updates.others c.args.row.now.items c.requires.buckets c.requires.few
     (λ k. c.link_behind.ensures.links k ∙ ap (λ h. linked_behind h c.insert_reserved-link.result (get c.insert_reserved-link.new.self) k) (c.join-host.ensures.host ∙ ap (λ n. host goes n c.args.row.now.items) c.bucket_of_one.ensures))
 
 -- the buckets, as the newcomer found them
 abbrev after : (g : _) (c : goal.After-link_behind g) → c.join-host.new.chunk.items ≡ with_newcomer goes unite (bucket_of_one g.T.Ranked.rank c.args.member c.insert_reserved-link.result) c.args.row.now.items
 after g c = c.join-host.ensures.items ∙ ap (λ n. with_newcomer goes unite n c.args.row.now.items) c.bucket_of_one.ensures
 
-pub returns-clause-members : goal.returns-clause-members
-returns-clause-members g c = rw (after g c) (done g c).members
-
-pub returns-clause-buckets : goal.returns-clause-buckets
-returns-clause-buckets g c = rw (after g c) (done g c).buckets
-
-pub returns-clause-total : goal.returns-clause-total
-returns-clause-total g c = rw (after g c) (done g c).many
+pub returns-clause-gain : goal.returns-clause-gain
+returns-clause-gain g c = rw (after g c) (done g c)

@@ -1,22 +1,13 @@
 use Rattle.std.proofs.Common.{sym, ◌∙◌}
 use Rattle.slab.specs.Slab.{get}
-use Rattle.gw_chains.specs.Buckets.{without_first_link}
-use Rattle.gw_chains.proofs.Leaving.{first_leads, Left, left}
+use Rattle.gw_chains.proofs.Leaving.{first_leads, left}
 use Rattle.gw_chains.proofs.row.pop_member.Goals as goal
 
 pub remove-link-requires : goal.remove-link-requires
 remove-link-requires g c = first_leads g.T.Ranked.rank (get c.args.links.now) c.args.row.now.items c.in_ok-bucket.bucket (sym c.in_ok-bucket.was ∙ c.front.ensures) c.requires
 
--- what is left
-abbrev done : (g : _) (c : goal.After-shorten g) → Left g.T.Ranked.rank (get c.args.links.now) (get c.remove-link.new.self) c.remove-link.result c.args.row.now.items (without_first_link c.remove-link.result.next c.args.row.now.items)
-done g c =
-    left g.T.Ranked.rank (get c.args.links.now) (get c.remove-link.new.self) c.remove-link.result c.args.row.now.items c.in_ok-bucket.bucket (sym c.in_ok-bucket.was ∙ c.front.ensures) c.remove-link.ensures.value c.remove-link.ensures.updates.changed c.remove-link.ensures.updates.others c.requires
-
+-- the first has left
 pub returns-clause-first : goal.returns-clause-first
-returns-clause-first g c = sym (done g c).first
-
-pub returns-clause-rest : goal.returns-clause-rest
-returns-clause-rest g c = rw c.shorten.ensures.items (done g c).rest
-
-pub returns-clause-buckets : goal.returns-clause-buckets
-returns-clause-buckets g c = rw c.shorten.ensures.items (done g c).buckets
+returns-clause-first g c =
+    rw c.shorten.ensures.items
+    (left g.T.Ranked.rank (get c.args.links.now) (get c.remove-link.new.self) c.remove-link.result c.args.row.now.items c.in_ok-bucket.bucket (sym c.in_ok-bucket.was ∙ c.front.ensures) c.remove-link.ensures.value c.remove-link.ensures.updates.changed c.remove-link.ensures.updates.others c.requires)

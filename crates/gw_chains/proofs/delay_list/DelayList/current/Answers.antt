@@ -14,8 +14,8 @@ use Rattle.gw_chains.proofs.delay_list.DelayList.current.Goals as goal
 -- the walk is at the end
 past : (c : Then-self-eq0) → length (members_of (get c.self.inside.links) c.self.inside.buckets.items) ≤ place_at c.self.inside.buckets.items c.self.inside.walk.spot.bucket c.self.inside.walk.spot.passed
 past c =
-    let ended = walk_ended (get c.self.inside.links) c.self.inside.buckets.items c.self.inside.walk c.self.invariant.4 (omega (arith, c.if-self-eq0.true)) in
-    omega (arith, ended, c.self.invariant.1, c.self.invariant.2)
+    let ended = walk_ended (get c.self.inside.links) c.self.inside.buckets.items c.self.inside.walk c.self.invariant.1 (omega (arith, c.if-self-eq0.true)) in
+    omega (arith, ended, c.self.invariant.0.1, c.self.invariant.0.2)
 
 pub returns-then-self-eq0-clause-value : goal.returns-then-self-eq0-clause-value
 returns-then-self-eq0-clause-value c =
@@ -27,21 +27,21 @@ returns-then-self-eq0-clause-there c = rw (← c.self.view_is) (λ clash. absurd
 
 pub index-requires : goal.index-requires
 index-requires c =
-    let walk = c.self.invariant.4 in
+    let walk = c.self.invariant.1 in
     subst (λ k. IsSome (get c.self.inside.links k)) (sym (walk.here (omega (arith, c.if-self-eq0.false))))
-    (link_there (λ (m : Member). neg_ℤ m.priority) (get c.self.inside.links) c.self.inside.buckets.items c.self.inside.walk.spot.bucket c.self.inside.walk.spot.passed c.self.invariant.0 (omega (arith, walk.left, c.if-self-eq0.false)))
+    (link_there (λ (m : Member). neg_ℤ m.priority) (get c.self.inside.links) c.self.inside.buckets.items c.self.inside.walk.spot.bucket c.self.inside.walk.spot.passed c.self.invariant.0.0 (omega (arith, walk.left, c.if-self-eq0.false)))
 
 pub returns-clause-value : goal.returns-clause-value
 returns-clause-value c =
-    let walk = c.self.invariant.4 in
-    let stands = stands_there (λ (m : Member). neg_ℤ m.priority) (get c.self.inside.links) c.self.inside.buckets.items c.self.inside.walk.spot c.index.result.now c.self.invariant.0 (omega (arith, walk.left, c.if-self-eq0.false))
+    let walk = c.self.invariant.1 in
+    let stands = stands_there (λ (m : Member). neg_ℤ m.priority) (get c.self.inside.links) c.self.inside.buckets.items c.self.inside.walk.spot c.index.result.now c.self.invariant.0.0 (omega (arith, walk.left, c.if-self-eq0.false))
     (ap (get c.self.inside.links) (sym (walk.here (omega (arith, c.if-self-eq0.false)))) ∙ c.index.ensures) in
     rw (← c.self.view_is) (sym (ap (option_map (λ (m : Member). m.tx)) stands))
 
 pub returns-clause-there : goal.returns-clause-there
 returns-clause-there c =
     let bs = c.self.inside.buckets.items in
-    let walk = c.self.invariant.4 in
+    let walk = c.self.invariant.1 in
     let inside = place_inside bs c.self.inside.walk.spot.bucket c.self.inside.walk.spot.passed (omega (arith, walk.left, c.if-self-eq0.false)) in
-    let before : place_at bs c.self.inside.walk.spot.bucket c.self.inside.walk.spot.passed < length (members_of (get c.self.inside.links) bs) = omega (arith, inside, c.self.invariant.1, c.self.invariant.2) in
+    let before : place_at bs c.self.inside.walk.spot.bucket c.self.inside.walk.spot.passed < length (members_of (get c.self.inside.links) bs) = omega (arith, inside, c.self.invariant.0.1, c.self.invariant.0.2) in
     rw (← c.self.view_is) (λ is. before, λ here. refl)

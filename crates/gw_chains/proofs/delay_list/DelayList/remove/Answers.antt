@@ -6,25 +6,22 @@ use Rattle.gw_chains.specs.Lists.{Walked}
 use Rattle.gw_chains.specs.declared.tx.Member.{Member}
 use Rattle.gw_chains.proofs.Spotting.{filled, place_start}
 use Rattle.gw_chains.proofs.Walking.{walk_begun}
+use Rattle.gw_chains.proofs.Counting.{counted_fewer}
 use Rattle.gw_chains.proofs.delay_list.DelayList.remove.Goals as goal
 
 pub remove_member-requires-clause-there : goal.remove_member-requires-clause-there
 remove_member-requires-clause-there c =
     let asked = rw (← c.self.view_is) at c.requires in
-    omega (arith, asked, c.self.invariant.1, c.self.invariant.2)
+    omega (arith, asked, c.self.invariant.0.1, c.self.invariant.0.2)
 
 pub overflow_sub-self : goal.overflow_sub-self
-overflow_sub-self c = omega (arith, c.remove_member.ensures.total, c.self.invariant.2)
+overflow_sub-self c = omega (arith, c.remove_member.ensures.total, c.self.invariant.0.2)
 
 pub invariant_of-self : goal.invariant_of-self
 invariant_of-self c =
     let asked = rw (← c.self.view_is) at c.requires in
-    let fewer = length-remove (members_of (get c.self.inside.links) c.self.inside.buckets.items) c.args.place asked in
     let bs = c.remove_member.new.row.items in (
-      c.remove_member.ensures.buckets,
-      omega (arith, ap length c.remove_member.ensures.members, fewer, c.self.invariant.1),
-      omega (arith, c.remove_member.ensures.total, c.self.invariant.2),
-      omega (arith, c.self.invariant.3),
+      counted_fewer (λ (m : Member). neg_ℤ m.priority) _ _ _ _ _ _ c.self.invariant.0 asked c.remove_member.ensures.members c.remove_member.ensures.buckets c.remove_member.ensures.total,
       walk_begun (get c.remove_member.new.links) bs c.walk_from-self-inside.result 0 (filled (λ (m : Member). neg_ℤ m.priority) (get c.remove_member.new.links) bs c.remove_member.ensures.buckets.each) c.walk_from-self-inside.ensures.bucket
           c.walk_from-self-inside.ensures.passed c.walk_from-self-inside.ensures.here c.walk_from-self-inside.ensures.left,
     )

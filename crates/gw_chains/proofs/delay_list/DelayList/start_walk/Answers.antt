@@ -8,10 +8,7 @@ use Rattle.gw_chains.proofs.delay_list.DelayList.start_walk.Goals as goal
 pub invariant_of-self : goal.invariant_of-self
 invariant_of-self c = (
   c.self.invariant.0,
-  c.self.invariant.1,
-  c.self.invariant.2,
-  c.self.invariant.3,
-  walk_begun (get c.self.inside.links) c.self.inside.buckets.items c.walk_from-self-inside.result 0 (filled (λ (m : Member). neg_ℤ m.priority) (get c.self.inside.links) c.self.inside.buckets.items c.self.invariant.0.each)
+  walk_begun (get c.self.inside.links) c.self.inside.buckets.items c.walk_from-self-inside.result 0 (filled (λ (m : Member). neg_ℤ m.priority) (get c.self.inside.links) c.self.inside.buckets.items c.self.invariant.0.0.each)
       c.walk_from-self-inside.ensures.bucket c.walk_from-self-inside.ensures.passed c.walk_from-self-inside.ensures.here c.walk_from-self-inside.ensures.left,
 )
 

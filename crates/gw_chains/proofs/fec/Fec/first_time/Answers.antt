@@ -10,5 +10,5 @@ use Rattle.gw_chains.proofs.fec.Fec.first_time.Goals as goal
 pub returns : goal.returns
 returns c =
     c.first_rank.ensures
-    ∙ first_rank_of (λ (e : Event). e.time) (get c.self.inside.links) (all_of c.self.inside.chunks.items) c.self.invariant.0
+    ∙ first_rank_of (λ (e : Event). e.time) (get c.self.inside.links) (all_of c.self.inside.chunks.items) c.self.invariant.0.0
     ∙ ap (λ (v : Chain Event). option_map (λ (e : Event). e.time) (first v.items)) c.self.view_is

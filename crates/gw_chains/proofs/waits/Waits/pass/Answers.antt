@@ -1,33 +1,23 @@
 use Rattle.std.proofs.Common.{◌+◌, [], length, arith, ap, sym, ◌∙◌}
-use Rattle.std.specs.Prelude.{sum_by}
-use Rattle.gw_chains.specs.Lists.{Walked, room_of}
-use Rattle.gw_chains.proofs.Each.{stands, here, after, unchanged, loses}
+use Rattle.gw_chains.specs.Lists.{Walked}
+use Rattle.gw_chains.proofs.Each.{here}
+use Rattle.gw_chains.proofs.Waiting.{list_of, lists_kept, waiting_kept, place_shown, place_after, rooms_kept}
 use Rattle.gw_chains.proofs.waits.Waits.pass.Goals as goal
 
 pub pass-requires : goal.pass-requires
 pass-requires c =
-    let s = stands (λ (l : Walked). l.members) [] c.self.inside.delay_lists.items c.args.self.now.lists c.args.entity c.index_mut.result.now (ap (λ w. w.lists) c.self.view_is) c.requires.there c.index_mut.ensures.value in
-    let asked = rw (← c.self.view_is) at c.requires.place in
-    omega (arith, asked, here (λ (l : Walked). l.place) 0 c.self.inside.delay_lists.items c.args.entity c.index_mut.result.now s, ap length (here (λ (l : Walked). l.members) [] c.self.inside.delay_lists.items c.args.entity c.index_mut.result.now s))
+    let s = list_of _ _ _ _ (ap (λ w. w.lists) c.self.view_is) c.requires.there c.index_mut.ensures.value in
+    omega (arith, rw (← c.self.view_is) at c.requires.place, here (λ (l : Walked). l.place) 0 _ _ _ s, ap length (here (λ (l : Walked). l.members) [] _ _ _ s))
 
 pub invariant_of-self : goal.invariant_of-self
-invariant_of-self c =
-    let s = stands (λ (l : Walked). l.members) [] c.self.inside.delay_lists.items c.args.self.now.lists c.args.entity c.index_mut.result.now (ap (λ w. w.lists) c.self.view_is) c.requires.there c.index_mut.ensures.value in
-    (omega arith, c.self.invariant.1 ∙ ap (sum_by length) (sym (unchanged (λ (l : Walked). l.members) [] c.self.inside.delay_lists.items c.args.entity c.index_mut.result.now c.pass.new.self s c.pass.ensures.members)))
+invariant_of-self c = (omega arith, waiting_kept _ _ _ _ _ (ap (λ w. w.lists) c.self.view_is) c.requires.there c.index_mut.ensures.value c.pass.ensures.members _ c.self.invariant.1)
 
 pub returns-clause-lists : goal.returns-clause-lists
-returns-clause-lists c =
-    let s = stands (λ (l : Walked). l.members) [] c.self.inside.delay_lists.items c.args.self.now.lists c.args.entity c.index_mut.result.now (ap (λ w. w.lists) c.self.view_is) c.requires.there c.index_mut.ensures.value in
-    unchanged (λ (l : Walked). l.members) [] c.self.inside.delay_lists.items c.args.entity c.index_mut.result.now c.pass.new.self s c.pass.ensures.members ∙ ap (λ w. w.lists) c.self.view_is
+returns-clause-lists c = lists_kept _ _ _ _ _ (ap (λ w. w.lists) c.self.view_is) c.requires.there c.index_mut.ensures.value c.pass.ensures.members
 
 pub returns-clause-place : goal.returns-clause-place
 returns-clause-place c =
-    let s = stands (λ (l : Walked). l.members) [] c.self.inside.delay_lists.items c.args.self.now.lists c.args.entity c.index_mut.result.now (ap (λ w. w.lists) c.self.view_is) c.requires.there c.index_mut.ensures.value in
-    rw (← c.self.view_is)
-    (after (λ (l : Walked). l.place) 0 c.self.inside.delay_lists.items c.args.entity c.pass.new.self s.below ∙ c.pass.ensures.place ∙ ap (λ n. n + 1) (sym (here (λ (l : Walked). l.place) 0 c.self.inside.delay_lists.items c.args.entity c.index_mut.result.now s)))
+    place_after _ _ _ _ _ (ap (λ w. w.lists) c.self.view_is) c.requires.there c.index_mut.ensures.value ∙ c.pass.ensures.place ∙ ap (λ n. n + 1) (sym (place_shown _ _ _ _ c.pass.new.self (ap (λ w. w.lists) c.self.view_is) c.requires.there c.index_mut.ensures.value _ (ap (λ w. w.places) c.self.view_is)))
 
 pub returns-clause-room : goal.returns-clause-room
-returns-clause-room c =
-    let s = stands (λ (l : Walked). l.members) [] c.self.inside.delay_lists.items c.args.self.now.lists c.args.entity c.index_mut.result.now (ap (λ w. w.lists) c.self.view_is) c.requires.there c.index_mut.ensures.value in
-    rw (← c.self.view_is)
-    (loses (λ (l : Walked). room_of c.self.inside.waiting l.room) (λ (l : Walked). room_of c.self.inside.waiting l.room) 0 (λ y. omega arith) c.self.inside.delay_lists.items c.args.entity c.index_mut.result.now c.pass.new.self s (omega arith))
+returns-clause-room c = rooms_kept _ _ _ _ _ (ap (λ w. w.lists) c.self.view_is) c.requires.there c.index_mut.ensures.value _ _ (ap (λ w. w.rooms) c.self.view_is) c.pass.ensures.room

@@ -22,13 +22,13 @@ pub returns-in_err-reserve_at-clause-lists : goal.returns-in_err-reserve_at-clau
 returns-in_err-reserve_at-clause-lists c = c.reserve_at.ensures.lists ∙ c.loop-e.invariant.lists
 
 pub returns-in_err-reserve_at-clause-retry : goal.returns-in_err-reserve_at-clause-retry
-returns-in_err-reserve_at-clause-retry c = c.reserve_at.ensures.retry.0 ∙ c.loop-e.invariant.retry
+returns-in_err-reserve_at-clause-retry c = c.reserve_at.ensures.retry ∙ c.loop-e.invariant.retry
 
 pub returns-in_err-reserve_at-clause-kept : goal.returns-in_err-reserve_at-clause-kept
 returns-in_err-reserve_at-clause-kept c = λ k. omega (arith, c.loop-e.invariant.kept k, c.reserve_at.ensures.kept k)
 
 pub returns-in_err-reserve_at-clause-retry_kept : goal.returns-in_err-reserve_at-clause-retry_kept
-returns-in_err-reserve_at-clause-retry_kept c = omega (arith, c.loop-e.invariant.retry_kept, c.reserve_at.ensures.retry.1)
+returns-in_err-reserve_at-clause-retry_kept c = omega (arith, c.loop-e.invariant.retry_kept, c.reserve_at.ensures.retry_room)
 
 pub returns-in_err-reserve_at-clause-refused : goal.returns-in_err-reserve_at-clause-refused
 returns-in_err-reserve_at-clause-refused c =
@@ -38,10 +38,10 @@ returns-in_err-reserve_at-clause-refused c =
 pub loop-e-preserved : goal.loop-e-preserved
 loop-e-preserved c = record {
   lists = c.reserve_at.ensures.lists ∙ c.loop-e.invariant.lists;
-  retry = c.reserve_at.ensures.retry.0 ∙ c.loop-e.invariant.retry;
+  retry = c.reserve_at.ensures.retry ∙ c.loop-e.invariant.retry;
   kept = λ k. omega (arith, c.loop-e.invariant.kept k, c.reserve_at.ensures.kept k);
-  retry_kept = omega (arith, c.loop-e.invariant.retry_kept, c.reserve_at.ensures.retry.1);
-  retry_room = omega (arith, c.loop-e.invariant.retry_room, c.reserve_at.ensures.retry.1);
+  retry_kept = omega (arith, c.loop-e.invariant.retry_kept, c.reserve_at.ensures.retry_room);
+  retry_room = omega (arith, c.loop-e.invariant.retry_room, c.reserve_at.ensures.retry_room);
   room = each_more c.loop-e.e c.args.more c.loop-e.self.rooms c.reserve_at.new.self.rooms c.loop-e.invariant.room c.reserve_at.ensures.kept c.in_ok-reserve_at.ensures.room;
 }
 

@@ -1,26 +1,15 @@
-use Rattle.std.proofs.Common.{[], length, arith, ap, sym, ◌∙◌}
-use Rattle.std.specs.Prelude.{sum_by}
-use Rattle.gw_chains.specs.Lists.{Walked, room_of}
-use Rattle.gw_chains.proofs.Each.{stands, after, unchanged, loses}
+use Rattle.std.proofs.Common.{arith, ap, ◌∙◌}
+use Rattle.gw_chains.proofs.Waiting.{lists_kept, waiting_kept, place_after, rooms_kept}
 use Rattle.gw_chains.proofs.waits.Waits.start_walk.Goals as goal
 
 pub invariant_of-self : goal.invariant_of-self
-invariant_of-self c =
-    let s = stands (λ (l : Walked). l.members) [] c.self.inside.delay_lists.items c.args.self.now.lists c.args.entity c.index_mut.result.now (ap (λ w. w.lists) c.self.view_is) c.requires c.index_mut.ensures.value in
-    (omega arith, c.self.invariant.1 ∙ ap (sum_by length) (sym (unchanged (λ (l : Walked). l.members) [] c.self.inside.delay_lists.items c.args.entity c.index_mut.result.now c.start_walk.new.self s c.start_walk.ensures.members)))
+invariant_of-self c = (omega arith, waiting_kept _ _ _ _ _ (ap (λ w. w.lists) c.self.view_is) c.requires c.index_mut.ensures.value c.start_walk.ensures.members _ c.self.invariant.1)
 
 pub returns-clause-lists : goal.returns-clause-lists
-returns-clause-lists c =
-    let s = stands (λ (l : Walked). l.members) [] c.self.inside.delay_lists.items c.args.self.now.lists c.args.entity c.index_mut.result.now (ap (λ w. w.lists) c.self.view_is) c.requires c.index_mut.ensures.value in
-    unchanged (λ (l : Walked). l.members) [] c.self.inside.delay_lists.items c.args.entity c.index_mut.result.now c.start_walk.new.self s c.start_walk.ensures.members ∙ ap (λ w. w.lists) c.self.view_is
+returns-clause-lists c = lists_kept _ _ _ _ _ (ap (λ w. w.lists) c.self.view_is) c.requires c.index_mut.ensures.value c.start_walk.ensures.members
 
 pub returns-clause-place : goal.returns-clause-place
-returns-clause-place c =
-    let s = stands (λ (l : Walked). l.members) [] c.self.inside.delay_lists.items c.args.self.now.lists c.args.entity c.index_mut.result.now (ap (λ w. w.lists) c.self.view_is) c.requires c.index_mut.ensures.value in
-    after (λ (l : Walked). l.place) 0 c.self.inside.delay_lists.items c.args.entity c.start_walk.new.self s.below ∙ c.start_walk.ensures.place
+returns-clause-place c = place_after _ _ _ _ _ (ap (λ w. w.lists) c.self.view_is) c.requires c.index_mut.ensures.value ∙ c.start_walk.ensures.place
 
 pub returns-clause-room : goal.returns-clause-room
-returns-clause-room c =
-    let s = stands (λ (l : Walked). l.members) [] c.self.inside.delay_lists.items c.args.self.now.lists c.args.entity c.index_mut.result.now (ap (λ w. w.lists) c.self.view_is) c.requires c.index_mut.ensures.value in
-    rw (← c.self.view_is)
-    (loses (λ (l : Walked). room_of c.self.inside.waiting l.room) (λ (l : Walked). room_of c.self.inside.waiting l.room) 0 (λ y. omega arith) c.self.inside.delay_lists.items c.args.entity c.index_mut.result.now c.start_walk.new.self s (omega arith))
+returns-clause-room c = rooms_kept _ _ _ _ _ (ap (λ w. w.lists) c.self.view_is) c.requires c.index_mut.ensures.value _ _ (ap (λ w. w.rooms) c.self.view_is) c.start_walk.ensures.room

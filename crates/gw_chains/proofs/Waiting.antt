@@ -1,0 +1,66 @@
+-- The delay lists of all entities, and the user chains: what a call on one of them makes of all that are shown.
+use Rattle.std.proofs.Common.{◌≡◌, ◌∙◌, ℕ, ◌+◌, ◌<◌, ◌≤◌, List, [], map, length, get_or, set, sum_by, ap, sym, subst, arith, Global}
+use Rattle.std.specs.VecDeque.{deque_items}
+use Rattle.std.specs.declared.collections.VecDeque.{VecDeque}
+use Rattle.gw_num.specs.Table.{at}
+use Rattle.gw_chains.specs.Lists.{Walked, LosesRoom, changed, room_of}
+use Rattle.gw_chains.specs.declared.tx.Member.{Member}
+use Rattle.gw_chains.specs.declared.tx.Tx.{Tx}
+use Rattle.gw_chains.proofs.Each.{Stands, stands, here as read, after, unchanged, changes, total, at_most_total, loses}
+
+module _ {X T : Type 0} (f : X → List T) (xs : List X) (shown : List (List T)) (e : ℕ) (x v : X) (is : map f xs ≡ shown) (within : e < length shown) (here : x ≡ get_or xs e x) where
+  -- it leaves the members as they were
+  all_kept : f v ≡ f x → map f (set xs e v) ≡ shown
+  all_kept same = unchanged f [] xs e x v (stands f [] xs shown e x is within here) same ∙ is
+
+  many_kept : f v ≡ f x → (n : ℕ) → n ≡ sum_by length (map f xs) → n ≡ sum_by length (map f (set xs e v))
+  many_kept same n many = many ∙ ap (sum_by length) (is ∙ sym (all_kept same))
+
+  -- it changes the members of that one
+  one_changed : (g : List T → List T) → f v ≡ g (f x) → map f (set xs e v) ≡ changed e g shown
+  one_changed g same = changes f xs e x v g (stands f [] xs shown e x is within here) same ∙ ap (changed e g) is
+
+-- the list to which the call goes
+pub list_of : (lists : List Walked) (shown : List (List Member)) (e : ℕ) (l : Walked) → map (λ (l : Walked). l.members) lists ≡ shown → e < length shown → l ≡ get_or lists e l → Stands lists e l
+list_of = stands (λ (l : Walked). l.members) []
+
+module _ (lists : List Walked) (shown : List (List Member)) (e : ℕ) (l v : Walked) (is : map (λ (l : Walked). l.members) lists ≡ shown) (within : e < length shown) (here : l ≡ get_or lists e l) where
+  pub lists_kept : v.members ≡ l.members → map (λ (l : Walked). l.members) (set lists e v) ≡ shown
+  lists_kept = all_kept (λ (l : Walked). l.members) lists shown e l v is within here
+
+  pub waiting_kept : v.members ≡ l.members → (n : ℕ) → n ≡ sum_by length (map (λ (l : Walked). l.members) lists) → n ≡ sum_by length (map (λ (l : Walked). l.members) (set lists e v))
+  waiting_kept = many_kept (λ (l : Walked). l.members) lists shown e l v is within here
+
+  pub list_changed : (g : List Member → List Member) → v.members ≡ g l.members → map (λ (l : Walked). l.members) (set lists e v) ≡ changed e g shown
+  list_changed = one_changed (λ (l : Walked). l.members) lists shown e l v is within here
+
+  pub list_fits : length l.members ≤ sum_by length (map (λ (l : Walked). l.members) lists)
+  list_fits = at_most_total (λ (l : Walked). l.members) lists e l (list_of lists shown e l is within here)
+
+  pub waiting_changed : sum_by length (map (λ (l : Walked). l.members) (set lists e v)) + length l.members ≡ sum_by length (map (λ (l : Walked). l.members) lists) + length v.members
+  waiting_changed = total (λ (l : Walked). l.members) lists e l v (list_of lists shown e l is within here)
+
+  pub place_shown : (places : List ℕ) → map (λ (l : Walked). l.place) lists ≡ places → at 0 places e ≡ l.place
+  place_shown places same = ap (λ ps. at 0 ps e) (sym same) ∙ read (λ (l : Walked). l.place) 0 lists e l (list_of lists shown e l is within here)
+
+  pub place_after : at 0 (map (λ (l : Walked). l.place) (set lists e v)) e ≡ v.place
+  place_after = after (λ (l : Walked). l.place) 0 lists e v (list_of lists shown e l is within here).below
+
+  pub rooms_kept : (n : ℕ) (rooms : List ℕ) → map (λ (l : Walked). room_of n l.room) lists ≡ rooms → l.room ≤ v.room → LosesRoom 0 rooms (map (λ (l : Walked). room_of n l.room) (set lists e v))
+  rooms_kept n rooms same more =
+      subst (λ rs. LosesRoom 0 rs (map (λ (l : Walked). room_of n l.room) (set lists e v))) same
+      (loses (λ (l : Walked). room_of n l.room) (λ (l : Walked). room_of n l.room) 0 (λ y. omega arith) lists e l v (list_of lists shown e l is within here) (omega (arith, more)))
+
+-- the chain to which the call goes
+pub chain_of : (chains : List (VecDeque Tx Global)) (shown : List (List Tx)) (e : ℕ) (q : VecDeque Tx Global) → map deque_items chains ≡ shown → e < length shown → q ≡ get_or chains e q → Stands chains e q
+chain_of = stands deque_items []
+
+module _ (chains : List (VecDeque Tx Global)) (shown : List (List Tx)) (e : ℕ) (q v : VecDeque Tx Global) (is : map deque_items chains ≡ shown) (within : e < length shown) (here : q ≡ get_or chains e q) where
+  pub chains_kept : v.items ≡ q.items → map deque_items (set chains e v) ≡ shown
+  chains_kept = all_kept deque_items chains shown e q v is within here
+
+  pub linked_kept : v.items ≡ q.items → (n : ℕ) → n ≡ sum_by length (map (deque_items {X = Tx} {Z = Global}) chains) → n ≡ sum_by length (map deque_items (set chains e v))
+  linked_kept = many_kept deque_items chains shown e q v is within here
+
+  pub chain_changed : (g : List Tx → List Tx) → v.items ≡ g q.items → map deque_items (set chains e v) ≡ changed e g shown
+  chain_changed = one_changed deque_items chains shown e q v is within here

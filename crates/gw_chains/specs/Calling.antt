@@ -1,0 +1,13 @@
+-- Calls that are made one after the other, each on what the one before left.
+use Rattle.std.specs.Prelude.{List, [], ◌∷◌}
+
+module _ {K S : Type 0} (after : K → S → S) where
+  -- what calls leave
+  abbrev pub state_after : List K → S → S
+  state_after [] s = s
+  state_after (call ∷ calls) s = state_after calls (after call s)
+
+  -- what each of them answers
+  abbrev pub answers_in_turn : {A : Type 0} → (K → S → A) → List K → S → List A
+  answers_in_turn answer [] s = []
+  answers_in_turn answer (call ∷ calls) s = answer call s ∷ answers_in_turn answer calls (after call s)

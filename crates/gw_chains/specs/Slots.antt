@@ -1,0 +1,16 @@
+-- The slots of a slab: how many a call takes, where it takes no memory.
+use Rattle.std.specs.Prelude.{◌≡◌, ◌≤◌, ◌+◌}
+use Rattle.slab.specs.Slab.{Slab, slab_len}
+
+module _ {T : Type 0} where
+  -- a slab has one value more than before, and room for as many in all
+  abbrev pub TakesOneSlot : Slab T → Slab T → Type 0
+  TakesOneSlot old new = (slab_len new ≡ slab_len old + 1) × (new.capacity ≡ old.capacity)
+
+  -- a slab has no more values than before, and room for as many in all
+  abbrev pub TakesNoSlot : Slab T → Slab T → Type 0
+  TakesNoSlot old new = (slab_len new ≤ slab_len old) × (new.capacity ≡ old.capacity)
+
+  -- a slab has as many values as before, and room for as many in all
+  abbrev pub KeepsSlots : Slab T → Slab T → Type 0
+  KeepsSlots old new = (slab_len new ≡ slab_len old) × (new.capacity ≡ old.capacity)
