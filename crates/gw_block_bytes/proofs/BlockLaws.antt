@@ -1,5 +1,5 @@
 -- The grammar of blocks is exact: each of its fields, and blocks.
-use Rattle.std.proofs.Common.{◌≡◌, ℕ, ◌∷◌, refl, arith}
+use Rattle.std.proofs.Common.{◌≡◌, ℕ, [], ◌∷◌, get_or, refl, arith}
 use Rattle.std.specs.Int.{w16, w32, w64}
 use Rattle.gw_blocks.specs.Limits.{most_parameters, most_streams}
 use Rattle.gw_blocks.specs.declared.parts.Attribute.TheVariants.{Clock, AbsoluteClock, Priority, TransitTime, TransactionNumber, TerminationCount}
@@ -12,9 +12,9 @@ use Rattle.gw_blocks.specs.declared.parts.Condition.TheVariants.{SwitchSet, Swit
 use Rattle.gw_blocks.specs.declared.parts.LinkOrder.TheVariants.{Fifo, Lifo}
 use Rattle.gw_blocks.specs.declared.parts.SwitchAction.TheVariants.{Set as SetSwitch, Reset as ResetSwitch, Invert as InvertSwitch}
 use Rattle.gw_blocks.specs.declared.parts.Block.{Block}
-use Rattle.gw_blocks.specs.declared.parts.Block.TheVariants.{Generate, Terminate, Advance, Seize, Release, Enter, Leave, Queue, Depart, Assign, Test, Gate, Transfer, TransferByFraction, TransferToSubroutine, TransferByParameter, Loop, Split, Assemble, Link, Unlink, Logic, Savevalue, Mark, Priority as NewPriority, Buffer, Plus, Tabulate}
+use Rattle.gw_blocks.specs.declared.parts.Block.TheVariants as blocks
 use Rattle.gw_fields.specs.Fields.{Field, behind, byte, signed, nothing, optional}
-use Rattle.gw_blocks.specs.Grammar.{parameter_number, stream_number, attribute_byte, attributes, attribute, entity_attribute_byte, entity_attributes, NumberedFits, numbered, OperandFits, operand_spelling, operand_forms, operand_read, operand, mode_byte, modes, mode, AssignFits, assign, comparison_byte, comparisons, TestFits, test_operands, condition_byte, conditions, GateFits, gate, CallFits, call, LoopFits, countdown, SplitFits, split, set_size, order_byte, orders, LinkFits, link, UnlinkFits, unlink, action_byte, actions, LogicFits, logic, SaveFits, save, PriorityFits, priority, PlusFits, plus, SpreadFits, spread, GenerateFits, generate, entity_number, procedure_number, UnitsFit, units, block_number, FractionFits, fraction, BlockFits, block_spelling, block_forms, block_read, block}
+use Rattle.gw_blocks.specs.Grammar.{parameter_number, stream_number, attribute_byte, attributes, attribute, entity_attribute_byte, entity_attributes, NumberedFits, numbered, OperandFits, operand_spelling, operand_forms, operand_read, operand, mode_byte, modes, mode, AssignFits, assign, comparison_byte, comparisons, TestFits, test_operands, condition_byte, conditions, GateFits, gate, CallFits, call, LoopFits, countdown, SplitFits, split, set_size, order_byte, orders, LinkFits, link, UnlinkFits, unlink, action_byte, actions, LogicFits, logic, SaveFits, save, PriorityFits, priority, PlusFits, plus, SpreadFits, spread, GenerateFits, generate, entity_number, procedure_number, UnitsFit, units, block_number, FractionFits, fraction, BlockFits, block_spelling, tag_form, block_forms, block_read, block}
 use Rattle.gw_fields.proofs.OneOf.{AreFound, one_of_exact, flag_exact}
 use Rattle.gw_fields.proofs.Exact.{ReadsBack, ◌also◌, tag_reads_back, IsExactForm, AreExactForms, behind_exact, by_tag_exact, IsExact, byte_exact, wide16, wide32, wide64, number_exact, signed_exact, made_exact, both_exact, fitting_exact, ranged_exact, nothing_exact, optional_exact}
 
@@ -227,69 +227,76 @@ plus_exact = fitting_exact PlusFits _ (λ a h. record { value = h.0; parameter =
 block_form_exact : {A : Type 0} (tag : ℕ) (make : A → Block) (f : Field A) → ((x : A) → tag ∷ f.spell x ≡ block_spelling (make x)) → ((x : A) → f.Fits x → BlockFits (make x)) → IsExact f → IsExactForm block_spelling BlockFits (behind tag make f)
 block_form_exact tag make f spelled fit exact = behind_exact block_spelling BlockFits tag make f spelled fit exact
 
+-- and one without operands
+tag_form_exact : (tag : ℕ) (block : Block) → tag ∷ [] ≡ block_spelling block → BlockFits block → IsExactForm block_spelling BlockFits (tag_form tag block)
+tag_form_exact tag block spelled fit = block_form_exact tag (λ _. block) nothing (λ _. spelled) (λ _ _. fit) nothing_exact
+
+-- the tag of a block
+abbrev tag_of : Block → ℕ
+tag_of block = get_or (block_spelling block) 0 0
+
 block_forms_exact : AreExactForms block_spelling BlockFits block_forms
 unfolding generate spread units fraction call assign test_operands gate countdown split link unlink logic save priority plus
 block_forms_exact =
-    block_form_exact 1 (λ g. Generate g) generate (λ g. refl) (λ g h. h) generate_exact
-    also block_form_exact 2 (λ n. Terminate n) operand (λ n. refl) (λ n h. h) operand_exact
-    also block_form_exact 3 (λ s. Advance s) spread (λ s. refl) (λ s h. h) spread_exact
-    also block_form_exact 4 (λ n. Seize n) entity_number (λ n. refl) (λ n h. h) entity_number_exact
-    also block_form_exact 5 (λ n. Release n) entity_number (λ n. refl) (λ n h. h) entity_number_exact
-    also block_form_exact 6 (λ u. Enter u) units (λ u. refl) (λ u h. h) units_exact
-    also block_form_exact 7 (λ u. Leave u) units (λ u. refl) (λ u h. h) units_exact
-    also block_form_exact 8 (λ u. Queue u) units (λ u. refl) (λ u h. h) units_exact
-    also block_form_exact 9 (λ u. Depart u) units (λ u. refl) (λ u h. h) units_exact
-    also block_form_exact 10 (λ a. Assign a) assign (λ a. refl) (λ a h. h) assign_exact
-    also block_form_exact 11 (λ t. Test t) test_operands (λ t. refl) (λ t h. h) test_exact
-    also block_form_exact 12 (λ g. Gate g) gate (λ g. refl) (λ g h. h) gate_exact
-    also block_form_exact 13 (λ n. Transfer n) block_number (λ n. refl) (λ n h. h) block_number_exact
-    also block_form_exact 14 (λ f. TransferByFraction f) fraction (λ f. refl) (λ f h. h) fraction_exact
-    also block_form_exact 15 (λ c. TransferToSubroutine c) call (λ c. refl) (λ c h. h) call_exact
-    also block_form_exact 16 (λ p. TransferByParameter p) parameter_number (λ p. refl) (λ p h. h) parameter_number_exact
-    also block_form_exact 17 (λ l. Loop l) countdown (λ l. refl) (λ l h. h) countdown_exact
-    also block_form_exact 18 (λ s. Split s) split (λ s. refl) (λ s h. h) split_exact
-    also block_form_exact 19 (λ n. Assemble n) set_size (λ n. refl) (λ n h. h) set_size_exact
-    also block_form_exact 20 (λ l. Link l) link (λ l. refl) (λ l h. h) link_exact
-    also block_form_exact 21 (λ u. Unlink u) unlink (λ u. refl) (λ u h. h) unlink_exact
-    also block_form_exact 22 (λ l. Logic l) logic (λ l. refl) (λ l h. h) logic_exact
-    also block_form_exact 23 (λ s. Savevalue s) save (λ s. refl) (λ s h. h) save_exact
-    also block_form_exact 24 (λ p. Mark p) (optional parameter_number) (λ p. refl) (λ p h. h) parameter_if_any_exact
-    also block_form_exact 25 (λ p. NewPriority p) priority (λ p. refl) (λ p h. h) priority_exact
-    also block_form_exact 26 (λ _. Buffer) nothing (λ _. refl) (λ _ h. tt) nothing_exact
-    also block_form_exact 27 (λ a. Plus a) plus (λ a. refl) (λ a h. h) plus_exact
-    also block_form_exact 28 (λ n. Tabulate n) entity_number (λ n. refl) (λ n h. h) entity_number_exact
-    also tt
+    block_form_exact 1 (λ g. blocks.Generate g) generate (λ g. refl) (λ g h. h) generate_exact
+    also block_form_exact 2 (λ n. blocks.Terminate n) operand (λ n. refl) (λ n h. h) operand_exact
+    also block_form_exact 3 (λ s. blocks.Advance s) spread (λ s. refl) (λ s h. h) spread_exact
+    also block_form_exact 4 (λ n. blocks.Seize n) entity_number (λ n. refl) (λ n h. h) entity_number_exact
+    also block_form_exact 5 (λ n. blocks.Release n) entity_number (λ n. refl) (λ n h. h) entity_number_exact
+    also block_form_exact 6 (λ u. blocks.Enter u) units (λ u. refl) (λ u h. h) units_exact
+    also block_form_exact 7 (λ u. blocks.Leave u) units (λ u. refl) (λ u h. h) units_exact
+    also block_form_exact 8 (λ u. blocks.Queue u) units (λ u. refl) (λ u h. h) units_exact
+    also block_form_exact 9 (λ u. blocks.Depart u) units (λ u. refl) (λ u h. h) units_exact
+    also block_form_exact 10 (λ a. blocks.Assign a) assign (λ a. refl) (λ a h. h) assign_exact
+    also block_form_exact 11 (λ t. blocks.Test t) test_operands (λ t. refl) (λ t h. h) test_exact
+    also block_form_exact 12 (λ g. blocks.Gate g) gate (λ g. refl) (λ g h. h) gate_exact
+    also block_form_exact 13 (λ n. blocks.Transfer n) block_number (λ n. refl) (λ n h. h) block_number_exact
+    also block_form_exact 14 (λ f. blocks.TransferByFraction f) fraction (λ f. refl) (λ f h. h) fraction_exact
+    also block_form_exact 15 (λ c. blocks.TransferToSubroutine c) call (λ c. refl) (λ c h. h) call_exact
+    also block_form_exact 16 (λ p. blocks.TransferByParameter p) parameter_number (λ p. refl) (λ p h. h) parameter_number_exact
+    also block_form_exact 17 (λ l. blocks.Loop l) countdown (λ l. refl) (λ l h. h) countdown_exact
+    also block_form_exact 18 (λ s. blocks.Split s) split (λ s. refl) (λ s h. h) split_exact
+    also block_form_exact 19 (λ n. blocks.Assemble n) set_size (λ n. refl) (λ n h. h) set_size_exact
+    also block_form_exact 20 (λ l. blocks.Link l) link (λ l. refl) (λ l h. h) link_exact
+    also block_form_exact 21 (λ u. blocks.Unlink u) unlink (λ u. refl) (λ u h. h) unlink_exact
+    also block_form_exact 22 (λ l. blocks.Logic l) logic (λ l. refl) (λ l h. h) logic_exact
+    also block_form_exact 23 (λ s. blocks.Savevalue s) save (λ s. refl) (λ s h. h) save_exact
+    also block_form_exact 24 (λ p. blocks.Mark p) (optional parameter_number) (λ p. refl) (λ p h. h) parameter_if_any_exact
+    also block_form_exact 25 (λ p. blocks.Priority p) priority (λ p. refl) (λ p h. h) priority_exact
+    also block_form_exact 27 (λ a. blocks.Plus a) plus (λ a. refl) (λ a h. h) plus_exact
+    also block_form_exact 28 (λ n. blocks.Tabulate n) entity_number (λ n. refl) (λ n h. h) entity_number_exact
+    also search tag_form_exact
 
 block_reads_back : (b : Block) → BlockFits b → ReadsBack block_read (block_spelling b) b
 unfolding block_read generate spread units fraction call assign test_operands gate countdown split link unlink logic save priority plus
-block_reads_back (Generate g) fits = tag_reads_back block_forms 1 (λ g. Generate g) generate (λ _ _. refl) generate_exact g fits
-block_reads_back (Terminate n) fits = tag_reads_back block_forms 2 (λ n. Terminate n) operand (λ _ _. refl) operand_exact n fits
-block_reads_back (Advance s) fits = tag_reads_back block_forms 3 (λ s. Advance s) spread (λ _ _. refl) spread_exact s fits
-block_reads_back (Seize n) fits = tag_reads_back block_forms 4 (λ n. Seize n) entity_number (λ _ _. refl) entity_number_exact n fits
-block_reads_back (Release n) fits = tag_reads_back block_forms 5 (λ n. Release n) entity_number (λ _ _. refl) entity_number_exact n fits
-block_reads_back (Enter u) fits = tag_reads_back block_forms 6 (λ u. Enter u) units (λ _ _. refl) units_exact u fits
-block_reads_back (Leave u) fits = tag_reads_back block_forms 7 (λ u. Leave u) units (λ _ _. refl) units_exact u fits
-block_reads_back (Queue u) fits = tag_reads_back block_forms 8 (λ u. Queue u) units (λ _ _. refl) units_exact u fits
-block_reads_back (Depart u) fits = tag_reads_back block_forms 9 (λ u. Depart u) units (λ _ _. refl) units_exact u fits
-block_reads_back (Assign a) fits = tag_reads_back block_forms 10 (λ a. Assign a) assign (λ _ _. refl) assign_exact a fits
-block_reads_back (Test t) fits = tag_reads_back block_forms 11 (λ t. Test t) test_operands (λ _ _. refl) test_exact t fits
-block_reads_back (Gate g) fits = tag_reads_back block_forms 12 (λ g. Gate g) gate (λ _ _. refl) gate_exact g fits
-block_reads_back (Transfer n) fits = tag_reads_back block_forms 13 (λ n. Transfer n) block_number (λ _ _. refl) block_number_exact n fits
-block_reads_back (TransferByFraction f) fits = tag_reads_back block_forms 14 (λ f. TransferByFraction f) fraction (λ _ _. refl) fraction_exact f fits
-block_reads_back (TransferToSubroutine c) fits = tag_reads_back block_forms 15 (λ c. TransferToSubroutine c) call (λ _ _. refl) call_exact c fits
-block_reads_back (TransferByParameter p) fits = tag_reads_back block_forms 16 (λ p. TransferByParameter p) parameter_number (λ _ _. refl) parameter_number_exact p fits
-block_reads_back (Loop l) fits = tag_reads_back block_forms 17 (λ l. Loop l) countdown (λ _ _. refl) countdown_exact l fits
-block_reads_back (Split s) fits = tag_reads_back block_forms 18 (λ s. Split s) split (λ _ _. refl) split_exact s fits
-block_reads_back (Assemble n) fits = tag_reads_back block_forms 19 (λ n. Assemble n) set_size (λ _ _. refl) set_size_exact n fits
-block_reads_back (Link l) fits = tag_reads_back block_forms 20 (λ l. Link l) link (λ _ _. refl) link_exact l fits
-block_reads_back (Unlink u) fits = tag_reads_back block_forms 21 (λ u. Unlink u) unlink (λ _ _. refl) unlink_exact u fits
-block_reads_back (Logic l) fits = tag_reads_back block_forms 22 (λ l. Logic l) logic (λ _ _. refl) logic_exact l fits
-block_reads_back (Savevalue s) fits = tag_reads_back block_forms 23 (λ s. Savevalue s) save (λ _ _. refl) save_exact s fits
-block_reads_back (Mark p) fits = tag_reads_back block_forms 24 (λ p. Mark p) (optional parameter_number) (λ _ _. refl) parameter_if_any_exact p fits
-block_reads_back (NewPriority p) fits = tag_reads_back block_forms 25 (λ p. NewPriority p) priority (λ _ _. refl) priority_exact p fits
-block_reads_back Buffer fits = tag_reads_back block_forms 26 (λ _. Buffer) nothing (λ _ _. refl) nothing_exact tt tt
-block_reads_back (Plus a) fits = tag_reads_back block_forms 27 (λ a. Plus a) plus (λ _ _. refl) plus_exact a fits
-block_reads_back (Tabulate n) fits = tag_reads_back block_forms 28 (λ n. Tabulate n) entity_number (λ _ _. refl) entity_number_exact n fits
+block_reads_back (blocks.Generate g) fits = tag_reads_back block_forms 1 (λ g. blocks.Generate g) generate (λ _ _. refl) generate_exact g fits
+block_reads_back (blocks.Terminate n) fits = tag_reads_back block_forms 2 (λ n. blocks.Terminate n) operand (λ _ _. refl) operand_exact n fits
+block_reads_back (blocks.Advance s) fits = tag_reads_back block_forms 3 (λ s. blocks.Advance s) spread (λ _ _. refl) spread_exact s fits
+block_reads_back (blocks.Seize n) fits = tag_reads_back block_forms 4 (λ n. blocks.Seize n) entity_number (λ _ _. refl) entity_number_exact n fits
+block_reads_back (blocks.Release n) fits = tag_reads_back block_forms 5 (λ n. blocks.Release n) entity_number (λ _ _. refl) entity_number_exact n fits
+block_reads_back (blocks.Enter u) fits = tag_reads_back block_forms 6 (λ u. blocks.Enter u) units (λ _ _. refl) units_exact u fits
+block_reads_back (blocks.Leave u) fits = tag_reads_back block_forms 7 (λ u. blocks.Leave u) units (λ _ _. refl) units_exact u fits
+block_reads_back (blocks.Queue u) fits = tag_reads_back block_forms 8 (λ u. blocks.Queue u) units (λ _ _. refl) units_exact u fits
+block_reads_back (blocks.Depart u) fits = tag_reads_back block_forms 9 (λ u. blocks.Depart u) units (λ _ _. refl) units_exact u fits
+block_reads_back (blocks.Assign a) fits = tag_reads_back block_forms 10 (λ a. blocks.Assign a) assign (λ _ _. refl) assign_exact a fits
+block_reads_back (blocks.Test t) fits = tag_reads_back block_forms 11 (λ t. blocks.Test t) test_operands (λ _ _. refl) test_exact t fits
+block_reads_back (blocks.Gate g) fits = tag_reads_back block_forms 12 (λ g. blocks.Gate g) gate (λ _ _. refl) gate_exact g fits
+block_reads_back (blocks.Transfer n) fits = tag_reads_back block_forms 13 (λ n. blocks.Transfer n) block_number (λ _ _. refl) block_number_exact n fits
+block_reads_back (blocks.TransferByFraction f) fits = tag_reads_back block_forms 14 (λ f. blocks.TransferByFraction f) fraction (λ _ _. refl) fraction_exact f fits
+block_reads_back (blocks.TransferToSubroutine c) fits = tag_reads_back block_forms 15 (λ c. blocks.TransferToSubroutine c) call (λ _ _. refl) call_exact c fits
+block_reads_back (blocks.TransferByParameter p) fits = tag_reads_back block_forms 16 (λ p. blocks.TransferByParameter p) parameter_number (λ _ _. refl) parameter_number_exact p fits
+block_reads_back (blocks.Loop l) fits = tag_reads_back block_forms 17 (λ l. blocks.Loop l) countdown (λ _ _. refl) countdown_exact l fits
+block_reads_back (blocks.Split s) fits = tag_reads_back block_forms 18 (λ s. blocks.Split s) split (λ _ _. refl) split_exact s fits
+block_reads_back (blocks.Assemble n) fits = tag_reads_back block_forms 19 (λ n. blocks.Assemble n) set_size (λ _ _. refl) set_size_exact n fits
+block_reads_back (blocks.Link l) fits = tag_reads_back block_forms 20 (λ l. blocks.Link l) link (λ _ _. refl) link_exact l fits
+block_reads_back (blocks.Unlink u) fits = tag_reads_back block_forms 21 (λ u. blocks.Unlink u) unlink (λ _ _. refl) unlink_exact u fits
+block_reads_back (blocks.Logic l) fits = tag_reads_back block_forms 22 (λ l. blocks.Logic l) logic (λ _ _. refl) logic_exact l fits
+block_reads_back (blocks.Savevalue s) fits = tag_reads_back block_forms 23 (λ s. blocks.Savevalue s) save (λ _ _. refl) save_exact s fits
+block_reads_back (blocks.Mark p) fits = tag_reads_back block_forms 24 (λ p. blocks.Mark p) (optional parameter_number) (λ _ _. refl) parameter_if_any_exact p fits
+block_reads_back (blocks.Priority p) fits = tag_reads_back block_forms 25 (λ p. blocks.Priority p) priority (λ _ _. refl) priority_exact p fits
+block_reads_back (blocks.Plus a) fits = tag_reads_back block_forms 27 (λ a. blocks.Plus a) plus (λ _ _. refl) plus_exact a fits
+block_reads_back (blocks.Tabulate n) fits = tag_reads_back block_forms 28 (λ n. blocks.Tabulate n) entity_number (λ _ _. refl) entity_number_exact n fits
+block_reads_back bare fits = tag_reads_back block_forms (tag_of bare) (λ _. bare) nothing (λ _ _. refl) nothing_exact tt tt
 
 pub block_exact : IsExact block
 unfolding block_read

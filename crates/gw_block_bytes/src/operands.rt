@@ -1,9 +1,9 @@
 //! Operands, in bytes and against the rules of the object format.
 
-ghost use Rattle.std.specs.Prelude.{◌≡◌, ◌↔◌, IsTrue, nat_lt};
-ghost use Rattle.gw_blocks.specs.Grammar.{parameter_number, stream_number, numbered, operand, OperandFits, spread, SpreadFits};
+ghost use Rattle.std.specs.Prelude.{◌≡◌, ◌↔◌, IsTrue};
+ghost use Rattle.gw_blocks.specs.Grammar.{parameter_number, parameter_above, stream_number, numbered, operand, OperandFits, spread, SpreadFits};
 ghost use Rattle.gw_blocks.specs.Grammar.{attribute_byte, attributes, entity_attribute_byte, entity_attributes};
-ghost use Rattle.gw_fields.specs.Fields.{optional, key_above};
+ghost use Rattle.gw_fields.specs.Fields.{optional};
 ghost use Rattle.gw_fields.specs.Answers.{Gives};
 
 use crate::BlockFormat;
@@ -43,7 +43,7 @@ pub fn read_parameter_above(
     before: Option<u8>,
     bytes: &[u8],
 ) -> Result<(u8, &[u8]), ReadError>
-    ensures { Gives (λ x. (x.0, x.1.now)) result ((key_above nat_lt before parameter_number).read bytes.now) }
+    ensures { Gives (λ x. (x.0, x.1.now)) result ((parameter_above before).read bytes.now) }
 {
     let (number, rest) = read_parameter_number(alloc, bytes)?;
     if before.is_some_and(|before| number <= before) {

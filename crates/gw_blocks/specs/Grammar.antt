@@ -1,5 +1,5 @@
--- The grammar of blocks: which operands have a spelling, and which bytes spell a block.
-use Rattle.std.specs.Prelude.{ℕ, ◌<◌, ◌^◌, FitsSigned, List, [], ◌∷◌, IfSome}
+-- The grammar of blocks: which operands have a spelling, which bytes spell a block, and with which word it begins in a model text.
+use Rattle.std.specs.Prelude.{ℕ, ◌<◌, ◌^◌, FitsSigned, List, [], ◌∷◌, Option, IfSome, codes, nat_lt}
 use Rattle.std.specs.Int.{w16, w32, w64}
 use Rattle.gw_blocks.specs.Limits.{most_parameters, most_streams}
 use Rattle.gw_blocks.specs.declared.parts.Attribute.{Attribute as OwnAttribute}
@@ -36,8 +36,8 @@ use Rattle.gw_blocks.specs.declared.parts.Logic.{Logic as LogicOperands}
 use Rattle.gw_blocks.specs.declared.parts.Save.{Save}
 use Rattle.gw_blocks.specs.declared.parts.Priority.{Priority as PriorityOperands}
 use Rattle.gw_blocks.specs.declared.parts.Plus.{Plus as PlusOperands}
-use Rattle.gw_blocks.specs.declared.parts.Block.TheVariants.{Generate, Terminate, Advance, Seize, Release, Enter, Leave, Queue, Depart, Assign, Test, Gate, Transfer, TransferByFraction, TransferToSubroutine, TransferByParameter, Loop, Split, Assemble, Link, Unlink, Logic, Savevalue, Mark, Priority as NewPriority, Buffer, Plus, Tabulate}
-use Rattle.gw_fields.specs.Fields.{Read, Field, byte, number, signed, flag, nothing, as_type, both, fitting, ranged, optional, Form, behind, by_tag, one_of}
+use Rattle.gw_blocks.specs.declared.parts.Block.TheVariants as blocks
+use Rattle.gw_fields.specs.Fields.{Read, Field, byte, number, signed, flag, nothing, as_type, both, fitting, ranged, key_above, optional, Form, behind, by_tag, one_of}
 
 -- ---- numbers
 
@@ -56,6 +56,10 @@ procedure_number = number w16
 -- a parameter's number
 abbrev pub parameter_number : Field ℕ
 parameter_number = ranged 1 most_parameters byte
+
+-- a parameter's number that is above the one before it, if there is one
+abbrev pub parameter_above : Option ℕ → Field ℕ
+parameter_above before = key_above nat_lt before parameter_number
 
 -- a stream's number
 abbrev pub stream_number : Field ℕ
@@ -381,99 +385,103 @@ pub record PlusFits (a : PlusOperands) : Type 0 where
 unfoldable pub plus : Field PlusOperands
 plus = fitting PlusFits (as_type (λ (value, parameter). record { value = value; parameter = parameter }) (λ a. (a.value, a.parameter)) (both operand (optional parameter_number)))
 
--- the operands of a block fit
+-- the operands of a block fit, if it has operands
 abbrev pub BlockFits : Block → Type 0
-BlockFits (Generate g) = GenerateFits g
-BlockFits (Terminate decrement) = OperandFits decrement
-BlockFits (Advance time) = SpreadFits time
-BlockFits (Seize facility) = entity_number.Fits facility
-BlockFits (Release facility) = entity_number.Fits facility
-BlockFits (Enter u) = UnitsFit u
-BlockFits (Leave u) = UnitsFit u
-BlockFits (Queue u) = UnitsFit u
-BlockFits (Depart u) = UnitsFit u
-BlockFits (Assign a) = AssignFits a
-BlockFits (Test t) = TestFits t
-BlockFits (Gate g) = GateFits g
-BlockFits (Transfer target) = block_number.Fits target
-BlockFits (TransferByFraction f) = FractionFits f
-BlockFits (TransferToSubroutine c) = CallFits c
-BlockFits (TransferByParameter parameter) = parameter_number.Fits parameter
-BlockFits (Loop l) = LoopFits l
-BlockFits (Split s) = SplitFits s
-BlockFits (Assemble size) = set_size.Fits size
-BlockFits (Link l) = LinkFits l
-BlockFits (Unlink u) = UnlinkFits u
-BlockFits (Logic l) = LogicFits l
-BlockFits (Savevalue s) = SaveFits s
-BlockFits (Mark parameter) = IfSome parameter parameter_number.Fits
-BlockFits (NewPriority p) = PriorityFits p
-BlockFits Buffer = Unit {0}
-BlockFits (Plus a) = PlusFits a
-BlockFits (Tabulate table) = entity_number.Fits table
+BlockFits (blocks.Generate g) = GenerateFits g
+BlockFits (blocks.Terminate decrement) = OperandFits decrement
+BlockFits (blocks.Advance time) = SpreadFits time
+BlockFits (blocks.Seize facility) = entity_number.Fits facility
+BlockFits (blocks.Release facility) = entity_number.Fits facility
+BlockFits (blocks.Enter u) = UnitsFit u
+BlockFits (blocks.Leave u) = UnitsFit u
+BlockFits (blocks.Queue u) = UnitsFit u
+BlockFits (blocks.Depart u) = UnitsFit u
+BlockFits (blocks.Assign a) = AssignFits a
+BlockFits (blocks.Test t) = TestFits t
+BlockFits (blocks.Gate g) = GateFits g
+BlockFits (blocks.Transfer target) = block_number.Fits target
+BlockFits (blocks.TransferByFraction f) = FractionFits f
+BlockFits (blocks.TransferToSubroutine c) = CallFits c
+BlockFits (blocks.TransferByParameter parameter) = parameter_number.Fits parameter
+BlockFits (blocks.Loop l) = LoopFits l
+BlockFits (blocks.Split s) = SplitFits s
+BlockFits (blocks.Assemble size) = set_size.Fits size
+BlockFits (blocks.Link l) = LinkFits l
+BlockFits (blocks.Unlink u) = UnlinkFits u
+BlockFits (blocks.Logic l) = LogicFits l
+BlockFits (blocks.Savevalue s) = SaveFits s
+BlockFits (blocks.Mark parameter) = IfSome parameter parameter_number.Fits
+BlockFits (blocks.Priority p) = PriorityFits p
+BlockFits (blocks.Plus a) = PlusFits a
+BlockFits (blocks.Tabulate table) = entity_number.Fits table
+BlockFits block = Unit {0}
 
--- the tag, and the operands behind it
+-- the tag, and the operands behind it, if there are any
 abbrev pub block_spelling : Block → List ℕ
-block_spelling (Generate g) = 1 ∷ generate.spell g
-block_spelling (Terminate decrement) = 2 ∷ operand.spell decrement
-block_spelling (Advance time) = 3 ∷ spread.spell time
-block_spelling (Seize facility) = 4 ∷ entity_number.spell facility
-block_spelling (Release facility) = 5 ∷ entity_number.spell facility
-block_spelling (Enter u) = 6 ∷ units.spell u
-block_spelling (Leave u) = 7 ∷ units.spell u
-block_spelling (Queue u) = 8 ∷ units.spell u
-block_spelling (Depart u) = 9 ∷ units.spell u
-block_spelling (Assign a) = 10 ∷ assign.spell a
-block_spelling (Test t) = 11 ∷ test_operands.spell t
-block_spelling (Gate g) = 12 ∷ gate.spell g
-block_spelling (Transfer target) = 13 ∷ block_number.spell target
-block_spelling (TransferByFraction f) = 14 ∷ fraction.spell f
-block_spelling (TransferToSubroutine c) = 15 ∷ call.spell c
-block_spelling (TransferByParameter parameter) = 16 ∷ parameter_number.spell parameter
-block_spelling (Loop l) = 17 ∷ countdown.spell l
-block_spelling (Split s) = 18 ∷ split.spell s
-block_spelling (Assemble size) = 19 ∷ set_size.spell size
-block_spelling (Link l) = 20 ∷ link.spell l
-block_spelling (Unlink u) = 21 ∷ unlink.spell u
-block_spelling (Logic l) = 22 ∷ logic.spell l
-block_spelling (Savevalue s) = 23 ∷ save.spell s
-block_spelling (Mark parameter) = 24 ∷ (optional parameter_number).spell parameter
-block_spelling (NewPriority p) = 25 ∷ priority.spell p
-block_spelling Buffer = 26 ∷ []
-block_spelling (Plus a) = 27 ∷ plus.spell a
-block_spelling (Tabulate table) = 28 ∷ entity_number.spell table
+block_spelling (blocks.Generate g) = 1 ∷ generate.spell g
+block_spelling (blocks.Terminate decrement) = 2 ∷ operand.spell decrement
+block_spelling (blocks.Advance time) = 3 ∷ spread.spell time
+block_spelling (blocks.Seize facility) = 4 ∷ entity_number.spell facility
+block_spelling (blocks.Release facility) = 5 ∷ entity_number.spell facility
+block_spelling (blocks.Enter u) = 6 ∷ units.spell u
+block_spelling (blocks.Leave u) = 7 ∷ units.spell u
+block_spelling (blocks.Queue u) = 8 ∷ units.spell u
+block_spelling (blocks.Depart u) = 9 ∷ units.spell u
+block_spelling (blocks.Assign a) = 10 ∷ assign.spell a
+block_spelling (blocks.Test t) = 11 ∷ test_operands.spell t
+block_spelling (blocks.Gate g) = 12 ∷ gate.spell g
+block_spelling (blocks.Transfer target) = 13 ∷ block_number.spell target
+block_spelling (blocks.TransferByFraction f) = 14 ∷ fraction.spell f
+block_spelling (blocks.TransferToSubroutine c) = 15 ∷ call.spell c
+block_spelling (blocks.TransferByParameter parameter) = 16 ∷ parameter_number.spell parameter
+block_spelling (blocks.Loop l) = 17 ∷ countdown.spell l
+block_spelling (blocks.Split s) = 18 ∷ split.spell s
+block_spelling (blocks.Assemble size) = 19 ∷ set_size.spell size
+block_spelling (blocks.Link l) = 20 ∷ link.spell l
+block_spelling (blocks.Unlink u) = 21 ∷ unlink.spell u
+block_spelling (blocks.Logic l) = 22 ∷ logic.spell l
+block_spelling (blocks.Savevalue s) = 23 ∷ save.spell s
+block_spelling (blocks.Mark parameter) = 24 ∷ (optional parameter_number).spell parameter
+block_spelling (blocks.Priority p) = 25 ∷ priority.spell p
+block_spelling (blocks.Plus a) = 27 ∷ plus.spell a
+block_spelling (blocks.Tabulate table) = 28 ∷ entity_number.spell table
+block_spelling blocks.Buffer = 26 ∷ []
 
--- the blocks
+-- what has nothing behind its tag
+abbrev pub tag_form : {A : Type 0} → ℕ → A → Form A
+tag_form tag one = behind tag (λ _. one) nothing
+
+-- the blocks: those with operands, and then those without
 abbrev pub block_forms : List (Form Block)
 block_forms =
-    behind 1 (λ g. Generate g) generate
-    ∷ behind 2 (λ decrement. Terminate decrement) operand
-    ∷ behind 3 (λ time. Advance time) spread
-    ∷ behind 4 (λ facility. Seize facility) entity_number
-    ∷ behind 5 (λ facility. Release facility) entity_number
-    ∷ behind 6 (λ u. Enter u) units
-    ∷ behind 7 (λ u. Leave u) units
-    ∷ behind 8 (λ u. Queue u) units
-    ∷ behind 9 (λ u. Depart u) units
-    ∷ behind 10 (λ a. Assign a) assign
-    ∷ behind 11 (λ t. Test t) test_operands
-    ∷ behind 12 (λ g. Gate g) gate
-    ∷ behind 13 (λ target. Transfer target) block_number
-    ∷ behind 14 (λ f. TransferByFraction f) fraction
-    ∷ behind 15 (λ c. TransferToSubroutine c) call
-    ∷ behind 16 (λ parameter. TransferByParameter parameter) parameter_number
-    ∷ behind 17 (λ l. Loop l) countdown
-    ∷ behind 18 (λ s. Split s) split
-    ∷ behind 19 (λ size. Assemble size) set_size
-    ∷ behind 20 (λ l. Link l) link
-    ∷ behind 21 (λ u. Unlink u) unlink
-    ∷ behind 22 (λ l. Logic l) logic
-    ∷ behind 23 (λ s. Savevalue s) save
-    ∷ behind 24 (λ parameter. Mark parameter) (optional parameter_number)
-    ∷ behind 25 (λ p. NewPriority p) priority
-    ∷ behind 26 (λ _. Buffer) nothing
-    ∷ behind 27 (λ a. Plus a) plus
-    ∷ behind 28 (λ table. Tabulate table) entity_number
+    behind 1 (λ g. blocks.Generate g) generate
+    ∷ behind 2 (λ decrement. blocks.Terminate decrement) operand
+    ∷ behind 3 (λ time. blocks.Advance time) spread
+    ∷ behind 4 (λ facility. blocks.Seize facility) entity_number
+    ∷ behind 5 (λ facility. blocks.Release facility) entity_number
+    ∷ behind 6 (λ u. blocks.Enter u) units
+    ∷ behind 7 (λ u. blocks.Leave u) units
+    ∷ behind 8 (λ u. blocks.Queue u) units
+    ∷ behind 9 (λ u. blocks.Depart u) units
+    ∷ behind 10 (λ a. blocks.Assign a) assign
+    ∷ behind 11 (λ t. blocks.Test t) test_operands
+    ∷ behind 12 (λ g. blocks.Gate g) gate
+    ∷ behind 13 (λ target. blocks.Transfer target) block_number
+    ∷ behind 14 (λ f. blocks.TransferByFraction f) fraction
+    ∷ behind 15 (λ c. blocks.TransferToSubroutine c) call
+    ∷ behind 16 (λ parameter. blocks.TransferByParameter parameter) parameter_number
+    ∷ behind 17 (λ l. blocks.Loop l) countdown
+    ∷ behind 18 (λ s. blocks.Split s) split
+    ∷ behind 19 (λ size. blocks.Assemble size) set_size
+    ∷ behind 20 (λ l. blocks.Link l) link
+    ∷ behind 21 (λ u. blocks.Unlink u) unlink
+    ∷ behind 22 (λ l. blocks.Logic l) logic
+    ∷ behind 23 (λ s. blocks.Savevalue s) save
+    ∷ behind 24 (λ parameter. blocks.Mark parameter) (optional parameter_number)
+    ∷ behind 25 (λ p. blocks.Priority p) priority
+    ∷ behind 27 (λ a. blocks.Plus a) plus
+    ∷ behind 28 (λ table. blocks.Tabulate table) entity_number
+    ∷ tag_form 26 blocks.Buffer
     ∷ []
 
 -- by its tag; another tag is a fault
@@ -483,3 +491,36 @@ block_read = by_tag block_forms
 -- a block
 abbrev pub block : Field Block
 block = record { spell = block_spelling; read = block_read; Fits = BlockFits }
+
+-- ---- words
+
+-- the word of a block in a model text
+abbrev pub block_word : Block → List ℕ
+block_word (blocks.Generate g) = codes "GENERATE"
+block_word (blocks.Terminate by) = codes "TERMINATE"
+block_word (blocks.Advance time) = codes "ADVANCE"
+block_word (blocks.Seize facility) = codes "SEIZE"
+block_word (blocks.Release facility) = codes "RELEASE"
+block_word (blocks.Enter u) = codes "ENTER"
+block_word (blocks.Leave u) = codes "LEAVE"
+block_word (blocks.Queue u) = codes "QUEUE"
+block_word (blocks.Depart u) = codes "DEPART"
+block_word (blocks.Assign a) = codes "ASSIGN"
+block_word (blocks.Test t) = codes "TEST"
+block_word (blocks.Gate g) = codes "GATE"
+block_word (blocks.Transfer target) = codes "TRANSFER"
+block_word (blocks.TransferByFraction f) = codes "TRANSFER"
+block_word (blocks.TransferToSubroutine c) = codes "TRANSFER"
+block_word (blocks.TransferByParameter parameter) = codes "TRANSFER"
+block_word (blocks.Loop l) = codes "LOOP"
+block_word (blocks.Split s) = codes "SPLIT"
+block_word (blocks.Assemble size) = codes "ASSEMBLE"
+block_word (blocks.Link l) = codes "LINK"
+block_word (blocks.Unlink u) = codes "UNLINK"
+block_word (blocks.Priority p) = codes "PRIORITY"
+block_word (blocks.Logic l) = codes "LOGIC"
+block_word (blocks.Savevalue s) = codes "SAVEVALUE"
+block_word (blocks.Mark parameter) = codes "MARK"
+block_word (blocks.Plus a) = codes "PLUS"
+block_word (blocks.Tabulate table) = codes "TABULATE"
+block_word blocks.Buffer = codes "BUFFER"

@@ -10,5 +10,5 @@ pub use limits::{MOST_PARAMETERS, MOST_STREAMS};
 pub use parts::{
     Assign, Attribute, Block, Call, Comparison, Condition, EntityAttribute, Fraction, Gate,
     Generate, Link, LinkOrder, Logic, Loop, Mode, Numbered, Operand, Plus, Priority, Save, Split,
-    Spread, SwitchAction, Test, Units, Unlink,
+    Spread, SwitchAction, Test, Units, Unlink, block_word,
 };

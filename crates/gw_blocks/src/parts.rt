@@ -1,6 +1,9 @@
 //! A block and its operands, as plain records and enums. Their limits are the object format's (docs/object-format.md);
 //! what the blocks mean is in the GPSS World Reference Manual, chapter 7.
 
+ghost use Rattle.std.specs.Prelude.{◌≡◌};
+ghost use Rattle.gw_blocks.specs.Grammar.{block_word as word_of_block};
+
 use gw_fields::Keyed;
 
 /// A system numerical attribute of the clock, the termination count or the active transaction.
@@ -377,4 +380,40 @@ pub enum Block {
     Plus(Plus),
     /// Transactions enter the argument of a table into it; the table is given by its entity's number from 0.
     Tabulate(u16),
+}
+
+/// The word of a block in a model text.
+pub fn block_word(block: &Block) -> &'static str
+    ensures { result.now ≡ word_of_block block.now }
+{
+    match block {
+        Block::Generate(_) => "GENERATE",
+        Block::Terminate(_) => "TERMINATE",
+        Block::Advance(_) => "ADVANCE",
+        Block::Seize(_) => "SEIZE",
+        Block::Release(_) => "RELEASE",
+        Block::Enter(_) => "ENTER",
+        Block::Leave(_) => "LEAVE",
+        Block::Queue(_) => "QUEUE",
+        Block::Depart(_) => "DEPART",
+        Block::Assign(_) => "ASSIGN",
+        Block::Test(_) => "TEST",
+        Block::Gate(_) => "GATE",
+        Block::Transfer(_)
+        | Block::TransferByFraction(_)
+        | Block::TransferToSubroutine(_)
+        | Block::TransferByParameter(_) => "TRANSFER",
+        Block::Loop(_) => "LOOP",
+        Block::Split(_) => "SPLIT",
+        Block::Assemble(_) => "ASSEMBLE",
+        Block::Link(_) => "LINK",
+        Block::Unlink(_) => "UNLINK",
+        Block::Priority(_) => "PRIORITY",
+        Block::Logic(_) => "LOGIC",
+        Block::Savevalue(_) => "SAVEVALUE",
+        Block::Mark(_) => "MARK",
+        Block::Plus(_) => "PLUS",
+        Block::Tabulate(_) => "TABULATE",
+        Block::Buffer => "BUFFER",
+    }
 }

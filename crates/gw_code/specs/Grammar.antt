@@ -7,7 +7,7 @@ use Rattle.gw_fields.specs.Fields.{Read, Field, bad, byte, number, signed, as_ty
 use Rattle.gw_num.specs.declared.operators.Binary.TheVariants.{Power, Multiply, Divide, Remainder, Add, Subtract, Greater, GreaterOrEqual, Less, LessOrEqual, Equal, NotEqual, And, Or}
 use Rattle.gw_num.specs.declared.operators.Unary.TheVariants.{Negate, Not}
 use Rattle.gw_blocks.specs.Limits.{most_parameters}
-use Rattle.gw_blocks.specs.Grammar.{parameter_number, attribute, numbered, NumberedFits}
+use Rattle.gw_blocks.specs.Grammar.{parameter_number, attribute, numbered, NumberedFits, tag_form}
 use Rattle.gw_code.specs.Limits.{most_instructions, most_backs, most_locals}
 use Rattle.gw_code.specs.declared.parts.Sna.{Sna}
 use Rattle.gw_code.specs.declared.parts.Sna.TheVariants.{Parameter, Attribute, OfEntity}
@@ -97,10 +97,6 @@ instruction_spelling (JumpIfZero target) = 22 ∷ (number w16).spell target
 instruction_spelling (Back b) = 23 ∷ jump_back.spell b
 instruction_spelling (Call procedure) = 24 ∷ (number w16).spell procedure
 instruction_spelling Return = 25 ∷ []
-
--- an instruction of which nothing is behind the tag
-abbrev pub tag_form : ℕ → Instruction → Form Instruction
-tag_form tag instruction = behind tag (λ _. instruction) nothing
 
 -- the instructions
 abbrev pub instruction_forms : List (Form Instruction)

@@ -6,7 +6,7 @@ use Rattle.std.proofs.Math.Bool.{and-false}
 use Rattle.gw_num.specs.declared.operators.Binary.TheVariants.{Power, Multiply, Divide, Remainder, Add, Subtract, Greater, GreaterOrEqual, Less, LessOrEqual, Equal, NotEqual, And, Or}
 use Rattle.gw_num.specs.declared.operators.Unary.TheVariants.{Negate, Not}
 use Rattle.gw_blocks.specs.Limits.{most_parameters}
-use Rattle.gw_blocks.specs.Grammar.{parameter_number, attribute, numbered}
+use Rattle.gw_blocks.specs.Grammar.{parameter_number, attribute, numbered, tag_form}
 use Rattle.gw_block_bytes.proofs.BlockLaws.{parameter_number_exact, attribute_exact, numbered_exact}
 use Rattle.gw_code.specs.Limits.{most_instructions, most_backs, most_locals}
 use Rattle.gw_code.specs.declared.parts.Sna.{Sna}
@@ -17,7 +17,7 @@ use Rattle.gw_code.specs.declared.parts.Procedure.{Procedure}
 use Rattle.gw_fields.specs.Codes as codes
 use Rattle.gw_fields.specs.declared.error.Bad.{Bad}
 use Rattle.gw_fields.specs.Fields.{bad, byte, number, signed, nothing, form_read, by_tag, ElementsFit}
-use Rattle.gw_code.specs.Grammar.{SnaFits, sna_spelling, sna_forms, sna_read, sna, BackFits, jump_back, InstructionFits, instruction_spelling, tag_form, instruction_forms, instruction_read, instruction, is_back, backs, begins_with_back, next_instruction, need, counts, ProcedureFits, NeedsAscend, procedure}
+use Rattle.gw_code.specs.Grammar.{SnaFits, sna_spelling, sna_forms, sna_read, sna, BackFits, jump_back, InstructionFits, instruction_spelling, instruction_forms, instruction_read, instruction, is_back, backs, begins_with_back, next_instruction, need, counts, ProcedureFits, NeedsAscend, procedure}
 use Rattle.gw_fields.proofs.AboveLast.{above_last_exact, above_last_fit, above_last_ascends}
 use Rattle.gw_code.proofs.Backs.{backs_within, code_fits, begins_as_it_is, front_of_back}
 use Rattle.gw_fields.proofs.Exact.{IsBytes, Takes, CutsFronts, chosen, err_is, not_both, ReadsBack, ◌also◌, tag_reads_back, IsExactForm, AreExactForms, behind_exact, by_tag_exact, IsExact, IsExactElement, byte_exact, wide16, wide32, wide64, number_exact, signed_exact, nothing_exact, made_exact, both_exact, and_then_exact, fitting_exact, ranged_exact, listed_exact, All-from_fit}
@@ -50,8 +50,8 @@ jump_back_exact = fitting_exact BackFits _ (λ b h. record { target = h.0; count
     (made_exact _ _ _ (λ x h. refl) (λ b h. refl) (both_exact _ _ (number_exact w16 wide16) (number_exact w32 wide32)))
 
 -- an instruction of which nothing is behind the tag
-alone_exact : (tag : ℕ) (i : Instruction) → tag ∷ [] ≡ instruction_spelling i → InstructionFits i → IsExactForm instruction_spelling InstructionFits (tag_form tag i)
-alone_exact tag i spelled fits = behind_exact instruction_spelling InstructionFits tag (λ _. i) nothing (λ _. spelled) (λ _ _. fits) nothing_exact
+tag_form_exact : (tag : ℕ) (i : Instruction) → tag ∷ [] ≡ instruction_spelling i → InstructionFits i → IsExactForm instruction_spelling InstructionFits (tag_form tag i)
+tag_form_exact tag i spelled fits = behind_exact instruction_spelling InstructionFits tag (λ _. i) nothing (λ _. spelled) (λ _ _. fits) nothing_exact
 
 instruction_forms_exact : AreExactForms instruction_spelling InstructionFits instruction_forms
 unfolding jump_back
@@ -60,28 +60,28 @@ instruction_forms_exact =
     also behind_exact instruction_spelling InstructionFits 1 (λ local. Get local) byte (λ local. refl) (λ local h. h) byte_exact
     also behind_exact instruction_spelling InstructionFits 2 (λ local. Set local) byte (λ local. refl) (λ local h. h) byte_exact
     also behind_exact instruction_spelling InstructionFits 3 (λ a. Value a) sna (λ a. refl) (λ a h. h) sna_exact
-    also alone_exact 4 (Binary Add) refl tt
-    also alone_exact 5 (Binary Subtract) refl tt
-    also alone_exact 6 (Binary Multiply) refl tt
-    also alone_exact 7 (Binary Divide) refl tt
-    also alone_exact 8 (Binary Remainder) refl tt
-    also alone_exact 9 (Binary Power) refl tt
-    also alone_exact 10 (Unary Negate) refl tt
-    also alone_exact 11 (Binary Equal) refl tt
-    also alone_exact 12 (Binary NotEqual) refl tt
-    also alone_exact 13 (Binary Greater) refl tt
-    also alone_exact 14 (Binary GreaterOrEqual) refl tt
-    also alone_exact 15 (Binary Less) refl tt
-    also alone_exact 16 (Binary LessOrEqual) refl tt
-    also alone_exact 17 (Binary And) refl tt
-    also alone_exact 18 (Binary Or) refl tt
-    also alone_exact 19 (Unary Not) refl tt
-    also alone_exact 20 Pop refl tt
+    also tag_form_exact 4 (Binary Add) refl tt
+    also tag_form_exact 5 (Binary Subtract) refl tt
+    also tag_form_exact 6 (Binary Multiply) refl tt
+    also tag_form_exact 7 (Binary Divide) refl tt
+    also tag_form_exact 8 (Binary Remainder) refl tt
+    also tag_form_exact 9 (Binary Power) refl tt
+    also tag_form_exact 10 (Unary Negate) refl tt
+    also tag_form_exact 11 (Binary Equal) refl tt
+    also tag_form_exact 12 (Binary NotEqual) refl tt
+    also tag_form_exact 13 (Binary Greater) refl tt
+    also tag_form_exact 14 (Binary GreaterOrEqual) refl tt
+    also tag_form_exact 15 (Binary Less) refl tt
+    also tag_form_exact 16 (Binary LessOrEqual) refl tt
+    also tag_form_exact 17 (Binary And) refl tt
+    also tag_form_exact 18 (Binary Or) refl tt
+    also tag_form_exact 19 (Unary Not) refl tt
+    also tag_form_exact 20 Pop refl tt
     also behind_exact instruction_spelling InstructionFits 21 (λ target. Jump target) (number w16) (λ target. refl) (λ target h. h) (number_exact w16 wide16)
     also behind_exact instruction_spelling InstructionFits 22 (λ target. JumpIfZero target) (number w16) (λ target. refl) (λ target h. h) (number_exact w16 wide16)
     also behind_exact instruction_spelling InstructionFits 23 (λ b. Back b) jump_back (λ b. refl) (λ b h. h) jump_back_exact
     also behind_exact instruction_spelling InstructionFits 24 (λ procedure. Call procedure) (number w16) (λ procedure. refl) (λ procedure h. h) (number_exact w16 wide16)
-    also alone_exact 25 Return refl tt
+    also tag_form_exact 25 Return refl tt
     also tt
 
 alone_reads_back : (tag : ℕ) (i : Instruction) → ((bytes rest : List ℕ) → form_read instruction_forms tag bytes rest ≡ Ok (i, rest)) → ReadsBack (by_tag instruction_forms) (tag ∷ []) i

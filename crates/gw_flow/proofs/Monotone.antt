@@ -148,7 +148,6 @@ fewer_units e n state row h = fits_units e (units_of state e - n) (units_of row 
 passes_like : (p : Parts) (b : ℕ) (block : Block) (state row : Row) → Fits state row → PassesLike p b block state row
 passes_like p b (blocks.Generate g) state row h = record { rules_hold = λ isnt hold. absurd (cc); after_fits = h }
 passes_like p b (blocks.Terminate by) state row h = record { rules_hold = λ _ hold. by_facilities codes.owns_at_end (λ fs. length fs == 0) state row h hold; after_fits = h }
-passes_like p b (blocks.Advance time) state row h = record { rules_hold = λ _ hold. hold; after_fits = h }
 passes_like p b (blocks.Seize f) state row h = record { rules_hold = λ _ hold. by_facilities codes.already_owned (λ fs. not (lists fs f)) state row h hold; after_fits = fits_facility f state row h }
 passes_like p b (blocks.Release f) state row h = record { rules_hold = λ _ hold. by_facilities codes.not_owner (λ fs. lists fs f) state row h hold; after_fits = fits_without f state row h }
 passes_like p b (blocks.Enter u) state row h = record { rules_hold = λ _ hold. hold; after_fits = more_units u.entity u.number state row h }
@@ -160,23 +159,12 @@ passes_like p b (blocks.Assign a) state row h = record {
   after_fits = fits_parameter a.parameter Num state row h;
 }
 passes_like p b (blocks.Loop l) state row h = record { rules_hold = λ _ hold. by_number l.parameter state row h hold; after_fits = h }
-passes_like p b (blocks.Logic l) state row h = record { rules_hold = λ _ hold. hold; after_fits = h }
-passes_like p b (blocks.Savevalue s) state row h = record { rules_hold = λ _ hold. hold; after_fits = h }
 passes_like p b (blocks.Mark p') state row h = record { rules_hold = λ _ hold. hold; after_fits = fits_set (parameter_set b (blocks.Mark p')) state row h }
 passes_like p b (blocks.Plus a) state row h = record { rules_hold = λ _ hold. hold; after_fits = fits_set (parameter_set b (blocks.Plus a)) state row h }
-passes_like p b (blocks.Tabulate t) state row h = record { rules_hold = λ _ hold. hold; after_fits = h }
 passes_like p b (blocks.TransferToSubroutine c) state row h = record { rules_hold = λ _ hold. hold; after_fits = fits_parameter c.parameter (Ret (b ∷ [])) state row h }
 passes_like p b (blocks.TransferByParameter q) state row h = record { rules_hold = λ _ hold. by_return q state row h hold; after_fits = h }
-passes_like p b (blocks.Test t) state row h = record { rules_hold = λ _ hold. hold; after_fits = h }
-passes_like p b (blocks.Gate g) state row h = record { rules_hold = λ _ hold. hold; after_fits = h }
-passes_like p b (blocks.Transfer target) state row h = record { rules_hold = λ _ hold. hold; after_fits = h }
-passes_like p b (blocks.TransferByFraction f) state row h = record { rules_hold = λ _ hold. hold; after_fits = h }
-passes_like p b (blocks.Split s) state row h = record { rules_hold = λ _ hold. hold; after_fits = h }
 passes_like p b (blocks.Assemble size) state row h = record { rules_hold = λ _ hold. by_facilities codes.owns_at_end (λ fs. length fs == 0) state row h hold; after_fits = h }
-passes_like p b (blocks.Link l) state row h = record { rules_hold = λ _ hold. hold; after_fits = h }
-passes_like p b (blocks.Unlink u) state row h = record { rules_hold = λ _ hold. hold; after_fits = h }
-passes_like p b (blocks.Priority q) state row h = record { rules_hold = λ _ hold. hold; after_fits = h }
-passes_like p b blocks.Buffer state row h = record { rules_hold = λ _ hold. hold; after_fits = h }
+passes_like p b block state row h = record { rules_hold = λ _ hold. hold; after_fits = h }
 
 -- EDGES
 
@@ -225,33 +213,7 @@ module _ (table : Table) where
       let row_returns = rule codes.param_kind (is_return (kind_of row q)) in
       let returns = return_on (kind_of state q) (kind_of row q) (h.params q) (All-head Holds row_returns [] (All-tail Holds row_set (row_returns ∷ []) hold)) in
       returns_fit b (return_blocks (kind_of state q)) (return_blocks (kind_of row q)) state row returns.1 later arrive
-  block_fits p b (blocks.Generate g) state row h later hold arrive = edges_fit b (exits (blocks.Generate g)) (after b (blocks.Generate g) state) (after b (blocks.Generate g) row) later arrive
-  block_fits p b (blocks.Terminate by) state row h later hold arrive = edges_fit b (exits (blocks.Terminate by)) (after b (blocks.Terminate by) state) (after b (blocks.Terminate by) row) later arrive
-  block_fits p b (blocks.Advance time) state row h later hold arrive = edges_fit b (exits (blocks.Advance time)) (after b (blocks.Advance time) state) (after b (blocks.Advance time) row) later arrive
-  block_fits p b (blocks.Seize f) state row h later hold arrive = edges_fit b (exits (blocks.Seize f)) (after b (blocks.Seize f) state) (after b (blocks.Seize f) row) later arrive
-  block_fits p b (blocks.Release f) state row h later hold arrive = edges_fit b (exits (blocks.Release f)) (after b (blocks.Release f) state) (after b (blocks.Release f) row) later arrive
-  block_fits p b (blocks.Enter u) state row h later hold arrive = edges_fit b (exits (blocks.Enter u)) (after b (blocks.Enter u) state) (after b (blocks.Enter u) row) later arrive
-  block_fits p b (blocks.Leave u) state row h later hold arrive = edges_fit b (exits (blocks.Leave u)) (after b (blocks.Leave u) state) (after b (blocks.Leave u) row) later arrive
-  block_fits p b (blocks.Queue u) state row h later hold arrive = edges_fit b (exits (blocks.Queue u)) (after b (blocks.Queue u) state) (after b (blocks.Queue u) row) later arrive
-  block_fits p b (blocks.Depart u) state row h later hold arrive = edges_fit b (exits (blocks.Depart u)) (after b (blocks.Depart u) state) (after b (blocks.Depart u) row) later arrive
-  block_fits p b (blocks.Assign a) state row h later hold arrive = edges_fit b (exits (blocks.Assign a)) (after b (blocks.Assign a) state) (after b (blocks.Assign a) row) later arrive
-  block_fits p b (blocks.Test t) state row h later hold arrive = edges_fit b (exits (blocks.Test t)) (after b (blocks.Test t) state) (after b (blocks.Test t) row) later arrive
-  block_fits p b (blocks.Gate g) state row h later hold arrive = edges_fit b (exits (blocks.Gate g)) (after b (blocks.Gate g) state) (after b (blocks.Gate g) row) later arrive
-  block_fits p b (blocks.Transfer target) state row h later hold arrive = edges_fit b (exits (blocks.Transfer target)) (after b (blocks.Transfer target) state) (after b (blocks.Transfer target) row) later arrive
-  block_fits p b (blocks.TransferByFraction f) state row h later hold arrive = edges_fit b (exits (blocks.TransferByFraction f)) (after b (blocks.TransferByFraction f) state) (after b (blocks.TransferByFraction f) row) later arrive
-  block_fits p b (blocks.TransferToSubroutine c) state row h later hold arrive = edges_fit b (exits (blocks.TransferToSubroutine c)) (after b (blocks.TransferToSubroutine c) state) (after b (blocks.TransferToSubroutine c) row) later arrive
-  block_fits p b (blocks.Loop l) state row h later hold arrive = edges_fit b (exits (blocks.Loop l)) (after b (blocks.Loop l) state) (after b (blocks.Loop l) row) later arrive
-  block_fits p b (blocks.Logic l) state row h later hold arrive = edges_fit b (exits (blocks.Logic l)) (after b (blocks.Logic l) state) (after b (blocks.Logic l) row) later arrive
-  block_fits p b (blocks.Savevalue s) state row h later hold arrive = edges_fit b (exits (blocks.Savevalue s)) (after b (blocks.Savevalue s) state) (after b (blocks.Savevalue s) row) later arrive
-  block_fits p b (blocks.Mark o) state row h later hold arrive = edges_fit b (exits (blocks.Mark o)) (after b (blocks.Mark o) state) (after b (blocks.Mark o) row) later arrive
-  block_fits p b (blocks.Plus a) state row h later hold arrive = edges_fit b (exits (blocks.Plus a)) (after b (blocks.Plus a) state) (after b (blocks.Plus a) row) later arrive
-  block_fits p b (blocks.Tabulate t) state row h later hold arrive = edges_fit b (exits (blocks.Tabulate t)) (after b (blocks.Tabulate t) state) (after b (blocks.Tabulate t) row) later arrive
-  block_fits p b (blocks.Split s) state row h later hold arrive = edges_fit b (exits (blocks.Split s)) (after b (blocks.Split s) state) (after b (blocks.Split s) row) later arrive
-  block_fits p b (blocks.Assemble size) state row h later hold arrive = edges_fit b (exits (blocks.Assemble size)) (after b (blocks.Assemble size) state) (after b (blocks.Assemble size) row) later arrive
-  block_fits p b (blocks.Link l) state row h later hold arrive = edges_fit b (exits (blocks.Link l)) (after b (blocks.Link l) state) (after b (blocks.Link l) row) later arrive
-  block_fits p b (blocks.Unlink u) state row h later hold arrive = edges_fit b (exits (blocks.Unlink u)) (after b (blocks.Unlink u) state) (after b (blocks.Unlink u) row) later arrive
-  block_fits p b (blocks.Priority q) state row h later hold arrive = edges_fit b (exits (blocks.Priority q)) (after b (blocks.Priority q) state) (after b (blocks.Priority q) row) later arrive
-  block_fits p b blocks.Buffer state row h later hold arrive = edges_fit b (exits blocks.Buffer) (after b blocks.Buffer state) (after b blocks.Buffer row) later arrive
+  block_fits p b block state row h later hold arrive = edges_fit b (exits block) (after b block state) (after b block row) later arrive
 
   -- to a user chain that a block joins; who is sent on from one knows nothing of who enters
   chains_fit : (block : Block) (state row : Row) → ChainUse block → Fits state row → All Arrives (chain_edges table block row) → All Arrives (chain_edges table block state)

@@ -31,34 +31,8 @@ kind_of_other p q kind row ne = entry-with_entry p (Some kind) row.params q ∙ 
 
 -- a block sets the parameter that it sets, and no other
 pub after_params : (b : ℕ) (block : Block) (row : Row) → (after b block row).params ≡ (with_setting (parameter_set b block) row).params
-after_params b (blocks.Generate g) row = refl
-after_params b (blocks.Terminate by) row = refl
-after_params b (blocks.Advance time) row = refl
-after_params b (blocks.Seize f) row = refl
-after_params b (blocks.Release f) row = refl
-after_params b (blocks.Enter u) row = refl
-after_params b (blocks.Leave u) row = refl
-after_params b (blocks.Queue u) row = refl
-after_params b (blocks.Depart u) row = refl
-after_params b (blocks.Assign a) row = refl
-after_params b (blocks.Test t) row = refl
-after_params b (blocks.Gate g) row = refl
-after_params b (blocks.Transfer target) row = refl
-after_params b (blocks.TransferByFraction f) row = refl
-after_params b (blocks.TransferToSubroutine c) row = refl
-after_params b (blocks.TransferByParameter q) row = refl
-after_params b (blocks.Loop l) row = refl
-after_params b (blocks.Logic l) row = refl
-after_params b (blocks.Savevalue s) row = refl
-after_params b (blocks.Mark p) row = refl
 after_params b (blocks.Plus a) row = refl
-after_params b (blocks.Tabulate t) row = refl
-after_params b (blocks.Split s) row = refl
-after_params b (blocks.Assemble size) row = refl
-after_params b (blocks.Link l) row = refl
-after_params b (blocks.Unlink u) row = refl
-after_params b (blocks.Priority q) row = refl
-after_params b blocks.Buffer row = refl
+after_params b block row = refl
 
 -- WHERE A BLOCK MAY BE PASSED
 

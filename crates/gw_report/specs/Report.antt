@@ -1,10 +1,11 @@
 -- The text of a report: one line per item, words separated by one space, each ended by LF.
-use Rattle.std.specs.Prelude.{ℕ, ◌+◌, ◌/◌, ◌%◌, pos, false, List, [], ◌∷◌, ◌++◌, length, codes, sum, unsigned_abs}
+use Rattle.std.specs.Prelude.{◌≡◌, ℕ, ◌+◌, ◌/◌, ◌%◌, pos, false, List, [], ◌∷◌, ◌++◌, length, codes, sum, unsigned_abs, Result, OnOk, Vec}
 use Rattle.std.specs.Fmt.{decimal, signed_decimal}
+use Rattle.std.specs.Global.{Global}
 use Rattle.std.specs.Int.{from_bool}
 use Rattle.std.specs.Option.{unwrap_or}
 use Rattle.gw_blocks.specs.declared.parts.Block.{Block}
-use Rattle.gw_blocks.specs.declared.parts.Block.TheVariants.{Generate, Terminate, Advance, Seize, Release, Enter, Leave, Queue, Depart, Assign, Test, Gate, Transfer, TransferByFraction, TransferToSubroutine, TransferByParameter, Loop, Split, Assemble, Link, Unlink, Logic, Savevalue, Mark, Priority, Buffer, Plus, Tabulate}
+use Rattle.gw_blocks.specs.Grammar.{block_word}
 use Rattle.gw_object.specs.declared.parts.Entity.{Entity}
 use Rattle.gw_object.specs.declared.parts.Kind.{Kind}
 use Rattle.gw_object.specs.declared.parts.Kind.TheVariants as kinds
@@ -25,6 +26,10 @@ use Rattle.gw_scan.specs.declared.sim.Status.TheVariants.{Running, Ended}
 use Rattle.gw_scan.specs.Answers.{status_at}
 use Rattle.gw_step.specs.Job.{Progress}
 
+-- this text is put behind what is there, unless there is no memory for it
+abbrev pub Puts : {A E : Type 0} → Result A E → Vec ℕ Global → Vec ℕ Global → List ℕ → Type 0
+Puts result old new text = OnOk result (new.items ≡ old.items ++ text)
+
 -- how a job stands: the name of its end, if one stands
 abbrev pub status_word : Status → List ℕ
 status_word Running = codes "Running"
@@ -36,37 +41,6 @@ status_word (Ended LoopLimit) = codes "LoopLimit"
 status_word (Ended NoMoreEvents) = codes "NoMoreEvents"
 status_word (Ended Budget) = codes "Budget"
 status_word (Ended Live) = codes "Live"
-
--- the word of a block in a model text
-abbrev pub block_word : Block → List ℕ
-block_word (Generate g) = codes "GENERATE"
-block_word (Terminate by) = codes "TERMINATE"
-block_word (Advance time) = codes "ADVANCE"
-block_word (Seize facility) = codes "SEIZE"
-block_word (Release facility) = codes "RELEASE"
-block_word (Enter units) = codes "ENTER"
-block_word (Leave units) = codes "LEAVE"
-block_word (Queue units) = codes "QUEUE"
-block_word (Depart units) = codes "DEPART"
-block_word (Assign a) = codes "ASSIGN"
-block_word (Test t) = codes "TEST"
-block_word (Gate g) = codes "GATE"
-block_word (Transfer target) = codes "TRANSFER"
-block_word (TransferByFraction fraction) = codes "TRANSFER"
-block_word (TransferToSubroutine c) = codes "TRANSFER"
-block_word (TransferByParameter parameter) = codes "TRANSFER"
-block_word (Loop l) = codes "LOOP"
-block_word (Split s) = codes "SPLIT"
-block_word (Assemble size) = codes "ASSEMBLE"
-block_word (Link l) = codes "LINK"
-block_word (Unlink u) = codes "UNLINK"
-block_word (Priority p) = codes "PRIORITY"
-block_word Buffer = codes "BUFFER"
-block_word (Logic l) = codes "LOGIC"
-block_word (Savevalue save) = codes "SAVEVALUE"
-block_word (Mark parameter) = codes "MARK"
-block_word (Plus a) = codes "PLUS"
-block_word (Tabulate table) = codes "TABULATE"
 
 -- the entries of all blocks, and the termination count
 abbrev pub counts : State → List ℕ
@@ -88,6 +62,10 @@ block_line s b block =
 unfoldable pub block_lines : State → ℕ → List Block → List ℕ
 block_lines s b [] = []
 block_lines s b (block ∷ rest) = block_line s b block ++ block_lines s (b + 1) rest
+
+-- the lines of the blocks of a job, in order
+abbrev pub lines_of_blocks : Progress → List ℕ
+lines_of_blocks p = block_lines p.state 1 p.job.parts.blocks
 
 -- an average: its whole part and the three digits of its thousandths
 abbrev pub average_text : Average → List ℕ
@@ -186,7 +164,10 @@ unfoldable pub entity_lines : State → ℕ → List Entity → List ℕ
 entity_lines s e [] = []
 entity_lines s e (entity ∷ rest) = lines_of s e entity ++ entity_lines s (e + 1) rest
 
+-- the lines of the entities of a job, in order
+abbrev pub lines_of_entities : Progress → List ℕ
+lines_of_entities p = entity_lines p.state 0 p.job.parts.entities
+
 -- the report text of a job and its state
 abbrev pub report_of : Progress → List ℕ
-report_of p =
-    end_line (status_at p.state.ended) p.state ++ block_lines p.state 1 p.job.parts.blocks ++ entity_lines p.state 0 p.job.parts.entities
+report_of p = end_line (status_at p.state.ended) p.state ++ lines_of_blocks p ++ lines_of_entities p

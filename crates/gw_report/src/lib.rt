@@ -6,17 +6,19 @@ mod entities;
 mod tables;
 pub mod text;
 
-ghost use Rattle.std.specs.Prelude.{◌≡◌, ◌++◌, OnOk, IfOk};
+ghost use Rattle.std.specs.Prelude.{◌≡◌, IfOk};
 ghost use Rattle.gw_report.specs.Report.{
+  Puts,
   status_word as word_of_status,
   counts,
   end_line,
   report_of,
 };
 
-pub use blocks::block_word;
 use blocks::put_block_lines;
 use entities::put_entity_lines;
+/// The word of a block in a model text.
+pub use gw_blocks::block_word;
 use gw_object::Memory;
 use gw_scan::{End, Sim, Status};
 use std::alloc::Global;
@@ -41,14 +43,14 @@ pub fn status_word(status: Status) -> &'static str
 
 /// The entries of all blocks, and the termination count.
 fn put_counts(out: &mut Vec<u8>, sim: &Sim) -> Result<(), Memory>
-    ensures { OnOk result (out.new.items ≡ out.old.items ++ counts sim.now.state) }
+    ensures { Puts result out.old out.new (counts sim.now.state) }
 {
     put_number(out, " ENTRIES ", sim.entries())?;
     put_number(out, " COUNT ", sim.count())
 }
 
 fn put_end_line(out: &mut Vec<u8>, sim: &Sim, status: Status) -> Result<(), Memory>
-    ensures { OnOk result (out.new.items ≡ out.old.items ++ end_line status sim.now.state) }
+    ensures { Puts result out.old out.new (end_line status sim.now.state) }
 {
     put(out, "END ")?;
     put(out, status_word(status))?;

@@ -1,14 +1,14 @@
 //! The lines of a table.
 
-ghost use Rattle.std.specs.Prelude.{◌≡◌, ◌<◌, ◌++◌, length, OnOk};
-ghost use Rattle.gw_report.specs.Report.{class_line, class_lines, table_lines};
+ghost use Rattle.std.specs.Prelude.{◌<◌, length};
+ghost use Rattle.gw_report.specs.Report.{Puts, class_line, class_lines, table_lines};
 
-use crate::text::{put, put_number};
+use crate::text::{put, put_name, put_number};
 use gw_object::Memory;
 use gw_scan::Sim;
 
 fn put_class_line(out: &mut Vec<u8>, class: usize, values: u64) -> Result<(), Memory>
-    ensures { OnOk result (out.new.items ≡ out.old.items ++ class_line class values) }
+    ensures { Puts result out.old out.new (class_line class values) }
 {
     put_number(out, "CLASS ", class)?;
     put_number(out, " ", values)?;
@@ -18,7 +18,7 @@ fn put_class_line(out: &mut Vec<u8>, class: usize, values: u64) -> Result<(), Me
 /// A line for each class, in order.
 #[tactic(auto, unfolding(crate::specs::Report::class_lines))]
 fn put_class_lines(out: &mut Vec<u8>, classes: &[u64]) -> Result<(), Memory>
-    ensures { OnOk result (out.new.items ≡ out.old.items ++ class_lines 0 classes.now) }
+    ensures { Puts result out.old out.new (class_lines 0 classes.now) }
 {
     for i in 0..classes.len() {
         put_class_line(out, i, classes[i])?;
@@ -34,11 +34,10 @@ pub(crate) fn put_table_lines(
     name: &[u8],
 ) -> Result<(), Memory>
     requires { number < length sim.now.job.parts.entities }
-    ensures { OnOk result (out.new.items ≡ out.old.items ++ table_lines sim.now.state number name.now) }
+    ensures { Puts result out.old out.new (table_lines sim.now.state number name.now) }
 {
     let table = sim.tables().get(number);
-    put(out, "TABLE ")?;
-    out.extend_from_slice(name)?;
+    put_name(out, "TABLE ", name)?;
     put_number(out, " COUNT ", table.count())?;
     put_number(out, " SUM ", table.sum())?;
     put(out, "\n")?;

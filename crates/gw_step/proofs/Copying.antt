@@ -1,4 +1,4 @@
--- Copies, assembly and priority: what SPLIT, ASSEMBLE, PRIORITY and BUFFER do to a well-typed state is a list of elementary changes, and never an error stop.
+-- Copies, assembly and priority: what SPLIT, ASSEMBLE, PRIORITY and blocks that are only passed do to a well-typed state is a list of elementary changes, and never an error stop.
 use Rattle.std.proofs.Common.{◌≡◌, ℕ, zero, suc, ◌+◌, ◌-◌, ◌≤◌, ℤ, List, [], ◌∷◌, ◌++◌, length, Option, Some, None, Bool, true, false, not, if◌then◌else◌, ◌==◌, option_map, refl, sym, ap, ◌∙◌, subst, arith, inl, inr, ◌<◌}
 use Rattle.std.specs.Prelude.{◌*◌, ◌&&◌, nat_le, Contains}
 use Rattle.std.proofs.lemmas.List.Elements.{All-head, All-tail}
@@ -29,7 +29,7 @@ use Rattle.gw_step.specs.Numbers.{made_in}
 use Rattle.gw_step.specs.State.{Assembly, State}
 use Rattle.gw_step.specs.Times.{parameters_of}
 use Rattle.gw_step.specs.Changes.{entered, enters_and_falls, copied, copies_made, is_of, assembled, come_to}
-use Rattle.gw_step.specs.Blocks.{split, assembly_at, joined_by_one, assemble_in, assemble, is_priority, set_priority, buffer}
+use Rattle.gw_step.specs.Blocks.{split, assembly_at, joined_by_one, assemble_in, assemble, is_priority, set_priority, passes}
 use Rattle.gw_step.specs.Typing.{AreAsKnown}
 use Rattle.gw_step.proofs.Outcomes.{choose}
 use Rattle.gw_step.proofs.Owning.{lists-none}
@@ -232,7 +232,7 @@ module _ (p : Parts) (s : State) (n : ℕ) (t : Transaction) (k : ℕ) where
       (λ alone. safe_leads p (Enters p k s n) (t.next + 1) _ may (falls_and_rests (blocks.Assemble size) row acts t StaysActive (unchanged s t) (at_first _ []) may tt refl refl (falls_paid p s n t (blocks.Assemble size) row acts Falls [] refl 0)))
       (λ more. assembles size row acts more (assembly_at t.next t.set s) refl)
 
-  -- PRIORITY AND BUFFER
+  -- PRIORITY, AND BLOCKS THAT ARE ONLY PASSED
 
   pub safe_priority : (a : Priority) (value : ℤ) (row : Row) → Acts p s n t (blocks.Priority a) row → Safe (Enters p k s n) (set_priority p.blocks n t a.behind value s)
   safe_priority a value row acts =
@@ -246,7 +246,16 @@ module _ (p : Parts) (s : State) (n : ℕ) (t : Transaction) (k : ℕ) where
       (λ ahead. falls_and_rests (blocks.Priority a) row acts u RestsAhead same (at_first _ []) may acts.active refl refl (falls_paid p s n t (blocks.Priority a) row acts Falls [] refl 0))))
       (λ unfit. tt)
 
-  pub safe_buffer : (row : Row) → Acts p s n t blocks.Buffer row → Safe (Enters p k s n) (buffer p.blocks n t s)
-  safe_buffer row acts =
-      let may = first_may_be_entered p t.next _ [] acts.kinds.exits in
-      safe_leads p (Enters p k s n) (t.next + 1) _ may (falls_and_rests blocks.Buffer row acts t RestsBehind (unchanged s t) (at_first _ []) may acts.active refl refl (falls_paid p s n t blocks.Buffer row acts Falls [] refl 0))
+  -- who passes stays active, or goes ahead of its peers on the current events chain or behind them
+  abbrev StaysOrYields : Placement → Type 0
+  StaysOrYields StaysActive = Unit {0}
+  StaysOrYields RestsAhead = Unit {0}
+  StaysOrYields RestsBehind = Unit {0}
+  StaysOrYields placement = ⊥
+
+  pub safe_passes : (block : Block) (placement : Placement) (row : Row) → Acts p s n t block row → StaysOrYields placement → Contains (edges p (own_table p) t.next block row) (move (t.next + 1) row) → MayBeEntered p (t.next + 1)
+      → Paid p (1 + weight_at p.weights (t.next + 1) + 0) (weight_at p.weights t.next + 0) → Safe (Enters p k s n) (passes p.blocks n t placement s)
+  safe_passes block StaysActive row acts yields along may pays = safe_leads p (Enters p k s n) (t.next + 1) _ may (falls_and_rests block row acts t StaysActive (unchanged s t) along may tt refl refl pays)
+  safe_passes block RestsAhead row acts yields along may pays = safe_leads p (Enters p k s n) (t.next + 1) _ may (falls_and_rests block row acts t RestsAhead (unchanged s t) along may acts.active refl refl pays)
+  safe_passes block RestsBehind row acts yields along may pays = safe_leads p (Enters p k s n) (t.next + 1) _ may (falls_and_rests block row acts t RestsBehind (unchanged s t) along may acts.active refl refl pays)
+  safe_passes block placement row acts yields along may pays = absurd yields

@@ -209,10 +209,10 @@ module _ (s : State) where
   effect_counted p n t (blocks.Unlink u) values = unlink_counted p n t u
   effect_counted p n t (blocks.Priority a) values =
       on_if Entered (is_priority (the_value values)) _ (EndsBy Number) (on_test Entered (may_enter (block_at p.blocks (t.next + 1))) _ (passed (enters_and_falls n (record t { priority = the_value values }) s) refl refl refl refl)) tt
-  effect_counted p n t blocks.Buffer values = on_test Entered (may_enter (block_at p.blocks (t.next + 1))) _ (passed (enters_and_falls n t s) refl refl refl refl)
   effect_counted p n t (blocks.Plus a) values = plus_counted p n t a.parameter (the_value values)
   effect_counted p n t (blocks.Mark None) values = on_test Entered (may_enter (block_at p.blocks (t.next + 1))) _ (passed (enters_and_falls n (record t { mark = s.clock }) s) refl refl refl refl)
   effect_counted p n t (blocks.Mark (Some q)) values = on_test Entered (may_enter (block_at p.blocks (t.next + 1))) _ (passed (enters_and_falls n t (assigned n q s.clock s)) refl refl refl refl)
+  effect_counted p n t block values = on_test Entered (may_enter (block_at p.blocks (t.next + 1))) _ (passed (enters_and_falls n t s) refl refl refl refl)
 
   meets_scans : (p : Parts) (n : ℕ) (t : Transaction) (block : Block) (values : List ℤ) → s.lists.active ≡ Some n → OnGives (Scans s) (meets p n t block values s)
   meets_scans p n t block values active =

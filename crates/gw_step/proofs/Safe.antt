@@ -4,6 +4,7 @@ use Rattle.std.specs.Prelude.{All, IfSome, IsSome}
 use Rattle.gw_blocks.specs.declared.parts.Block.{Block}
 use Rattle.gw_blocks.specs.declared.parts.Block.TheVariants as blocks
 use Rattle.gw_object.specs.declared.parts.Parts.{Parts}
+use Rattle.gw_kinds.specs.declared.ways.Way.TheVariants.{Falls}
 use Rattle.gw_kinds.specs.Kinds.{block_at}
 use Rattle.gw_kinds.specs.Laws.{ReturnsHold, BlockHolds}
 use Rattle.gw_code_flow.proofs.Theorems.{comes_to}
@@ -43,10 +44,11 @@ use Rattle.gw_step.specs.declared.ends.End.{End}
 use Rattle.gw_step.proofs.Unstopped.{Safe, safe_bind, safe_then, safe_found, safe_given}
 use Rattle.gw_step.proofs.Drawn.{IsSound, Read, safe_operands}
 use Rattle.gw_step.proofs.Asked.{are_read, arrival_read, acts_at}
-use Rattle.gw_step.proofs.Moving.{Acts, Reaches, safe_placed}
+use Rattle.gw_step.proofs.AtBlock.{first_may_be_entered}
+use Rattle.gw_step.proofs.Moving.{Acts, Reaches, safe_placed, at_first, falls_paid}
 use Rattle.gw_step.proofs.Calling.{some_of}
 use Rattle.gw_step.proofs.Effects.{safe_call, safe_come_back, safe_comparison, safe_gate, safe_advance, safe_seize, safe_release, safe_enter, safe_leave, safe_join, safe_depart, safe_assign, safe_transfer, safe_fraction, safe_loop, safe_logic, safe_save, safe_mark, safe_plus, safe_tabulate, safe_terminate}
-use Rattle.gw_step.proofs.Copying.{safe_split, safe_assemble, safe_priority, safe_buffer}
+use Rattle.gw_step.proofs.Copying.{safe_split, safe_assemble, safe_priority, safe_passes}
 use Rattle.gw_step.proofs.Linking.{safe_link, safe_unlink}
 use Rattle.gw_step.proofs.Arriving.{Starts, safe_generate, start_typed}
 use Rattle.gw_step.proofs.Attributes.{attributes_of}
@@ -100,9 +102,10 @@ module _ (p : Parts) (each_return : All (ReturnsHold p) p.returns) (each_block :
   safe_meets s n t (blocks.Link l) values row acts tells = safe_placed p k s n (link n t l s) (safe_link p s n t k l row acts)
   safe_meets s n t (blocks.Unlink u) values row acts tells = safe_placed p k s n _ (safe_unlink p s n t k flow u row acts)
   safe_meets s n t (blocks.Priority a) values row acts tells = safe_placed p k s n _ (safe_priority p s n t k a (the_value values) row acts)
-  safe_meets s n t blocks.Buffer values row acts tells = safe_placed p k s n _ (safe_buffer p s n t k row acts)
   safe_meets s n t (blocks.Plus a) values row acts tells = safe_placed p k s n _ (safe_plus p each_block flow s n t k a (the_value values) row acts)
   safe_meets s n t (blocks.Tabulate e) values row acts tells = safe_placed p k s n _ (safe_tabulate p each_block flow s n t k e (the_value values) row acts)
+  safe_meets s n t block values row acts tells =
+      safe_placed p k s n _ (safe_passes p s n t k block _ row acts tt (at_first _ []) (first_may_be_entered p t.next _ [] acts.kinds.exits) (falls_paid p s n t block row acts Falls [] refl 0))
 
   safe_act : (s : State) (n : ℕ) (t : Transaction) (block : Block) (row : Row) → Acts p s n t block row → Safe (Reaches p k s) (act p n t block s)
   unfolding act

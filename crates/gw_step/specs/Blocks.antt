@@ -113,6 +113,10 @@ leads bs b outcome = only_if (may_enter (block_at bs b)) outcome
 abbrev pub stays : State → Outcome (State × Placement)
 stays s = Gives (s, StaysActive)
 
+-- the effect of a block that does nothing else: the transaction enters, and is placed so
+abbrev pub passes : List Block → ℕ → Transaction → Placement → State → Outcome (State × Placement)
+passes bs n t placement s = leads bs (t.next + 1) (Gives (enters_and_falls n t s, placement))
+
 -- the operand value of a block that has one
 abbrev pub the_value : List ℤ → ℤ
 the_value [] = pos 0
@@ -361,10 +365,6 @@ set_priority bs n t behind value s =
     then leads bs (t.next + 1) (Gives (enters_and_falls n (record t { priority = value }) s, if behind then RestsBehind else RestsAhead))
     else EndsBy Number
 
--- the effect of BUFFER: the transaction enters, and goes behind its peers on the current events chain
-abbrev pub buffer : List Block → ℕ → Transaction → State → Outcome (State × Placement)
-buffer bs n t s = leads bs (t.next + 1) (Gives (enters_and_falls n t s, RestsBehind))
-
 -- LOGIC SWITCHES, SAVEVALUES AND TABLES
 
 -- what becomes of a logic switch
@@ -424,9 +424,10 @@ effect p n t (blocks.Logic l) values s = logic p.blocks n t l s
 effect p n t (blocks.Savevalue a) values s = save p.blocks n t a (the_value values) s
 effect p n t (blocks.Mark q) values s = mark p.blocks n t q s
 effect p n t (blocks.Priority a) values s = set_priority p.blocks n t a.behind (the_value values) s
-effect p n t blocks.Buffer values s = buffer p.blocks n t s
 effect p n t (blocks.Plus a) values s = plus p.blocks n t a.parameter (the_value values) s
 effect p n t (blocks.Tabulate e) values s = tabulate p.blocks n t e (the_value values) s
+-- who enters a BUFFER goes behind its peers on the current events chain
+effect p n t blocks.Buffer values s = passes p.blocks n t RestsBehind s
 
 -- what entering came to, with the transaction n placed
 abbrev pub then_placed : ℕ → Outcome (State × Placement) → Outcome State

@@ -211,7 +211,7 @@ pub fn operands_by_word(
         }
         Word::Initial => initial_of(reader, lowest, tokens),
         Word::Transfer => transfer_of(reader, lowest, tokens),
-        Word::Buffer | Word::Simulate => {
+        _ if fields_of(word).is_empty() => {
             if tokens.len() > 1 {
                 lowest.note(Refusal::Operand);
             }

@@ -4,6 +4,7 @@ use Rattle.std.specs.Option.{unwrap_or, option_map_or}
 use Rattle.std.specs.Fmt.{decimal, signed_decimal}
 use Rattle.gw_blocks.specs.declared.parts.Block.{Block}
 use Rattle.gw_blocks.specs.declared.parts.Block.TheVariants as blocks
+use Rattle.gw_blocks.specs.Grammar.{block_word}
 use Rattle.gw_object.specs.declared.parts.Entity.{Entity}
 use Rattle.gw_object.specs.declared.parts.Parts.{Parts}
 use Rattle.gw_kinds.specs.Kinds.{block_at}
@@ -13,7 +14,7 @@ use Rattle.gw_step.specs.State.{State}
 use Rattle.gw_step.specs.Changes.{facility}
 use Rattle.gw_scan.specs.declared.sim.Status.TheVariants.{Ended}
 use Rattle.gw_scan.specs.Views.{delayed_in}
-use Rattle.gw_report.specs.Report.{block_word, status_word}
+use Rattle.gw_report.specs.Report.{status_word}
 use Rattle.gw_trace.specs.declared.sight.Sight.{Sight}
 use Rattle.gw_trace.specs.declared.happening.Happening.{Happening}
 use Rattle.gw_trace.specs.declared.happening.Happening.TheVariants.{Activation, ClockMove, Entry, Refusal, Stop}
