@@ -5,7 +5,6 @@ pub mod Environment
 pub mod Laws
 pub mod Made
 pub mod Meaning
-pub mod Names
 pub mod OneHeight
 pub mod Outcome
 pub mod PlusChecks

@@ -1,5 +1,5 @@
 -- The checks of PLUS code, in order: of each procedure, and of each of its instructions.
-use Rattle.std.specs.Prelude.{◌≡◌, ℕ, ◌+◌, ◌-◌, List, [], ◌∷◌, ◌++◌, length, Option, Some, None, Bool, true, false, ◌==◌, ◌&&◌, nat_le}
+use Rattle.std.specs.Prelude.{◌≡◌, ◌<◌, ◌≤◌, ℕ, ◌+◌, ◌-◌, List, [], ◌∷◌, ◌++◌, length, Option, Some, None, Bool, true, false, ◌==◌, ◌&&◌, nat_le}
 use Rattle.std.specs.List.{list_all}
 use Rattle.gw_num.specs.Table.{at, put}
 use Rattle.gw_code.specs.declared.parts.Instruction.{Instruction}
@@ -8,6 +8,7 @@ use Rattle.gw_object.specs.declared.fault.Place.TheVariants as places
 use Rattle.gw_object.specs.declared.parts.Entity.{Entity}
 use Rattle.gw_object.specs.declared.parts.Parts.{Parts}
 use Rattle.gw_kinds.specs.Checks.{Check, check, first_broken}
+use Rattle.gw_code_flow.specs.declared.check.InstructionAt.{InstructionAt}
 use Rattle.gw_code_flow.specs.Codes as codes
 use Rattle.gw_code_flow.specs.Code.{most_values, takes, leaves, targets, leads_well, called_in, calls_lower, asks_for, is_among, cost_of_code}
 
@@ -40,9 +41,13 @@ spread heights height (target ∷ targets) = spread (put None heights target (So
 abbrev pub heights_after : Parts → Heights → ℕ → Instruction → Heights
 heights_after p heights k i = spread heights (height_after p i (known_height (at None heights k))) (targets k i)
 
+-- a height is the one that is known where the instruction k leads
+abbrev pub agrees_ahead : Heights → ℕ → ℕ → Instruction → Bool
+agrees_ahead heights height k i = list_all (λ target. agrees height (at None heights target)) (targets k i)
+
 -- a height after the instruction k is no more than the stack holds, and the one that is known where it leads
 abbrev pub fits_ahead : Heights → ℕ → ℕ → Instruction → Bool
-fits_ahead heights height k i = nat_le height most_values && list_all (λ target. agrees height (at None heights target)) (targets k i)
+fits_ahead heights height k i = nat_le height most_values && agrees_ahead heights height k i
 
 -- ONE INSTRUCTION
 
@@ -57,6 +62,23 @@ instruction_checks p n pr heights k i (Some height) =
     ∷ check codes.stack_height (places.Code n k) (fits_ahead heights (height_after p i height) k i)
     ∷ []
 
+-- by the instruction at its position, with this height before it
+abbrev pub checks_with : InstructionAt → Heights → Option ℕ → List Check
+checks_with here heights before =
+    instruction_checks here.parts.now here.number here.procedure.now heights here.position here.instruction before
+
+-- and with the one that is known
+abbrev pub checks_at : InstructionAt → Heights → List Check
+checks_at here heights = checks_with here heights (at None heights here.position)
+
+-- the height after it, where this one is before it
+abbrev pub height_behind : InstructionAt → ℕ → ℕ
+height_behind here height = height_after here.parts.now here.instruction height
+
+-- the heights once it has told its own
+abbrev pub heights_behind : InstructionAt → Heights → Heights
+heights_behind here heights = heights_after here.parts.now heights here.position here.instruction
+
 -- CODE
 
 -- of the instructions from k on, in order; each tells its height to those to which it leads
@@ -65,6 +87,10 @@ code_checks p n pr heights k [] = []
 code_checks p n pr heights k (i ∷ code) =
     instruction_checks p n pr heights k i (at None heights k)
     ++ code_checks p n pr (heights_after p heights k i) (k + 1) code
+
+-- of all instructions of the procedure n, with an empty stack before the first
+abbrev pub body_checks : Parts → ℕ → Procedure → List Check
+body_checks p n pr = code_checks p n pr (Some 0 ∷ []) 0 pr.code
 
 -- there are instructions
 abbrev pub has_code : List Instruction → Bool
@@ -75,6 +101,18 @@ has_code (i ∷ code) = true
 abbrev pub greatest_cost : ℕ
 greatest_cost = 1000000000
 
+-- code costs more than that, by the costs of the procedures below
+abbrev pub IsTooCostly : List Entity → List ℕ → List Instruction → Type 0
+IsTooCostly es costs code = greatest_cost < cost_of_code es costs code
+
+-- it costs so much, and may
+abbrev pub MayCost : List Entity → List ℕ → List Instruction → ℕ → Type 0
+MayCost es costs code cost = (cost ≡ cost_of_code es costs code) × (cost ≤ greatest_cost)
+
+-- what a procedure costs, by the costs of those below
+abbrev pub cost_of : Parts → List ℕ → Procedure → ℕ
+cost_of p costs pr = cost_of_code p.entities costs pr.code
+
 -- of the code of the procedure n as a whole, by the costs of those below: it has an instruction (32), and isn't too costly (34)
 abbrev pub whole_checks : Parts → List ℕ → ℕ → List Instruction → List Check
 whole_checks p costs n code =
@@ -82,11 +120,9 @@ whole_checks p costs n code =
     ∷ check codes.too_costly (places.Code n 0) (nat_le (cost_of_code p.entities costs code) greatest_cost)
     ∷ []
 
--- of the procedure n: its instructions, with an empty stack before the first; then its code as a whole
+-- of the procedure n: its instructions, and then its code as a whole
 abbrev pub procedure_checks : Parts → List ℕ → ℕ → Procedure → List Check
-procedure_checks p costs n pr =
-    code_checks p n pr (Some 0 ∷ []) 0 pr.code
-    ++ whole_checks p costs n pr.code
+procedure_checks p costs n pr = body_checks p n pr ++ whole_checks p costs n pr.code
 
 -- of the procedures from n on, in order
 abbrev pub checks_from : Parts → List ℕ → ℕ → List Procedure → List Check

@@ -6,6 +6,7 @@ ghost use Rattle.gw_code.specs.Grammar.{ProcedureFits};
 ghost use Rattle.gw_kinds.specs.Checks.{Finds};
 ghost use Rattle.gw_code_flow.specs.Code.{most_values, cost_of_code};
 ghost use Rattle.gw_code_flow.specs.PlusChecks as model;
+ghost use Rattle.gw_code_flow.specs.PlusChecks.{procedure_checks, cost_of};
 
 use crate::codes::*;
 use crate::costs::cost_of_code;
@@ -17,21 +18,34 @@ use gw_code::{Instruction, MOST_INSTRUCTIONS, Procedure};
 use gw_kinds::check;
 use gw_object::{Fault, MOST_PROCEDURES, Object, Parts, Place};
 
-/// The first fault of the instruction at a position of the procedure of a number, with this height before it, if there is
-/// one; else the height after it.
-fn check_at_height(
-    parts: &Parts,
-    number: u16,
-    procedure: &Procedure,
-    heights: &Heights,
-    position: u16,
-    instruction: Instruction,
-    height: u8,
-) -> Result<u16, Fault>
-    ensures checks { Finds result (model.instruction_checks parts.now number procedure.now heights.now position instruction (Some height)) }
-    ensures after { IfOk result (λ after. after ≡ model.height_after parts.now instruction height) }
+/// An instruction of a procedure of an object, at its position.
+#[derive(Clone, Copy)]
+pub(crate) struct InstructionAt<'a> {
+    /// The object.
+    pub parts: &'a Parts,
+    /// The number of the procedure.
+    pub number: u16,
+    /// The procedure.
+    pub procedure: &'a Procedure,
+    /// The position of the instruction.
+    pub position: u16,
+    /// The instruction.
+    pub instruction: Instruction,
+}
+
+/// The first fault of an instruction with this height before it, if there is one; else the height after it.
+fn check_at_height(here: InstructionAt<'_>, heights: &Heights, height: u8) -> Result<u16, Fault>
+    ensures checks { Finds result (model.checks_with here.entry heights.now (Some height)) }
+    ensures after { IfOk result (λ after. after ≡ model.height_behind here.entry height) }
     ensures room { IfOk result (λ after. after ≤ most_values) }
 {
+    let InstructionAt {
+        parts,
+        number,
+        procedure,
+        position,
+        instruction,
+    } = here;
     let place = Place::Code(number, position);
     let length = procedure.code.as_slice().len();
     check(BAD_JUMP, place, leads_well(length, position, instruction))?;
@@ -50,40 +64,29 @@ fn check_at_height(
     Ok(after)
 }
 
-/// The first fault of the instruction at a position of the procedure of a number, if there is one; else each instruction
-/// to which it leads has the height after it.
-fn check_instruction(
-    parts: &Parts,
-    number: u16,
-    procedure: &Procedure,
-    heights: &mut Heights,
-    position: u16,
-    instruction: Instruction,
-) -> Result<(), Fault>
-    requires place { position < length procedure.now.code }
-    requires limit { length procedure.now.code ≤ 4096 }
-    ensures checks { Finds result (model.instruction_checks parts.now number procedure.now heights.old position instruction
-        (at None heights.old position)) }
-    ensures heights { OnOk result (heights.new ≡ model.heights_after parts.now heights.old position instruction) }
+/// The first fault of an instruction, if there is one; else each instruction to which it leads has the height after it.
+fn check_instruction(here: InstructionAt<'_>, heights: &mut Heights) -> Result<(), Fault>
+    requires place { here.position < length here.procedure.now.code }
+    requires limit { length here.procedure.now.code ≤ 4096 }
+    ensures checks { Finds result (model.checks_at here.entry heights.old) }
+    ensures heights { OnOk result (heights.new ≡ model.heights_behind here.entry heights.old) }
 {
-    match height_at(heights, position as usize) {
+    match height_at(heights, here.position as usize) {
         Some(height) => {
-            let after = check_at_height(
-                parts,
-                number,
-                procedure,
+            let after = check_at_height(here, heights, height)?;
+            let length = here.procedure.code.as_slice().len();
+            mark_ahead(
                 heights,
-                position,
-                instruction,
-                height,
-            )?;
-            let length = procedure.code.as_slice().len();
-            mark_ahead(heights, after as u8, length, position, instruction);
+                after as u8,
+                length,
+                here.position,
+                here.instruction,
+            );
             Ok(())
         }
         None => Err(Fault {
             code: STACK_HEIGHT,
-            place: Place::Code(number, position),
+            place: Place::Code(here.number, here.position),
         }),
     }
 }
@@ -92,13 +95,20 @@ fn check_instruction(
 /// first; each instruction tells its height to those to which it leads.
 fn check_code(parts: &Parts, number: u16, procedure: &Procedure) -> Result<(), Fault>
     requires { length procedure.now.code ≤ 4096 }
-    ensures { Finds result (model.code_checks parts.now number procedure.now (Some 0 ∷ []) 0 procedure.now.code) }
+    ensures { Finds result (model.body_checks parts.now number procedure.now) }
 {
     let mut heights: Heights = [None; MOST_INSTRUCTIONS];
     heights[0] = Some(0);
     let code = procedure.code.as_slice();
     for i in 0..code.len() {
-        check_instruction(parts, number, procedure, &mut heights, i as u16, code[i])?;
+        let here = InstructionAt {
+            parts,
+            number,
+            procedure,
+            position: i as u16,
+            instruction: code[i],
+        };
+        check_instruction(here, &mut heights)?;
     }
     Ok(())
 }
@@ -136,8 +146,8 @@ fn check_procedure(
     procedure: &Procedure,
 ) -> Result<u32, Fault>
     requires { length procedure.now.code ≤ 4096 }
-    ensures checks { Finds result (model.procedure_checks parts.now costs.now number procedure.now) }
-    ensures cost { IfOk result (λ cost. cost ≡ cost_of_code parts.now.entities costs.now procedure.now.code) }
+    ensures checks { Finds result (procedure_checks parts.now costs.now number procedure.now) }
+    ensures cost { IfOk result (λ cost. cost ≡ cost_of parts.now costs.now procedure.now) }
 {
     check_code(parts, number, procedure)?;
     check_cost(parts, costs, number, procedure.code.as_slice())

@@ -3,7 +3,7 @@
 ghost use Rattle.std.specs.Prelude.{◌≡◌, ◌<◌, ◌≤◌, ◌+◌, ◌*◌, ◌^◌, length, drop, IfSome, IfNone};
 ghost use Rattle.gw_num.specs.Table.{at};
 ghost use Rattle.gw_code_flow.specs.Code as model;
-ghost use Rattle.gw_code_flow.specs.PlusChecks.{greatest_cost};
+ghost use Rattle.gw_code_flow.specs.PlusChecks.{IsTooCostly, MayCost};
 
 use crate::instructions::called_in;
 use gw_code::Instruction;
@@ -54,8 +54,8 @@ fn turns(instruction: Instruction) -> u32
 /// back; none where that is more than a procedure may cost.
 pub(crate) fn cost_of_code(entities: &[Entity], costs: &[u32], code: &[Instruction]) -> Option<u32>
     requires { length code.now ≤ 4096 }
-    ensures none { IfNone result (greatest_cost < model.cost_of_code entities.now costs.now code.now) }
-    ensures some { IfSome result (λ cost. (cost ≡ model.cost_of_code entities.now costs.now code.now) × (cost ≤ greatest_cost)) }
+    ensures none { IfNone result (IsTooCostly entities.now costs.now code.now) }
+    ensures some { IfSome result (MayCost entities.now costs.now code.now) }
 {
     let mut body: u64 = 0;
     let mut back: u64 = 0;

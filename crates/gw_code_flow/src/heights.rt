@@ -1,7 +1,6 @@
 //! The heights of the stack that are known while a procedure is checked.
 
 ghost use Rattle.std.specs.Prelude.{◌≡◌, ◌<◌, ◌≤◌, length, Some, None, true};
-ghost use Rattle.std.specs.List.{list_all};
 ghost use Rattle.gw_num.specs.Table.{at, put};
 ghost use Rattle.gw_code_flow.specs.Code.{leads_well, targets};
 ghost use Rattle.gw_code_flow.specs.PlusChecks as model;
@@ -36,7 +35,7 @@ fn agrees(heights: &Heights, height: u16, target: usize) -> bool
 
 /// Whether a height agrees with what is known where the instruction at a position leads.
 fn agrees_ahead(heights: &Heights, height: u16, position: u16, instruction: Instruction) -> bool
-    ensures { result ≡ list_all (λ target. model.agrees height (at None heights.now target)) (targets position instruction) }
+    ensures { result ≡ model.agrees_ahead heights.now height position instruction }
 {
     match instruction {
         Instruction::Jump(target) => agrees(heights, height, target as usize),

@@ -50,9 +50,13 @@ capacity_at es e = option_map_or capacity_of (kind_at es e) 0
 abbrev pub holds_units : Row → ℕ → ℕ → Rule
 holds_units state e n = rule codes.too_few_units (nat_le n (units_of state e))
 
--- a parameter that is used as a number is set (20), and to a number (27)
+-- a parameter that is used is set (20), and to what serves (27)
+abbrev pub use_rules : Row → ℕ → Bool → List Rule
+use_rules state p serves = rule codes.unset_param (is_some (kind_of state p)) ∷ rule codes.param_kind serves ∷ []
+
+-- one that is used as a number is set to a number
 abbrev pub number_rules : Row → ℕ → List Rule
-number_rules state p = rule codes.unset_param (is_some (kind_of state p)) ∷ rule codes.param_kind (is_number (kind_of state p)) ∷ []
+number_rules state p = use_rules state p (is_number (kind_of state p))
 
 -- the parameters that operands ask for, through procedures, variables and functions too, ascending, each once
 abbrev pub parameters_read : Parts → List Operand → List ℕ
@@ -62,9 +66,9 @@ parameters_read p os = in_order (flat_map (parameters_asked p) os)
 abbrev pub value_rules : Parts → Block → Row → List Rule
 value_rules p block state = flat_map (number_rules state) (parameters_read p (evaluated p.entities block))
 
--- a parameter that is used as a return is set (20), and to a return (27)
+-- a parameter that is used as a return is set to a return
 abbrev pub return_rules : Row → ℕ → List Rule
-return_rules state p = rule codes.unset_param (is_some (kind_of state p)) ∷ rule codes.param_kind (is_return (kind_of state p)) ∷ []
+return_rules state p = use_rules state p (is_return (kind_of state p))
 
 -- whether a value takes the place of another one
 abbrev pub replaces : Mode → Bool

@@ -1,5 +1,4 @@
 pub mod Codes
-pub mod Names
 pub mod Entries
 pub mod Rows
 pub mod Seen

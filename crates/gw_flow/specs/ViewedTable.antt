@@ -11,7 +11,7 @@ use Rattle.gw_flow.specs.declared.edges.Target.TheVariants as targets
 use Rattle.gw_flow.specs.Rows.{Row, HasRoom}
 use Rattle.gw_flow.specs.Seen.{known, known_rows}
 use Rattle.gw_flow.specs.Blocks.{Table}
-use Rattle.gw_flow.specs.Flow.{table_of, edge_check, checks_in, MayFind}
+use Rattle.gw_flow.specs.Flow.{table_of, edge_check, checks_in, checks_at, MayFind}
 
 -- the rows of the blocks, and of the entities that are user chains, as one table
 abbrev pub table_viewed : StateTable → Table
@@ -36,3 +36,7 @@ MayFindMisfit t b es s result = MayFind result (fit_checks t b es s)
 -- the checks of the block of number b in a state by a table: its rules and then its edges
 abbrev pub checks_by : Parts → StateTable → ℕ → Block → StateParts → List Check
 checks_by p t b block s = checks_in p (table_viewed t) b block (Some (known t.returns.now s))
+
+-- and in its row of the table, if it has one
+abbrev pub checks_in_row : Parts → StateTable → ℕ → Block → List Check
+checks_in_row p t b block = checks_at p (table_viewed t) b block

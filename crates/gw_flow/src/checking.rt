@@ -5,11 +5,10 @@ ghost use Rattle.gw_blocks.specs.declared.parts.Block.TheVariants as blocks;
 ghost use Rattle.gw_object.specs.Grammar.{AreAscending, HasSpelling};
 ghost use Rattle.gw_kinds.specs.Pass.{KindsPass};
 ghost use Rattle.gw_flow.specs.Rows.{HasRoom};
-ghost use Rattle.gw_flow.specs.Blocks.{edges_of};
 ghost use Rattle.gw_flow.specs.Flow as model;
-ghost use Rattle.gw_flow.specs.Flow.{MayFind, checks_at};
+ghost use Rattle.gw_flow.specs.Flow.{MayFind};
 ghost use Rattle.gw_flow.specs.Seen.{known, HaveNext};
-ghost use Rattle.gw_flow.specs.ViewedTable.{table_viewed, HaveRoom, MayFindMisfit, checks_by};
+ghost use Rattle.gw_flow.specs.ViewedTable.{table_viewed, HaveRoom, checks_by, checks_in_row};
 ghost use Rattle.gw_flow.specs.ReturnEdges.{PassesBy, GoesBy};
 
 use crate::abstract_state::AbsState;
@@ -24,25 +23,6 @@ use gw_blocks::Block;
 use gw_object::{Fault, Object, Parts};
 use gw_returns::Inclusions;
 use std::alloc::{AllocError, Global};
-
-/// The first fault of the edges of the block of this number in a state, if there is one.
-fn check_edges_in(
-    alloc: Global,
-    table: StateTable<'_, '_>,
-    number: u16,
-    block: &Block,
-    state: &AbsState,
-) -> Result<(), Fault>
-    requires number { number ≤ 4096 }
-    requires returns { All AreAscending table.returns.now }
-    requires room { HasRoom (known table.returns.now state.now) }
-    ensures { MayFindMisfit table.entry number (λ t. edges_of t number block.now) state.now result }
-{
-    match passed(alloc, table.returns.rows(), number, block, state) {
-        Ok(passed) => check_edges(alloc, table, number, block, state, &passed),
-        Err(AllocError) => Err(OUT_OF_MEMORY),
-    }
-}
 
 /// The first fault of the block of this number in a state, if there is one.
 fn check_in(
@@ -60,7 +40,10 @@ fn check_in(
 {
     let returns = table.returns.rows();
     check_rules(parts, number, block, &Carried { state, returns })?;
-    check_edges_in(alloc, table, number, block, state)
+    match passed(alloc, returns, number, block, state) {
+        Ok(passed) => check_edges(alloc, table, number, block, state, &passed),
+        Err(AllocError) => Err(OUT_OF_MEMORY),
+    }
 }
 
 /// The first fault of a TRANSFER in parameter mode in a state, if there is one; and what it passes by, behind the earlier ones.
@@ -134,7 +117,7 @@ fn check_block<'r>(
     requires returns { All AreAscending table.returns.now }
     requires room { HaveRoom (table_viewed table) }
     requires pass { All (PassesBy table) earlier.old.items }
-    ensures found { MayFind result (checks_at parts.now (table_viewed table.entry) number block.now) }
+    ensures found { MayFind result (checks_in_row parts.now table.entry number block.now) }
     ensures pass { All (PassesBy table.entry) earlier.new.items }
 {
     match table.row(Target::Block(number)) {

@@ -86,13 +86,21 @@ fn first_unfit<S: Lookups>(parts: &Parts, operands: &[Operand], state: &S) -> Op
     least
 }
 
+/// The fault of a parameter that the block of this number uses: 20 where it isn't sure to be set, 27 where what it is set to
+/// doesn't serve.
+fn check_use<S: Lookups>(number: u16, parameter: u8, state: &S, serves: bool) -> Result<(), Fault>
+    ensures { FindsRule result number (model.use_rules (S.known state.now) parameter serves) }
+{
+    let place = Place::Block(number);
+    check(UNSET_PARAM, place, state.is_set(parameter))?;
+    check(PARAM_KIND, place, serves)
+}
+
 /// The fault of a parameter that the block of this number uses as a number, if it isn't sure to be one.
 fn check_number<S: Lookups>(number: u16, parameter: u8, state: &S) -> Result<(), Fault>
     ensures { FindsRule result number (model.number_rules (S.known state.now) parameter) }
 {
-    let place = Place::Block(number);
-    check(UNSET_PARAM, place, state.is_set(parameter))?;
-    check(PARAM_KIND, place, state.is_number(parameter))
+    check_use(number, parameter, state, state.is_number(parameter))
 }
 
 /// The fault of the first parameter that the operands ask for which are evaluated at the block of this number, through
@@ -111,15 +119,6 @@ fn check_values<S: Lookups>(
         Some(parameter) => check_number(number, parameter, state),
         None => Ok(()),
     }
-}
-
-/// The fault of a parameter that is used as a return: 20 where it isn't sure to be set, 27 where it is to a number.
-fn check_return<S: Lookups>(number: u16, parameter: u8, state: &S) -> Result<(), Fault>
-    ensures { FindsRule result number (model.return_rules (S.known state.now) parameter) }
-{
-    let place = Place::Block(number);
-    check(UNSET_PARAM, place, state.is_set(parameter))?;
-    check(PARAM_KIND, place, state.is_return(parameter))
 }
 
 /// Whether a value takes the place of another one.
@@ -159,7 +158,9 @@ fn check_own_rules<S: Lookups>(
             let may_change = replaces(assign.mode) || !state.is_return(assign.parameter);
             check(PARAM_KIND, place, may_change)
         }
-        Block::TransferByParameter(parameter) => check_return(number, *parameter, state),
+        Block::TransferByParameter(parameter) => {
+            check_use(number, *parameter, state, state.is_return(*parameter))
+        }
         Block::Loop(counting) => check_number(number, counting.parameter, state),
         _ => Ok(()),
     }

@@ -206,11 +206,11 @@ impl<'a> State<'a> {
         })
     }
 
-    /// The state once a facility is owned.
-    pub(crate) fn with_facility(&self, alloc: Global, facility: u16) -> Result<State<'a>, Memory>
-        ensures { IfOk result (λ state. state ≡ rows.with_facility facility self.now) }
+    /// The state where these facilities are owned, which ascend.
+    fn with_facilities(&self, alloc: Global, facilities: Vec<u16>) -> Result<State<'a>, Memory>
+        requires { rows.IsOrdered (rows.with_facilities facilities.items self.now) }
+        ensures { IfOk result (λ state. state ≡ rows.with_facilities facilities.items self.now) }
     {
-        let facilities = in_place(alloc, self.facilities.as_slice(), facility)?;
         Ok(State {
             params: copy_of(alloc, &self.params)?,
             facilities: Items::from_vec(facilities),
@@ -218,16 +218,20 @@ impl<'a> State<'a> {
         })
     }
 
+    /// The state once a facility is owned.
+    pub(crate) fn with_facility(&self, alloc: Global, facility: u16) -> Result<State<'a>, Memory>
+        ensures { IfOk result (λ state. state ≡ rows.with_facility facility self.now) }
+    {
+        let facilities = in_place(alloc, self.facilities.as_slice(), facility)?;
+        self.with_facilities(alloc, facilities)
+    }
+
     /// The state once a facility is given up.
     pub(crate) fn without_facility(&self, alloc: Global, facility: u16) -> Result<State<'a>, Memory>
         ensures { IfOk result (λ state. state ≡ rows.without_facility facility self.now) }
     {
         let facilities = without_number(alloc, self.facilities.as_slice(), facility)?;
-        Ok(State {
-            params: copy_of(alloc, &self.params)?,
-            facilities: Items::from_vec(facilities),
-            units: copy_of(alloc, &self.units)?,
-        })
+        self.with_facilities(alloc, facilities)
     }
 
     /// The state once so many units of an entity are held.

@@ -113,9 +113,13 @@ own_entity (blocks.Savevalue s) = Some (needs Savevalue s.savevalue)
 own_entity (blocks.Tabulate t) = Some (needs Table t)
 own_entity block = None
 
+-- the entities that operands name, in order
+abbrev pub entities_of : List Operand → List Named
+entities_of operands = filter_map entity_of operands
+
 -- the entities that a block names, in order: its own, and then those of its values
 abbrev pub named_entities : Block → List Named
-named_entities block = cons_option (own_entity block) (filter_map entity_of (values block))
+named_entities block = cons_option (own_entity block) (entities_of (values block))
 
 -- the entities that a row of the state table names: the facilities that are owned, and then the storages and queues in which units are held
 abbrev pub entities_of_row : TableState → List Named
@@ -159,6 +163,14 @@ is_procedure ps q = nat_lt q (length ps)
 -- the procedures that the values of a block call, in order
 abbrev pub named_procedures : Block → List ℕ
 named_procedures block = filter_map procedure_named (values block)
+
+-- none of them takes arguments
+abbrev pub calls_without_arguments : List Procedure → Block → Bool
+calls_without_arguments ps block = list_all (takes_no_arguments ps) (named_procedures block)
+
+-- they are there
+abbrev pub called_are_there : List Procedure → Block → Bool
+called_are_there ps block = list_all (is_procedure ps) (named_procedures block)
 
 -- BLOCKS
 
@@ -327,8 +339,8 @@ constant_checks b block = check codes.bad_constant (places.Block b) (has_good_co
 -- the block of number b names entities of the right kinds, calls no procedure with arguments, and has no function's value as half the range of a time (10); the entities and procedures are there (11)
 abbrev pub naming_checks : Parts → ℕ → Block → List Check
 naming_checks p b block =
-    check codes.wrong_kind (places.Block b) (names_no_other_kind p.entities (named_entities block) && list_all (takes_no_arguments p.procedures) (named_procedures block) && has_plain_half block)
-    ∷ check codes.no_entity (places.Block b) (are_there p.entities (named_entities block) && list_all (is_procedure p.procedures) (named_procedures block))
+    check codes.wrong_kind (places.Block b) (names_no_other_kind p.entities (named_entities block) && calls_without_arguments p.procedures block && has_plain_half block)
+    ∷ check codes.no_entity (places.Block b) (are_there p.entities (named_entities block) && called_are_there p.procedures block)
     ∷ []
 
 -- of the block of number b: what it names, its exits and its constants

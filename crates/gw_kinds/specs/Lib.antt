@@ -4,6 +4,5 @@ pub mod Evaluated
 pub mod Exits
 pub mod Kinds
 pub mod Laws
-pub mod Names
 pub mod Pass
 pub mod Procedures

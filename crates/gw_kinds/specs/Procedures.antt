@@ -1,7 +1,5 @@
 -- Kinds of PLUS code: what every number in a procedure names.
 use Rattle.std.specs.Prelude.{ℕ, List, [], ◌∷◌, Option, Some, None, Bool, true, not, nat_lt, nat_le, ◌&&◌}
-use Rattle.gw_code.specs.declared.parts.Sna.{Sna}
-use Rattle.gw_code.specs.declared.parts.Sna.TheVariants.{OfEntity}
 use Rattle.gw_code.specs.declared.parts.Instruction.{Instruction}
 use Rattle.gw_code.specs.declared.parts.Instruction.TheVariants.{Get, Set, Value, Back, Call}
 use Rattle.gw_code.specs.declared.parts.Procedure.{Procedure}
@@ -10,23 +8,13 @@ use Rattle.gw_object.specs.declared.parts.Parts.{Parts}
 use Rattle.gw_kinds.specs.declared.entities.Named.{Named}
 use Rattle.gw_kinds.specs.Checks.{Check, check, numbered}
 use Rattle.gw_kinds.specs.Codes as codes
-use Rattle.gw_kinds.specs.Kinds.{is_none_or, entity_named, block_named, is_no_other_kind, is_there, is_procedure, is_block}
+use Rattle.gw_kinds.specs.Kinds.{is_none_or, entity_of, block_of, is_no_other_kind, is_there, is_procedure, is_block}
 use Rattle.gw_kinds.specs.Evaluated.{argument_in, as_operand, is_drawn}
 use Rattle.gw_object.specs.declared.parts.Entity.{Entity}
 
--- the entity that an attribute names, if it does
-abbrev pub entity_read : Sna → Option Named
-entity_read (OfEntity a) = entity_named a
-entity_read sna = None
-
--- the block that an attribute names, if it does
-abbrev pub block_read : Sna → Option ℕ
-block_read (OfEntity a) = block_named a
-block_read sna = None
-
 -- the entity that an instruction names, if it does
 abbrev pub entity_in : Instruction → Option Named
-entity_in (Value sna) = entity_read sna
+entity_in (Value sna) = entity_of (as_operand sna)
 entity_in instruction = None
 
 -- the procedure that an instruction names, if it does
@@ -36,7 +24,7 @@ procedure_in instruction = None
 
 -- the block that an instruction names, if it does
 abbrev pub block_in : Instruction → Option ℕ
-block_in (Value sna) = block_read sna
+block_in (Value sna) = block_of (as_operand sna)
 block_in instruction = None
 
 -- an instruction draws nothing: it reads no function whose argument is drawn

@@ -1,7 +1,6 @@
 //! The procedures that operands call.
 
 ghost use Rattle.std.specs.Prelude.{◌≡◌};
-ghost use Rattle.std.specs.List.{list_all};
 ghost use Rattle.gw_kinds.specs.Evaluated as evaluation;
 ghost use Rattle.gw_kinds.specs.Kinds as model;
 
@@ -37,7 +36,7 @@ pub(crate) fn is_procedure(procedures: &[Procedure], number: u16) -> bool
 
 /// Whether none of the procedures that the values of a block call takes arguments.
 pub(crate) fn calls_without_arguments(procedures: &[Procedure], block: &Block) -> bool
-    ensures { result ≡ list_all (model.takes_no_arguments procedures.now) (model.named_procedures block.now) }
+    ensures { result ≡ model.calls_without_arguments procedures.now block.now }
 {
     values(block)
         .as_slice()
@@ -48,7 +47,7 @@ pub(crate) fn calls_without_arguments(procedures: &[Procedure], block: &Block) -
 
 /// Whether the procedures that the values of a block call are there.
 pub(crate) fn called_are_there(procedures: &[Procedure], block: &Block) -> bool
-    ensures { result ≡ list_all (model.is_procedure procedures.now) (model.named_procedures block.now) }
+    ensures { result ≡ model.called_are_there procedures.now block.now }
 {
     values(block)
         .as_slice()

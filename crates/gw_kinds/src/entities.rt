@@ -1,6 +1,6 @@
 //! The entities that operands, blocks and rows of the state table name.
 
-ghost use Rattle.std.specs.Prelude.{◌≡◌, filter_map};
+ghost use Rattle.std.specs.Prelude.{◌≡◌};
 ghost use Rattle.gw_kinds.specs.Kinds as model;
 ghost use Rattle.gw_kinds.specs.declared.entities.EntityKind.TheVariants as needed;
 
@@ -161,7 +161,7 @@ pub(crate) fn is_no_other_kind(entities: &[Entity], named: Named) -> bool
 
 /// Whether none of the entities that operands name is of another kind than what it is needed as.
 fn read_no_other_kind(entities: &[Entity], operands: &[Operand]) -> bool
-    ensures { result ≡ model.names_no_other_kind entities.now (filter_map model.entity_of operands.now) }
+    ensures { result ≡ model.names_no_other_kind entities.now (model.entities_of operands.now) }
 {
     operands
         .iter()
@@ -188,7 +188,7 @@ pub(crate) fn is_there(entities: &[Entity], named: Named) -> bool
 
 /// Whether the entities that operands name are there.
 fn read_are_there(entities: &[Entity], operands: &[Operand]) -> bool
-    ensures { result ≡ model.are_there entities.now (filter_map model.entity_of operands.now) }
+    ensures { result ≡ model.are_there entities.now (model.entities_of operands.now) }
 {
     operands
         .iter()

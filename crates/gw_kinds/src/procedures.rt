@@ -6,10 +6,10 @@ ghost use Rattle.gw_kinds.specs.Procedures as model;
 use crate::calls::is_procedure;
 use crate::checks::{NumberedChecks, check, check_each};
 use crate::codes::{BAD_CONSTANT, NO_BLOCK, NO_ENTITY, WRONG_KIND};
-use crate::entities::{Named, entity_named, is_no_other_kind, is_there};
+use crate::entities::{Named, entity_of, is_no_other_kind, is_there};
 use crate::evaluation::{argument_in, as_operand, is_drawn};
-use crate::targets::{block_named, is_block};
-use gw_code::{Instruction, Procedure, Sna};
+use crate::targets::{block_of, is_block};
+use gw_code::{Instruction, Procedure};
 use gw_object::{Entity, Fault, Parts, Place};
 
 /// The most times that a jump back may be taken.
@@ -20,7 +20,7 @@ fn entity_in(instruction: Instruction) -> Option<Named>
     ensures { result ≡ model.entity_in instruction }
 {
     match instruction {
-        Instruction::Value(Sna::OfEntity(of)) => entity_named(of),
+        Instruction::Value(sna) => entity_of(&as_operand(sna)),
         _ => None,
     }
 }
@@ -40,7 +40,7 @@ fn block_in(instruction: Instruction) -> Option<u16>
     ensures { result ≡ model.block_in instruction }
 {
     match instruction {
-        Instruction::Value(Sna::OfEntity(of)) => block_named(of),
+        Instruction::Value(sna) => block_of(&as_operand(sna)),
         _ => None,
     }
 }

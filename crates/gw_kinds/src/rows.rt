@@ -8,24 +8,30 @@ ghost use Rattle.gw_kinds.specs.declared.entities.EntityKind.TheVariants as need
 
 use crate::checks::{NumberedChecks, check};
 use crate::codes::{NO_ENTITY, WRONG_KIND};
-use crate::entities::{EntityKind, is_no_other_kind, is_there, needs};
+use crate::entities::{EntityKind, Named, is_no_other_kind, is_there, needs};
 use gw_blocks::Units;
 use gw_object::{Entity, Fault, Parts, Place, ReturnRow, TableKind, TableState, chains_in};
+
+/// A facility that a row names as owned.
+fn as_owned(facility: &u16) -> Named
+    ensures { result ≡ model.needs needed.Facility facility.now }
+{
+    needs(EntityKind::Facility, *facility)
+}
+
+/// A storage or a queue that a row names as holding units.
+fn as_held(units: &Units) -> Named
+    ensures { result ≡ model.needs needed.StorageOrQueue units.now.entity }
+{
+    needs(EntityKind::StorageOrQueue, units.entity)
+}
 
 /// Whether none of the entities of a row is of another kind.
 fn names_no_other_kind(entities: &[Entity], row: &TableState) -> bool
     ensures { result ≡ model.names_no_other_kind entities.now (model.entities_of_row row.now) }
 {
-    let owned = row
-        .facilities
-        .as_slice()
-        .iter()
-        .map(|f| needs(EntityKind::Facility, *f));
-    let held = row
-        .units
-        .as_slice()
-        .iter()
-        .map(|u| needs(EntityKind::StorageOrQueue, u.entity));
+    let owned = row.facilities.as_slice().iter().map(as_owned);
+    let held = row.units.as_slice().iter().map(as_held);
     owned
         .chain(held)
         .all(|named| is_no_other_kind(entities, named))
@@ -35,16 +41,8 @@ fn names_no_other_kind(entities: &[Entity], row: &TableState) -> bool
 fn are_there(entities: &[Entity], row: &TableState) -> bool
     ensures { result ≡ model.are_there entities.now (model.entities_of_row row.now) }
 {
-    let owned = row
-        .facilities
-        .as_slice()
-        .iter()
-        .map(|f| needs(EntityKind::Facility, *f));
-    let held = row
-        .units
-        .as_slice()
-        .iter()
-        .map(|u| needs(EntityKind::StorageOrQueue, u.entity));
+    let owned = row.facilities.as_slice().iter().map(as_owned);
+    let held = row.units.as_slice().iter().map(as_held);
     owned.chain(held).all(|named| is_there(entities, named))
 }
 

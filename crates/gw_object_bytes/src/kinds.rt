@@ -2,12 +2,11 @@
 
 ghost use Rattle.std.specs.Prelude.{◌≡◌, ◌↔◌, IsTrue, int_lt};
 ghost use Rattle.std.specs.List.{All};
-ghost use Rattle.std.specs.Int.{w64};
-ghost use Rattle.gw_fields.specs.Fields.{key_above, signed};
 ghost use Rattle.gw_fields.specs.Receivers.{Puts};
 ghost use Rattle.gw_object.specs.Entities.{table, TableFits, point, PointFits, function, FunctionFits, PointsAscend};
 ghost use Rattle.gw_object.specs.Entities.{kind_tag, kind_fields, KindFits, KindAscends};
 ghost use Rattle.gw_fields.specs.Answers.{Gives};
+ghost use Rattle.gw_object_bytes.specs.Keys.{argument_above};
 
 use crate::ObjectFormat;
 use gw_block_bytes::operand_fits;
@@ -69,7 +68,7 @@ impl Spelled<ObjectFormat> for Table {
 
 /// An argument that is above the one of the point before it, if there is one.
 fn read_above(alloc: Global, before: Option<i64>, bytes: &[u8]) -> Result<(i64, &[u8]), ReadError>
-    ensures { Gives (λ x. (x.0, x.1.now)) result ((key_above int_lt before (signed w64)).read bytes.now) }
+    ensures { Gives (λ x. (x.0, x.1.now)) result ((argument_above before).read bytes.now) }
 {
     let (x, rest) = i64::read(alloc, bytes)?;
     if before.is_some_and(|before| x <= before) {

@@ -1,12 +1,11 @@
 //! States of the state table, in bytes and against the rules of the object format.
 
-ghost use Rattle.std.specs.Prelude.{◌≡◌, ◌↔◌, ◌<◌, IsTrue, IfSome, nat_lt};
+ghost use Rattle.std.specs.Prelude.{◌≡◌, ◌↔◌, ◌<◌, IsTrue, IfSome};
 ghost use Rattle.std.specs.List.{All, AllPairs};
-ghost use Rattle.gw_fields.specs.Fields.{key_above};
-ghost use Rattle.gw_blocks.specs.Grammar.{entity_number, parameter_number};
 ghost use Rattle.gw_object.specs.Grammar.{table_kind, TableKindFits, ParameterFits, parameter};
 ghost use Rattle.gw_object.specs.Grammar.{owned, held, HeldFits, StateFits, IsAscending, state};
 ghost use Rattle.gw_fields.specs.Answers.{Gives};
+ghost use Rattle.gw_object_bytes.specs.Keys.{entity_above};
 ghost use Rattle.gw_blocks.specs.declared.parts.Units.{Units};
 ghost use Rattle.gw_object.specs.declared.parts.TableParameter.{TableParameter};
 
@@ -23,7 +22,7 @@ use std::alloc::Global;
 
 /// An entity's number that is above the one before it, if there is one.
 fn read_above(alloc: Global, before: Option<u16>, bytes: &[u8]) -> Result<(u16, &[u8]), ReadError>
-    ensures { Gives (λ x. (x.0, x.1.now)) result ((key_above nat_lt before entity_number).read bytes.now) }
+    ensures { Gives (λ x. (x.0, x.1.now)) result ((entity_above before).read bytes.now) }
 {
     let (entity, rest) = u16::read(alloc, bytes)?;
     if before.is_some_and(|before| entity <= before) {

@@ -1,9 +1,5 @@
 //! The codes of refusals that reading a model text answers. docs/refusals.md lists all codes.
 
-ghost use Rattle.std.specs.Prelude.{◌≡◌};
-ghost use Rattle.std.specs.Option.{option_copied};
-ghost use Rattle.gw_text_tokens.specs.Names.{name_of};
-
 /// A line of more than 1,000 bytes, or a text of more than 1 MiB.
 pub const LENGTH: u16 = 70;
 
@@ -27,20 +23,3 @@ pub const LIMIT: u16 = 76;
 
 /// A statement that comes after START and must not.
 pub const ORDER: u16 = 77;
-
-/// The name of a code of these, as a refusal line prints it.
-pub fn name(code: u16) -> Option<&'static str>
-    ensures { option_copied result ≡ name_of code }
-{
-    match code {
-        LENGTH => Some("Length"),
-        WORD => Some("Word"),
-        OPERAND => Some("Operand"),
-        EXPRESSION => Some("Expression"),
-        LABEL => Some("Label"),
-        LEFT_OUT => Some("LeftOut"),
-        LIMIT => Some("Limit"),
-        ORDER => Some("Order"),
-        _ => None,
-    }
-}

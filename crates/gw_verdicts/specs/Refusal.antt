@@ -1,49 +1,22 @@
 -- How a refusal is printed: its code, its name and its place.
-use Rattle.std.specs.Prelude.{ℕ, List, [], ◌++◌, codes, unwrap_or, ◌==◌, if◌then◌else◌}
+use Rattle.std.specs.Prelude.{ℕ, List, [], ◌∷◌, ◌++◌, map, codes, ◌==◌, if◌then◌else◌}
 use Rattle.std.specs.Fmt.{decimal}
 use Rattle.gw_object.specs.declared.fault.Fault.{Fault}
 use Rattle.gw_object.specs.declared.fault.Place.{Place}
 use Rattle.gw_object.specs.declared.fault.Place.TheVariants.{Byte, Entity, Code, Row, Block, Edge, Chain, Line, Nowhere}
-use Rattle.gw_object.specs.Names as object
-use Rattle.gw_kinds.specs.Names as kinds
-use Rattle.gw_code_flow.specs.Names as plus
-use Rattle.gw_flow.specs.Names as flow
-use Rattle.gw_weights.specs.Names as weights
-use Rattle.gw_text_tokens.specs.Names as texts
-use Rattle.gw_names.specs.Codes as assembler
+use Rattle.gw_verdicts.specs.declared.codes.TheConstants.{SEED, COUNT, BUDGET, JOB_MEMORY}
+use Rattle.gw_verdicts.specs.declared.names.TheConstants.{NAMES}
 use Rattle.gw_scan.specs.declared.spec.StartFault.{StartFault}
 use Rattle.gw_scan.specs.declared.spec.StartFault.TheVariants.{Seed, Count, Budget, Memory}
 
--- the names of the codes of a service: of its workers, and of its calls
-abbrev pub service_name : ℕ → List ℕ
-service_name code =
-    if code == 55 then codes "Workers"
-    else if code == 56 then codes "Slice"
-    else if code == 57 then codes "Spawn"
-    else if code == 60 then codes "UserFull"
-    else if code == 61 then codes "ServiceFull"
-    else if code == 62 then codes "JournalFull"
-    else if code == 63 then codes "Memory"
-    else if code == 64 then codes "NotYours"
-    else if code == 65 then codes "NotEnded"
-    else if code == 66 then codes "Cancelled"
-    else if code == 67 then codes "Stranger"
-    else if code == 68 then codes "AlreadyEnded"
-    else codes "Unknown"
+-- the name that the first of these rows with a code gives it; "Unknown" where none has it
+abbrev pub name_in : List (ℕ × List ℕ) → ℕ → List ℕ
+name_in [] code = codes "Unknown"
+name_in (row ∷ rows) code = if row.0 == code then row.1 else name_in rows code
 
--- the names of the codes of a job's making, or of a service
-abbrev pub making_name : ℕ → List ℕ
-making_name code =
-    if code == 50 then codes "Seed"
-    else if code == 51 then codes "Count"
-    else if code == 52 then codes "Budget"
-    else if code == 53 then codes "Memory"
-    else service_name code
-
--- the name of a code: of an object, of kinds, of PLUS code, of flow, of weights, of a model text, of the assembler, of a job's making, or of a service
+-- the name of a code: that of its row of the table, which has all codes
 abbrev pub code_name : ℕ → List ℕ
-code_name code =
-    unwrap_or (object.name_of code) (unwrap_or (kinds.name_of code) (unwrap_or (plus.name_of code) (unwrap_or (flow.name_of code) (unwrap_or (weights.name_of code) (unwrap_or (texts.name_of code) (unwrap_or (assembler.name_of code) (making_name code)))))))
+code_name code = name_in (map (λ row. (row.0, row.1.now)) NAMES) code
 
 -- what stands before the numbers of a place: its kind in lower case
 abbrev pub place_front : Place → List ℕ
@@ -81,10 +54,10 @@ abbrev pub refusal_line : Fault → List ℕ
 refusal_line fault = refusal_text fault ++ codes "\n"
 
 abbrev pub start_code : StartFault → ℕ
-start_code Seed = 50
-start_code Count = 51
-start_code Budget = 52
-start_code Memory = 53
+start_code Seed = SEED
+start_code Count = COUNT
+start_code Budget = BUDGET
+start_code Memory = JOB_MEMORY
 
 -- a refusal by a job's making has no place
 abbrev pub start_refusal : StartFault → Fault

@@ -2,7 +2,10 @@
 #![tactic(auto)]
 
 mod acceptance;
+pub mod codes;
+mod names;
 mod refusal;
 
 pub use acceptance::Acceptance;
+pub use names::NAMES;
 pub use refusal::Refusal;

@@ -1,16 +1,12 @@
 //! Refusals, as they are printed.
 
 ghost use Rattle.std.specs.Prelude.{◌≡◌, Some};
-ghost use Rattle.gw_verdicts.specs.Refusal.{code_name, making_name as name_of_making, service_name as name_in_service, place_front, place_numbers, refusal_text, start_refusal};
+ghost use Rattle.gw_verdicts.specs.Refusal.{place_front, place_numbers, refusal_text, start_refusal};
 
-use gw_code_flow::codes as plus_codes;
-use gw_flow::codes as flow_codes;
-use gw_kinds::codes as kinds_codes;
-use gw_names::codes as names_codes;
-use gw_object::{Fault, Place, codes as object_codes};
+use crate::codes::{BUDGET, COUNT, JOB_MEMORY, SEED};
+use crate::names::name;
+use gw_object::{Fault, Place};
 use gw_scan::StartFault;
-use gw_text::codes as text_codes;
-use gw_weights::codes as weights_codes;
 use std::fmt;
 
 /// A refusal, which prints as `refused CODE NAME at PLACE`, without a place where it has none (docs/refusals.md).
@@ -21,77 +17,15 @@ pub struct Refusal(pub Fault);
 #[derive(Drop)]
 struct Numbers(Place);
 
-/// The name of a code of a service: of its workers, and of its calls.
-fn service_name(code: u16) -> &'static str
-    ensures { result.now ≡ name_in_service code }
-{
-    match code {
-        55 => "Workers",
-        56 => "Slice",
-        57 => "Spawn",
-        60 => "UserFull",
-        61 => "ServiceFull",
-        62 => "JournalFull",
-        63 => "Memory",
-        64 => "NotYours",
-        65 => "NotEnded",
-        66 => "Cancelled",
-        67 => "Stranger",
-        68 => "AlreadyEnded",
-        _ => "Unknown",
-    }
-}
-
-/// The name of a code of a job's making, or of a service.
-fn making_name(code: u16) -> &'static str
-    ensures { result.now ≡ name_of_making code }
-{
-    match code {
-        50 => "Seed",
-        51 => "Count",
-        52 => "Budget",
-        53 => "Memory",
-        _ => service_name(code),
-    }
-}
-
-/// The name of a refusal's code.
-fn name(code: u16) -> &'static str
-    ensures { result.now ≡ code_name code }
-{
-    if let Some(name) = object_codes::name(code) {
-        return name;
-    }
-    if let Some(name) = kinds_codes::name(code) {
-        return name;
-    }
-    if let Some(name) = plus_codes::name(code) {
-        return name;
-    }
-    if let Some(name) = flow_codes::name(code) {
-        return name;
-    }
-    if let Some(name) = weights_codes::name(code) {
-        return name;
-    }
-    if let Some(name) = text_codes::name(code) {
-        return name;
-    }
-    if let Some(name) = names_codes::name(code) {
-        return name;
-    }
-    making_name(code)
-}
-
 impl From<StartFault> for Refusal {
     ghost from_gives = { λ fault refusal. refusal.0 ≡ start_refusal fault };
 
     fn from(fault: StartFault) -> Refusal {
         let code = match fault {
-            StartFault::Seed => 50,
-            StartFault::Count => 51,
-            StartFault::Budget => 52,
-            StartFault::Memory => 53,
+            StartFault::Seed => SEED,
+            StartFault::Count => COUNT,
+            StartFault::Budget => BUDGET,
+            StartFault::Memory => JOB_MEMORY,
         };
         Refusal(Fault {
             code,

@@ -93,22 +93,28 @@ pub(crate) fn raise_at(
     certificate.raise_block(number, needed)
 }
 
-/// Raises the weight of each block, in order, and tells whether one was raised.
-fn raise_blocks(parts: &Parts, certificate: &mut Certificate) -> bool
-    requires few { length parts.now.blocks ≤ 4096 }
-    requires next { HaveNext parts.now.returns }
-    ensures { KeepsCounts certificate.old certificate.new }
-{
-    let blocks = parts.blocks.as_slice();
-    let mut raised = false;
-    for i in 0..blocks.len() {
-        raised |= raise_at(parts, certificate, blocks, i);
-    }
-    raised
+/// The order in which the weights of blocks are raised.
+#[derive(Clone, Copy)]
+enum Order {
+    /// From the first block to the last.
+    Forwards,
+    /// From the last block to the first.
+    Backwards,
 }
 
-/// The same from the last block to the first.
-fn raise_blocks_back(parts: &Parts, certificate: &mut Certificate) -> bool
+/// The place of the block that so many of all come before in an order.
+fn place_behind(order: Order, before: usize, all: usize) -> usize
+    requires { before < all }
+    ensures { result < all }
+{
+    match order {
+        Order::Forwards => before,
+        Order::Backwards => all - 1 - before,
+    }
+}
+
+/// Raises the weight of each block, in this order, and tells whether one was raised.
+fn raise_blocks(parts: &Parts, certificate: &mut Certificate, order: Order) -> bool
     requires few { length parts.now.blocks ≤ 4096 }
     requires next { HaveNext parts.now.returns }
     ensures { KeepsCounts certificate.old certificate.new }
@@ -116,7 +122,8 @@ fn raise_blocks_back(parts: &Parts, certificate: &mut Certificate) -> bool
     let blocks = parts.blocks.as_slice();
     let mut raised = false;
     for i in 0..blocks.len() {
-        raised |= raise_at(parts, certificate, blocks, blocks.len() - 1 - i);
+        let place = place_behind(order, i, blocks.len());
+        raised |= raise_at(parts, certificate, blocks, place);
     }
     raised
 }
@@ -173,7 +180,7 @@ pub(crate) fn raise_in_rounds(parts: &Parts, certificate: &mut Certificate, roun
     ensures { KeepsCounts certificate.old certificate.new }
 {
     for _ in 0..rounds {
-        let blocks = raise_blocks(parts, certificate);
+        let blocks = raise_blocks(parts, certificate, Order::Forwards);
         let chains = raise_chains(parts, certificate);
         if !blocks && !chains {
             return;
@@ -190,8 +197,8 @@ pub(crate) fn raise_in_sweeps(parts: &Parts, certificate: &mut Certificate, swee
     ensures { KeepsCounts certificate.old certificate.new }
 {
     for _ in 0..sweeps {
-        let back = raise_blocks_back(parts, certificate);
-        let on = raise_blocks(parts, certificate);
+        let back = raise_blocks(parts, certificate, Order::Backwards);
+        let on = raise_blocks(parts, certificate, Order::Forwards);
         let chains = raise_chains(parts, certificate);
         if !back && !on && !chains {
             return true;

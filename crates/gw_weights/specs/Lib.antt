@@ -1,4 +1,3 @@
 pub mod Codes
-pub mod Names
 pub mod Weights
 pub mod Laws

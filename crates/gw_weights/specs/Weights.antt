@@ -1,6 +1,8 @@
 -- Weights: how many block entries each place is worth, and the checks of a weight certificate in order.
 use Rattle.std.specs.Prelude.{◌≡◌, ℕ, zero, suc, ◌+◌, ◌*◌, List, [], ◌∷◌, ◌++◌, slice_index_or, Option, Some, None, is_some, Bool, not, ◌||◌, ◌&&◌, nat_le, if◌then◌else◌}
+use Rattle.std.specs.Borrow.{Bor}
 use Rattle.std.specs.List.{flat_map}
+use Rattle.std.specs.Option.{option_map}
 use Rattle.gw_blocks.specs.declared.parts.Generate.{Generate}
 use Rattle.gw_blocks.specs.declared.parts.Block.{Block}
 use Rattle.gw_blocks.specs.declared.parts.Block.TheVariants as blocks
@@ -20,6 +22,12 @@ use Rattle.gw_flow.specs.Seen.{row_meaning}
 use Rattle.gw_flow.specs.Blocks.{is_used, returns_read}
 use Rattle.gw_flow.specs.Flow.{own_table, own_row}
 use Rattle.gw_weights.specs.Codes as codes
+
+-- ROWS
+
+-- what a row of the state table says by an object's own return rows, if there is one
+abbrev pub meaning_of : Parts → Option (Bor TableState) → Option Row
+meaning_of p row = option_map (λ r. row_meaning p.returns r.now) row
 
 -- WEIGHTS
 

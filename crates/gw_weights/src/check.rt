@@ -1,10 +1,10 @@
 //! The checks of a weight certificate, in order.
 
-ghost use Rattle.std.specs.Prelude.{◌≡◌, ◌≤◌, length, option_map};
+ghost use Rattle.std.specs.Prelude.{◌≡◌, ◌≤◌, length};
 ghost use Rattle.gw_kinds.specs.Checks.{Finds};
 ghost use Rattle.gw_kinds.specs.Pass.{KindsPass};
 ghost use Rattle.gw_flow.specs.Flow.{own_row as row_of};
-ghost use Rattle.gw_flow.specs.Seen.{row_meaning, HaveNext};
+ghost use Rattle.gw_flow.specs.Seen.{HaveNext};
 ghost use Rattle.gw_weights.specs.Weights as model;
 
 use crate::arrivals::check_arrivals;
@@ -17,7 +17,7 @@ use gw_object::{Fault, Object, Parts, TableState};
 
 /// The row of the state table of the block of this number, from 1, if it has one (ours: docs/object-format.md).
 pub fn own_row(parts: &Parts, number: u16) -> Option<&TableState>
-    ensures { option_map (λ row. row_meaning parts.now.returns row.now) result ≡ row_of parts.now number }
+    ensures { model.meaning_of parts.now result ≡ row_of parts.now number }
 {
     if number == 0 {
         return None;

@@ -16,10 +16,10 @@ returns-in_err-check_rules c =
     let told = c.in_err-check_rules.ensures in
     rw (p.1, p.2) (inl (stops_first rules edges _ (rw c.rows-returns.ensures at told)))
 
-pub returns : goal.returns
-returns c =
+pub returns-in-Ok : goal.returns-in-Ok
+returns-in-Ok c =
     let state = known c.args.table.returns.now c.args.state.now in
     let rules = rule_checks c.args.parts.now c.args.number c.args.block.now state in
     let edges = edge_checks c.args.parts.now (table_viewed c.args.table) c.args.number c.args.block.now state in
     let none = c.in_ok-check_rules.ensures in
-    found_later c.check_edges_in.result rules edges (rw c.rows-returns.ensures at none) c.check_edges_in.ensures
+    found_later c.check_edges.result rules edges (rw c.rows-returns.ensures at none) c.check_edges.ensures
