@@ -1,5 +1,6 @@
 -- Who is to blame: what follows where nobody is, and how answers go by it.
 use Rattle.std.proofs.Common.{◌≡◌, ℕ, Option, Some, None, Bool, true, false, Result, Err, if◌then◌else◌, refl, sym, ap, subst}
+use Rattle.std.specs.Prelude.{option_map}
 use Rattle.std.proofs.lemmas.Bool.{eqb-true}
 use Rattle.gw_text_expressions.specs.declared.model.Expression.{Expression}
 use Rattle.gw_compile.specs.declared.numbering.Callee.{Callee}
@@ -16,6 +17,11 @@ neither (Some blame) b is = absurd (cc)
 pub is_there : {A : Type 0} (x : Option A) (e : Expression) → if_unknown x e ≡ None → (y : A) × (x ≡ Some y)
 is_there (Some y) e is = (y, refl)
 is_there None e is = absurd (cc)
+
+-- what is made of something that is known is known, and of nothing else
+pub unknown_as : {A B : Type 0} (f : A → B) (x : Option A) (e : Expression) → if_unknown (option_map f x) e ≡ if_unknown x e
+unknown_as f (Some y) e = refl
+unknown_as f None e = refl
 
 -- the PROCEDURE that is called is known, and takes as many arguments
 abbrev pub CallFits : Option Callee → ℕ → Type 0

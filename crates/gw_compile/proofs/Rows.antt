@@ -15,7 +15,7 @@ expressions_code_is n scope m end_of-Expression = refl
 expressions_code_is n scope m (more_of-Expression e es) = ap (λ c. expression_code n scope e ++ c) (expressions_code_is n scope _ es)
 
 -- there are as many as in the list
-count_is : (m : _) (es : Row_of-Expression m) → count es ≡ length (items-the_row-Expression m es)
+pub count_is : (m : _) (es : Row_of-Expression m) → count es ≡ length (items-the_row-Expression m es)
 count_is m end_of-Expression = refl
 count_is m (more_of-Expression e es) = ap suc (count_is _ es)
 
@@ -24,7 +24,8 @@ first_is : (n : Numbers) (scope : Scope) (m : _) (es : Row_of-Expression m) → 
 first_is n scope m end_of-Expression = refl
 first_is n scope m (more_of-Expression e es) = ap (λ b. first_of (first_blame n scope e) b) (first_is n scope _ es)
 
-abbrev row_of : Expression → (m : Count) × Row_of-Expression m
+-- the arguments of a call, as a row
+abbrev pub row_of : Expression → (m : Count) × Row_of-Expression m
 row_of (Call' name m es) = (_, es)
 row_of _ = (_, end_of-Expression)
 

@@ -17,35 +17,27 @@ use Rattle.gw_text_expressions.specs.declared.model.BlockName.{BlockName}
 use Rattle.gw_text_expressions.specs.declared.model.BlockName.TheVariants as block_names
 use Rattle.gw_text_expressions.specs.declared.model.Parameter.{Parameter}
 use Rattle.gw_text_expressions.specs.declared.model.Parameter.TheVariants as parameters
+use Rattle.gw_compile.specs.declared.attributes.Question.{Question}
 use Rattle.gw_compile.specs.Numbers.{Numbers}
 
--- the kind of the entity of which this is asked
-abbrev pub kind_for : EntityValue → EntityKind
-kind_for values.Facility = kinds.Facility
-kind_for values.StorageContent = kinds.Storage
-kind_for values.StorageRoom = kinds.Storage
-kind_for values.Queue = kinds.Queue
-kind_for values.Savevalue = kinds.Savevalue
-kind_for values.Switch = kinds.Switch
-kind_for values.Chain = kinds.Chain
-kind_for values.Variable = kinds.Variable
-kind_for values.BVariable = kinds.BooleanVariable
-kind_for values.Function = kinds.Function
+-- a question for this attribute of an entity of this kind
+abbrev pub question_about : EntityKind → EntityAttribute → Question
+question_about kind attribute = record { kind = kind; attribute = attribute }
 
--- the attribute that is asked of an entity
-abbrev pub attribute_for : EntityValue → EntityAttribute
-attribute_for values.Facility = attributes.FacilityOwned
-attribute_for values.StorageContent = attributes.StorageContent
-attribute_for values.StorageRoom = attributes.StorageRemaining
-attribute_for values.Queue = attributes.QueueContent
-attribute_for values.Savevalue = attributes.SavevalueValue
-attribute_for values.Switch = attributes.SwitchSetting
-attribute_for values.Chain = attributes.ChainMembers
-attribute_for values.Variable = attributes.VariableValue
-attribute_for values.BVariable = attributes.BooleanValue
-attribute_for values.Function = attributes.FunctionValue
+-- what is asked of an entity
+abbrev pub question_of : EntityValue → Question
+question_of values.Facility = question_about kinds.Facility attributes.FacilityOwned
+question_of values.StorageContent = question_about kinds.Storage attributes.StorageContent
+question_of values.StorageRoom = question_about kinds.Storage attributes.StorageRemaining
+question_of values.Queue = question_about kinds.Queue attributes.QueueContent
+question_of values.Savevalue = question_about kinds.Savevalue attributes.SavevalueValue
+question_of values.Switch = question_about kinds.Switch attributes.SwitchSetting
+question_of values.Chain = question_about kinds.Chain attributes.ChainMembers
+question_of values.Variable = question_about kinds.Variable attributes.VariableValue
+question_of values.BVariable = question_about kinds.BooleanVariable attributes.BooleanValue
+question_of values.Function = question_about kinds.Function attributes.FunctionValue
 
--- and of a block
+-- the attribute that is asked of a block
 abbrev pub block_attribute_for : BlockValue → EntityAttribute
 block_attribute_for of_blocks.Entries = attributes.BlockEntries
 block_attribute_for of_blocks.Waiting = attributes.BlockCount
@@ -82,5 +74,5 @@ attribute_in n texts.TransactionNumber = Some (snas.Attribute own.TransactionNum
 attribute_in n texts.TerminationCount = Some (snas.Attribute own.TerminationCount)
 attribute_in n (texts.Parameter x) = parameter_if_known (parameter_number n x)
 attribute_in n (texts.Random j) = None
-attribute_in n (texts.OfEntity value name) = sna_if_known (attribute_for value) (n.entity (kind_for value) (string_bytes name))
+attribute_in n (texts.OfEntity value name) = sna_if_known (question_of value).attribute (n.entity (question_of value).kind (string_bytes name))
 attribute_in n (texts.OfBlock value block) = sna_if_known (block_attribute_for value) (block_number n block)

@@ -1,5 +1,6 @@
 -- The code of an expression.
-use Rattle.std.specs.Prelude.{List, [], ◌∷◌, ◌++◌, Option, option_map, option_to_list, string_bytes}
+use Rattle.std.specs.Prelude.{◌≡◌, List, [], ◌∷◌, ◌++◌, Option, option_map, option_to_list, string_bytes, Vec}
+use Rattle.std.specs.Global.{Global}
 use Rattle.gw_code.specs.declared.parts.Instruction.{Instruction}
 use Rattle.gw_code.specs.declared.parts.Sna.{Sna}
 use Rattle.gw_code.specs.declared.parts.Instruction.TheVariants.{Push, Get, Value, Binary, Unary, Call, Return}
@@ -49,3 +50,7 @@ abbrev mutual
 -- those of the procedure that an expression becomes
 abbrev pub procedure_code : Numbers → Expression → List Instruction
 procedure_code n e = expression_code n [] e ++ Return ∷ []
+
+-- this is that code
+abbrev pub IsProcedureCode : Numbers → Expression → Vec Instruction Global → Type 0
+IsProcedureCode n e code = code.items ≡ procedure_code n e

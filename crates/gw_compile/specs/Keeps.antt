@@ -1,5 +1,5 @@
 -- Compiled expressions keep their value.
-use Rattle.std.specs.Prelude.{◌≡◌, ℕ, ◌+◌, ◌<◌, ◌≤◌, ◌⊎◌, List, [], ◌∷◌, ◌++◌, length, Some, None, true, Result, Ok, Err, ℤ, slice_get}
+use Rattle.std.specs.Prelude.{◌≡◌, ℕ, ◌+◌, ◌<◌, ◌≤◌, ◌⊎◌, List, [], ◌∷◌, ◌++◌, length, Some, None, true, Result, Ok, Err, IfOk, ℤ, slice_get}
 use Rattle.std.specs.List.{All, list_all}
 use Rattle.gw_blocks.specs.declared.parts.Numbered.{Numbered}
 use Rattle.gw_blocks.specs.declared.parts.Operand.TheVariants as operands
@@ -106,6 +106,22 @@ pub record IsCompiledProcedure (n : Numbers) (procedures : List Procedure) (proc
   pub needs : NeedsWhatItAsks n procedures pr
   pub values : All (KeepsValueAt n pr) (body_of n procedure).values
 
+-- an expression becomes such a procedure, unless there is a fault
+abbrev pub Compiles : {E : Type 0} → Numbers → List Procedure → Expression → Result Procedure E → Type 0
+Compiles n procedures e result = IfOk result (IsCompiled n procedures e)
+
+-- and so does a PROCEDURE
+abbrev pub CompilesProcedure : {E : Type 0} → Numbers → List Procedure → TextProcedure → Result Procedure E → Type 0
+CompilesProcedure n procedures procedure result = IfOk result (IsCompiledProcedure n procedures procedure)
+
+-- code has no more instructions and BACKs than that of a procedure of an object may have
+abbrev pub KeepsCodeLimits : List Instruction → Type 0
+KeepsCodeLimits code = (length code ≤ most_instructions) × (backs code ≤ most_backs)
+
+-- or more
+abbrev pub ExceedsCodeLimits : List Instruction → Type 0
+ExceedsCodeLimits code = (most_instructions < length code) ⊎ (most_backs < backs code)
+
 -- a body has more locals, instructions or BACKs than a procedure of an object may have
 abbrev pub ExceedsLimits : Piece → Type 0
-ExceedsLimits body = (most_locals < length body.scope) ⊎ ((most_instructions < length (body_code body)) ⊎ (most_backs < backs (body_code body)))
+ExceedsLimits body = (most_locals < length body.scope) ⊎ ExceedsCodeLimits (body_code body)

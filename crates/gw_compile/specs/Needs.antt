@@ -1,5 +1,6 @@
 -- The parameters that a procedure needs: those for which its code asks, by their numbers, ascending.
-use Rattle.std.specs.Prelude.{ℕ, List, [], ◌∷◌, if◌then◌else◌, ◌==◌, nat_lt, slice_get}
+use Rattle.std.specs.Prelude.{◌≡◌, ℕ, List, [], ◌∷◌, Vec, if◌then◌else◌, ◌==◌, nat_lt, slice_get}
+use Rattle.std.specs.Global.{Global}
 use Rattle.gw_blocks.specs.declared.parts.Operand.{Operand}
 use Rattle.gw_blocks.specs.declared.parts.Operand.TheVariants as operands
 use Rattle.gw_code.specs.declared.parts.Instruction.{Instruction}
@@ -46,3 +47,7 @@ needs_with n procedures (i ∷ code) needs = needs_with n procedures code (with_
 -- the parameters for which code asks
 abbrev pub needs_in : Numbers → List Procedure → List Instruction → List ℕ
 needs_in n procedures code = needs_with n procedures code []
+
+-- these are the parameters for which code asks
+abbrev pub AreNeeds : Numbers → List Procedure → List Instruction → Vec ℕ Global → Type 0
+AreNeeds n procedures code needs = needs.items ≡ needs_in n procedures code

@@ -1,11 +1,13 @@
 -- What of an expression isn't known.
 use Rattle.std.specs.Prelude.{◌≡◌, ℕ, suc, List, [], ◌∷◌, Option, Some, None, Result, Ok, Err, if◌then◌else◌, ◌==◌, string_bytes}
+use Rattle.std.specs.Borrow.{Bor}
 use Rattle.gw_text_expressions.specs.declared.model.Expression.{Expression, Row_of-Expression, end_of-Expression, more_of-Expression}
 use Rattle.gw_text_expressions.specs.declared.model.Expression.TheVariants.{Whole, Name, Sna as Attribute, Parentheses', Call', Unary', Binary'}
 use Rattle.gw_compile.specs.declared.numbering.Callee.{Callee}
 use Rattle.gw_compile.specs.declared.faults.CompileFault.{CompileFault}
 use Rattle.gw_compile.specs.declared.faults.CompileFault.TheVariants as faults
 use Rattle.gw_compile.specs.Numbers.{Numbers, Scope, name_meaning}
+use Rattle.gw_compile.specs.Scope.{scope_of}
 use Rattle.gw_compile.specs.Attributes.{attribute_in}
 
 -- what is to blame
@@ -66,3 +68,11 @@ Judges first over (Err (faults.Arguments call)) = first ≡ Some (Arguments call
 Judges first over (Err (faults.Target name)) = first ≡ Some (Target (string_bytes name.now))
 Judges first over (Err faults.Limit) = over
 Judges first over (Err faults.Memory) = Unit {0}
+
+-- an answer goes by an expression, where these locals hold: by the first to blame in it, and it knows no limit
+abbrev pub JudgesExpression : {A : Type 0} → Numbers → List (Bor (List ℕ)) → Expression → Result A CompileFault → Type 0
+JudgesExpression n locals e answer = Judges (first_blame n (scope_of locals) e) ⊥ answer
+
+-- and by several
+abbrev pub JudgesExpressions : {A : Type 0} → Numbers → List (Bor (List ℕ)) → List Expression → Result A CompileFault → Type 0
+JudgesExpressions n locals es answer = Judges (first_in n (scope_of locals) es) ⊥ answer

@@ -9,38 +9,55 @@ use gw_code::Sna;
 use gw_kinds::EntityKind;
 use gw_text_expressions::{BlockName, BlockValue, EntityValue, Parameter, Sna as TextSna};
 
-/// The kind of the entity of which this is asked.
-fn kind_for(value: EntityValue) -> EntityKind
-    ensures { result ≡ model.kind_for value }
-{
-    match value {
-        EntityValue::Facility => EntityKind::Facility,
-        EntityValue::StorageContent | EntityValue::StorageRoom => EntityKind::Storage,
-        EntityValue::Queue => EntityKind::Queue,
-        EntityValue::Savevalue => EntityKind::Savevalue,
-        EntityValue::Switch => EntityKind::Switch,
-        EntityValue::Chain => EntityKind::Chain,
-        EntityValue::Variable => EntityKind::Variable,
-        EntityValue::BVariable => EntityKind::BooleanVariable,
-        EntityValue::Function => EntityKind::Function,
-    }
+/// What is asked of an entity.
+#[derive(Clone, Copy)]
+pub struct Question {
+    /// The kind of the entity.
+    pub kind: EntityKind,
+    /// The attribute of it.
+    pub attribute: EntityAttribute,
 }
 
-/// The attribute that is asked of an entity.
-fn attribute_for(value: EntityValue) -> EntityAttribute
-    ensures { result ≡ model.attribute_for value }
+/// A question for this attribute of an entity of this kind.
+fn question_about(kind: EntityKind, attribute: EntityAttribute) -> Question
+    ensures { result ≡ model.question_about kind attribute }
+{
+    Question { kind, attribute }
+}
+
+/// What is asked of an entity, by the letters of the attribute.
+pub fn question_of(value: EntityValue) -> Question
+    ensures { result ≡ model.question_of value }
 {
     match value {
-        EntityValue::Facility => EntityAttribute::FacilityOwned,
-        EntityValue::StorageContent => EntityAttribute::StorageContent,
-        EntityValue::StorageRoom => EntityAttribute::StorageRemaining,
-        EntityValue::Queue => EntityAttribute::QueueContent,
-        EntityValue::Savevalue => EntityAttribute::SavevalueValue,
-        EntityValue::Switch => EntityAttribute::SwitchSetting,
-        EntityValue::Chain => EntityAttribute::ChainMembers,
-        EntityValue::Variable => EntityAttribute::VariableValue,
-        EntityValue::BVariable => EntityAttribute::BooleanValue,
-        EntityValue::Function => EntityAttribute::FunctionValue,
+        EntityValue::Facility => question_about(
+            EntityKind::Facility,
+            EntityAttribute::FacilityOwned,
+        ),
+        EntityValue::StorageContent => {
+            question_about(EntityKind::Storage, EntityAttribute::StorageContent)
+        }
+        EntityValue::StorageRoom => {
+            question_about(EntityKind::Storage, EntityAttribute::StorageRemaining)
+        }
+        EntityValue::Queue => question_about(EntityKind::Queue, EntityAttribute::QueueContent),
+        EntityValue::Savevalue => question_about(
+            EntityKind::Savevalue,
+            EntityAttribute::SavevalueValue,
+        ),
+        EntityValue::Switch => question_about(EntityKind::Switch, EntityAttribute::SwitchSetting),
+        EntityValue::Chain => question_about(EntityKind::Chain, EntityAttribute::ChainMembers),
+        EntityValue::Variable => question_about(
+            EntityKind::Variable,
+            EntityAttribute::VariableValue,
+        ),
+        EntityValue::BVariable => {
+            question_about(EntityKind::BooleanVariable, EntityAttribute::BooleanValue)
+        }
+        EntityValue::Function => question_about(
+            EntityKind::Function,
+            EntityAttribute::FunctionValue,
+        ),
     }
 }
 
@@ -108,7 +125,8 @@ pub fn attribute_in<N: Numbering>(names: &N, sna: &TextSna) -> Option<Sna>
         TextSna::Parameter(of) => parameter_if_known(parameter_number(names, of)),
         TextSna::Random(_) => None,
         TextSna::OfEntity(value, name) => {
-            sna_if_known(attribute_for(*value), names.entity(kind_for(*value), name))
+            let question = question_of(*value);
+            sna_if_known(question.attribute, names.entity(question.kind, name))
         }
         TextSna::OfBlock(value, block) => {
             sna_if_known(block_attribute_for(*value), block_number(names, block))

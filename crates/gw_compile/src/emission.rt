@@ -1,17 +1,18 @@
 //! From expressions to instructions.
 
-ghost use Rattle.std.specs.Prelude.{◌≡◌, ◌≤◌, ◌++◌, ◌∷◌, [], None, OnOk, length, string_bytes};
+ghost use Rattle.std.specs.Prelude.{◌≡◌, ◌≤◌, ◌++◌, ◌∷◌, [], None, OnOk, length, option_to_list, string_bytes};
 ghost use Rattle.std.specs.List.{flat_map};
 ghost use Rattle.gw_compile.specs.Code as model;
 ghost use Rattle.gw_compile.specs.Code.{expression_code};
 ghost use Rattle.gw_compile.specs.Scope.{scope_of};
-ghost use Rattle.gw_compile.specs.Unknown.{Judges, if_unknown, if_misfit, first_blame, first_in};
+ghost use Rattle.gw_compile.specs.Unknown.{Judges, JudgesExpression, JudgesExpressions};
+ghost use Rattle.gw_compile.specs.Unknown.{if_unknown, if_misfit};
 
 use crate::attributes::attribute_in;
 use crate::faults::CompileFault;
 use crate::locals::{Meaning, name_meaning};
 use crate::numbering::{Callee, Equ, Numbering};
-use gw_code::{Instruction, Sna};
+use gw_code::Instruction;
 use gw_text_expressions::Expression;
 
 /// One more instruction.
@@ -39,32 +40,17 @@ fn name_instruction(named: Meaning) -> Instruction
     }
 }
 
-/// The value of what a bare name stands for.
-fn put_name<'a>(
+/// The instruction for an operand, where what that names is known.
+fn put_known<'a>(
     code: &mut Vec<Instruction>,
-    named: Option<Meaning>,
+    known: Option<Instruction>,
     operand: &'a Expression,
 ) -> Result<(), CompileFault<'a>>
-    ensures code { OnOk result (code.new.items ≡ code.old.items ++ model.name_code named) }
-    ensures fault { Judges (if_unknown named operand.now) ⊥ result }
+    ensures code { OnOk result (code.new.items ≡ code.old.items ++ option_to_list known) }
+    ensures fault { Judges (if_unknown known operand.now) ⊥ result }
 {
-    match named {
-        Some(named) => put(code, name_instruction(named)),
-        None => Err(CompileFault::Unknown(operand)),
-    }
-}
-
-/// The value of an attribute.
-fn put_attribute<'a>(
-    code: &mut Vec<Instruction>,
-    sna: Option<Sna>,
-    operand: &'a Expression,
-) -> Result<(), CompileFault<'a>>
-    ensures code { OnOk result (code.new.items ≡ code.old.items ++ model.attribute_code sna) }
-    ensures fault { Judges (if_unknown sna operand.now) ⊥ result }
-{
-    match sna {
-        Some(sna) => put(code, Instruction::Value(sna)),
+    match known {
+        Some(instruction) => put(code, instruction),
         None => Err(CompileFault::Unknown(operand)),
     }
 }
@@ -99,7 +85,7 @@ fn emit_all<'a, N: Numbering>(
     requires { length locals.now ≤ 32 }
     ensures code { OnOk result (code.new.items ≡ code.old.items
         ++ flat_map (expression_code (N.numbers names.now) (scope_of locals.now)) expressions.now) }
-    ensures fault { Judges (first_in (N.numbers names.now) (scope_of locals.now) expressions.now) ⊥ result }
+    ensures fault { JudgesExpressions (N.numbers names.now) locals.now expressions.now result }
 {
     for expression in expressions {
         emit(code, names, locals, expression)?;
@@ -109,6 +95,7 @@ fn emit_all<'a, N: Numbering>(
 
 /// Behind what there is, the code of an expression.
 #[cycle(emission)]
+#[tactic(auto, using(crate::proofs::Blaming::unknown_as))]
 pub(crate) fn emit<'a, N: Numbering>(
     code: &mut Vec<Instruction>,
     names: &N,
@@ -118,12 +105,18 @@ pub(crate) fn emit<'a, N: Numbering>(
     requires { length locals.now ≤ 32 }
     ensures code { OnOk result (code.new.items ≡ code.old.items
         ++ expression_code (N.numbers names.now) (scope_of locals.now) expression.now) }
-    ensures fault { Judges (first_blame (N.numbers names.now) (scope_of locals.now) expression.now) ⊥ result }
+    ensures fault { JudgesExpression (N.numbers names.now) locals.now expression.now result }
 {
     match expression {
         Expression::Whole(number) => put(code, Instruction::Push(*number)),
-        Expression::Name(name) => put_name(code, name_meaning(names, locals, name), expression),
-        Expression::Sna(sna) => put_attribute(code, attribute_in(names, sna), expression),
+        Expression::Name(name) => {
+            let known = name_meaning(names, locals, name).map(name_instruction);
+            put_known(code, known, expression)
+        }
+        Expression::Sna(sna) => {
+            let known = attribute_in(names, sna).map(Instruction::Value);
+            put_known(code, known, expression)
+        }
         Expression::Parentheses(inner) => emit(code, names, locals, inner),
         Expression::Unary(operator, operand) => {
             emit(code, names, locals, operand)?;

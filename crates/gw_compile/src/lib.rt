@@ -11,7 +11,7 @@ mod parts;
 mod procedures;
 mod statements;
 
-pub use attributes::attribute_in;
+pub use attributes::{Question, attribute_in, question_of};
 pub use faults::CompileFault;
 pub use numbering::{Callee, Equ, Numbering};
 pub use procedures::{compile, compile_procedure};

@@ -1,8 +1,8 @@
 //! The locals of a PROCEDURE, and what a bare name stands for among them.
 
-ghost use Rattle.std.specs.Prelude.{◌≡◌, ◌≤◌, ◌<◌, length, map, string_bytes};
-ghost use Rattle.gw_compile.specs.Numbers.{number_of, meaning_by, name_meaning};
-ghost use Rattle.gw_compile.specs.Scope.{scope_of};
+ghost use Rattle.std.specs.Prelude.{◌≡◌, ◌≤◌, ◌<◌, length, map};
+ghost use Rattle.gw_compile.specs.Numbers.{number_of, meaning_by};
+ghost use Rattle.gw_compile.specs.Scope.{scope_of, meaning_among};
 
 use crate::numbering::{Equ, Numbering};
 
@@ -46,7 +46,7 @@ pub(crate) fn name_meaning<N: Numbering>(
     name: &String,
 ) -> Option<Meaning>
     requires { length locals.now ≤ 32 }
-    ensures { result ≡ name_meaning (N.numbers names.now) (scope_of locals.now) (string_bytes name.now) }
+    ensures { result ≡ meaning_among (N.numbers names.now) locals.now name.now }
 {
     meaning_by(local_of(locals, name.as_str()), names.equ(name))
 }

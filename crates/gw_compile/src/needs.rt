@@ -99,7 +99,7 @@ pub(crate) fn needs_in<N: Numbering>(
     procedures: &[Procedure],
     code: &[Instruction],
 ) -> Result<Vec<u8>, AllocError>
-    ensures { IfOk result (λ needs. needs.items ≡ model.needs_in (N.numbers names.now) procedures.now code.now) }
+    ensures { IfOk result (model.AreNeeds (N.numbers names.now) procedures.now code.now) }
 {
     let mut needs = Vec::new(alloc);
     for i in 0..code.len() {

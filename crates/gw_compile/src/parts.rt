@@ -7,7 +7,7 @@ ghost use Rattle.gw_compile.specs.Scope.{scope_of};
 ghost use Rattle.gw_compile.specs.Statements as model;
 ghost use Rattle.gw_compile.specs.Statements.{IsWritten, when};
 ghost use Rattle.gw_compile.specs.Code.{expression_code};
-ghost use Rattle.gw_compile.specs.Unknown.{Judges, first_blame};
+ghost use Rattle.gw_compile.specs.Unknown.{Judges, JudgesExpression};
 
 use crate::emission::{emit, put};
 use crate::faults::CompileFault;
@@ -224,7 +224,7 @@ pub(crate) fn put_test<'a, N: Numbering>(
         ++ (expression_code (N.numbers names.now) (scope_of locals.now) test.now ++ Instruction.JumpIfZero 0 ∷ [])) }
     ensures place { IfOk result (λ place. place ≡ length code.old.items
         + length (expression_code (N.numbers names.now) (scope_of locals.now) test.now)) }
-    ensures fault { Judges (first_blame (N.numbers names.now) (scope_of locals.now) test.now) ⊥ result }
+    ensures fault { JudgesExpression (N.numbers names.now) locals.now test.now result }
 {
     emit(code, names, locals, test)?;
     put_jump(code, Instruction::JumpIfZero(0))

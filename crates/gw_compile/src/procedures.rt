@@ -1,12 +1,13 @@
 //! Procedures of expressions and of PROCEDUREs.
 
-ghost use Rattle.std.specs.Prelude.{◌≡◌, ◌<◌, ◌≤◌, ◌⊎◌, ◌++◌, [], length};
+ghost use Rattle.std.specs.Prelude.{◌≡◌, ◌<◌, ◌≤◌, ◌++◌, [], length};
 ghost use Rattle.std.specs.Prelude.{IfOk, OnOk, MatchBool, None};
-ghost use Rattle.gw_code.specs.Limits.{most_instructions, most_backs, most_locals};
+ghost use Rattle.gw_code.specs.Limits.{most_instructions, most_locals};
 ghost use Rattle.gw_code.specs.Grammar as grammar;
 ghost use Rattle.gw_code.specs.Grammar.{backs};
-ghost use Rattle.gw_compile.specs.Code.{procedure_code};
-ghost use Rattle.gw_compile.specs.Keeps.{IsCompiled, IsCompiledProcedure, ExceedsLimits, NeedsWhatItAsks};
+ghost use Rattle.gw_compile.specs.Code.{IsProcedureCode, procedure_code};
+ghost use Rattle.gw_compile.specs.Keeps.{Compiles, CompilesProcedure, NeedsWhatItAsks};
+ghost use Rattle.gw_compile.specs.Keeps.{ExceedsLimits, KeepsCodeLimits, ExceedsCodeLimits};
 ghost use Rattle.gw_compile.specs.Statements as model;
 ghost use Rattle.gw_compile.specs.Statements.{JudgesPiece, body_code, end_code, when};
 ghost use Rattle.gw_compile.specs.Unknown.{Judges, first_blame};
@@ -50,7 +51,7 @@ fn code_of<'a, N: Numbering>(
     names: &N,
     expression: &'a Expression,
 ) -> Result<Vec<Instruction>, CompileFault<'a>>
-    ensures code { IfOk result (λ code. code.items ≡ procedure_code (N.numbers names.now) expression.now) }
+    ensures code { IfOk result (IsProcedureCode (N.numbers names.now) expression.now) }
     ensures fault { Judges (first_blame (N.numbers names.now) [] expression.now) ⊥ result }
 {
     let mut code = Vec::new(alloc);
@@ -68,7 +69,7 @@ pub fn compile<'a, N: Numbering>(
     procedures: &[Procedure],
     expression: &'a Expression,
 ) -> Result<Procedure, CompileFault<'a>>
-    ensures compiled { IfOk result (IsCompiled (N.numbers names.now) procedures.now expression.now) }
+    ensures compiled { Compiles (N.numbers names.now) procedures.now expression.now result }
     ensures fault { Judges (first_blame (N.numbers names.now) [] expression.now)
         (most_instructions < length (procedure_code (N.numbers names.now) expression.now)) result }
 {
@@ -108,7 +109,7 @@ fn body_of<'a, N: Numbering>(
     names: &N,
     procedure: &'a text::Procedure,
 ) -> Result<Body, CompileFault<'a>>
-    ensures arguments { IfOk result (λ body. body.arguments ≡ length procedure.now.arguments.items) }
+    ensures arguments { IfOk result (λ b. b.arguments ≡ length procedure.now.arguments.items) }
     ensures locals { IfOk result (λ body.
         body.locals ≡ length (model.body_of (N.numbers names.now) procedure.now).scope) }
     ensures room { IfOk result (λ body. body.locals ≤ most_locals) }
@@ -148,8 +149,7 @@ fn count_backs(code: &[Instruction]) -> usize
 
 /// Whether code has no more instructions and BACKs than that of a procedure may have.
 fn keeps_limits(code: &[Instruction]) -> bool
-    ensures { MatchBool result ((length code.now ≤ most_instructions) × (backs code.now ≤ most_backs))
-        ((most_instructions < length code.now) ⊎ (most_backs < backs code.now)) }
+    ensures { MatchBool result (KeepsCodeLimits code.now) (ExceedsCodeLimits code.now) }
 {
     code.len() <= MOST_INSTRUCTIONS && count_backs(code) <= MOST_BACKS
 }
@@ -162,7 +162,7 @@ pub fn compile_procedure<'a, N: Numbering>(
     procedures: &[Procedure],
     procedure: &'a text::Procedure,
 ) -> Result<Procedure, CompileFault<'a>>
-    ensures compiled { IfOk result (IsCompiledProcedure (N.numbers names.now) procedures.now procedure.now) }
+    ensures compiled { CompilesProcedure (N.numbers names.now) procedures.now procedure.now result }
     ensures fault { Judges (model.body_of (N.numbers names.now) procedure.now).blame
         (ExceedsLimits (model.body_of (N.numbers names.now) procedure.now)) result }
 {

@@ -6,4 +6,5 @@ pub mod Sights
 pub mod Sighting
 pub mod Judgement
 pub mod Naming
+pub mod Numbers
 pub mod Laws

@@ -1,17 +1,16 @@
 //! Which statement declares a name.
 
-ghost use Rattle.std.specs.Prelude.{◌≡◌, IfOk};
-ghost use Rattle.gw_names.specs.Known.{Finds};
+ghost use Rattle.std.specs.Prelude.{◌≡◌};
 ghost use Rattle.gw_names.specs.Places as model;
 ghost use Rattle.gw_names.specs.Places.{Sets, SetsKeys, named, declared_at, declared_from};
-ghost use Rattle.gw_names.specs.Places.{declared_equ, declared_procedure, equ_of, procedure_of};
+ghost use Rattle.gw_names.specs.Places.{declared_equ, declared_procedure};
 
 use crate::entities::Declarations;
 use crate::maps::{set, set_label};
 use gw_text::{Body, Statement, Word};
 use gw_uses::declared_kind;
 use indexmap::IndexMap;
-use std::alloc::{AllocError, Global};
+use std::alloc::AllocError;
 
 /// The entity that a statement declares, if it does, has this place from now on.
 fn declare(
@@ -49,7 +48,7 @@ pub fn is_equ(word: Word) -> bool
 }
 
 /// The EQU that a statement is, if it is one, has this place from now on.
-fn set_equ(
+pub(crate) fn set_equ(
     equs: &mut IndexMap<String, usize>,
     place: usize,
     statement: &Statement,
@@ -63,22 +62,8 @@ fn set_equ(
     }
 }
 
-/// The places of the EQUs: of each name the last one.
-pub(crate) fn equs_in(
-    alloc: Global,
-    statements: &[Statement],
-) -> Result<IndexMap<String, usize>, AllocError>
-    ensures { IfOk result (Finds (equ_of statements.now)) }
-{
-    let mut equs = IndexMap::new(alloc);
-    for i in 0..statements.len() {
-        set_equ(&mut equs, i, &statements[i])?;
-    }
-    Ok(equs)
-}
-
 /// The PROCEDURE that a statement has, if it has one, has this place from now on.
-fn set_procedure(
+pub(crate) fn set_procedure(
     places: &mut IndexMap<String, usize>,
     place: usize,
     statement: &Statement,
@@ -89,18 +74,4 @@ fn set_procedure(
         Body::Procedure(procedure) => set(places, &procedure.name, place),
         Body::Nothing | Body::Points(_) => Ok(()),
     }
-}
-
-/// The places of the PROCEDUREs: of each name the last one.
-pub(crate) fn procedures_in(
-    alloc: Global,
-    statements: &[Statement],
-) -> Result<IndexMap<String, usize>, AllocError>
-    ensures { IfOk result (Finds (procedure_of statements.now)) }
-{
-    let mut procedures = IndexMap::new(alloc);
-    for i in 0..statements.len() {
-        set_procedure(&mut procedures, i, &statements[i])?;
-    }
-    Ok(procedures)
 }

@@ -1,14 +1,14 @@
 //! EQUs that are numbers.
 
-ghost use Rattle.std.specs.Prelude.{◌≡◌, OnOk, IfOk};
+ghost use Rattle.std.specs.Prelude.{◌≡◌, OnOk};
 ghost use Rattle.gw_names.specs.Known.{Finds, found_in};
 ghost use Rattle.gw_names.specs.Places as model;
-ghost use Rattle.gw_names.specs.Places.{number_below, equ_number_of};
+ghost use Rattle.gw_names.specs.Places.{number_below};
 
 use crate::maps::{found, set};
 use gw_text::{Expression, Operand, Statement, Word};
 use indexmap::IndexMap;
-use std::alloc::{AllocError, Global};
+use std::alloc::AllocError;
 
 /// The number that an EQU is, where these above are numbers: a whole number, or the name of one above that is a number.
 fn number_of(numbers: &IndexMap<String, i64>, operand: &Operand) -> Option<i64>
@@ -35,7 +35,10 @@ fn equ_number_in(numbers: &IndexMap<String, i64>, word: Word, operands: &[Operan
 }
 
 /// Keeps the number of a statement, if it is an EQU of a number.
-fn keep(numbers: &mut IndexMap<String, i64>, statement: &Statement) -> Result<(), AllocError>
+pub(crate) fn keep(
+    numbers: &mut IndexMap<String, i64>,
+    statement: &Statement,
+) -> Result<(), AllocError>
     ensures { OnOk result (Finds (number_below (found_in numbers.old) statement.now) numbers.new) }
 {
     match (
@@ -45,18 +48,4 @@ fn keep(numbers: &mut IndexMap<String, i64>, statement: &Statement) -> Result<()
         (Some(number), Some(label)) => set(numbers, label, number),
         _ => Ok(()),
     }
-}
-
-/// The EQUs of a text that are numbers.
-pub(crate) fn equ_numbers_in(
-    alloc: Global,
-    statements: &[Statement],
-) -> Result<IndexMap<String, i64>, AllocError>
-    ensures { IfOk result (Finds (equ_number_of statements.now)) }
-{
-    let mut numbers = IndexMap::new(alloc);
-    for i in 0..statements.len() {
-        keep(&mut numbers, &statements[i])?;
-    }
-    Ok(numbers)
 }

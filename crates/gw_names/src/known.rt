@@ -5,13 +5,12 @@ ghost use Rattle.gw_names.specs.Ledger.{Notes};
 ghost use Rattle.gw_names.specs.Naming.{IsUnknown, Knows, KnowsUses};
 ghost use Rattle.gw_names.specs.Sights.{limits_in};
 
-use crate::declarations::{declare_all, equs_in, procedures_in};
+use crate::declarations::declare_all;
 use crate::entities::{ByKind, Declarations, EntityNames};
-use crate::equs::equ_numbers_in;
-use crate::labels::blocks_in;
 use crate::ledger::Ledger;
 use crate::names::Names;
 use crate::parameters::parameters_in;
+use crate::places::places_in;
 use crate::sights::{Sighted, see_sites};
 use gw_compile::{Callee, Equ};
 use gw_object::Entity;
@@ -57,15 +56,28 @@ fn nothing_known(alloc: Global) -> Known
     }
 }
 
-/// Entities and parameters become known.
-fn see_all(
+/// Labels, PROCEDUREs and EQUs become known.
+fn label_all(alloc: Global, known: &mut Known, statements: &[Statement]) -> Result<(), AllocError>
+    requires { KnowsUses statements.now known.old }
+    ensures { OnOk result (Knows statements.now known.new) }
+{
+    let places = places_in(alloc, statements)?;
+    known.blocks = places.blocks;
+    known.procedures = places.procedures;
+    known.equs = places.equs;
+    known.equ_numbers = places.equ_numbers;
+    Ok(())
+}
+
+/// All becomes known: entities and parameters first.
+fn know_all(
     alloc: Global,
     known: &mut Known,
     statements: &[Statement],
     ledger: &mut Ledger,
 ) -> Result<(), AllocError>
     requires { IsUnknown known.old }
-    ensures known { OnOk result (KnowsUses statements.now known.new) }
+    ensures known { OnOk result (Knows statements.now known.new) }
     ensures ledger { OnOk result (Notes ledger.old ledger.new (limits_in statements.now)) }
 {
     let sites = uses_in(alloc, statements)?;
@@ -78,33 +90,6 @@ fn see_all(
         sites.as_slice(),
     )?;
     known.parameters = parameters_in(alloc, sites.as_slice(), ledger)?;
-    Ok(())
-}
-
-/// Labels, PROCEDUREs and EQUs become known.
-fn label_all(alloc: Global, known: &mut Known, statements: &[Statement]) -> Result<(), AllocError>
-    requires { KnowsUses statements.now known.old }
-    ensures { OnOk result (Knows statements.now known.new) }
-{
-    known.blocks = blocks_in(alloc, statements)?;
-    known.procedures = procedures_in(alloc, statements)?;
-    known.equs = equs_in(alloc, statements)?;
-    known.equ_numbers = equ_numbers_in(alloc, statements)?;
-    Ok(())
-}
-
-/// All becomes known.
-fn know_all(
-    alloc: Global,
-    known: &mut Known,
-    statements: &[Statement],
-    ledger: &mut Ledger,
-) -> Result<(), AllocError>
-    requires { IsUnknown known.old }
-    ensures known { OnOk result (Knows statements.now known.new) }
-    ensures ledger { OnOk result (Notes ledger.old ledger.new (limits_in statements.now)) }
-{
-    see_all(alloc, known, statements, ledger)?;
     label_all(alloc, known, statements)
 }
 

@@ -1,14 +1,13 @@
 //! The numbers of blocks.
 
 ghost use Rattle.std.specs.Prelude.{◌≡◌, IfOk};
-ghost use Rattle.gw_names.specs.Known.{Finds};
 ghost use Rattle.gw_names.specs.Places as model;
-ghost use Rattle.gw_names.specs.Places.{Sets, block_label, block_of};
+ghost use Rattle.gw_names.specs.Places.{Sets, block_label};
 
 use crate::maps::set_label;
 use gw_text::{Statement, Word};
 use indexmap::IndexMap;
-use std::alloc::{AllocError, Global};
+use std::alloc::AllocError;
 
 /// Whether a statement of this word is a block.
 #[tactic(auto, unfolding(crate::specs::Places::is_block))]
@@ -40,7 +39,7 @@ fn next_block(number: u16) -> u16
 }
 
 /// Counts a statement, if it is a block, and gives its number to its label.
-fn count(
+pub(crate) fn count(
     blocks: &mut IndexMap<String, u16>,
     number: u16,
     statement: &Statement,
@@ -55,19 +54,4 @@ fn count(
     } else {
         Ok(number)
     }
-}
-
-/// The numbers of blocks by their labels, from 1: of each label the last one's.
-pub(crate) fn blocks_in(
-    alloc: Global,
-    statements: &[Statement],
-) -> Result<IndexMap<String, u16>, AllocError>
-    ensures { IfOk result (Finds (block_of statements.now)) }
-{
-    let mut blocks = IndexMap::new(alloc);
-    let mut number = 0;
-    for i in 0..statements.len() {
-        number = count(&mut blocks, number, &statements[i])?;
-    }
-    Ok(blocks)
 }

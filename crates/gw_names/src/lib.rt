@@ -13,6 +13,7 @@ mod ledger;
 mod maps;
 mod names;
 mod parameters;
+mod places;
 mod sights;
 
 pub use declarations::is_equ;
@@ -22,6 +23,6 @@ pub use judgement::check_uses;
 pub use known::{Known, known_names};
 pub use labels::is_block;
 pub use ledger::{Ledger, Noted};
-pub use maps::{found, set};
+pub use maps::{found, set, set_label};
 pub use names::Names;
 pub use sights::Sighted;

@@ -28,7 +28,7 @@ pub fn set<T: Drop>(
 }
 
 /// The same, if there is a name.
-pub(crate) fn set_label<T: Drop>(
+pub fn set_label<T: Drop>(
     map: &mut IndexMap<String, T>,
     label: &Option<String>,
     value: T,

@@ -1,8 +1,6 @@
 //! What all names of a model text stand for.
 
-ghost use Rattle.gw_blocks.specs.declared.parts.Operand.TheVariants as operands;
-ghost use Rattle.gw_kinds.specs.Evaluated.{source_of as source};
-ghost use Rattle.gw_names.specs.Known.{found_in, entity_of};
+ghost use Rattle.gw_names.specs.Numbers.{numbers_of};
 
 use crate::entities::EntityNames;
 use gw_blocks::{Numbered, Operand};
@@ -29,14 +27,7 @@ pub struct Names {
 }
 
 impl Numbering for Names {
-    ghost numbers = { λ n. record {
-      entity = entity_of n.entities;
-      block = found_in n.blocks;
-      parameter = found_in n.parameters;
-      procedure = found_in n.procedures;
-      equ = found_in n.equs;
-      source = λ of. source n.list.items (operands.OfEntity of);
-    } };
+    ghost numbers = { numbers_of };
 
     fn entity(&self, kind: EntityKind, name: &String) -> Option<u16> {
         self.entities.get(kind, name)

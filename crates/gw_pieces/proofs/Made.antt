@@ -15,7 +15,8 @@ use Rattle.gw_names.specs.Places.{declaration_of}
 use Rattle.gw_names.specs.Sights.{entities_of}
 use Rattle.gw_pieces.specs.declared.naming.Meanings.{Meanings}
 use Rattle.gw_pieces.specs.declared.origins.Origin.{Origin}
-use Rattle.gw_pieces.specs.Numbers.{numbers_of, with_source}
+use Rattle.gw_names.specs.Numbers.{numbers_of}
+use Rattle.gw_pieces.specs.Numbers.{with_source}
 use Rattle.gw_pieces.specs.Order.{order_in}
 use Rattle.gw_pieces.specs.Entities.{IsKindBy, AreSightedAs, AreEntitiesOf}
 use Rattle.gw_pieces.specs.Pieces.{NumbersText}

@@ -1,5 +1,5 @@
 -- The entities of a model text.
-use Rattle.std.specs.Prelude.{◌≡◌, ℕ, ℤ, pos, List, [], ◌∷◌, ◌++◌, Option, Some, None, not, slice_get, string_bytes, unwrap_or}
+use Rattle.std.specs.Prelude.{◌≡◌, Bool, ℕ, ℤ, pos, List, [], ◌∷◌, ◌++◌, Option, Some, None, not, slice_get, string_bytes, unwrap_or}
 use Rattle.std.specs.List.{flat_map}
 use Rattle.gw_num.specs.Arithmetic.{is_zero}
 use Rattle.gw_blocks.specs.declared.parts.Numbered.{Numbered}
@@ -22,6 +22,8 @@ use Rattle.gw_records.specs.Entities.{entity_kind}
 use Rattle.gw_names.specs.Known.{Key}
 use Rattle.gw_names.specs.declared.sights.Sighted.{Sighted}
 use Rattle.gw_names.specs.Places.{last_of, declaration_of}
+use Rattle.gw_pieces.specs.declared.initials.Initial.{Initial}
+use Rattle.gw_pieces.specs.declared.initials.Initial.TheVariants as initials
 use Rattle.gw_pieces.specs.declared.origins.Origin.{Origin}
 use Rattle.gw_pieces.specs.Origins.{numbers_for}
 use Rattle.gw_pieces.specs.Numbers.{with_source}
@@ -29,46 +31,45 @@ use Rattle.gw_pieces.specs.Settings.{number_in}
 
 -- INITIAL
 
--- the savevalue of which an attribute is
-abbrev pub savevalue_of : Sna → Option (List ℕ)
-savevalue_of (OfEntity values.Savevalue name) = Some (string_bytes name)
-savevalue_of sna = None
+-- the name of what an attribute is of, if an INITIAL of this sort sets it
+abbrev pub name_of : Initial → Sna → Option (List ℕ)
+name_of initials.Savevalue (OfEntity values.Savevalue name) = Some (string_bytes name)
+name_of initials.Switch (OfEntity values.Switch name) = Some (string_bytes name)
+name_of initial sna = None
 
--- and the switch
-abbrev pub switch_of : Sna → Option (List ℕ)
-switch_of (OfEntity values.Switch name) = Some (string_bytes name)
-switch_of sna = None
-
--- the savevalue that an operand of INITIAL is
-abbrev pub savevalue_in : Option Text → Option (List ℕ)
-savevalue_in (Some (texts.Sna sna)) = savevalue_of sna
-savevalue_in operand = None
-
--- and the switch
-abbrev pub switch_in : Option Text → Option (List ℕ)
-switch_in (Some (texts.Sna sna)) = switch_of sna
-switch_in operand = None
+-- the name of what an operand of INITIAL is of
+abbrev pub name_in : Initial → Option Text → Option (List ℕ)
+name_in initial (Some (texts.Sna sna)) = name_of initial sna
+name_in initial operand = None
 
 -- what an INITIAL sets, by the name in its first operand
 abbrev pub set_by : Word → Option (List ℕ) → Statement → List (List ℕ × ℤ)
 set_by words.Initial (Some name) s = (name, number_in (slice_get s.operands.items 1)) ∷ []
 set_by word name s = []
 
--- the initial value that a statement gives to a savevalue
-abbrev pub savevalue_by : Statement → List (List ℕ × ℤ)
-savevalue_by s = set_by s.word (savevalue_in (slice_get s.operands.items 0)) s
+-- the initial value that a statement gives, if it is an INITIAL of this sort
+abbrev pub initial_by : Initial → Statement → List (List ℕ × ℤ)
+initial_by initial s = set_by s.word (name_in initial (slice_get s.operands.items 0)) s
 
--- and to a switch
-abbrev pub switch_by : Statement → List (List ℕ × ℤ)
-switch_by s = set_by s.word (switch_in (slice_get s.operands.items 0)) s
+-- the initial values that the INITIALs of this sort give
+abbrev pub initials_in : Initial → List Statement → List (List ℕ × ℤ)
+initials_in initial ss = flat_map (initial_by initial) ss
 
--- the initial values that statements give to savevalues
+-- those of savevalues
 abbrev pub savevalues_in : List Statement → List (List ℕ × ℤ)
-savevalues_in ss = flat_map savevalue_by ss
+savevalues_in ss = initials_in initials.Savevalue ss
 
--- and to switches
+-- and of switches
 abbrev pub switches_in : List Statement → List (List ℕ × ℤ)
-switches_in ss = flat_map switch_by ss
+switches_in ss = initials_in initials.Switch ss
+
+-- the initial value that is known of a name, or 0
+abbrev pub initial_in : (List ℕ → Option ℤ) → List ℕ → ℤ
+initial_in found name = unwrap_or (found name) (pos 0)
+
+-- and whether it isn't 0
+abbrev pub is_set_in : (List ℕ → Option ℤ) → List ℕ → Bool
+is_set_in found name = not (is_zero (initial_in found name))
 
 -- the initial value by the last INITIAL, or 0
 abbrev pub initial_of : List (List ℕ × ℤ) → List ℕ → ℤ

@@ -1,13 +1,17 @@
 -- What is made of a model text, before it is an object.
-use Rattle.std.specs.Prelude.{◌≡◌, ◌⊎◌, ℕ, List, Option, Some, None}
+use Rattle.std.specs.Prelude.{◌≡◌, ◌≤◌, ◌⊎◌, ℕ, List, [], length, Vec, Option, Some, None}
+use Rattle.std.specs.Global.{Global}
 use Rattle.gw_blocks.specs.declared.parts.Block.{Block}
 use Rattle.gw_code.specs.declared.parts.Procedure.{Procedure}
 use Rattle.gw_object.specs.declared.parts.Entity.{Entity}
 use Rattle.gw_object.specs.declared.fault.Fault.{Fault}
+use Rattle.gw_object.specs.declared.limits.TheConstants.{MOST_PROCEDURES}
 use Rattle.gw_object.specs.Reading.{out_of_memory}
+use Rattle.gw_names.specs.declared.ledger.Ledger.{Ledger}
 use Rattle.gw_names.specs.declared.ledger.Noted.{Noted}
 use Rattle.gw_names.specs.Ledger.{as_fault, with_notes}
 use Rattle.gw_names.specs.Judgement.{refusals_in}
+use Rattle.gw_text.specs.declared.model.Model.{Model}
 use Rattle.gw_text.specs.declared.model.Statement.{Statement}
 use Rattle.gw_compile.specs.Numbers.{Numbers}
 use Rattle.gw_blocks.specs.declared.parts.Numbered.{Numbered}
@@ -19,6 +23,9 @@ use Rattle.gw_pieces.specs.declared.naming.Meanings.{Meanings}
 use Rattle.gw_pieces.specs.Numbers.{with_source}
 use Rattle.gw_pieces.specs.declared.origins.Origin.{Origin}
 use Rattle.gw_names.specs.Sights.{entities_of, limits_in}
+use Rattle.gw_pieces.specs.declared.pieces.Ordered.{Ordered}
+use Rattle.gw_pieces.specs.declared.pieces.Pieces.{Pieces}
+use Rattle.gw_pieces.specs.Clear.{StaysClear}
 use Rattle.gw_pieces.specs.Notes.{NotesMore}
 use Rattle.gw_pieces.specs.Order.{order_in}
 use Rattle.gw_pieces.specs.Naming.{callee_of, equ_meant}
@@ -84,3 +91,33 @@ pub record IsRefusedAtLine (ss : List Statement) (fault : Fault) : Type 0 where
 -- a text isn't made: it is refused at a line, or memory ran out
 abbrev pub IsNotMade : List Statement → Fault → Type 0
 IsNotMade ss fault = IsRefusedAtLine ss fault ⊎ (fault ≡ out_of_memory)
+
+-- WHAT IS SO ON THE WAY
+
+-- where nothing is noted, there are no more origins than an object has procedures
+abbrev pub AreFew : Ledger → Ledger → Vec Origin Global → Type 0
+AreFew old new order = StaysClear old new (length order.items ≤ MOST_PROCEDURES)
+
+-- the meanings of a text's names are those of its procedures' order
+abbrev pub HasMeanings : Model → Ordered → Type 0
+HasMeanings text ordered = AreMeanings text.statements.items ordered.order.items ordered.meanings
+
+-- no use of a name in a text is refused
+abbrev pub RefusesNone : Model → Type 0
+RefusesNone text = refusals_in text.statements.items ≡ []
+
+-- a ledger takes note of the first refusal of a text's names and of a procedure too many
+abbrev pub NotesNames : Model → Ledger → Ledger → Type 0
+NotesNames text old new = new.least ≡ noted_of_names text.statements.items old.least
+
+-- what was noted goes on with what the pieces of a text lack
+abbrev pub NotesPiecesOf : Model → Option Noted → Option Noted → Type 0
+NotesPiecesOf text before after = NotesPieces text.statements.items before after
+
+-- pieces are those that the statements of a text become
+abbrev pub ArePieces : Model → Pieces → Type 0
+ArePieces text pieces = AreMade text.statements.items pieces.entities.items pieces.procedures.items pieces.blocks.items
+
+-- and no name of the text is refused
+abbrev pub AreNamedPieces : Model → Pieces → Type 0
+AreNamedPieces text pieces = AreMadeNamed text.statements.items pieces.entities.items pieces.procedures.items pieces.blocks.items

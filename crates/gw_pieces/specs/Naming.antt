@@ -2,12 +2,15 @@
 use Rattle.std.specs.Prelude.{◌≡◌, ℕ, ◌+◌, ℤ, min, length, List, [], ◌∷◌, ◌++◌, Option, Some, None, slice_get, option_and_then, string_bytes, true, if◌then◌else◌}
 use Rattle.std.specs.Option.{option_or}
 use Rattle.gw_text_plus.specs.declared.model.Procedure.{Procedure as TextProcedure}
+use Rattle.gw_text.specs.declared.model.Model.{Model}
 use Rattle.gw_text.specs.declared.model.Body.{Body}
 use Rattle.gw_text.specs.declared.model.Body.TheVariants as bodies
 use Rattle.gw_text.specs.declared.model.Statement.{Statement}
 use Rattle.gw_compile.specs.declared.numbering.Callee.{Callee}
 use Rattle.gw_compile.specs.declared.numbering.Equ.{Equ}
 use Rattle.gw_compile.specs.declared.numbering.Equ.TheVariants.{Number, Procedure}
+use Rattle.gw_names.specs.declared.known.Known.{Known}
+use Rattle.gw_names.specs.Known.{found_in}
 use Rattle.gw_names.specs.Places.{is_equ, label_of, named, last_of, equ_number_of}
 use Rattle.gw_pieces.specs.declared.origins.Origin.{Origin}
 
@@ -22,9 +25,13 @@ abbrev pub entries_from : {A X : Type 0} → (A → ℕ → List (List ℕ × X)
 entries_from entry i [] = []
 entries_from entry i (x ∷ xs) = entry x i ++ entries_from entry (i + 1) xs
 
--- the PROCEDURE of a statement is called by the number of its procedure, with as many arguments as it has
+-- a PROCEDURE is called by the number of its procedure, with as many arguments as it has
+abbrev pub own_callee : TextProcedure → ℕ → List (List ℕ × Callee)
+own_callee pr place = (string_bytes pr.name, record { number = number_at place; arguments = min (length pr.arguments.items) 255 }) ∷ []
+
+-- and so is that of a statement
 abbrev pub callee_of_body : Body → ℕ → List (List ℕ × Callee)
-callee_of_body (bodies.Procedure pr) place = (string_bytes pr.name, record { number = number_at place; arguments = min (length pr.arguments.items) 255 }) ∷ []
+callee_of_body (bodies.Procedure pr) place = own_callee pr place
 callee_of_body bodies.Nothing place = []
 callee_of_body (bodies.Points points) place = []
 
@@ -40,14 +47,22 @@ abbrev pub callee_of : List Statement → List Origin → List ℕ → Option Ca
 callee_of ss order name = last_of (entries_from (callee_of_origin ss) 0 order) name
 
 -- an EQU stands for its procedure
+abbrev pub own_equ : Statement → ℕ → List (List ℕ × Equ)
+own_equ s place = if is_equ s.word then named (label_of s) (Procedure (number_at place)) else []
+
+-- and so does a statement without more lines
 abbrev pub equ_of_body : Body → Statement → ℕ → List (List ℕ × Equ)
-equ_of_body bodies.Nothing s place = if is_equ s.word then named (label_of s) (Procedure (number_at place)) else []
+equ_of_body bodies.Nothing s place = own_equ s place
 equ_of_body (bodies.Procedure pr) s place = []
 equ_of_body (bodies.Points points) s place = []
 
+-- the same, by the body of the statement
+abbrev pub equ_by_statement : Statement → ℕ → List (List ℕ × Equ)
+equ_by_statement s place = equ_of_body s.body s place
+
 abbrev pub equ_of_statement : Option Statement → ℕ → List (List ℕ × Equ)
 equ_of_statement None place = []
-equ_of_statement (Some s) place = equ_of_body s.body s place
+equ_of_statement (Some s) place = equ_by_statement s place
 
 abbrev pub equ_of_origin : List Statement → Origin → ℕ → List (List ℕ × Equ)
 equ_of_origin ss o place = equ_of_statement (slice_get ss o.statement) place
@@ -67,6 +82,24 @@ equ_by numbers ss order name = option_or (last_of (entries_from (equ_of_number n
 -- what the name of an EQU stands for
 abbrev pub equ_meant : List Statement → List Origin → List ℕ → Option Equ
 equ_meant ss order name = equ_by (equ_number_of ss) ss order name
+
+-- WHAT IS PUT INTO MAPS
+
+-- what the origins of a text give names, by their places
+abbrev pub entries_of : {X : Type 0} → (List Statement → Origin → ℕ → List (List ℕ × X)) → Model → List Origin → List (List ℕ × X)
+entries_of entry text order = entries_from (entry text.statements.items) 0 order
+
+-- the number that a name is known to be
+abbrev pub known_number : Known → List ℕ → List (List ℕ × Equ)
+known_number known name = numbered (Some name) (found_in known.equ_numbers name)
+
+-- the EQU that a statement is, if it is known to be a number
+abbrev pub known_equ : Known → Statement → ℕ → List (List ℕ × Equ)
+known_equ known s place = equ_of_number (found_in known.equ_numbers) s place
+
+-- and those that several are
+abbrev pub known_equs : Known → List Statement → List (List ℕ × Equ)
+known_equs known ss = entries_from (equ_of_number (found_in known.equ_numbers)) 0 ss
 
 -- WHAT THEY ARE
 

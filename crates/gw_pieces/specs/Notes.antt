@@ -1,6 +1,7 @@
 -- What a pass over a text adds to the ledger.
 use Rattle.std.specs.Prelude.{◌≡◌, ◌⊎◌, ℕ, List, Option, Some, None}
 use Rattle.std.specs.List.{All}
+use Rattle.gw_names.specs.declared.ledger.Ledger.{Ledger}
 use Rattle.gw_names.specs.declared.ledger.Noted.{Noted}
 use Rattle.gw_names.specs.Codes.{name_fault}
 use Rattle.gw_names.specs.Ledger.{with_notes, noted_at}
@@ -32,3 +33,7 @@ pub record NotesMore (Limit Missing : Noted → Type 0) (before after : Option N
   pub more : List Noted
   pub first : after ≡ with_notes before more
   pub reasons : All (HasReason Limit Missing before) more
+
+-- a ledger takes note of a line where there is no piece
+abbrev pub NotesUnless : {A : Type 0} → Option A → ℕ → Ledger → Ledger → Type 0
+NotesUnless piece line old new = new.least ≡ unless_piece piece old.least line

@@ -1,22 +1,7 @@
--- The numbers of names, as functions.
+-- The numbers of names, where what is evaluated for attributes is left open.
 use Rattle.gw_blocks.specs.declared.parts.Numbered.{Numbered}
 use Rattle.gw_blocks.specs.declared.parts.Operand.{Operand}
-use Rattle.gw_blocks.specs.declared.parts.Operand.TheVariants as operands
-use Rattle.gw_kinds.specs.Evaluated.{source_of}
 use Rattle.gw_compile.specs.Numbers.{Numbers}
-use Rattle.gw_names.specs.declared.names.Names.{Names}
-use Rattle.gw_names.specs.Known.{found_in, entity_of}
-
--- what the names of a text stand for
-abbrev pub numbers_of : Names → Numbers
-numbers_of names = record {
-  entity = entity_of names.entities;
-  block = found_in names.blocks;
-  parameter = found_in names.parameters;
-  procedure = found_in names.procedures;
-  equ = found_in names.equs;
-  source = λ of. source_of names.list.items (operands.OfEntity of);
-}
 
 -- numbers of names, where this is evaluated for attributes in the end: what that is doesn't matter while entities are made
 abbrev pub with_source : Numbers → (Numbered → Operand) → Numbers

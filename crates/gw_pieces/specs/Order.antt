@@ -1,6 +1,7 @@
 -- The procedures of a text and their order: that of the text, but what one calls comes before it, in order of first sight.
-use Rattle.std.specs.Prelude.{ℕ, zero, suc, ◌+◌, ℤ, List, [], ◌∷◌, ◌++◌, length, replicate, set, Option, Some, None, option_and_then, option_to_list, Bool, true, false, ◌&&◌, not, is_some, is_none, if◌then◌else◌, nat_lt, ◌==◌, slice_get, string_bytes}
+use Rattle.std.specs.Prelude.{◌≡◌, Vec, ℕ, zero, suc, ◌+◌, ℤ, List, [], ◌∷◌, ◌++◌, length, replicate, set, Option, Some, None, option_and_then, option_to_list, Bool, true, false, ◌&&◌, not, is_some, is_none, if◌then◌else◌, nat_lt, ◌==◌, slice_get, string_bytes}
 use Rattle.std.specs.List.{flat_map}
+use Rattle.std.specs.Global.{Global}
 use Rattle.gw_kinds.specs.declared.entities.EntityKind.{EntityKind}
 use Rattle.gw_kinds.specs.declared.entities.EntityKind.TheVariants as kinds
 use Rattle.gw_object.specs.declared.limits.TheConstants.{MOST_PROCEDURES}
@@ -16,6 +17,7 @@ use Rattle.gw_text.specs.declared.model.Body.TheVariants as bodies
 use Rattle.gw_text.specs.declared.model.Statement.{Statement}
 use Rattle.gw_uses.specs.Mentions.{Mention, Entity, Parameter, ParameterNumber, Label, Equ, Call, Target, in_expression, in_procedure}
 use Rattle.gw_names.specs.declared.known.Known.{Known}
+use Rattle.gw_names.specs.Known.{found_in}
 use Rattle.gw_names.specs.Judgement.{Declared, declared_in, declared_by}
 use Rattle.gw_names.specs.Places.{is_equ, label_of, equ_number_of}
 use Rattle.gw_pieces.specs.declared.order.Order.{Order}
@@ -49,6 +51,10 @@ is_operand_origin numbers s k =
     if is_equ s.word then is_equ_origin numbers s k
     else if is_variable s.word then is_some (expression_at s k)
     else is_own (expression_at s k)
+
+-- the same, where these names are known
+abbrev pub is_known_origin : Known → Statement → ℕ → Bool
+is_known_origin known s k = is_operand_origin (found_in known.equ_numbers) s k
 
 -- whether a procedure comes from a position of a statement
 abbrev pub is_origin_by : (List ℕ → Option ℤ) → Body → Statement → ℕ → Bool
@@ -243,3 +249,11 @@ lookup_in ss = record { declared = declared_in ss; statements = ss; origins = or
 -- the origins of the procedures of a text, in order
 abbrev pub order_in : List Statement → List Origin
 order_in ss = order_by (lookup_in ss)
+
+-- these are the places of those that are called at an origin of a text
+abbrev pub AreCallees : Text → Origin → Vec ℕ Global → Type 0
+AreCallees text origin callees = callees.items ≡ places_called (lookup_of text) origin
+
+-- the order goes on until all origins of a text were come to
+abbrev pub SearchesAll : Text → Order → Order → Type 0
+SearchesAll text old new = search_of new ≡ search_all (lookup_of text) (search_of old)

@@ -13,7 +13,9 @@ use Rattle.gw_text.specs.declared.model.Statement.{Statement}
 use Rattle.gw_compile.specs.declared.numbering.Callee.{Callee}
 use Rattle.gw_compile.specs.Numbers.{Numbers}
 use Rattle.gw_compile.specs.Unknown.{count}
+use Rattle.gw_names.specs.declared.names.Names.{Names}
 use Rattle.gw_pieces.specs.declared.origins.Origin.{Origin}
+use Rattle.gw_names.specs.Numbers.{numbers_of}
 
 -- WHAT IS COMPILED
 
@@ -99,3 +101,11 @@ number_for n order s i k = number_in n (own_number order i k) s.word s.body (exp
 -- the numbers of the procedures that the operands of a statement become, by position: expressions stand at the first two
 abbrev pub numbers_for : Numbers → List Origin → Statement → ℕ → List (Option ℕ)
 numbers_for n order s i = number_for n order s i 0 ∷ number_for n order s i 1 ∷ []
+
+-- the number of the procedure of an expression, where names stand for these numbers
+abbrev pub number_of_tree : Names → Option ℕ → Bool → Expression → Option ℕ
+number_of_tree names own variable e = number_by (numbers_of names) own variable (whole_call e)
+
+-- and of the operand at a position of a statement
+abbrev pub number_among : Names → List Origin → Statement → ℕ → ℕ → Option ℕ
+number_among names order s i k = number_for (numbers_of names) order s i k

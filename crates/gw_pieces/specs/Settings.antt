@@ -1,5 +1,6 @@
 -- What START, RMULT and INITIAL set.
-use Rattle.std.specs.Prelude.{ℕ, zero, suc, ◌+◌, ◌^◌, nat_lt, take, ℤ, pos, negsuc, List, [], ◌∷◌, Option, Some, None, ◌==◌, if◌then◌else◌, slice_get}
+use Rattle.std.specs.Prelude.{◌≡◌, ◌++◌, Vec, ℕ, zero, suc, ◌+◌, ◌^◌, nat_lt, take, ℤ, pos, negsuc, List, [], ◌∷◌, Option, Some, None, ◌==◌, if◌then◌else◌, slice_get}
+use Rattle.std.specs.Global.{Global}
 use Rattle.gw_text_statements.specs.declared.model.Operand.{Operand}
 use Rattle.gw_text_statements.specs.declared.model.Operand.TheVariants as texts
 use Rattle.gw_text_tokens.specs.declared.words.Word.{Word}
@@ -61,6 +62,10 @@ seed_from seed (s ∷ ss) stream = seed_from (later seed (seed_by s stream)) ss 
 abbrev pub seeds_from : List Statement → ℕ → ℕ → List ℕ
 seeds_from ss stream zero = []
 seeds_from ss stream (suc n) = seed_from 0 ss stream ∷ seeds_from ss (stream + 1) n
+
+-- the seed of a stream stands behind others
+abbrev pub AddsSeed : List Statement → ℕ → Vec ℕ Global → Vec ℕ Global → Type 0
+AddsSeed ss stream old new = new.items ≡ old.items ++ seed_from 0 ss stream ∷ []
 
 -- how many of these come up to the last that isn't 0, where those from this place on are left
 abbrev pub used_from : ℕ → ℕ → List ℕ → ℕ

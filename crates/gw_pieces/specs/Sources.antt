@@ -1,13 +1,16 @@
 -- What the procedures of a model text are compiled from.
-use Rattle.std.specs.Prelude.{◌≡◌, ℕ, List, length, Some, slice_get, [], ◌∷◌, ◌++◌}
+use Rattle.std.specs.Prelude.{◌≡◌, ℕ, List, length, Some, Result, IfOk, slice_get, [], ◌∷◌, ◌++◌}
 use Rattle.gw_code.specs.declared.parts.Procedure.{Procedure}
 use Rattle.gw_text_expressions.specs.declared.model.Expression.{Expression}
+use Rattle.gw_text_plus.specs.declared.model.Procedure.{Procedure as TextProcedure}
 use Rattle.gw_text.specs.declared.model.Body.{Body}
 use Rattle.gw_text.specs.declared.model.Body.TheVariants as bodies
 use Rattle.gw_text.specs.declared.model.Statement.{Statement}
 use Rattle.gw_compile.specs.Numbers.{Numbers}
 use Rattle.gw_compile.specs.Keeps.{IsCompiled, IsCompiledProcedure}
+use Rattle.gw_names.specs.declared.names.Names.{Names}
 use Rattle.gw_pieces.specs.declared.origins.Origin.{Origin}
+use Rattle.gw_names.specs.Numbers.{numbers_of}
 use Rattle.gw_pieces.specs.Origins.{expression_at}
 
 -- a procedure is compiled from the expression at a position of a statement, where these procedures are compiled before
@@ -39,3 +42,15 @@ pub record AreCompiled (n : Numbers) (ss : List Statement) (order : List Origin)
 -- one more procedure, of which this is so, stands behind others
 abbrev pub Grows : (Procedure → Type 0) → List Procedure → List Procedure → Type 0
 Grows P old new = (pr : Procedure) × P pr × (new ≡ old ++ pr ∷ [])
+
+-- a PROCEDURE becomes such a procedure, where names stand for these numbers, unless something is to blame
+abbrev pub CompilesBody : {E : Type 0} → Names → List Procedure → TextProcedure → Result Procedure E → Type 0
+CompilesBody names before procedure result = IfOk result (IsCompiledProcedure (numbers_of names) before procedure)
+
+-- and so does the expression at a position of a statement
+abbrev pub CompilesOperand : {E : Type 0} → Names → List Procedure → Statement → ℕ → Result Procedure E → Type 0
+CompilesOperand names before s k result = IfOk result (IsFromExpression (numbers_of names) before s k)
+
+-- and whatever stands there
+abbrev pub CompilesPosition : {E : Type 0} → Names → List Procedure → Statement → ℕ → Result Procedure E → Type 0
+CompilesPosition names before s k result = IfOk result (IsProcedureOf (numbers_of names) before s k)

@@ -4,8 +4,8 @@ ghost use Rattle.std.specs.Prelude.{◌≡◌, ◌++◌, ◌∷◌, [], OnOk, If
 ghost use Rattle.gw_pieces.specs.Blocks as model;
 ghost use Rattle.gw_pieces.specs.Clear.{StaysClear};
 ghost use Rattle.gw_pieces.specs.Origins as numbers;
-ghost use Rattle.gw_pieces.specs.Notes.{NotesMore, Never, or_missing, unless_piece};
-ghost use Rattle.gw_pieces.specs.Numbers.{numbers_of};
+ghost use Rattle.gw_pieces.specs.Notes.{NotesMore, NotesUnless, Never, or_missing};
+ghost use Rattle.gw_names.specs.Numbers.{numbers_of};
 ghost use Rattle.gw_pieces.specs.Reasons.{BlockMissing, least_after_block};
 
 use crate::origins::{Origin, expression_at, is_variable, place_of, whole_call};
@@ -71,7 +71,7 @@ fn number_by(
     is_variable: bool,
     expression: &Expression,
 ) -> Option<u16>
-    ensures { result ≡ numbers.number_by (numbers_of names.now) own is_variable (numbers.whole_call expression.now) }
+    ensures { result ≡ numbers.number_of_tree names.now own is_variable expression.now }
 {
     if is_variable {
         return own;
@@ -90,7 +90,7 @@ fn number_for(
     number: usize,
     position: usize,
 ) -> Option<u16>
-    ensures { result ≡ numbers.number_for (numbers_of names.now) order.now statement.now number position }
+    ensures { result ≡ numbers.number_among names.now order.now statement.now number position }
 {
     let own = own_number(order, number, position);
     let is_variable = is_variable(statement.word);
@@ -148,7 +148,7 @@ fn put_record(
 ) -> Result<(), AllocError>
     ensures blocks { OnOk result (blocks.new.items ≡ blocks.old.items ++ option_to_list block) }
     ensures ledger { OnOk result (StaysClear ledger.old ledger.new (IsSome block)) }
-    ensures notes { OnOk result (ledger.new.least ≡ unless_piece block ledger.old.least statement.now.line) }
+    ensures notes { OnOk result (NotesUnless block statement.now.line ledger.old ledger.new) }
 {
     match block {
         Some(block) => blocks.push(block).map_err(|_| AllocError),

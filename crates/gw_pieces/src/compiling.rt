@@ -2,13 +2,14 @@
 
 ghost use Rattle.std.specs.Prelude.{◌≡◌, ◌≤◌, ◌⊎◌, length, OnOk, IfOk, IfErr, MatchResult};
 ghost use Rattle.gw_object.specs.declared.limits.TheConstants.{MOST_PROCEDURES};
-ghost use Rattle.gw_compile.specs.Keeps.{IsCompiledProcedure, ExceedsLimits};
+ghost use Rattle.gw_compile.specs.Keeps.{ExceedsLimits};
 ghost use Rattle.gw_compile.specs.Statements.{body_of};
 ghost use Rattle.gw_names.specs.Codes.{name_fault, limit_fault};
 ghost use Rattle.gw_pieces.specs.Clear.{StaysClear, IsNoted};
-ghost use Rattle.gw_pieces.specs.Sources.{IsFromExpression, IsProcedureOf, ComesFrom, AreCompiled, Grows};
+ghost use Rattle.gw_pieces.specs.Sources.{CompilesBody, CompilesOperand, CompilesPosition};
+ghost use Rattle.gw_pieces.specs.Sources.{IsProcedureOf, ComesFrom, AreCompiled, Grows};
 ghost use Rattle.gw_pieces.specs.Notes.{NotesMore, IsFor};
-ghost use Rattle.gw_pieces.specs.Numbers.{numbers_of};
+ghost use Rattle.gw_names.specs.Numbers.{numbers_of};
 ghost use Rattle.gw_pieces.specs.Reasons.{IsTooLong, Exceeds, IsBlamed, LacksExpression, NamesUnknown, LacksCode};
 ghost use Rattle.gw_pieces.specs.Reasons.{blamed_by, least_after, Explains, OriginLimit, OriginMissing, CodeLimit, ProcedureMissing};
 
@@ -51,7 +52,7 @@ fn from_procedure(
     procedures: &[Procedure],
     procedure: &TextProcedure,
 ) -> Result<Procedure, Blamed>
-    ensures compiled { IfOk result (IsCompiledProcedure (numbers_of names.now) procedures.now procedure.now) }
+    ensures compiled { CompilesBody names.now procedures.now procedure.now result }
     ensures blamed { IfErr result (λ b. Explains b
         (ExceedsLimits (body_of (numbers_of names.now) procedure.now))
         (IsBlamed (body_of (numbers_of names.now) procedure.now).blame)) }
@@ -70,7 +71,7 @@ fn from_expression(
     statement: &Statement,
     operand: usize,
 ) -> Result<Procedure, Blamed>
-    ensures compiled { IfOk result (IsFromExpression (numbers_of names.now) procedures.now statement.now operand) }
+    ensures compiled { CompilesOperand names.now procedures.now statement.now operand result }
     ensures blamed { IfErr result (λ b. Explains b
         (IsTooLong (numbers_of names.now) statement.now operand)
         (LacksExpression statement.now operand ⊎ NamesUnknown (numbers_of names.now) statement.now operand)) }
@@ -92,7 +93,7 @@ fn procedure_of(
     statement: &Statement,
     operand: usize,
 ) -> Result<Procedure, Blamed>
-    ensures compiled { IfOk result (IsProcedureOf (numbers_of names.now) procedures.now statement.now operand) }
+    ensures compiled { CompilesPosition names.now procedures.now statement.now operand result }
     ensures blamed { IfErr result (λ b. Explains b
         (Exceeds (numbers_of names.now) statement.now operand)
         (LacksCode (numbers_of names.now) statement.now operand)) }

@@ -7,7 +7,7 @@ ghost use Rattle.gw_names.specs.Places.{last_of, declaration_of};
 ghost use Rattle.gw_pieces.specs.Clear.{StaysClear};
 ghost use Rattle.gw_pieces.specs.Entities as model;
 ghost use Rattle.gw_pieces.specs.Notes.{NotesMore, Never, unless_piece};
-ghost use Rattle.gw_pieces.specs.Numbers.{numbers_of};
+ghost use Rattle.gw_names.specs.Numbers.{numbers_of};
 ghost use Rattle.gw_pieces.specs.Reasons.{DeclarationMissing, EntityMissing};
 ghost use Rattle.gw_pieces.specs.Origins as numbers;
 ghost use Rattle.gw_records.specs.Entities.{entity_kind};
@@ -119,8 +119,8 @@ fn put_entity(
         (DeclarationMissing (numbers_of names.now) order.now text.now.statements.items sighted.now.declaration)
         ledger.old.least ledger.new.least) }
 {
-    let kind = kind_of_sighted(alloc, names, text, order, initials, sighted, ledger)?;
     let name = Items::from_vec(Vec::from_slice(alloc, sighted.name.as_bytes())?);
+    let kind = kind_of_sighted(alloc, names, text, order, initials, sighted, ledger)?;
     entities.push(Entity { name, kind }).map_err(|_| AllocError)
 }
 

@@ -1,8 +1,7 @@
 //! What INITIAL sets.
 
-ghost use Rattle.std.specs.Prelude.{◌≡◌, ℕ, List, pos, not, OnOk, IfOk, option_map, unwrap_or, slice_get, string_bytes};
+ghost use Rattle.std.specs.Prelude.{◌≡◌, ℕ, List, OnOk, IfOk, option_map, slice_get, string_bytes};
 ghost use Rattle.std.specs.Option.{option_copied};
-ghost use Rattle.gw_num.specs.Arithmetic.{is_zero};
 ghost use Rattle.gw_names.specs.Known.{found_in};
 ghost use Rattle.gw_names.specs.Places.{Adds, last_of};
 ghost use Rattle.gw_pieces.specs.Entities as model;
@@ -22,102 +21,67 @@ pub(crate) struct Initials {
     switches: IndexMap<String, i64>,
 }
 
-/// The savevalue of which an attribute is.
-fn savevalue_of(sna: &Sna) -> Option<&String>
-    ensures { option_map string_bytes (option_copied result) ≡ model.savevalue_of sna.now }
+/// What an INITIAL sets.
+#[derive(Clone, Copy)]
+enum Initial {
+    /// A savevalue.
+    Savevalue,
+    /// A switch.
+    Switch,
+}
+
+/// The name of what an attribute is of, if an INITIAL of this sort sets it.
+fn name_of(initial: Initial, sna: &Sna) -> Option<&String>
+    ensures { option_map string_bytes (option_copied result) ≡ model.name_of initial sna.now }
 {
     match sna {
-        Sna::OfEntity(value, name) => match *value {
-            EntityValue::Savevalue => Some(name),
+        Sna::OfEntity(value, name) => match (initial, *value) {
+            (Initial::Savevalue, EntityValue::Savevalue) => Some(name),
+            (Initial::Switch, EntityValue::Switch) => Some(name),
             _ => None,
         },
         _ => None,
     }
 }
 
-/// The savevalue that the first operand of an INITIAL is.
-fn savevalue_in(operands: &[Operand]) -> Option<&String>
+/// The name of what the first operand of an INITIAL is of.
+fn name_in(initial: Initial, operands: &[Operand]) -> Option<&String>
     ensures { option_map string_bytes (option_copied result)
-        ≡ model.savevalue_in (slice_get operands.now 0) }
+        ≡ model.name_in initial (slice_get operands.now 0) }
 {
     match operands.first() {
-        Some(Operand::Sna(sna)) => savevalue_of(sna),
+        Some(Operand::Sna(sna)) => name_of(initial, sna),
         _ => None,
     }
 }
 
-/// The switch of which an attribute is.
-fn switch_of(sna: &Sna) -> Option<&String>
-    ensures { option_map string_bytes (option_copied result) ≡ model.switch_of sna.now }
-{
-    match sna {
-        Sna::OfEntity(value, name) => match *value {
-            EntityValue::Switch => Some(name),
-            _ => None,
-        },
-        _ => None,
-    }
-}
-
-/// The switch that the first operand of an INITIAL is.
-fn switch_in(operands: &[Operand]) -> Option<&String>
-    ensures { option_map string_bytes (option_copied result)
-        ≡ model.switch_in (slice_get operands.now 0) }
-{
-    match operands.first() {
-        Some(Operand::Sna(sna)) => switch_of(sna),
-        _ => None,
-    }
-}
-
-/// What a statement sets, if it is an INITIAL of a savevalue.
-fn set_savevalue(
+/// What a statement sets, if it is an INITIAL of this sort.
+fn set_initial(
     initials: &mut IndexMap<String, i64>,
+    initial: Initial,
     statement: &Statement,
 ) -> Result<(), AllocError>
-    ensures { OnOk result (Adds (model.savevalue_by statement.now)
+    ensures { OnOk result (Adds (model.initial_by initial statement.now)
         (found_in initials.old) (found_in initials.new)) }
 {
-    match (statement.word, savevalue_in(&statement.operands)) {
+    match (statement.word, name_in(initial, &statement.operands)) {
         (Word::Initial, Some(name)) => set(initials, name, number_at(&statement.operands, 1)),
         _ => Ok(()),
     }
 }
 
-/// What a statement sets, if it is an INITIAL of a switch.
-fn set_switch(initials: &mut IndexMap<String, i64>, statement: &Statement) -> Result<(), AllocError>
-    ensures { OnOk result (Adds (model.switch_by statement.now)
-        (found_in initials.old) (found_in initials.new)) }
-{
-    match (statement.word, switch_in(&statement.operands)) {
-        (Word::Initial, Some(name)) => set(initials, name, number_at(&statement.operands, 1)),
-        _ => Ok(()),
-    }
-}
-
-/// What the INITIALs of savevalues set.
-fn savevalues_in(
+/// What the INITIALs of this sort set.
+fn initials_in(
     alloc: Global,
+    initial: Initial,
     statements: &[Statement],
 ) -> Result<IndexMap<String, i64>, AllocError>
     ensures { IfOk result (λ m. (name : List ℕ)
-        → found_in m name ≡ last_of (model.savevalues_in statements.now) name) }
+        → found_in m name ≡ last_of (model.initials_in initial statements.now) name) }
 {
     let mut initials = IndexMap::new(alloc);
     for statement in statements {
-        set_savevalue(&mut initials, statement)?;
-    }
-    Ok(initials)
-}
-
-/// What the INITIALs of switches set.
-fn switches_in(alloc: Global, statements: &[Statement]) -> Result<IndexMap<String, i64>, AllocError>
-    ensures { IfOk result (λ m. (name : List ℕ)
-        → found_in m name ≡ last_of (model.switches_in statements.now) name) }
-{
-    let mut initials = IndexMap::new(alloc);
-    for statement in statements {
-        set_switch(&mut initials, statement)?;
+        set_initial(&mut initials, initial, statement)?;
     }
     Ok(initials)
 }
@@ -131,21 +95,21 @@ impl Initials {
             → found_in i.switches name ≡ last_of (model.switches_in statements.now) name) }
     {
         Ok(Initials {
-            savevalues: savevalues_in(alloc, statements)?,
-            switches: switches_in(alloc, statements)?,
+            savevalues: initials_in(alloc, Initial::Savevalue, statements)?,
+            switches: initials_in(alloc, Initial::Switch, statements)?,
         })
     }
 
     /// The initial value of a savevalue.
     pub(crate) fn savevalue(&self, name: &String) -> i64
-        ensures { result ≡ unwrap_or (found_in self.now.savevalues (string_bytes name.now)) (pos 0) }
+        ensures { result ≡ model.initial_in (found_in self.now.savevalues) (string_bytes name.now) }
     {
         self.savevalues.get(name.as_str()).copied().unwrap_or(0)
     }
 
     /// Whether a switch is set at first.
     pub(crate) fn switch(&self, name: &String) -> bool
-        ensures { result ≡ not (is_zero (unwrap_or (found_in self.now.switches (string_bytes name.now)) (pos 0))) }
+        ensures { result ≡ model.is_set_in (found_in self.now.switches) (string_bytes name.now) }
     {
         self.switches.get(name.as_str()).copied().unwrap_or(0) != 0
     }

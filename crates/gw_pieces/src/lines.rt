@@ -1,6 +1,6 @@
 //! The lines of the statements that procedures come from.
 
-ghost use Rattle.std.specs.Prelude.{◌≡◌, ◌++◌, ◌∷◌, [], map, OnOk, IfOk};
+ghost use Rattle.std.specs.Prelude.{◌≡◌, ◌++◌, ◌∷◌, [], OnOk, IfOk};
 ghost use Rattle.gw_names.specs.Naming.{Knows};
 ghost use Rattle.gw_pieces.specs.Lines as model;
 
@@ -20,7 +20,7 @@ fn put_line(lines: &mut Vec<u32>, text: &Model, origin: Origin) -> Result<(), Al
 
 /// The lines of origins, in order.
 fn lines_of(alloc: Global, text: &Model, order: &[Origin]) -> Result<Vec<u32>, AllocError>
-    ensures { IfOk result (λ lines. lines.items ≡ map (model.line_of_origin text.now.statements.items) order.now) }
+    ensures { IfOk result (model.AreLines text.now order.now) }
 {
     let mut lines = Vec::new(alloc);
     for i in 0..order.len() {

@@ -1,13 +1,13 @@
 //! What the names of PROCEDUREs and EQUs stand for, once their procedures have numbers.
 
-ghost use Rattle.std.specs.Prelude.{◌≡◌, OnOk, IfOk, ℕ, List, Some, min, length, string_bytes};
+ghost use Rattle.std.specs.Prelude.{◌≡◌, IfOk, ℕ, List, min, length, string_bytes};
 ghost use Rattle.gw_names.specs.Known.{found_in};
-ghost use Rattle.gw_names.specs.Places.{Adds, label_of, named};
+ghost use Rattle.gw_names.specs.Places.{Sets};
 ghost use Rattle.gw_pieces.specs.Naming as model;
 
 use crate::origins::Origin;
 use gw_compile::{Callee, Equ};
-use gw_names::{Known, found, is_equ, set};
+use gw_names::{Known, found, is_equ, set, set_label};
 use gw_text::{Body, Model, Procedure, Statement};
 use indexmap::IndexMap;
 use std::alloc::{AllocError, Global};
@@ -35,117 +35,79 @@ fn arguments_of(procedure: &Procedure) -> u8
     u8::try_from(procedure.arguments.len()).unwrap_or(u8::MAX)
 }
 
-/// What a PROCEDURE stands for that becomes the procedure at this place.
-fn put_callee(
-    procedures: &mut IndexMap<String, Callee>,
-    body: &Body,
-    place: usize,
-) -> Result<(), AllocError>
-    ensures { OnOk result (Adds (model.callee_of_body body.now place) (found_in procedures.old) (found_in procedures.new)) }
-{
-    match body {
-        Body::Procedure(procedure) => {
-            let number = number_at(place);
-            let arguments = arguments_of(procedure);
-            set(procedures, &procedure.name, Callee { number, arguments })
-        }
-        Body::Nothing | Body::Points(_) => Ok(()),
-    }
-}
-
-/// The PROCEDURE of an origin, if it is one, which becomes the procedure at this place.
-fn put_callee_of(
-    procedures: &mut IndexMap<String, Callee>,
-    text: &Model,
-    origin: Origin,
-    place: usize,
-) -> Result<(), AllocError>
-    ensures { OnOk result (Adds (model.callee_of_origin text.now.statements.items origin place)
-        (found_in procedures.old) (found_in procedures.new)) }
-{
-    match text.statements.get(origin.statement) {
-        Some(statement) => put_callee(procedures, &statement.body, place),
-        None => Ok(()),
-    }
-}
-
-/// The PROCEDUREs of these origins, by their numbers.
-fn put_callees(
-    procedures: &mut IndexMap<String, Callee>,
-    text: &Model,
-    order: &[Origin],
-) -> Result<(), AllocError>
-    ensures { OnOk result (Adds (model.entries_from (model.callee_of_origin text.now.statements.items) 0 order.now)
-        (found_in procedures.old) (found_in procedures.new)) }
-{
-    for i in 0..order.len() {
-        put_callee_of(procedures, text, order[i], i)?;
-    }
-    Ok(())
-}
-
-/// What a statement that has a name stands for, if it has one.
-fn put_named(
-    equs: &mut IndexMap<String, Equ>,
-    statement: &Statement,
-    equ: Equ,
-) -> Result<(), AllocError>
-    ensures { OnOk result (Adds (named (label_of statement.now) equ) (found_in equs.old) (found_in equs.new)) }
-{
-    match &statement.label {
-        Some(name) => set(equs, name, equ),
-        None => Ok(()),
-    }
-}
-
 /// What an EQU stands for that becomes the procedure at this place.
 fn put_equ(
     equs: &mut IndexMap<String, Equ>,
     statement: &Statement,
     place: usize,
 ) -> Result<(), AllocError>
-    ensures { OnOk result (Adds (model.equ_of_body statement.now.body statement.now place)
-        (found_in equs.old) (found_in equs.new)) }
+    ensures { Sets result equs.old equs.new (model.own_equ statement.now place) }
 {
-    match &statement.body {
-        Body::Nothing => {
-            if is_equ(statement.word) {
-                put_named(equs, statement, Equ::Procedure(number_at(place)))
-            } else {
-                Ok(())
-            }
-        }
-        Body::Procedure(_) | Body::Points(_) => Ok(()),
+    if is_equ(statement.word) {
+        set_label(equs, &statement.label, Equ::Procedure(number_at(place)))
+    } else {
+        Ok(())
     }
 }
 
-/// The EQU of an origin, if it is one, which becomes the procedure at this place.
-fn put_equ_of(
-    equs: &mut IndexMap<String, Equ>,
+/// What a PROCEDURE stands for that becomes the procedure at this place.
+fn put_callee(
+    procedures: &mut IndexMap<String, Callee>,
+    procedure: &Procedure,
+    place: usize,
+) -> Result<(), AllocError>
+    ensures { Sets result procedures.old procedures.new (model.own_callee procedure.now place) }
+{
+    let number = number_at(place);
+    let arguments = arguments_of(procedure);
+    set(procedures, &procedure.name, Callee { number, arguments })
+}
+
+/// What a statement stands for, PROCEDURE or EQU, that becomes the procedure at this place.
+fn put_meaning(
+    meanings: &mut Meanings,
+    statement: &Statement,
+    place: usize,
+) -> Result<(), AllocError>
+    ensures procedures { Sets result meanings.old.procedures meanings.new.procedures
+        (model.callee_of_body statement.now.body place) }
+    ensures equs { Sets result meanings.old.equs meanings.new.equs
+        (model.equ_by_statement statement.now place) }
+{
+    match &statement.body {
+        Body::Procedure(procedure) => put_callee(&mut meanings.procedures, procedure, place),
+        Body::Nothing => put_equ(&mut meanings.equs, statement, place),
+        Body::Points(_) => Ok(()),
+    }
+}
+
+/// The same of the statement of an origin.
+fn put_meaning_of(
+    meanings: &mut Meanings,
     text: &Model,
     origin: Origin,
     place: usize,
 ) -> Result<(), AllocError>
-    ensures { OnOk result (Adds (model.equ_of_origin text.now.statements.items origin place)
-        (found_in equs.old) (found_in equs.new)) }
+    ensures procedures { Sets result meanings.old.procedures meanings.new.procedures
+        (model.callee_of_origin text.now.statements.items origin place) }
+    ensures equs { Sets result meanings.old.equs meanings.new.equs
+        (model.equ_of_origin text.now.statements.items origin place) }
 {
     match text.statements.get(origin.statement) {
-        Some(statement) => put_equ(equs, statement, place),
+        Some(statement) => put_meaning(meanings, statement, place),
         None => Ok(()),
     }
 }
 
-/// The EQUs of these origins, by their numbers.
-fn put_equs(
-    equs: &mut IndexMap<String, Equ>,
-    text: &Model,
-    order: &[Origin],
-) -> Result<(), AllocError>
-    ensures { OnOk result (Adds (model.entries_from (model.equ_of_origin text.now.statements.items) 0 order.now)
-        (found_in equs.old) (found_in equs.new)) }
+/// The PROCEDUREs and EQUs of these origins, by their places.
+fn put_meanings(meanings: &mut Meanings, text: &Model, order: &[Origin]) -> Result<(), AllocError>
+    ensures procedures { Sets result meanings.old.procedures meanings.new.procedures
+        (model.entries_of model.callee_of_origin text.now order.now) }
+    ensures equs { Sets result meanings.old.equs meanings.new.equs
+        (model.entries_of model.equ_of_origin text.now order.now) }
 {
     for i in 0..order.len() {
-        put_equ_of(equs, text, order[i], i)?;
+        put_meaning_of(meanings, text, order[i], i)?;
     }
     Ok(())
 }
@@ -156,8 +118,7 @@ fn put_number_of(
     known: &Known,
     name: &String,
 ) -> Result<(), AllocError>
-    ensures { OnOk result (Adds (model.numbered (Some (string_bytes name.now)) (found_in known.now.equ_numbers (string_bytes name.now)))
-        (found_in equs.old) (found_in equs.new)) }
+    ensures { Sets result equs.old equs.new (model.known_number known.now (string_bytes name.now)) }
 {
     match found(&known.equ_numbers, name) {
         Some(number) => set(equs, name, Equ::Number(number)),
@@ -172,8 +133,7 @@ fn put_number(
     statement: &Statement,
     place: usize,
 ) -> Result<(), AllocError>
-    ensures { OnOk result (Adds (model.equ_of_number (found_in known.now.equ_numbers) statement.now place)
-        (found_in equs.old) (found_in equs.new)) }
+    ensures { Sets result equs.old equs.new (model.known_equ known.now statement.now place) }
 {
     match &statement.label {
         Some(name) => {
@@ -193,8 +153,7 @@ fn put_numbers(
     known: &Known,
     statements: &[Statement],
 ) -> Result<(), AllocError>
-    ensures { OnOk result (Adds (model.entries_from (model.equ_of_number (found_in known.now.equ_numbers)) 0 statements.now)
-        (found_in equs.old) (found_in equs.new)) }
+    ensures { Sets result equs.old equs.new (model.known_equs known.now statements.now) }
 {
     for i in 0..statements.len() {
         put_number(equs, known, &statements[i], i)?;
@@ -214,10 +173,11 @@ pub(crate) fn meanings_of(
     ensures equs { IfOk result (λ m. (name : List ℕ) → found_in m.equs name
         ≡ model.equ_by (found_in known.now.equ_numbers) text.now.statements.items order.now name) }
 {
-    let mut procedures = IndexMap::new(alloc);
-    put_callees(&mut procedures, text, order)?;
-    let mut equs = IndexMap::new(alloc);
-    put_equs(&mut equs, text, order)?;
-    put_numbers(&mut equs, known, text.statements.as_slice())?;
-    Ok(Meanings { procedures, equs })
+    let mut meanings = Meanings {
+        procedures: IndexMap::new(alloc),
+        equs: IndexMap::new(alloc),
+    };
+    put_meanings(&mut meanings, text, order)?;
+    put_numbers(&mut meanings.equs, known, text.statements.as_slice())?;
+    Ok(meanings)
 }

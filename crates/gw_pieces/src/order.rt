@@ -5,7 +5,6 @@ ghost use Rattle.std.specs.List.{flat_map};
 ghost use Rattle.gw_uses.specs.Mentions.{mention, mentions};
 ghost use Rattle.gw_pieces.specs.Order as model;
 ghost use Rattle.gw_pieces.specs.Order.{lookup_by, lookup_of, ordered_by, search_of, search_to};
-ghost use Rattle.gw_pieces.specs.Origins as operands;
 ghost use Rattle.gw_pieces.specs.Origins.{place_in};
 
 use crate::origins::{Origin, expression_at, place_of, whole_call};
@@ -162,53 +161,33 @@ fn put_callees(
     Ok(())
 }
 
-/// What the expression at a position of a statement uses, in order.
-fn uses_of_operand<'a>(
-    alloc: Global,
+/// Behind what there is, what stands at a position of a statement uses, in the order of the text.
+fn put_uses_at<'a>(
+    uses: &mut Vec<Use<'a>>,
     statement: &'a Statement,
     operand: usize,
-) -> Result<Vec<Use<'a>>, AllocError>
-    ensures { IfOk result (λ uses. mentions uses.items
-        ≡ model.in_operand (operands.expression_at statement.now operand)) }
-{
-    let mut uses = Vec::new(alloc);
-    match expression_at(statement, operand) {
-        Some(expression) => {
-            put_uses_of_operand(&mut uses, expression)?;
-            Ok(uses)
-        }
-        None => Ok(uses),
-    }
-}
-
-/// What stands at an origin uses this, in the order of the text.
-fn uses_of<'a>(
-    alloc: Global,
-    statement: &'a Statement,
-    operand: usize,
-) -> Result<Vec<Use<'a>>, AllocError>
-    ensures { IfOk result (λ uses. mentions uses.items
-        ≡ model.mentions_by statement.now.body statement.now operand) }
+) -> Result<(), AllocError>
+    ensures { OnOk result (mentions uses.new.items
+        ≡ mentions uses.old.items ++ model.mentions_by statement.now.body statement.now operand) }
 {
     match &statement.body {
-        Body::Procedure(procedure) => {
-            let mut uses = Vec::new(alloc);
-            put_uses_of_procedure(&mut uses, procedure)?;
-            Ok(uses)
-        }
-        Body::Nothing => uses_of_operand(alloc, statement, operand),
-        Body::Points(_) => uses_of_operand(alloc, statement, operand),
+        Body::Procedure(procedure) => put_uses_of_procedure(uses, procedure),
+        _ => match expression_at(statement, operand) {
+            Some(expression) => put_uses_of_operand(uses, expression),
+            None => Ok(()),
+        },
     }
 }
 
 /// The places of the origins of what is called at an origin, in order of first sight.
 fn callees_of(alloc: Global, text: &Text<'_>, origin: Origin) -> Result<Vec<usize>, AllocError>
-    ensures { IfOk result (λ callees. callees.items ≡ model.places_called (lookup_of text.now) origin) }
+    ensures { IfOk result (model.AreCallees text.now origin) }
 {
     let mut callees = Vec::new(alloc);
     match text.model.statements.get(origin.statement) {
         Some(statement) => {
-            let uses = uses_of(alloc, statement, origin.operand)?;
+            let mut uses = Vec::new(alloc);
+            put_uses_at(&mut uses, statement, origin.operand)?;
             put_callees(&mut callees, text, &uses)?;
             Ok(callees)
         }
@@ -305,7 +284,7 @@ fn visit_all(
 
 /// The same for all origins, in the order of the text.
 fn visit_each(alloc: Global, text: &Text<'_>, order: &mut Order) -> Result<(), AllocError>
-    ensures { OnOk result (search_of order.new ≡ model.search_all (lookup_of text.now) (search_of order.old)) }
+    ensures { OnOk result (model.SearchesAll text.now order.old order.new) }
 {
     for place in 0..text.origins.len() {
         visit(alloc, text, order, place, text.origins.len())?;

@@ -75,7 +75,7 @@ fn is_own(statement: &Statement, operand: usize) -> bool
 
 /// Whether a procedure comes from this position of a statement that has no PROCEDURE.
 fn is_operand_origin(known: &Known, statement: &Statement, operand: usize) -> bool
-    ensures { result ≡ order.is_operand_origin (found_in known.now.equ_numbers) statement.now operand }
+    ensures { result ≡ order.is_known_origin known.now statement.now operand }
 {
     if is_equ(statement.word) {
         operand == 0 && !is_number(known, statement) && expression_at(statement, operand).is_some()

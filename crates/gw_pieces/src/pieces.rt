@@ -3,13 +3,12 @@
 ghost use Rattle.std.specs.Prelude.{◌≡◌, ◌≤◌, [], length, slice_get, IfOk, IfErr, OnOk};
 ghost use Rattle.gw_object.specs.Reading.{out_of_memory};
 ghost use Rattle.gw_object.specs.declared.limits.TheConstants.{MOST_PROCEDURES};
-ghost use Rattle.gw_names.specs.Judgement.{refusals_in};
 ghost use Rattle.gw_names.specs.Ledger.{with_notes};
 ghost use Rattle.gw_names.specs.Naming.{Knows};
 ghost use Rattle.gw_pieces.specs.Clear.{StaysClear};
 ghost use Rattle.gw_pieces.specs.Making as making;
 ghost use Rattle.gw_pieces.specs.Notes.{NotesMore};
-ghost use Rattle.gw_pieces.specs.Numbers.{numbers_of};
+ghost use Rattle.gw_names.specs.Numbers.{numbers_of};
 ghost use Rattle.gw_pieces.specs.Order.{lookup_by, order_by, order_in};
 ghost use Rattle.gw_pieces.specs.Pieces.{HasCode, IsMadeOf};
 ghost use Rattle.gw_pieces.specs.Reasons as reasons;
@@ -82,7 +81,7 @@ pub(crate) fn order_of(
     ledger: &mut Ledger,
 ) -> Result<Vec<Origin>, AllocError>
     requires { Knows text.now.statements.items known.now }
-    ensures few { IfOk result (λ order. StaysClear ledger.old ledger.new (length order.items ≤ MOST_PROCEDURES)) }
+    ensures few { IfOk result (making.AreFew ledger.old ledger.new) }
     ensures notes { OnOk result (ledger.new.least
         ≡ with_notes ledger.old.least (reasons.surplus_in text.now.statements.items (order_in text.now.statements.items))) }
     ensures order { IfOk result (λ order. order.items ≡ order_in text.now.statements.items) }
@@ -234,26 +233,8 @@ struct Ordered {
     meanings: Meanings,
 }
 
-/// The origins of the procedures of a model text whose names are known, in order. One that is too many is noted.
-fn ordered_by(
-    alloc: Global,
-    text: &Model,
-    known: &Known,
-    ledger: &mut Ledger,
-) -> Result<Ordered, AllocError>
-    requires { Knows text.now.statements.items known.now }
-    ensures few { IfOk result (λ o. StaysClear ledger.old ledger.new (length o.order.items ≤ MOST_PROCEDURES)) }
-    ensures notes { OnOk result (ledger.new.least
-        ≡ with_notes ledger.old.least (reasons.surplus_in text.now.statements.items (order_in text.now.statements.items))) }
-    ensures order { IfOk result (λ o. o.order.items ≡ order_in text.now.statements.items) }
-    ensures meanings { IfOk result (λ o. making.AreMeanings text.now.statements.items o.order.items o.meanings) }
-{
-    let order = order_of(alloc, text, known, ledger)?;
-    let meanings = meanings_of(alloc, text, known, &order)?;
-    Ok(Ordered { order, meanings })
-}
-
-/// The same, once all uses of names are judged; those that are refused are noted.
+/// The origins of the procedures of a model text whose names are known, in order, once all uses of names are judged. A use
+/// that is refused and an origin that is too many are noted.
 fn judged(
     alloc: Global,
     text: &Model,
@@ -261,14 +242,16 @@ fn judged(
     ledger: &mut Ledger,
 ) -> Result<Ordered, AllocError>
     requires { Knows text.now.statements.items known.now }
-    ensures few { IfOk result (λ o. StaysClear ledger.old ledger.new (length o.order.items ≤ MOST_PROCEDURES)) }
-    ensures named { OnOk result (StaysClear ledger.old ledger.new (refusals_in text.now.statements.items ≡ [])) }
-    ensures notes { OnOk result (ledger.new.least ≡ making.noted_of_names text.now.statements.items ledger.old.least) }
+    ensures few { IfOk result (λ o. making.AreFew ledger.old ledger.new o.order) }
+    ensures named { OnOk result (StaysClear ledger.old ledger.new (making.RefusesNone text.now)) }
+    ensures notes { OnOk result (making.NotesNames text.now ledger.old ledger.new) }
     ensures order { IfOk result (λ o. o.order.items ≡ order_in text.now.statements.items) }
-    ensures meanings { IfOk result (λ o. making.AreMeanings text.now.statements.items o.order.items o.meanings) }
+    ensures meanings { IfOk result (making.HasMeanings text.now) }
 {
     check_uses(alloc, known, text.statements.as_slice(), ledger)?;
-    ordered_by(alloc, text, known, ledger)
+    let order = order_of(alloc, text, known, ledger)?;
+    let meanings = meanings_of(alloc, text, known, &order)?;
+    Ok(Ordered { order, meanings })
 }
 
 /// What is made of a model text whose names are known, where its procedures have these origins, in order. What can't be made is
@@ -281,12 +264,12 @@ fn pieces_with(
     ledger: &mut Ledger,
 ) -> Result<Pieces, AllocError>
     requires known { Knows text.now.statements.items known }
-    requires meanings { making.AreMeanings text.now.statements.items ordered.order.items ordered.meanings }
+    requires meanings { making.HasMeanings text.now ordered }
     requires order { ordered.order.items ≡ order_in text.now.statements.items }
     ensures made { IfOk result (λ pieces. StaysClear ledger.old ledger.new
         (length ordered.order.items ≤ MOST_PROCEDURES → making.AreMade text.now.statements.items
         pieces.entities.items pieces.procedures.items pieces.blocks.items)) }
-    ensures notes { OnOk result (making.NotesPieces text.now.statements.items ledger.old.least ledger.new.least) }
+    ensures notes { OnOk result (making.NotesPiecesOf text.now ledger.old.least ledger.new.least) }
 {
     let Ordered { order, meanings } = ordered;
     let (names, sighted) = names_with(known, meanings, Vec::new(alloc));
@@ -301,9 +284,9 @@ fn pieces_known(
     ledger: &mut Ledger,
 ) -> Result<Pieces, AllocError>
     requires { Knows text.now.statements.items known }
-    ensures made { IfOk result (λ pieces. StaysClear ledger.old ledger.new (making.AreMade text.now.statements.items
-        pieces.entities.items pieces.procedures.items pieces.blocks.items)) }
-    ensures named { OnOk result (StaysClear ledger.old ledger.new (refusals_in text.now.statements.items ≡ [])) }
+    ensures made { IfOk result (λ pieces.
+        StaysClear ledger.old ledger.new (making.ArePieces text.now pieces)) }
+    ensures named { OnOk result (StaysClear ledger.old ledger.new (making.RefusesNone text.now)) }
     ensures notes { OnOk result (making.NotesPieces text.now.statements.items
         (making.noted_of_names text.now.statements.items ledger.old.least) ledger.new.least) }
 {
@@ -315,8 +298,8 @@ fn pieces_known(
 
 /// What is made of a model text. What can't be made is noted.
 fn pieces_of(alloc: Global, text: &Model, ledger: &mut Ledger) -> Result<Pieces, AllocError>
-    ensures made { IfOk result (λ pieces. StaysClear ledger.old ledger.new (making.AreMadeNamed text.now.statements.items
-        pieces.entities.items pieces.procedures.items pieces.blocks.items)) }
+    ensures made { IfOk result (λ pieces.
+        StaysClear ledger.old ledger.new (making.AreNamedPieces text.now pieces)) }
     ensures notes { OnOk result (making.NotesPieces text.now.statements.items
         (making.noted_of_text text.now.statements.items ledger.old.least) ledger.new.least) }
 {
@@ -352,10 +335,10 @@ fn rest_of(alloc: Global, text: &Model, blocks: usize, chains: usize) -> Result<
 {
     Ok(Rest {
         seeds: seeds_of(alloc, text.statements.as_slice())?,
-        states: no_rows(alloc, blocks)?,
-        chain_states: no_rows(alloc, chains)?,
         weights: vec![in alloc; 1; blocks]?,
         chain_weights: vec![in alloc; 1; chains]?,
+        states: no_rows(alloc, blocks)?,
+        chain_states: no_rows(alloc, chains)?,
     })
 }
 
@@ -383,8 +366,7 @@ fn parts_with(alloc: Global, count: u64, pieces: Pieces, rest: Rest) -> Parts
 
 /// The parts of an object of a text's pieces.
 fn completed(alloc: Global, text: &Model, pieces: Pieces) -> Result<Parts, Fault>
-    requires { making.AreMadeNamed text.now.statements.items
-        pieces.entities.items pieces.procedures.items pieces.blocks.items }
+    requires { making.AreNamedPieces text.now pieces }
     ensures made { IfOk result (IsMadeOf text.now.statements.items) }
     ensures refused { IfErr result (λ fault. fault ≡ out_of_memory) }
 {

@@ -76,7 +76,7 @@ fn seed_of(statements: &[Statement], stream: usize) -> u32
 
 /// The seed of a stream, from 0, behind others.
 fn put_seed(seeds: &mut Vec<u32>, statements: &[Statement], stream: usize) -> Result<(), AllocError>
-    ensures { OnOk result (seeds.new.items ≡ seeds.old.items ++ model.seed_from 0 statements.now stream ∷ []) }
+    ensures { OnOk result (model.AddsSeed statements.now stream seeds.old seeds.new) }
 {
     seeds
         .push(seed_of(statements, stream))

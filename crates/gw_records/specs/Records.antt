@@ -13,6 +13,7 @@ use Rattle.gw_blocks.specs.declared.parts.SwitchAction.{SwitchAction}
 use Rattle.gw_blocks.specs.declared.parts.SwitchAction.TheVariants as actions
 use Rattle.gw_kinds.specs.declared.entities.EntityKind.{EntityKind}
 use Rattle.gw_kinds.specs.declared.entities.EntityKind.TheVariants as kinds
+use Rattle.gw_kinds.specs.Kinds.{needed_by}
 use Rattle.gw_text_tokens.specs.declared.words.Word.{Word}
 use Rattle.gw_text_tokens.specs.declared.words.Word.TheVariants as words
 use Rattle.gw_text_statements.specs.declared.model.Operand.{Operand as Text}
@@ -63,14 +64,7 @@ condition_of gates.NotEmpty = conditions.StorageNotEmpty
 
 -- and of what
 abbrev pub asked_of : Gate → EntityKind
-asked_of gates.Set = kinds.Switch
-asked_of gates.Reset = kinds.Switch
-asked_of gates.InUse = kinds.Facility
-asked_of gates.NotInUse = kinds.Facility
-asked_of gates.Full = kinds.Storage
-asked_of gates.Empty = kinds.Storage
-asked_of gates.NotFull = kinds.Storage
-asked_of gates.NotEmpty = kinds.Storage
+asked_of gate = needed_by (condition_of gate)
 
 -- what a LOGIC block does
 abbrev pub action_of : Switching → SwitchAction

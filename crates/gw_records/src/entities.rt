@@ -5,6 +5,7 @@ ghost use Rattle.gw_text_tokens.specs.declared.words.Word.TheVariants as words;
 ghost use Rattle.gw_records.specs.Entities as model;
 
 use crate::operands::{limit_of, number_of, procedure_at, short_number_of, value_of};
+use gw_blocks::Operand;
 use gw_compile::Numbering;
 use gw_object::{Function, Items, Kind, Memory, Point, Table};
 use gw_text::{Body, Operand as Text, Point as TextPoint, Statement, Word};
@@ -31,36 +32,27 @@ fn points_of(alloc: Global, points: &[TextPoint]) -> Result<Vec<Point>, Memory>
     Ok(kept)
 }
 
-/// TABLE.
-fn table_of<N: Numbering>(
-    names: &N,
-    procedures: &[Option<u16>],
-    argument: &Text,
-    limit: &Text,
-    width: &Text,
-    classes: &Text,
-) -> Option<Kind>
-    ensures { result ≡ model.table_of (N.numbers names.now) procedures.now argument.now limit.now width.now classes.now }
+/// TABLE, with this argument.
+fn table_of(argument: Option<Operand>, limit: &Text, width: &Text, classes: &Text) -> Option<Kind>
+    ensures { result ≡ model.table_of argument limit.now width.now classes.now }
 {
     Some(Kind::Table(Table {
-        argument: value_of(names, procedure_at(procedures, 0), argument)?,
+        argument: argument?,
         limit: limit_of(limit)?,
         width: number_of(width)?,
         classes: short_number_of(classes)?,
     }))
 }
 
-/// FUNCTION, with these points.
-fn function_of<N: Numbering>(
+/// FUNCTION, with this argument and these points.
+fn function_of(
     alloc: Global,
-    names: &N,
-    procedures: &[Option<u16>],
-    argument: &Text,
+    argument: Option<Operand>,
     points: &[TextPoint],
 ) -> Result<Option<Kind>, Memory>
-    ensures { IfOk result (λ kind. kind ≡ model.function_of (N.numbers names.now) procedures.now argument.now (Some (map model.point_of points.now))) }
+    ensures { IfOk result (model.IsFunction argument points.now) }
 {
-    match value_of(names, procedure_at(procedures, 0), argument) {
+    match argument {
         Some(argument) => {
             let points = Items::from_vec(points_of(alloc, points)?);
             Ok(Some(Kind::Function(Function { argument, points })))
@@ -90,17 +82,21 @@ pub fn kind_of<N: Numbering>(
     procedures: &[Option<u16>],
     statement: &Statement,
 ) -> Result<Option<Kind>, Memory>
-    ensures { IfOk result (λ kind. kind ≡ model.entity_kind (N.numbers names.now) procedures.now statement.now) }
+    ensures { IfOk result (model.IsEntityKind (N.numbers names.now) procedures.now statement.now) }
 {
     match statement.operands.as_slice() {
         [a] => match (statement.word, &statement.body) {
             (Word::Function, Body::Points(points)) => {
-                function_of(alloc, names, procedures, a, points.as_slice())
+                let argument = value_of(names, procedure_at(procedures, 0), a);
+                function_of(alloc, argument, points.as_slice())
             }
             _ => Ok(of_one(procedures, statement.word, a)),
         },
         [a, b, c, d] => match statement.word {
-            Word::Table => Ok(table_of(names, procedures, a, b, c, d)),
+            Word::Table => {
+                let argument = value_of(names, procedure_at(procedures, 0), a);
+                Ok(table_of(argument, b, c, d))
+            }
             _ => Ok(None),
         },
         _ => Ok(None),

@@ -139,7 +139,8 @@ impl Expressions {
 
     /// Forgets the arguments and temporaries of the PROCEDURE before.
     pub fn begin_procedure(&mut self)
-        ensures { IsEmpty self.new.locals × (self.new.procedures ≡ self.old.procedures) × (self.new.lowest.found ≡ None) }
+        ensures new { IsEmpty self.new.locals × (self.new.lowest.found ≡ None) }
+        ensures procedures { self.new.procedures ≡ self.old.procedures }
     {
         self.locals.clear();
         self.begin(Kind::Full);
@@ -147,7 +148,8 @@ impl Expressions {
 
     /// Begins an expression.
     pub fn begin(&mut self, kind: Kind)
-        ensures { (self.new.procedures ≡ self.old.procedures) × (self.new.locals ≡ self.old.locals) × (self.new.lowest.found ≡ None) }
+        ensures names { KeepsNames self.old self.new }
+        ensures new { self.new.lowest.found ≡ None }
     {
         self.kind = kind;
         self.state = State::Operand;

@@ -1,10 +1,11 @@
 //! System numerical attributes (GPSS World Reference Manual, chapter 3).
 
-ghost use Rattle.std.specs.Prelude.{◌≡◌, ◌++◌, ◌⊎◌, ◌&&◌, nat_lt, length, IfErr};
+ghost use Rattle.std.specs.Prelude.{◌≡◌, ◌++◌, ◌&&◌, nat_lt, length, IfErr};
 ghost use Rattle.std.specs.List.{list_all};
 ghost use Rattle.std.specs.Char.{is_ascii_digit};
 ghost use Rattle.gw_text_tokens.specs.declared.faults.Refusal.TheVariants as refusals;
-ghost use Rattle.gw_text_tokens.specs.declared.faults.Stop.TheVariants.{Refused, Memory};
+ghost use Rattle.gw_text_tokens.specs.declared.faults.Stop.TheVariants.{Refused};
+ghost use Rattle.gw_text_expressions.specs.Stops.{StopsAttribute};
 
 use crate::model::{BlockName, BlockValue, EntityValue, Parameter, Sna};
 use gw_text_tokens::faults::{Refusal, Stop};
@@ -52,7 +53,7 @@ pub fn class_of(spelling: &[u8]) -> Option<Class> {
 /// The attribute that a name is, such as `C1`, `Q1` or `RN1`; 72 Operand where its number is out of range, 76 Limit where it
 /// is past 63 bits.
 pub fn sna_of(alloc: Global, name: &[u8]) -> Result<Option<Sna>, Stop>
-    ensures { IfErr result (λ stop. (stop ≡ Refused refusals.Operand) ⊎ (stop ≡ Refused refusals.Limit) ⊎ (stop ≡ Memory)) }
+    ensures { IfErr result StopsAttribute }
 {
     if let Some(sna) = sna_of_system(name) {
         return Ok(Some(sna));
@@ -90,7 +91,7 @@ fn sna_of_system(name: &[u8]) -> Option<Sna> {
 
 /// The attribute of a class and a number.
 fn sna_by_number(alloc: Global, class: Class, number: u64) -> Result<Sna, Stop>
-    ensures { IfErr result (λ stop. (stop ≡ Refused refusals.Operand) ⊎ (stop ≡ Refused refusals.Limit) ⊎ (stop ≡ Memory)) }
+    ensures { IfErr result StopsAttribute }
 {
     match class {
         Class::Entity(value) => match numeral(alloc, number) {

@@ -1,6 +1,7 @@
 //! The lines of a PROCEDURE.
 
-ghost use Rattle.std.specs.Prelude.{◌≡◌, ◌<◌, ◌≤◌, length, MatchResult};
+ghost use Rattle.std.specs.Prelude.{◌≡◌, ◌<◌, length, MatchResult};
+ghost use Rattle.gw_text_expressions.specs.Stops.{EndsWithin};
 
 use crate::model::Procedure;
 use crate::plus::{Plus, Taken};
@@ -38,7 +39,7 @@ pub fn read_procedure(
     first: usize,
 ) -> Result<(Procedure, usize), Where>
     requires { first < length lines.now }
-    ensures { MatchResult result (λ x. (first ≤ x.1) × (x.1 < length lines.now)) (λ place. place.0 < length lines.now) }
+    ensures { EndsWithin first (length lines.now) result }
 {
     expressions.begin_procedure();
     let mut reader = Reader {

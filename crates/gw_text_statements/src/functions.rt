@@ -1,7 +1,8 @@
 //! FUNCTION and its points.
 
 ghost use Rattle.gw_text_expressions.specs.Reading.{KeepsNames};
-ghost use Rattle.std.specs.Prelude.{◌<◌, ◌≤◌, length, IfOk, MatchResult};
+ghost use Rattle.gw_text_expressions.specs.Stops.{EndsWithin};
+ghost use Rattle.std.specs.Prelude.{◌<◌, ◌≤◌, length, IfOk};
 
 use crate::model::{Operand, Point};
 use crate::operands::{computed, cut, cut_next, signed, value_of};
@@ -78,7 +79,7 @@ pub fn read_points(
     count: usize,
 ) -> Result<(Vec<Point>, usize), Where>
     requires { first < length lines.now }
-    ensures { MatchResult result (λ x. (first ≤ x.1) × (x.1 < length lines.now)) (λ place. place.0 < length lines.now) }
+    ensures { EndsWithin first (length lines.now) result }
 {
     let mut points = Points {
         points: Vec::new(alloc),

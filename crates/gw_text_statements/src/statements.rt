@@ -1,9 +1,9 @@
 //! Statements on one line.
 
 ghost use Rattle.gw_text_expressions.specs.Reading.{KeepsNames};
+ghost use Rattle.gw_text_expressions.specs.Stops.{StopsLabel};
 ghost use Rattle.std.specs.Prelude.{◌≡◌, ◌⊎◌, IfErr};
 ghost use Rattle.gw_text_tokens.specs.declared.faults.Refusal.TheVariants as refusals;
-ghost use Rattle.gw_text_tokens.specs.declared.faults.Stop.TheVariants.{Refused, Memory};
 
 use crate::fields::{Number, fields_of};
 use crate::model::{Gate, Modifier, Operand, Switching, Test};
@@ -72,7 +72,7 @@ fn labelled<'t, 'a>(tokens: &'t [Token<'a>], refusal: Refusal) -> Result<Head<'t
 
 /// A label as it is kept.
 pub fn label_of(alloc: Global, token: Token<'_>) -> Result<String, Stop>
-    ensures { IfErr result (λ stop. (stop ≡ Memory) ⊎ (stop ≡ Refused refusals.Limit) ⊎ (stop ≡ Refused refusals.Word)) }
+    ensures { IfErr result StopsLabel }
 {
     match token {
         Token::Name(spelling) => name_of(alloc, spelling),

@@ -1,13 +1,14 @@
 -- The arguments of a call and the statements of a block, as lists.
-use Rattle.std.proofs.Common.{◌≡◌, suc, [], ◌∷◌, ◌++◌, length, refl, ap, ◌∙◌, Vec, Global}
+use Rattle.std.proofs.Common.{◌≡◌, [], ◌∷◌, ◌++◌, length, refl, ap, ◌∙◌, Vec, Global}
 use Rattle.std.specs.Prelude.{string_bytes}
 use Rattle.std.specs.declared.string.String.{String}
 use Rattle.std.specs.List.{flat_map}
 use mathlib.Core.Former.{Count}
-use Rattle.gw_text_expressions.specs.declared.model.Expression.{Expression, Call, Call', Row_of-Expression, end_of-Expression, more_of-Expression, items-the_row-Expression, items_hidden-the_row-Expression-0}
+use Rattle.gw_text_expressions.specs.declared.model.Expression.{Expression, Call, Row_of-Expression, end_of-Expression, more_of-Expression, items-the_row-Expression, items_hidden-the_row-Expression-0}
 use Rattle.gw_text_plus.specs.declared.model.PlusStatement.{PlusStatement, Block, Block', Row_of-PlusStatement, end_of-PlusStatement, more_of-PlusStatement, items-the_row-PlusStatement, items_hidden-the_row-PlusStatement-0}
 use Rattle.gw_compile.specs.Numbers.{Scope}
 use Rattle.gw_compile.specs.Unknown.{count}
+use Rattle.gw_compile.proofs.Rows.{count_is, row_of}
 use Rattle.gw_uses.specs.Mentions.{Call as Calls, in_expression, in_arguments, in_plus, in_block, in_sequence, scope_after, scope_after_block, scope_after_sequence}
 
 -- ARGUMENTS
@@ -15,14 +16,6 @@ use Rattle.gw_uses.specs.Mentions.{Call as Calls, in_expression, in_arguments, i
 arguments_are : (scope : Scope) (m : _) (es : Row_of-Expression m) → in_arguments scope es ≡ flat_map (in_expression scope) (items-the_row-Expression m es)
 arguments_are scope m end_of-Expression = refl
 arguments_are scope m (more_of-Expression e es) = ap (λ l. in_expression scope e ++ l) (arguments_are scope _ es)
-
-count_is : (m : _) (es : Row_of-Expression m) → count es ≡ length (items-the_row-Expression m es)
-count_is m end_of-Expression = refl
-count_is m (more_of-Expression e es) = ap suc (count_is _ es)
-
-abbrev row_of : Expression → (m : Count) × Row_of-Expression m
-row_of (Call' name m es) = (_, es)
-row_of _ = (_, end_of-Expression)
 
 -- what a call uses, by its arguments as they lie in memory
 pub in_call : (scope : Scope) (name : String Global) (arguments : Vec Expression Global) → in_expression scope (Call name arguments) ≡ flat_map (in_expression scope) arguments.items ++ Calls (string_bytes name) (length arguments.items) ∷ []

@@ -1,4 +1,5 @@
 pub mod Mentions
 pub mod Locals
+pub mod Roles
 pub mod Statements
 pub mod Sites

@@ -15,7 +15,7 @@ use Rattle.gw_text_plus.specs.declared.model.PlusStatement.{PlusStatement, Row_o
 use Rattle.gw_text_plus.specs.declared.model.PlusStatement.TheVariants.{Block', Temporary, Assign, If', While', Return}
 use Rattle.gw_text_plus.specs.declared.model.Procedure.{Procedure}
 use Rattle.gw_compile.specs.Numbers.{Scope}
-use Rattle.gw_compile.specs.Attributes.{kind_for}
+use Rattle.gw_compile.specs.Attributes.{question_of}
 use Rattle.gw_compile.specs.Unknown.{count}
 use Rattle.gw_uses.specs.declared.uses.Use.{Use}
 use Rattle.gw_uses.specs.declared.uses.Use.TheVariants as uses
@@ -80,7 +80,7 @@ with_declared scope names = with_locals scope (map string_bytes names)
 abbrev pub in_attribute : Sna → List Mention
 in_attribute (snas.Parameter (parameters.Number x)) = ParameterNumber x ∷ []
 in_attribute (snas.Parameter (parameters.Name name)) = Parameter (string_bytes name) ∷ []
-in_attribute (snas.OfEntity value name) = Entity (kind_for value) (string_bytes name) ∷ []
+in_attribute (snas.OfEntity value name) = Entity (question_of value).kind (string_bytes name) ∷ []
 in_attribute (snas.OfBlock value (block_names.Label label)) = Label (string_bytes label) ∷ []
 in_attribute (snas.OfBlock value (block_names.Number b)) = []
 in_attribute snas.Clock = []

@@ -1,33 +1,15 @@
 //! What expressions use by name.
 
-ghost use Rattle.std.specs.Prelude.{◌≡◌, [], string_bytes};
-ghost use Rattle.gw_compile.specs.Attributes as attributes;
+ghost use Rattle.std.specs.Prelude.{[], string_bytes};
 ghost use Rattle.gw_uses.specs.Locals.{names_of};
 ghost use Rattle.gw_uses.specs.Mentions.{Puts, of_name, in_attribute, in_expression, in_all};
 
 use crate::locals::is_local;
 use crate::uses::{Use, put};
-use gw_kinds::EntityKind;
-use gw_text_expressions::{BlockName, EntityValue, Expression, Parameter, Sna};
+use gw_compile::question_of;
+use gw_text_expressions::{BlockName, Expression, Parameter, Sna};
 use indexmap::IndexSet;
 use std::alloc::AllocError;
-
-/// The kind of the entity of which this is asked.
-fn kind_for(value: EntityValue) -> EntityKind
-    ensures { result ≡ attributes.kind_for value }
-{
-    match value {
-        EntityValue::Facility => EntityKind::Facility,
-        EntityValue::StorageContent | EntityValue::StorageRoom => EntityKind::Storage,
-        EntityValue::Queue => EntityKind::Queue,
-        EntityValue::Savevalue => EntityKind::Savevalue,
-        EntityValue::Switch => EntityKind::Switch,
-        EntityValue::Chain => EntityKind::Chain,
-        EntityValue::Variable => EntityKind::Variable,
-        EntityValue::BVariable => EntityKind::BooleanVariable,
-        EntityValue::Function => EntityKind::Function,
-    }
-}
 
 /// What an attribute uses.
 pub(crate) fn put_attribute<'a>(uses: &mut Vec<Use<'a>>, sna: &'a Sna) -> Result<(), AllocError>
@@ -36,7 +18,7 @@ pub(crate) fn put_attribute<'a>(uses: &mut Vec<Use<'a>>, sna: &'a Sna) -> Result
     match sna {
         Sna::Parameter(Parameter::Number(number)) => put(uses, Use::ParameterNumber(*number)),
         Sna::Parameter(Parameter::Name(name)) => put(uses, Use::Parameter(name)),
-        Sna::OfEntity(value, name) => put(uses, Use::Entity(kind_for(*value), name)),
+        Sna::OfEntity(value, name) => put(uses, Use::Entity(question_of(*value).kind, name)),
         Sna::OfBlock(_, BlockName::Label(label)) => put(uses, Use::Label(label)),
         _ => Ok(()),
     }

@@ -5,6 +5,7 @@ mod expressions;
 mod locals;
 mod operands;
 mod plus;
+mod roles;
 mod sites;
 mod statements;
 mod uses;

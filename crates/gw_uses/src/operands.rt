@@ -4,13 +4,13 @@ ghost use Rattle.gw_uses.specs.Mentions.{Puts};
 ghost use Rattle.gw_uses.specs.Statements as model;
 
 use crate::expressions::{put_attribute, put_uses_of_operand};
+use crate::roles::Role;
 use crate::uses::{Use, put};
-use gw_kinds::EntityKind;
 use gw_text::Operand;
 use std::alloc::AllocError;
 
 /// What an operand uses that is a value.
-pub(crate) fn put_value<'a>(uses: &mut Vec<Use<'a>>, operand: &'a Operand) -> Result<(), AllocError>
+fn put_value<'a>(uses: &mut Vec<Use<'a>>, operand: &'a Operand) -> Result<(), AllocError>
     ensures { Puts result uses.old uses.new (model.in_value operand.now) }
 {
     match operand {
@@ -18,42 +18,6 @@ pub(crate) fn put_value<'a>(uses: &mut Vec<Use<'a>>, operand: &'a Operand) -> Re
         Operand::Name(name) => put(uses, Use::Equ(name)),
         Operand::Sna(sna) => put_attribute(uses, sna),
         Operand::Expression(expression) => put_uses_of_operand(uses, expression),
-    }
-}
-
-/// What two operands use that are values.
-pub(crate) fn put_values<'a>(
-    uses: &mut Vec<Use<'a>>,
-    first: &'a Operand,
-    second: &'a Operand,
-) -> Result<(), AllocError>
-    ensures { Puts result uses.old uses.new (model.in_values first.now second.now) }
-{
-    put_value(uses, first)?;
-    put_value(uses, second)
-}
-
-/// What an operand uses that is an entity of a kind.
-pub(crate) fn put_entity<'a>(
-    uses: &mut Vec<Use<'a>>,
-    kind: EntityKind,
-    operand: &'a Operand,
-) -> Result<(), AllocError>
-    ensures { Puts result uses.old uses.new (model.in_entity kind operand.now) }
-{
-    match operand {
-        Operand::Name(name) => put(uses, Use::Entity(kind, name)),
-        _ => Ok(()),
-    }
-}
-
-/// What an operand uses that is a label.
-pub(crate) fn put_label<'a>(uses: &mut Vec<Use<'a>>, operand: &'a Operand) -> Result<(), AllocError>
-    ensures { Puts result uses.old uses.new (model.in_label operand.now) }
-{
-    match operand {
-        Operand::Name(label) => put(uses, Use::Label(label)),
-        _ => Ok(()),
     }
 }
 
@@ -68,10 +32,7 @@ fn put_number<'a>(uses: &mut Vec<Use<'a>>, number: i64) -> Result<(), AllocError
 }
 
 /// What an operand uses that is a parameter.
-pub(crate) fn put_parameter<'a>(
-    uses: &mut Vec<Use<'a>>,
-    operand: &'a Operand,
-) -> Result<(), AllocError>
+fn put_parameter<'a>(uses: &mut Vec<Use<'a>>, operand: &'a Operand) -> Result<(), AllocError>
     ensures { Puts result uses.old uses.new (model.in_parameter operand.now) }
 {
     match operand {
@@ -79,4 +40,34 @@ pub(crate) fn put_parameter<'a>(
         Operand::Whole(number) => put_number(uses, *number),
         _ => Ok(()),
     }
+}
+
+/// What an operand uses that stands for this.
+pub(crate) fn put_operand<'a>(
+    uses: &mut Vec<Use<'a>>,
+    role: Role,
+    operand: &'a Operand,
+) -> Result<(), AllocError>
+    ensures { Puts result uses.old uses.new (model.in_role role operand.now) }
+{
+    match (role, operand) {
+        (Role::Value, _) => put_value(uses, operand),
+        (Role::Parameter, _) => put_parameter(uses, operand),
+        (Role::Entity(kind), Operand::Name(name)) => put(uses, Use::Entity(kind, name)),
+        (Role::Label, Operand::Name(label)) => put(uses, Use::Label(label)),
+        _ => Ok(()),
+    }
+}
+
+/// What two operands use that stand for these.
+pub(crate) fn put_both<'a>(
+    uses: &mut Vec<Use<'a>>,
+    roles: (Role, Role),
+    first: &'a Operand,
+    second: &'a Operand,
+) -> Result<(), AllocError>
+    ensures { Puts result uses.old uses.new (model.in_both roles first.now second.now) }
+{
+    put_operand(uses, roles.0, first)?;
+    put_operand(uses, roles.1, second)
 }

@@ -10,9 +10,9 @@ returns c = record {
     parameter = c.requires.parameter;
   };
   places = record {
-    block = c.in_ok-known.ensures;
-    procedure = c.in_ok-known-2.ensures;
-    equ = c.in_ok-known-3.ensures;
-    equ_number = c.in_ok-known-4.ensures;
+    block = c.in_ok-places.ensures.blocks;
+    procedure = c.in_ok-places.ensures.procedures;
+    equ = c.in_ok-places.ensures.equs;
+    equ_number = c.in_ok-places.ensures.numbers;
   };
 }

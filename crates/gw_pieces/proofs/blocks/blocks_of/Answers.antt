@@ -1,6 +1,6 @@
 use Rattle.std.proofs.Common.{length, refl, arith}
 use Rattle.std.proofs.lemmas.Option.{slice_get_read}
-use Rattle.gw_pieces.specs.Numbers.{numbers_of}
+use Rattle.gw_names.specs.Numbers.{numbers_of}
 use Rattle.gw_pieces.proofs.Noting.{further, ends_with, after_block}
 use Rattle.gw_pieces.proofs.Walks.{next_block, next_recorded}
 use Rattle.gw_pieces.proofs.blocks.blocks_of.Goals as goal

@@ -1,6 +1,6 @@
 use Rattle.std.proofs.Common.{◌≡◌, ◌++◌, drop, None}
 use Rattle.gw_pieces.specs.Notes.{Never, NotesMore}
-use Rattle.gw_pieces.specs.Numbers.{numbers_of}
+use Rattle.gw_names.specs.Numbers.{numbers_of}
 use Rattle.gw_pieces.specs.Blocks.{blocks_from, AllRecorded}
 use Rattle.gw_pieces.specs.Reasons.{BlockMissing}
 use Rattle.gw_pieces.proofs.blocks.blocks_of.Given as goal

@@ -3,7 +3,7 @@ use Rattle.gw_code.specs.declared.parts.Procedure.{Procedure}
 use Rattle.gw_code.specs.Limits.{most_instructions}
 use Rattle.gw_compile.specs.Code.{procedure_code}
 use Rattle.gw_compile.specs.Unknown.{first_blame}
-use Rattle.gw_pieces.specs.Numbers.{numbers_of}
+use Rattle.gw_names.specs.Numbers.{numbers_of}
 use Rattle.gw_pieces.specs.Reasons.{Explains, IsTooLong, LacksExpression, NamesUnknown, blamed_by}
 use Rattle.gw_pieces.proofs.Noting.{told, explains_by}
 use Rattle.gw_pieces.proofs.compiling.from_expression.Goals as goal

@@ -1,6 +1,6 @@
 use Rattle.std.proofs.Common.{arith}
 use Rattle.std.proofs.lemmas.Option.{slice_get-get_or}
-use Rattle.gw_pieces.specs.Numbers.{numbers_of}
+use Rattle.gw_names.specs.Numbers.{numbers_of}
 use Rattle.gw_pieces.proofs.Noting.{further}
 use Rattle.gw_pieces.proofs.Reasoning.{at_origin}
 use Rattle.gw_pieces.proofs.Compiled.{one_further_compiled}

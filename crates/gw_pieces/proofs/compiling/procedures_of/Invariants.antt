@@ -1,7 +1,7 @@
 use Rattle.std.proofs.Common.{◌≡◌, take, None}
 use Rattle.gw_pieces.specs.Notes.{NotesMore}
 use Rattle.gw_pieces.specs.Reasons.{CodeLimit, ProcedureMissing}
-use Rattle.gw_pieces.specs.Numbers.{numbers_of}
+use Rattle.gw_names.specs.Numbers.{numbers_of}
 use Rattle.gw_pieces.specs.Sources.{AreCompiled}
 use Rattle.gw_pieces.proofs.compiling.procedures_of.Given as goal
 

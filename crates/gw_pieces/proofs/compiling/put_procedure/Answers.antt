@@ -1,4 +1,4 @@
-use Rattle.gw_pieces.specs.Numbers.{numbers_of}
+use Rattle.gw_names.specs.Numbers.{numbers_of}
 use Rattle.gw_pieces.specs.Reasons.{Exceeds, LacksCode}
 use Rattle.gw_pieces.proofs.Noting.{ends_with, explained}
 use Rattle.gw_pieces.proofs.Succeeding.{on_ok}

@@ -1,4 +1,4 @@
-use Rattle.gw_pieces.specs.Numbers.{numbers_of}
+use Rattle.gw_names.specs.Numbers.{numbers_of}
 use Rattle.gw_pieces.specs.Notes.{or_missing}
 use Rattle.gw_pieces.proofs.Noting.{ends_with, one_missing}
 use Rattle.gw_pieces.proofs.Reasoning.{at_statement, astray_origin}

@@ -1,6 +1,6 @@
 use Rattle.std.proofs.Common.{length, refl, arith}
 use Rattle.std.proofs.lemmas.Option.{slice_get_read}
-use Rattle.gw_pieces.specs.Numbers.{numbers_of}
+use Rattle.gw_names.specs.Numbers.{numbers_of}
 use Rattle.gw_pieces.proofs.Noting.{further}
 use Rattle.gw_pieces.proofs.Reasoning.{at_sight}
 use Rattle.gw_pieces.proofs.Sighting.{one_more_sighted, all_sighted}

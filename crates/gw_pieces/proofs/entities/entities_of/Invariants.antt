@@ -4,7 +4,7 @@ use Rattle.gw_names.specs.Known.{found_in}
 use Rattle.gw_names.specs.Places.{last_of}
 use Rattle.gw_pieces.specs.Notes.{Never, NotesMore}
 use Rattle.gw_pieces.specs.Reasons.{EntityMissing}
-use Rattle.gw_pieces.specs.Numbers.{numbers_of}
+use Rattle.gw_names.specs.Numbers.{numbers_of}
 use Rattle.gw_pieces.specs.Entities.{savevalues_in, switches_in, AreSightedAs}
 use Rattle.gw_pieces.proofs.entities.entities_of.Given as goal
 

@@ -1,6 +1,6 @@
 use Rattle.std.proofs.Common.{ap, sym, subst}
 use Rattle.gw_names.specs.declared.names.Names.{Names}
-use Rattle.gw_pieces.specs.Numbers.{numbers_of}
+use Rattle.gw_names.specs.Numbers.{numbers_of}
 use Rattle.gw_pieces.specs.Entities.{AreSightedAs}
 use Rattle.gw_pieces.proofs.Reasoning.{all_pieces}
 use Rattle.gw_pieces.proofs.Succeeding.{on_ok, on_every_ok}

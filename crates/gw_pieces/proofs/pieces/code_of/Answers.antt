@@ -1,4 +1,4 @@
-use Rattle.gw_pieces.specs.Numbers.{numbers_of}
+use Rattle.gw_names.specs.Numbers.{numbers_of}
 use Rattle.gw_pieces.proofs.Reasoning.{code_and_blocks}
 use Rattle.gw_pieces.proofs.pieces.code_of.Goals as goal
 

@@ -1,6 +1,6 @@
 use Rattle.std.proofs.Common.{◌≡◌, ◌∙◌, ◌≤◌, ap, sym, subst, length}
 use Rattle.gw_pieces.specs.Notes.{NotesMore}
-use Rattle.gw_pieces.specs.Numbers.{numbers_of}
+use Rattle.gw_names.specs.Numbers.{numbers_of}
 use Rattle.gw_pieces.specs.Making.{HasAllBy}
 use Rattle.gw_pieces.specs.Order.{order_in}
 use Rattle.gw_pieces.specs.Pieces.{NumbersText}

@@ -3,8 +3,9 @@ use Rattle.gw_uses.specs.Sites.{mention_at, mentioned_in}
 use Rattle.gw_names.specs.Ledger.{with_notes}
 use Rattle.gw_names.specs.Sights.{entity_limits_after, parameter_limits_among}
 use Rattle.gw_names.specs.Sighting.{keys_of}
+use Rattle.gw_names.proofs.Declaring.{on_ok}
 use Rattle.gw_names.proofs.Knowing.{limits_noted}
-use Rattle.gw_names.proofs.known.see_all.Goals as goal
+use Rattle.gw_names.proofs.known.know_all.Goals as goal
 
 pub returns-clause-ledger : goal.returns-clause-ledger
 returns-clause-ledger c =
@@ -17,4 +18,4 @@ returns-clause-ledger c =
     c.in_ok-see_sites.ensures.ledger ∙ ap (λ l. with_notes before (entity_limits_after (keys_of l) ms)) c.requires.sighted in
     let second : c.parameters_in.new.ledger.least ≡ with_notes between (parameter_limits_among ms) =
     c.in_ok-known.ensures.ledger ∙ ap (λ l. with_notes between (parameter_limits_among l)) again in
-    limits_noted c.args.statements.now ms is before between c.parameters_in.new.ledger.least first second
+    on_ok c.label_all.result (λ knows. limits_noted c.args.statements.now ms is before between c.parameters_in.new.ledger.least first second) c.label_all.ensures
