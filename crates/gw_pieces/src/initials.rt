@@ -73,15 +73,15 @@ fn set_initial(
 /// What the INITIALs of this sort set.
 fn initials_in(
     alloc: Global,
-    initial: Initial,
+    sort: Initial,
     statements: &[Statement],
 ) -> Result<IndexMap<String, i64>, AllocError>
     ensures { IfOk result (λ m. (name : List ℕ)
-        → found_in m name ≡ last_of (model.initials_in initial statements.now) name) }
+        → found_in m name ≡ last_of (model.initials_in sort statements.now) name) }
 {
     let mut initials = IndexMap::new(alloc);
     for statement in statements {
-        set_initial(&mut initials, initial, statement)?;
+        set_initial(&mut initials, sort, statement)?;
     }
     Ok(initials)
 }

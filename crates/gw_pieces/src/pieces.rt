@@ -28,6 +28,7 @@ use gw_object::codes::MEMORY;
 use gw_object::{Entity, Fault, Items, MOST_PROCEDURES, Parts, Place, TableState, chains_in};
 use gw_text::Model;
 use std::alloc::{AllocError, Global};
+use std::mem;
 
 /// That memory ran out.
 const OUT_OF_MEMORY: Fault = Fault {
@@ -170,35 +171,32 @@ struct Pieces {
     blocks: Vec<Block>,
 }
 
-/// What is made where names are known.
+/// What is made where names are known; the list of entities is taken from them.
 fn pieces_by(
     alloc: Global,
     text: &Model,
-    names: Names,
+    names: &mut Names,
     order: &[Origin],
     sighted: &[Sighted],
     ledger: &mut Ledger,
 ) -> Result<Pieces, AllocError>
     ensures made { IfOk result (λ pieces. StaysClear ledger.old ledger.new
-        (length order.now ≤ MOST_PROCEDURES → making.HasAllBy (numbers_of names) order.now text.now.statements.items sighted.now
+        (length order.now ≤ MOST_PROCEDURES → making.HasAllBy (numbers_of names.old) order.now text.now.statements.items sighted.now
         pieces.entities.items pieces.procedures.items pieces.blocks.items)) }
     ensures notes { OnOk result (NotesMore
-        (reasons.CodeLimit (numbers_of names) order.now text.now.statements.items)
-        (reasons.AnyMissing (numbers_of names) order.now text.now.statements.items sighted.now)
+        (reasons.CodeLimit (numbers_of names.old) order.now text.now.statements.items)
+        (reasons.AnyMissing (numbers_of names.old) order.now text.now.statements.items sighted.now)
         ledger.old.least ledger.new.least) }
 {
-    let mut names = names;
-    match code_and_entities(alloc, text, &mut names, order, sighted, ledger) {
-        Ok(Code { procedures, blocks }) => {
-            let Names { list, .. } = names;
-            Ok(Pieces {
-                entities: list,
-                procedures,
-                blocks,
-            })
-        }
-        Err(AllocError) => Err(AllocError),
-    }
+    let Code { procedures, blocks } = code_and_entities(
+        alloc, text, names, order, sighted, ledger,
+    )?;
+    let entities = mem::replace(&mut names.list, Vec::new(alloc));
+    Ok(Pieces {
+        entities,
+        procedures,
+        blocks,
+    })
 }
 
 /// The numbers of all names but entities' lists, and the entities that were sighted.
@@ -272,8 +270,8 @@ fn pieces_with(
     ensures notes { OnOk result (making.NotesPiecesOf text.now ledger.old.least ledger.new.least) }
 {
     let Ordered { order, meanings } = ordered;
-    let (names, sighted) = names_with(known, meanings, Vec::new(alloc));
-    pieces_by(alloc, text, names, &order, &sighted, ledger)
+    let (mut names, sighted) = names_with(known, meanings, Vec::new(alloc));
+    pieces_by(alloc, text, &mut names, &order, &sighted, ledger)
 }
 
 /// What is made of a model text whose names are known. What can't be made is noted.
