@@ -6,40 +6,24 @@ use gw_blocks::{Block, Operand};
 use gw_chains::UserChains;
 use gw_code::Procedure;
 use gw_entities::{Facilities, Queues, Savevalues, Storages, Switches, Tables};
-use gw_object::{Entity, Function, Items, Kind, Memory, Object, Parts, Point};
+use gw_object::{Entity, Items, Kind, Memory, Object, Parts, Point};
 use gw_object_bytes::build;
-use gw_samples::{add_entity, empty_parts, no_states, terminate};
+use gw_samples::{add_entity, add_five, empty_parts, function, no_states, terminate};
 use std::alloc::Global;
 use std::test::Fail;
 
 /// Points at 0 and 9.
 const POINTS: [Point; 2] = [Point { x: 0, y: 10 }, Point { x: 9, y: 30 }];
 
-/// The function of P2 with those points.
-fn function(alloc: Global) -> Result<Kind, Memory> {
-    let points = Items::from_vec(Vec::from_slice(alloc, &POINTS)?);
-    let argument = Operand::Parameter(2);
-    Ok(Kind::Function(Function { argument, points }))
-}
-
-/// Adds a facility, a storage for 5 units, a queue, a savevalue of 7 and a logic switch that is set, in this order.
-fn add_five(alloc: Global, entities: &mut Vec<Entity>) -> Result<(), Memory> {
-    add_entity(alloc, entities, Kind::Facility, b"F")?;
-    add_entity(alloc, entities, Kind::Storage(5), b"S")?;
-    add_entity(alloc, entities, Kind::Queue, b"Q")?;
-    add_entity(alloc, entities, Kind::Savevalue(7), b"X")?;
-    add_entity(alloc, entities, Kind::Switch(true), b"L")
-}
-
-/// Adds a variable and a boolean variable of the procedure 0, and the function, in this order.
+/// Adds a variable and a boolean variable of the procedure 0, and the function of P2 with those points, in this order.
 fn add_three(alloc: Global, entities: &mut Vec<Entity>) -> Result<(), Memory> {
     add_entity(alloc, entities, Kind::Variable(0), b"V")?;
     add_entity(alloc, entities, Kind::BooleanVariable(0), b"B")?;
-    let function = function(alloc)?;
+    let function = function(alloc, Operand::Parameter(2), &POINTS)?;
     add_entity(alloc, entities, function, b"FN")
 }
 
-/// Those five and those three.
+/// Five entities, from a facility to a logic switch, and those three.
 fn eight_entities(alloc: Global) -> Result<Items<Entity>, Memory> {
     let mut entities = Vec::new(alloc);
     add_five(alloc, &mut entities)?;

@@ -5,19 +5,9 @@ use gw_blocks::Block;
 use gw_object::codes::*;
 use gw_object::{Fault, Items, Memory, Object, Parts, Place, TableState};
 use gw_object_bytes::{build, read, write};
+use gw_samples::THREE_BLOCKS;
 use std::alloc::Global;
 use std::test::Fail;
-
-/// `GENERATE 10 / ADVANCE 3 / TERMINATE 1` with termination count 2.
-const THREE_BLOCKS: [u8; 97] = [
-    0x47, 0x50, 0x53, 0x4f, 0x00, 0x01, 0x00, 0x00, 0x00, 0x00, 0x00, 0x00, 0x00, 0x00, 0x02, 0x00,
-    0x00, 0x03, 0x01, 0x00, 0x00, 0x00, 0x00, 0x00, 0x00, 0x00, 0x00, 0x0a, 0x00, 0x00, 0x00, 0x00,
-    0x00, 0x00, 0x00, 0x00, 0x00, 0x00, 0x00, 0x00, 0x00, 0x00, 0x00, 0x03, 0x00, 0x00, 0x00, 0x00,
-    0x00, 0x00, 0x00, 0x00, 0x03, 0x00, 0x00, 0x00, 0x00, 0x00, 0x00, 0x00, 0x00, 0x00, 0x02, 0x00,
-    0x00, 0x00, 0x00, 0x00, 0x00, 0x00, 0x00, 0x01, 0x00, 0x01, 0x00, 0x00, 0x00, 0x01, 0x00, 0x00,
-    0x00, 0x01, 0x00, 0x00, 0x00, 0x00, 0x00, 0x00, 0x02, 0x00, 0x00, 0x00, 0x01, 0x00, 0x00, 0x00,
-    0x01,
-];
 
 /// Whether an object is written as these bytes.
 fn is_written_as(alloc: Global, object: &Object, bytes: &[u8]) -> Result<bool, Memory> {
@@ -117,7 +107,7 @@ const TWO_BLOCKS: [u8; 91] = [
 
 /// Whether three blocks are spelled so.
 fn spells_three_blocks(alloc: Global) -> Result<bool, Memory> {
-    is_spelling(alloc, three_blocks(alloc)?, &THREE_BLOCKS)
+    is_spelling(alloc, three_blocks(alloc)?, THREE_BLOCKS)
 }
 
 /// Whether two blocks are spelled so.
@@ -145,7 +135,7 @@ fn build_code(parts: Parts) -> Option<u16> {
 /// The parts of the three blocks' object, with these seeds.
 fn with_seeds(alloc: Global, seeds: &[u32]) -> Result<Parts, Fail> {
     let seeds = Vec::from_slice(alloc, seeds)?;
-    let object = read(alloc, &THREE_BLOCKS).ok().ok_or("an object")?;
+    let object = read(alloc, THREE_BLOCKS).ok().ok_or("an object")?;
     let mut parts = object.into_parts();
     parts.seeds = Items::from_vec(seeds);
     Ok(parts)

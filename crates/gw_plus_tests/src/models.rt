@@ -4,10 +4,11 @@ ghost use Rattle.std.specs.Prelude.{◌≡◌, IfOk};
 
 use gw_blocks::{Block, EntityAttribute, Numbered, Operand};
 use gw_code::Procedure;
-use gw_object::{Entity, Function, Items, Kind, Memory, Object, Parts, Point};
+use gw_object::{Entity, Items, Kind, Memory, Object, Parts, Point};
 use gw_object_bytes::build;
 pub(crate) use gw_samples::{
-    add_entity, empty_parts, no_states, procedure, push, terminate, value, value_of,
+    add_entity, add_five, empty_parts, function, no_states, procedure, push, terminate, value,
+    value_of,
 };
 use std::alloc::Global;
 use std::test::Fail;
@@ -25,35 +26,20 @@ const POINTS: [Point; 3] = [
     Point { x: 9, y: 30 },
 ];
 
-/// A function of this argument, with those points.
-fn function(alloc: Global, argument: Operand) -> Result<Kind, Memory> {
-    let points = Items::from_vec(Vec::from_slice(alloc, &POINTS)?);
-    Ok(Kind::Function(Function { argument, points }))
-}
-
-/// Adds a facility, a storage for 5 units, a queue, a savevalue of 7 and a logic switch that is set, in this order.
-fn add_five(alloc: Global, entities: &mut Vec<Entity>) -> Result<(), Memory> {
-    add_entity(alloc, entities, Kind::Facility, b"F")?;
-    add_entity(alloc, entities, Kind::Storage(5), b"S")?;
-    add_entity(alloc, entities, Kind::Queue, b"Q")?;
-    add_entity(alloc, entities, Kind::Savevalue(7), b"X")?;
-    add_entity(alloc, entities, Kind::Switch(true), b"L")
-}
-
 /// Adds a variable and a boolean variable of the procedure 1, a boolean variable of the procedure 2, a function of the
 /// parameter 1, a function of the variable, and a user chain, in this order.
 fn add_six(alloc: Global, entities: &mut Vec<Entity>) -> Result<(), Memory> {
     add_entity(alloc, entities, Kind::Variable(1), b"V")?;
     add_entity(alloc, entities, Kind::BooleanVariable(1), b"A")?;
     add_entity(alloc, entities, Kind::BooleanVariable(2), b"B")?;
-    let of_parameter = function(alloc, Operand::Parameter(1))?;
+    let of_parameter = function(alloc, Operand::Parameter(1), &POINTS)?;
     add_entity(alloc, entities, of_parameter, b"OFP")?;
-    let of_variable = function(alloc, Operand::OfEntity(VARIABLE))?;
+    let of_variable = function(alloc, Operand::OfEntity(VARIABLE), &POINTS)?;
     add_entity(alloc, entities, of_variable, b"OFV")?;
     add_entity(alloc, entities, Kind::Chain, b"C")
 }
 
-/// Those five and those six.
+/// Five entities, from a facility to a logic switch, and those six.
 fn eleven_entities(alloc: Global) -> Result<Items<Entity>, Memory> {
     let mut entities = Vec::new(alloc);
     add_five(alloc, &mut entities)?;

@@ -9,4 +9,5 @@ mod ranges;
 mod readers;
 mod services;
 mod shares;
+mod tables;
 mod users;

@@ -32,8 +32,8 @@ fn stays_cancelled(alloc: Global, table: &mut Table, pass: &Pass) -> bool {
 #[test]
 fn job_cancelled_while_out_comes_back_cancelled(rt: HostRuntime) -> Result<(), Fail> {
     let mut table = Table::new(rt.alloc())?;
-    let _ = submit(rt.alloc(), &mut table, 1, FIRST)?;
-    let pass = pass_for(rt.alloc(), 1, 0, FIRST)?;
+    let _ = submit(rt.alloc(), &mut table, 1, THREE_BLOCKS)?;
+    let pass = pass_for(rt.alloc(), 1, 0, THREE_BLOCKS)?;
     assert!(rt; is_cancelled_while_out(&mut table, &pass));
     assert!(rt; stays_cancelled(rt.alloc(), &mut table, &pass));
     Ok(())
@@ -53,8 +53,8 @@ fn ends_uncancelled(table: &mut Table, pass: &Pass) -> bool {
 #[test]
 fn ended_job_is_not_cancelled(rt: HostRuntime) -> Result<(), Fail> {
     let mut table = Table::new(rt.alloc())?;
-    let _ = submit(rt.alloc(), &mut table, 1, FIRST)?;
-    let pass = pass_for(rt.alloc(), 1, 0, FIRST)?;
+    let _ = submit(rt.alloc(), &mut table, 1, THREE_BLOCKS)?;
+    let pass = pass_for(rt.alloc(), 1, 0, THREE_BLOCKS)?;
     assert!(rt; ends_uncancelled(&mut table, &pass));
     Ok(())
 }
@@ -81,7 +81,7 @@ fn takes_its_own(table: &mut Table, other: &mut Table) -> bool {
 fn task_of_another_job_comes_back(rt: HostRuntime) -> Result<(), Fail> {
     let mut table = Table::new(rt.alloc())?;
     let mut other = Table::new(rt.alloc())?;
-    let _ = submit(rt.alloc(), &mut table, 1, FIRST)?;
+    let _ = submit(rt.alloc(), &mut table, 1, THREE_BLOCKS)?;
     let _ = submit(rt.alloc(), &mut other, 2, QUEUEING)?;
     assert!(rt; takes_its_own(&mut table, &mut other));
     Ok(())

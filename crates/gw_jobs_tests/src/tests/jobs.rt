@@ -2,38 +2,11 @@
 
 use gw_jobs::{JobFault, Pass, Returned, State, Table, Task};
 use gw_object_bytes::read;
+pub(super) use gw_samples::{QUEUEING, THREE_BLOCKS};
 use gw_scan::Spec;
 use gw_verify::verify;
 use std::alloc::Global;
 use std::test::Fail;
-
-/// GENERATE 10 / ADVANCE 3 / TERMINATE 1, with a termination count of 2: 14 steps.
-pub(super) const FIRST: &[u8] = b"\
-    GPSO\0\x01\0\0\0\0\0\0\0\0\x02\0\0\x03\
-    \x01\0\0\0\0\0\0\0\0\x0a\0\0\0\0\0\0\0\0\0\0\0\0\0\0\0\
-    \x03\0\0\0\0\0\0\0\0\x03\0\0\0\0\0\0\0\0\0\
-    \x02\0\0\0\0\0\0\0\0\x01\
-    \0\x01\0\0\0\x01\0\0\0\x01\0\0\0\
-    \0\0\0\x02\0\0\0\x01\0\0\0\x01";
-
-/// GENERATE ,,,2 / QUEUE L / SEIZE F / DEPART L / ADVANCE 4 / RELEASE F / TERMINATE 1, with a termination count of 2: 23 steps.
-pub(super) const QUEUEING: &[u8] = b"\
-    GPSO\0\x01\0\0\0\0\0\0\0\0\x02\x02\x03\x01L\x01\x01F\0\x07\
-    \x01\0\0\0\0\0\0\0\0\0\0\0\0\0\0\0\0\0\0\0\x01\0\0\0\x02\0\0\0\0\
-    \x08\0\0\0\0\0\x01\
-    \x04\0\x01\
-    \x09\0\0\0\0\0\x01\
-    \x03\0\0\0\0\0\0\0\0\x04\0\0\0\0\0\0\0\0\0\
-    \x05\0\x01\
-    \x02\0\0\0\0\0\0\0\0\x01\
-    \0\x01\0\0\0\
-    \x01\0\0\0\
-    \x01\0\0\x01\0\0\0\0\0\x01\
-    \x01\0\x01\0\x01\x01\0\0\0\0\0\x01\
-    \x01\0\x01\0\x01\0\
-    \x01\0\x01\0\x01\0\
-    \x01\0\0\0\
-    \0\0\0\x05\0\0\0\x04\0\0\0\x03\0\0\0\x02\0\0\0\x01\0\0\0\x02\0\0\0\x01";
 
 /// GENERATE -1,,,1 / TERMINATE 1, with a termination count of 1: its start ends it.
 pub(super) const ENDED: &[u8] = b"\

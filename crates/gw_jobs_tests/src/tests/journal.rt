@@ -61,7 +61,7 @@ fn is_closed(alloc: Global, table: &mut Table, spec: &Spec) -> bool {
 
 /// Whether a job is stuck, and nothing goes in or out before and after.
 fn is_closed_to(alloc: Global, table: &mut Table, slot: u32) -> Result<bool, Fail> {
-    let pass = pass_for(alloc, 1, slot, FIRST)?;
+    let pass = pass_for(alloc, 1, slot, THREE_BLOCKS)?;
     Ok(
         is_closed(alloc, table, pass.spec())
             && is_stuck(alloc, table, &pass)
@@ -71,8 +71,8 @@ fn is_closed_to(alloc: Global, table: &mut Table, slot: u32) -> Result<bool, Fai
 
 /// Whether all of this is so of a table with two jobs of a user.
 fn fills(alloc: Global, table: &mut Table) -> Result<bool, Fail> {
-    let _ = submit(alloc, table, 1, FIRST)?;
-    let _ = submit(alloc, table, 1, FIRST)?;
+    let _ = submit(alloc, table, 1, THREE_BLOCKS)?;
+    let _ = submit(alloc, table, 1, THREE_BLOCKS)?;
     let spec = spec_of(alloc, QUEUEING)?;
     Ok(is_filled(alloc, table, &spec))
 }

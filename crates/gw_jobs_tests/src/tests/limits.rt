@@ -13,13 +13,13 @@ const B: u64 = 8;
 /// Whether user A gets slots 0 to 15 and is refused then, and user B gets slot 16.
 fn are_limited(alloc: Global, table: &mut Table) -> Result<bool, Fail> {
     for slot in 0..16u32 {
-        if submit(alloc, table, A, FIRST)? != Ok(slot) {
+        if submit(alloc, table, A, THREE_BLOCKS)? != Ok(slot) {
             return Ok(false);
         }
     }
     Ok(
-        submit(alloc, table, A, FIRST)? == Err(JobFault::UserFull)
-            && submit(alloc, table, B, FIRST)? == Ok(16),
+        submit(alloc, table, A, THREE_BLOCKS)? == Err(JobFault::UserFull)
+            && submit(alloc, table, B, THREE_BLOCKS)? == Ok(16),
     )
 }
 
@@ -46,8 +46,8 @@ fn refused(
 /// Whether only user A asks for slot 0, and only by its own job.
 fn are_apart(alloc: Global, table: &Table) -> Result<bool, Fail> {
     Ok(
-        refused(alloc, table, B, FIRST)? == Some(JobFault::NotYours)
-            && refused(alloc, table, A, FIRST)? == Some(JobFault::NotEnded)
+        refused(alloc, table, B, THREE_BLOCKS)? == Some(JobFault::NotYours)
+            && refused(alloc, table, A, THREE_BLOCKS)? == Some(JobFault::NotEnded)
             && refused(alloc, table, A, QUEUEING)? == Some(JobFault::Stranger),
     )
 }

@@ -11,7 +11,7 @@ const A: u64 = 7;
 const B: u64 = 8;
 
 /// The jobs of user A in slots 0 to 3: one was cancelled and is out, one was cancelled, one is ended and one is ready.
-const JOBS: &[&[u8]] = &[FIRST, FIRST, ENDED, FIRST];
+const JOBS: &[&[u8]] = &[THREE_BLOCKS, THREE_BLOCKS, ENDED, THREE_BLOCKS];
 
 /// How they stand, and their steps.
 const STANDINGS: &[(State, u64)] = &[
@@ -45,10 +45,10 @@ const ASKS: &[Ask] = &[
     ask!(B, 0, QUEUEING, NotYours),
     ask!(B, 2, QUEUEING, NotYours),
     ask!(B, 3, QUEUEING, NotYours),
-    ask!(B, 0, FIRST, NotYours),
-    ask!(B, 1, FIRST, NotYours),
+    ask!(B, 0, THREE_BLOCKS, NotYours),
+    ask!(B, 1, THREE_BLOCKS, NotYours),
     ask!(B, 2, ENDED, NotYours),
-    ask!(B, 3, FIRST, NotYours),
+    ask!(B, 3, THREE_BLOCKS, NotYours),
     ask!(A, 0, QUEUEING, Stranger),
     ask!(A, 1, QUEUEING, Stranger),
     ask!(A, 2, QUEUEING, Stranger),
@@ -91,7 +91,7 @@ fn first_wrong(alloc: Global, table: &mut Table) -> Result<Option<usize>, Fail> 
 
 /// Whether a row of user A that was cancelled is neither collected nor cancelled.
 fn is_cancelled(alloc: Global, table: &mut Table, slot: u32) -> Result<bool, Fail> {
-    let pass = pass_for(alloc, A, slot, FIRST)?;
+    let pass = pass_for(alloc, A, slot, THREE_BLOCKS)?;
     Ok(
         refusal(alloc, table, &pass) == Some(JobFault::Cancelled)
             && cancel(table, &pass) == Some(JobFault::Cancelled),
@@ -128,15 +128,15 @@ fn submit_all(alloc: Global, table: &mut Table, job: &[u8], count: u32) -> Resul
 
 /// Cancels the job of user A in a slot.
 fn cancel_first(alloc: Global, table: &mut Table, slot: u32) -> Result<bool, Fail> {
-    let pass = pass_for(alloc, A, slot, FIRST)?;
+    let pass = pass_for(alloc, A, slot, THREE_BLOCKS)?;
     Ok(cancel(table, &pass).is_none())
 }
 
 /// Makes slots 0 to 3, in 10 places of the journal, with that of the return of slot 0, whose task is lost.
 fn make_rows(alloc: Global, table: &mut Table) -> Result<bool, Fail> {
-    submit_all(alloc, table, FIRST, 2)?;
+    submit_all(alloc, table, THREE_BLOCKS, 2)?;
     submit_all(alloc, table, ENDED, 1)?;
-    submit_all(alloc, table, FIRST, 1)?;
+    submit_all(alloc, table, THREE_BLOCKS, 1)?;
     let is_out = next_task(table).is_some();
     let are_cancelled = cancel_first(alloc, table, 0)? && cancel_first(alloc, table, 1)?;
     Ok(is_out && are_cancelled && work(table, 3) && is_unchanged(alloc, table)?)
@@ -157,8 +157,8 @@ fn first_refusal_that_applies_is_told(rt: HostRuntime) -> Result<(), Fail> {
 /// Whether a submit of user A is refused by the jobs that run, and one of user B by all jobs.
 fn refuses_submits(alloc: Global, table: &mut Table) -> Result<bool, Fail> {
     Ok(
-        submit(alloc, table, A, FIRST)? == Err(JobFault::UserFull)
-            && submit(alloc, table, B, FIRST)? == Err(JobFault::ServiceFull)
+        submit(alloc, table, A, THREE_BLOCKS)? == Err(JobFault::UserFull)
+            && submit(alloc, table, B, THREE_BLOCKS)? == Err(JobFault::ServiceFull)
             && is_unchanged(alloc, table)?,
     )
 }
@@ -166,13 +166,13 @@ fn refuses_submits(alloc: Global, table: &mut Table) -> Result<bool, Fail> {
 /// Makes the other 1,020 rows, so that 16 run, and takes all other places of the journal.
 fn fill(alloc: Global, table: &mut Table) -> Result<bool, Fail> {
     submit_all(alloc, table, ENDED, 1006)?;
-    submit_all(alloc, table, FIRST, 14)?;
+    submit_all(alloc, table, THREE_BLOCKS, 14)?;
     Ok(refuses_submits(alloc, table)? && turn(table, 523_773))
 }
 
 /// Whether the job of user A that is ready isn't cancelled, since the journal is full.
 fn cancel_is_full(alloc: Global, table: &mut Table) -> Result<bool, Fail> {
-    let pass = pass_for(alloc, A, 3, FIRST)?;
+    let pass = pass_for(alloc, A, 3, THREE_BLOCKS)?;
     Ok(cancel(table, &pass) == Some(JobFault::JournalFull) && is_unchanged(alloc, table)?)
 }
 

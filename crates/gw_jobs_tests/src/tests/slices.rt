@@ -45,7 +45,7 @@ fn is_collected(alloc: Global, table: &Table, pass: &Pass, due: &[u8]) -> bool {
 
 /// Whether a table that makes slices of so many steps reports the job of user 1 so, beside one of user 2.
 fn reports_so(alloc: Global, table: &mut Table, steps: u32, due: &[u8]) -> Result<bool, Fail> {
-    let _ = submit(alloc, table, 2, FIRST)?;
+    let _ = submit(alloc, table, 2, THREE_BLOCKS)?;
     let _ = submit(alloc, table, 1, QUEUEING)?;
     work_all(table, steps);
     let pass = pass_for(alloc, 1, 1, QUEUEING)?;

@@ -57,9 +57,9 @@ fn is_replaced(table: &mut Table, other: &mut Table, pass: &Pass) -> bool {
 
 /// Whether that is so of the table's one job, which the other table has too.
 fn comes_in_place(alloc: Global, table: &mut Table, other: &mut Table) -> Result<bool, Fail> {
-    let _ = submit(alloc, table, 1, FIRST)?;
-    let _ = submit(alloc, other, 2, FIRST)?;
-    let pass = pass_for(alloc, 1, 0, FIRST)?;
+    let _ = submit(alloc, table, 1, THREE_BLOCKS)?;
+    let _ = submit(alloc, other, 2, THREE_BLOCKS)?;
+    let pass = pass_for(alloc, 1, 0, THREE_BLOCKS)?;
     Ok(is_replaced(table, other, &pass))
 }
 

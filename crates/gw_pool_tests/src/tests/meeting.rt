@@ -1,17 +1,12 @@
 //! Two workers that meet, each with a job.
 
-ghost use Rattle.std.specs.Prelude.{◌≡◌};
-ghost use Rattle.gw_pool.specs.Shares.{AreWhole};
-
-use super::jobs::THREE_BLOCKS_REPORT;
-use super::services::{counts_are, new_pass, reports, stands, totals_are};
+use super::services::{Fixture, Trial, totals_are, wrong_of};
 use gw_jobs::{Pass, State};
-use gw_pool::{Crew, Gate, Seat, Service};
-use std::alloc::Global;
-use std::marker::Brand;
+use gw_pool::Gate;
+use gw_samples::{THREE_BLOCKS_REPORT, first_wrong};
 use std::sync::Wait;
 use std::sync::atomic::{AtomicU64, Ordering};
-use std::sync::ledger::{Blank, Ledger};
+use std::sync::ledger::Ledger;
 use std::test::Fail;
 use std::thread;
 use std::thread::Threads;
@@ -63,107 +58,54 @@ impl Gate for Meeting {
     }
 }
 
-/// What is as it must be of two workers with a job each.
-#[derive(Clone, Copy)]
-struct Seen {
-    /// Nobody waited in vain.
-    met: bool,
-    /// The totals, the audit and the crew.
-    counted: bool,
-    /// The two polls, and the two reports.
-    told: bool,
-    /// The progress of the two slots, and of one without a job.
-    published: bool,
-}
-
-/// Whether a job ended after 14 steps, with its report.
-fn is_told<R: Ledger, S: Ledger, W: Wait>(
-    rt: &W,
-    alloc: Global,
-    service: &Service<R, S>,
-    pass: &Pass,
-) -> bool {
-    stands(rt, service, pass, State::Ended, 14)
-        && reports(rt, alloc, service, pass, THREE_BLOCKS_REPORT)
-}
-
-/// Whether two slots are said to have made 14 steps, and a third none.
-fn is_published<R: Ledger, S: Ledger>(service: &Service<R, S>, seat: &mut Seat) -> bool
-    requires { seat.old.board ≡ service.now }
-{
-    let first = service.board().progress(seat, 0);
-    let second = service.board().progress(seat, 1);
-    let idle = service.board().progress(seat, 5);
-    first == 14 && second == 14 && idle == 0
-}
-
-/// Runs two workers with slices of 7 steps, and looks at them and at the jobs of two passes.
-fn seen_of<R: Ledger + Send + Sync, S: Ledger + Send + Sync, W: Threads + Wait + Sync>(
-    rt: &W,
-    alloc: Global,
-    service: &Service<R, S>,
-    crew: &mut Crew<R, S>,
-    seat: &mut Seat,
-    passes: (&Pass, &Pass),
-) -> Seen
-    requires crew { crew.old.board ≡ service.now }
-    requires seat { seat.old.board ≡ service.now }
-{
-    let gate = Meeting::new();
-    let is_done = match service.run_workers(rt, alloc, crew, 2, 7, &gate) {
-        Ok(totals) => totals_are(&totals, 2, 4, 28),
-        Err(_) => false,
-    };
-    Seen {
-        met: gate.misses.load(Ordering::SeqCst) == 0,
-        counted: is_done && counts_are(rt, service, crew, 28),
-        told: is_told(rt, alloc, service, passes.0) && is_told(rt, alloc, service, passes.1),
-        published: is_published(service, seat),
+impl<R: Ledger + Send + Sync, S: Ledger + Send + Sync, W: Threads + Wait + Sync> Fixture<
+    '_,
+    R,
+    S,
+    W,
+> {
+    /// Whether a job ended after 14 steps, with its report.
+    fn is_told(&self, pass: &Pass) -> bool {
+        self.stands(pass, State::Ended, 14) && self.reports(pass, THREE_BLOCKS_REPORT)
     }
-}
 
-/// The same of two new jobs.
-fn seen_of_two<R: Ledger + Send + Sync, S: Ledger + Send + Sync, W: Threads + Wait + Sync>(
-    rt: &W,
-    alloc: Global,
-    service: &Service<R, S>,
-    crew: &mut Crew<R, S>,
-    seat: &mut Seat,
-) -> Result<Seen, Fail>
-    requires crew { crew.old.board ≡ service.now }
-    requires seat { seat.old.board ≡ service.now }
-{
-    let first = new_pass(rt, alloc, service, 1)?;
-    let second = new_pass(rt, alloc, service, 2)?;
-    Ok(seen_of(rt, alloc, service, crew, seat, (&first, &second)))
-}
+    /// Whether two slots are said to have made 14 steps, and a third none.
+    fn is_published(&mut self) -> bool {
+        let first = self.service.board().progress(&mut self.seat, 0);
+        let second = self.service.board().progress(&mut self.seat, 1);
+        let idle = self.service.board().progress(&mut self.seat, 5);
+        first == 14 && second == 14 && idle == 0
+    }
 
-/// The same in a new service.
-fn seen_in_service<R: Ledger + Send + Sync, S: Ledger + Send + Sync, W: Threads + Wait + Sync>(
-    rt: &W,
-    alloc: Global,
-    rows: Blank,
-    steps: Blank,
-) -> Result<Seen, Fail>
-    requires names { (rows.name ≡ R.name) × (steps.name ≡ S.name) }
-    requires parts { (rows.parts ≡ R.parts) × (steps.parts ≡ S.parts) }
-    requires whole { AreWhole rows.parts steps.parts }
-{
-    let (service, mut crew, mut seat) = Service::<R, S>::new(alloc, rows, steps)?;
-    seen_of_two(rt, alloc, &service, &mut crew, &mut seat)
-}
+    /// Whether two workers make 4 slices of 7 steps.
+    fn runs_two(&mut self, gate: &Meeting) -> bool {
+        match self
+            .service
+            .run_workers(self.rt, self.alloc, &mut self.crew, 2, 7, gate)
+        {
+            Ok(totals) => totals_are(&totals, 2, 4, 28),
+            Err(_) => false,
+        }
+    }
 
-/// The same of ledgers of its own.
-fn seen_anew<W: Threads + Wait + Sync>(rt: &W, alloc: Global) -> Result<Seen, Fail> {
-    seen_in_service::<Brand, Brand, W>(rt, alloc, Blank::new(17), Blank::new(17))
+    /// Two workers run a job each, and neither waits for the other in vain.
+    pub(super) fn wrong_of_meeting(&mut self) -> Result<Option<usize>, Fail> {
+        let first = self.new_pass(1)?;
+        let second = self.new_pass(2)?;
+        let gate = Meeting::new();
+        Ok(first_wrong(&[
+            self.runs_two(&gate),
+            gate.misses.load(Ordering::SeqCst) == 0,
+            self.counts_are(28),
+            self.is_told(&first),
+            self.is_told(&second),
+            self.is_published(),
+        ]))
+    }
 }
 
 #[test]
 fn two_workers_run_side_by_side(rt: HostRuntime) -> Result<(), Fail> {
-    let seen = seen_anew(&rt, rt.alloc())?;
-    assert!(rt; seen.met);
-    assert!(rt; seen.counted);
-    assert!(rt; seen.told);
-    assert!(rt; seen.published);
+    assert!(rt; wrong_of(&rt, rt.alloc(), Trial::Meeting)?.is_none());
     Ok(())
 }

@@ -1,14 +1,13 @@
 //! What shares count of a table.
 
 ghost use Rattle.std.specs.Prelude.{◌≡◌, ◌<◌, ◌≤◌, OnOk};
-ghost use Rattle.gw_pool.specs.Shares.{AreWhole};
+ghost use Rattle.gw_pool.specs.Shares.{all_parts};
 
-use super::jobs::spec;
+use super::tables::{Fixture, Trial, wrong_of};
 use gw_jobs::Task;
-use gw_pool::{Share, Shared, new_shared};
-use std::alloc::Global;
-use std::marker::Brand;
-use std::sync::ledger::{Blank, Ledger};
+use gw_pool::{Share, Shared};
+use gw_samples::first_wrong;
+use std::sync::ledger::Ledger;
 use std::test::Fail;
 
 /// The task that is next, taken by a share.
@@ -47,68 +46,40 @@ pub(super) fn make_7<R: Ledger, S: Ledger>(
     Ok(rows)
 }
 
-/// What is seen of a table and two shares.
-#[derive(Clone, Copy, PartialEq, Eq, Debug)]
-struct Counts {
-    /// The rows that the second share had while its task was out.
-    meanwhile: u32,
-    /// The steps and the rows of the first share, and of the second, once each gave a task back.
-    first: (u128, u32),
-    second: (u128, u32),
-    /// Those of both, joined.
-    joined: (u128, u32),
-    /// What an audit answers.
-    audited: (u128, u32),
+/// The steps and the rows that a share counts.
+fn counts<R: Ledger, S: Ledger>(share: &Share<R, S>) -> (u128, u32) {
+    (share.steps(), share.rows())
 }
 
-/// Two shares of a table with two jobs make 7 steps each, the first of them 7 more; then they are joined.
-fn two_shares<R: Ledger, S: Ledger>(
-    alloc: Global,
-    rows: Blank,
-    steps: Blank,
-) -> Result<Counts, Fail>
-    requires names { (rows.name ≡ R.name) × (steps.name ≡ S.name) }
-    requires parts { (rows.parts ≡ R.parts) × (steps.parts ≡ S.parts) }
-    requires whole { AreWhole rows.parts steps.parts }
-{
-    let (mut shared, mut share) = new_shared::<R, S>(alloc, rows, steps)?;
-    if shared.submit(alloc, 1, spec(alloc)?).is_err()
-        || shared.submit(alloc, 2, spec(alloc)?).is_err()
+impl<R: Ledger, S: Ledger> Fixture<R, S> {
+    /// Two shares of a table with two jobs make 7 steps each, the first of them 7 more; then they are joined. Meanwhile the
+    /// second has one row.
+    pub(super) fn wrong_of_shares(&mut self) -> Result<Option<usize>, Fail>
+        requires { self.old.share.parts ≡ all_parts }
     {
-        return Err(Fail::new("two passes"));
+        let mut other = self.share.split(1);
+        self.new_pass(1)?;
+        self.new_pass(2)?;
+        make_7(&mut self.shared, &mut self.share)?;
+        let meanwhile = make_7(&mut self.shared, &mut other)?;
+        make_7(&mut self.shared, &mut self.share)?;
+        let first = counts(&self.share);
+        let second = counts(&other);
+        self.shared.audit(&mut self.share);
+        self.shared.audit(&mut other);
+        self.share.join(other);
+        Ok(first_wrong(&[
+            meanwhile == 1,
+            first == (14, 0),
+            second == (7, 0),
+            counts(&self.share) == (21, 0),
+            self.shared.audit(&mut self.share) == (21, 0),
+        ]))
     }
-    let mut other = share.split(1);
-    make_7(&mut shared, &mut share)?;
-    let meanwhile = make_7(&mut shared, &mut other)?;
-    make_7(&mut shared, &mut share)?;
-    let first = (share.steps(), share.rows());
-    let second = (other.steps(), other.rows());
-    shared.audit(&mut share);
-    shared.audit(&mut other);
-    share.join(other);
-    Ok(Counts {
-        meanwhile,
-        first,
-        second,
-        joined: (share.steps(), share.rows()),
-        audited: shared.audit(&mut share),
-    })
-}
-
-/// Names the two ledgers.
-fn two_shares_anew(alloc: Global) -> Result<Counts, Fail> {
-    two_shares::<Brand, Brand>(alloc, Blank::new(17), Blank::new(17))
 }
 
 #[test]
 fn shares_count_what_the_table_does(rt: HostRuntime) -> Result<(), Fail> {
-    let due = Counts {
-        meanwhile: 1,
-        first: (14, 0),
-        second: (7, 0),
-        joined: (21, 0),
-        audited: (21, 0),
-    };
-    assert!(rt; two_shares_anew(rt.alloc())? == due);
+    assert!(rt; wrong_of(rt.alloc(), Trial::Shares)?.is_none());
     Ok(())
 }
