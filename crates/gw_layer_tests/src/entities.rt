@@ -59,8 +59,8 @@ enum FacilityStep {
     Pass(u64),
     /// Whether a transaction owns any facility.
     OwnsAny(u64, bool),
-    /// Its state, and its utilisation.
-    Reads(Facility, Average),
+    /// Its owner, its entries, how long it was owned, and its utilisation.
+    Reads(Option<u64>, u64, u128, (u64, u16)),
 }
 
 /// Whether a transaction owns the facility, which is number 0.
@@ -84,6 +84,14 @@ struct OneFacility {
 }
 
 impl OneFacility {
+    fn new(alloc: Global) -> Result<OneFacility, Fail> {
+        let facilities = Facilities::new(alloc, &object(alloc)?)?;
+        Ok(OneFacility {
+            facilities,
+            clock: 0,
+        })
+    }
+
     /// Whether a transaction that doesn't own it and seizes it, at most the hundredth time, is answered so.
     fn seizes(&mut self, xn: u64, seized: bool) -> bool {
         if 100 <= self.facilities.get(0).entries || is_owner(&self.facilities, xn) {
@@ -101,6 +109,16 @@ impl OneFacility {
         true
     }
 
+    /// Lets so many clock units pass, if there are as many.
+    fn passes(&mut self, dt: u64) -> bool {
+        if self.clock > LAST || dt > LAST - self.clock {
+            return false;
+        }
+        self.facilities.pass_time(dt);
+        self.clock += dt;
+        true
+    }
+
     fn reads(&self, facility: Facility, average: Average) -> bool {
         self.facilities.get(0) == facility && self.facilities.average(0) == average
     }
@@ -115,7 +133,14 @@ impl Followed for OneFacility {
             FacilityStep::Release(xn) => self.releases(*xn),
             FacilityStep::Pass(dt) => self.passes(*dt),
             FacilityStep::OwnsAny(xn, owns) => self.facilities.owns_any(*xn) == *owns,
-            FacilityStep::Reads(facility, average) => self.reads(*facility, *average),
+            FacilityStep::Reads(owner, entries, busy, (whole, thousandths)) => {
+                let facility = Facility {
+                    owner: *owner,
+                    entries: *entries,
+                    busy: *busy,
+                };
+                self.reads(facility, average(*whole, *thousandths))
+            }
         }
     }
 }
@@ -129,8 +154,8 @@ enum StorageStep {
     Leave(u32),
     /// So many clock units pass.
     Pass(u64),
-    /// Its contents, and their average.
-    Reads(Contents, Average),
+    /// The content, the maximum and the entries, the sum of content times time, and the average.
+    Reads(u64, u64, u64, u128, (u64, u16)),
 }
 
 /// The storage of that object, and the clock time.
@@ -143,6 +168,11 @@ struct OneStorage {
 }
 
 impl OneStorage {
+    fn new(alloc: Global) -> Result<OneStorage, Fail> {
+        let storages = Storages::new(alloc, &object(alloc)?)?;
+        Ok(OneStorage { storages, clock: 0 })
+    }
+
     /// Whether so many units, at most the capacity, that enter are answered so, where no more than a hundred entered before.
     fn enters(&mut self, n: u32, entered: bool) -> bool {
         let storage = self.storages.get(1);
@@ -158,6 +188,16 @@ impl OneStorage {
             return false;
         }
         self.storages.leave(1, n);
+        true
+    }
+
+    /// Lets so many clock units pass, if there are as many.
+    fn passes(&mut self, dt: u64) -> bool {
+        if self.clock > LAST || dt > LAST - self.clock {
+            return false;
+        }
+        self.storages.pass_time(dt);
+        self.clock += dt;
         true
     }
 
@@ -178,7 +218,15 @@ impl Followed for OneStorage {
             StorageStep::Enter(n, entered) => self.enters(*n, *entered),
             StorageStep::Leave(n) => self.leaves(*n),
             StorageStep::Pass(dt) => self.passes(*dt),
-            StorageStep::Reads(contents, average) => self.reads(*contents, *average),
+            StorageStep::Reads(content, maximum, entries, time_sum, (whole, thousandths)) => {
+                let contents = Contents {
+                    content: *content,
+                    maximum: *maximum,
+                    entries: *entries,
+                    time_sum: *time_sum,
+                };
+                self.reads(contents, average(*whole, *thousandths))
+            }
         }
     }
 }
@@ -192,8 +240,8 @@ enum QueueStep {
     Depart(u32),
     /// So many clock units pass.
     Pass(u64),
-    /// Its contents, and their average.
-    Reads(Contents, Average),
+    /// The content, the maximum and the entries, the sum of content times time, and the average.
+    Reads(u64, u64, u64, u128, (u64, u16)),
 }
 
 /// The queue of that object, and the clock time.
@@ -206,6 +254,21 @@ struct OneQueue {
 }
 
 impl OneQueue {
+    fn new(alloc: Global) -> Result<OneQueue, Fail> {
+        let queues = Queues::new(alloc, &object(alloc)?)?;
+        Ok(OneQueue { queues, clock: 0 })
+    }
+
+    /// Lets so many clock units pass, if there are as many.
+    fn passes(&mut self, dt: u64) -> bool {
+        if self.clock > LAST || dt > LAST - self.clock {
+            return false;
+        }
+        self.queues.pass_time(dt);
+        self.clock += dt;
+        true
+    }
+
     fn reads(&self, contents: Contents, average: Average) -> bool {
         self.queues.get(2) == contents && self.queues.average(2) == average
     }
@@ -248,42 +311,18 @@ impl Followed for OneQueue {
             QueueStep::Join(n) => self.joins(*n),
             QueueStep::Depart(n) => self.departs(*n),
             QueueStep::Pass(dt) => self.passes(*dt),
-            QueueStep::Reads(contents, average) => self.reads(*contents, *average),
+            QueueStep::Reads(content, maximum, entries, time_sum, (whole, thousandths)) => {
+                let contents = Contents {
+                    content: *content,
+                    maximum: *maximum,
+                    entries: *entries,
+                    time_sum: *time_sum,
+                };
+                self.reads(contents, average(*whole, *thousandths))
+            }
         }
     }
 }
-
-/// How the entities of one kind begin, and how time passes over them.
-macro_rules! impl_clock {
-    ($one:ident, $entities:ident: $kind:ident) => {
-        impl $one {
-            /// Those of that object, at clock 0.
-            fn new(alloc: Global) -> Result<$one, Fail> {
-                let $entities = $kind::new(alloc, &object(alloc)?)?;
-                Ok($one {
-                    $entities,
-                    clock: 0,
-                })
-            }
-
-            /// Lets so many clock units pass, if there are as many.
-            fn passes(&mut self, dt: u64) -> bool {
-                if self.clock > LAST || dt > LAST - self.clock {
-                    return false;
-                }
-                self.$entities.pass_time(dt);
-                self.clock += dt;
-                true
-            }
-        }
-    };
-}
-
-impl_clock!(OneFacility, facilities: Facilities);
-
-impl_clock!(OneStorage, storages: Storages);
-
-impl_clock!(OneQueue, queues: Queues);
 
 /// The place, from 0, of the first step that goes otherwise with the facility.
 fn wrong_facility_step(alloc: Global, steps: &[FacilityStep]) -> Result<Option<usize>, Fail> {
@@ -303,35 +342,6 @@ fn wrong_queue_step(alloc: Global, steps: &[QueueStep]) -> Result<Option<usize>,
     Ok(queue.wrong_step(steps))
 }
 
-/// An average of nothing.
-const NOTHING: Average = Average {
-    whole: 0,
-    thousandths: 0,
-};
-
-/// A facility with this owner and so many entries, over which no time passed.
-macro_rules! facility {
-    ($owner:expr, $entries:expr) => {
-        Facility {
-            owner: $owner,
-            entries: $entries,
-            busy: 0,
-        }
-    };
-}
-
-/// A content, a maximum and entries over which no time passed.
-macro_rules! contents {
-    ($content:expr, $maximum:expr, $entries:expr) => {
-        Contents {
-            content: $content,
-            maximum: $maximum,
-            entries: $entries,
-            time_sum: 0,
-        }
-    };
-}
-
 #[test]
 fn a_facility_is_its_owners_until_it_is_released(rt: HostRuntime) -> Result<(), Fail> {
     const STEPS: &[FacilityStep] = &[
@@ -339,9 +349,9 @@ fn a_facility_is_its_owners_until_it_is_released(rt: HostRuntime) -> Result<(), 
         FacilityStep::OwnsAny(7, true),
         FacilityStep::OwnsAny(8, false),
         FacilityStep::Seize(8, false),
-        FacilityStep::Reads(facility!(Some(7), 1), NOTHING),
+        FacilityStep::Reads(Some(7), 1, 0, (0, 0)),
         FacilityStep::Release(7),
-        FacilityStep::Reads(facility!(None, 1), NOTHING),
+        FacilityStep::Reads(None, 1, 0, (0, 0)),
     ];
     assert!(rt; wrong_facility_step(rt.alloc(), STEPS)?.is_none());
     Ok(())
@@ -353,7 +363,7 @@ fn a_storage_holds_no_more_than_its_capacity(rt: HostRuntime) -> Result<(), Fail
         StorageStep::Enter(2, true),
         StorageStep::Enter(2, false),
         StorageStep::Leave(2),
-        StorageStep::Reads(contents!(0, 2, 2), NOTHING),
+        StorageStep::Reads(0, 2, 2, 0, (0, 0)),
     ];
     assert!(rt; wrong_storage_step(rt.alloc(), STEPS)?.is_none());
     Ok(())
@@ -365,7 +375,7 @@ fn a_queue_counts_units(rt: HostRuntime) -> Result<(), Fail> {
         QueueStep::Join(5),
         QueueStep::Depart(3),
         QueueStep::Join(1),
-        QueueStep::Reads(contents!(3, 5, 6), NOTHING),
+        QueueStep::Reads(3, 5, 6, 0, (0, 0)),
     ];
     assert!(rt; wrong_queue_step(rt.alloc(), STEPS)?.is_none());
     Ok(())
