@@ -5,7 +5,7 @@ use Rattle.gw_num.proofs.Tables.{at-put, at-put_other, by_entry, at-replicate}
 use Rattle.gw_code.specs.declared.parts.Instruction.{Instruction}
 use Rattle.gw_code.specs.declared.parts.Procedure.{Procedure}
 use Rattle.gw_object.specs.declared.parts.Parts.{Parts}
-use Rattle.gw_code_flow.specs.Code.{targets}
+use Rattle.gw_operands.specs.Code.{targets}
 use Rattle.gw_code_flow.specs.PlusChecks.{Heights, agrees, known_height, height_after, spread, instruction_checks, code_checks}
 use Rattle.gw_code_flow.proofs.Rules.{all_agree}
 

@@ -9,8 +9,8 @@ use Rattle.gw_code.specs.declared.parts.Instruction.{Instruction}
 use Rattle.gw_code.specs.declared.parts.Procedure.{Procedure}
 use Rattle.gw_object.specs.declared.parts.Parts.{Parts}
 use Rattle.gw_kinds.proofs.Each.{Hold, first_with_others, hold_together}
-use Rattle.gw_code_flow.specs.Code.{procedure_at, most_values, targets, is_among, cost_of_code}
-use Rattle.gw_code_flow.specs.PlusChecks.{Heights, agrees, known_height, height_after, spread, instruction_checks, code_checks, has_code, greatest_cost, procedure_checks, checks_from, plus_checks, PlusPasses, costs_from, costs_of}
+use Rattle.gw_operands.specs.Code.{procedure_at, most_values, targets, is_among, cost_of_code, costs_from, costs_of}
+use Rattle.gw_code_flow.specs.PlusChecks.{Heights, agrees, known_height, height_after, spread, instruction_checks, code_checks, has_code, greatest_cost, procedure_checks, checks_from, plus_checks, PlusPasses}
 use Rattle.gw_code_flow.specs.OneHeight.{RulesHold, HasHeights, PlusPassesByHeights}
 use Rattle.gw_code_flow.proofs.Steps.{Fine, Lead}
 use Rattle.gw_code_flow.proofs.Rules.{all_agree, Grows, spread_grows, spread_leads, spread_known, own_cost, checked}

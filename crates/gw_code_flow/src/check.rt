@@ -4,7 +4,7 @@ ghost use Rattle.std.specs.Prelude.{◌≡◌, ◌<◌, ◌≤◌, length, All, 
 ghost use Rattle.gw_num.specs.Table.{at};
 ghost use Rattle.gw_code.specs.Grammar.{ProcedureFits};
 ghost use Rattle.gw_kinds.specs.Checks.{Finds};
-ghost use Rattle.gw_code_flow.specs.Code.{most_values, cost_of_code};
+ghost use Rattle.gw_operands.specs.Code.{most_values, cost_of_code};
 ghost use Rattle.gw_code_flow.specs.PlusChecks as model;
 ghost use Rattle.gw_code_flow.specs.PlusChecks.{procedure_checks, cost_of};
 

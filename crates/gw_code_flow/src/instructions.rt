@@ -2,21 +2,14 @@
 
 ghost use Rattle.std.specs.Prelude.{◌≡◌, ◌≤◌, nat_le};
 ghost use Rattle.std.specs.Option.{option_copied};
-ghost use Rattle.gw_kinds.specs.Evaluated.{procedure_named};
-ghost use Rattle.gw_code_flow.specs.Code as model;
+ghost use Rattle.gw_operands.specs.Sources.{procedure_named};
+ghost use Rattle.gw_operands.specs.Code as model;
 ghost use Rattle.gw_code_flow.specs.PlusChecks.{height_after};
 
 use gw_blocks::Operand;
 use gw_code::{Instruction, Procedure};
-use gw_kinds::{as_operand, source_of};
 use gw_object::{Entity, Parts};
-
-/// The procedure of this number, if it is there.
-pub(crate) fn procedure_at(parts: &Parts, number: u16) -> Option<&Procedure>
-    ensures { option_copied result ≡ model.procedure_at parts.now number }
-{
-    parts.procedures.as_slice().get(number as usize)
-}
+use gw_operands::{as_operand, procedure_at, source_of};
 
 /// How many arguments a procedure takes; none where it isn't there.
 fn arguments_of(procedure: Option<&Procedure>) -> u8

@@ -5,14 +5,10 @@
 mod check;
 pub mod codes;
 mod costs;
-mod ends;
 mod heights;
 mod instructions;
 pub mod laws;
 mod parameters;
-mod sources;
 
 pub use check::check_plus;
-pub use ends::PlusEnd;
-pub use parameters::{Asked, parameters_asked};
-pub use sources::made;
+pub use gw_operands::{Asked, PlusEnd, made, parameters_asked};

@@ -6,7 +6,7 @@ use Rattle.std.proofs.lemmas.List.Elements.{All-get_or}
 use Rattle.gw_num.specs.Table.{at}
 use Rattle.gw_code.specs.declared.parts.Sna.{Sna}
 use Rattle.gw_code.specs.declared.parts.Instruction.TheVariants.{Value}
-use Rattle.gw_kinds.specs.Evaluated.{source_of, as_operand}
+use Rattle.gw_operands.specs.Sources.{source_of, as_operand}
 use Rattle.gw_code_flow.proofs.Reading.{MayRead, may_read}
 use Rattle.gw_code.specs.declared.parts.Instruction.{Instruction}
 use Rattle.gw_code.specs.declared.parts.Procedure.{Procedure}
@@ -14,11 +14,11 @@ use Rattle.gw_object.specs.declared.parts.Parts.{Parts}
 use Rattle.gw_object.specs.Grammar.{HasSpelling}
 use Rattle.gw_kinds.specs.Pass.{KindsPass}
 use Rattle.gw_kinds.specs.Laws.{InstructionHolds}
-use Rattle.gw_code_flow.specs.declared.ends.PlusEnd.{PlusEnd}
-use Rattle.gw_code_flow.specs.Environment.{Environment}
-use Rattle.gw_code_flow.specs.Code.{procedure_at, asks_for, called_in, calls_lower}
-use Rattle.gw_code_flow.specs.PlusChecks.{PlusPasses, costs_of}
-use Rattle.gw_code_flow.specs.Meaning.{Derives, opening}
+use Rattle.gw_operands.specs.declared.ends.PlusEnd.{PlusEnd}
+use Rattle.gw_operands.specs.Environment.{Environment}
+use Rattle.gw_operands.specs.Code.{procedure_at, asks_for, called_in, calls_lower, costs_of}
+use Rattle.gw_code_flow.specs.PlusChecks.{PlusPasses}
+use Rattle.gw_operands.specs.Meaning.{Derives, opening}
 use Rattle.gw_code_flow.specs.Laws.{HasSet, MayBegin}
 use Rattle.gw_code_flow.proofs.Rules.{checked}
 use Rattle.gw_code_flow.proofs.Steps.{among_more}

@@ -13,8 +13,8 @@ use Rattle.gw_code.specs.declared.parts.Instruction.TheVariants.{Push, Get, Set,
 use Rattle.gw_code.specs.declared.parts.Procedure.{Procedure}
 use Rattle.gw_code.specs.declared.parts.Sna.TheVariants as snas
 use Rattle.gw_object.specs.declared.parts.Parts.{Parts}
-use Rattle.gw_kinds.specs.Evaluated.{procedure_named}
-use Rattle.gw_code_flow.specs.Code.{procedure_at, needs_of, is_among, called_in, calls_lower, asked_by_source, asks_for}
+use Rattle.gw_operands.specs.Sources.{procedure_named}
+use Rattle.gw_operands.specs.Code.{procedure_at, needs_of, is_among, called_in, calls_lower, asked_by_source, asks_for}
 use Rattle.gw_compile.specs.Numbers.{Numbers}
 use Rattle.gw_compile.specs.Needs.{asked_by, asks, with_number, with_numbers, needs_with, needs_in}
 use Rattle.gw_compile.specs.Keeps.{GoesOnFrom, NeedsSuffice, NeedsWhatItAsks}

@@ -8,7 +8,7 @@ use Rattle.gw_code.specs.declared.parts.Instruction.TheVariants.{Value, Call}
 use Rattle.gw_code.specs.declared.parts.Procedure.{Procedure}
 use Rattle.gw_code.specs.declared.parts.Sna.{Sna}
 use Rattle.gw_code.specs.declared.parts.Sna.TheVariants as snas
-use Rattle.gw_code_flow.specs.Code.{needs_of}
+use Rattle.gw_operands.specs.Code.{needs_of}
 use Rattle.gw_compile.specs.Numbers.{Numbers}
 
 -- what is evaluated for an attribute in the end

@@ -7,14 +7,13 @@ use Rattle.gw_blocks.specs.declared.parts.Operand.{Operand}
 use Rattle.gw_blocks.specs.declared.parts.Operand.TheVariants as operands
 use Rattle.gw_code.specs.declared.parts.Sna.{Sna}
 use Rattle.gw_object.specs.declared.parts.Parts.{Parts}
-use Rattle.gw_kinds.specs.Evaluated.{source_of, as_operand}
-use Rattle.gw_code_flow.specs.declared.ends.PlusEnd.{PlusEnd}
-use Rattle.gw_code_flow.specs.Environment.{Environment, kept_value}
-use Rattle.gw_code_flow.specs.Code.{procedure_at}
-use Rattle.gw_code_flow.specs.PlusChecks.{costs_of}
-use Rattle.gw_code_flow.specs.Made.{value_by_operand}
-use Rattle.gw_code_flow.specs.Meaning.{ended_by, opening}
-use Rattle.gw_code_flow.specs.Outcome.{answer_within}
+use Rattle.gw_operands.specs.Sources.{source_of, as_operand}
+use Rattle.gw_operands.specs.declared.ends.PlusEnd.{PlusEnd}
+use Rattle.gw_operands.specs.Environment.{Environment, kept_value}
+use Rattle.gw_operands.specs.Code.{procedure_at, costs_of}
+use Rattle.gw_operands.specs.Results.{value_by_operand}
+use Rattle.gw_operands.specs.Meaning.{ended_by, opening}
+use Rattle.gw_operands.specs.Outcome.{answer_within}
 use Rattle.gw_text_expressions.specs.declared.model.Expression.{Expression, Row_of-Expression, end_of-Expression, more_of-Expression}
 use Rattle.gw_text_expressions.specs.declared.model.Expression.TheVariants.{Whole, Name, Sna as Attribute, Parentheses', Call', Unary', Binary'}
 use Rattle.gw_compile.specs.declared.numbering.Callee.{Callee}

@@ -2,7 +2,7 @@
 
 ghost use Rattle.std.specs.Prelude.{◌≡◌, OnOk, IfOk, slice_get};
 ghost use Rattle.std.specs.Option.{option_copied};
-ghost use Rattle.gw_code_flow.specs.Code as flow;
+ghost use Rattle.gw_operands.specs.Code as flow;
 ghost use Rattle.gw_compile.specs.Needs as model;
 
 use crate::numbering::Numbering;

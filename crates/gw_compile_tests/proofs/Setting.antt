@@ -3,7 +3,7 @@ use Rattle.std.proofs.Common.{◌≡◌, ℕ, ℤ, List, [], ◌∷◌, Option, 
 use Rattle.std.specs.List.{list_all}
 use Rattle.std.proofs.lemmas.Bool.{eqb-true}
 use Rattle.gw_num.specs.Table.{at}
-use Rattle.gw_code_flow.specs.Code.{is_among}
+use Rattle.gw_operands.specs.Code.{is_among}
 use Rattle.gw_compile_tests.specs.Beginning.{is_set, AreSet}
 
 both : (a b : Bool) → (a && b) ≡ true → (a ≡ true) × (b ≡ true)

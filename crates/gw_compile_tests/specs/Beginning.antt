@@ -5,7 +5,7 @@ use Rattle.std.specs.List.{list_all}
 use Rattle.gw_num.specs.Table.{at}
 use Rattle.gw_code.specs.declared.parts.Procedure.{Procedure}
 use Rattle.gw_object.specs.declared.parts.Parts.{Parts}
-use Rattle.gw_code_flow.specs.Code.{procedure_at}
+use Rattle.gw_operands.specs.Code.{procedure_at}
 
 -- whether a parameter is set in the tests
 abbrev pub is_set : ℕ → Bool

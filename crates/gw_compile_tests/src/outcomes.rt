@@ -3,7 +3,7 @@
 ghost use Rattle.std.specs.Prelude.{◌≡◌, IsTrue, IfOk};
 ghost use Rattle.std.specs.List.{list_all};
 ghost use Rattle.std.specs.Option.{option_copied};
-ghost use Rattle.gw_code_flow.specs.Code.{procedure_at};
+ghost use Rattle.gw_operands.specs.Code.{procedure_at};
 ghost use Rattle.gw_plus.specs.Reading.{IsOf};
 ghost use Rattle.gw_transactions.specs.Transactions.{Holds, parameters_at};
 ghost use Rattle.gw_compile_tests.specs.Beginning as model;

@@ -11,7 +11,7 @@ use Rattle.gw_kinds.specs.declared.ways.Who.{Who}
 use Rattle.gw_kinds.specs.declared.ways.Who.TheVariants.{Itself, Copies}
 use Rattle.gw_kinds.specs.declared.ways.Exit.{Exit}
 use Rattle.gw_kinds.specs.Exits.{leads_to, exits, returns_to}
-use Rattle.gw_kinds.specs.Evaluated.{evaluated}
+use Rattle.gw_operands.specs.Sources.{evaluated}
 use Rattle.gw_flow.specs.Codes as codes
 use Rattle.gw_flow.specs.Entries.{lists, with_number, without_number}
 use Rattle.gw_flow.specs.Rows.{Row, ParamKind, Num, Ret, kind_of, is_number, is_return, return_blocks, units_of, with_parameter, with_facility, without_facility, with_units, kind_fits, Fits}

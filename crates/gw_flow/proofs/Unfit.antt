@@ -10,7 +10,7 @@ use Rattle.gw_object.specs.declared.fault.Fault.{Fault}
 use Rattle.gw_blocks.specs.declared.parts.Operand.{Operand}
 use Rattle.gw_object.specs.declared.parts.Parts.{Parts}
 use Rattle.gw_kinds.specs.Checks.{first_broken}
-use Rattle.gw_code_flow.specs.Code.{parameters_asked}
+use Rattle.gw_operands.specs.Code.{parameters_asked}
 use Rattle.gw_flow.specs.Entries.{with_number, in_order}
 use Rattle.gw_flow.specs.Rows.{Row, ParamKind, Num, Ret, kind_of, is_number}
 use Rattle.gw_flow.specs.Blocks.{number_rules, parameters_read}

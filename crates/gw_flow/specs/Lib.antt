@@ -9,4 +9,3 @@ pub mod Flow
 pub mod ViewedTable
 pub mod ReturnEdges
 pub mod Laws
-pub mod Values

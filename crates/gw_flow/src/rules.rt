@@ -2,7 +2,7 @@
 
 ghost use Rattle.std.specs.Prelude.{◌≡◌};
 ghost use Rattle.gw_kinds.specs.Checks.{Finds};
-ghost use Rattle.gw_code_flow.specs.Code.{parameters_asked};
+ghost use Rattle.gw_operands.specs.Code.{parameters_asked};
 ghost use Rattle.gw_flow.specs.Blocks as model;
 ghost use Rattle.gw_flow.specs.Flow.{rule_checks, FindsRule};
 ghost use Rattle.gw_flow.specs.Unfit as unfit;

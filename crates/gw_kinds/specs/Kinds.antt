@@ -32,7 +32,7 @@ use Rattle.gw_kinds.specs.declared.ways.Way.TheVariants.{Falls, Goes}
 use Rattle.gw_kinds.specs.Checks.{Check, check}
 use Rattle.gw_code.specs.declared.parts.Procedure.{Procedure}
 use Rattle.gw_kinds.specs.Codes as codes
-use Rattle.gw_kinds.specs.Evaluated.{kind_at, operand_of, values, procedure_named, is_function_value}
+use Rattle.gw_operands.specs.Sources.{kind_at, operand_of, values, procedure_named, is_function_value}
 use Rattle.gw_kinds.specs.Exits.{leads_to, is_call, ways}
 
 -- whether there is none, or one that passes a test

@@ -1,12 +1,12 @@
 //! The procedures that operands call.
 
 ghost use Rattle.std.specs.Prelude.{◌≡◌};
-ghost use Rattle.gw_kinds.specs.Evaluated as evaluation;
+ghost use Rattle.gw_operands.specs.Sources as evaluation;
 ghost use Rattle.gw_kinds.specs.Kinds as model;
 
-use crate::evaluation::values;
 use gw_blocks::{Block, Operand};
 use gw_code::Procedure;
+use gw_operands::values;
 
 /// The procedure that an operand calls, if it is a call.
 pub(crate) fn procedure_named(operand: &Operand) -> Option<u16>

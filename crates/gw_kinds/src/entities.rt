@@ -4,9 +4,9 @@ ghost use Rattle.std.specs.Prelude.{◌≡◌};
 ghost use Rattle.gw_kinds.specs.Kinds as model;
 ghost use Rattle.gw_kinds.specs.declared.entities.EntityKind.TheVariants as needed;
 
-use crate::evaluation::values;
 use gw_blocks::{Block, Condition, EntityAttribute, Numbered, Operand};
 use gw_object::{Entity, Kind};
+use gw_operands::values;
 
 /// What an entity is needed as: SEIZE and RELEASE need a facility, ENTER and LEAVE a storage, QUEUE and DEPART a queue,
 /// GATE what its condition asks of, LOGIC a logic switch, SAVEVALUE a savevalue, TABULATE a table, and LINK and UNLINK a

@@ -7,7 +7,6 @@ mod checks;
 pub mod codes;
 mod constants;
 mod entities;
-mod evaluation;
 pub mod laws;
 mod operands;
 mod pass;
@@ -19,7 +18,9 @@ mod ways;
 
 pub use checks::check;
 pub use entities::{EntityKind, Named};
-pub use evaluation::{Operands, argument_in, as_operand, evaluated, operand_at, source_of, values};
+pub use gw_operands::{
+    Operands, argument_in, as_operand, evaluated, operand_at, source_of, values,
+};
 pub use pass::check_kinds;
 pub use rows::{chain_place, chain_row};
 pub use ways::{Exit, Way, Who, exits, leads_to, returns_to, takes_time};

@@ -7,10 +7,10 @@ use crate::calls::is_procedure;
 use crate::checks::{NumberedChecks, check, check_each};
 use crate::codes::{BAD_CONSTANT, NO_BLOCK, NO_ENTITY, WRONG_KIND};
 use crate::entities::{Named, entity_of, is_no_other_kind, is_there};
-use crate::evaluation::{argument_in, as_operand, is_drawn};
 use crate::targets::{block_of, is_block};
 use gw_code::{Instruction, Procedure};
 use gw_object::{Entity, Fault, Parts, Place};
+use gw_operands::{argument_in, as_operand, is_drawn};
 
 /// The most times that a jump back may be taken.
 const MOST_TURNS: u32 = 1_000_000;

@@ -12,7 +12,7 @@ use Rattle.gw_blocks.specs.declared.parts.Operand.TheVariants.{Parameter, OfEnti
 use Rattle.gw_object.specs.declared.parts.Parts.{Parts}
 use Rattle.gw_entities.specs.Attributes.{attribute_of}
 use Rattle.gw_entities.specs.Table.{FacilityTable, StorageTable, QueueTable}
-use Rattle.gw_code_flow.specs.Environment.{kept_value, ReadTheSame}
+use Rattle.gw_operands.specs.Environment.{kept_value, ReadTheSame}
 use Rattle.gw_chains.specs.Lists as chain_lists
 use Rattle.gw_transactions.specs.Transactions.{LiveTransaction, here_count}
 use Rattle.gw_plus.specs.declared.env.Env.{Env}

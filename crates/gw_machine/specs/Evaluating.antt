@@ -1,10 +1,10 @@
 -- Evaluating operands: for whom, what may be read of a machine, and what is answered.
 use Rattle.std.specs.Prelude.{◌≡◌, ℕ, ◌≤◌, ◌^◌, ℤ, pos, ◌≤ℤ◌, sum, List, length, Option, Some, None, IfSome, Result, Ok, Err}
 use Rattle.gw_chains.specs.declared.tx.Tx.{Tx}
-use Rattle.gw_code_flow.specs.declared.ends.PlusEnd.{PlusEnd}
-use Rattle.gw_code_flow.specs.Environment.{Environment}
+use Rattle.gw_operands.specs.declared.ends.PlusEnd.{PlusEnd}
+use Rattle.gw_operands.specs.Environment.{Environment}
 use Rattle.gw_step.specs.declared.ends.End.{End}
-use Rattle.gw_flow.specs.Values.{Evaluation, Value, Fails}
+use Rattle.gw_operands.specs.Values.{Evaluation, Value, Fails}
 use Rattle.gw_transactions.specs.declared.Transaction.{Transaction}
 use Rattle.gw_transactions.specs.Parameters.{no_parameters}
 use Rattle.gw_transactions.specs.Transactions.{Holds}

@@ -1,7 +1,7 @@
 //! The named ends that evaluations and arithmetic bring.
 
 ghost use Rattle.std.specs.Prelude.{◌≡◌};
-ghost use Rattle.gw_code_flow.specs.Meaning as code;
+ghost use Rattle.gw_operands.specs.Meaning as code;
 ghost use Rattle.gw_step.specs.Outcome as outcomes;
 
 use gw_num::NumFault;

@@ -2,7 +2,7 @@
 
 ghost use Rattle.std.specs.Prelude.{◌≡◌};
 ghost use Rattle.gw_num.specs.Generator as generator;
-ghost use Rattle.gw_flow.specs.Values as values;
+ghost use Rattle.gw_operands.specs.Values as values;
 ghost use Rattle.gw_step.specs.Operands.{MayDraw};
 ghost use Rattle.gw_step.specs.Times as model;
 ghost use Rattle.gw_machine.specs.Coherence.{IsOf};

@@ -22,9 +22,9 @@ use Rattle.gw_pieces.specs.Numbers.{with_source}
 use Rattle.gw_object.specs.Grammar.{HasSpelling}
 use Rattle.gw_code.specs.declared.parts.Procedure.{Procedure}
 use Rattle.gw_kinds.specs.Pass.{KindsPass}
-use Rattle.gw_code_flow.specs.Code.{procedure_at, arguments_of}
-use Rattle.gw_code_flow.specs.Environment.{Environment}
-use Rattle.gw_code_flow.specs.Outcome.{outcome_of}
+use Rattle.gw_operands.specs.Code.{procedure_at, arguments_of}
+use Rattle.gw_operands.specs.Environment.{Environment}
+use Rattle.gw_operands.specs.Outcome.{outcome_of}
 use Rattle.gw_code_flow.specs.PlusChecks.{PlusPasses}
 use Rattle.gw_code_flow.proofs.Theorems.{code_holds}
 use Rattle.gw_text_expressions.specs.declared.model.Expression.{Expression, Row_of-Expression, end_of-Expression, more_of-Expression}

@@ -10,8 +10,8 @@ use Rattle.gw_code.specs.declared.parts.Instruction.{Instruction}
 use Rattle.gw_code.specs.declared.parts.Instruction.TheVariants.{Call}
 use Rattle.gw_code.specs.declared.parts.Procedure.{Procedure}
 use Rattle.gw_object.specs.declared.parts.Parts.{Parts}
-use Rattle.gw_code_flow.specs.Code.{procedure_at}
-use Rattle.gw_code_flow.specs.Meaning.{Frame, Calls, Stuck, calls, calls_with, given, on, opened}
+use Rattle.gw_operands.specs.Code.{procedure_at}
+use Rattle.gw_operands.specs.Meaning.{Frame, Calls, Stuck, calls, calls_with, given, on, opened}
 use Rattle.gw_plus.specs.declared.activation.Step.TheVariants.{Called}
 use Rattle.gw_plus.specs.Activation.{finish_of, Did}
 

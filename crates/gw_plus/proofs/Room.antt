@@ -14,12 +14,12 @@ use Rattle.gw_code.specs.declared.parts.Instruction.{Instruction}
 use Rattle.gw_code.specs.declared.parts.Instruction.TheVariants.{Push, Get, Set, Value, Binary, Unary, Pop, Jump, JumpIfZero, Back, Call, Return}
 use Rattle.gw_code.specs.declared.parts.Procedure.{Procedure}
 use Rattle.gw_object.specs.declared.parts.Parts.{Parts}
-use Rattle.gw_kinds.specs.Evaluated.{source_of, as_operand}
-use Rattle.gw_code_flow.specs.Environment.{Environment, attribute_value}
-use Rattle.gw_code_flow.specs.Made.{value_by_operand}
-use Rattle.gw_code_flow.specs.Code.{most_values, procedure_at}
-use Rattle.gw_code_flow.specs.declared.ends.PlusEnd.TheVariants.{LoopLimit}
-use Rattle.gw_code_flow.specs.Meaning.{Taken, taken_at, take_once, Frame, Next, Goes, Calls, Returns, Ends, Stuck, on, pushed, given, popped, calculated, calls_with, reads_source, act}
+use Rattle.gw_operands.specs.Sources.{source_of, as_operand}
+use Rattle.gw_operands.specs.Environment.{Environment, attribute_value}
+use Rattle.gw_operands.specs.Results.{value_by_operand}
+use Rattle.gw_operands.specs.Code.{most_values, procedure_at}
+use Rattle.gw_operands.specs.declared.ends.PlusEnd.TheVariants.{LoopLimit}
+use Rattle.gw_operands.specs.Meaning.{Taken, taken_at, take_once, Frame, Next, Goes, Calls, Returns, Ends, Stuck, on, pushed, given, popped, calculated, calls_with, reads_source, act}
 use Rattle.gw_plus.specs.Activation.{is_taken, untaken, CanCount, CanCountEach}
 
 -- AT FIRST

@@ -7,13 +7,13 @@ use Rattle.gw_code.specs.declared.parts.Instruction.TheVariants.{Value}
 use Rattle.gw_code.specs.declared.parts.Procedure.{Procedure}
 use Rattle.gw_object.specs.declared.parts.Parts.{Parts}
 use Rattle.gw_object.specs.Grammar.{HasSpelling}
-use Rattle.gw_kinds.specs.Evaluated.{as_operand}
-use Rattle.gw_code_flow.specs.Code.{procedure_at}
-use Rattle.gw_code_flow.specs.Environment.{Environment}
+use Rattle.gw_operands.specs.Sources.{as_operand}
+use Rattle.gw_operands.specs.Code.{procedure_at}
+use Rattle.gw_operands.specs.Environment.{Environment}
 use Rattle.gw_code_flow.specs.Laws.{MayBegin, CodeHolds}
-use Rattle.gw_code_flow.specs.Made.{value_by_operand}
+use Rattle.gw_operands.specs.Results.{value_by_operand}
 use Rattle.gw_code_flow.specs.PlusChecks.{PlusPasses}
-use Rattle.gw_code_flow.specs.Meaning.{Taken, Frame, Next, Goes, Calls, Returns, Ends, opening}
+use Rattle.gw_operands.specs.Meaning.{Taken, Frame, Next, Goes, Calls, Returns, Ends, opening}
 use Rattle.gw_plus.specs.declared.activation.Turns.{Turns}
 use Rattle.gw_plus.specs.declared.activation.Activation.{Activation}
 use Rattle.gw_plus.specs.declared.activation.Step.{Step}

@@ -10,8 +10,8 @@ use Rattle.gw_blocks.specs.declared.parts.Operand.TheVariants as operands
 use Rattle.gw_code.specs.declared.parts.Procedure.{Procedure}
 use Rattle.gw_object.specs.declared.parts.Parts.{Parts}
 use Rattle.gw_entities.specs.Attributes.{Readings, attribute_of}
-use Rattle.gw_code_flow.specs.Environment.{Environment}
-use Rattle.gw_code_flow.specs.Code.{procedure_at}
+use Rattle.gw_operands.specs.Environment.{Environment}
+use Rattle.gw_operands.specs.Code.{procedure_at}
 use Rattle.gw_code_flow.specs.Laws.{HasSet}
 use Rattle.gw_plus.specs.declared.env.Env.{Env}
 

@@ -6,8 +6,8 @@ ghost use Rattle.gw_code.specs.Limits.{most_instructions, most_locals};
 ghost use Rattle.gw_code.specs.Grammar.{is_back};
 ghost use Rattle.gw_kinds.specs.Laws.{InstructionHolds};
 ghost use Rattle.gw_code_flow.specs.Laws.{CodeHolds};
-ghost use Rattle.gw_code_flow.specs.Meaning as model;
-ghost use Rattle.gw_code_flow.specs.Meaning.{Goes, Calls, Stuck, on, pushed, calculated, taken_at, take_once, opened};
+ghost use Rattle.gw_operands.specs.Meaning as model;
+ghost use Rattle.gw_operands.specs.Meaning.{Goes, Calls, Stuck, on, pushed, calculated, taken_at, take_once, opened};
 ghost use Rattle.gw_plus.specs.Reading.{environment_of, IsOf};
 ghost use Rattle.gw_plus.specs.Activation.{taken_of, frame_of, begun, CanCount, finish_of, Did, DidAlone};
 
@@ -332,7 +332,7 @@ impl Activation {
     }
 
     /// Executes this instruction, which is the one that comes next.
-    #[tactic(auto, unfolding(gw_code_flow::specs::Meaning::act))]
+    #[tactic(auto, unfolding(gw_operands::specs::Meaning::act))]
     pub fn step(&mut self, parts: &Parts, env: &Env, instruction: Instruction) -> Step
         requires code { CodeHolds parts.now }
         requires environment { IsOf parts.now env.now }

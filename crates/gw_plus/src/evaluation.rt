@@ -1,7 +1,7 @@
 //! Evaluation of procedures.
 
 ghost use Rattle.std.specs.Prelude.{◌≡◌, ℕ, []};
-ghost use Rattle.gw_code_flow.specs.Meaning.{Derives, Evaluates};
+ghost use Rattle.gw_operands.specs.Meaning.{Derives, Evaluates};
 ghost use Rattle.gw_plus.specs.Activation.{begun, Begins, HasGoodCode};
 ghost use Rattle.gw_plus.specs.Reading.{environment_of, IsOf, CanEvaluate};
 

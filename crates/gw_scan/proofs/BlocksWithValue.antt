@@ -8,8 +8,8 @@ use Rattle.gw_blocks.specs.declared.parts.Priority.{Priority}
 use Rattle.gw_blocks.specs.declared.parts.Plus.{Plus}
 use Rattle.gw_blocks.specs.declared.parts.Block.TheVariants as blocks
 use Rattle.gw_object.specs.declared.parts.Parts.{Parts}
-use Rattle.gw_kinds.specs.Evaluated.{operand_at}
-use Rattle.gw_flow.specs.Values.{Evaluation, Value, Fails, Unset, ◌>>=◌ as ◌then◌, operand_value, one_operand, drawn_time, single_value}
+use Rattle.gw_operands.specs.Sources.{operand_at}
+use Rattle.gw_operands.specs.Values.{Evaluation, Value, Fails, Unset, ◌>>=◌ as ◌then◌, operand_value, one_operand, drawn_time, single_value}
 use Rattle.gw_transactions.specs.declared.Transaction.{Transaction}
 use Rattle.gw_step.specs.Outcome.{Outcome, Gives, EndsBy, HasNoCase, ◌>>=◌, evaluated}
 use Rattle.gw_step.specs.State.{State, with_streams}

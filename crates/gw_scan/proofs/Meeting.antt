@@ -5,7 +5,7 @@ use Rattle.std.proofs.lemmas.List.Elements.{All-head, All-tail}
 use Rattle.gw_blocks.specs.declared.parts.Operand.{Operand}
 use Rattle.gw_blocks.specs.declared.parts.Spread.{Spread}
 use Rattle.gw_object.specs.declared.parts.Parts.{Parts}
-use Rattle.gw_code_flow.specs.Environment.{Environment}
+use Rattle.gw_operands.specs.Environment.{Environment}
 use Rattle.gw_step.specs.Operands.{MayEvaluate, MayDraw}
 
 module _ (p : Parts) (env : Environment) where

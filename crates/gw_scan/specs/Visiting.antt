@@ -1,7 +1,7 @@
 -- The visit of a machine's active transaction to its next block: what the block may rely on, and what it makes.
 use Rattle.std.specs.Prelude.{◌≡◌, ℕ, ℤ, ◌+◌, ◌≤◌, List, length, Option, Bool, not, ◌&&◌, is_none, if◌then◌else◌, Result}
 use Rattle.gw_blocks.specs.declared.parts.Block.{Block}
-use Rattle.gw_code_flow.specs.Environment.{Environment}
+use Rattle.gw_operands.specs.Environment.{Environment}
 use Rattle.gw_machine.specs.Coherence.{IsActive, IsOf, IsPassing, IsRunning}
 use Rattle.gw_machine.specs.Configuration.{Configuration}
 use Rattle.gw_machine.specs.Slots.{greatest_set, set_by}

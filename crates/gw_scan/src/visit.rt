@@ -1,7 +1,7 @@
 //! The visit of the active transaction to its next block: values of operands, and the way on.
 
 ghost use Rattle.std.specs.Prelude.{◌≡◌, ◌≤◌, ◌<◌, length};
-ghost use Rattle.gw_flow.specs.Values as values;
+ghost use Rattle.gw_operands.specs.Values as values;
 ghost use Rattle.gw_step.specs.Blocks as model;
 ghost use Rattle.gw_step.specs.Operands.{MayEvaluate};
 ghost use Rattle.gw_step.specs.Placing.{placed};

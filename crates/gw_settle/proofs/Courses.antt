@@ -14,7 +14,7 @@ use Rattle.gw_kinds.specs.declared.ways.Who.{Who}
 use Rattle.gw_kinds.specs.declared.ways.Who.TheVariants.{Itself, Copies}
 use Rattle.gw_kinds.specs.declared.ways.Exit.{Exit}
 use Rattle.gw_kinds.specs.Exits.{leads_to, exits_with}
-use Rattle.gw_kinds.specs.Evaluated.{evaluated}
+use Rattle.gw_operands.specs.Sources.{evaluated}
 use Rattle.gw_kinds.specs.Kinds.{is_generate}
 use Rattle.gw_flow.specs.declared.abstract_state.Parameter.{Parameter}
 use Rattle.gw_flow.specs.declared.edges.Target.{Target}

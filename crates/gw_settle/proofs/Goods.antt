@@ -13,7 +13,7 @@ use Rattle.gw_kinds.specs.declared.entities.EntityKind.TheVariants.{Facility, St
 use Rattle.gw_kinds.specs.declared.ways.Exit.{Exit}
 use Rattle.gw_kinds.specs.declared.ways.Who.{Who}
 use Rattle.gw_kinds.specs.declared.ways.Who.TheVariants.{Itself, Copies}
-use Rattle.gw_kinds.specs.Evaluated.{kind_at, values}
+use Rattle.gw_operands.specs.Sources.{kind_at, values}
 use Rattle.gw_kinds.specs.Exits.{leads_to, is_call, exits_with}
 use Rattle.gw_kinds.specs.Kinds.{block_at, is_call_at, needs, serves_as, entity_of, named_entities, has_good_constants}
 use Rattle.gw_kinds.specs.Laws.{IsEntity}

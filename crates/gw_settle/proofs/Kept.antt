@@ -18,7 +18,7 @@ use Rattle.gw_object.specs.Entities.{chains_in, is_chain}
 use Rattle.gw_kinds.specs.declared.entities.EntityKind.TheVariants.{Chain, Facility, StorageOrQueue}
 use Rattle.gw_kinds.specs.declared.ways.Way.{Way}
 use Rattle.gw_kinds.specs.declared.ways.Exit.{Exit}
-use Rattle.gw_kinds.specs.Evaluated.{values}
+use Rattle.gw_operands.specs.Sources.{values}
 use Rattle.gw_kinds.specs.Exits.{leads_to, exits, is_call, other_way}
 use Rattle.gw_kinds.specs.Kinds.{block_at, chain_place, is_generate, is_call_at, needs, serves_as, entity_of}
 use Rattle.gw_kinds.specs.Laws.{IsEntity, MayBeEntered, BlockHolds}

@@ -20,7 +20,7 @@ use Rattle.gw_object.specs.Entities.{is_chain}
 use Rattle.gw_kinds.specs.declared.entities.Named.{Named}
 use Rattle.gw_kinds.specs.declared.entities.EntityKind.TheVariants.{Facility, StorageOrQueue}
 use Rattle.gw_kinds.specs.Checks.{Check, first_broken, numbered}
-use Rattle.gw_kinds.specs.Evaluated.{kind_at}
+use Rattle.gw_operands.specs.Sources.{kind_at}
 use Rattle.gw_kinds.specs.Kinds.{needs, serves_as, is_there, is_no_other_kind, names_no_other_kind, are_there, entities_of_row, return_row_of, has_return_rows, is_call_at, names_calls, chain_row, return_checks, row_checks, chain_checks, entity_checks, block_checks}
 use Rattle.gw_kinds.specs.Laws.{IsEntity}
 use Rattle.gw_kinds.specs.Procedures.{procedure_checks}

@@ -12,7 +12,7 @@ use Rattle.gw_kinds.specs.Kinds.{block_at, is_generate}
 use Rattle.gw_flow.specs.Codes as codes
 use Rattle.gw_flow.specs.Rows.{Row, is_empty}
 use Rattle.gw_flow.specs.Blocks.{capacity_at}
-use Rattle.gw_code_flow.specs.Environment.{Environment}
+use Rattle.gw_operands.specs.Environment.{Environment}
 use Rattle.gw_flow.specs.Flow.{own_table, own_row}
 use Rattle.gw_flow.specs.Laws.{FlowHolds}
 use Rattle.gw_num.specs.Table.{at}

@@ -5,11 +5,11 @@ use Rattle.gw_blocks.specs.declared.parts.Generate.{Generate}
 use Rattle.gw_blocks.specs.declared.parts.Block.{Block}
 use Rattle.gw_blocks.specs.declared.parts.Block.TheVariants as blocks
 use Rattle.gw_object.specs.declared.parts.Parts.{Parts}
-use Rattle.gw_kinds.specs.Evaluated.{evaluated}
+use Rattle.gw_operands.specs.Sources.{evaluated}
 use Rattle.gw_kinds.specs.Kinds.{block_at, is_generate}
 use Rattle.gw_kinds.specs.Laws.{EntityHolds, BlockHolds}
 use Rattle.gw_kinds.proofs.Sources.{evaluated_holds}
-use Rattle.gw_code_flow.specs.Environment.{Environment}
+use Rattle.gw_operands.specs.Environment.{Environment}
 use Rattle.gw_flow.specs.Codes as codes
 use Rattle.gw_flow.specs.Rows.{ParamKind, Num, Row, kind_of, is_empty}
 use Rattle.gw_flow.specs.Flow.{own_table, own_row}

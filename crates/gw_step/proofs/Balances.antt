@@ -5,7 +5,7 @@ use Rattle.std.specs.Option.{option_map_or}
 use Rattle.gw_object.specs.declared.parts.Kind.{Kind}
 use Rattle.gw_object.specs.declared.parts.Kind.TheVariants as kinds
 use Rattle.gw_object.specs.declared.parts.Parts.{Parts}
-use Rattle.gw_kinds.specs.Evaluated.{kind_at}
+use Rattle.gw_operands.specs.Sources.{kind_at}
 use Rattle.gw_flow.specs.Entries.{lists, amount_of}
 use Rattle.gw_flow.specs.Rows.{Row, owns, units_of, is_empty, with_facility, without_facility, with_units, Fits}
 use Rattle.gw_flow.proofs.Entries.{amount-with_entry}

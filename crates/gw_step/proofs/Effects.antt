@@ -27,13 +27,13 @@ use Rattle.gw_kinds.specs.declared.entities.EntityKind.TheVariants as needed
 use Rattle.gw_kinds.specs.declared.ways.Way.TheVariants.{Falls, Goes}
 use Rattle.gw_kinds.specs.declared.ways.Exit.{Exit}
 use Rattle.gw_kinds.specs.Exits.{takes_time, leads_to, at_once, goes_or_falls, falls_or_goes, exits, returns_to, exits_with}
-use Rattle.gw_kinds.specs.Evaluated.{kind_at}
+use Rattle.gw_operands.specs.Sources.{kind_at}
 use Rattle.gw_kinds.specs.Kinds.{block_at, needs}
 use Rattle.gw_kinds.specs.Laws.{MayBeEntered, ReturnsHold, BlockHolds}
 use Rattle.gw_flow.specs.Codes as codes
 use Rattle.gw_flow.specs.Entries.{lists}
 use Rattle.gw_flow.specs.Rows.{ParamKind, Num, Ret, Row, kind_of, return_blocks, owns, units_of, with_parameter, with_facility, without_facility, with_units}
-use Rattle.gw_flow.specs.Values.{answered}
+use Rattle.gw_operands.specs.Values.{answered}
 use Rattle.gw_flow.proofs.Parameters.{loop_is_number, return_is, kind_of_set, kind_of_other}
 use Rattle.gw_num.specs.Arithmetic.{fits_i64, difference_of}
 use Rattle.gw_flow.specs.Blocks.{capacity_at, move, edges, edges_from, chain_edges, edges_along, returns_read, after}

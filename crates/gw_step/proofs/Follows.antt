@@ -12,7 +12,7 @@ use Rattle.gw_num.specs.declared.arithmetic.NumFault.TheVariants as faults
 use Rattle.gw_num.specs.Arithmetic.{fits_i64, sum_of}
 use Rattle.gw_num.specs.Table.{at, put}
 use Rattle.gw_num.proofs.Tables.{at-map, by_entry, length-put}
-use Rattle.gw_flow.specs.Values.{answered}
+use Rattle.gw_operands.specs.Values.{answered}
 use Rattle.gw_transactions.specs.declared.Transaction.{Transaction}
 use Rattle.gw_entities.specs.declared.facilities.Facility.{Facility}
 use Rattle.gw_entities.specs.declared.storages.Storage.{Storage}

@@ -1,6 +1,6 @@
 -- A job's state through its start and through a step.
 use Rattle.gw_kinds.specs.Kinds.{block_at, is_none_or, has_good_constants}
-use Rattle.gw_code_flow.specs.Environment.{Environment}
+use Rattle.gw_operands.specs.Environment.{Environment}
 use Rattle.gw_transactions.specs.Transactions.{LiveTransaction, live_count}
 use Rattle.std.proofs.Common.{false, ◌≡◌, ℕ, zero, suc, ◌+◌, ◌≤◌, ℤ, pos, ◌≤ℤ◌, List, [], ◌∷◌, map, length, replicate, Option, Some, None, IfSome, refl, sym, ap, ◌∙◌, subst, arith, ◌<◌}
 use Rattle.std.specs.Prelude.{sum, int_le, nat_lt, IfSome, IsTrue}

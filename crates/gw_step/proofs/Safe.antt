@@ -22,7 +22,7 @@ use Rattle.gw_step.specs.Numbers.{made_in}
 use Rattle.gw_step.specs.declared.ends.End.TheVariants.{Budget}
 use Rattle.gw_step.specs.Outcome.{Outcome, Gives, EndsBy, HasNoCase, evaluated}
 use Rattle.gw_step.specs.State.{FutureEvent, State, with_streams}
-use Rattle.gw_flow.specs.Values.{operands}
+use Rattle.gw_operands.specs.Values.{operands}
 use Rattle.gw_step.specs.Times.{environment_of}
 use Rattle.gw_step.specs.Changes.{woken, clock_moves}
 use Rattle.gw_step.specs.Blocks.{the_value, link, effect, meets, act}

@@ -6,7 +6,7 @@ use Rattle.gw_blocks.specs.declared.parts.Operand.{Operand}
 use Rattle.gw_blocks.specs.declared.parts.Block.TheVariants as blocks
 use Rattle.gw_blocks.specs.Grammar.{OperandFits}
 use Rattle.gw_object.specs.declared.parts.Parts.{Parts}
-use Rattle.gw_code_flow.specs.Environment.{Environment}
+use Rattle.gw_operands.specs.Environment.{Environment}
 use Rattle.gw_step.specs.Operands.{MayEvaluate}
 use Rattle.gw_step.specs.Safety.{ParametersSuffice, IntervalsAskForNothing}
 use Rattle.gw_step.proofs.Operands.{block_spelled, evaluated_spelled}

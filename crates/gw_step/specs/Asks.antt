@@ -5,7 +5,7 @@ use Rattle.gw_blocks.specs.declared.parts.Block.{Block}
 use Rattle.gw_blocks.specs.declared.parts.Block.TheVariants as blocks
 use Rattle.gw_object.specs.declared.parts.Parts.{Parts}
 use Rattle.gw_kinds.specs.Exits.{leads_to, ways}
-use Rattle.gw_kinds.specs.Evaluated.{operand_at}
+use Rattle.gw_operands.specs.Sources.{operand_at}
 use Rattle.gw_kinds.specs.Kinds.{block_at}
 use Rattle.gw_entities.specs.Facility.{is_owned_by, owns_any}
 use Rattle.gw_transactions.specs.declared.Transaction.{Transaction}

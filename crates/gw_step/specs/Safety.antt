@@ -5,7 +5,7 @@ use Rattle.gw_blocks.specs.declared.parts.Block.TheVariants as blocks
 use Rattle.gw_object.specs.declared.parts.Parts.{Parts}
 use Rattle.gw_object.specs.Grammar.{HasSpelling}
 use Rattle.gw_kinds.specs.Kinds.{block_at}
-use Rattle.gw_code_flow.specs.Environment.{Environment}
+use Rattle.gw_operands.specs.Environment.{Environment}
 use Rattle.gw_step.specs.Operands.{MayDraw, MayStep}
 use Rattle.gw_step.specs.Asks.{IsServed}
 use Rattle.gw_verify.specs.Checks.{Checked}

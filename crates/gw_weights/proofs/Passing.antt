@@ -19,7 +19,7 @@ use Rattle.gw_object.specs.Grammar.{HasSpelling}
 use Rattle.gw_kinds.specs.declared.ways.Exit.{Exit}
 use Rattle.gw_kinds.specs.Checks.{Check}
 use Rattle.gw_kinds.specs.Exits.{exits_with}
-use Rattle.gw_kinds.specs.Evaluated.{kind_at}
+use Rattle.gw_operands.specs.Sources.{kind_at}
 use Rattle.gw_kinds.specs.Kinds.{block_at, chain_place}
 use Rattle.gw_kinds.proofs.Each.{Hold, first_and_others, first_with_others, parts_hold, hold_together}
 use Rattle.gw_flow.specs.Rows.{Row}

@@ -6,7 +6,7 @@ use Rattle.gw_blocks.specs.declared.parts.Block.TheVariants as blocks
 use Rattle.gw_object.specs.declared.parts.Parts.{Parts}
 use Rattle.gw_object.specs.Grammar.{HasSpelling}
 use Rattle.gw_object.specs.declared.parts.Kind.TheVariants.{Chain}
-use Rattle.gw_kinds.specs.Evaluated.{kind_at}
+use Rattle.gw_operands.specs.Sources.{kind_at}
 use Rattle.gw_kinds.specs.Exits.{exits_with}
 use Rattle.gw_kinds.specs.Kinds.{block_at}
 use Rattle.gw_kinds.specs.declared.ways.Exit.{Exit}

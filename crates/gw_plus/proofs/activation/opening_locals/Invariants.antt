@@ -1,5 +1,5 @@
 use Rattle.std.proofs.Common.{◌≡◌, take}
-use Rattle.gw_code_flow.specs.Meaning.{opened}
+use Rattle.gw_operands.specs.Meaning.{opened}
 use Rattle.gw_plus.proofs.activation.opening_locals.Given as goal
 
 abbrev pub invariant-loop-i : goal.invariant-loop-i

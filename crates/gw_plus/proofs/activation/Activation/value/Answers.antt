@@ -3,10 +3,10 @@ use Rattle.std.proofs.lemmas.Int.{to_z-of_z}
 use mir.Val.{SFits}
 use Rattle.gw_blocks.specs.declared.parts.Operand.{Operand}
 use Rattle.gw_code.specs.declared.parts.Instruction.TheVariants.{Value}
-use Rattle.gw_kinds.specs.Evaluated.{source_of, as_operand}
-use Rattle.gw_code_flow.specs.Environment.{kept_value}
-use Rattle.gw_code_flow.specs.Made.{value_by_operand}
-use Rattle.gw_code_flow.specs.Meaning.{on, pushed}
+use Rattle.gw_operands.specs.Sources.{source_of, as_operand}
+use Rattle.gw_operands.specs.Environment.{kept_value}
+use Rattle.gw_operands.specs.Results.{value_by_operand}
+use Rattle.gw_operands.specs.Meaning.{on, pushed}
 use Rattle.gw_code_flow.proofs.Reading.{source_is_good}
 use Rattle.gw_plus.specs.Activation.{frame_of, Did}
 use Rattle.gw_plus.specs.Reading.{environment_of, MayReadKept}

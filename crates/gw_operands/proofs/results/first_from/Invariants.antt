@@ -1,7 +1,7 @@
 use Rattle.std.proofs.Common.{◌≡◌, int_le, drop}
 use Rattle.std.specs.List.{find}
 use Rattle.gw_object.specs.declared.parts.Point.{Point}
-use Rattle.gw_code_flow.proofs.sources.first_from.Given as goal
+use Rattle.gw_operands.proofs.results.first_from.Given as goal
 
 -- the first of the points that are left is that of all
 abbrev pub invariant-loop-point : goal.invariant-loop-point

@@ -1,7 +1,7 @@
 -- Parameters that have to be set, as code keeps them.
 use Rattle.std.specs.Prelude.{ℕ, List, [], ◌∷◌}
-use Rattle.gw_code_flow.specs.declared.parameters.Parameters.{Parameters}
-use Rattle.gw_code_flow.specs.declared.parameters.Parameters.TheVariants.{One, These}
+use Rattle.gw_operands.specs.declared.asking.Parameters.{Parameters}
+use Rattle.gw_operands.specs.declared.asking.Parameters.TheVariants.{One, These}
 
 -- their numbers
 abbrev pub numbers_of : Parameters → List ℕ

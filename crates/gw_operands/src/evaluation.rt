@@ -1,7 +1,7 @@
 //! What is evaluated: for a block, for an entity and for an operand.
 
 ghost use Rattle.std.specs.Prelude.{◌≡◌, [], ◌∷◌, option_to_list};
-ghost use Rattle.gw_kinds.specs.Evaluated as model;
+ghost use Rattle.gw_operands.specs.Sources as model;
 
 use gw_blocks::{Block, EntityAttribute, Operand, Spread};
 use gw_code::Sna;
@@ -76,8 +76,9 @@ impl Operands {
     }
 }
 
-/// The operand that is evaluated for an entity of this kind, if one is.
-pub(crate) fn operand_of(kind: &Kind) -> Option<Operand>
+/// The operand that is evaluated for an entity of this kind, if one is: the argument of a TABLE or a FUNCTION, a call of the
+/// procedure of a VARIABLE or a BVARIABLE.
+pub fn operand_of(kind: &Kind) -> Option<Operand>
     ensures { result ≡ model.operand_of kind.now }
 {
     match kind {
@@ -198,8 +199,8 @@ pub fn as_operand(sna: Sna) -> Operand
     }
 }
 
-/// Whether an operand is drawn.
-pub(crate) fn is_drawn(operand: Operand) -> bool
+/// Whether an operand is drawn: an RN (GPSS World Reference Manual, chapter 3).
+pub fn is_drawn(operand: Operand) -> bool
     ensures { result ≡ model.is_drawn operand }
 {
     matches!(operand, Operand::Random(_))

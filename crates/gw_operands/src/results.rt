@@ -3,11 +3,11 @@
 ghost use Rattle.std.specs.Prelude.{◌≡◌, int_le};
 ghost use Rattle.std.specs.List.{find};
 ghost use Rattle.std.specs.Option.{option_copied};
-ghost use Rattle.gw_kinds.specs.Evaluated.{kind_at};
-ghost use Rattle.gw_code_flow.specs.Made as model;
+ghost use Rattle.gw_operands.specs.Sources.{kind_at};
+ghost use Rattle.gw_operands.specs.Results as model;
 
+use crate::evaluation::argument_in;
 use gw_blocks::{EntityAttribute, Operand};
-use gw_kinds::argument_in;
 use gw_num::truth_value;
 use gw_object::{Entity, Kind, Point};
 
@@ -98,7 +98,7 @@ fn function_made(entities: &[Entity], operand: Operand, value: i64) -> i64
     }
 }
 
-/// What an operand makes of the value of its source (`gw_kinds::source_of`): a V is the value of its procedure, a BV is 1
+/// What an operand makes of the value of its source (`source_of`): a V is the value of its procedure, a BV is 1
 /// where that isn't 0, else 0 (docs/plus-code.md), and an FN is the value that its function has at the value of its
 /// argument (GPSS World Reference Manual, "FUNCTION": a discrete one, so that of the first point which it isn't above,
 /// else that of the last). Any other operand is its own source, and leaves the value as it is.
