@@ -1,21 +1,14 @@
 -- The grammar of blocks is exact: each of its fields, and blocks.
-use Rattle.std.proofs.Common.{◌≡◌, ℕ, [], ◌∷◌, get_or, refl, arith}
+use Rattle.std.proofs.Common.{◌≡◌, ℕ, [], ◌∷◌, get_or, refl, arith, rules}
 use Rattle.std.specs.Int.{w16, w32, w64}
 use Rattle.gw_blocks.specs.Limits.{most_parameters, most_streams}
-use Rattle.gw_blocks.specs.declared.parts.Attribute.TheVariants.{Clock, AbsoluteClock, Priority, TransitTime, TransactionNumber, TerminationCount}
-use Rattle.gw_blocks.specs.declared.parts.EntityAttribute.TheVariants.{FacilityOwned, StorageContent, StorageRemaining, QueueContent, SavevalueValue, SwitchSetting, ChainMembers, VariableValue, BooleanValue, FunctionValue, BlockEntries, BlockCount}
 use Rattle.gw_blocks.specs.declared.parts.Operand.{Operand}
 use Rattle.gw_blocks.specs.declared.parts.Operand.TheVariants.{Constant, Parameter, Attribute, OfEntity, Random, Procedure}
-use Rattle.gw_blocks.specs.declared.parts.Mode.TheVariants.{Set, Add, Subtract}
-use Rattle.gw_blocks.specs.declared.parts.Comparison.TheVariants.{Equal, NotEqual, Greater, GreaterOrEqual, Less, LessOrEqual}
-use Rattle.gw_blocks.specs.declared.parts.Condition.TheVariants.{SwitchSet, SwitchReset, FacilityInUse, FacilityNotInUse, StorageFull, StorageEmpty, StorageNotFull, StorageNotEmpty}
-use Rattle.gw_blocks.specs.declared.parts.LinkOrder.TheVariants.{Fifo, Lifo}
-use Rattle.gw_blocks.specs.declared.parts.SwitchAction.TheVariants.{Set as SetSwitch, Reset as ResetSwitch, Invert as InvertSwitch}
 use Rattle.gw_blocks.specs.declared.parts.Block.{Block}
 use Rattle.gw_blocks.specs.declared.parts.Block.TheVariants as blocks
 use Rattle.gw_fields.specs.Fields.{Field, behind, byte, signed, nothing, optional}
 use Rattle.gw_blocks.specs.Grammar.{parameter_number, stream_number, attribute_byte, attributes, attribute, entity_attribute_byte, entity_attributes, NumberedFits, numbered, OperandFits, operand_spelling, operand_forms, operand_read, operand, mode_byte, modes, mode, AssignFits, assign, comparison_byte, comparisons, TestFits, test_operands, condition_byte, conditions, GateFits, gate, CallFits, call, LoopFits, countdown, SplitFits, split, set_size, order_byte, orders, LinkFits, link, UnlinkFits, unlink, action_byte, actions, LogicFits, logic, SaveFits, save, PriorityFits, priority, PlusFits, plus, SpreadFits, spread, GenerateFits, generate, entity_number, procedure_number, UnitsFit, units, block_number, FractionFits, fraction, BlockFits, block_spelling, tag_form, block_forms, block_read, block}
-use Rattle.gw_fields.proofs.OneOf.{AreFound, one_of_exact, flag_exact}
+use Rattle.gw_fields.proofs.OneOf.{one_of_exact, flag_exact}
 use Rattle.gw_fields.proofs.Exact.{ReadsBack, ◌also◌, tag_reads_back, IsExactForm, AreExactForms, behind_exact, by_tag_exact, IsExact, byte_exact, wide16, wide32, wide64, number_exact, signed_exact, made_exact, both_exact, fitting_exact, ranged_exact, nothing_exact, optional_exact}
 
 -- ---- numbers
@@ -34,38 +27,14 @@ parameter_number_exact = ranged_exact 1 most_parameters byte (λ n h. omega arit
 stream_number_exact : IsExact stream_number
 stream_number_exact = ranged_exact 1 most_streams byte (λ n h. omega arith) byte_exact
 
-attributes_are_found : AreFound attribute_byte attributes
-attributes_are_found Clock = refl
-attributes_are_found AbsoluteClock = refl
-attributes_are_found Priority = refl
-attributes_are_found TransitTime = refl
-attributes_are_found TransactionNumber = refl
-attributes_are_found TerminationCount = refl
-
 pub attribute_exact : IsExact attribute
-attribute_exact = one_of_exact attribute_byte attributes attributes_are_found
-
-entity_attributes_are_found : AreFound entity_attribute_byte entity_attributes
-entity_attributes_are_found FacilityOwned = refl
-entity_attributes_are_found StorageContent = refl
-entity_attributes_are_found StorageRemaining = refl
-entity_attributes_are_found QueueContent = refl
-entity_attributes_are_found SavevalueValue = refl
-entity_attributes_are_found SwitchSetting = refl
-entity_attributes_are_found ChainMembers = refl
-entity_attributes_are_found VariableValue = refl
-entity_attributes_are_found BooleanValue = refl
-entity_attributes_are_found FunctionValue = refl
-entity_attributes_are_found BlockEntries = refl
-entity_attributes_are_found BlockCount = refl
+attribute_exact = one_of_exact attribute_byte attributes (λ x. search rules)
 
 pub numbered_exact : IsExact numbered
-unfolding numbered
 numbered_exact = fitting_exact NumberedFits _ (λ n h. h.1) (λ n h. (tt, h))
-    (made_exact _ _ _ (λ x h. refl) (λ n h. refl) (both_exact _ _ (one_of_exact entity_attribute_byte entity_attributes entity_attributes_are_found) (number_exact w16 wide16)))
+    (made_exact _ _ _ (λ x h. refl) (λ n h. refl) (both_exact _ _ (one_of_exact entity_attribute_byte entity_attributes (λ x. search rules)) (number_exact w16 wide16)))
 
 operand_forms_exact : AreExactForms operand_spelling OperandFits operand_forms
-unfolding numbered
 operand_forms_exact =
     behind_exact operand_spelling OperandFits 0 (λ n. Constant n) (signed w64) (λ n. refl) (λ n h. h) (signed_exact w64 wide64)
     also behind_exact operand_spelling OperandFits 1 (λ p. Parameter p) parameter_number (λ p. refl) (λ p h. h) parameter_number_exact
@@ -76,7 +45,7 @@ operand_forms_exact =
     also tt
 
 operand_reads_back : (x : Operand) → OperandFits x → ReadsBack operand_read (operand_spelling x) x
-unfolding operand_read numbered
+unfolding operand_read
 operand_reads_back (Constant n) fits = tag_reads_back operand_forms 0 (λ n. Constant n) (signed w64) (λ _ _. refl) (signed_exact w64 wide64) n fits
 operand_reads_back (Parameter p) fits = tag_reads_back operand_forms 1 (λ p. Parameter p) parameter_number (λ _ _. refl) parameter_number_exact p fits
 operand_reads_back (Attribute a) fits = tag_reads_back operand_forms 2 (λ a. Attribute a) attribute (λ _ _. refl) attribute_exact a tt
@@ -89,14 +58,12 @@ unfolding operand_read
 operand_exact = by_tag_exact operand_spelling OperandFits operand_forms operand_forms_exact operand_reads_back
 
 pub spread_exact : IsExact spread
-unfolding spread
 spread_exact = fitting_exact SpreadFits _ (λ s h. record { mean = h.0; half = h.1 }) (λ s h. (h.mean, h.half))
     (made_exact _ _ _ (λ x h. refl) (λ s h. refl) (both_exact _ _ operand_exact operand_exact))
 
 -- ---- blocks
 
 pub generate_exact : IsExact generate
-unfolding generate spread
 generate_exact = fitting_exact GenerateFits _
     (λ g h. record { interval = h.0; first = h.1.0; limit = h.1.1.0; priority = h.1.1.1 })
     (λ g h. (h.interval, (h.first, (h.limit, h.priority))))
@@ -104,7 +71,6 @@ generate_exact = fitting_exact GenerateFits _
     (both_exact _ _ spread_exact (both_exact _ _ (optional_exact _ (signed_exact w64 wide64)) (both_exact _ _ (optional_exact _ (number_exact w32 wide32)) (signed_exact w32 wide32)))))
 
 pub units_exact : IsExact units
-unfolding units
 units_exact = fitting_exact UnitsFit _ (λ u h. record { entity = h.0; number = h.1 }) (λ u h. (h.entity, h.number))
     (made_exact _ _ _ (λ x h. refl) (λ u h. refl) (both_exact _ _ entity_number_exact (number_exact w32 wide32)))
 
@@ -112,106 +78,62 @@ pub block_number_exact : IsExact block_number
 block_number_exact = number_exact w16 wide16
 
 pub fraction_exact : IsExact fraction
-unfolding fraction
 fraction_exact = fitting_exact FractionFits _
     (λ f h. record { thousandths = h.0; otherwise = h.1.0; target = h.1.1 })
     (λ f h. (h.thousandths, (h.otherwise, h.target)))
     (made_exact _ _ _ (λ x h. refl) (λ f h. refl) (both_exact _ _ (number_exact w16 wide16) (both_exact _ _ (optional_exact _ block_number_exact) block_number_exact)))
 
-modes_are_found : AreFound mode_byte modes
-modes_are_found Set = refl
-modes_are_found Add = refl
-modes_are_found Subtract = refl
-
 mode_exact : IsExact mode
-mode_exact = one_of_exact mode_byte modes modes_are_found
+mode_exact = one_of_exact mode_byte modes (λ x. search rules)
 
 pub assign_exact : IsExact assign
-unfolding assign
 assign_exact = fitting_exact AssignFits _ (λ a h. record { parameter = h.0; value = h.1.1 }) (λ a h. (h.parameter, (tt, h.value)))
     (made_exact _ _ _ (λ x h. refl) (λ a h. refl) (both_exact _ _ parameter_number_exact (both_exact _ _ mode_exact operand_exact)))
-
-comparisons_are_found : AreFound comparison_byte comparisons
-comparisons_are_found Equal = refl
-comparisons_are_found NotEqual = refl
-comparisons_are_found Greater = refl
-comparisons_are_found GreaterOrEqual = refl
-comparisons_are_found Less = refl
-comparisons_are_found LessOrEqual = refl
 
 otherwise_exact : IsExact (optional block_number)
 otherwise_exact = optional_exact block_number block_number_exact
 
 pub test_exact : IsExact test_operands
-unfolding test_operands
 test_exact = fitting_exact TestFits _ (λ t h. record { left = h.1.0; right = h.1.1.0; otherwise = h.1.1.1 }) (λ t h. (tt, (h.left, (h.right, h.otherwise))))
     (made_exact _ _ _ (λ x h. refl) (λ t h. refl)
-    (both_exact _ _ (one_of_exact comparison_byte comparisons comparisons_are_found) (both_exact _ _ operand_exact (both_exact _ _ operand_exact otherwise_exact))))
-
-conditions_are_found : AreFound condition_byte conditions
-conditions_are_found SwitchSet = refl
-conditions_are_found SwitchReset = refl
-conditions_are_found FacilityInUse = refl
-conditions_are_found FacilityNotInUse = refl
-conditions_are_found StorageFull = refl
-conditions_are_found StorageEmpty = refl
-conditions_are_found StorageNotFull = refl
-conditions_are_found StorageNotEmpty = refl
+    (both_exact _ _ (one_of_exact comparison_byte comparisons (λ x. search rules)) (both_exact _ _ operand_exact (both_exact _ _ operand_exact otherwise_exact))))
 
 pub gate_exact : IsExact gate
-unfolding gate
 gate_exact = fitting_exact GateFits _ (λ g h. record { entity = h.1.0; otherwise = h.1.1 }) (λ g h. (tt, (h.entity, h.otherwise)))
-    (made_exact _ _ _ (λ x h. refl) (λ g h. refl) (both_exact _ _ (one_of_exact condition_byte conditions conditions_are_found) (both_exact _ _ entity_number_exact otherwise_exact)))
+    (made_exact _ _ _ (λ x h. refl) (λ g h. refl) (both_exact _ _ (one_of_exact condition_byte conditions (λ x. search rules)) (both_exact _ _ entity_number_exact otherwise_exact)))
 
 pub call_exact : IsExact call
-unfolding call
 call_exact = fitting_exact CallFits _ (λ c h. record { target = h.0; parameter = h.1 }) (λ c h. (h.target, h.parameter))
     (made_exact _ _ _ (λ x h. refl) (λ c h. refl) (both_exact _ _ block_number_exact parameter_number_exact))
 
 pub countdown_exact : IsExact countdown
-unfolding countdown
 countdown_exact = fitting_exact LoopFits _ (λ l h. record { parameter = h.0; target = h.1 }) (λ l h. (h.parameter, h.target))
     (made_exact _ _ _ (λ x h. refl) (λ l h. refl) (both_exact _ _ parameter_number_exact block_number_exact))
 
 pub split_exact : IsExact split
-unfolding split
 split_exact = fitting_exact SplitFits _ (λ s h. record { copies = h.0; target = h.1 }) (λ s h. (h.copies, h.target))
     (made_exact _ _ _ (λ x h. refl) (λ s h. refl) (both_exact _ _ (number_exact w16 wide16) otherwise_exact))
 
 set_size_exact : IsExact set_size
 set_size_exact = number_exact w16 wide16
 
-orders_are_found : AreFound order_byte orders
-orders_are_found Fifo = refl
-orders_are_found Lifo = refl
-
 pub link_exact : IsExact link
-unfolding link
 link_exact = fitting_exact LinkFits _ (λ l h. h.0) (λ l h. (h, tt))
-    (made_exact _ _ _ (λ x h. refl) (λ l h. refl) (both_exact _ _ entity_number_exact (one_of_exact order_byte orders orders_are_found)))
+    (made_exact _ _ _ (λ x h. refl) (λ l h. refl) (both_exact _ _ entity_number_exact (one_of_exact order_byte orders (λ x. search rules))))
 
 pub unlink_exact : IsExact unlink
-unfolding unlink
 unlink_exact = fitting_exact UnlinkFits _ (λ u h. record { chain = h.0; target = h.1.0; most = h.1.1 }) (λ u h. (h.chain, (h.target, h.most)))
     (made_exact _ _ _ (λ x h. refl) (λ u h. refl) (both_exact _ _ entity_number_exact (both_exact _ _ block_number_exact (optional_exact _ (number_exact w32 wide32)))))
 
-actions_are_found : AreFound action_byte actions
-actions_are_found SetSwitch = refl
-actions_are_found ResetSwitch = refl
-actions_are_found InvertSwitch = refl
-
 pub logic_exact : IsExact logic
-unfolding logic
 logic_exact = fitting_exact LogicFits _ (λ l h. h.1) (λ l h. (tt, h))
-    (made_exact _ _ _ (λ x h. refl) (λ l h. refl) (both_exact _ _ (one_of_exact action_byte actions actions_are_found) entity_number_exact))
+    (made_exact _ _ _ (λ x h. refl) (λ l h. refl) (both_exact _ _ (one_of_exact action_byte actions (λ x. search rules)) entity_number_exact))
 
 pub save_exact : IsExact save
-unfolding save
 save_exact = fitting_exact SaveFits _ (λ s h. record { savevalue = h.0; value = h.1.1 }) (λ s h. (h.savevalue, (tt, h.value)))
     (made_exact _ _ _ (λ x h. refl) (λ s h. refl) (both_exact _ _ entity_number_exact (both_exact _ _ mode_exact operand_exact)))
 
 pub priority_exact : IsExact priority
-unfolding priority
 priority_exact = fitting_exact PriorityFits _ (λ p h. h.0) (λ p h. (h, tt))
     (made_exact _ _ _ (λ x h. refl) (λ p h. refl) (both_exact _ _ operand_exact flag_exact))
 
@@ -219,7 +141,6 @@ parameter_if_any_exact : IsExact (optional parameter_number)
 parameter_if_any_exact = optional_exact parameter_number parameter_number_exact
 
 pub plus_exact : IsExact plus
-unfolding plus
 plus_exact = fitting_exact PlusFits _ (λ a h. record { value = h.0; parameter = h.1 }) (λ a h. (h.value, h.parameter))
     (made_exact _ _ _ (λ x h. refl) (λ a h. refl) (both_exact _ _ operand_exact parameter_if_any_exact))
 
@@ -236,7 +157,6 @@ abbrev tag_of : Block → ℕ
 tag_of block = get_or (block_spelling block) 0 0
 
 block_forms_exact : AreExactForms block_spelling BlockFits block_forms
-unfolding generate spread units fraction call assign test_operands gate countdown split link unlink logic save priority plus
 block_forms_exact =
     block_form_exact 1 (λ g. blocks.Generate g) generate (λ g. refl) (λ g h. h) generate_exact
     also block_form_exact 2 (λ n. blocks.Terminate n) operand (λ n. refl) (λ n h. h) operand_exact
@@ -268,7 +188,7 @@ block_forms_exact =
     also search tag_form_exact
 
 block_reads_back : (b : Block) → BlockFits b → ReadsBack block_read (block_spelling b) b
-unfolding block_read generate spread units fraction call assign test_operands gate countdown split link unlink logic save priority plus
+unfolding block_read
 block_reads_back (blocks.Generate g) fits = tag_reads_back block_forms 1 (λ g. blocks.Generate g) generate (λ _ _. refl) generate_exact g fits
 block_reads_back (blocks.Terminate n) fits = tag_reads_back block_forms 2 (λ n. blocks.Terminate n) operand (λ _ _. refl) operand_exact n fits
 block_reads_back (blocks.Advance s) fits = tag_reads_back block_forms 3 (λ s. blocks.Advance s) spread (λ _ _. refl) spread_exact s fits

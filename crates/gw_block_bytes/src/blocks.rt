@@ -1,9 +1,8 @@
 //! Blocks, in bytes and against the rules of the object format.
 
-ghost use Rattle.std.specs.Prelude.{◌≡◌, ◌↔◌, IsTrue};
+ghost use Rattle.std.specs.Prelude.{◌↔◌, IsTrue};
 ghost use Rattle.std.specs.List.{All};
-ghost use Rattle.gw_blocks.specs.Grammar.{generate, GenerateFits, units, fraction, call, split, block, BlockFits};
-ghost use Rattle.gw_fields.specs.Answers.{Gives};
+ghost use Rattle.gw_blocks.specs.Grammar.{GenerateFits, block, BlockFits};
 
 use crate::BlockFormat;
 use crate::operands::*;
@@ -15,110 +14,6 @@ use gw_fields::codes::TAG;
 use gw_fields::{ReadError, Receiver, Spelled, fault, put_behind};
 use std::alloc::Global;
 
-impl Spelled<BlockFormat> for Generate {
-    ghost spelling = { generate.spell };
-
-    ghost reading = { generate.read };
-
-    #[tactic(auto, unfolding(gw_blocks::specs::Grammar::generate))]
-    fn put<R: Receiver>(&self, to: &mut R) -> Result<(), R::Refusal> {
-        (self.interval, (self.first, (self.limit, self.priority))).put(to)
-    }
-
-    #[tactic(auto, unfolding(gw_blocks::specs::Grammar::generate))]
-    fn read(alloc: Global, bytes: &[u8]) -> Result<(Generate, &[u8]), ReadError> {
-        let (interval, rest) = Spread::read(alloc, bytes)?;
-        let (first, rest) = Option::<i64>::read(alloc, rest)?;
-        let (limit, rest) = Option::<u32>::read(alloc, rest)?;
-        let (priority, rest) = i32::read(alloc, rest)?;
-        let generate = Generate {
-            interval,
-            first,
-            limit,
-            priority,
-        };
-        Ok((generate, rest))
-    }
-}
-
-impl Spelled<BlockFormat> for Units {
-    ghost spelling = { units.spell };
-
-    ghost reading = { units.read };
-
-    #[tactic(auto, unfolding(gw_blocks::specs::Grammar::units))]
-    fn put<R: Receiver>(&self, to: &mut R) -> Result<(), R::Refusal> {
-        (self.entity, self.number).put(to)
-    }
-
-    #[tactic(auto, unfolding(gw_blocks::specs::Grammar::units))]
-    fn read(alloc: Global, bytes: &[u8]) -> Result<(Units, &[u8]), ReadError> {
-        let (entity, rest) = u16::read(alloc, bytes)?;
-        let (number, rest) = u32::read(alloc, rest)?;
-        Ok((Units { entity, number }, rest))
-    }
-}
-
-impl Spelled<BlockFormat> for Fraction {
-    ghost spelling = { fraction.spell };
-
-    ghost reading = { fraction.read };
-
-    #[tactic(auto, unfolding(gw_blocks::specs::Grammar::fraction))]
-    fn put<R: Receiver>(&self, to: &mut R) -> Result<(), R::Refusal> {
-        (self.thousandths, (self.otherwise, self.target)).put(to)
-    }
-
-    #[tactic(auto, unfolding(gw_blocks::specs::Grammar::fraction))]
-    fn read(alloc: Global, bytes: &[u8]) -> Result<(Fraction, &[u8]), ReadError> {
-        let (thousandths, rest) = u16::read(alloc, bytes)?;
-        let (otherwise, rest) = Option::<u16>::read(alloc, rest)?;
-        let (target, rest) = u16::read(alloc, rest)?;
-        let fraction = Fraction {
-            thousandths,
-            otherwise,
-            target,
-        };
-        Ok((fraction, rest))
-    }
-}
-
-impl Spelled<BlockFormat> for Call {
-    ghost spelling = { call.spell };
-
-    ghost reading = { call.read };
-
-    #[tactic(auto, unfolding(gw_blocks::specs::Grammar::call))]
-    fn put<R: Receiver>(&self, to: &mut R) -> Result<(), R::Refusal> {
-        (self.target, self.parameter).put(to)
-    }
-
-    #[tactic(auto, unfolding(gw_blocks::specs::Grammar::call))]
-    fn read(alloc: Global, bytes: &[u8]) -> Result<(Call, &[u8]), ReadError> {
-        let (target, rest) = u16::read(alloc, bytes)?;
-        let (parameter, rest) = read_parameter_number(alloc, rest)?;
-        Ok((Call { target, parameter }, rest))
-    }
-}
-
-impl Spelled<BlockFormat> for Split {
-    ghost spelling = { split.spell };
-
-    ghost reading = { split.read };
-
-    #[tactic(auto, unfolding(gw_blocks::specs::Grammar::split))]
-    fn put<R: Receiver>(&self, to: &mut R) -> Result<(), R::Refusal> {
-        (self.copies, self.target).put(to)
-    }
-
-    #[tactic(auto, unfolding(gw_blocks::specs::Grammar::split))]
-    fn read(alloc: Global, bytes: &[u8]) -> Result<(Split, &[u8]), ReadError> {
-        let (copies, rest) = u16::read(alloc, bytes)?;
-        let (target, rest) = Option::<u16>::read(alloc, rest)?;
-        Ok((Split { copies, target }, rest))
-    }
-}
-
 impl Spelled<BlockFormat> for Block {
     ghost spelling = { block.spell };
 
@@ -126,7 +21,14 @@ impl Spelled<BlockFormat> for Block {
 
     fn put<R: Receiver>(&self, to: &mut R) -> Result<(), R::Refusal> {
         match self {
-            Block::Generate(generate) => put_behind(to, 1, generate),
+            Block::Generate(generate) => put_behind(
+                to,
+                1,
+                &(
+                    generate.interval,
+                    (generate.first, (generate.limit, generate.priority)),
+                ),
+            ),
             Block::Terminate(decrement) => put_behind(to, 2, decrement),
             Block::Advance(time) => put_behind(to, 3, time),
             Block::Seize(facility) => put_behind(to, 4, facility),
@@ -135,24 +37,48 @@ impl Spelled<BlockFormat> for Block {
             Block::Leave(units) => put_behind(to, 7, units),
             Block::Queue(units) => put_behind(to, 8, units),
             Block::Depart(units) => put_behind(to, 9, units),
-            Block::Assign(assign) => put_behind(to, 10, assign),
-            Block::Test(test) => put_behind(to, 11, test),
-            Block::Gate(gate) => put_behind(to, 12, gate),
+            Block::Assign(assign) => put_behind(
+                to,
+                10,
+                &(assign.parameter, (assign.mode, assign.value)),
+            ),
+            Block::Test(test) => put_behind(
+                to,
+                11,
+                &(test.comparison, (test.left, (test.right, test.otherwise))),
+            ),
+            Block::Gate(gate) => put_behind(
+                to,
+                12,
+                &(gate.condition, (gate.entity, gate.otherwise)),
+            ),
             Block::Transfer(target) => put_behind(to, 13, target),
-            Block::TransferByFraction(fraction) => put_behind(to, 14, fraction),
-            Block::TransferToSubroutine(call) => put_behind(to, 15, call),
+            Block::TransferByFraction(fraction) => put_behind(
+                to,
+                14,
+                &(fraction.thousandths, (fraction.otherwise, fraction.target)),
+            ),
+            Block::TransferToSubroutine(call) => put_behind(to, 15, &(call.target, call.parameter)),
             Block::TransferByParameter(parameter) => put_behind(to, 16, parameter),
-            Block::Loop(counted) => put_behind(to, 17, counted),
-            Block::Split(split) => put_behind(to, 18, split),
+            Block::Loop(counted) => put_behind(to, 17, &(counted.parameter, counted.target)),
+            Block::Split(split) => put_behind(to, 18, &(split.copies, split.target)),
             Block::Assemble(size) => put_behind(to, 19, size),
-            Block::Link(link) => put_behind(to, 20, link),
-            Block::Unlink(unlink) => put_behind(to, 21, unlink),
-            Block::Logic(logic) => put_behind(to, 22, logic),
-            Block::Savevalue(save) => put_behind(to, 23, save),
+            Block::Link(link) => put_behind(to, 20, &(link.chain, link.order)),
+            Block::Unlink(unlink) => put_behind(
+                to,
+                21,
+                &(unlink.chain, (unlink.target, unlink.most)),
+            ),
+            Block::Logic(logic) => put_behind(to, 22, &(logic.action, logic.switch)),
+            Block::Savevalue(save) => put_behind(
+                to,
+                23,
+                &(save.savevalue, (save.mode, save.value)),
+            ),
             Block::Mark(parameter) => put_behind(to, 24, parameter),
-            Block::Priority(priority) => put_behind(to, 25, priority),
+            Block::Priority(priority) => put_behind(to, 25, &(priority.value, priority.behind)),
             Block::Buffer => to.put_bytes(&[26]),
-            Block::Plus(plus) => put_behind(to, 27, plus),
+            Block::Plus(plus) => put_behind(to, 27, &(plus.value, plus.parameter)),
             Block::Tabulate(table) => put_behind(to, 28, table),
         }
     }
@@ -162,7 +88,13 @@ impl Spelled<BlockFormat> for Block {
         let (tag, rest) = u8::read(alloc, bytes)?;
         match tag {
             1 => {
-                let (generate, rest) = Generate::read(alloc, rest)?;
+                let ((interval, (first, (limit, priority))), rest) = Spelled::read(alloc, rest)?;
+                let generate = Generate {
+                    interval,
+                    first,
+                    limit,
+                    priority,
+                };
                 Ok((Block::Generate(generate), rest))
             }
             2 => {
@@ -198,15 +130,32 @@ impl Spelled<BlockFormat> for Block {
                 Ok((Block::Depart(units), rest))
             }
             10 => {
-                let (assign, rest) = Assign::read(alloc, rest)?;
+                let (parameter, rest) = read_parameter_number(alloc, rest)?;
+                let ((mode, value), rest) = Spelled::read(alloc, rest)?;
+                let assign = Assign {
+                    parameter,
+                    mode,
+                    value,
+                };
                 Ok((Block::Assign(assign), rest))
             }
             11 => {
-                let (test, rest) = Test::read(alloc, rest)?;
+                let ((comparison, (left, (right, otherwise))), rest) = Spelled::read(alloc, rest)?;
+                let test = Test {
+                    comparison,
+                    left,
+                    right,
+                    otherwise,
+                };
                 Ok((Block::Test(test), rest))
             }
             12 => {
-                let (gate, rest) = Gate::read(alloc, rest)?;
+                let ((condition, (entity, otherwise)), rest) = Spelled::read(alloc, rest)?;
+                let gate = Gate {
+                    condition,
+                    entity,
+                    otherwise,
+                };
                 Ok((Block::Gate(gate), rest))
             }
             13 => {
@@ -214,43 +163,63 @@ impl Spelled<BlockFormat> for Block {
                 Ok((Block::Transfer(target), rest))
             }
             14 => {
-                let (fraction, rest) = Fraction::read(alloc, rest)?;
+                let ((thousandths, (otherwise, target)), rest) = Spelled::read(alloc, rest)?;
+                let fraction = Fraction {
+                    thousandths,
+                    otherwise,
+                    target,
+                };
                 Ok((Block::TransferByFraction(fraction), rest))
             }
             15 => {
-                let (call, rest) = Call::read(alloc, rest)?;
-                Ok((Block::TransferToSubroutine(call), rest))
+                let (target, rest) = u16::read(alloc, rest)?;
+                let (parameter, rest) = read_parameter_number(alloc, rest)?;
+                Ok((
+                    Block::TransferToSubroutine(Call { target, parameter }),
+                    rest,
+                ))
             }
             16 => {
                 let (parameter, rest) = read_parameter_number(alloc, rest)?;
                 Ok((Block::TransferByParameter(parameter), rest))
             }
             17 => {
-                let (counted, rest) = Loop::read(alloc, rest)?;
-                Ok((Block::Loop(counted), rest))
+                let (parameter, rest) = read_parameter_number(alloc, rest)?;
+                let (target, rest) = u16::read(alloc, rest)?;
+                Ok((Block::Loop(Loop { parameter, target }), rest))
             }
             18 => {
-                let (split, rest) = Split::read(alloc, rest)?;
-                Ok((Block::Split(split), rest))
+                let ((copies, target), rest) = Spelled::read(alloc, rest)?;
+                Ok((Block::Split(Split { copies, target }), rest))
             }
             19 => {
                 let (size, rest) = u16::read(alloc, rest)?;
                 Ok((Block::Assemble(size), rest))
             }
             20 => {
-                let (link, rest) = Link::read(alloc, rest)?;
-                Ok((Block::Link(link), rest))
+                let ((chain, order), rest) = Spelled::read(alloc, rest)?;
+                Ok((Block::Link(Link { chain, order }), rest))
             }
             21 => {
-                let (unlink, rest) = Unlink::read(alloc, rest)?;
+                let ((chain, (target, most)), rest) = Spelled::read(alloc, rest)?;
+                let unlink = Unlink {
+                    chain,
+                    target,
+                    most,
+                };
                 Ok((Block::Unlink(unlink), rest))
             }
             22 => {
-                let (logic, rest) = Logic::read(alloc, rest)?;
-                Ok((Block::Logic(logic), rest))
+                let ((action, switch), rest) = Spelled::read(alloc, rest)?;
+                Ok((Block::Logic(Logic { action, switch }), rest))
             }
             23 => {
-                let (save, rest) = Save::read(alloc, rest)?;
+                let ((savevalue, (mode, value)), rest) = Spelled::read(alloc, rest)?;
+                let save = Save {
+                    savevalue,
+                    mode,
+                    value,
+                };
                 Ok((Block::Savevalue(save), rest))
             }
             24 => {
@@ -258,13 +227,14 @@ impl Spelled<BlockFormat> for Block {
                 Ok((Block::Mark(parameter), rest))
             }
             25 => {
-                let (priority, rest) = Priority::read(alloc, rest)?;
-                Ok((Block::Priority(priority), rest))
+                let ((value, behind), rest) = Spelled::read(alloc, rest)?;
+                Ok((Block::Priority(Priority { value, behind }), rest))
             }
             26 => Ok((Block::Buffer, rest)),
             27 => {
-                let (plus, rest) = Plus::read(alloc, rest)?;
-                Ok((Block::Plus(plus), rest))
+                let (value, rest) = Operand::read(alloc, rest)?;
+                let (parameter, rest) = read_parameter_if_any(alloc, rest)?;
+                Ok((Block::Plus(Plus { value, parameter }), rest))
             }
             28 => {
                 let (table, rest) = u16::read(alloc, rest)?;

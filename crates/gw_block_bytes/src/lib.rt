@@ -3,9 +3,7 @@
 #![tactic(auto)]
 
 mod blocks;
-mod chains;
-mod changes;
-mod conditions;
+mod choices;
 mod operands;
 
 pub use blocks::blocks_fit;

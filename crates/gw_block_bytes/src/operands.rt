@@ -1,19 +1,14 @@
 //! Operands, in bytes and against the rules of the object format.
 
 ghost use Rattle.std.specs.Prelude.{◌≡◌, ◌↔◌, IsTrue};
-ghost use Rattle.gw_blocks.specs.Grammar.{parameter_number, parameter_above, stream_number, numbered, operand, OperandFits, spread, SpreadFits};
-ghost use Rattle.gw_blocks.specs.Grammar.{attribute_byte, attributes, entity_attribute_byte, entity_attributes};
+ghost use Rattle.gw_blocks.specs.Grammar.{parameter_number, parameter_above, stream_number, numbered, operand, OperandFits, spread, SpreadFits, units};
 ghost use Rattle.gw_fields.specs.Fields.{optional};
 ghost use Rattle.gw_fields.specs.Answers.{Gives};
 
 use crate::BlockFormat;
-use gw_blocks::{
-    Attribute, EntityAttribute, MOST_PARAMETERS, MOST_STREAMS, Numbered, Operand, Spread,
-};
+use gw_blocks::{Attribute, MOST_PARAMETERS, MOST_STREAMS, Numbered, Operand, Spread, Units};
 use gw_fields::codes::{NOT_CANONICAL, TAG};
-use gw_fields::{
-    OneByte, ReadError, Receiver, Spelled, fault, put_behind, read_one_of, read_ranged_u8,
-};
+use gw_fields::{ReadError, Receiver, Spelled, fault, put_behind, read_ranged_u8};
 use std::alloc::Global;
 
 /// Whether this is the number of a parameter.
@@ -67,90 +62,17 @@ pub fn read_parameter_if_any(alloc: Global, bytes: &[u8]) -> Result<(Option<u8>,
     }
 }
 
-impl OneByte<BlockFormat> for Attribute {
-    ghost byte_of = { attribute_byte };
-
-    ghost values = { attributes };
-
-    fn byte(self) -> u8 {
-        match self {
-            Attribute::Clock => 0,
-            Attribute::AbsoluteClock => 1,
-            Attribute::Priority => 2,
-            Attribute::TransitTime => 3,
-            Attribute::TransactionNumber => 4,
-            Attribute::TerminationCount => 5,
-        }
-    }
-
-    fn of_byte(byte: u8) -> Option<Attribute> {
-        match byte {
-            0 => Some(Attribute::Clock),
-            1 => Some(Attribute::AbsoluteClock),
-            2 => Some(Attribute::Priority),
-            3 => Some(Attribute::TransitTime),
-            4 => Some(Attribute::TransactionNumber),
-            5 => Some(Attribute::TerminationCount),
-            _ => None,
-        }
-    }
-}
-
-impl OneByte<BlockFormat> for EntityAttribute {
-    ghost byte_of = { entity_attribute_byte };
-
-    ghost values = { entity_attributes };
-
-    fn byte(self) -> u8 {
-        match self {
-            EntityAttribute::FacilityOwned => 0,
-            EntityAttribute::StorageContent => 1,
-            EntityAttribute::StorageRemaining => 2,
-            EntityAttribute::QueueContent => 3,
-            EntityAttribute::SavevalueValue => 4,
-            EntityAttribute::SwitchSetting => 5,
-            EntityAttribute::ChainMembers => 6,
-            EntityAttribute::VariableValue => 7,
-            EntityAttribute::BooleanValue => 8,
-            EntityAttribute::FunctionValue => 9,
-            EntityAttribute::BlockEntries => 10,
-            EntityAttribute::BlockCount => 11,
-        }
-    }
-
-    fn of_byte(byte: u8) -> Option<EntityAttribute> {
-        match byte {
-            0 => Some(EntityAttribute::FacilityOwned),
-            1 => Some(EntityAttribute::StorageContent),
-            2 => Some(EntityAttribute::StorageRemaining),
-            3 => Some(EntityAttribute::QueueContent),
-            4 => Some(EntityAttribute::SavevalueValue),
-            5 => Some(EntityAttribute::SwitchSetting),
-            6 => Some(EntityAttribute::ChainMembers),
-            7 => Some(EntityAttribute::VariableValue),
-            8 => Some(EntityAttribute::BooleanValue),
-            9 => Some(EntityAttribute::FunctionValue),
-            10 => Some(EntityAttribute::BlockEntries),
-            11 => Some(EntityAttribute::BlockCount),
-            _ => None,
-        }
-    }
-}
-
 impl Spelled<BlockFormat> for Numbered {
     ghost spelling = { numbered.spell };
 
     ghost reading = { numbered.read };
 
-    #[tactic(auto, unfolding(gw_blocks::specs::Grammar::numbered))]
     fn put<R: Receiver>(&self, to: &mut R) -> Result<(), R::Refusal> {
-        (self.attribute.byte(), self.number).put(to)
+        (self.attribute, self.number).put(to)
     }
 
-    #[tactic(auto, unfolding(gw_blocks::specs::Grammar::numbered))]
     fn read(alloc: Global, bytes: &[u8]) -> Result<(Numbered, &[u8]), ReadError> {
-        let (attribute, rest) = read_one_of::<BlockFormat, EntityAttribute>(alloc, bytes)?;
-        let (number, rest) = u16::read(alloc, rest)?;
+        let ((attribute, number), rest) = Spelled::read(alloc, bytes)?;
         Ok((Numbered { attribute, number }, rest))
     }
 }
@@ -164,7 +86,7 @@ impl Spelled<BlockFormat> for Operand {
         match self {
             Operand::Constant(number) => put_behind(to, 0, number),
             Operand::Parameter(number) => put_behind(to, 1, number),
-            Operand::Attribute(attribute) => put_behind(to, 2, &attribute.byte()),
+            Operand::Attribute(attribute) => put_behind(to, 2, attribute),
             Operand::OfEntity(numbered) => put_behind(to, 3, numbered),
             Operand::Random(stream) => put_behind(to, 4, stream),
             Operand::Procedure(procedure) => put_behind(to, 5, procedure),
@@ -184,7 +106,7 @@ impl Spelled<BlockFormat> for Operand {
                 Ok((Operand::Parameter(number), rest))
             }
             2 => {
-                let (attribute, rest) = read_one_of::<BlockFormat, Attribute>(alloc, rest)?;
+                let (attribute, rest) = Attribute::read(alloc, rest)?;
                 Ok((Operand::Attribute(attribute), rest))
             }
             3 => {
@@ -223,16 +145,28 @@ impl Spelled<BlockFormat> for Spread {
 
     ghost reading = { spread.read };
 
-    #[tactic(auto, unfolding(gw_blocks::specs::Grammar::spread))]
     fn put<R: Receiver>(&self, to: &mut R) -> Result<(), R::Refusal> {
         (self.mean, self.half).put(to)
     }
 
-    #[tactic(auto, unfolding(gw_blocks::specs::Grammar::spread))]
     fn read(alloc: Global, bytes: &[u8]) -> Result<(Spread, &[u8]), ReadError> {
-        let (mean, rest) = Operand::read(alloc, bytes)?;
-        let (half, rest) = Operand::read(alloc, rest)?;
+        let ((mean, half), rest) = Spelled::read(alloc, bytes)?;
         Ok((Spread { mean, half }, rest))
+    }
+}
+
+impl Spelled<BlockFormat> for Units {
+    ghost spelling = { units.spell };
+
+    ghost reading = { units.read };
+
+    fn put<R: Receiver>(&self, to: &mut R) -> Result<(), R::Refusal> {
+        (self.entity, self.number).put(to)
+    }
+
+    fn read(alloc: Global, bytes: &[u8]) -> Result<(Units, &[u8]), ReadError> {
+        let ((entity, number), rest) = Spelled::read(alloc, bytes)?;
+        Ok((Units { entity, number }, rest))
     }
 }
 

@@ -108,7 +108,7 @@ abbrev pub NumberedFits : Numbered → Type 0
 NumberedFits n = n.number < 2 ^ 16
 
 -- an attribute, and the number of the entity or the block
-unfoldable pub numbered : Field Numbered
+abbrev pub numbered : Field Numbered
 numbered = fitting NumberedFits (as_type
     (λ (of, n). record { attribute = of; number = n })
     (λ n. (n.attribute, n.number))
@@ -157,7 +157,7 @@ pub record SpreadFits (s : Spread) : Type 0 where
   pub half : OperandFits s.half
 
 -- the mean and half the range
-unfoldable pub spread : Field Spread
+abbrev pub spread : Field Spread
 spread = fitting SpreadFits (as_type (λ (mean, half). record { mean = mean; half = half }) (λ s. (s.mean, s.half)) (both operand operand))
 
 -- ---- blocks
@@ -170,7 +170,7 @@ pub record GenerateFits (g : GenerateOperands) : Type 0 where
   pub priority : FitsSigned w32 g.priority
 
 -- the interval, the first arrival, the limit and the priority
-unfoldable pub generate : Field GenerateOperands
+abbrev pub generate : Field GenerateOperands
 generate = fitting GenerateFits (as_type
     (λ (interval, (first, (limit, priority))). record { interval = interval; first = first; limit = limit; priority = priority })
     (λ g. (g.interval, (g.first, (g.limit, g.priority))))
@@ -182,7 +182,7 @@ pub record UnitsFit (u : Units) : Type 0 where
   pub number : u.number < 2 ^ 32
 
 -- the entity's number and the number of units
-unfoldable pub units : Field Units
+abbrev pub units : Field Units
 units = fitting UnitsFit (as_type (λ (entity, n). record { entity = entity; number = n }) (λ u. (u.entity, u.number)) (both entity_number (number w32)))
 
 -- each operand fits
@@ -192,7 +192,7 @@ pub record FractionFits (f : Fraction) : Type 0 where
   pub target : block_number.Fits f.target
 
 -- the thousandths, the block for the others, and the target
-unfoldable pub fraction : Field Fraction
+abbrev pub fraction : Field Fraction
 fraction = fitting FractionFits (as_type
     (λ (thousandths, (otherwise, target)). record { thousandths = thousandths; otherwise = otherwise; target = target })
     (λ f. (f.thousandths, (f.otherwise, f.target)))
@@ -218,7 +218,7 @@ pub record AssignFits (a : AssignOperands) : Type 0 where
   pub value : OperandFits a.value
 
 -- the parameter's number, the mode and the value
-unfoldable pub assign : Field AssignOperands
+abbrev pub assign : Field AssignOperands
 assign = fitting AssignFits (as_type
     (λ (parameter, (how, value)). record { parameter = parameter; mode = how; value = value })
     (λ a. (a.parameter, (a.mode, a.value)))
@@ -244,7 +244,7 @@ pub record TestFits (t : TestOperands) : Type 0 where
   pub otherwise : IfSome t.otherwise block_number.Fits
 
 -- how they are compared, the two values, and the block for those for whom it is false
-unfoldable pub test_operands : Field TestOperands
+abbrev pub test_operands : Field TestOperands
 test_operands = fitting TestFits (as_type
     (λ (comparison, (left, (right, otherwise))). record { comparison = comparison; left = left; right = right; otherwise = otherwise })
     (λ t. (t.comparison, (t.left, (t.right, t.otherwise))))
@@ -271,7 +271,7 @@ pub record GateFits (g : GateOperands) : Type 0 where
   pub otherwise : IfSome g.otherwise block_number.Fits
 
 -- what is asked, the entity's number, and the block for those for whom it isn't so
-unfoldable pub gate : Field GateOperands
+abbrev pub gate : Field GateOperands
 gate = fitting GateFits (as_type
     (λ (condition, (entity, otherwise)). record { condition = condition; entity = entity; otherwise = otherwise })
     (λ g. (g.condition, (g.entity, g.otherwise)))
@@ -283,7 +283,7 @@ pub record CallFits (c : Call) : Type 0 where
   pub parameter : parameter_number.Fits c.parameter
 
 -- the target and the parameter's number
-unfoldable pub call : Field Call
+abbrev pub call : Field Call
 call = fitting CallFits (as_type (λ (target, parameter). record { target = target; parameter = parameter }) (λ c. (c.target, c.parameter)) (both block_number parameter_number))
 
 -- each operand fits
@@ -292,7 +292,7 @@ pub record LoopFits (l : LoopOperands) : Type 0 where
   pub target : block_number.Fits l.target
 
 -- the parameter's number and the target
-unfoldable pub countdown : Field LoopOperands
+abbrev pub countdown : Field LoopOperands
 countdown = fitting LoopFits (as_type (λ (parameter, target). record { parameter = parameter; target = target }) (λ l. (l.parameter, l.target)) (both parameter_number block_number))
 
 -- each operand fits
@@ -301,7 +301,7 @@ pub record SplitFits (s : SplitOperands) : Type 0 where
   pub target : IfSome s.target block_number.Fits
 
 -- the number of copies and their target
-unfoldable pub split : Field SplitOperands
+abbrev pub split : Field SplitOperands
 split = fitting SplitFits (as_type (λ (copies, target). record { copies = copies; target = target }) (λ s. (s.copies, s.target)) (both (number w16) (optional block_number)))
 
 -- how many transactions an assembly waits for in all
@@ -322,7 +322,7 @@ abbrev pub LinkFits : LinkOperands → Type 0
 LinkFits l = entity_number.Fits l.chain
 
 -- the user chain's number, and the end at which it is joined
-unfoldable pub link : Field LinkOperands
+abbrev pub link : Field LinkOperands
 link = fitting LinkFits (as_type (λ (chain, order). record { chain = chain; order = order }) (λ l. (l.chain, l.order)) (both entity_number (one_of order_byte orders)))
 
 -- each operand fits
@@ -332,7 +332,7 @@ pub record UnlinkFits (u : UnlinkOperands) : Type 0 where
   pub most : IfSome u.most (λ n. n < 2 ^ 32)
 
 -- the user chain's number, the block to which its members go, and how many are taken at most
-unfoldable pub unlink : Field UnlinkOperands
+abbrev pub unlink : Field UnlinkOperands
 unlink = fitting UnlinkFits (as_type
     (λ (chain, (target, most)). record { chain = chain; target = target; most = most })
     (λ u. (u.chain, (u.target, u.most)))
@@ -353,7 +353,7 @@ abbrev pub LogicFits : LogicOperands → Type 0
 LogicFits l = entity_number.Fits l.switch
 
 -- what is done, and the switch's number
-unfoldable pub logic : Field LogicOperands
+abbrev pub logic : Field LogicOperands
 logic = fitting LogicFits (as_type (λ (action, switch). record { action = action; switch = switch }) (λ l. (l.action, l.switch)) (both (one_of action_byte actions) entity_number))
 
 -- each operand fits
@@ -362,7 +362,7 @@ pub record SaveFits (s : Save) : Type 0 where
   pub value : OperandFits s.value
 
 -- the savevalue's number, the mode and the value
-unfoldable pub save : Field Save
+abbrev pub save : Field Save
 save = fitting SaveFits (as_type
     (λ (savevalue, (how, value)). record { savevalue = savevalue; mode = how; value = value })
     (λ s. (s.savevalue, (s.mode, s.value)))
@@ -373,7 +373,7 @@ abbrev pub PriorityFits : PriorityOperands → Type 0
 PriorityFits p = OperandFits p.value
 
 -- the new priority, and whether the transaction goes behind its peers
-unfoldable pub priority : Field PriorityOperands
+abbrev pub priority : Field PriorityOperands
 priority = fitting PriorityFits (as_type (λ (value, behind_peers). record { value = value; behind = behind_peers }) (λ p. (p.value, p.behind)) (both operand flag))
 
 -- each operand fits
@@ -382,7 +382,7 @@ pub record PlusFits (a : PlusOperands) : Type 0 where
   pub parameter : IfSome a.parameter parameter_number.Fits
 
 -- what is evaluated, and the parameter that takes it
-unfoldable pub plus : Field PlusOperands
+abbrev pub plus : Field PlusOperands
 plus = fitting PlusFits (as_type (λ (value, parameter). record { value = value; parameter = parameter }) (λ a. (a.value, a.parameter)) (both operand (optional parameter_number)))
 
 -- the operands of a block fit, if it has operands

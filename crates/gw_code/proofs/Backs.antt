@@ -1,12 +1,9 @@
 -- The BACKs of code, counted, and the byte by which a BACK is told.
-use Rattle.std.proofs.Common.{◌≡◌, ℕ, suc, ◌+◌, ◌≤◌, ◌<◌, Bool, true, false, cond, IsTrue, List, [], ◌∷◌, ◌++◌, refl, sym, ap, subst, ◌∙◌, append_assoc, arith}
+use Rattle.std.proofs.Common.{◌≡◌, ℕ, suc, ◌+◌, ◌≤◌, ◌<◌, Bool, true, false, cond, IsTrue, List, [], ◌∷◌, ◌++◌, refl, sym, ap, subst, ◌∙◌, append_assoc, arith, rules}
 use Rattle.std.specs.List.{All, count_by}
 use Rattle.std.proofs.lemmas.List.{append-nil}
 use Rattle.std.proofs.lemmas.List.Recursion.{is_count_by}
-use Rattle.gw_num.specs.declared.operators.Binary.TheVariants.{Power, Multiply, Divide, Remainder, Add, Subtract, Greater, GreaterOrEqual, Less, LessOrEqual, Equal, NotEqual, And, Or}
-use Rattle.gw_num.specs.declared.operators.Unary.TheVariants.{Negate, Not}
 use Rattle.gw_code.specs.declared.parts.Instruction.{Instruction}
-use Rattle.gw_code.specs.declared.parts.Instruction.TheVariants.{Push, Get, Set, Value, Binary, Unary, Pop, Jump, JumpIfZero, Back, Call, Return}
 use Rattle.gw_fields.specs.Fields.{IsProperFront, ElementsFit}
 use Rattle.gw_code.specs.Limits.{most_backs}
 use Rattle.gw_code.specs.Grammar.{InstructionFits, instruction_spelling, is_back, backs, begins_with_back, next_instruction}
@@ -61,32 +58,7 @@ code_fits (i ∷ code) front each le =
 
 -- the spelling of a BACK begins with its tag, and that of no other instruction does
 pub begins_as_it_is : (i : Instruction) (rest : List ℕ) → begins_with_back (instruction_spelling i ++ rest) ≡ is_back i
-begins_as_it_is (Push z) rest = refl
-begins_as_it_is (Get local) rest = refl
-begins_as_it_is (Set local) rest = refl
-begins_as_it_is (Value a) rest = refl
-begins_as_it_is (Binary Add) rest = refl
-begins_as_it_is (Binary Subtract) rest = refl
-begins_as_it_is (Binary Multiply) rest = refl
-begins_as_it_is (Binary Divide) rest = refl
-begins_as_it_is (Binary Remainder) rest = refl
-begins_as_it_is (Binary Power) rest = refl
-begins_as_it_is (Unary Negate) rest = refl
-begins_as_it_is (Binary Equal) rest = refl
-begins_as_it_is (Binary NotEqual) rest = refl
-begins_as_it_is (Binary Greater) rest = refl
-begins_as_it_is (Binary GreaterOrEqual) rest = refl
-begins_as_it_is (Binary Less) rest = refl
-begins_as_it_is (Binary LessOrEqual) rest = refl
-begins_as_it_is (Binary And) rest = refl
-begins_as_it_is (Binary Or) rest = refl
-begins_as_it_is (Unary Not) rest = refl
-begins_as_it_is Pop rest = refl
-begins_as_it_is (Jump target) rest = refl
-begins_as_it_is (JumpIfZero target) rest = refl
-begins_as_it_is (Back b) rest = refl
-begins_as_it_is (Call procedure) rest = refl
-begins_as_it_is Return rest = refl
+begins_as_it_is i rest = grind rules
 
 -- a proper front that begins with the tag of a BACK is one of a BACK's spelling
 pub front_of_back : (i : Instruction) (front : List ℕ) → IsProperFront front (instruction_spelling i) → IsTrue (begins_with_back front) → IsTrue (is_back i)

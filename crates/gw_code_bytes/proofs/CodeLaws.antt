@@ -25,7 +25,6 @@ use Rattle.gw_fields.proofs.Exact.{IsBytes, Takes, CutsFronts, chosen, err_is, n
 -- ---- attributes
 
 sna_forms_exact : AreExactForms sna_spelling SnaFits sna_forms
-unfolding numbered
 sna_forms_exact =
     behind_exact sna_spelling SnaFits 1 (λ p. Parameter p) parameter_number (λ p. refl) (λ p h. h) parameter_number_exact
     also behind_exact sna_spelling SnaFits 2 (λ a. Attribute a) attribute (λ a. refl) (λ a h. tt) attribute_exact
@@ -33,7 +32,7 @@ sna_forms_exact =
     also tt
 
 sna_reads_back : (x : Sna) → SnaFits x → ReadsBack sna_read (sna_spelling x) x
-unfolding sna_read numbered
+unfolding sna_read
 sna_reads_back (Parameter p) fits = tag_reads_back sna_forms 1 (λ p. Parameter p) parameter_number (λ _ _. refl) parameter_number_exact p fits
 sna_reads_back (Attribute a) fits = tag_reads_back sna_forms 2 (λ a. Attribute a) attribute (λ _ _. refl) attribute_exact a tt
 sna_reads_back (OfEntity n) fits = tag_reads_back sna_forms 3 (λ n. OfEntity n) numbered (λ _ _. refl) numbered_exact n fits
@@ -45,7 +44,6 @@ sna_exact = by_tag_exact sna_spelling SnaFits sna_forms sna_forms_exact sna_read
 -- ---- instructions
 
 pub jump_back_exact : IsExact jump_back
-unfolding jump_back
 jump_back_exact = fitting_exact BackFits _ (λ b h. record { target = h.0; count = h.1 }) (λ b h. (h.target, h.count))
     (made_exact _ _ _ (λ x h. refl) (λ b h. refl) (both_exact _ _ (number_exact w16 wide16) (number_exact w32 wide32)))
 
@@ -54,7 +52,6 @@ tag_form_exact : (tag : ℕ) (i : Instruction) → tag ∷ [] ≡ instruction_sp
 tag_form_exact tag i spelled fits = behind_exact instruction_spelling InstructionFits tag (λ _. i) nothing (λ _. spelled) (λ _ _. fits) nothing_exact
 
 instruction_forms_exact : AreExactForms instruction_spelling InstructionFits instruction_forms
-unfolding jump_back
 instruction_forms_exact =
     behind_exact instruction_spelling InstructionFits 0 (λ z. Push z) (signed w64) (λ z. refl) (λ z h. h) (signed_exact w64 wide64)
     also behind_exact instruction_spelling InstructionFits 1 (λ local. Get local) byte (λ local. refl) (λ local h. h) byte_exact
@@ -88,7 +85,7 @@ alone_reads_back : (tag : ℕ) (i : Instruction) → ((bytes rest : List ℕ) �
 alone_reads_back tag i found = tag_reads_back instruction_forms tag (λ _. i) nothing found nothing_exact tt tt
 
 instruction_reads_back : (i : Instruction) → InstructionFits i → ReadsBack instruction_read (instruction_spelling i) i
-unfolding instruction_read jump_back
+unfolding instruction_read
 instruction_reads_back (Push z) fits = tag_reads_back instruction_forms 0 (λ z. Push z) (signed w64) (λ _ _. refl) (signed_exact w64 wide64) z fits
 instruction_reads_back (Get local) fits = tag_reads_back instruction_forms 1 (λ local. Get local) byte (λ _ _. refl) byte_exact local fits
 instruction_reads_back (Set local) fits = tag_reads_back instruction_forms 2 (λ local. Set local) byte (λ _ _. refl) byte_exact local fits

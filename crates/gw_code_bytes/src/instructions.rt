@@ -2,15 +2,15 @@
 
 ghost use Rattle.std.specs.Prelude.{◌≡◌, ◌<◌, ◌⊎◌, [], ◌∷◌, MatchOption};
 ghost use Rattle.gw_code.specs.Grammar as grammar;
-ghost use Rattle.gw_code.specs.Grammar.{sna, jump_back, instruction, instruction_spelling, backs, next_instruction};
+ghost use Rattle.gw_code.specs.Grammar.{sna, instruction, instruction_spelling, backs, next_instruction};
 ghost use Rattle.gw_code_bytes.specs.Operators.{StandsFor};
 
 use crate::CodeFormat;
-use gw_block_bytes::{BlockFormat, read_parameter_number};
+use gw_block_bytes::read_parameter_number;
 use gw_blocks::{Attribute, Numbered};
 use gw_code::{Back, Instruction, MOST_BACKS, Sna};
 use gw_fields::codes::{LIMIT, TAG};
-use gw_fields::{Elements, OneByte, ReadError, Receiver, Spelled, fault, put_behind, read_one_of};
+use gw_fields::{Elements, Front, ReadError, Reading, Receiver, Spelled, fault, put_behind};
 use gw_num::{Binary, Unary};
 use std::alloc::Global;
 
@@ -25,7 +25,7 @@ impl Spelled<CodeFormat> for Sna {
     fn put<R: Receiver>(&self, to: &mut R) -> Result<(), R::Refusal> {
         match self {
             Sna::Parameter(number) => put_behind(to, 1, number),
-            Sna::Attribute(attribute) => put_behind(to, 2, &attribute.byte()),
+            Sna::Attribute(attribute) => put_behind(to, 2, attribute),
             Sna::OfEntity(numbered) => put_behind(to, 3, numbered),
         }
     }
@@ -39,7 +39,7 @@ impl Spelled<CodeFormat> for Sna {
                 Ok((Sna::Parameter(number), rest))
             }
             2 => {
-                let (attribute, rest) = read_one_of::<BlockFormat, Attribute>(alloc, rest)?;
+                let (attribute, rest) = Attribute::read(alloc, rest)?;
                 Ok((Sna::Attribute(attribute), rest))
             }
             3 => {
@@ -48,24 +48,6 @@ impl Spelled<CodeFormat> for Sna {
             }
             _ => Err(fault(TAG, bytes)),
         }
-    }
-}
-
-impl Spelled<CodeFormat> for Back {
-    ghost spelling = { jump_back.spell };
-
-    ghost reading = { jump_back.read };
-
-    #[tactic(auto, unfolding(gw_code::specs::Grammar::jump_back))]
-    fn put<R: Receiver>(&self, to: &mut R) -> Result<(), R::Refusal> {
-        (self.target, self.count).put(to)
-    }
-
-    #[tactic(auto, unfolding(gw_code::specs::Grammar::jump_back))]
-    fn read(alloc: Global, bytes: &[u8]) -> Result<(Back, &[u8]), ReadError> {
-        let (target, rest) = u16::read(alloc, bytes)?;
-        let (count, rest) = u32::read(alloc, rest)?;
-        Ok((Back { target, count }, rest))
     }
 }
 
@@ -143,7 +125,7 @@ impl Spelled<CodeFormat> for Instruction {
             Instruction::Pop => 20_u8.put(to),
             Instruction::Jump(target) => put_behind(to, 21, target),
             Instruction::JumpIfZero(target) => put_behind(to, 22, target),
-            Instruction::Back(back) => put_behind(to, BACK_TAG, back),
+            Instruction::Back(back) => put_behind(to, BACK_TAG, &(back.target, back.count)),
             Instruction::Call(procedure) => put_behind(to, 24, procedure),
             Instruction::Return => 25_u8.put(to),
         }
@@ -162,7 +144,10 @@ impl Spelled<CodeFormat> for Instruction {
             22 => {
                 u16::read(alloc, rest).map(|(target, rest)| (Instruction::JumpIfZero(target), rest))
             }
-            BACK_TAG => Back::read(alloc, rest).map(|(back, rest)| (Instruction::Back(back), rest)),
+            BACK_TAG => {
+                let ((target, count), rest) = Spelled::read(alloc, rest)?;
+                Ok((Instruction::Back(Back { target, count }), rest))
+            }
             24 => u16::read(alloc, rest).map(|(number, rest)| (Instruction::Call(number), rest)),
             25 => Ok((Instruction::Return, rest)),
             _ => match operator_of(tag) {
@@ -196,20 +181,9 @@ pub struct Code;
 impl Elements for Code {
     type Item = Instruction;
 
-    ghost spelling = { next_instruction.spell };
-
     ghost reading = { next_instruction.read };
 
-    fn put_element<R: Receiver>(to: &mut R, instruction: &Instruction) -> Result<(), R::Refusal> {
-        instruction.put(to)
-    }
-
-    fn read_element<'a>(
-        alloc: Global,
-        front: &[Instruction],
-        _left: usize,
-        bytes: &'a [u8],
-    ) -> Result<(Instruction, &'a [u8]), ReadError> {
+    fn read<'a>(alloc: Global, front: Front<Self>, _: usize, bytes: &'a [u8]) -> Reading<'a, Self> {
         if bytes.first() == Some(&BACK_TAG) && count_backs(front) >= MOST_BACKS {
             return Err(fault(LIMIT, bytes));
         }

@@ -10,8 +10,8 @@ use gw_block_bytes::{is_parameter, read_parameter_above};
 use gw_blocks::MOST_PARAMETERS;
 use gw_code::{Instruction, MOST_BACKS, MOST_INSTRUCTIONS, MOST_LOCALS, Procedure, Sna};
 use gw_fields::{
-    Elements, Items, ReadError, Receiver, Spelled, keys_ascend, put_listed, read_listed,
-    read_ranged_u8,
+    Elements, Front, Items, ReadError, Reading, Receiver, Spelled, keys_ascend, put_listed,
+    read_listed, read_ranged_u8,
 };
 use std::alloc::Global;
 
@@ -21,20 +21,9 @@ struct Needs;
 impl Elements for Needs {
     type Item = u8;
 
-    ghost spelling = { need.spell };
-
     ghost reading = { need.read };
 
-    fn put_element<R: Receiver>(to: &mut R, number: &u8) -> Result<(), R::Refusal> {
-        number.put(to)
-    }
-
-    fn read_element<'a>(
-        alloc: Global,
-        front: &[u8],
-        _left: usize,
-        bytes: &'a [u8],
-    ) -> Result<(u8, &'a [u8]), ReadError> {
+    fn read<'a>(alloc: Global, front: Front<Self>, _: usize, bytes: &'a [u8]) -> Reading<'a, Self> {
         read_parameter_above(alloc, front.last().copied(), bytes)
     }
 }
@@ -47,8 +36,8 @@ impl Spelled<CodeFormat> for Procedure {
     #[tactic(auto, using(gw_fields::proofs::Receiving::joining), unfolding(gw_code::specs::Grammar::procedure))]
     fn put<R: Receiver>(&self, to: &mut R) -> Result<(), R::Refusal> {
         (self.arguments, self.locals).put(to)?;
-        put_listed::<Needs, R>(to, self.needs.as_slice())?;
-        put_listed::<Code, R>(to, self.code.as_slice())
+        put_listed(to, self.needs.as_slice())?;
+        put_listed(to, self.code.as_slice())
     }
 
     #[tactic(auto, unfolding(gw_code::specs::Grammar::procedure))]
@@ -113,16 +102,11 @@ pub fn procedures_fit(procedures: &[Procedure]) -> bool
     procedures.iter().all(procedure_fits)
 }
 
-/// Whether the parameters that a procedure needs ascend.
-fn needs_ascend(procedure: &Procedure) -> bool
-    ensures { IsTrue result ↔ NeedsAscend procedure.now }
-{
-    keys_ascend(procedure.needs.as_slice())
-}
-
 /// Whether the parameters that each procedure needs ascend.
 pub fn procedures_ascend(procedures: &[Procedure]) -> bool
     ensures { IsTrue result ↔ All NeedsAscend procedures.now }
 {
-    procedures.iter().all(needs_ascend)
+    procedures
+        .iter()
+        .all(|procedure| keys_ascend(procedure.needs.as_slice()))
 }

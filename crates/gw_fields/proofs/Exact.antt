@@ -5,6 +5,7 @@ use Rattle.std.specs.List.{All, flat_map}
 use Rattle.std.specs.Int.{Width, w16, w32, w64, byte_len, from_be_bytes, to_be_bytes, cast_signed, cast_unsigned}
 use Rattle.std.proofs.lemmas.Bool.{cases_lt, ltb-false, le-ltb, lt-ltb, leb-true, le-leb, eqb-true, eq-eqb}
 use Rattle.std.proofs.lemmas.Int.{to_z-of_z, of_z-to_z}
+use mir.Val.{bits}
 use Rattle.std.proofs.Math.Facts.{sfits_to_z, Fits-of_lt, Fits-of_z}
 use Rattle.std.proofs.lemmas.List.{append-nil, take_at, drop_at, take-append-drop, length-append, length-take, get_or-drop, get_or-take, get_or_past}
 use Rattle.std.proofs.lemmas.List.Concat.{flat_map-cons}
@@ -166,38 +167,27 @@ pub record IsWide (w : Width) : Type 0 where
   pub signed_back : (n : ℕ) → n < 256 ^ byte_len w → cast_unsigned w (cast_signed w n) ≡ n
   pub bits_fit : (z : ℤ) → FitsSigned w z → cast_unsigned w z < 256 ^ byte_len w
 
-pub wide16 : IsWide w16
-wide16 = record {
-  len = λ n. refl;
-  back = λ bytes len fits. be_bytes_2 bytes _ len fits refl;
-  again = λ n lt. from_be_bytes-to_be_bytes_2 n lt;
-  below = λ bytes fits. omega (arith, fits 0, fits 1);
-  signed_fits = λ n lt. sfits_to_z (Fits-of_lt lt);
-  signed_back = λ n lt. of_z-to_z w16 n lt;
-  bits_fit = λ z fits. (Fits-of_z fits).fits;
+-- a width is wide where its bytes are those of its numbers
+wide : (w : Width) → ((n : ℕ) → length (to_be_bytes w n) ≡ byte_len w) → ((bytes : List ℕ) → length bytes ≡ byte_len w → IsBytes bytes → to_be_bytes w (from_be_bytes w bytes) ≡ bytes)
+    → ((n : ℕ) → n < 256 ^ byte_len w → from_be_bytes w (to_be_bytes w n) ≡ n) → ((bytes : List ℕ) → IsBytes bytes → from_be_bytes w bytes < 256 ^ byte_len w) → 256 ^ byte_len w ≡ 2 ^ bits w → IsWide w
+wide w len back again below most = record {
+  len = len;
+  back = back;
+  again = again;
+  below = below;
+  signed_fits = λ n lt. sfits_to_z (Fits-of_lt (rw most at lt));
+  signed_back = λ n lt. of_z-to_z w n (rw most at lt);
+  bits_fit = λ z fits. rw most (Fits-of_z fits).fits;
 }
+
+pub wide16 : IsWide w16
+wide16 = wide w16 (λ n. refl) (λ bytes len fits. be_bytes_2 bytes _ len fits refl) from_be_bytes-to_be_bytes_2 (λ bytes fits. omega (arith, fits 0, fits 1)) refl
 
 pub wide32 : IsWide w32
-wide32 = record {
-  len = λ n. refl;
-  back = λ bytes len fits. be_bytes_4 bytes _ len fits refl;
-  again = λ n lt. from_be_bytes-to_be_bytes_4 n lt;
-  below = λ bytes fits. omega (arith, fits 0, fits 1, fits 2, fits 3);
-  signed_fits = λ n lt. sfits_to_z (Fits-of_lt lt);
-  signed_back = λ n lt. of_z-to_z w32 n lt;
-  bits_fit = λ z fits. (Fits-of_z fits).fits;
-}
+wide32 = wide w32 (λ n. refl) (λ bytes len fits. be_bytes_4 bytes _ len fits refl) from_be_bytes-to_be_bytes_4 (λ bytes fits. omega (arith, fits 0, fits 1, fits 2, fits 3)) refl
 
 pub wide64 : IsWide w64
-wide64 = record {
-  len = λ n. refl;
-  back = λ bytes len fits. be_bytes_8 bytes _ len fits refl;
-  again = λ n lt. from_be_bytes-to_be_bytes_8 n lt;
-  below = λ bytes fits. omega (arith, fits 0, fits 1, fits 2, fits 3, fits 4, fits 5, fits 6, fits 7);
-  signed_fits = λ n lt. sfits_to_z (Fits-of_lt lt);
-  signed_back = λ n lt. of_z-to_z w64 n lt;
-  bits_fit = λ z fits. (Fits-of_z fits).fits;
-}
+wide64 = wide w64 (λ n. refl) (λ bytes len fits. be_bytes_8 bytes _ len fits refl) from_be_bytes-to_be_bytes_8 (λ bytes fits. omega (arith, fits 0, fits 1, fits 2, fits 3, fits 4, fits 5, fits 6, fits 7)) refl
 
 number_takes : (w : Width) → IsWide w → (bytes : List ℕ) (x : ℕ × List ℕ) → IsBytes bytes → (number w).read bytes ≡ Ok x → Takes bytes (to_be_bytes w x.0) x.1 × (x.0 < 256 ^ byte_len w)
 number_takes w wide bytes x fits e =

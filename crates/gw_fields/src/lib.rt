@@ -13,13 +13,16 @@ mod numbers;
 mod receivers;
 mod spelled;
 
-pub use choices::{OneByte, read_one_of};
+pub use choices::{ByByte, OneByte};
 pub use error::{Bad, ReadError, fault};
 pub use items::Items;
 pub use keys::{Keyed, keys_ascend};
-pub use lists::{Elements, Plain, put_elements, put_listed, read_elements, read_listed};
+pub use lists::{
+    Anywhere, Elements, Front, Plain, Put, Reading, put_elements, put_listed, read_elements,
+    read_listed,
+};
 pub use numbers::{
-    put_count, read_count, read_ranged_u8, read_ranged_u16, read_ranged_u32, read_ranged_u64,
+    IfAny, put_count, read_count, read_ranged_u8, read_ranged_u16, read_ranged_u32, read_ranged_u64,
 };
 pub use receivers::{Receiver, Room};
 pub use spelled::{NumberFormat, Spelled, put_behind};

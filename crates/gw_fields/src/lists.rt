@@ -13,42 +13,62 @@ use crate::spelled::Spelled;
 use std::alloc::Global;
 use std::marker::PhantomData;
 
-/// A list of the format, by how an element of it is put and read. Reading one may depend on the elements
-/// before it and on how many come after it.
+/// A value that bytes are put for. How it is read may depend on where it stands.
+pub trait Put<Format>: Drop {
+    /// The bytes that spell a value.
+    ghost spelling: { Self → List ℕ };
+
+    /// Puts the bytes of a value into a receiver.
+    fn put_into<R: Receiver>(&self, to: &mut R) -> Result<(), R::Refusal>
+        ensures { Puts R.content to.old to.new (spelling self.now) result };
+}
+
+/// The format of values that are read alike wherever they stand.
+pub struct Anywhere<Format>(PhantomData<Format>);
+
+impl<Format, T: Spelled<Format>> Put<Anywhere<Format>> for T {
+    ghost spelling = { T.Spelled.spelling };
+
+    fn put_into<R: Receiver>(&self, to: &mut R) -> Result<(), R::Refusal> {
+        self.put(to)
+    }
+}
+
+/// The elements of a list that were read before one.
+pub type Front<'f, L> = &'f [<L as Elements>::Item];
+
+/// What is read of a list's element, and the bytes after it.
+pub type Reading<'a, L> = Result<(<L as Elements>::Item, &'a [u8]), ReadError>;
+
+/// A list of the format, by how an element of it is read, which may depend on the elements before it and on how many come
+/// after it.
 pub trait Elements {
     type Item: Drop;
-
-    /// The bytes that spell an element.
-    ghost spelling: { Self.Item → List ℕ };
 
     /// The element that the front of the bytes spells behind those at the front and with so many after it, and
     /// the bytes after it, or the first fault.
     ghost reading: { List Self.Item → ℕ → List ℕ → Read Self.Item };
 
-    /// Puts the bytes of an element into a receiver.
-    fn put_element<R: Receiver>(to: &mut R, element: &Self::Item) -> Result<(), R::Refusal>
-        ensures { Puts R.content to.old to.new (spelling element.now) result };
-
     /// The element at the front of the bytes, and the bytes after it.
-    fn read_element<'a>(
+    fn read<'a>(
         alloc: Global,
-        front: &[Self::Item],
+        front: Front<Self>,
         left: usize,
         bytes: &'a [u8],
-    ) -> Result<(Self::Item, &'a [u8]), ReadError>
+    ) -> Reading<'a, Self>
         ensures { Gives (λ x. (x.0, x.1.now)) result (reading front.now left bytes.now) };
 }
 
 /// Puts the bytes of elements into a receiver.
 #[tactic(auto, using(crate::proofs::Receiving::joining))]
-pub fn put_elements<L: Elements, R: Receiver>(
+pub fn put_elements<Format, T: Put<Format>, R: Receiver>(
     to: &mut R,
-    elements: &[L::Item],
+    elements: &[T],
 ) -> Result<(), R::Refusal>
-    ensures { Puts R.content to.old to.new (flat_map L.spelling elements.now) result }
+    ensures { Puts R.content to.old to.new (flat_map T.spelling elements.now) result }
 {
     for element in elements {
-        L::put_element(to, element)?;
+        element.put_into(to)?;
     }
     Ok(())
 }
@@ -65,7 +85,7 @@ pub fn read_elements<L: Elements>(
     let mut rest = bytes;
     for i in 0..n {
         let left = n - 1 - i;
-        let (item, after) = L::read_element(alloc, items.as_slice(), left, rest)?;
+        let (item, after) = L::read(alloc, items.as_slice(), left, rest)?;
         items.push(item)?;
         rest = after;
     }
@@ -74,14 +94,14 @@ pub fn read_elements<L: Elements>(
 
 /// Puts the count of elements into a receiver, and their bytes.
 #[tactic(auto, using(crate::proofs::Receiving::joining))]
-pub fn put_listed<L: Elements, R: Receiver>(
+pub fn put_listed<Format, T: Put<Format>, R: Receiver>(
     to: &mut R,
-    elements: &[L::Item],
+    elements: &[T],
 ) -> Result<(), R::Refusal>
-    ensures { Puts R.content to.old to.new (list_spelling L.spelling elements.now) result }
+    ensures { Puts R.content to.old to.new (list_spelling T.spelling elements.now) result }
 {
     put_count(to, elements.len())?;
-    put_elements::<L, R>(to, elements)
+    put_elements(to, elements)
 }
 
 /// A count within two limits, and as many elements.
@@ -103,20 +123,9 @@ pub struct Plain<Format, T>(PhantomData<(Format, T)>);
 impl<Format, T: Spelled<Format>> Elements for Plain<Format, T> {
     type Item = T;
 
-    ghost spelling = { T.spelling };
-
     ghost reading = { λ front left. T.reading };
 
-    fn put_element<R: Receiver>(to: &mut R, element: &T) -> Result<(), R::Refusal> {
-        element.put(to)
-    }
-
-    fn read_element<'a>(
-        alloc: Global,
-        _front: &[T],
-        _left: usize,
-        bytes: &'a [u8],
-    ) -> Result<(T, &'a [u8]), ReadError> {
+    fn read<'a>(alloc: Global, _: Front<Self>, _: usize, bytes: &'a [u8]) -> Reading<'a, Self> {
         T::read(alloc, bytes)
     }
 }

@@ -2,7 +2,7 @@
 
 ghost use Rattle.std.specs.Prelude.{◌≡◌, ◌∷◌};
 ghost use Rattle.std.specs.Int.{w16, w32, w64, to_be_bytes};
-ghost use Rattle.gw_fields.specs.Fields.{byte, number, signed, ranged, count, count_spelling, optional_spelling, optional_read};
+ghost use Rattle.gw_fields.specs.Fields.{byte, number, signed, flag, ranged, count, count_spelling, optional_spelling, optional_read};
 ghost use Rattle.gw_fields.specs.Receivers.{Puts};
 ghost use Rattle.gw_fields.specs.Answers.{Gives};
 
@@ -11,6 +11,7 @@ use crate::error::*;
 use crate::receivers::Receiver;
 use crate::spelled::{NumberFormat, Spelled, put_behind};
 use std::alloc::Global;
+use std::marker::PhantomData;
 
 impl Spelled<NumberFormat> for u8 {
     ghost spelling = { byte.spell };
@@ -118,7 +119,29 @@ impl Spelled<NumberFormat> for i64 {
     }
 }
 
-impl<Format, T: Spelled<Format>> Spelled<Format> for Option<T> {
+impl Spelled<NumberFormat> for bool {
+    ghost spelling = { flag.spell };
+
+    ghost reading = { flag.read };
+
+    fn put<R: Receiver>(&self, to: &mut R) -> Result<(), R::Refusal> {
+        to.put_bytes(&[*self as u8])
+    }
+
+    fn read(alloc: Global, bytes: &[u8]) -> Result<(bool, &[u8]), ReadError> {
+        let (flag, rest) = u8::read(alloc, bytes)?;
+        match flag {
+            0 => Ok((false, rest)),
+            1 => Ok((true, rest)),
+            _ => Err(fault(TAG, bytes)),
+        }
+    }
+}
+
+/// The format of a value of a format, or of none.
+pub struct IfAny<Format>(PhantomData<Format>);
+
+impl<Format, T: Spelled<Format>> Spelled<IfAny<Format>> for Option<T> {
     ghost spelling = { optional_spelling T.spelling };
 
     ghost reading = { optional_read T.reading };

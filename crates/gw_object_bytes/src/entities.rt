@@ -6,10 +6,11 @@ ghost use Rattle.gw_fields.specs.Fields.{plain};
 ghost use Rattle.gw_object.specs.Entities.{is_letter, letter, IsLettered, EntityFits, EntityAscends, AreNamesakes, is_named, new_name, entity};
 ghost use Rattle.gw_fields.specs.Answers.{Gives};
 
+use crate::ObjectFormat;
 use crate::kinds::{kind_ascends, kind_fits, put_fields, tag_of};
 use gw_fields::{
-    Elements, Items, NumberFormat, ReadError, Receiver, Spelled, fault, put_listed, read_listed,
-    read_one_of, read_ranged_u32,
+    Elements, Front, Items, Put, ReadError, Reading, Receiver, Spelled, fault, put_listed,
+    read_listed, read_ranged_u32,
 };
 use gw_object::codes::{NOT_CANONICAL, TAG};
 use gw_object::{Entity, Function, GREATEST_CAPACITY, Kind, MOST_LETTERS, Table};
@@ -42,20 +43,9 @@ struct Letters;
 impl Elements for Letters {
     type Item = u8;
 
-    ghost spelling = { letter.spell };
-
     ghost reading = { (plain letter).read };
 
-    fn put_element<R: Receiver>(to: &mut R, letter: &u8) -> Result<(), R::Refusal> {
-        letter.put(to)
-    }
-
-    fn read_element<'a>(
-        alloc: Global,
-        _front: &[u8],
-        _left: usize,
-        bytes: &'a [u8],
-    ) -> Result<(u8, &'a [u8]), ReadError> {
+    fn read<'a>(alloc: Global, _: Front<Self>, _: usize, bytes: &'a [u8]) -> Reading<'a, Self> {
         let (letter, rest) = u8::read(alloc, bytes)?;
         if !is_letter_of_name(letter) {
             return Err(fault(TAG, bytes));
@@ -80,30 +70,27 @@ fn read_new_name<'a>(
     Ok((Items::from_vec(name), rest))
 }
 
+impl Put<ObjectFormat> for Entity {
+    ghost spelling = { entity.spell };
+
+    #[tactic(auto, using(gw_fields::proofs::Receiving::joining))]
+    fn put_into<R: Receiver>(&self, to: &mut R) -> Result<(), R::Refusal> {
+        tag_of(&self.kind).put(to)?;
+        put_listed(to, self.name.as_slice())?;
+        put_fields(to, &self.kind)
+    }
+}
+
 /// The entities; no two of a kind have one name.
 pub struct Entities;
 
 impl Elements for Entities {
     type Item = Entity;
 
-    ghost spelling = { entity.spell };
-
     ghost reading = { entity.read };
 
-    #[tactic(auto, using(gw_fields::proofs::Receiving::joining))]
-    fn put_element<R: Receiver>(to: &mut R, entity: &Entity) -> Result<(), R::Refusal> {
-        tag_of(&entity.kind).put(to)?;
-        put_listed::<Letters, R>(to, entity.name.as_slice())?;
-        put_fields(to, &entity.kind)
-    }
-
     #[tactic(auto, unfolding(gw_object::specs::Entities::entity_read))]
-    fn read_element<'a>(
-        alloc: Global,
-        front: &[Entity],
-        _left: usize,
-        bytes: &'a [u8],
-    ) -> Result<(Entity, &'a [u8]), ReadError> {
+    fn read<'a>(alloc: Global, front: Front<Self>, _: usize, bytes: &'a [u8]) -> Reading<'a, Self> {
         let (tag, rest) = u8::read(alloc, bytes)?;
         match tag {
             1 => {
@@ -124,7 +111,7 @@ impl Elements for Entities {
             }
             4 => {
                 let (name, rest) = read_new_name(alloc, front, tag, rest)?;
-                let (set, rest) = read_one_of::<NumberFormat, bool>(alloc, rest)?;
+                let (set, rest) = bool::read(alloc, rest)?;
                 let kind = Kind::Switch(set);
                 Ok((Entity { name, kind }, rest))
             }

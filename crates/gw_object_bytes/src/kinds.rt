@@ -12,8 +12,8 @@ use crate::ObjectFormat;
 use gw_block_bytes::operand_fits;
 use gw_blocks::Operand;
 use gw_fields::{
-    Elements, Items, OneByte, ReadError, Receiver, Spelled, fault, put_listed, read_listed,
-    read_ranged_u16, read_ranged_u32,
+    Elements, Front, Items, Put, ReadError, Reading, Receiver, Spelled, fault, put_listed,
+    read_listed, read_ranged_u16, read_ranged_u32,
 };
 use gw_object::codes::NOT_CANONICAL;
 use gw_object::{
@@ -77,26 +77,23 @@ fn read_above(alloc: Global, before: Option<i64>, bytes: &[u8]) -> Result<(i64, 
     Ok((x, rest))
 }
 
+impl Put<ObjectFormat> for Point {
+    ghost spelling = { point.spell };
+
+    fn put_into<R: Receiver>(&self, to: &mut R) -> Result<(), R::Refusal> {
+        (self.x, self.y).put(to)
+    }
+}
+
 /// The points of a function, ascending by argument.
 struct Points;
 
 impl Elements for Points {
     type Item = Point;
 
-    ghost spelling = { point.spell };
-
     ghost reading = { point.read };
 
-    fn put_element<R: Receiver>(to: &mut R, point: &Point) -> Result<(), R::Refusal> {
-        (point.x, point.y).put(to)
-    }
-
-    fn read_element<'a>(
-        alloc: Global,
-        front: &[Point],
-        _left: usize,
-        bytes: &'a [u8],
-    ) -> Result<(Point, &'a [u8]), ReadError> {
+    fn read<'a>(alloc: Global, front: Front<Self>, _: usize, bytes: &'a [u8]) -> Reading<'a, Self> {
         let before = front.last().map(|point| point.x);
         let (x, rest) = read_above(alloc, before, bytes)?;
         let (y, rest) = i64::read(alloc, rest)?;
@@ -112,7 +109,7 @@ impl Spelled<ObjectFormat> for Function {
     #[tactic(auto, using(gw_fields::proofs::Receiving::joining), unfolding(gw_object::specs::Entities::function))]
     fn put<R: Receiver>(&self, to: &mut R) -> Result<(), R::Refusal> {
         self.argument.put(to)?;
-        put_listed::<Points, R>(to, self.points.as_slice())
+        put_listed(to, self.points.as_slice())
     }
 
     #[tactic(auto, unfolding(gw_object::specs::Entities::function))]
@@ -132,7 +129,7 @@ pub fn put_fields<R: Receiver>(to: &mut R, kind: &Kind) -> Result<(), R::Refusal
     match kind {
         Kind::Facility | Kind::Queue | Kind::Chain => Ok(()),
         Kind::Storage(capacity) => capacity.put(to),
-        Kind::Switch(set) => set.byte().put(to),
+        Kind::Switch(set) => set.put(to),
         Kind::Savevalue(value) => value.put(to),
         Kind::Table(table) => table.put(to),
         Kind::Variable(procedure) | Kind::BooleanVariable(procedure) => procedure.put(to),

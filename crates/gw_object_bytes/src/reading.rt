@@ -16,7 +16,8 @@ use gw_blocks::Block;
 use gw_code::Procedure;
 use gw_code_bytes::CodeFormat;
 use gw_fields::{
-    Bad, Items, Plain, ReadError, Spelled, fault, read_elements, read_listed, read_ranged_u64,
+    Bad, IfAny, Items, Plain, ReadError, Spelled, fault, read_elements, read_listed,
+    read_ranged_u64,
 };
 use gw_object::codes::{LIMIT, MAGIC, MEMORY, TRAILING, VERSION};
 use gw_object::{
@@ -67,10 +68,10 @@ fn read_tables(
         0,
         MOST_RETURN_ROWS,
     )?;
-    let (states, rest) = read_elements::<Plain<ObjectFormat, Option<TableState>>>(
+    let (states, rest) = read_elements::<Plain<IfAny<ObjectFormat>, Option<TableState>>>(
         alloc, blocks, rest,
     )?;
-    let (chain_states, rest) = read_elements::<Plain<ObjectFormat, Option<TableState>>>(
+    let (chain_states, rest) = read_elements::<Plain<IfAny<ObjectFormat>, Option<TableState>>>(
         alloc, chains, rest,
     )?;
     let (weights, rest) = read_elements::<Weights>(alloc, blocks, rest)?;

@@ -17,7 +17,7 @@ impl Spelled<ObjectFormat> for ReturnRow {
 
     #[tactic(auto, unfolding(gw_object::specs::Grammar::return_row))]
     fn put<R: Receiver>(&self, to: &mut R) -> Result<(), R::Refusal> {
-        put_listed::<AscendingNumbers, R>(to, self.blocks.as_slice())
+        put_listed(to, self.blocks.as_slice())
     }
 
     #[tactic(auto, unfolding(gw_object::specs::Grammar::return_row))]

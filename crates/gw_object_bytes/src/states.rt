@@ -13,8 +13,8 @@ use crate::ObjectFormat;
 use gw_block_bytes::{is_parameter, read_parameter_above};
 use gw_blocks::{MOST_PARAMETERS, Units};
 use gw_fields::{
-    Elements, Items, ReadError, Receiver, Spelled, fault, keys_ascend, put_behind, put_listed,
-    read_listed, read_ranged_u32,
+    Elements, Front, Items, Put, ReadError, Reading, Receiver, Spelled, fault, keys_ascend,
+    put_behind, put_listed, read_listed, read_ranged_u32,
 };
 use gw_object::codes::{NOT_CANONICAL, TAG};
 use gw_object::{GREATEST_UNITS, MOST_ENTITIES, TableKind, TableParameter, TableState};
@@ -57,26 +57,23 @@ impl Spelled<ObjectFormat> for TableKind {
     }
 }
 
+impl Put<ObjectFormat> for TableParameter {
+    ghost spelling = { parameter.spell };
+
+    fn put_into<R: Receiver>(&self, to: &mut R) -> Result<(), R::Refusal> {
+        (self.number, self.kind).put(to)
+    }
+}
+
 /// The parameters that are set, ascending by number.
 struct SetParameters;
 
 impl Elements for SetParameters {
     type Item = TableParameter;
 
-    ghost spelling = { parameter.spell };
-
     ghost reading = { parameter.read };
 
-    fn put_element<R: Receiver>(to: &mut R, parameter: &TableParameter) -> Result<(), R::Refusal> {
-        (parameter.number, parameter.kind).put(to)
-    }
-
-    fn read_element<'a>(
-        alloc: Global,
-        front: &[TableParameter],
-        _left: usize,
-        bytes: &'a [u8],
-    ) -> Result<(TableParameter, &'a [u8]), ReadError> {
+    fn read<'a>(alloc: Global, front: Front<Self>, _: usize, bytes: &'a [u8]) -> Reading<'a, Self> {
         let before = front.last().map(|parameter| parameter.number);
         let (number, rest) = read_parameter_above(alloc, before, bytes)?;
         let (kind, rest) = TableKind::read(alloc, rest)?;
@@ -90,20 +87,9 @@ pub struct AscendingNumbers;
 impl Elements for AscendingNumbers {
     type Item = u16;
 
-    ghost spelling = { owned.spell };
-
     ghost reading = { owned.read };
 
-    fn put_element<R: Receiver>(to: &mut R, number: &u16) -> Result<(), R::Refusal> {
-        number.put(to)
-    }
-
-    fn read_element<'a>(
-        alloc: Global,
-        front: &[u16],
-        _left: usize,
-        bytes: &'a [u8],
-    ) -> Result<(u16, &'a [u8]), ReadError> {
+    fn read<'a>(alloc: Global, front: Front<Self>, _: usize, bytes: &'a [u8]) -> Reading<'a, Self> {
         read_above(alloc, front.last().copied(), bytes)
     }
 }
@@ -114,21 +100,9 @@ struct Held;
 impl Elements for Held {
     type Item = Units;
 
-    ghost spelling = { held.spell };
-
     ghost reading = { held.read };
 
-    #[tactic(auto, unfolding(gw_blocks::specs::Grammar::units))]
-    fn put_element<R: Receiver>(to: &mut R, units: &Units) -> Result<(), R::Refusal> {
-        units.put(to)
-    }
-
-    fn read_element<'a>(
-        alloc: Global,
-        front: &[Units],
-        _left: usize,
-        bytes: &'a [u8],
-    ) -> Result<(Units, &'a [u8]), ReadError> {
+    fn read<'a>(alloc: Global, front: Front<Self>, _: usize, bytes: &'a [u8]) -> Reading<'a, Self> {
         let before = front.last().map(|units| units.entity);
         let (entity, rest) = read_above(alloc, before, bytes)?;
         let (number, rest) = read_ranged_u32(alloc, rest, 1, GREATEST_UNITS)?;
@@ -141,11 +115,11 @@ impl Spelled<ObjectFormat> for TableState {
 
     ghost reading = { state.read };
 
-    #[tactic(auto, using(gw_fields::proofs::Receiving::joining), unfolding(gw_object::specs::Grammar::state, gw_blocks::specs::Grammar::units))]
+    #[tactic(auto, using(gw_fields::proofs::Receiving::joining), unfolding(gw_object::specs::Grammar::state))]
     fn put<R: Receiver>(&self, to: &mut R) -> Result<(), R::Refusal> {
-        put_listed::<SetParameters, R>(to, self.parameters.as_slice())?;
-        put_listed::<AscendingNumbers, R>(to, self.facilities.as_slice())?;
-        put_listed::<Held, R>(to, self.units.as_slice())
+        put_listed(to, self.parameters.as_slice())?;
+        put_listed(to, self.facilities.as_slice())?;
+        put_listed(to, self.units.as_slice())
     }
 
     /// Parameters, facilities and units.

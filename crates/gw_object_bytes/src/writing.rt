@@ -6,15 +6,9 @@ ghost use Rattle.gw_fields.specs.Receivers.{Puts};
 ghost use Rattle.gw_object.specs.Grammar.{head, spelling};
 ghost use Rattle.gw_object_bytes.specs.Tables.{lists_spelling, tables_spelling};
 
-use crate::entities::Entities;
-use crate::lists::{Seeds, Weights};
-use crate::{Memory, ObjectFormat};
-use gw_block_bytes::BlockFormat;
-use gw_blocks::Block;
-use gw_code::Procedure;
-use gw_code_bytes::CodeFormat;
-use gw_fields::{Plain, Receiver, Room, Spelled, put_elements, put_listed};
-use gw_object::{Object, Parts, ReturnRow, TableState};
+use crate::Memory;
+use gw_fields::{Receiver, Room, Spelled, put_elements, put_listed};
+use gw_object::{Object, Parts};
 use std::alloc::Global;
 
 /// The letters `GPSO` and the version.
@@ -25,19 +19,16 @@ fn put_head<R: Receiver>(to: &mut R) -> Result<(), R::Refusal>
     to.put_bytes(b"GPSO\x00\x01")
 }
 
-/// What stands for each block, or for each user chain: its row of the state table.
-type Rows = Plain<ObjectFormat, Option<TableState>>;
-
 /// The return rows, and what stands for each block and each user chain: its row of the state table, and its weight.
 #[tactic(auto, using(gw_fields::proofs::Receiving::joining), unfolding(gw_object::specs::Grammar::tables))]
 fn put_tables<R: Receiver>(to: &mut R, parts: &Parts) -> Result<(), R::Refusal>
     ensures { Puts R.content to.old to.new (tables_spelling parts.now) result }
 {
-    put_listed::<Plain<ObjectFormat, ReturnRow>, R>(to, parts.returns.as_slice())?;
-    put_elements::<Rows, R>(to, parts.states.as_slice())?;
-    put_elements::<Rows, R>(to, parts.chain_states.as_slice())?;
-    put_elements::<Weights, R>(to, parts.weights.as_slice())?;
-    put_elements::<Weights, R>(to, parts.chain_weights.as_slice())
+    put_listed(to, parts.returns.as_slice())?;
+    put_elements(to, parts.states.as_slice())?;
+    put_elements(to, parts.chain_states.as_slice())?;
+    put_elements(to, parts.weights.as_slice())?;
+    put_elements(to, parts.chain_weights.as_slice())
 }
 
 /// The entities, procedures and blocks, and what stands behind them.
@@ -45,9 +36,9 @@ fn put_tables<R: Receiver>(to: &mut R, parts: &Parts) -> Result<(), R::Refusal>
 fn put_lists<R: Receiver>(to: &mut R, parts: &Parts) -> Result<(), R::Refusal>
     ensures { Puts R.content to.old to.new (lists_spelling parts.now) result }
 {
-    put_listed::<Entities, R>(to, parts.entities.as_slice())?;
-    put_listed::<Plain<CodeFormat, Procedure>, R>(to, parts.procedures.as_slice())?;
-    put_listed::<Plain<BlockFormat, Block>, R>(to, parts.blocks.as_slice())?;
+    put_listed(to, parts.entities.as_slice())?;
+    put_listed(to, parts.procedures.as_slice())?;
+    put_listed(to, parts.blocks.as_slice())?;
     put_tables(to, parts)
 }
 
@@ -57,7 +48,7 @@ fn put_parts<R: Receiver>(to: &mut R, parts: &Parts) -> Result<(), R::Refusal>
     ensures { Puts R.content to.old to.new (spelling parts.now) result }
 {
     put_head(to)?;
-    put_listed::<Seeds, R>(to, parts.seeds.as_slice())?;
+    put_listed(to, parts.seeds.as_slice())?;
     parts.count.put(to)?;
     put_lists(to, parts)
 }

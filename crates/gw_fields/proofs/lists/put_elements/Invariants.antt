@@ -5,4 +5,4 @@ use Rattle.gw_fields.proofs.lists.put_elements.Given as goal
 
 abbrev pub invariant-loop-element : goal.invariant-loop-element
 invariant-loop-element g l =
-    g.R.Receiver.content l.to ≡ with_bytes (flat_map g.L.Elements.spelling (take l.element-index l.elements)) (g.R.Receiver.content l.fn.to)
+    g.R.Receiver.content l.to ≡ with_bytes (flat_map g.T.Put.spelling (take l.element-index l.elements)) (g.R.Receiver.content l.fn.to)
