@@ -1,5 +1,10 @@
--- Calls that are made one after the other, each on what the one before left.
-use Rattle.std.specs.Prelude.{List, [], ◌∷◌}
+-- Calls on a chain that are made one after the other, each on what the one before left.
+use Rattle.std.specs.Prelude.{ℕ, List, [], ◌∷◌}
+
+-- a chain: its members in order, and to which place a walk over it has come, 0 where nobody walks
+pub record BodyState (M : Type 0) : Type 0 where
+  pub members : List M
+  pub place : ℕ
 
 module _ {K S : Type 0} (after : K → S → S) where
   -- what calls leave

@@ -5,9 +5,7 @@ ghost use Rattle.gw_chains.specs.Chain.{behind, ahead, first, rest};
 ghost use Rattle.gw_chains.specs.declared.tx.Member.{Member};
 
 use crate::bucket::{Bucket, Link};
-use crate::buckets::reserve_links;
-use crate::row::{insert_ahead, insert_behind, pop_member};
-use crate::tx::MOST;
+use crate::row::{insert_ahead, insert_behind, pop_member, reserve};
 use crate::{Member, Memory, Tx};
 use slab::Slab;
 use std::alloc::Global;
@@ -28,11 +26,10 @@ pub struct Cec {
 }
 
 impl Model for Cec {
-    ghost use Rattle.std.specs.Prelude.{◌-◌, min, neg_ℤ};
-    ghost use Rattle.std.specs.VecDeque.{deque_len, deque_capacity};
-    ghost use Rattle.slab.specs.Slab.{get, slab_len};
+    ghost use Rattle.std.specs.Prelude.{neg_ℤ};
+    ghost use Rattle.slab.specs.Slab.{get};
     ghost use Rattle.gw_chains.specs.Chain.{Chain};
-    ghost use Rattle.gw_chains.specs.Lists.{room_of};
+    ghost use Rattle.gw_chains.specs.Slots.{row_room};
     ghost use Rattle.gw_chains.specs.Buckets.{members_of, AreCounted};
     ghost use Rattle.gw_chains.specs.declared.tx.Member.{Member};
 
@@ -43,8 +40,7 @@ impl Model for Cec {
 
     ghost view = { λ c. record {
       items = members_of (get c.links) c.buckets.items;
-      room = room_of c.count (min (c.links.capacity - slab_len c.links)
-          (deque_capacity c.buckets - deque_len c.buckets));
+      room = row_room c.count c.buckets c.links;
     } };
 }
 
@@ -67,11 +63,7 @@ impl Cec {
         ensures kept { self.old.room ≤ self.new.room }
         ensures refused { OnErr result (self.old.room < more) }
     {
-        if MOST - self.count < more {
-            return Err(Memory);
-        }
-        reserve_links(&mut self.links, more)?;
-        self.buckets.reserve(more)
+        reserve(&mut self.buckets, &mut self.links, self.count, more)
     }
 
     /// Puts it behind its peers: behind all of equal or higher priority. There is room.

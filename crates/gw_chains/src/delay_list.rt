@@ -5,10 +5,8 @@ ghost use Rattle.gw_chains.specs.Chain.{behind};
 ghost use Rattle.gw_chains.specs.declared.tx.Member.{Member};
 
 use crate::bucket::{Bucket, Link};
-use crate::buckets::reserve_links;
-use crate::row::{insert_behind, remove_member, unlink};
+use crate::row::{insert_behind, remove_member, reserve, unlink};
 use crate::spot::member_at;
-use crate::tx::MOST;
 use crate::walk::{Walk, advance, walk_at, walk_from};
 use crate::{Member, Memory, Tx};
 use slab::Slab;
@@ -31,10 +29,10 @@ pub struct DelayList {
 }
 
 impl Model for DelayList {
-    ghost use Rattle.std.specs.Prelude.{◌-◌, min, neg_ℤ};
-    ghost use Rattle.std.specs.VecDeque.{deque_len, deque_capacity};
-    ghost use Rattle.slab.specs.Slab.{get, slab_len};
-    ghost use Rattle.gw_chains.specs.Lists.{Walked, room_of};
+    ghost use Rattle.std.specs.Prelude.{neg_ℤ};
+    ghost use Rattle.slab.specs.Slab.{get};
+    ghost use Rattle.gw_chains.specs.Lists.{Walked};
+    ghost use Rattle.gw_chains.specs.Slots.{row_room};
     ghost use Rattle.gw_chains.specs.Buckets.{members_of, AreCounted};
     ghost use Rattle.gw_chains.specs.Spots.{place_at, IsWalk};
     ghost use Rattle.gw_chains.specs.declared.tx.Member.{Member};
@@ -47,8 +45,7 @@ impl Model for DelayList {
 
     ghost view = { λ l. record {
       members = members_of (get l.links) l.buckets.items;
-      room = room_of l.count (min (l.links.capacity - slab_len l.links)
-          (deque_capacity l.buckets - deque_len l.buckets));
+      room = row_room l.count l.buckets l.links;
       place = place_at l.buckets.items l.walk.spot.bucket l.walk.spot.passed;
     } };
 }
@@ -77,11 +74,7 @@ impl DelayList {
         ensures kept { self.old.room ≤ self.new.room }
         ensures refused { OnErr result (self.old.room < more) }
     {
-        if MOST - self.count < more {
-            return Err(Memory);
-        }
-        reserve_links(&mut self.links, more)?;
-        self.buckets.reserve(more)
+        reserve(&mut self.buckets, &mut self.links, self.count, more)
     }
 
     /// How many members there are.

@@ -7,6 +7,7 @@
 mod assemblies;
 mod bucket;
 mod buckets;
+mod calls;
 mod cec;
 mod chunks;
 mod delay_chain;
@@ -26,12 +27,13 @@ mod waits;
 mod walk;
 
 pub use assemblies::{Assemblies, Assembly};
+pub use calls::{CallTarget, ChainBody, ChainCall, make_calls};
 pub use cec::Cec;
-pub use delay_chain::{DelayCall, DelayChain, make_delay_calls};
+pub use delay_chain::{DelayCall, DelayChain};
 pub use delay_list::DelayList;
-pub use event_chain::{EventCall, EventChain, make_calls};
+pub use event_chain::{EventCall, EventChain};
 pub use fec::{Events, Fec};
-pub use priority_chain::{PriorityCall, PriorityChain, make_priority_calls};
+pub use priority_chain::{PriorityCall, PriorityChain};
 /// The answer where there was no memory.
 pub use std::alloc::AllocError as Memory;
 pub use tx::{Event, Member, Tx};

@@ -1,13 +1,17 @@
-//! Bodies of chains that are shorter to understand, with the same contracts: nothing but tests uses them.
+//! Bodies of chains that are shorter to understand, with the contracts of the traits: nothing but tests uses them.
 
-ghost use Rattle.std.specs.Prelude.{◌≡◌, ◌≤◌, ◌<◌, ◌+◌, ◌-◌, ◌↔◌, [], length, ◌==◌, if◌then◌else◌, option_map, is_some, slice_get, remove, IsSome, OnOk, OnErr, IsPermutation};
+ghost use Rattle.std.specs.Prelude.{◌≡◌, ◌≤◌, ◌+◌, ◌-◌, [], length, ◌==◌, option_map, IsPermutation};
 ghost use Rattle.std.specs.Iterator.{YieldsFirstRef, item_count};
 ghost use Rattle.std.specs.VecDeque.{deque_len, deque_capacity};
-ghost use Rattle.gw_chains.specs.Chain.{behind, ahead, in_time, due, first, rest};
+ghost use Rattle.gw_chains.specs.Chain.{first};
 ghost use Rattle.gw_chains.specs.Lists.{rotation};
 ghost use Rattle.gw_chains.specs.declared.tx.Event.{Event};
 ghost use Rattle.gw_chains.specs.declared.tx.Member.{Member};
 
+use crate::calls::ChainBody;
+use crate::delay_chain::DelayChain;
+use crate::event_chain::EventChain;
+use crate::priority_chain::PriorityChain;
 use crate::queue::{insert_reserved, join_behind};
 use crate::runs::{front, insert, pop_first, reserve};
 use crate::{Event, Member, Memory, Tx};
@@ -56,47 +60,12 @@ impl Fec {
         }
     }
 
-    /// Makes room for so many more members, or leaves the chain as it was.
-    pub fn reserve(&mut self, more: usize) -> Result<(), Memory>
-        ensures items { self.new.items ≡ self.old.items }
-        ensures room { OnOk result (more ≤ self.new.room) }
-        ensures kept { self.old.room ≤ self.new.room }
-        ensures refused { OnErr result (self.old.room < more) }
-    {
-        reserve(&mut self.settled, &mut self.recent, more)
-    }
-
-    /// Puts it behind all that are scheduled for `time`, in clock units, or earlier. There is room.
-    pub fn schedule(&mut self, tx: Tx, time: i64)
-        requires { 0 < self.old.room }
-        ensures items { let newcomer : Event = record { tx = tx; time = time } in
-            self.new.items ≡ in_time (λ e. e.time) newcomer self.old.items }
-        ensures room { self.old.room ≤ self.new.room + 1 }
-    {
-        insert(&mut self.settled, &mut self.recent, Event { tx, time });
-    }
-
     /// The time of the first, in clock units, if there is one.
     pub fn first_time(&self) -> Option<i64>
         ensures { result ≡ option_map (λ e. e.time) (first self.now.items) }
     {
         let event = front(&self.settled, &self.recent)?;
         Some(event.time)
-    }
-
-    /// Takes the first, if it is scheduled for `time`, in clock units, or earlier.
-    pub fn pop_due(&mut self, time: i64) -> Option<Tx>
-        ensures first { let due_now = due (λ e. e.time) time self.old.items in
-            result ≡ option_map (λ e. e.tx) (first due_now) }
-        ensures rest { let left = if is_some result then rest self.old.items else self.old.items in
-            self.new.items ≡ left }
-        ensures room { self.old.room ≤ self.new.room }
-    {
-        if time < self.first_time()? {
-            return None;
-        }
-        let event = pop_first(&mut self.settled, &mut self.recent)?;
-        Some(event.tx)
     }
 
     /// The members, in no particular order.
@@ -115,6 +84,30 @@ impl Fec {
         ensures { result ≡ length self.now.items }
     {
         self.settled.len() + self.recent.len()
+    }
+}
+
+impl ChainBody<Event> for Fec {
+    ghost state = { λ c. record { members = c.items; place = 0 } };
+
+    ghost room = { λ c. c.room };
+
+    fn reserve(&mut self, more: usize) -> Result<(), Memory> {
+        reserve(&mut self.settled, &mut self.recent, more)
+    }
+}
+
+impl EventChain for Fec {
+    fn schedule(&mut self, event: Event) {
+        insert(&mut self.settled, &mut self.recent, event);
+    }
+
+    fn pop_due(&mut self, time: i64) -> Option<Tx> {
+        if time < self.first_time()? {
+            return None;
+        }
+        let event = pop_first(&mut self.settled, &mut self.recent)?;
+        Some(event.tx)
     }
 }
 
@@ -185,47 +178,6 @@ impl Cec {
         }
     }
 
-    /// Makes room for so many more members, or leaves the chain as it was.
-    pub fn reserve(&mut self, more: usize) -> Result<(), Memory>
-        ensures items { self.new.items ≡ self.old.items }
-        ensures room { OnOk result (more ≤ self.new.room) }
-        ensures kept { self.old.room ≤ self.new.room }
-        ensures refused { OnErr result (self.old.room < more) }
-    {
-        self.members.reserve(more)
-    }
-
-    /// Puts it behind its peers: behind all of equal or higher priority. There is room.
-    pub fn insert_behind(&mut self, tx: Tx, priority: i32)
-        requires { 0 < self.old.room }
-        ensures items { let newcomer : Member = record { tx = tx; priority = priority } in
-            self.new.items ≡ behind (λ m. m.priority) newcomer self.old.items }
-        ensures room { self.old.room ≤ self.new.room + 1 }
-    {
-        join_behind(&mut self.members, tx, priority);
-    }
-
-    /// Puts it ahead of its peers: ahead of all of equal or lower priority. There is room.
-    pub fn insert_ahead(&mut self, tx: Tx, priority: i32)
-        requires { 0 < self.old.room }
-        ensures items { let newcomer : Member = record { tx = tx; priority = priority } in
-            self.new.items ≡ ahead (λ m. m.priority) newcomer self.old.items }
-        ensures room { self.old.room ≤ self.new.room + 1 }
-    {
-        let place = self.members.partition_point(|m| priority < m.priority);
-        insert_reserved(&mut self.members, place, Member { tx, priority });
-    }
-
-    /// Takes the first, if there is one.
-    pub fn pop_first(&mut self) -> Option<Tx>
-        ensures first { result ≡ option_map (λ m. m.tx) (first self.old.items) }
-        ensures rest { self.new.items ≡ rest self.old.items }
-        ensures room { self.old.room ≤ self.new.room }
-    {
-        let member = self.members.pop_front()?;
-        Some(member.tx)
-    }
-
     /// How many members there are.
     pub fn len(&self) -> usize
         ensures { result ≡ length self.now.items }
@@ -238,6 +190,34 @@ impl Cec {
         ensures { result ≡ (length self.now.items == 0) }
     {
         self.members.is_empty()
+    }
+}
+
+impl ChainBody<Member> for Cec {
+    ghost state = { λ c. record { members = c.items; place = 0 } };
+
+    ghost room = { λ c. c.room };
+
+    fn reserve(&mut self, more: usize) -> Result<(), Memory> {
+        self.members.reserve(more)
+    }
+}
+
+impl PriorityChain for Cec {
+    fn insert_behind(&mut self, member: Member) {
+        join_behind(&mut self.members, member.tx, member.priority);
+    }
+
+    fn insert_ahead(&mut self, member: Member) {
+        let place = self
+            .members
+            .partition_point(|m| member.priority < m.priority);
+        insert_reserved(&mut self.members, place, member);
+    }
+
+    fn pop_first(&mut self) -> Option<Tx> {
+        let member = self.members.pop_front()?;
+        Some(member.tx)
     }
 }
 
@@ -283,28 +263,31 @@ impl DelayList {
         }
     }
 
-    /// Makes room for so many more members, or leaves the list as it was.
-    pub fn reserve(&mut self, more: usize) -> Result<(), Memory>
-        ensures members { self.new.members ≡ self.old.members }
-        ensures place { self.new.place ≡ self.old.place }
-        ensures room { OnOk result (more ≤ self.new.room) }
-        ensures kept { self.old.room ≤ self.new.room }
-        ensures refused { OnErr result (self.old.room < more) }
-    {
-        self.ring.reserve(more)
-    }
-
     /// How many members there are.
     pub fn len(&self) -> usize
         ensures { result ≡ length self.now.members }
     {
         self.ring.len()
     }
+}
 
-    /// The transaction at this place, from 0, if there is one.
-    pub fn get(&self, place: usize) -> Option<Tx>
-        ensures { result ≡ option_map (λ m. m.tx) (slice_get self.now.members place) }
-    {
+impl ChainBody<Member> for DelayList {
+    ghost state = { λ l. record { members = l.members; place = l.place } };
+
+    ghost room = { λ l. l.room };
+
+    fn reserve(&mut self, more: usize) -> Result<(), Memory> {
+        self.ring.reserve(more)
+    }
+}
+
+impl DelayChain for DelayList {
+    fn insert_behind(&mut self, member: Member) {
+        turn_back(&mut self.ring, &mut self.passed);
+        join_behind(&mut self.ring, member.tx, member.priority);
+    }
+
+    fn get(&self, place: usize) -> Option<Tx> {
         if self.ring.len() <= place {
             return None;
         }
@@ -316,59 +299,23 @@ impl DelayList {
         Some(self.ring[index].tx)
     }
 
-    /// Puts it behind its peers: behind all of equal or higher priority. There is room. The walk is at the first again.
-    pub fn insert_behind(&mut self, tx: Tx, priority: i32)
-        requires { 0 < self.old.room }
-        ensures members { let newcomer : Member = record { tx = tx; priority = priority } in
-            self.new.members ≡ behind (λ m. m.priority) newcomer self.old.members }
-        ensures len { length self.new.members ≡ length self.old.members + 1 }
-        ensures place { self.new.place ≡ 0 }
-        ensures room { self.old.room ≤ self.new.room + 1 }
-    {
-        turn_back(&mut self.ring, &mut self.passed);
-        join_behind(&mut self.ring, tx, priority);
-    }
-
-    /// Removes the member at this place, from 0. There is one. The walk is at the first again.
-    pub fn remove(&mut self, place: usize)
-        requires { place < length self.old.members }
-        ensures members { self.new.members ≡ remove self.old.members place }
-        ensures len { length self.new.members + 1 ≡ length self.old.members }
-        ensures place { self.new.place ≡ 0 }
-        ensures room { self.old.room ≤ self.new.room }
-    {
+    fn remove(&mut self, place: usize) {
         turn_back(&mut self.ring, &mut self.passed);
         let _ = self.ring.remove(place);
     }
 
-    /// Begins a walk at the first member.
-    pub fn start_walk(&mut self)
-        ensures members { self.new.members ≡ self.old.members }
-        ensures place { self.new.place ≡ 0 }
-        ensures room { self.old.room ≤ self.new.room }
-    {
+    fn start_walk(&mut self) {
         turn_back(&mut self.ring, &mut self.passed);
     }
 
-    /// The transaction to which the walk has come, if it is not at the end.
-    pub fn current(&self) -> Option<Tx>
-        ensures value { result
-            ≡ option_map (λ m. m.tx) (slice_get self.now.members self.now.place) }
-        ensures there { IsSome result ↔ (self.now.place < length self.now.members) }
-    {
+    fn current(&self) -> Option<Tx> {
         if self.passed == self.ring.len() {
             return None;
         }
         Some(self.ring[0].tx)
     }
 
-    /// The walk goes on past the member to which it has come. It is not at the end.
-    pub fn pass(&mut self)
-        requires { self.old.place < length self.old.members }
-        ensures members { self.new.members ≡ self.old.members }
-        ensures place { self.new.place ≡ self.old.place + 1 }
-        ensures room { self.old.room ≤ self.new.room }
-    {
+    fn pass(&mut self) {
         match self.ring.pop_front() {
             Some(member) => {
                 self.ring.push_back_reserved(member);
@@ -378,15 +325,7 @@ impl DelayList {
         }
     }
 
-    /// Takes out the member to which the walk has come, which is then at the next. It is not at
-    /// the end.
-    pub fn take(&mut self)
-        requires { self.old.place < length self.old.members }
-        ensures members { self.new.members ≡ remove self.old.members self.old.place }
-        ensures len { length self.new.members + 1 ≡ length self.old.members }
-        ensures place { self.new.place ≡ self.old.place }
-        ensures room { self.old.room ≤ self.new.room }
-    {
+    fn take(&mut self) {
         let _ = self.ring.pop_front();
     }
 }

@@ -1,21 +1,44 @@
 //! Members in buckets that stand in one row: where few ranks occur.
 
-ghost use Rattle.std.specs.Prelude.{◌≡◌, ◌≤◌, ◌<◌, ◌+◌, ◌-◌, ◌^◌, ℕ, AllPairs, Some, IfSome, length, option_to_list, slice_get, remove};
+ghost use Rattle.std.specs.Prelude.{◌≡◌, ◌≤◌, ◌<◌, ◌+◌, ◌-◌, ◌^◌, ℕ, AllPairs, Some, IfSome, length, option_to_list, slice_get, remove, OnOk, OnErr};
 ghost use Rattle.std.specs.VecDeque.{deque_len, deque_capacity};
 ghost use Rattle.slab.specs.Slab.{get, ContainsKey, HasRoomFor};
 ghost use Rattle.gw_chains.specs.Chain.{first};
 ghost use Rattle.gw_chains.specs.Buckets.{members_of, total, upto, lower, bucket_of_one, without_first_link, below, IsHead, head_host, headed_by, with_head, Before, AreBuckets, GainMember, LoseFirst};
 ghost use Rattle.gw_chains.specs.Queues.{GrowsByOneAtMost, DoesNotGrow};
-ghost use Rattle.gw_chains.specs.Slots.{TakesOneSlot, TakesNoSlot, KeepsSlots};
+ghost use Rattle.gw_chains.specs.Slots.{TakesOneSlot, TakesNoSlot, KeepsSlots, row_room};
 ghost use Rattle.gw_chains.specs.Spots.{count_at, place_at, link_at, IsSpot, led_past, without_one, without_link};
 
+use crate::Memory;
 use crate::bucket::{Bucket, Link, Ranked};
-use crate::buckets::{bucket_of_one, link_behind, shorter};
+use crate::buckets::{bucket_of_one, link_behind, reserve_links, shorter};
 use crate::chunks::{join, replace_front};
 use crate::queue::insert_reserved;
 use crate::spot::{Spot, link_at, spot_of};
+use crate::tx::MOST;
 use slab::Slab;
 use std::collections::VecDeque;
+
+/// Makes room for so many more members beside those that there are.
+pub(crate) fn reserve<T: Ranked>(
+    row: &mut VecDeque<Bucket>,
+    links: &mut Slab<Link<T>>,
+    count: usize,
+    more: usize,
+) -> Result<(), Memory>
+    requires { count ≤ 2 ^ 62 }
+    ensures items { row.new.items ≡ row.old.items }
+    ensures slots { links.new.slots ≡ links.old.slots }
+    ensures room { OnOk result (more ≤ row_room count row.new links.new) }
+    ensures kept { row_room count row.old links.old ≤ row_room count row.new links.new }
+    ensures refused { OnErr result (row_room count row.old links.old < more) }
+{
+    if MOST - count < more {
+        return Err(Memory);
+    }
+    reserve_links(links, more)?;
+    row.reserve(more)
+}
 
 /// Puts a member behind all of its rank or a lower one. There is room.
 pub(crate) fn insert_behind<T: Ranked>(

@@ -1,4 +1,4 @@
-use Rattle.std.proofs.Common.{refl, neg_ℤ}
+use Rattle.std.proofs.Common.{neg_ℤ}
 use Rattle.gw_chains.specs.Buckets.{AreCounted}
 use Rattle.gw_chains.specs.declared.tx.Member.{Member}
 use Rattle.gw_chains.proofs.Counting.{in_slots}
@@ -6,8 +6,4 @@ use Rattle.gw_chains.proofs.cec.Cec.reserve.Goals as goal
 
 pub invariant_of-self : goal.invariant_of-self
 invariant_of-self c =
-    in_slots (λ S bs. AreCounted (λ (m : Member). neg_ℤ m.priority) S bs c.self.inside.count) _ _ _ _ c.reserve_links.ensures.slots refl c.self.invariant
-
-pub invariant_of-self-2 : goal.invariant_of-self-2
-invariant_of-self-2 c =
-    in_slots (λ S bs. AreCounted (λ (m : Member). neg_ℤ m.priority) S bs c.self.inside.count) _ _ _ _ c.reserve_links.ensures.slots c.reserve.ensures.items c.self.invariant
+    in_slots (λ S bs. AreCounted (λ (m : Member). neg_ℤ m.priority) S bs c.self.inside.count) _ _ _ _ c.reserve.ensures.slots c.reserve.ensures.items c.self.invariant
