@@ -1,5 +1,5 @@
 -- How far the numbers of an entity may have come after so many clock units.
-use Rattle.std.specs.Prelude.{ℕ, ◌*◌, ◌^◌, ◌<◌, ◌≤◌}
+use Rattle.std.specs.Prelude.{ℕ, ◌+◌, ◌*◌, ◌^◌, ◌<◌, ◌≤◌}
 use Rattle.gw_entities.specs.declared.contents.Contents.{Contents}
 use Rattle.gw_entities.specs.declared.facilities.Facility.{Facility}
 use Rattle.gw_entities.specs.declared.storages.Storage.{Storage}
@@ -24,3 +24,11 @@ pub record StorageFits (passed : ℕ) (s : Storage) : Type 0 where
 -- a queue holds at most what can be counted
 abbrev pub QueueFits : ℕ → Contents → Type 0
 QueueFits passed q = ContentsFit (2 ^ 62) passed q
+
+-- what fits does so still
+abbrev pub StaysFit : {T : Type 0} → (ℕ → T → Type 0) → T → T → Type 0
+StaysFit Fits old new = (passed : ℕ) → Fits passed old → Fits passed new
+
+-- what fits does so in so much time more
+abbrev pub FitsLater : {T : Type 0} → (ℕ → T → Type 0) → ℕ → T → T → Type 0
+FitsLater Fits dt old new = (passed : ℕ) → Fits passed old → Fits (passed + dt) new

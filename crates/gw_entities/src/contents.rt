@@ -2,7 +2,7 @@
 
 ghost use Rattle.std.specs.Prelude.{◌≡◌, ◌≤◌, ◌<◌, ◌+◌, ◌^◌, ℕ};
 ghost use Rattle.gw_entities.specs.Contents as model;
-ghost use Rattle.gw_entities.specs.Fits.{ContentsFit};
+ghost use Rattle.gw_entities.specs.Fits.{ContentsFit, FitsLater, StaysFit};
 
 /// What is inside a storage or a queue, in units, and what the report says of it.
 #[derive(Clone, Copy, Debug, PartialEq, Eq)]
@@ -48,7 +48,7 @@ impl Contents {
     pub(crate) fn take(&mut self, n: u32)
         requires { n ≤ self.old.content }
         ensures value { self.new ≡ model.taken n self.old }
-        ensures fits { (most passed : ℕ) → ContentsFit most passed self.old → ContentsFit most passed self.new }
+        ensures fits { (most : ℕ) → StaysFit (ContentsFit most) self.old self.new }
     {
         self.content -= u64::from(n);
     }
@@ -58,7 +58,7 @@ impl Contents {
         requires { (most passed : ℕ) × ContentsFit most passed self.old
             × (most ≤ 2 ^ 62) × (passed + dt < 2 ^ 63) }
         ensures value { self.new ≡ model.contents_after dt self.old }
-        ensures fits { (most passed : ℕ) → ContentsFit most passed self.old → ContentsFit most (passed + dt) self.new }
+        ensures fits { (most : ℕ) → FitsLater (ContentsFit most) dt self.old self.new }
     {
         self.time_sum += u128::from(self.content) * u128::from(dt);
     }

@@ -6,15 +6,13 @@ ghost use Rattle.std.proofs.Common.{rules};
 ghost use Rattle.std.proofs.lemmas.Grind.{common_steps};
 ghost use Rattle.gw_entities.specs.Average.{average};
 ghost use Rattle.gw_entities.specs.Facility as model;
-ghost use Rattle.gw_entities.specs.Fits.{FacilityFits};
-ghost use Rattle.gw_entities.specs.Table.{facilities_of, facility_at, set_facility, facilities_after};
+ghost use Rattle.gw_entities.specs.Facility.{facility_at};
+ghost use Rattle.gw_entities.specs.Fits.{FacilityFits, StaysFit};
+ghost use Rattle.gw_entities.specs.Numbered.{OthersStay};
 
-use crate::Memory;
 use crate::average::{Average, average_of};
 use crate::numbered::{Kept, Numbered, Timed};
-use gw_object::{Kind, Object};
-use std::alloc::Global;
-use std::marker::Model;
+use gw_object::Kind;
 
 /// A facility: at most one transaction owns it (GPSS World Reference Manual, "SEIZE" and "RELEASE").
 #[derive(Clone, Copy, Debug, PartialEq, Eq)]
@@ -48,7 +46,7 @@ impl Facility {
         requires other { model.is_owned_by xn self.old ≡ false }
         ensures value { model.seizing xn self.old ≡ Some (result, self.new) }
         ensures busy { result ≡ false → self.new ≡ self.old }
-        ensures fits { (passed : ℕ) → FacilityFits passed self.old → FacilityFits passed self.new }
+        ensures fits { StaysFit FacilityFits self.old self.new }
     {
         if !self.is_idle() {
             return false;
@@ -61,13 +59,15 @@ impl Facility {
     /// Its owner gives it up.
     fn release(&mut self)
         ensures value { self.new ≡ model.released self.old }
-        ensures fits { (passed : ℕ) → FacilityFits passed self.old → FacilityFits passed self.new }
+        ensures fits { StaysFit FacilityFits self.old self.new }
     {
         self.owner = None;
     }
 }
 
 impl Timed for Facility {
+    ghost none = { model.idle };
+
     ghost fresh = { λ kind. model.idle };
 
     ghost after = { model.facility_after };
@@ -101,45 +101,25 @@ fn any_is_owned_by(kept: &[Kept<Facility>], xn: u64) -> bool
 }
 
 /// The facilities of a job, each by its number as an entity of the object.
-///
-/// Contracts see a table with an entry at the number of each entity, and the clock units that passed so far.
-#[derive(Debug, Drop)]
-pub struct Facilities {
-    table: Numbered<Facility>,
-}
+pub type Facilities = Numbered<Facility>;
 
-impl Model for Facilities {
-    ghost use Rattle.gw_entities.specs.Table.{FacilityTable};
-
-    ghost Value = { FacilityTable };
-
-    ghost view = { λ f. record { facilities = f.table.values; passed = f.table.passed } };
-}
-
-impl Facilities {
-    /// The facilities of this object at clock 0, all idle.
-    pub fn new(alloc: Global, object: &Object) -> Result<Facilities, Memory>
-        ensures { IfOk result (λ t. t ≡ facilities_of object.now.entities) }
-    {
-        let table = Numbered::new(alloc, object.parts().entities.as_slice())?;
-        Ok(Facilities { table })
-    }
-
+impl Numbered<Facility> {
     /// The transaction `xn`, which doesn't own the facility `f`, seizes it, if it is idle; false where another owns it, and
     /// nothing changes (GPSS World Reference Manual, "SEIZE").
     #[tactic(auto, using(crate::proofs::Rules::tables))]
     pub fn seize(&mut self, f: u16, xn: u64) -> bool
-        requires there { f < length self.old.facilities }
+        requires there { f < length self.old.values }
         requires few { (facility_at f self.old).entries < 2 ^ 62 }
         requires other { model.is_owned_by xn (facility_at f self.old) ≡ false }
-        ensures value { model.seizing xn (facility_at f self.old) ≡ Some (result, facility_at f self.new) }
-        ensures others { self.new ≡ set_facility f (facility_at f self.new) self.old }
+        ensures value { model.seizing xn (facility_at f self.old)
+            ≡ Some (result, facility_at f self.new) }
+        ensures others { OthersStay model.idle f self.old self.new }
         ensures busy { result ≡ false → self.new ≡ self.old }
-        ensures count { length self.new.facilities ≡ length self.old.facilities }
+        ensures count { length self.new.values ≡ length self.old.values }
     {
-        let mut facility = self.table.get(f);
+        let mut facility = self.get(f);
         let seized = facility.seize(xn);
-        self.table.set(f, facility);
+        self.set(f, facility);
         seized
     }
 
@@ -147,48 +127,32 @@ impl Facilities {
     /// "RELEASE").
     #[tactic(auto, using(crate::proofs::Rules::tables))]
     pub fn release(&mut self, f: u16, xn: u64)
-        requires there { f < length self.old.facilities }
+        requires there { f < length self.old.values }
         requires owner { model.is_owned_by xn (facility_at f self.old) ≡ true }
-        ensures value { model.releasing xn (facility_at f self.old) ≡ Some (facility_at f self.new) }
-        ensures others { self.new ≡ set_facility f (facility_at f self.new) self.old }
-        ensures count { length self.new.facilities ≡ length self.old.facilities }
+        ensures value { model.releasing xn (facility_at f self.old)
+            ≡ Some (facility_at f self.new) }
+        ensures others { OthersStay model.idle f self.old self.new }
+        ensures count { length self.new.values ≡ length self.old.values }
     {
-        let mut facility = self.table.get(f);
+        let mut facility = self.get(f);
         facility.release();
-        self.table.set(f, facility);
-    }
-
-    /// Lets `dt` clock units pass: each facility that is owned was busy for as long.
-    pub fn pass_time(&mut self, dt: u64)
-        requires { self.old.passed + dt < 2 ^ 63 }
-        ensures { self.new ≡ facilities_after dt self.old }
-    {
-        self.table.pass_time(dt);
+        self.set(f, facility);
     }
 
     /// Whether the transaction `xn` owns any facility. It looks at each.
     pub fn owns_any(&self, xn: u64) -> bool
-        ensures { result ≡ model.owns_any xn self.now.facilities }
+        ensures { result ≡ model.owns_any xn self.now.values }
     {
-        any_is_owned_by(self.table.kept(), xn)
-    }
-
-    /// The facility `f`: who owns it, how often it was seized, and how long it was owned.
-    pub fn get(&self, f: u16) -> Facility
-        requires { f < length self.now.facilities }
-        ensures value { result ≡ facility_at f self.now }
-        ensures fits { FacilityFits self.now.passed result }
-    {
-        self.table.get(f)
+        any_is_owned_by(self.kept(), xn)
     }
 
     /// The utilisation of the facility `f`: the part of the time so far for which it was owned, at most 1
     /// (GPSS World Reference Manual, "Standard Reports"; thousandths are ours: docs/report.md).
     pub fn average(&self, f: u16) -> Average
-        requires { f < length self.now.facilities }
+        requires { f < length self.now.values }
         ensures value { result ≡ average (facility_at f self.now).busy self.now.passed }
         ensures most { result.whole ≤ 1 }
     {
-        average_of(self.get(f).busy, self.table.passed())
+        average_of(self.get(f).busy, self.passed())
     }
 }

@@ -18,8 +18,10 @@ mod switches;
 mod tables;
 
 pub use average::Average;
+pub use by_entity::{ByEntity, Initial};
 pub use contents::Contents;
 pub use facilities::{Facilities, Facility};
+pub use numbered::{Numbered, Timed};
 pub use queues::Queues;
 pub use savevalues::Savevalues;
 /// The answer where there was no memory.

@@ -1,17 +1,20 @@
 //! Values by entity number, over which time passes.
 
 ghost use Rattle.std.specs.Prelude.{◌≡◌, ◌≤◌, ◌<◌, ◌+◌, ◌^◌, ℕ, length, map, IfOk};
-ghost use Rattle.gw_num.specs.Table.{at, put};
 ghost use Rattle.gw_object.specs.declared.parts.Kind.{Kind};
 ghost use Rattle.gw_object.specs.declared.parts.Entity.{Entity};
-ghost use Rattle.gw_entities.specs.Numbered.{today};
+ghost use Rattle.std.specs.List.{All};
+ghost use Rattle.gw_entities.specs.Numbered.{IsKept, at_start, values_after, value_at, with_value, today};
 
-use gw_object::{Entity, Kind, Memory};
+use gw_object::{Entity, Kind, Memory, Object};
 use std::alloc::Global;
 use std::marker::Model;
 
 /// What is kept of an entity while time passes.
-pub(crate) trait Timed: Copy {
+pub trait Timed: Copy {
+    /// The value of a number that no entity has.
+    ghost none: { Self };
+
     /// The value of an entity of this kind to which nothing happened.
     ghost fresh: { Kind → Self };
 
@@ -63,12 +66,13 @@ impl<T: Timed> Kept<T> {
     }
 }
 
-/// The value of each entity by its number, from 0, and how many clock units passed so far. The entities of other kinds
-/// have a value too, of which nobody speaks.
+/// What is kept of each entity by its number in the object, from 0, while time passes. The entities of other kinds have a
+/// value too, of which nobody speaks.
 ///
-/// Time that passes is only counted: a value is brought up to date when it is read or changed.
+/// Contracts see a table with a value at the number of each entity, and the clock units that passed so far. Time that
+/// passes is only counted: a value is brought up to date when it is read or changed.
 #[derive(Debug, Drop)]
-pub(crate) struct Numbered<T: Timed> {
+pub struct Numbered<T: Timed> {
     kept: Vec<Kept<T>>,
     passed: u64,
 }
@@ -85,34 +89,43 @@ impl<T: Timed> Model for Numbered<T> {
     ghost invariant = { λ n. All (IsKept T.Fits n.passed) n.kept.items × (n.passed < 2 ^ 63) };
 }
 
+/// What is kept of each of these entities at clock 0.
+fn kept_at_start<T: Timed>(alloc: Global, entities: &[Entity]) -> Result<Vec<Kept<T>>, Memory>
+    ensures values { let fresh = map (λ (e : Entity). T.fresh e.kind) entities.now in
+        IfOk result (λ kept. map (today T.after 0) kept.items ≡ fresh) }
+    ensures fits { IfOk result (λ kept. All (IsKept T.Fits 0) kept.items) }
+{
+    let mut kept = Vec::new(alloc);
+    for entity in entities {
+        kept.push(Kept {
+            value: T::fresh(&entity.kind),
+            since: 0,
+        })?;
+    }
+    Ok(kept)
+}
+
 impl<T: Timed> Numbered<T> {
-    /// The values of these entities at clock 0.
-    pub fn new(alloc: Global, entities: &[Entity]) -> Result<Numbered<T>, Memory>
-        ensures { let values = map (λ (e : Entity). T.fresh e.kind) entities.now in
-            IfOk result (λ n. n ≡ record { values = values; passed = 0 }) }
+    /// The entities of this object at clock 0, to which nothing happened.
+    pub fn new(alloc: Global, object: &Object) -> Result<Numbered<T>, Memory>
+        ensures { IfOk result (λ t. t ≡ at_start T.fresh object.now.entities) }
     {
-        let mut kept = Vec::new(alloc);
-        for entity in entities {
-            kept.push(Kept {
-                value: T::fresh(&entity.kind),
-                since: 0,
-            })?;
-        }
+        let kept = kept_at_start(alloc, object.parts().entities.as_slice())?;
         Ok(Numbered { kept, passed: 0 })
     }
 
-    /// The value of an entity.
+    /// What is kept of an entity.
     #[tactic(auto, using(crate::proofs::Rules::tables))]
     pub fn get(&self, number: u16) -> T
         requires { number < length self.now.values }
-        ensures value { (d : T) → result ≡ at d self.now.values number }
+        ensures value { result ≡ value_at T.none number self.now }
         ensures fits { T.Fits self.now.passed result }
     {
         self.kept[number as usize].today(self.passed)
     }
 
     /// The values as they were when they last changed, by number.
-    pub fn kept(&self) -> &[Kept<T>]
+    pub(crate) fn kept(&self) -> &[Kept<T>]
         ensures { self.now.values ≡ map (today T.after self.now.passed) result.now }
     {
         self.kept.as_slice()
@@ -120,13 +133,12 @@ impl<T: Timed> Numbered<T> {
 
     /// Gives an entity another value, or the same.
     #[tactic(auto, using(crate::proofs::Rules::tables))]
-    pub fn set(&mut self, number: u16, value: T)
+    pub(crate) fn set(&mut self, number: u16, value: T)
         requires there { number < length self.old.values }
         requires fits { T.Fits self.old.passed value }
-        ensures written { (d : T) →
-            self.new ≡ record self.old { values = put d self.old.values number value } }
-        ensures left { (d : T) → at d self.new.values number ≡ value }
-        ensures same { (d : T) → value ≡ at d self.old.values number → self.new ≡ self.old }
+        ensures written { self.new ≡ with_value T.none number value self.old }
+        ensures left { value_at T.none number self.new ≡ value }
+        ensures same { value ≡ value_at T.none number self.old → self.new ≡ self.old }
         ensures count { length self.new.values ≡ length self.old.values }
     {
         self.kept[number as usize] = Kept {
@@ -138,14 +150,13 @@ impl<T: Timed> Numbered<T> {
     /// Lets `dt` clock units pass.
     pub fn pass_time(&mut self, dt: u64)
         requires { self.old.passed + dt < 2 ^ 63 }
-        ensures { let values = map (T.after dt) self.old.values in
-            self.new ≡ record { values = values; passed = self.old.passed + dt } }
+        ensures { self.new ≡ values_after T.after dt self.old }
     {
         self.passed += dt;
     }
 
     /// How many clock units passed so far.
-    pub fn passed(&self) -> u64
+    pub(crate) fn passed(&self) -> u64
         ensures { result ≡ self.now.passed }
     {
         self.passed

@@ -4,23 +4,22 @@ ghost use Rattle.std.specs.Prelude.{◌≡◌, ◌≤◌, ◌<◌, ◌+◌, ◌^
 ghost use Rattle.std.proofs.Common.{rules};
 ghost use Rattle.gw_entities.specs.Average.{average};
 ghost use Rattle.gw_entities.specs.Contents as contents;
-ghost use Rattle.gw_entities.specs.Fits.{QueueFits};
+ghost use Rattle.gw_entities.specs.Contents.{CanTake};
+ghost use Rattle.gw_entities.specs.Fits.{QueueFits, StaysFit};
 ghost use Rattle.gw_entities.specs.Queue as model;
-ghost use Rattle.gw_entities.specs.Table.{queues_of, queue_at, set_queue, queues_after};
+ghost use Rattle.gw_entities.specs.Queue.{queue_at};
+ghost use Rattle.gw_entities.specs.Numbered.{OthersStay};
 
-use crate::Memory;
 use crate::average::{Average, average_of};
 use crate::contents::Contents;
 use crate::numbered::{Numbered, Timed};
-use gw_object::{Kind, Object};
-use std::alloc::Global;
-use std::marker::Model;
+use gw_object::Kind;
 
 /// Lets `n` units join.
 fn join(queue: &mut Contents, n: u32)
-    requires few { (queue.old.content + n ≤ 2 ^ 62) × (queue.old.entries + n ≤ 2 ^ 62) }
+    requires few { CanTake n queue.old }
     ensures value { queue.new ≡ model.joined n queue.old }
-    ensures fits { (passed : ℕ) → QueueFits passed queue.old → QueueFits passed queue.new }
+    ensures fits { StaysFit QueueFits queue.old queue.new }
 {
     queue.add(n);
 }
@@ -29,13 +28,15 @@ fn join(queue: &mut Contents, n: u32)
 fn depart(queue: &mut Contents, n: u32)
     requires { n ≤ queue.old.content }
     ensures value { model.departing n queue.old ≡ Some queue.new }
-    ensures fits { (passed : ℕ) → QueueFits passed queue.old → QueueFits passed queue.new }
+    ensures fits { StaysFit QueueFits queue.old queue.new }
 {
     queue.take(n);
 }
 
 /// A queue is what is inside, and has no capacity (GPSS World Reference Manual, "QUEUE" and "DEPART").
 impl Timed for Contents {
+    ghost none = { contents.empty };
+
     ghost fresh = { λ kind. contents.empty };
 
     ghost after = { contents.contents_after };
@@ -56,83 +57,45 @@ impl Timed for Contents {
 }
 
 /// The queues of a job, each by its number as an entity of the object.
-///
-/// Contracts see a table with an entry at the number of each entity, and the clock units that passed so far.
-#[derive(Debug, Drop)]
-pub struct Queues {
-    table: Numbered<Contents>,
-}
+pub type Queues = Numbered<Contents>;
 
-impl Model for Queues {
-    ghost use Rattle.gw_entities.specs.Table.{QueueTable};
-
-    ghost Value = { QueueTable };
-
-    ghost view = { λ q. record { queues = q.table.values; passed = q.table.passed } };
-}
-
-impl Queues {
-    /// The queues of this object at clock 0, with nothing inside.
-    pub fn new(alloc: Global, object: &Object) -> Result<Queues, Memory>
-        ensures { IfOk result (λ t. t ≡ queues_of object.now.entities) }
-    {
-        let table = Numbered::new(alloc, object.parts().entities.as_slice())?;
-        Ok(Queues { table })
-    }
-
+impl Numbered<Contents> {
     /// Lets `n` units join the queue `q`, where those inside and those that ever joined are at most 2^62 then (GPSS World
     /// Reference Manual, "QUEUE"; the limit is ours: docs/machine.md).
     #[tactic(auto, using(crate::proofs::Rules::tables))]
     pub fn join_queue(&mut self, q: u16, n: u32)
-        requires there { q < length self.old.queues }
-        requires few { ((queue_at q self.old).content + n ≤ 2 ^ 62) × ((queue_at q self.old).entries + n ≤ 2 ^ 62) }
+        requires there { q < length self.old.values }
+        requires few { CanTake n (queue_at q self.old) }
         ensures value { queue_at q self.new ≡ model.joined n (queue_at q self.old) }
-        ensures others { self.new ≡ set_queue q (queue_at q self.new) self.old }
-        ensures count { length self.new.queues ≡ length self.old.queues }
+        ensures others { OthersStay contents.empty q self.old self.new }
+        ensures count { length self.new.values ≡ length self.old.values }
     {
-        let mut queue = self.table.get(q);
+        let mut queue = self.get(q);
         join(&mut queue, n);
-        self.table.set(q, queue);
+        self.set(q, queue);
     }
 
     /// Lets `n` units depart from the queue `q`, where at least so many are inside (GPSS World Reference Manual, "DEPART").
     #[tactic(auto, using(crate::proofs::Rules::tables))]
     pub fn depart(&mut self, q: u16, n: u32)
-        requires there { q < length self.old.queues }
+        requires there { q < length self.old.values }
         requires inside { n ≤ (queue_at q self.old).content }
         ensures value { model.departing n (queue_at q self.old) ≡ Some (queue_at q self.new) }
-        ensures others { self.new ≡ set_queue q (queue_at q self.new) self.old }
-        ensures count { length self.new.queues ≡ length self.old.queues }
+        ensures others { OthersStay contents.empty q self.old self.new }
+        ensures count { length self.new.values ≡ length self.old.values }
     {
-        let mut queue = self.table.get(q);
+        let mut queue = self.get(q);
         depart(&mut queue, n);
-        self.table.set(q, queue);
-    }
-
-    /// Lets `dt` clock units pass: each unit inside was there for as long.
-    pub fn pass_time(&mut self, dt: u64)
-        requires { self.old.passed + dt < 2 ^ 63 }
-        ensures { self.new ≡ queues_after dt self.old }
-    {
-        self.table.pass_time(dt);
-    }
-
-    /// The queue `q`: the units inside, the most that were, those that joined, and the sum of content times time.
-    pub fn get(&self, q: u16) -> Contents
-        requires { q < length self.now.queues }
-        ensures value { result ≡ queue_at q self.now }
-        ensures fits { QueueFits self.now.passed result }
-    {
-        self.table.get(q)
+        self.set(q, queue);
     }
 
     /// The average content of the queue `q` over the time so far, at most the most that were inside at one moment
     /// (GPSS World Reference Manual, "Standard Reports"; thousandths are ours: docs/report.md).
     pub fn average(&self, q: u16) -> Average
-        requires { q < length self.now.queues }
+        requires { q < length self.now.values }
         ensures value { result ≡ average (queue_at q self.now).time_sum self.now.passed }
         ensures most { result.whole ≤ (queue_at q self.now).maximum }
     {
-        average_of(self.get(q).time_sum, self.table.passed())
+        average_of(self.get(q).time_sum, self.passed())
     }
 }

@@ -4,17 +4,15 @@ ghost use Rattle.std.specs.Prelude.{◌≡◌, ◌≤◌, ◌<◌, ◌+◌, ◌^
 ghost use Rattle.gw_object.specs.Entities.{capacity_of};
 ghost use Rattle.std.proofs.Common.{rules};
 ghost use Rattle.gw_entities.specs.Average.{average};
-ghost use Rattle.gw_entities.specs.Fits.{StorageFits};
+ghost use Rattle.gw_entities.specs.Fits.{StorageFits, StaysFit};
 ghost use Rattle.gw_entities.specs.Storage as model;
-ghost use Rattle.gw_entities.specs.Table.{storages_of, storage_at, set_storage, storages_after};
+ghost use Rattle.gw_entities.specs.Storage.{storage_at};
+ghost use Rattle.gw_entities.specs.Numbered.{OthersStay};
 
-use crate::Memory;
 use crate::average::{Average, average_of};
 use crate::contents::Contents;
 use crate::numbered::{Numbered, Timed};
-use gw_object::{Kind, Object};
-use std::alloc::Global;
-use std::marker::Model;
+use gw_object::Kind;
 
 /// A storage: at most so many units are inside (GPSS World Reference Manual, "ENTER" and "LEAVE").
 #[derive(Clone, Copy, Debug, PartialEq, Eq)]
@@ -41,7 +39,7 @@ impl Storage {
         requires whole { n ≤ self.old.capacity }
         ensures value { model.entering n self.old ≡ Some (result, self.new) }
         ensures full { result ≡ false → self.new ≡ self.old }
-        ensures fits { (passed : ℕ) → StorageFits passed self.old → StorageFits passed self.new }
+        ensures fits { StaysFit StorageFits self.old self.new }
     {
         if !self.has_room(n) {
             return false;
@@ -54,13 +52,15 @@ impl Storage {
     fn leave(&mut self, n: u32)
         requires { n ≤ self.old.contents.content }
         ensures value { model.leaving n self.old ≡ Some self.new }
-        ensures fits { (passed : ℕ) → StorageFits passed self.old → StorageFits passed self.new }
+        ensures fits { StaysFit StorageFits self.old self.new }
     {
         self.contents.take(n);
     }
 }
 
 impl Timed for Storage {
+    ghost none = { model.vacant 0 };
+
     ghost fresh = { λ kind. model.vacant (capacity_of kind) };
 
     ghost after = { model.storage_after };
@@ -88,87 +88,49 @@ impl Timed for Storage {
 }
 
 /// The storages of a job, each by its number as an entity of the object.
-///
-/// Contracts see a table with an entry at the number of each entity, and the clock units that passed so far.
-#[derive(Debug, Drop)]
-pub struct Storages {
-    table: Numbered<Storage>,
-}
+pub type Storages = Numbered<Storage>;
 
-impl Model for Storages {
-    ghost use Rattle.gw_entities.specs.Table.{StorageTable};
-
-    ghost Value = { StorageTable };
-
-    ghost view = { λ s. record { storages = s.table.values; passed = s.table.passed } };
-}
-
-impl Storages {
-    /// The storages of this object at clock 0, with nothing inside.
-    pub fn new(alloc: Global, object: &Object) -> Result<Storages, Memory>
-        ensures { IfOk result (λ t. t ≡ storages_of object.now.entities) }
-    {
-        let table = Numbered::new(alloc, object.parts().entities.as_slice())?;
-        Ok(Storages { table })
-    }
-
+impl Numbered<Storage> {
     /// Lets `n` units, at most the whole capacity, enter the storage `s`, if there is room; false where there isn't now, and
     /// nothing changes (GPSS World Reference Manual, "ENTER").
     #[tactic(auto, using(crate::proofs::Rules::tables))]
     pub fn enter(&mut self, s: u16, n: u32) -> bool
-        requires there { s < length self.old.storages }
+        requires there { s < length self.old.values }
         requires few { (storage_at s self.old).contents.entries + n ≤ 2 ^ 62 }
         requires whole { n ≤ (storage_at s self.old).capacity }
-        ensures value { model.entering n (storage_at s self.old) ≡ Some (result, storage_at s self.new) }
-        ensures others { self.new ≡ set_storage s (storage_at s self.new) self.old }
+        ensures value { model.entering n (storage_at s self.old)
+            ≡ Some (result, storage_at s self.new) }
+        ensures others { OthersStay (model.vacant 0) s self.old self.new }
         ensures full { result ≡ false → self.new ≡ self.old }
-        ensures count { length self.new.storages ≡ length self.old.storages }
+        ensures count { length self.new.values ≡ length self.old.values }
     {
-        let mut storage = self.table.get(s);
+        let mut storage = self.get(s);
         let entered = storage.enter(n);
-        self.table.set(s, storage);
+        self.set(s, storage);
         entered
     }
 
     /// Lets `n` units leave the storage `s`, where at least so many are inside (GPSS World Reference Manual, "LEAVE").
     #[tactic(auto, using(crate::proofs::Rules::tables))]
     pub fn leave(&mut self, s: u16, n: u32)
-        requires there { s < length self.old.storages }
+        requires there { s < length self.old.values }
         requires inside { n ≤ (storage_at s self.old).contents.content }
         ensures value { model.leaving n (storage_at s self.old) ≡ Some (storage_at s self.new) }
-        ensures others { self.new ≡ set_storage s (storage_at s self.new) self.old }
-        ensures count { length self.new.storages ≡ length self.old.storages }
+        ensures others { OthersStay (model.vacant 0) s self.old self.new }
+        ensures count { length self.new.values ≡ length self.old.values }
     {
-        let mut storage = self.table.get(s);
+        let mut storage = self.get(s);
         storage.leave(n);
-        self.table.set(s, storage);
-    }
-
-    /// Lets `dt` clock units pass: each unit inside was there for as long.
-    pub fn pass_time(&mut self, dt: u64)
-        requires { self.old.passed + dt < 2 ^ 63 }
-        ensures { self.new ≡ storages_after dt self.old }
-    {
-        self.table.pass_time(dt);
-    }
-
-    /// The storage `s`: its capacity and what is inside, which is at most the capacity.
-    pub fn get(&self, s: u16) -> Storage
-        requires { s < length self.now.storages }
-        ensures value { result ≡ storage_at s self.now }
-        ensures most { result.contents.content ≤ result.capacity }
-        ensures fits { StorageFits self.now.passed result }
-    {
-        self.table.get(s)
+        self.set(s, storage);
     }
 
     /// The average content of the storage `s` over the time so far, at most the most that were inside at one moment
     /// (GPSS World Reference Manual, "Standard Reports"; thousandths are ours: docs/report.md).
     pub fn average(&self, s: u16) -> Average
-        requires { s < length self.now.storages }
+        requires { s < length self.now.values }
         ensures value { result ≡ average (storage_at s self.now).contents.time_sum self.now.passed }
         ensures most { result.whole ≤ (storage_at s self.now).contents.maximum }
     {
-        average_of(self.get(s).contents.time_sum, self.table.passed())
+        average_of(self.get(s).contents.time_sum, self.passed())
     }
 }

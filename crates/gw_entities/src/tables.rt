@@ -1,10 +1,11 @@
 //! Tables: values are counted by classes.
 
-ghost use Rattle.std.specs.Prelude.{◌≡◌, ◌≤◌, ◌<◌, ◌+◌, ◌-◌, ◌/◌, ◌^◌, ℕ, length, replicate, pos, IfOk, OnErr};
+ghost use Rattle.std.specs.Prelude.{◌≡◌, ◌≤◌, ◌<◌, ◌+◌, ◌-◌, ◌/◌, ◌^◌, ℕ, length, IfOk, OnErr};
 ghost use Rattle.std.specs.List.{All};
 ghost use Rattle.gw_object.specs.Entities.{KindFits, EntityFits};
 ghost use Rattle.gw_entities.specs.Tabulation as model;
-ghost use Rattle.gw_entities.specs.Table.{nothing_entered, tables_of, table_at, set_table, left_by};
+ghost use Rattle.gw_entities.specs.Numbered.{of_each};
+ghost use Rattle.gw_entities.specs.Table.{empty_table, nothing_entered, table_at, set_table, left_by};
 
 use crate::Memory;
 use gw_num::{NumFault, add};
@@ -17,7 +18,7 @@ fn count_in(class: usize, classes: &mut [u64])
     requires { All (λ n. n < 2 ^ 62) classes.old }
     ensures value { classes.new ≡ model.counted_in class classes.old }
     ensures count { length classes.new ≡ length classes.old }
-    ensures most { (most : ℕ) → All (λ n. n ≤ most) classes.old → All (λ n. n ≤ most + 1) classes.new }
+    ensures most { model.RisesByOne classes.old classes.new }
 {
     if class < classes.len() {
         classes[class] += 1;
@@ -61,7 +62,7 @@ impl Tabulation {
     /// A table with so many classes, into which nothing was entered.
     fn empty(alloc: Global, limit: i64, width: u32, classes: u16) -> Result<Tabulation, Memory>
         requires { 0 < width }
-        ensures { IfOk result (λ t. t ≡ record { limit = limit; width = width; count = 0; sum = pos 0; classes = replicate classes 0 }) }
+        ensures { IfOk result (λ t. t ≡ empty_table limit width classes) }
     {
         let classes = vec![in alloc; 0; classes as usize]?;
         Ok(Tabulation {
@@ -150,7 +151,7 @@ impl Tabulation {
 /// The tables of these entities, into which nothing was entered.
 fn tables_of(alloc: Global, entities: &[Entity]) -> Result<Vec<Tabulation>, Memory>
     requires { All EntityFits entities.now }
-    ensures { IfOk result (λ tables. tables.items ≡ tables_of entities.now) }
+    ensures { IfOk result (λ tables. tables.items ≡ of_each nothing_entered entities.now) }
 {
     let mut tables = Vec::new(alloc);
     for entity in entities {
@@ -179,7 +180,7 @@ impl Model for Tables {
 impl Tables {
     /// The tables of this object as they are at first, with nothing entered.
     pub fn new(alloc: Global, object: &Object) -> Result<Tables, Memory>
-        ensures { IfOk result (λ tables. tables ≡ tables_of object.now.entities) }
+        ensures { IfOk result (λ tables. tables ≡ of_each nothing_entered object.now.entities) }
     {
         let tables = tables_of(alloc, object.parts().entities.as_slice())?;
         Ok(Tables { tables })
@@ -192,7 +193,8 @@ impl Tables {
     pub fn tabulate(&mut self, t: u16, value: i64) -> Result<(), NumFault>
         requires there { t < length self.old }
         requires few { (table_at t self.old).count < 2 ^ 62 }
-        ensures value { left_by result (table_at t self.new) ≡ model.tabulating value (table_at t self.old) }
+        ensures value { left_by result (table_at t self.new)
+            ≡ model.tabulating value (table_at t self.old) }
         ensures others { self.new ≡ set_table t (table_at t self.new) self.old }
         ensures refused { OnErr result (self.new ≡ self.old) }
         ensures count { length self.new ≡ length self.old }

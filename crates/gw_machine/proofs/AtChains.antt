@@ -16,7 +16,7 @@ use Rattle.gw_chains.specs.declared.assemblies.Assembly.{Assembly as HeldAssembl
 use Rattle.gw_num.specs.Table.{at, put}
 use Rattle.gw_num.proofs.Tables.{put-at}
 use Rattle.gw_transactions.specs.declared.Transaction.{Transaction}
-use Rattle.gw_transactions.specs.Transactions.{LiveTransaction, Population, attributes_at, put_attributes, put_chain, Holds, IsSound}
+use Rattle.gw_transactions.specs.Transactions.{LiveTransaction, Population, attributes_at, put_attributes, put_chain, Holds, IsSound, KeepsRest}
 use Rattle.gw_machine.specs.Configuration.{Configuration}
 use Rattle.gw_step.specs.State.{State, priority_of, user_chain}
 use Rattle.gw_step.specs.Changes.{linked, joins_chain, leaves_chain}
@@ -27,7 +27,7 @@ use Rattle.gw_step.proofs.Lists.{all_placed, map-behind}
 use Rattle.gw_step.proofs.Residence.{resides-linked, resides-unlinked}
 use Rattle.gw_machine.specs.View.{state_of, lists_of, handle_number, member_number}
 use Rattle.gw_machine.specs.Coherence.{Linked, IsRanked, CanRest, Carries, Every}
-use Rattle.gw_machine.proofs.Handles.{active_carried, members_carried, events_carried, assemblies_carried, handles_carried, every, current_in, carries-set, carries-chain, carries-then}
+use Rattle.gw_machine.proofs.Handles.{active_carried, members_carried, events_carried, assemblies_carried, handles_carried, every, current_in, carries-set, carries-chain, carries-then, all_appended}
 use Rattle.gw_machine.proofs.Changes.{timed-kept, user_chain-at}
 use Rattle.gw_machine.proofs.Due.{agree}
 use Rattle.gw_machine.proofs.Waiters.{lists-put, all_changed, as_many}
@@ -41,7 +41,7 @@ with_others m active q cs us = record m { active = active; transactions = q; las
 
 -- where each handle of those is held, and the others are carried
 linked-others : (m : Configuration) (active : Option Tx) (q : Population) (cs : Chain Member) (us : chain_lists.Linked) → Linked m → Carries Every m.transactions q → IsSound q → IfSome active (Holds q) → AllByRecursion (IsRanked q) cs.items
-    → ((c : ℕ) → c < length m.facilities.facilities → AllByRecursion (Holds q) (at [] us.lists c)) → length us.lists ≡ length m.chains.lists → ResidesOnce (state_of (with_others m active q cs us)) → Linked (with_others m active q cs us)
+    → ((c : ℕ) → c < length m.facilities.values → AllByRecursion (Holds q) (at [] us.lists c)) → length us.lists ≡ length m.chains.lists → ResidesOnce (state_of (with_others m active q cs us)) → Linked (with_others m active q cs us)
 linked-others m active q cs us l c sound is_active ranked held as_many_chains resides =
     let p = m.transactions in
     let carried = λ (xs : List Member). members_carried Every p q c xs (every member_number xs) in
@@ -95,15 +95,14 @@ numbers-joined Fifo tx (x ∷ xs) = ap (λ ns. handle_number x ∷ ns) (numbers-
 numbers-joined Lifo tx xs = refl
 
 all-joined : (P : Tx → Type 0) (order : LinkOrder) (tx : Tx) (xs : List Tx) → P tx → AllByRecursion P xs → AllByRecursion P (joined_at order tx xs)
-all-joined P Fifo tx [] p h = (p, tt)
-all-joined P Fifo tx (x ∷ xs) p h = (h.0, all-joined P Fifo tx xs p h.1)
+all-joined P Fifo tx xs p h = all_appended P xs tx h p
 all-joined P Lifo tx xs p h = (p, h)
 
 -- the active transaction joins a user chain
-module _ (m : Configuration) (tx : Tx) (link : Link) (order : LinkOrder) (is : link.order ≡ order) (l : Linked m) (r : CanRest m tx) (there : link.chain < length m.facilities.facilities)
-    (q : Population) (ts : q.txs ≡ put_chain tx.number (Some link.chain) m.transactions.txs) (ps : q.places ≡ m.transactions.places) (ls : q.last ≡ m.transactions.last) (sound : IsSound q)
+module _ (m : Configuration) (tx : Tx) (link : Link) (order : LinkOrder) (is : link.order ≡ order) (l : Linked m) (r : CanRest m tx) (there : link.chain < length m.facilities.values)
+    (q : Population) (ts : q.txs ≡ put_chain tx.number (Some link.chain) m.transactions.txs) (kept : KeepsRest m.transactions q)
     (us : chain_lists.Linked) (changes : us.lists ≡ changed link.chain (joined_at order tx) m.chains.lists) where
-  pub state-joins : state_of (with_others m None q m.current_events us) ≡ joins_chain tx.number link (state_of m)
+  state-joins : state_of (with_others m None q m.current_events us) ≡ joins_chain tx.number link (state_of m)
   state-joins =
       ap (λ (xs : List (Option LiveTransaction)). record (state_of m) { transactions = xs; lists = record (lists_of m) { active = None; user_chains = map (map handle_number) us.lists } }) ts
       ∙ ap (λ (ns : List (List ℕ)). record (state_of m) { transactions = put_chain tx.number (Some link.chain) m.transactions.txs; lists = record (lists_of m) { active = None; user_chains = ns } })
@@ -111,12 +110,15 @@ module _ (m : Configuration) (tx : Tx) (link : Link) (order : LinkOrder) (is : l
       ∙ ap (put [] (map (map handle_number) m.chains.lists) link.chain)
       (numbers-joined order tx (at [] m.chains.lists link.chain) ∙ ap (λ o. linked o tx.number (map handle_number (at [] m.chains.lists link.chain))) (sym is) ∙ ap (linked link.order tx.number) (sym (user_chain-at m link.chain))))
 
+  pub joins : (state_of (with_others m None q m.current_events us) ≡ joins_chain tx.number link (state_of m)) × (q.last ≡ m.transactions.last)
+  joins = (state-joins, kept.last)
+
   pub linked-joins : Linked (with_others m None q m.current_events us)
   linked-joins =
       let p = m.transactions in
-      let c = carries-chain p q tx.number (Some link.chain) ts ps ls in
+      let c = carries-chain p q tx.number (Some link.chain) ts kept.places kept.last in
       let carried = λ (xs : List Tx). handles_carried Every p q c xs (every handle_number xs) in
-      linked-others m None q m.current_events us l c sound tt (members_carried Every p q c m.current_events.items (every member_number m.current_events.items) l.current_events)
+      linked-others m None q m.current_events us l c kept.sound tt (members_carried Every p q c m.current_events.items (every member_number m.current_events.items) l.current_events)
       (λ k below. all_changed (Holds q) m.chains.lists us.lists link.chain (joined_at order tx) changes
       (all-joined (Holds q) order tx (at [] m.chains.lists link.chain) (c.held tx tt r.held) (carried (at [] m.chains.lists link.chain) (l.user_chains link.chain there)))
       k (carried (at [] m.chains.lists k) (l.user_chains k below)))
@@ -145,7 +147,7 @@ none-first : (xs : List Tx) → first xs ≡ None → xs ≡ []
 none-first [] is = refl
 none-first (x ∷ xs) is = absurd cc
 
-module _ (m : Configuration) (l : Linked m) (c target : ℕ) (there : c < length m.facilities.facilities) where
+module _ (m : Configuration) (l : Linked m) (c target : ℕ) (there : c < length m.facilities.values) where
   -- nobody is there to leave
   module _ (us : chain_lists.Linked) (changes : us.lists ≡ changed c rest m.chains.lists) (none : first (at [] m.chains.lists c) ≡ None) where
     pub lists-empty : us.lists ≡ m.chains.lists

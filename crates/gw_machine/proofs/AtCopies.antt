@@ -1,5 +1,5 @@
 -- What a copy of a transaction, and another priority of one that is on no chain, make of a machine.
-use Rattle.std.proofs.Common.{◌≡◌, ℕ, suc, ◌≤◌, ◌<◌, List, [], ◌∷◌, ◌++◌, map, length, replicate, Option, Some, None, option_map, refl, sym, ap, ◌∙◌, subst, arith}
+use Rattle.std.proofs.Common.{◌≡◌, ℕ, suc, ◌≤◌, List, [], ◌∷◌, ◌++◌, map, length, replicate, Option, Some, None, option_map, refl, sym, ap, ◌∙◌, subst, arith}
 use Rattle.std.specs.Prelude.{int_le}
 use Rattle.std.specs.List.{AllByRecursion}
 use Rattle.std.specs.Option.{option_map_or}
@@ -14,17 +14,17 @@ use Rattle.gw_transactions.specs.declared.Transaction.{Transaction}
 use Rattle.gw_transactions.specs.Parameters.{no_parameters}
 use Rattle.gw_transactions.specs.Transactions.{LiveTransaction, made_with, with_attributes, put_attributes, attributes_at, Population, Holds, IsSound}
 use Rattle.gw_machine.specs.Configuration.{Configuration}
-use Rattle.gw_step.specs.State.{FutureEvent, Assembly, State, priority_of, priority_in}
+use Rattle.gw_step.specs.State.{State, priority_of, priority_in}
 use Rattle.gw_step.specs.Times.{parameters_of}
-use Rattle.gw_step.specs.Residence.{ResidesOnce, occurrences}
+use Rattle.gw_step.specs.Residence.{ResidesOnce}
 use Rattle.gw_step.specs.Changes.{entered, with_copy, copied, copies_made}
 use Rattle.gw_step.proofs.Attributes.{bearer_at, written_at}
-use Rattle.gw_step.proofs.Lists.{all_placed, map-behind, map-map}
-use Rattle.gw_step.proofs.Residence.{alone, resides-entered, resides-copied}
-use Rattle.gw_machine.specs.View.{state_of, lists_of, handle_number, member_number, event_of, assembly_of}
-use Rattle.gw_machine.specs.Coherence.{Linked, IsRanked, Carries, Every, Others}
-use Rattle.gw_machine.proofs.Handles.{active_carried, members_carried, events_carried, assemblies_carried, handles_carried, every, others, carries-insert, carries-ranked}
-use Rattle.gw_machine.proofs.Changes.{Keeps, timed-kept, delay_list-at, user_chain-at}
+use Rattle.gw_step.proofs.Lists.{all_placed, map-behind}
+use Rattle.gw_step.proofs.Residence.{resides-entered, resides-copied}
+use Rattle.gw_machine.specs.View.{state_of, lists_of, handle_number, member_number}
+use Rattle.gw_machine.specs.Coherence.{Linked, IsRanked, Carries, Every}
+use Rattle.gw_machine.proofs.Handles.{active_carried, members_carried, events_carried, assemblies_carried, handles_carried, every, carries-insert, carries-ranked}
+use Rattle.gw_machine.proofs.Changes.{Keeps, timed-kept, linked-apart}
 use Rattle.gw_machine.proofs.Due.{agree}
 
 abbrev number_of : Member → ℕ
@@ -130,29 +130,9 @@ linked-ranked m new tx t next ts ps ls sound is_active held a cs fs k is block l
     let q = new.transactions in
     let active : (state_of m).lists.active ≡ Some n = ap (option_map (λ (x : Tx). x.number)) is_active in
     let c = carries-ranked p q n (record t { current = t.next; next = next }) ts ps block ls in
-    let none = alone n (state_of m) active l.resides in
-    let carried = λ (xs : List Member) (gone : occurrences n (map number_of xs) ≡ 0). members_carried (Others n) p q c xs (others number_of n xs gone) in
     let still : Holds q tx = ap (λ xs. at None xs n) ps ∙ held in
-    record {
-      active = rw (a, is_active) still;
-      current_events = rw cs (carried m.current_events.items none.current_events l.current_events);
-      future_events = rw fs (events_carried (Others n) p q c m.future_events.items (others (λ (x : Event). x.tx.number) n m.future_events.items (sym (ap (occurrences n) (map-map (λ (e : FutureEvent). e.number) event_of m.future_events.items)) ∙ none.future_events)) l.future_events);
-      delay_lists = λ e below.
-          let within : e < length m.facilities.facilities = rw k.facilities at below in
-          rw k.waits (carried (at [] m.waits.lists e) (sym (ap (occurrences n) (delay_list-at m e)) ∙ none.delay_lists e) (l.delay_lists e within));
-      retry = rw k.waits (carried m.waits.retry none.retry l.retry);
-      assemblies = rw k.assemblies (assemblies_carried (Others n) p q c m.assemblies.items
-          (others (λ (x : HeldAssembly). x.first.number) n m.assemblies.items (sym (ap (occurrences n) (map-map (λ (x : Assembly). x.number) assembly_of m.assemblies.items)) ∙ none.assemblies)) l.assemblies);
-      user_chains = λ e below.
-          let within : e < length m.facilities.facilities = rw k.facilities at below in
-          rw k.chains (handles_carried (Others n) p q c (at [] m.chains.lists e) (others handle_number n (at [] m.chains.lists e) (sym (ap (occurrences n) (user_chain-at m e)) ∙ none.user_chains e)) (l.user_chains e within));
-      listed = rw (k.waits, k.facilities) l.listed;
-      chained = rw (k.chains, k.facilities) l.chained;
-      sound = sound;
-      blocks = c.blocks l.blocks;
-      resides = subst ResidesOnce (sym is) (resides-entered n t next (state_of m) l.resides);
-      timed = timed-kept m new k.facilities k.storages k.queues k.clock l.timed;
-    }
+    linked-apart m new n active c sound (rw (a, is_active) still) cs fs k
+    (subst ResidesOnce (sym is) (resides-entered n t next (state_of m) l.resides)) l
 
 -- who has entered has the priority that it entered with
 pub priority-ranked : (ts : List (Option LiveTransaction)) (n : ℕ) (was now : Transaction) → attributes_at n ts ≡ Some was → priority_of (put_attributes n now ts) n ≡ now.priority

@@ -1,5 +1,5 @@
 -- What resting on the current events chain, and waiting for an assembly set, make of a machine; and how many are on the retry list.
-use Rattle.std.proofs.Common.{◌⊎◌, inl, inr, ◌≡◌, ℕ, zero, suc, ◌+◌, ◌^◌, ◌≤◌, ℤ, List, [], ◌∷◌, ◌++◌, map, length, None, IfSome, is_some, option_map, refl, sym, ap, ◌∙◌, subst, arith}
+use Rattle.std.proofs.Common.{Some, ◌⊎◌, inl, inr, ◌≡◌, ℕ, zero, suc, ◌+◌, ◌^◌, ◌≤◌, ℤ, List, [], ◌∷◌, ◌++◌, map, length, None, IfSome, is_some, option_map, refl, sym, ap, ◌∙◌, subst, arith}
 use Rattle.std.specs.Prelude.{Bool}
 use Rattle.std.specs.List.{AllByRecursion}
 use Rattle.std.proofs.lemmas.Bool.{cases_eq, eq-eqb, ne_eqb}
@@ -10,6 +10,7 @@ use Rattle.gw_chains.specs.Chain.{placed_behind}
 use Rattle.gw_chains.specs.declared.tx.Tx.{Tx}
 use Rattle.gw_chains.specs.declared.tx.Member.{Member}
 use Rattle.gw_chains.specs.declared.assemblies.Assembly.{Assembly as HeldAssembly}
+use Rattle.gw_chains.specs.Lists.{Waiting}
 use Rattle.gw_machine.specs.Configuration.{Configuration}
 use Rattle.gw_step.specs.declared.placement.Assembling.{Assembling}
 use Rattle.gw_step.specs.State.{State, Assembly, FutureEvent, priority_of, without}
@@ -20,23 +21,25 @@ use Rattle.gw_machine.specs.Coherence.{Linked, IsRanked, IsHeldBy, CanRest}
 use Rattle.gw_step.proofs.Lists.{all_placed, all_map, map-placed}
 use Rattle.gw_step.proofs.Residence.{one_if, at_most_one, same_number, other_number, occurrences-without, resides-awaits}
 use Rattle.gw_transactions.specs.Transactions.{Holds}
+use Rattle.gw_machine.proofs.Handles.{all_appended}
 use Rattle.gw_machine.proofs.Changes.{timed-kept}
+use Rattle.std.proofs.lemmas.List.{map-append}
 use Rattle.gw_machine.proofs.Due.{agree}
 
 -- OTHER MEMBERS
 
--- other members of the current events chain, and other assemblies, each of whose handles is held
-pub linked-members : (m new : Configuration) → new.transactions ≡ m.transactions → IfSome new.active (Holds m.transactions) → AllByRecursion (IsRanked m.transactions) new.current_events.items → new.future_events ≡ m.future_events → new.waits ≡ m.waits → AllByRecursion (IsHeldBy m.transactions) new.assemblies.items → new.chains ≡ m.chains
-    → new.facilities ≡ m.facilities → new.storages ≡ m.storages → new.queues ≡ m.queues → new.clock ≡ m.clock → ResidesOnce (state_of new) → Linked m → Linked new
-linked-members m new ts a cs fs w sets chs fac sto que clock resides l = record {
+-- other members of the current events chain and of the retry list, and other assemblies, each of whose handles is held
+pub linked-lists : (m new : Configuration) → new.transactions ≡ m.transactions → IfSome new.active (Holds m.transactions) → AllByRecursion (IsRanked m.transactions) new.current_events.items → new.future_events ≡ m.future_events → new.waits.lists ≡ m.waits.lists → AllByRecursion (IsRanked m.transactions) new.waits.retry
+    → AllByRecursion (IsHeldBy m.transactions) new.assemblies.items → new.chains ≡ m.chains → new.facilities ≡ m.facilities → new.storages ≡ m.storages → new.queues ≡ m.queues → new.clock ≡ m.clock → ResidesOnce (state_of new) → Linked m → Linked new
+linked-lists m new ts a cs fs ws retry sets chs fac sto que clock resides l = record {
   active = rw ts a;
   current_events = rw ts cs;
   future_events = rw (ts, fs) l.future_events;
-  delay_lists = λ e below. rw (ts, w) (l.delay_lists e (rw fac at below));
-  retry = rw (ts, w) l.retry;
+  delay_lists = λ e below. rw (ts, ws) (l.delay_lists e (rw fac at below));
+  retry = rw ts retry;
   assemblies = rw ts sets;
   user_chains = λ c below. rw (ts, chs) (l.user_chains c (rw fac at below));
-  listed = rw (w, fac) l.listed;
+  listed = rw (ws, fac) l.listed;
   chained = rw (chs, fac) l.chained;
   sound = rw ts l.sound;
   blocks = rw ts l.blocks;
@@ -44,15 +47,23 @@ linked-members m new ts a cs fs w sets chs fac sto que clock resides l = record 
   timed = timed-kept m new fac sto que clock l.timed;
 }
 
+-- the delay lists and the retry list stay
+pub linked-members : (m new : Configuration) → new.transactions ≡ m.transactions → IfSome new.active (Holds m.transactions) → AllByRecursion (IsRanked m.transactions) new.current_events.items → new.future_events ≡ m.future_events → new.waits ≡ m.waits → AllByRecursion (IsHeldBy m.transactions) new.assemblies.items → new.chains ≡ m.chains
+    → new.facilities ≡ m.facilities → new.storages ≡ m.storages → new.queues ≡ m.queues → new.clock ≡ m.clock → ResidesOnce (state_of new) → Linked m → Linked new
+linked-members m new ts a cs fs w sets chs fac sto que clock resides l = linked-lists m new ts a cs fs (ap (λ (ws : Waiting). ws.lists) w) (rw w l.retry) sets chs fac sto que clock resides l
+
 -- THE CURRENT EVENTS CHAIN
 
 module _ (m : Configuration) (tx : Tx) (priority : ℤ) (l : Linked m) (r : CanRest m tx) (rank : priority_of m.transactions.txs tx.number ≡ priority) (passes : ℤ → ℤ → Bool) (cs : List Member)
-    (joined : cs ≡ placed_behind (λ (y : Member). passes priority y.priority) (record { tx = tx; priority = priority }) m.current_events.items) where
+    (given : ℤ) (same : given ≡ priority) (placed : cs ≡ placed_behind (λ (y : Member). passes given y.priority) (record { tx = tx; priority = given }) m.current_events.items) where
   abbrev rank_of : ℕ → ℤ
   rank_of = priority_of m.transactions.txs
 
   abbrev newcomer : Member
   newcomer = record { tx = tx; priority = priority }
+
+  joined : cs ≡ placed_behind (λ (y : Member). passes priority y.priority) newcomer m.current_events.items
+  joined = subst (λ k. cs ≡ placed_behind (λ (y : Member). passes k y.priority) (record { tx = tx; priority = k }) m.current_events.items) same placed
 
   -- the members' priorities are those of their numbers
   same_places : AllByRecursion (λ (y : Member). passes priority y.priority ≡ passes (rank_of tx.number) (rank_of (member_number y))) m.current_events.items
@@ -68,21 +79,14 @@ module _ (m : Configuration) (tx : Tx) (priority : ℤ) (l : Linked m) (r : CanR
       (ap (map member_number) joined ∙ map-placed member_number (λ (y : Member). passes priority y.priority) (λ k. passes (rank_of tx.number) (rank_of k)) newcomer m.current_events.items same_places)
 
   pub linked-joined : (new : Configuration) → new.transactions ≡ m.transactions → new.active ≡ None → new.current_events.items ≡ cs → new.future_events ≡ m.future_events → new.waits ≡ m.waits → new.assemblies ≡ m.assemblies → new.chains ≡ m.chains
-      → new.facilities ≡ m.facilities → new.storages ≡ m.storages → new.queues ≡ m.queues → new.clock ≡ m.clock → ResidesOnce (state_of new) → Linked new
-  linked-joined new ts a c fs w sets chs fac sto que clock resides =
+      → new.facilities ≡ m.facilities → new.storages ≡ m.storages → new.queues ≡ m.queues → new.clock ≡ m.clock → state_of new ≡ rests_there → ((state_of m).lists.active ≡ Some tx.number → ResidesOnce (state_of m) → ResidesOnce rests_there) → Linked new
+  linked-joined new ts a c fs w sets chs fac sto que clock is resides =
       linked-members m new ts (rw a tt)
       (rw (c, joined) (all_placed (IsRanked m.transactions) (λ (y : Member). passes priority y.priority) newcomer m.current_events.items (record { held = r.held; rank = rank }) l.current_events))
-      fs w (rw sets l.assemblies) chs fac sto que clock resides l
+      fs w (rw sets l.assemblies) chs fac sto que clock
+      (subst ResidesOnce (sym is) (resides (ap (option_map (λ (x : Tx). x.number)) r.active) l.resides)) l
 
 -- ASSEMBLIES
-
-map-appended : (xs : List HeldAssembly) (x : HeldAssembly) → map assembly_of (xs ++ x ∷ []) ≡ map assembly_of xs ++ assembly_of x ∷ []
-map-appended [] x = refl
-map-appended (y ∷ ys) x = ap (λ sets. assembly_of y ∷ sets) (map-appended ys x)
-
-all-appended : (P : HeldAssembly → Type 0) (xs : List HeldAssembly) (x : HeldAssembly) → AllByRecursion P xs → P x → AllByRecursion P (xs ++ x ∷ [])
-all-appended P [] x h p = (p, tt)
-all-appended P (y ∷ ys) x h p = (h.0, all-appended P ys x h.1 p)
 
 module _ (m : Configuration) (tx : Tx) (a : Assembling) (l : Linked m) (r : CanRest m tx) (sets : List HeldAssembly) (begun : sets ≡ m.assemblies.items ++ record { block = a.block; set = a.set; first = tx; missing = a.missing } ∷ []) where
   abbrev first : HeldAssembly
@@ -90,13 +94,13 @@ module _ (m : Configuration) (tx : Tx) (a : Assembling) (l : Linked m) (r : CanR
 
   pub state-awaits : record (state_of m) { lists = record (lists_of m) { active = None; assemblies = map assembly_of sets } } ≡ awaits_set tx.number a (state_of m)
   state-awaits =
-      ap (λ (xs : List Assembly). record (state_of m) { lists = record (lists_of m) { active = None; assemblies = xs } }) (ap (map assembly_of) begun ∙ map-appended m.assemblies.items first)
+      ap (λ (xs : List Assembly). record (state_of m) { lists = record (lists_of m) { active = None; assemblies = xs } }) (ap (map assembly_of) begun ∙ map-append assembly_of m.assemblies.items (first ∷ []))
 
   pub linked-awaits : (new : Configuration) → new.transactions ≡ m.transactions → new.active ≡ None → new.current_events ≡ m.current_events → new.future_events ≡ m.future_events → new.waits ≡ m.waits → new.assemblies.items ≡ sets → new.chains ≡ m.chains
       → new.facilities ≡ m.facilities → new.storages ≡ m.storages → new.queues ≡ m.queues → new.clock ≡ m.clock → state_of new ≡ awaits_set tx.number a (state_of m) → Linked new
   linked-awaits new ts none cs fs w is_sets chs fac sto que clock is =
       linked-members m new ts (rw none tt) (rw cs l.current_events) fs w
-      (rw (is_sets, begun) (all-appended (IsHeldBy m.transactions) m.assemblies.items first l.assemblies r.held)) chs fac sto que clock
+      (rw (is_sets, begun) (all_appended (IsHeldBy m.transactions) m.assemblies.items first l.assemblies r.held)) chs fac sto que clock
       (subst ResidesOnce (sym is) (resides-awaits tx.number a (state_of m) (ap (option_map (λ (x : Tx). x.number)) r.active) l.resides)) l
 
 -- HOW MANY

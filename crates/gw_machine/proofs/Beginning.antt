@@ -1,5 +1,5 @@
 -- A machine in which nothing is scheduled.
-use Rattle.std.proofs.Common.{◌≡◌, ℕ, zero, suc, ◌+◌, ◌^◌, ◌<◌, pos, List, [], ◌∷◌, map, length, replicate, None, refl, sym, ap, ◌∙◌, subst, false, arith}
+use Rattle.std.proofs.Common.{◌≡◌, ℕ, zero, suc, ◌+◌, ◌^◌, ◌<◌, pos, List, [], ◌∷◌, map, length, replicate, Option, None, refl, sym, ap, ◌∙◌, subst, false, arith}
 use Rattle.std.specs.Prelude.{sum, Bool, ℤ}
 use Rattle.std.proofs.lemmas.Int.{ints}
 use Rattle.std.proofs.lemmas.List.{length-map, length-replicate}
@@ -13,19 +13,25 @@ use Rattle.gw_entities.specs.Contents.{empty}
 use Rattle.gw_entities.specs.Facility.{idle}
 use Rattle.gw_object.specs.Entities.{capacity_of}
 use Rattle.gw_entities.specs.Storage.{vacant}
-use Rattle.gw_entities.specs.Table.{FacilityTable, StorageTable, QueueTable, switches_of, savevalues_of, tables_of, initial_setting, initial_value, nothing_entered}
+use Rattle.gw_entities.specs.declared.facilities.Facility.{Facility}
+use Rattle.gw_entities.specs.declared.storages.Storage.{Storage}
+use Rattle.gw_entities.specs.declared.contents.Contents.{Contents}
+use Rattle.gw_entities.specs.Numbered.{ByNumber}
+use Rattle.gw_entities.specs.Table.{initial_setting, initial_value, nothing_entered}
 use Rattle.gw_entities.specs.Tabulation.{Tabulation}
 use Rattle.gw_step.proofs.Nothing.{no_transaction, resides-nothing}
 use Rattle.gw_machine.specs.Configuration.{Configuration}
 use Rattle.gw_step.specs.Start.{nothing}
 use Rattle.gw_step.specs.State.{State}
+use Rattle.gw_step.specs.declared.ends.End.{End}
 use Rattle.gw_step.specs.Residence.{ResidesOnce}
 use Rattle.gw_machine.specs.View.{state_of, handle_number, member_number}
 use Rattle.gw_machine.specs.Coherence.{AreInBlocks, Linked, IsOf}
 use Rattle.gw_machine.specs.Evaluating.{IsReadable}
+use Rattle.gw_machine.specs.AtStart.{AreAtStart}
 
--- what the parts of such a machine are
-pub record Begins (p : Parts) (n : ℕ) (ss : List ℕ) (m : Configuration) : Type 0 where
+-- what the parts of such a machine are, in which this end stands, if it is one
+pub record Begins (p : Parts) (n : ℕ) (ss : List ℕ) (e : Option End) (m : Configuration) : Type 0 where
   pub clock : m.clock ≡ pos 0
   pub count : m.count ≡ pos n
   pub steps : m.steps ≡ 0
@@ -41,14 +47,9 @@ pub record Begins (p : Parts) (n : ℕ) (ss : List ℕ) (m : Configuration) : Ty
   pub assemblies : m.assemblies.items ≡ []
   pub chains : m.chains.lists ≡ replicate (length p.entities) []
   pub stir : m.stir ≡ false
-  pub facilities : m.facilities ≡ record { facilities = map (λ _. idle) p.entities; passed = 0 }
-  pub storages : m.storages ≡ record { storages = map (λ (e : Entity). vacant (capacity_of e.kind)) p.entities; passed = 0 }
-  pub queues : m.queues ≡ record { queues = map (λ _. empty) p.entities; passed = 0 }
-  pub switches : m.switches ≡ switches_of p.entities
-  pub savevalues : m.savevalues ≡ savevalues_of p.entities
-  pub tables : m.tables ≡ tables_of p.entities
+  pub tables : AreAtStart p.entities (record { facilities = m.facilities; storages = m.storages; queues = m.queues; switches = m.switches; savevalues = m.savevalues; tables = m.tables })
   pub entries : m.entries ≡ replicate (length p.blocks + 1) 0
-  pub ended : m.ended ≡ None
+  pub ended : m.ended ≡ e
 
 -- lists with no member
 empties : {T : Type 0} (number : T → ℕ) (n : ℕ) → map (map number) (replicate n []) ≡ replicate n []
@@ -59,9 +60,9 @@ empties number (suc n) = ap (λ xs. [] ∷ xs) (empties number n)
 nobody_in : AreInBlocks (None ∷ [])
 nobody_in n = rw (no_transaction n) tt
 
-module _ (p : Parts) (count : ℕ) (streams : List ℕ) (m : Configuration) (b : Begins p count streams m) where
-  entities : length m.facilities.facilities ≡ length p.entities
-  entities = ap (λ (f : FacilityTable). length f.facilities) b.facilities ∙ length-map p.entities (λ _. idle)
+module _ (p : Parts) (count : ℕ) (streams : List ℕ) (e : Option End) (m : Configuration) (b : Begins p count streams e m) where
+  entities : length m.facilities.values ≡ length p.entities
+  entities = ap (λ (f : ByNumber Facility). length f.values) b.tables.facilities ∙ length-map p.entities (λ _. idle)
 
   delay_lists : (state_of m).lists.delay_lists ≡ replicate (length p.entities) []
   delay_lists = rw b.lists (empties member_number (length p.entities))
@@ -69,12 +70,12 @@ module _ (p : Parts) (count : ℕ) (streams : List ℕ) (m : Configuration) (b :
   user_chains : (state_of m).lists.user_chains ≡ replicate (length p.entities) []
   user_chains = rw b.chains (empties handle_number (length p.entities))
 
-  pub state-nothing : state_of m ≡ nothing p count streams
+  pub state-nothing : state_of m ≡ record (nothing p count streams) { ended = e }
   state-nothing =
-      let f = ap (λ (x : FacilityTable). x.facilities) b.facilities in
-      let s = ap (λ (x : StorageTable). x.storages) b.storages in
-      let q = ap (λ (x : QueueTable). x.queues) b.queues in
-      rw (delay_lists, user_chains, f, s, q, b.switches, b.savevalues, b.tables, b.clock, b.count, b.steps, b.streams, b.scheduled, b.transactions, b.active, b.current_events, b.future_events, b.retry, b.assemblies, b.stir, b.entries, b.ended) refl
+      let f = ap (λ (x : ByNumber Facility). x.values) b.tables.facilities in
+      let s = ap (λ (x : ByNumber Storage). x.values) b.tables.storages in
+      let q = ap (λ (x : ByNumber Contents). x.values) b.tables.queues in
+      rw (delay_lists, user_chains, f, s, q, b.tables.switches, b.tables.savevalues, b.tables.tables, b.clock, b.count, b.steps, b.streams, b.scheduled, b.transactions, b.active, b.current_events, b.future_events, b.retry, b.assemblies, b.stir, b.entries, b.ended) refl
 
   pub linked-nothing : Linked m
   linked-nothing = record {
@@ -90,16 +91,16 @@ module _ (p : Parts) (count : ℕ) (streams : List ℕ) (m : Configuration) (b :
     sound = b.sound;
     blocks = rw b.transactions nobody_in;
     resides = subst ResidesOnce (sym state-nothing) (resides-nothing p count streams);
-    timed = record { facilities = rw (b.facilities, b.clock) refl; storages = rw (b.storages, b.clock) refl; queues = rw (b.queues, b.clock) refl };
+    timed = record { facilities = rw (b.tables.facilities, b.clock) refl; storages = rw (b.tables.storages, b.clock) refl; queues = rw (b.tables.queues, b.clock) refl };
   }
 
   pub readable-nothing : IsReadable m
   readable-nothing = record {
-    storages = ap (λ (x : StorageTable). length x.storages) b.storages ∙ length-map p.entities (λ (e : Entity). vacant (capacity_of e.kind)) ∙ sym entities;
-    queues = ap (λ (x : QueueTable). length x.queues) b.queues ∙ length-map p.entities (λ _. empty) ∙ sym entities;
-    switches = ap (λ (xs : List Bool). length xs) b.switches ∙ length-map p.entities (λ (e : Entity). initial_setting e.kind) ∙ sym entities;
-    savevalues = ap (λ (xs : List ℤ). length xs) b.savevalues ∙ length-map p.entities (λ (e : Entity). initial_value e.kind) ∙ sym entities;
-    tables = ap (λ (xs : List Tabulation). length xs) b.tables ∙ length-map p.entities (λ (e : Entity). nothing_entered e.kind) ∙ sym entities;
+    storages = ap (λ (x : ByNumber Storage). length x.values) b.tables.storages ∙ length-map p.entities (λ (e : Entity). vacant (capacity_of e.kind)) ∙ sym entities;
+    queues = ap (λ (x : ByNumber Contents). length x.values) b.tables.queues ∙ length-map p.entities (λ _. empty) ∙ sym entities;
+    switches = ap (λ (xs : List Bool). length xs) b.tables.switches ∙ length-map p.entities (λ (e : Entity). initial_setting e.kind) ∙ sym entities;
+    savevalues = ap (λ (xs : List ℤ). length xs) b.tables.savevalues ∙ length-map p.entities (λ (e : Entity). initial_value e.kind) ∙ sym entities;
+    tables = ap (λ (xs : List Tabulation). length xs) b.tables.tables ∙ length-map p.entities (λ (e : Entity). nothing_entered e.kind) ∙ sym entities;
     entries = omega (arith, ap sum b.entries, sum_by-replicate 0 (λ (x : ℕ). x) (length p.blocks + 1) refl);
     clock = rw b.clock (grind (arith, ints));
   }

@@ -1,6 +1,7 @@
 -- What the elementary changes make of a machine.
-use Rattle.std.proofs.Common.{◌≡◌, ℕ, ◌+◌, ◌≤◌, ◌<◌, ℤ, List, [], map, length, Option, Some, None, option_map, refl, sym, ap, ◌∙◌, subst, get_or}
+use Rattle.std.proofs.Common.{◌≡◌, ℕ, ◌+◌, ◌≤◌, ◌<◌, ℤ, List, [], map, length, Option, Some, None, IfSome, option_map, refl, sym, ap, ◌∙◌, subst, get_or}
 use Rattle.std.specs.Prelude.{int_le, slice_set}
+use Rattle.std.specs.List.{AllByRecursion}
 use Rattle.gw_chains.specs.Chain.{Chain, in_time}
 use Rattle.gw_num.specs.Table.{at, put}
 use Rattle.gw_chains.specs.declared.tx.Tx.{Tx}
@@ -56,18 +57,27 @@ timed-kept m new f s q c h = record { facilities = rw (f, c) h.facilities; stora
 abbrev number_of : Member → ℕ
 number_of x = x.tx.number
 
--- the members of a machine's lists after a change of its transactions that carries every handle
-pub linked-carried : (m new : Configuration) → Carries Every m.transactions new.transactions → IsSound new.transactions → new.active ≡ m.active → new.current_events.items ≡ m.current_events.items → new.future_events.items ≡ m.future_events.items → Keeps m new → ResidesOnce (state_of new) → Linked m → Linked new
-linked-carried m new c sound a cs fs k resides l =
-    let carried = λ (xs : List Member). members_carried Every m.transactions new.transactions c xs (every number_of xs) in
+-- each number on the lists of a machine, but for its future events chain, is one of these
+record AreOf (these : ℕ → Type 0) (m : Configuration) : Type 0 where
+  current_events : AllByRecursion (λ (x : Member). these x.tx.number) m.current_events.items
+  delay_lists : (e : ℕ) → AllByRecursion (λ (x : Member). these x.tx.number) (at [] m.waits.lists e)
+  retry : AllByRecursion (λ (x : Member). these x.tx.number) m.waits.retry
+  assemblies : AllByRecursion (λ (x : HeldAssembly). these x.first.number) m.assemblies.items
+  user_chains : (c : ℕ) → AllByRecursion (λ (x : Tx). these x.number) (at [] m.chains.lists c)
+
+-- the members of a machine's lists after a change of its transactions that carries their handles
+linked-of : (these : ℕ → Type 0) (m new : Configuration) → AreOf these m → Carries these m.transactions new.transactions → IsSound new.transactions → IfSome new.active (Holds new.transactions) → new.current_events.items ≡ m.current_events.items → AllByRecursion (IsHeld new.transactions) new.future_events.items → Keeps m new → ResidesOnce (state_of new) → Linked m → Linked new
+linked-of these m new of c sound a cs fs k resides l =
+    let p = m.transactions in
+    let q = new.transactions in
     record {
-      active = rw a (active_carried m.transactions new.transactions c m.active l.active);
-      current_events = rw cs (carried m.current_events.items l.current_events);
-      future_events = rw fs (events_carried Every m.transactions new.transactions c m.future_events.items (every (λ (x : Event). x.tx.number) m.future_events.items) l.future_events);
-      delay_lists = λ e below. rw k.waits (carried (at [] m.waits.lists e) (l.delay_lists e (rw k.facilities at below)));
-      retry = rw k.waits (carried m.waits.retry l.retry);
-      assemblies = rw k.assemblies (assemblies_carried Every m.transactions new.transactions c m.assemblies.items (every (λ (x : HeldAssembly). x.first.number) m.assemblies.items) l.assemblies);
-      user_chains = λ e below. rw k.chains (handles_carried Every m.transactions new.transactions c (at [] m.chains.lists e) (every handle_number (at [] m.chains.lists e)) (l.user_chains e (rw k.facilities at below)));
+      active = a;
+      current_events = rw cs (members_carried these p q c m.current_events.items of.current_events l.current_events);
+      future_events = fs;
+      delay_lists = λ e below. rw k.waits (members_carried these p q c (at [] m.waits.lists e) (of.delay_lists e) (l.delay_lists e (rw k.facilities at below)));
+      retry = rw k.waits (members_carried these p q c m.waits.retry of.retry l.retry);
+      assemblies = rw k.assemblies (assemblies_carried these p q c m.assemblies.items of.assemblies l.assemblies);
+      user_chains = λ e below. rw k.chains (handles_carried these p q c (at [] m.chains.lists e) (of.user_chains e) (l.user_chains e (rw k.facilities at below)));
       listed = rw (k.waits, k.facilities) l.listed;
       chained = rw (k.chains, k.facilities) l.chained;
       sound = sound;
@@ -75,6 +85,36 @@ linked-carried m new c sound a cs fs k resides l =
       resides = resides;
       timed = timed-kept m new k.facilities k.storages k.queues k.clock l.timed;
     }
+
+of-every : (m : Configuration) → AreOf Every m
+of-every m = record {
+  current_events = every number_of m.current_events.items;
+  delay_lists = λ e. every number_of (at [] m.waits.lists e);
+  retry = every number_of m.waits.retry;
+  assemblies = every (λ (x : HeldAssembly). x.first.number) m.assemblies.items;
+  user_chains = λ c. every handle_number (at [] m.chains.lists c);
+}
+
+-- every handle is carried, and the future events stay
+pub linked-carried : (m new : Configuration) → Carries Every m.transactions new.transactions → IsSound new.transactions → new.active ≡ m.active → new.current_events.items ≡ m.current_events.items → new.future_events.items ≡ m.future_events.items → Keeps m new → ResidesOnce (state_of new) → Linked m → Linked new
+linked-carried m new c sound a cs fs k resides l =
+    linked-of Every m new (of-every m) c sound (rw a (active_carried m.transactions new.transactions c m.active l.active)) cs
+    (rw fs (events_carried Every m.transactions new.transactions c m.future_events.items (every (λ (x : Event). x.tx.number) m.future_events.items) l.future_events)) k resides l
+
+-- all handles but that of the active transaction, which resides on no list, are carried
+pub linked-apart : (m new : Configuration) (n : ℕ) → (state_of m).lists.active ≡ Some n → Carries (Others n) m.transactions new.transactions → IsSound new.transactions → IfSome new.active (Holds new.transactions) → new.current_events.items ≡ m.current_events.items → new.future_events.items ≡ m.future_events.items → Keeps m new → ResidesOnce (state_of new) → Linked m → Linked new
+linked-apart m new n active c sound a cs fs k resides l =
+    let none = alone n (state_of m) active l.resides in
+    let of : AreOf (Others n) m = record {
+      current_events = others number_of n m.current_events.items none.current_events;
+      delay_lists = λ e. others number_of n (at [] m.waits.lists e) (sym (ap (occurrences n) (delay_list-at m e)) ∙ none.delay_lists e);
+      retry = others number_of n m.waits.retry none.retry;
+      assemblies = others (λ (x : HeldAssembly). x.first.number) n m.assemblies.items (sym (ap (occurrences n) (map-map (λ (a : Assembly). a.number) assembly_of m.assemblies.items)) ∙ none.assemblies);
+      user_chains = λ e. others handle_number n (at [] m.chains.lists e) (sym (ap (occurrences n) (user_chain-at m e)) ∙ none.user_chains e);
+    } in
+    linked-of (Others n) m new of c sound a cs
+    (rw fs (events_carried (Others n) m.transactions new.transactions c m.future_events.items (others (λ (x : Event). x.tx.number) n m.future_events.items (sym (ap (occurrences n) (map-map (λ (e : FutureEvent). e.number) event_of m.future_events.items)) ∙ none.future_events)) l.future_events))
+    k resides l
 
 pub linked-entered : (m new : Configuration) (tx : Tx) (t : Transaction) (next : ℕ)
     → new.transactions.txs ≡ put_attributes tx.number (record t { current = t.next; next = next }) m.transactions.txs → new.transactions.places ≡ m.transactions.places → new.transactions.last ≡ m.transactions.last → IsSound new.transactions
@@ -113,29 +153,8 @@ linked-destroyed m new tx ts ps ls sound l r a cs fs k is =
     let n = tx.number in
     let u = transaction_of m.transactions l.sound tx r.held in
     let active : (state_of m).lists.active ≡ Some n = ap (option_map (λ (x : Tx). x.number)) r.active in
-    let c = carries-remove m.transactions new.transactions n ts ps ls in
-    let none = alone n (state_of m) active l.resides in
-    let carried = λ (xs : List Member) (gone : occurrences n (map number_of xs) ≡ 0). members_carried (Others n) m.transactions new.transactions c xs (others number_of n xs gone) in
-    record {
-      active = rw a tt;
-      current_events = rw cs (carried m.current_events.items none.current_events l.current_events);
-      future_events = rw fs (events_carried (Others n) m.transactions new.transactions c m.future_events.items (others (λ (x : Event). x.tx.number) n m.future_events.items (sym (ap (occurrences n) (map-map (λ (e : FutureEvent). e.number) event_of m.future_events.items)) ∙ none.future_events)) l.future_events);
-      delay_lists = λ e below.
-          let within : e < length m.facilities.facilities = rw k.facilities at below in
-          rw k.waits (carried (at [] m.waits.lists e) (sym (ap (occurrences n) (delay_list-at m e)) ∙ none.delay_lists e) (l.delay_lists e within));
-      retry = rw k.waits (carried m.waits.retry none.retry l.retry);
-      assemblies = rw k.assemblies (assemblies_carried (Others n) m.transactions new.transactions c m.assemblies.items
-          (others (λ (x : HeldAssembly). x.first.number) n m.assemblies.items (sym (ap (occurrences n) (map-map (λ (a : Assembly). a.number) assembly_of m.assemblies.items)) ∙ none.assemblies)) l.assemblies);
-      user_chains = λ e below.
-          let within : e < length m.facilities.facilities = rw k.facilities at below in
-          rw k.chains (handles_carried (Others n) m.transactions new.transactions c (at [] m.chains.lists e) (others handle_number n (at [] m.chains.lists e) (sym (ap (occurrences n) (user_chain-at m e)) ∙ none.user_chains e)) (l.user_chains e within));
-      listed = rw (k.waits, k.facilities) l.listed;
-      chained = rw (k.chains, k.facilities) l.chained;
-      sound = sound;
-      blocks = c.blocks l.blocks;
-      resides = subst ResidesOnce (sym is) (resides-destroyed n u.0 (state_of m) active u.1 l.resides);
-      timed = timed-kept m new k.facilities k.storages k.queues k.clock l.timed;
-    }
+    linked-apart m new n active (carries-remove m.transactions new.transactions n ts ps ls) sound (rw a tt) cs fs k
+    (subst ResidesOnce (sym is) (resides-destroyed n u.0 (state_of m) active u.1 l.resides)) l
 
 pub linked-rested : (m new : Configuration) (tx : Tx) (time : ℤ)
     → new.transactions ≡ m.transactions → Linked m → CanRest m tx → new.active ≡ None → new.current_events.items ≡ m.current_events.items → new.future_events.items ≡ in_time (λ (e : Event). e.time) (record { tx = tx; time = time }) m.future_events.items → Keeps m new
@@ -167,20 +186,7 @@ linked-arrived m new tx t b priority time ts ps ls ns sound a cs fs k is block l
     let q = new.transactions in
     let c = carries-insert p q t tx.place l.sound block ts ps ls in
     let held : Holds q tx = ap (λ xs. at None xs tx.number) ps ∙ ap (λ k. at None (put None p.places k (Some tx.place)) tx.number) (sym ns) ∙ at-put None p.places tx.number (Some tx.place) in
-    let carried = λ (xs : List Member). members_carried Every p q c xs (every number_of xs) in
-    record {
-      active = rw a (active_carried p q c m.active l.active);
-      current_events = rw cs (carried m.current_events.items l.current_events);
-      future_events = rw fs (all_placed (IsHeld q) (λ (y : Event). int_le y.time time) (record { tx = tx; time = time }) m.future_events.items held
-          (events_carried Every p q c m.future_events.items (every (λ (x : Event). x.tx.number) m.future_events.items) l.future_events));
-      delay_lists = λ e below. rw k.waits (carried (at [] m.waits.lists e) (l.delay_lists e (rw k.facilities at below)));
-      retry = rw k.waits (carried m.waits.retry l.retry);
-      assemblies = rw k.assemblies (assemblies_carried Every p q c m.assemblies.items (every (λ (x : HeldAssembly). x.first.number) m.assemblies.items) l.assemblies);
-      user_chains = λ e below. rw k.chains (handles_carried Every p q c (at [] m.chains.lists e) (every handle_number (at [] m.chains.lists e)) (l.user_chains e (rw k.facilities at below)));
-      listed = rw (k.waits, k.facilities) l.listed;
-      chained = rw (k.chains, k.facilities) l.chained;
-      sound = sound;
-      blocks = c.blocks l.blocks;
-      resides = subst ResidesOnce (sym is) (resides-arrives b priority time (state_of m) l.resides);
-      timed = timed-kept m new k.facilities k.storages k.queues k.clock l.timed;
-    }
+    linked-of Every m new (of-every m) c sound (rw a (active_carried p q c m.active l.active)) cs
+    (rw fs (all_placed (IsHeld q) (λ (y : Event). int_le y.time time) (record { tx = tx; time = time }) m.future_events.items held
+    (events_carried Every p q c m.future_events.items (every (λ (x : Event). x.tx.number) m.future_events.items) l.future_events))) k
+    (subst ResidesOnce (sym is) (resides-arrives b priority time (state_of m) l.resides)) l

@@ -1,5 +1,5 @@
 -- The clock goes to a time, and all that are due join the current events chain.
-use Rattle.std.proofs.Common.{◌≡◌, ℕ, ◌+◌, ℤ, ◌-ℤ◌, List, [], ◌∷◌, map, length, refl, sym, ap, ◌∙◌, subst}
+use Rattle.std.proofs.Common.{◌≡◌, ℕ, ℤ, ◌-ℤ◌, List, [], ◌∷◌, map, length, refl, sym, ap, ◌∙◌, subst}
 use Rattle.std.specs.Prelude.{unsigned_abs}
 use Rattle.std.specs.List.{AllByRecursion}
 use Rattle.gw_chains.specs.Chain.{all_behind, due, later}
@@ -9,7 +9,10 @@ use Rattle.std.proofs.lemmas.List.{length-map}
 use Rattle.gw_entities.specs.Contents.{contents_after}
 use Rattle.gw_entities.specs.Facility.{facility_after}
 use Rattle.gw_entities.specs.Storage.{storage_after}
-use Rattle.gw_entities.specs.Table.{FacilityTable, StorageTable, QueueTable}
+use Rattle.gw_entities.specs.declared.facilities.Facility.{Facility}
+use Rattle.gw_entities.specs.declared.storages.Storage.{Storage}
+use Rattle.gw_entities.specs.declared.contents.Contents.{Contents}
+use Rattle.gw_entities.specs.Numbered.{ByNumber, values_after}
 use Rattle.gw_transactions.specs.Transactions.{Population}
 use Rattle.gw_machine.specs.Configuration.{Configuration}
 use Rattle.gw_step.specs.State.{FutureEvent, EntityStates, priority_of}
@@ -65,7 +68,7 @@ module _ (m : Configuration) (time : ℤ) (cs : List Member) (fs : List Event) (
       (ap (map event_of) left ∙ map-later event_of (λ (e : Event). e.time) (λ (e : FutureEvent). e.time) time m.future_events.items (λ x. refl))
       ∙ ap (λ (h : EntityStates). record (clock_moves time (state_of m)) { entities = h }) passed
 
-  pub linked-moved : (new : Configuration) → new.transactions ≡ m.transactions → new.active ≡ m.active → new.current_events.items ≡ cs → new.future_events.items ≡ fs → new.waits ≡ m.waits → new.assemblies ≡ m.assemblies → new.chains ≡ m.chains → length new.facilities.facilities ≡ length m.facilities.facilities → IsTimed new → state_of new ≡ clock_moves time (state_of m) → Linked new
+  pub linked-moved : (new : Configuration) → new.transactions ≡ m.transactions → new.active ≡ m.active → new.current_events.items ≡ cs → new.future_events.items ≡ fs → new.waits ≡ m.waits → new.assemblies ≡ m.assemblies → new.chains ≡ m.chains → length new.facilities.values ≡ length m.facilities.values → IsTimed new → state_of new ≡ clock_moves time (state_of m) → Linked new
   linked-moved new ts a c f ws assemblies chs count timed is = record {
     active = rw (ts, a) l.active;
     current_events = rw (ts, c, joined) (ranked-joined m.transactions time m.future_events.items m.current_events.items l.future_events l.current_events);
@@ -85,15 +88,15 @@ module _ (m : Configuration) (time : ℤ) (cs : List Member) (fs : List Event) (
 -- THE TIME
 
 -- the tables of entities after time passed
-pub entities-passed : (m : Configuration) (dt : ℕ) (f : FacilityTable) (s : StorageTable) (q : QueueTable)
-    → f ≡ record { facilities = map (facility_after dt) m.facilities.facilities; passed = m.facilities.passed + dt }
-    → s ≡ record { storages = map (storage_after dt) m.storages.storages; passed = m.storages.passed + dt }
-    → q ≡ record { queues = map (contents_after dt) m.queues.queues; passed = m.queues.passed + dt }
-    → record (entities_of m) { facilities = f.facilities; storages = s.storages; queues = q.queues } ≡ time_passes dt (entities_of m)
+pub entities-passed : (m : Configuration) (dt : ℕ) (f : ByNumber Facility) (s : ByNumber Storage) (q : ByNumber Contents)
+    → f ≡ values_after facility_after dt m.facilities
+    → s ≡ values_after storage_after dt m.storages
+    → q ≡ values_after contents_after dt m.queues
+    → record (entities_of m) { facilities = f.values; storages = s.values; queues = q.values } ≡ time_passes dt (entities_of m)
 entities-passed m dt f s q ff ss qq =
-    ap (λ (x : FacilityTable). record (entities_of m) { facilities = x.facilities; storages = s.storages; queues = q.queues }) ff
-    ∙ ap (λ (x : StorageTable). record (entities_of m) { facilities = map (facility_after dt) m.facilities.facilities; storages = x.storages; queues = q.queues }) ss
-    ∙ ap (λ (x : QueueTable). record (entities_of m) { facilities = map (facility_after dt) m.facilities.facilities; storages = map (storage_after dt) m.storages.storages; queues = x.queues }) qq
+    ap (λ (x : ByNumber Facility). record (entities_of m) { facilities = x.values; storages = s.values; queues = q.values }) ff
+    ∙ ap (λ (x : ByNumber Storage). record (entities_of m) { facilities = map (facility_after dt) m.facilities.values; storages = x.values; queues = q.values }) ss
+    ∙ ap (λ (x : ByNumber Contents). record (entities_of m) { facilities = map (facility_after dt) m.facilities.values; storages = map (storage_after dt) m.storages.values; queues = x.values }) qq
 
-pub count-passed : (m : Configuration) (dt : ℕ) (f : FacilityTable) → f ≡ record { facilities = map (facility_after dt) m.facilities.facilities; passed = m.facilities.passed + dt } → length f.facilities ≡ length m.facilities.facilities
-count-passed m dt f ff = ap (λ (x : FacilityTable). length x.facilities) ff ∙ length-map m.facilities.facilities (facility_after dt)
+pub count-passed : (m : Configuration) (dt : ℕ) (f : ByNumber Facility) → f ≡ values_after facility_after dt m.facilities → length f.values ≡ length m.facilities.values
+count-passed m dt f ff = ap (λ (x : ByNumber Facility). length x.values) ff ∙ length-map m.facilities.values (facility_after dt)

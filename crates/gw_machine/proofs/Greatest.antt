@@ -1,5 +1,5 @@
 -- Slots for parameters.
-use Rattle.std.proofs.Common.{◌≡◌, ℕ, zero, suc, ◌+◌, ◌≤◌, ◌<◌, max, List, [], ◌∷◌, Option, Some, None, get_or, drop, length, ap, ◌∙◌, sym, refl, arith}
+use Rattle.std.proofs.Common.{◌≡◌, ℕ, zero, suc, ◌≤◌, List, [], ◌∷◌, Option, Some, None, ap, refl, arith}
 use Rattle.std.specs.Prelude.{slice_get, unwrap_or, IfSome}
 use Rattle.gw_blocks.specs.declared.parts.Block.{Block}
 use Rattle.gw_kinds.specs.Kinds.{block_at}

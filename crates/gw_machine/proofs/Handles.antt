@@ -1,5 +1,5 @@
 -- The handles of a machine through a change of its transactions.
-use Rattle.std.proofs.Common.{◌≡◌, ℕ, ◌≤◌, ℤ, List, [], ◌∷◌, map, length, Option, Some, None, IfSome, option_map, refl, sym, ap, ◌∙◌, subst, arith, inl, inr}
+use Rattle.std.proofs.Common.{◌≡◌, ℕ, ◌≤◌, ℤ, List, [], ◌∷◌, ◌++◌, map, length, Option, Some, None, IfSome, option_map, refl, sym, ap, ◌∙◌, subst, arith, inl, inr}
 use Rattle.std.specs.List.{AllByRecursion}
 use Rattle.std.proofs.lemmas.Bool.{cases_eq}
 use Rattle.gw_chains.specs.declared.tx.Tx.{Tx}
@@ -15,6 +15,11 @@ use Rattle.gw_step.specs.Residence.{occurrences}
 use Rattle.gw_machine.specs.Coherence.{AreInBlocks, IsRanked, IsHeld, IsHeldBy, Carries, Every, Others}
 use Rattle.gw_step.proofs.Residence.{same_number}
 use Rattle.gw_step.proofs.Attributes.{priority-attributes}
+
+-- one more at the end
+pub all_appended : {A : Type 0} (P : A → Type 0) (xs : List A) (x : A) → AllByRecursion P xs → P x → AllByRecursion P (xs ++ x ∷ [])
+all_appended P [] x h p = (p, tt)
+all_appended P (y ∷ ys) x h p = (h.0, all_appended P ys x h.1 p)
 
 pub active_carried : (p q : Population) → Carries Every p q → (a : Option Tx) → IfSome a (Holds p) → IfSome a (Holds q)
 active_carried p q c None h = tt

@@ -11,7 +11,10 @@ use Rattle.gw_blocks.specs.declared.parts.Operand.{Operand}
 use Rattle.gw_blocks.specs.declared.parts.Operand.TheVariants.{Parameter, OfEntity}
 use Rattle.gw_object.specs.declared.parts.Parts.{Parts}
 use Rattle.gw_entities.specs.Attributes.{attribute_of}
-use Rattle.gw_entities.specs.Table.{FacilityTable, StorageTable, QueueTable}
+use Rattle.gw_entities.specs.declared.facilities.Facility.{Facility}
+use Rattle.gw_entities.specs.declared.storages.Storage.{Storage}
+use Rattle.gw_entities.specs.declared.contents.Contents.{Contents}
+use Rattle.gw_entities.specs.Numbered.{ByNumber}
 use Rattle.gw_operands.specs.Environment.{kept_value, ReadTheSame}
 use Rattle.gw_chains.specs.Lists as chain_lists
 use Rattle.gw_transactions.specs.Transactions.{LiveTransaction, here_count}
@@ -67,9 +70,9 @@ module _ (m : Configuration) (subject : Subject) (env : Env) (l : Lends m subjec
   lends_of k can p own =
       let r = can.readable in
       record {
-        facilities = ap (λ (t : FacilityTable). length t.facilities) l.facilities ∙ own;
-        storages = ap (λ (t : StorageTable). length t.storages) l.storages ∙ r.storages ∙ own;
-        queues = ap (λ (t : QueueTable). length t.queues) l.queues ∙ r.queues ∙ own;
+        facilities = ap (λ (t : ByNumber Facility). length t.values) l.facilities ∙ own;
+        storages = ap (λ (t : ByNumber Storage). length t.values) l.storages ∙ r.storages ∙ own;
+        queues = ap (λ (t : ByNumber Contents). length t.values) l.queues ∙ r.queues ∙ own;
         switches = ap length l.switches ∙ r.switches ∙ own;
         savevalues = ap length l.savevalues ∙ r.savevalues ∙ own;
         tables = ap length l.tables ∙ r.tables ∙ own;

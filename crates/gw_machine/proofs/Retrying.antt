@@ -1,6 +1,5 @@
 -- What resting on the retry list, and waking it, make of a machine.
-use Rattle.std.proofs.Common.{◌≡◌, ℕ, ℤ, List, [], ◌∷◌, ◌++◌, map, None, false, option_map, refl, sym, ap, ◌∙◌, subst}
-use Rattle.std.specs.List.{AllByRecursion}
+use Rattle.std.proofs.Common.{◌≡◌, ℕ, ℤ, List, [], ◌∷◌, ◌++◌, map, None, false, option_map, sym, ap, ◌∙◌, subst}
 use Rattle.gw_chains.specs.Chain.{all_behind}
 use Rattle.gw_chains.specs.Lists.{Waiting}
 use Rattle.gw_chains.specs.declared.tx.Tx.{Tx}
@@ -13,16 +12,10 @@ use Rattle.gw_machine.specs.View.{state_of, lists_of, member_number}
 use Rattle.gw_machine.specs.Coherence.{Linked, IsRanked, CanRest}
 use Rattle.gw_step.proofs.Lists.{all_all_behind, map-all_behind}
 use Rattle.gw_step.proofs.Residence.{resides-retries, resides-woken}
-use Rattle.gw_machine.proofs.Changes.{timed-kept}
+use Rattle.std.proofs.lemmas.List.{map-append}
+use Rattle.gw_machine.proofs.Handles.{all_appended}
+use Rattle.gw_machine.proofs.AtRest.{linked-lists}
 use Rattle.gw_machine.proofs.Due.{agree}
-
-map-joined : (xs : List Member) (x : Member) → map member_number (xs ++ x ∷ []) ≡ map member_number xs ++ member_number x ∷ []
-map-joined [] x = refl
-map-joined (y ∷ ys) x = ap (λ ns. member_number y ∷ ns) (map-joined ys x)
-
-all-joined : (P : Member → Type 0) (xs : List Member) (x : Member) → AllByRecursion P xs → P x → AllByRecursion P (xs ++ x ∷ [])
-all-joined P [] x h p = (p, tt)
-all-joined P (y ∷ ys) x h p = (h.0, all-joined P ys x h.1 p)
 
 module _ (m : Configuration) (tx : Tx) (priority : ℤ) where
   abbrev newcomer : Member
@@ -31,28 +24,17 @@ module _ (m : Configuration) (tx : Tx) (priority : ℤ) where
   pub state-retries : (ws : Waiting) → ws.retry ≡ m.waits.retry ++ newcomer ∷ [] → ws.lists ≡ m.waits.lists
       → state_of (record m { active = None; waits = ws }) ≡ retries tx.number (state_of m)
   state-retries ws joined same =
-      ap (λ (ns : List ℕ). record (state_of m) { lists = record (lists_of (record m { active = None; waits = ws })) { retry = ns } }) (ap (map member_number) joined ∙ map-joined m.waits.retry newcomer)
+      ap (λ (ns : List ℕ). record (state_of m) { lists = record (lists_of (record m { active = None; waits = ws })) { retry = ns } }) (ap (map member_number) joined ∙ map-append member_number m.waits.retry (newcomer ∷ []))
       ∙ ap (λ (xs : List (List Member)). record (state_of m) { lists = record (lists_of m) { active = None; delay_lists = map (map member_number) xs; retry = map member_number m.waits.retry ++ tx.number ∷ [] } }) same
 
   pub linked-retries : Linked m → CanRest m tx → priority_of m.transactions.txs tx.number ≡ priority → (ws : Waiting) → ws.retry ≡ m.waits.retry ++ newcomer ∷ [] → ws.lists ≡ m.waits.lists
       → (new : Configuration) → new.transactions ≡ m.transactions → new.active ≡ None → new.current_events ≡ m.current_events → new.future_events ≡ m.future_events → new.waits ≡ ws → new.assemblies ≡ m.assemblies → new.chains ≡ m.chains
       → new.facilities ≡ m.facilities → new.storages ≡ m.storages → new.queues ≡ m.queues → new.clock ≡ m.clock → state_of new ≡ retries tx.number (state_of m) → Linked new
   linked-retries l r rank ws joined same new ts a cs fs w assemblies chs fac sto que clock is =
-      record {
-        active = rw a tt;
-        current_events = rw (ts, cs) l.current_events;
-        future_events = rw (ts, fs) l.future_events;
-        delay_lists = λ e below. rw (ts, w, same) (l.delay_lists e (rw fac at below));
-        retry = rw (ts, w, joined) (all-joined (IsRanked m.transactions) m.waits.retry newcomer l.retry (record { held = r.held; rank = rank }));
-        assemblies = rw (ts, assemblies) l.assemblies;
-        user_chains = λ c below. rw (ts, chs) (l.user_chains c (rw fac at below));
-        chained = rw (chs, fac) l.chained;
-        blocks = rw ts l.blocks;
-        listed = rw (w, same, fac) l.listed;
-        sound = rw ts l.sound;
-        resides = subst ResidesOnce (sym is) (resides-retries tx.number (state_of m) (ap (option_map (λ (x : Tx). x.number)) r.active) l.resides);
-        timed = timed-kept m new fac sto que clock l.timed;
-      }
+      linked-lists m new ts (rw a tt) (rw cs l.current_events) fs (rw w same)
+      (rw (w, joined) (all_appended (IsRanked m.transactions) m.waits.retry newcomer l.retry (record { held = r.held; rank = rank })))
+      (rw assemblies l.assemblies) chs fac sto que clock
+      (subst ResidesOnce (sym is) (resides-retries tx.number (state_of m) (ap (option_map (λ (x : Tx). x.number)) r.active) l.resides)) l
 
 module _ (m : Configuration) (l : Linked m) (cs : List Member) (ws : Waiting) (joined : cs ≡ all_behind (λ (x : Member). x.priority) m.waits.retry m.current_events.items) (none : ws.retry ≡ []) (same : ws.lists ≡ m.waits.lists) where
   numbers-woken : map member_number cs ≡ all_behind (priority_of m.transactions.txs) (map member_number m.waits.retry) (map member_number m.current_events.items)
@@ -68,18 +50,8 @@ module _ (m : Configuration) (l : Linked m) (cs : List Member) (ws : Waiting) (j
 
   pub linked-woken : (new : Configuration) → new.transactions ≡ m.transactions → new.active ≡ m.active → new.current_events.items ≡ cs → new.future_events ≡ m.future_events → new.waits ≡ ws → new.assemblies ≡ m.assemblies → new.chains ≡ m.chains
       → new.facilities ≡ m.facilities → new.storages ≡ m.storages → new.queues ≡ m.queues → new.clock ≡ m.clock → state_of new ≡ woken (state_of m) → Linked new
-  linked-woken new ts a c fs w assemblies chs fac sto que clock is = record {
-    active = rw (ts, a) l.active;
-    current_events = rw (ts, c, joined) (all_all_behind (IsRanked m.transactions) (λ (x : Member). x.priority) m.waits.retry m.current_events.items l.retry l.current_events);
-    future_events = rw (ts, fs) l.future_events;
-    delay_lists = λ e below. rw (ts, w, same) (l.delay_lists e (rw fac at below));
-    retry = rw (w, none) tt;
-    assemblies = rw (ts, assemblies) l.assemblies;
-    user_chains = λ c below. rw (ts, chs) (l.user_chains c (rw fac at below));
-    chained = rw (chs, fac) l.chained;
-    blocks = rw ts l.blocks;
-    listed = rw (w, same, fac) l.listed;
-    sound = rw ts l.sound;
-    resides = subst ResidesOnce (sym is) (resides-woken (state_of m) l.resides);
-    timed = timed-kept m new fac sto que clock l.timed;
-  }
+  linked-woken new ts a c fs w assemblies chs fac sto que clock is =
+      linked-lists m new ts (rw a l.active)
+      (rw (c, joined) (all_all_behind (IsRanked m.transactions) (λ (x : Member). x.priority) m.waits.retry m.current_events.items l.retry l.current_events))
+      fs (rw w same) (rw (w, none) tt) (rw assemblies l.assemblies) chs fac sto que clock
+      (subst ResidesOnce (sym is) (resides-woken (state_of m) l.resides)) l

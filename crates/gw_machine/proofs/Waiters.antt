@@ -77,7 +77,7 @@ numbers-without n (x ∷ xs) (suc i) h once =
     let other : member_number x ≢ n = λ is. absurd (omega (arith, same_number (member_number x) n is, there, once)) in
     rw (ne_eqb (member_number x) n other) (ap (λ ns. member_number x ∷ ns) (numbers-without n xs i h (omega (arith, once))))
 
-module _ (m : Configuration) (l : Linked m) (e : ℕ) (below : e < length m.facilities.facilities) (tx : Tx) (priority : ℤ) (rank : priority_of m.transactions.txs tx.number ≡ priority) where
+module _ (m : Configuration) (l : Linked m) (e : ℕ) (below : e < length m.facilities.values) (tx : Tx) (priority : ℤ) (rank : priority_of m.transactions.txs tx.number ≡ priority) where
   abbrev newcomer : Member
   newcomer = record { tx = tx; priority = priority }
 

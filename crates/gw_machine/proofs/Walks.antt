@@ -9,7 +9,8 @@ use Rattle.gw_num.specs.Table.{at}
 use Rattle.gw_chains.specs.declared.tx.Tx.{Tx}
 use Rattle.gw_chains.specs.declared.tx.Member.{Member}
 use Rattle.gw_transactions.specs.Transactions.{attributes_at}
-use Rattle.gw_entities.specs.Table.{FacilityTable}
+use Rattle.gw_entities.specs.declared.facilities.Facility.{Facility}
+use Rattle.gw_entities.specs.Numbered.{ByNumber}
 use Rattle.gw_machine.specs.Configuration.{Configuration}
 use Rattle.gw_step.specs.State.{State, delay_list}
 use Rattle.gw_step.specs.Blocks.{takes_over, hand_over, asked, enters_if_free, admitted, looked_at, is_full, admission}
@@ -48,7 +49,7 @@ none-of : (bs : List Block) (f : ℕ) (s : State) (xs : List Member) → option_
 none-of bs f s [] h = refl
 none-of bs f s (x ∷ xs) h = absurd cc
 
-module _ (bs : List Block) (m : Configuration) (e : ℕ) (below : e < length m.facilities.facilities) where
+module _ (bs : List Block) (m : Configuration) (e : ℕ) (below : e < length m.facilities.values) where
   pub handed-first : (tx : Tx) → option_map handle (slice_get (at [] m.waits.lists e) 0) ≡ Some tx
       → hand_over bs e (delay_list e (state_of m)) (state_of m) ≡ option_map_or (takes_over bs e tx.number (state_of m)) (attributes_at tx.number m.transactions.txs) (state_of m)
   handed-first tx h = ap (λ ns. hand_over bs e ns (state_of m)) (delay_list-at m e) ∙ first-of bs e (state_of m) (at [] m.waits.lists e) tx h
@@ -62,8 +63,8 @@ module _ (bs : List Block) (m : Configuration) (e : ℕ) (below : e < length m.f
       let waits : 1 ≤ occurrences tx.number (delay_list e (state_of m)) = rw (delay_list-at m e) (occurs-at tx.number (at [] m.waits.lists e) i (numbered (slice_get (at [] m.waits.lists e) i) tx there)) in
       record {
         fit = rw fac s.fit;
-        within = subst (λ (n : ℕ). IsWithin (length bs) n k (made_in k) (state_of new)) (sym (ap (λ (f : FacilityTable). length f.facilities) fac))
-            (subst (λ (t : State). IsWithin (length bs) (length m.facilities.facilities) k (made_in k) t) (sym is) (within-looked_at bs (length m.facilities.facilities) k (made_in k) s.fit (state_of m) s.within e tx.number waits));
+        within = subst (λ (n : ℕ). IsWithin (length bs) n k (made_in k) (state_of new)) (sym (ap (λ (f : ByNumber Facility). length f.values) fac))
+            (subst (λ (t : State). IsWithin (length bs) (length m.facilities.values) k (made_in k) t) (sym is) (within-looked_at bs (length m.facilities.values) k (made_in k) s.fit (state_of m) s.within e tx.number waits));
         few = s.few;
       }
 

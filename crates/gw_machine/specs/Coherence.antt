@@ -49,14 +49,14 @@ pub record Linked (m : Configuration) : Type 0 where
   pub active : IfSome m.active (Holds m.transactions)
   pub current_events : AllByRecursion (IsRanked m.transactions) m.current_events.items
   pub future_events : AllByRecursion (IsHeld m.transactions) m.future_events.items
-  pub delay_lists : (e : ℕ) → e < length m.facilities.facilities → AllByRecursion (IsRanked m.transactions) (at [] m.waits.lists e)
+  pub delay_lists : (e : ℕ) → e < length m.facilities.values → AllByRecursion (IsRanked m.transactions) (at [] m.waits.lists e)
   pub retry : AllByRecursion (IsRanked m.transactions) m.waits.retry
   pub assemblies : AllByRecursion (IsHeldBy m.transactions) m.assemblies.items
-  pub user_chains : (c : ℕ) → c < length m.facilities.facilities → AllByRecursion (Holds m.transactions) (at [] m.chains.lists c)
+  pub user_chains : (c : ℕ) → c < length m.facilities.values → AllByRecursion (Holds m.transactions) (at [] m.chains.lists c)
   -- there is a delay list for each entity
-  pub listed : length m.waits.lists ≡ length m.facilities.facilities
+  pub listed : length m.waits.lists ≡ length m.facilities.values
   -- and a user chain
-  pub chained : length m.chains.lists ≡ length m.facilities.facilities
+  pub chained : length m.chains.lists ≡ length m.facilities.values
   pub blocks : AreInBlocks m.transactions.txs
   pub sound : IsSound m.transactions
   pub resides : ResidesOnce (state_of m)
@@ -96,10 +96,10 @@ pub record CanRest (m : Configuration) (tx : Tx) : Type 0 where
 
 -- a delay list, a user chain or the retry list that a transaction joins is there, and has room; so have the assemblies where it begins one
 abbrev pub CanBePlaced : Placement → Configuration → Type 0
-CanBePlaced (JoinsDelayList e) m = (e < length m.facilities.facilities) × (0 < at 0 m.waits.rooms e)
+CanBePlaced (JoinsDelayList e) m = (e < length m.facilities.values) × (0 < at 0 m.waits.rooms e)
 CanBePlaced JoinsRetryList m = 0 < m.waits.retry_room
 CanBePlaced (AwaitsSet a) m = 0 < m.assemblies.room
-CanBePlaced (JoinsChain l) m = (l.chain < length m.facilities.facilities) × (0 < at 0 m.chains.rooms l.chain)
+CanBePlaced (JoinsChain l) m = (l.chain < length m.facilities.values) × (0 < at 0 m.chains.rooms l.chain)
 CanBePlaced placement m = Unit {0}
 
 -- PARAMETERS
@@ -112,12 +112,12 @@ HasSlot m p = (1 ≤ p) × (p ≤ m.last)
 
 -- a machine is one of an object: it has an entry for each of its entities
 abbrev pub IsOf : Parts → Configuration → Type 0
-IsOf p m = length m.facilities.facilities ≡ length p.entities
+IsOf p m = length m.facilities.values ≡ length p.entities
 
 -- a machine of these blocks in which at most so many entries were made, and as many transactions as that many steps make
 pub record IsSteady (bs : List Block) (made : ℕ) (m : Configuration) : Type 0 where
-  pub fit : BlocksFit (length m.facilities.facilities) bs
-  pub within : IsWithin (length bs) (length m.facilities.facilities) made (made_in made) (state_of m)
+  pub fit : BlocksFit (length m.facilities.values) bs
+  pub within : IsWithin (length bs) (length m.facilities.values) made (made_in made) (state_of m)
   pub few : made ≤ 2 ^ 41
 
 -- a running machine of these blocks

@@ -6,7 +6,10 @@ use Rattle.gw_chains.specs.Lists.{Waiting, Linked as UserChains}
 use Rattle.gw_chains.specs.declared.tx.Tx.{Tx}
 use Rattle.gw_chains.specs.declared.tx.Member.{Member}
 use Rattle.gw_chains.specs.declared.tx.Event.{Event}
-use Rattle.gw_entities.specs.Table.{FacilityTable, StorageTable, QueueTable}
+use Rattle.gw_entities.specs.declared.facilities.Facility.{Facility}
+use Rattle.gw_entities.specs.declared.storages.Storage.{Storage}
+use Rattle.gw_entities.specs.declared.contents.Contents.{Contents}
+use Rattle.gw_entities.specs.Numbered.{ByNumber}
 use Rattle.gw_entities.specs.Tabulation.{Tabulation}
 use Rattle.gw_step.specs.declared.ends.End.{End}
 use Rattle.gw_transactions.specs.Transactions.{Population}
@@ -34,9 +37,9 @@ pub record Configuration : Type 0 where
   pub waits : Waiting
   pub assemblies : Assembling
   pub chains : UserChains
-  pub facilities : FacilityTable
-  pub storages : StorageTable
-  pub queues : QueueTable
+  pub facilities : ByNumber Facility
+  pub storages : ByNumber Storage
+  pub queues : ByNumber Contents
   pub switches : List Bool
   pub savevalues : List ℤ
   pub tables : List Tabulation

@@ -1,5 +1,5 @@
 -- What entities become, and what may be counted of them.
-use Rattle.std.specs.Prelude.{◌≡◌, ℕ, ◌+◌, ◌^◌, ◌≤◌, ◌<◌, length, Bool}
+use Rattle.std.specs.Prelude.{ℕ, ◌+◌, ◌^◌, ◌≤◌, ◌<◌, length, Bool}
 use Rattle.gw_blocks.specs.declared.parts.Units.{Units}
 use Rattle.gw_entities.specs.declared.contents.Contents.{Contents}
 use Rattle.gw_entities.specs.declared.facilities.Facility.{Facility}
@@ -27,15 +27,15 @@ switch_by change l s = put_switch l (change (switch l s)) s
 
 -- there is a facility's and a storage's entry of this number
 abbrev pub HasStorage : ℕ → Configuration → Type 0
-HasStorage e m = (e < length m.facilities.facilities) × (e < length m.storages.storages)
+HasStorage e m = (e < length m.facilities.values) × (e < length m.storages.values)
 
 -- so many more entries of a storage can be counted
 abbrev pub CanCountEntries : Units → Configuration → Type 0
-CanCountEntries u m = (at (vacant 0) m.storages.storages u.entity).contents.entries + u.number ≤ 2 ^ 62
+CanCountEntries u m = (at (vacant 0) m.storages.values u.entity).contents.entries + u.number ≤ 2 ^ 62
 
 -- one more owner of a facility can be counted
 abbrev pub CanCountOwner : ℕ → Configuration → Type 0
-CanCountOwner f m = (at idle m.facilities.facilities f).entries < 2 ^ 62
+CanCountOwner f m = (at idle m.facilities.values f).entries < 2 ^ 62
 
 -- at most as many units are inside as have entered
 abbrev pub IsWithinEntries : Contents → Type 0

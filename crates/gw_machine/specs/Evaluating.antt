@@ -38,11 +38,11 @@ environment_in subject m = environment_for subject (state_of m)
 
 -- each table of a machine has an entry for each entity, and an i64 holds the clock and the counts
 pub record IsReadable (m : Configuration) : Type 0 where
-  pub storages : length m.storages.storages ≡ length m.facilities.facilities
-  pub queues : length m.queues.queues ≡ length m.facilities.facilities
-  pub switches : length m.switches ≡ length m.facilities.facilities
-  pub savevalues : length m.savevalues ≡ length m.facilities.facilities
-  pub tables : length m.tables ≡ length m.facilities.facilities
+  pub storages : length m.storages.values ≡ length m.facilities.values
+  pub queues : length m.queues.values ≡ length m.facilities.values
+  pub switches : length m.switches ≡ length m.facilities.values
+  pub savevalues : length m.savevalues ≡ length m.facilities.values
+  pub tables : length m.tables ≡ length m.facilities.values
   pub entries : sum m.entries ≤ 2 ^ 60
   pub clock : pos 0 ≤ℤ m.clock
 

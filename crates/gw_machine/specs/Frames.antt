@@ -57,4 +57,4 @@ LosesRoomToMove n old new = old.current_events.room ≤ new.current_events.room 
 
 -- the table of facilities is as long as before
 abbrev pub HasAsManyFacilities : Configuration → Configuration → Type 0
-HasAsManyFacilities old new = length new.facilities.facilities ≡ length old.facilities.facilities
+HasAsManyFacilities old new = length new.facilities.values ≡ length old.facilities.values

@@ -9,3 +9,4 @@ pub mod Leaving
 pub mod Frames
 pub mod Entities
 pub mod Evaluating
+pub mod AtStart

@@ -37,7 +37,7 @@ lists_of m = record {
 
 -- the entities as they are now
 abbrev pub entities_of : Configuration → EntityStates
-entities_of m = record { facilities = m.facilities.facilities; storages = m.storages.storages; queues = m.queues.queues; switches = m.switches; savevalues = m.savevalues; tables = m.tables }
+entities_of m = record { facilities = m.facilities.values; storages = m.storages.values; queues = m.queues.values; switches = m.switches; savevalues = m.savevalues; tables = m.tables }
 
 -- the whole state
 abbrev pub state_of : Configuration → State

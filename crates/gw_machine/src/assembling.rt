@@ -4,7 +4,7 @@ ghost use Rattle.std.specs.Prelude.{◌≡◌, ◌<◌, IfSome, option_map, OnOk
 ghost use Rattle.gw_step.specs.Changes as change;
 ghost use Rattle.gw_step.specs.Blocks as model;
 ghost use Rattle.gw_machine.specs.View.{state_of, assembly_of};
-ghost use Rattle.gw_machine.specs.Leaving.{HasBegun};
+ghost use Rattle.gw_machine.specs.Leaving.{HasBegun, BecomesBy};
 ghost use Rattle.gw_machine.specs.Frames.{OnlyAssembliesMove, LosesRoomToMove};
 
 use crate::machine::Machine;
@@ -35,8 +35,7 @@ impl Machine {
     fn assemble(&mut self, assembly: Assembly)
         requires there { HasBegun assembly self.old }
         requires room { 0 < self.old.current_events.room }
-        ensures state { state_of self.new
-            ≡ change.assembled (assembly_of assembly) (state_of self.old) }
+        ensures state { BecomesBy (change.assembled (assembly_of assembly)) self.old self.new }
         ensures room { LosesRoomToMove 1 self.old self.new }
         ensures frame { OnlyAssembliesMove self.old self.new }
     {

@@ -61,7 +61,7 @@ impl Machine {
 
     /// Whether the transaction of this number has to wait for a facility.
     pub fn waits_for_facility(&self, f: u16, number: u64) -> bool
-        requires { f < length self.now.facilities.facilities }
+        requires { f < length self.now.facilities.values }
         ensures { result ≡ has_to_wait (seizing number (facility f (state_of self.now))) }
     {
         is_anothers(self.facilities.get(f), number)
@@ -69,8 +69,8 @@ impl Machine {
 
     /// The transaction of this number seizes a facility, if it is idle.
     pub fn seize_facility(&mut self, f: u16, number: u64)
-        requires there { f < length self.old.facilities.facilities }
-        requires few { (at idle self.old.facilities.facilities f).entries < 2 ^ 62 }
+        requires there { f < length self.old.facilities.values }
+        requires few { (at idle self.old.facilities.values f).entries < 2 ^ 62 }
         requires idle { is_idle (facility f (state_of self.old)) ≡ true }
         ensures state { state_of self.new ≡ facility_by (seized number) f (state_of self.old) }
         ensures frame { self.new ≡ record self.old { facilities = self.new.facilities } }
@@ -81,7 +81,7 @@ impl Machine {
 
     /// The transaction of this number gives a facility up.
     pub fn release_facility(&mut self, f: u16, number: u64)
-        requires there { f < length self.old.facilities.facilities }
+        requires there { f < length self.old.facilities.values }
         requires owner { is_owned_by number (facility f (state_of self.old)) ≡ true }
         ensures state { state_of self.new ≡ facility_by released f (state_of self.old) }
         ensures frame { self.new ≡ record self.old { facilities = self.new.facilities } }
@@ -94,7 +94,7 @@ impl Machine {
 
     /// Whether units of a storage have to be waited for.
     pub fn waits_for_units(&self, u: Units) -> bool
-        requires { u.entity < length self.now.storages.storages }
+        requires { u.entity < length self.now.storages.values }
         ensures { result ≡ has_to_wait (entering u.number (storage u.entity (state_of self.now))) }
     {
         is_short_of(self.storages.get(u.entity), u.number)
@@ -102,7 +102,7 @@ impl Machine {
 
     /// Units of a storage are taken, if they are free.
     pub fn take(&mut self, u: Units)
-        requires there { u.entity < length self.old.storages.storages }
+        requires there { u.entity < length self.old.storages.values }
         requires few { CanCountEntries u self.old }
         requires room { has_room u.number (storage u.entity (state_of self.old)) ≡ true }
         ensures state { state_of self.new
@@ -114,7 +114,7 @@ impl Machine {
 
     /// Units of a storage are given back.
     pub fn give_back(&mut self, u: Units)
-        requires there { u.entity < length self.old.storages.storages }
+        requires there { u.entity < length self.old.storages.values }
         requires inside { u.number ≤ (storage u.entity (state_of self.old)).contents.content }
         ensures state { state_of self.new
             ≡ storage_by (left u.number) u.entity (state_of self.old) }
@@ -127,9 +127,9 @@ impl Machine {
 
     /// Units join a queue.
     pub fn join(&mut self, u: Units)
-        requires there { u.entity < length self.old.queues.queues }
-        requires inside { IsWithinEntries (at empty self.old.queues.queues u.entity) }
-        requires few { (at empty self.old.queues.queues u.entity).entries + u.number ≤ 2 ^ 62 }
+        requires there { u.entity < length self.old.queues.values }
+        requires inside { IsWithinEntries (at empty self.old.queues.values u.entity) }
+        requires few { (at empty self.old.queues.values u.entity).entries + u.number ≤ 2 ^ 62 }
         ensures state { state_of self.new
             ≡ queue_by (joined u.number) u.entity (state_of self.old) }
         ensures frame { self.new ≡ record self.old { queues = self.new.queues } }
@@ -139,7 +139,7 @@ impl Machine {
 
     /// Units depart from a queue.
     pub fn depart_units(&mut self, u: Units)
-        requires there { u.entity < length self.old.queues.queues }
+        requires there { u.entity < length self.old.queues.values }
         requires inside { u.number ≤ (queue u.entity (state_of self.old)).content }
         ensures state { state_of self.new
             ≡ queue_by (departed u.number) u.entity (state_of self.old) }
@@ -158,8 +158,8 @@ impl Machine {
         ensures frame { self.new ≡ record self.old { switches = self.new.switches } }
     {
         match logic.action {
-            SwitchAction::Set => self.switches.set_switch(logic.switch, true),
-            SwitchAction::Reset => self.switches.set_switch(logic.switch, false),
+            SwitchAction::Set => self.switches.set(logic.switch, true),
+            SwitchAction::Reset => self.switches.set(logic.switch, false),
             SwitchAction::Invert => self.switches.invert(logic.switch),
         }
     }
@@ -192,7 +192,7 @@ impl Machine {
     /// Whether it is so with an entity.
     pub fn is_so(&self, condition: Condition, entity: u16) -> bool
         requires readable { IsReadable self.now }
-        requires there { entity < length self.now.facilities.facilities }
+        requires there { entity < length self.now.facilities.values }
         ensures { result ≡ model.is_so condition entity (state_of self.now) }
     {
         match condition {

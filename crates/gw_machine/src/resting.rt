@@ -65,7 +65,7 @@ impl Machine {
 
     /// Makes room for one more on the delay list of an entity.
     fn reserve_wait(&mut self, entity: u16) -> Result<(), Memory>
-        requires entity { entity < length self.old.facilities.facilities }
+        requires entity { entity < length self.old.facilities.values }
         ensures state { state_of self.new ≡ state_of self.old }
         ensures retry { self.new.waits.retry ≡ self.old.waits.retry }
         ensures room { OnOk result (0 < at 0 self.new.waits.rooms entity) }
@@ -127,7 +127,7 @@ impl Machine {
     fn join_delay_list(&mut self, entity: u16, tx: Tx, priority: i32)
         requires rests { CanRest self.old tx }
         requires rank { priority_of self.old.transactions.txs tx.number ≡ priority }
-        requires entity { entity < length self.old.facilities.facilities }
+        requires entity { entity < length self.old.facilities.values }
         requires room { 0 < at 0 self.old.waits.rooms entity }
         ensures { BecomesBy (model.waits_for entity tx.number) self.old self.new }
     {
@@ -186,7 +186,7 @@ impl Machine {
     /// The active transaction joins a user chain, at its end or at its front.
     fn join_chain(&mut self, tx: Tx, link: Link)
         requires rests { CanRest self.old tx }
-        requires chain { link.chain < length self.old.facilities.facilities }
+        requires chain { link.chain < length self.old.facilities.values }
         requires room { 0 < at 0 self.old.chains.rooms link.chain }
         ensures { BecomesBy (model.joins_chain tx.number link) self.old self.new }
     {
@@ -277,7 +277,7 @@ impl Machine {
     pub fn wait_for(&mut self, entity: u16, tx: Tx, priority: i32) -> Result<(), Memory>
         requires rests { CanRest self.old tx }
         requires rank { priority_of self.old.transactions.txs tx.number ≡ priority }
-        requires entity { entity < length self.old.facilities.facilities }
+        requires entity { entity < length self.old.facilities.values }
         ensures { BecomesOnOk result (placed tx.number (Placement.JoinsDelayList entity))
             self.old self.new }
     {

@@ -1,13 +1,13 @@
 //! The state before the first step.
 
 ghost use Rattle.std.specs.Prelude.{◌≡◌, Some, ◌≤◌, ◌<◌, ◌+◌, ◌^◌, length, sum, replicate, IfOk, OnOk};
-ghost use Rattle.gw_entities.specs.Table.{facilities_of, storages_of, queues_of, switches_of, savevalues_of, tables_of};
 ghost use Rattle.gw_object.specs.Grammar.{HasSpelling};
 ghost use Rattle.gw_kinds.specs.Kinds.{block_at};
 ghost use Rattle.gw_verify.specs.Checks.{Checked};
 ghost use Rattle.gw_step.specs.Operands.{BlocksFit, MayDraw};
 ghost use Rattle.gw_step.specs.Start as model;
 ghost use Rattle.gw_step.specs.Times.{environment_of_next};
+ghost use Rattle.gw_machine.specs.AtStart.{AreAtStart};
 ghost use Rattle.gw_machine.specs.View.{state_of};
 ghost use Rattle.gw_machine.specs.Evaluating.{IsReadable, drawn};
 ghost use Rattle.gw_machine.specs.Coherence.{IsOf};
@@ -46,12 +46,7 @@ struct EntityTables {
 
 /// The entities of an object as they are at first. It fails for want of memory.
 fn entity_tables(alloc: Global, object: &Object) -> Result<EntityTables, Memory>
-    ensures facilities { IfOk result (λ t. t.facilities ≡ facilities_of object.now.entities) }
-    ensures storages { IfOk result (λ t. t.storages ≡ storages_of object.now.entities) }
-    ensures queues { IfOk result (λ t. t.queues ≡ queues_of object.now.entities) }
-    ensures switches { IfOk result (λ t. t.switches ≡ switches_of object.now.entities) }
-    ensures savevalues { IfOk result (λ t. t.savevalues ≡ savevalues_of object.now.entities) }
-    ensures tables { IfOk result (λ t. t.tables ≡ tables_of object.now.entities) }
+    ensures { IfOk result (AreAtStart object.now.entities) }
 {
     Ok(EntityTables {
         facilities: Facilities::new(alloc, object)?,
@@ -64,16 +59,19 @@ fn entity_tables(alloc: Global, object: &Object) -> Result<EntityTables, Memory>
 }
 
 impl Machine {
-    /// A machine in which nothing is scheduled, for the blocks and entities of an object.
+    /// A machine in which nothing is scheduled, for the blocks and entities of an object; a named end stands in it if one is
+    /// given.
     fn nothing(
         alloc: Global,
         object: &Object,
         count: u64,
         streams: [Stream; 16],
+        ended: Option<End>,
     ) -> Result<Machine, Memory>
         requires few { count ≤ 2 ^ 40 }
         requires slots { greatest_set object.now.blocks ≤ 64 }
-        ensures state { IfOk result (λ m. state_of m ≡ model.nothing object.now count streams) }
+        ensures state { let nothing = model.nothing object.now count streams in
+            IfOk result (λ m. state_of m ≡ record nothing { ended = ended }) }
         ensures slots { IfOk result (λ m. m.last ≡ greatest_set object.now.blocks) }
         ensures readable { IfOk result IsReadable }
     {
@@ -106,7 +104,7 @@ impl Machine {
             savevalues: tables.savevalues,
             tables: tables.tables,
             entries,
-            ended: None,
+            ended,
         })
     }
 
@@ -199,25 +197,6 @@ impl Machine {
         Ok(None)
     }
 
-    /// A machine in which nothing is scheduled, and a named end stands.
-    fn ended_by(
-        alloc: Global,
-        object: &Object,
-        count: u64,
-        streams: [Stream; 16],
-        end: End,
-    ) -> Result<Machine, Memory>
-        requires few { count ≤ 2 ^ 40 }
-        requires slots { greatest_set object.now.blocks ≤ 64 }
-        ensures state { let nothing = model.nothing object.now count streams in
-            IfOk result (λ m. state_of m ≡ record nothing { ended = Some end }) }
-        ensures slots { IfOk result (λ m. m.last ≡ greatest_set object.now.blocks) }
-    {
-        let mut machine = Machine::nothing(alloc, object, count, streams)?;
-        machine.ended = Some(end);
-        Ok(machine)
-    }
-
     /// The start state: the first arrivals are scheduled; or nothing is, where one of them comes to a named end, which
     /// stands then.
     pub fn start(
@@ -232,10 +211,10 @@ impl Machine {
             model.start verified.now count streams ≡ Some (state_of m)) }
         ensures slots { IfOk result (λ m. m.last ≡ greatest_set verified.now.blocks) }
     {
-        let mut machine = Machine::nothing(alloc, verified.object(), count, streams)?;
+        let mut machine = Machine::nothing(alloc, verified.object(), count, streams, None)?;
         match machine.first_arrivals(verified)? {
             None => Ok(machine),
-            Some(end) => Machine::ended_by(alloc, verified.object(), count, streams, end),
+            Some(end) => Machine::nothing(alloc, verified.object(), count, streams, Some(end)),
         }
     }
 }

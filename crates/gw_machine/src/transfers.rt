@@ -56,7 +56,7 @@ impl Machine {
     /// A facility that nobody owns is handed over to the first of its delay list, if somebody waits.
     pub fn hand_over(&mut self, blocks: &[Block], f: u16)
         requires steady { IsSteady blocks.now (self.old.steps + 1) self.old }
-        requires there { f < length self.old.facilities.facilities }
+        requires there { f < length self.old.facilities.values }
         requires idle { is_idle_now (facility f (state_of self.old)) ≡ true }
         requires room { 0 < self.old.current_events.room }
         ensures { BecomesBy (λ s. model.hand_over blocks.now f (delay_list f s) s)
@@ -70,7 +70,7 @@ impl Machine {
     /// A facility that nobody owns is handed over to the first of its delay list, where that waits at its SEIZE.
     fn hand_over_to(&mut self, blocks: &[Block], f: u16, tx: Tx)
         requires steady { IsSteady blocks.now (self.old.steps + 1) self.old }
-        requires there { f < length self.old.facilities.facilities }
+        requires there { f < length self.old.facilities.values }
         requires idle { is_idle_now (facility f (state_of self.old)) ≡ true }
         requires first { waiter_at f 0 self.old ≡ Some tx }
         requires room { 0 < self.old.current_events.room }
@@ -85,7 +85,7 @@ impl Machine {
 
     /// The first of the delay list of an idle facility owns it at once, in its SEIZE block.
     fn take_over(&mut self, f: u16, tx: Tx, transaction: Transaction)
-        requires there { f < length self.old.facilities.facilities }
+        requires there { f < length self.old.facilities.values }
         requires idle { is_idle_now (facility f (state_of self.old)) ≡ true }
         requires first { waiter_at f 0 self.old ≡ Some tx }
         requires held { Holds self.old.transactions tx }
@@ -103,7 +103,7 @@ impl Machine {
 
     /// Whether units of a storage are free.
     fn has_free(&self, u: Units) -> bool
-        requires there { u.entity < length self.now.storages.storages }
+        requires there { u.entity < length self.now.storages.values }
         requires few { CanCountEntries u self.now }
         ensures { result ≡ has_room u.number (storage u.entity (state_of self.now)) }
     {
@@ -113,7 +113,7 @@ impl Machine {
 
     /// Whether no unit of a storage is free.
     fn has_nothing_free(&self, e: u16) -> bool
-        requires { e < length self.now.storages.storages }
+        requires { e < length self.now.storages.values }
         ensures { result ≡ model.is_full (storage e (state_of self.now)) }
     {
         let storage = self.storages.get(e);
@@ -138,7 +138,7 @@ impl Machine {
     /// One walk over those who wait for a storage, in their order: each whose units are free enters.
     pub fn admit(&mut self, blocks: &[Block], e: u16)
         requires steady { IsSteady blocks.now (self.old.steps + 1) self.old }
-        requires there { e < length self.old.facilities.facilities }
+        requires there { e < length self.old.facilities.values }
         requires room { length (at [] self.old.waits.lists e) ≤ self.old.current_events.room }
         ensures { BecomesBy (λ s. model.admission blocks.now e (delay_list e s) s)
             self.old self.new }
@@ -154,7 +154,7 @@ impl Machine {
     /// The transaction to which the walk over the delay list of a storage has come enters, if its units are free.
     fn admit_one(&mut self, blocks: &[Block], e: u16, tx: Tx) -> bool
         requires steady { IsSteady blocks.now (self.old.steps + 1) self.old }
-        requires there { e < length self.old.facilities.facilities }
+        requires there { e < length self.old.facilities.values }
         requires waiter { waiter_come_to e self.old ≡ Some tx }
         requires room { 0 < self.old.current_events.room }
         ensures state { state_of self.new

@@ -1,10 +1,11 @@
 -- What an activation of a procedure stands for, and what its steps tell.
-use Rattle.std.specs.Prelude.{◌≡◌, ℕ, ◌+◌, ◌≤◌, ◌<◌, ℤ, List, [], ◌∷◌, length, map, Some, Bool, false, if◌then◌else◌, not, ◌==◌, ◌&&◌, ◌||◌}
+use Rattle.std.specs.Prelude.{◌≡◌, ℕ, ◌+◌, ◌-◌, ◌≤◌, ◌<◌, ℤ, List, [], ◌∷◌, length, map, slice_get, Option, Some, Result, Bool, false, if◌then◌else◌, not, ◌==◌, ◌&&◌, ◌||◌}
 use Rattle.gw_code.specs.Limits.{most_backs}
 use Rattle.gw_code.specs.Grammar.{is_back}
 use Rattle.gw_code.specs.declared.parts.Instruction.{Instruction}
-use Rattle.gw_code.specs.declared.parts.Instruction.TheVariants.{Value}
+use Rattle.gw_code.specs.declared.parts.Instruction.TheVariants.{Value, Call}
 use Rattle.gw_code.specs.declared.parts.Procedure.{Procedure}
+use Rattle.gw_code.specs.declared.parts.Sna.{Sna}
 use Rattle.gw_object.specs.declared.parts.Parts.{Parts}
 use Rattle.gw_object.specs.Grammar.{HasSpelling}
 use Rattle.gw_operands.specs.Sources.{as_operand}
@@ -13,7 +14,10 @@ use Rattle.gw_operands.specs.Environment.{Environment}
 use Rattle.gw_code_flow.specs.Laws.{MayBegin, CodeHolds}
 use Rattle.gw_operands.specs.Results.{value_by_operand}
 use Rattle.gw_code_flow.specs.PlusChecks.{PlusPasses}
-use Rattle.gw_operands.specs.Meaning.{Taken, Frame, Next, Goes, Calls, Returns, Ends, opening}
+use Rattle.gw_operands.specs.declared.ends.PlusEnd.{PlusEnd}
+use Rattle.gw_operands.specs.Meaning.{Taken, Frame, Next, Goes, Calls, Returns, Ends, Derives, opening, on, reads, calls, act}
+use Rattle.gw_plus.specs.Reading.{environment_of}
+use Rattle.gw_plus.specs.declared.env.Env.{Env}
 use Rattle.gw_plus.specs.declared.activation.Turns.{Turns}
 use Rattle.gw_plus.specs.declared.activation.Activation.{Activation}
 use Rattle.gw_plus.specs.declared.activation.Step.{Step}
@@ -81,3 +85,37 @@ Did p i next (Ended end) f = next ≡ Ends end
 -- an activation did what comes next and called nothing, so this says the same of each object and each instruction
 abbrev pub DidAlone : Next → Step → Frame → Type 0
 DidAlone next step f = (p : Parts) (i : Instruction) → Did p i next step f
+
+-- BY ACTIVATIONS
+
+-- the value on top of an activation's stack, if there is one
+abbrev pub top_of : Activation → Option ℤ
+top_of a = slice_get a.stack.items (length a.stack.items - 1)
+
+-- an instruction of any kind that makes this of a frame did so to an activation
+abbrev pub Does : (Frame → Next) → Activation → Activation → Step → Type 0
+Does next old new step = DidAlone (next (frame_of old)) step (frame_of new)
+
+-- an instruction of any kind called this procedure, without arguments
+abbrev pub CallsAlone : Parts → ℕ → Activation → Activation → Step → Type 0
+CallsAlone p q old new step = (i : Instruction) → Did p i (Calls q [] (finish_of p i) (on (frame_of old))) step (frame_of new)
+
+-- CALL called this procedure
+abbrev pub DoesCall : Parts → ℕ → Activation → Activation → Step → Type 0
+DoesCall p q old new step = Did p (Call q) (calls p q (frame_of old)) step (frame_of new)
+
+-- what the VALUE of an attribute makes of an activation
+abbrev pub next_read : Parts → Env → Sna → Activation → Next
+next_read p env sna a = reads p (environment_of env) sna (frame_of a)
+
+-- what an instruction does
+abbrev pub next_of : Parts → Env → Instruction → Activation → Next
+next_of p env i a = act p (environment_of env) i (frame_of a)
+
+-- the instruction that comes next can be counted as a BACK
+abbrev pub CanCountNext : Activation → Type 0
+CanCountNext a = CanCount (taken_of a.turns.items) a.place
+
+-- the procedure of a number that begins with these locals has this value, or ends so
+abbrev pub Activates : Parts → Env → ℕ → List ℤ → Result ℤ PlusEnd → Type 0
+Activates p env number locals result = (count : ℕ) × Derives p (environment_of env) number (begun locals) count result

@@ -18,9 +18,9 @@ use Rattle.gw_plus.specs.declared.env.Env.{Env}
 -- what may be read of entities and blocks
 abbrev pub readings_of : Env → Readings
 readings_of env = record {
-  facilities = env.facilities.now.facilities;
-  storages = env.storages.now.storages;
-  queues = env.queues.now.queues;
+  facilities = env.facilities.now.values;
+  storages = env.storages.now.values;
+  queues = env.queues.now.values;
   savevalues = env.savevalues.now;
   switches = env.switches.now;
   members = λ c. length (at [] env.chains.now.lists c);
@@ -42,9 +42,9 @@ environment_of env = record {
 
 -- an environment is one of an object: each table has an entry for each entity, no time is below 0, and an i64 holds each count
 pub record IsOf (p : Parts) (env : Env) : Type 0 where
-  pub facilities : length env.facilities.now.facilities ≡ length p.entities
-  pub storages : length env.storages.now.storages ≡ length p.entities
-  pub queues : length env.queues.now.queues ≡ length p.entities
+  pub facilities : length env.facilities.now.values ≡ length p.entities
+  pub storages : length env.storages.now.values ≡ length p.entities
+  pub queues : length env.queues.now.values ≡ length p.entities
   pub switches : length env.switches.now ≡ length p.entities
   pub savevalues : length env.savevalues.now ≡ length p.entities
   pub tables : length env.tables.now ≡ length p.entities
@@ -67,10 +67,10 @@ pub record AttributesFit (env : Env) : Type 0 where
 
 -- an attribute of an entity or a block may be read: the table has an entry for the entity, or an i64 holds the block's count; nothing is asked where nothing is kept
 abbrev pub MayRead : Env → EntityAttribute → ℕ → Type 0
-MayRead env FacilityOwned f = f < length env.facilities.now.facilities
-MayRead env StorageContent s = s < length env.storages.now.storages
-MayRead env StorageRemaining s = s < length env.storages.now.storages
-MayRead env QueueContent q = q < length env.queues.now.queues
+MayRead env FacilityOwned f = f < length env.facilities.now.values
+MayRead env StorageContent s = s < length env.storages.now.values
+MayRead env StorageRemaining s = s < length env.storages.now.values
+MayRead env QueueContent q = q < length env.queues.now.values
 MayRead env SavevalueValue x = x < length env.savevalues.now
 MayRead env SwitchSetting l = l < length env.switches.now
 MayRead env ChainMembers c = c < length env.chains.now.lists

@@ -1,15 +1,15 @@
 //! Activations of procedures: one small method for each instruction (docs/plus-code.md).
 
-ghost use Rattle.std.specs.Prelude.{◌≡◌, ◌≢◌, ◌≤◌, ◌<◌, ◌-◌, ◌+◌, ℕ, [], length, take, Some, slice_get, slice_set, IsTrue, ◌==◌};
+ghost use Rattle.std.specs.Prelude.{◌≡◌, ◌≢◌, ◌≤◌, ◌<◌, ◌-◌, ◌+◌, ℕ, length, take, Some, slice_get, slice_set, IsTrue, ◌==◌};
 ghost use Rattle.std.specs.List.{position};
 ghost use Rattle.gw_code.specs.Limits.{most_instructions, most_locals};
 ghost use Rattle.gw_code.specs.Grammar.{is_back};
 ghost use Rattle.gw_kinds.specs.Laws.{InstructionHolds};
 ghost use Rattle.gw_code_flow.specs.Laws.{CodeHolds};
 ghost use Rattle.gw_operands.specs.Meaning as model;
-ghost use Rattle.gw_operands.specs.Meaning.{Goes, Calls, Stuck, on, pushed, calculated, taken_at, take_once, opened};
-ghost use Rattle.gw_plus.specs.Reading.{environment_of, IsOf};
-ghost use Rattle.gw_plus.specs.Activation.{taken_of, frame_of, begun, CanCount, finish_of, Did, DidAlone};
+ghost use Rattle.gw_operands.specs.Meaning.{Goes, Stuck, on, pushed, calculated, taken_at, take_once, opened};
+ghost use Rattle.gw_plus.specs.Reading.{IsOf};
+ghost use Rattle.gw_plus.specs.Activation.{taken_of, frame_of, begun, top_of, next_read, next_of, finish_of, CanCount, CanCountNext, Did, Does, CallsAlone, DoesCall};
 
 use crate::env::Env;
 use arrayvec::ArrayVec;
@@ -139,7 +139,7 @@ impl Activation {
     /// The value on top of the stack.
     fn top(&self) -> i64
         requires { 0 < length self.now.stack.items }
-        ensures { slice_get self.now.stack.items (length self.now.stack.items - 1) ≡ Some result }
+        ensures { top_of self.now ≡ Some result }
     {
         self.stack[self.stack.len() - 1]
     }
@@ -147,7 +147,7 @@ impl Activation {
     /// Takes the value on top of the stack.
     fn take_top(&mut self) -> i64
         requires { 0 < length self.old.stack.items }
-        ensures value { slice_get self.old.stack.items (length self.old.stack.items - 1) ≡ Some result }
+        ensures value { top_of self.old ≡ Some result }
         ensures rest { let rest = take (length self.old.stack.items - 1) self.old.stack.items in
             frame_of self.new ≡ record (frame_of self.old) { stack = rest } }
     {
@@ -160,7 +160,7 @@ impl Activation {
     fn push_and_go(&mut self, value: i64) -> Step
         requires going { pushed value (on (frame_of self.old)) ≢ Stuck }
         requires place { self.old.place < most_instructions }
-        ensures { DidAlone (pushed value (on (frame_of self.old))) result (frame_of self.new) }
+        ensures { Does (λ f. pushed value (on f)) self.old self.new result }
     {
         self.place += 1;
         self.push(value);
@@ -171,7 +171,7 @@ impl Activation {
     fn settle(&mut self, outcome: Result<i64, NumFault>) -> Step
         requires going { calculated outcome (on (frame_of self.old)) ≢ Stuck }
         requires place { self.old.place < most_instructions }
-        ensures { DidAlone (calculated outcome (on (frame_of self.old))) result (frame_of self.new) }
+        ensures { Does (λ f. calculated outcome (on f)) self.old self.new result }
     {
         match outcome {
             Ok(value) => self.push_and_go(value),
@@ -183,7 +183,7 @@ impl Activation {
     fn get(&mut self, local: u8) -> Step
         requires going { model.gets local (frame_of self.old) ≢ Stuck }
         requires place { self.old.place < most_instructions }
-        ensures { DidAlone (model.gets local (frame_of self.old)) result (frame_of self.new) }
+        ensures { Does (model.gets local) self.old self.new result }
     {
         let value = self.locals[local as usize];
         self.push_and_go(value)
@@ -193,7 +193,7 @@ impl Activation {
     fn set(&mut self, local: u8) -> Step
         requires going { model.sets local (frame_of self.old) ≢ Stuck }
         requires place { self.old.place < most_instructions }
-        ensures { DidAlone (model.sets local (frame_of self.old)) result (frame_of self.new) }
+        ensures { Does (model.sets local) self.old self.new result }
     {
         let value = self.take_top();
         self.locals[local as usize] = value;
@@ -206,8 +206,7 @@ impl Activation {
         requires code { CodeHolds parts.now }
         requires there { called < length parts.now.procedures }
         requires place { self.old.place < most_instructions }
-        ensures { (i : Instruction) → let next = Calls called [] (finish_of parts.now i) (on (frame_of self.old)) in
-            Did parts.now i next result (frame_of self.new) }
+        ensures { CallsAlone parts.now called self.old self.new result }
     {
         let procedure = &parts.procedures.as_slice()[called as usize];
         self.place += 1;
@@ -220,9 +219,9 @@ impl Activation {
         requires code { CodeHolds parts.now }
         requires environment { IsOf parts.now env.now }
         requires holds { (locals : ℕ) × InstructionHolds parts.now locals (Instruction.Value sna) }
-        requires going { model.reads parts.now (environment_of env.now) sna (frame_of self.old) ≢ Stuck }
+        requires going { next_read parts.now env.now sna self.old ≢ Stuck }
         requires place { self.old.place < most_instructions }
-        ensures { let next = model.reads parts.now (environment_of env.now) sna (frame_of self.old) in
+        ensures { let next = next_read parts.now env.now sna self.old in
             Did parts.now (Instruction.Value sna) next result (frame_of self.new) }
     {
         let entities = parts.entities.as_slice();
@@ -238,7 +237,7 @@ impl Activation {
     fn binary(&mut self, operator: Binary) -> Step
         requires going { model.does_binary operator (frame_of self.old) ≢ Stuck }
         requires place { self.old.place < most_instructions }
-        ensures { DidAlone (model.does_binary operator (frame_of self.old)) result (frame_of self.new) }
+        ensures { Does (model.does_binary operator) self.old self.new result }
     {
         let right = self.take_top();
         let left = self.take_top();
@@ -249,7 +248,7 @@ impl Activation {
     fn unary(&mut self, operator: Unary) -> Step
         requires going { model.does_unary operator (frame_of self.old) ≢ Stuck }
         requires place { self.old.place < most_instructions }
-        ensures { DidAlone (model.does_unary operator (frame_of self.old)) result (frame_of self.new) }
+        ensures { Does (model.does_unary operator) self.old self.new result }
     {
         let value = self.take_top();
         self.settle(operator.of(value))
@@ -259,7 +258,7 @@ impl Activation {
     fn pop(&mut self) -> Step
         requires going { model.pops (frame_of self.old) ≢ Stuck }
         requires place { self.old.place < most_instructions }
-        ensures { DidAlone (model.pops (frame_of self.old)) result (frame_of self.new) }
+        ensures { Does model.pops self.old self.new result }
     {
         self.take_top();
         self.place += 1;
@@ -268,7 +267,7 @@ impl Activation {
 
     /// JUMP: to this instruction.
     fn jump(&mut self, target: u16) -> Step
-        ensures { DidAlone (Goes (record (frame_of self.old) { place = target })) result (frame_of self.new) }
+        ensures { Does (λ f. Goes (record f { place = target })) self.old self.new result }
     {
         self.place = target as usize;
         Step::Went
@@ -278,7 +277,7 @@ impl Activation {
     fn jump_if_zero(&mut self, target: u16) -> Step
         requires going { model.jumps_if_zero target (frame_of self.old) ≢ Stuck }
         requires place { self.old.place < most_instructions }
-        ensures { DidAlone (model.jumps_if_zero target (frame_of self.old)) result (frame_of self.new) }
+        ensures { Does (model.jumps_if_zero target) self.old self.new result }
     {
         let value = self.take_top();
         self.place = if value == 0 {
@@ -291,8 +290,8 @@ impl Activation {
 
     /// BACK: to its target, or the end LoopLimit where it was taken as often as it may be.
     fn back(&mut self, back: Back) -> Step
-        requires { CanCount (taken_of self.old.turns.items) self.old.place }
-        ensures { DidAlone (model.jumps_back back (frame_of self.old)) result (frame_of self.new) }
+        requires { CanCountNext self.old }
+        ensures { Does (model.jumps_back back) self.old self.new result }
     {
         let place = self.place;
         let entry = entry_for(&mut self.turns, place);
@@ -313,7 +312,7 @@ impl Activation {
         requires code { CodeHolds parts.now }
         requires going { model.calls parts.now called (frame_of self.old) ≢ Stuck }
         requires place { self.old.place < most_instructions }
-        ensures { Did parts.now (Instruction.Call called) (model.calls parts.now called (frame_of self.old)) result (frame_of self.new) }
+        ensures { DoesCall parts.now called self.old self.new result }
     {
         let procedure = &parts.procedures.as_slice()[called as usize];
         let base = self.stack.len() - procedure.arguments as usize;
@@ -326,7 +325,7 @@ impl Activation {
     /// RET: the value on top of the stack is the procedure's.
     fn return_top(&self) -> Step
         requires { model.returns_top (frame_of self.now) ≢ Stuck }
-        ensures { DidAlone (model.returns_top (frame_of self.now)) result (frame_of self.now) }
+        ensures { Does model.returns_top self.now self.now result }
     {
         Step::Returned(self.top())
     }
@@ -337,10 +336,10 @@ impl Activation {
         requires code { CodeHolds parts.now }
         requires environment { IsOf parts.now env.now }
         requires holds { (locals : ℕ) × InstructionHolds parts.now locals instruction }
-        requires going { model.act parts.now (environment_of env.now) instruction (frame_of self.old) ≢ Stuck }
+        requires going { next_of parts.now env.now instruction self.old ≢ Stuck }
         requires place { self.old.place < most_instructions }
-        requires room { IsTrue (is_back instruction) → CanCount (taken_of self.old.turns.items) self.old.place }
-        ensures { let next = model.act parts.now (environment_of env.now) instruction (frame_of self.old) in
+        requires room { IsTrue (is_back instruction) → CanCountNext self.old }
+        ensures { let next = next_of parts.now env.now instruction self.old in
             Did parts.now instruction next result (frame_of self.new) }
     {
         match instruction {

@@ -1,8 +1,8 @@
 //! Evaluation of procedures.
 
-ghost use Rattle.std.specs.Prelude.{◌≡◌, ℕ, []};
-ghost use Rattle.gw_operands.specs.Meaning.{Derives, Evaluates};
-ghost use Rattle.gw_plus.specs.Activation.{begun, Begins, HasGoodCode};
+ghost use Rattle.std.specs.Prelude.{[]};
+ghost use Rattle.gw_operands.specs.Meaning.{Evaluates};
+ghost use Rattle.gw_plus.specs.Activation.{Activates, Begins, HasGoodCode};
 ghost use Rattle.gw_plus.specs.Reading.{environment_of, IsOf, CanEvaluate};
 
 use crate::activation::{Activation, Step, finished, opening_locals};
@@ -22,7 +22,7 @@ fn activate(
     requires code { HasGoodCode parts.now }
     requires environment { IsOf parts.now env.now }
     requires begins { Begins parts.now (environment_of env.now) number locals.items }
-    ensures { (count : ℕ) × Derives parts.now (environment_of env.now) number (begun locals.items) count result }
+    ensures { Activates parts.now env.now number locals.items result }
 {
     let procedure = &parts.procedures.as_slice()[number as usize];
     let code = procedure.code.as_slice();

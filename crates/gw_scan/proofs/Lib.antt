@@ -8,3 +8,4 @@ pub mod Taking
 pub mod Moments
 pub mod Slicing
 pub mod Subjects
+pub mod Entering

@@ -12,11 +12,11 @@ can_evaluate v m a =
     let w = a.steady.within in
     record {
       readable = record {
-        storages = w.whole.storages;
-        queues = w.whole.queues;
-        switches = w.whole.switches;
-        savevalues = w.whole.savevalues;
-        tables = w.whole.tables;
+        storages = w.whole.entity_tables.storages;
+        queues = w.whole.entity_tables.queues;
+        switches = w.whole.entity_tables.switches;
+        savevalues = w.whole.entity_tables.savevalues;
+        tables = w.whole.entity_tables.tables;
         entries = omega (arith, w.entries, a.few);
         clock = w.clock;
       };

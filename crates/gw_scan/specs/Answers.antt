@@ -1,11 +1,11 @@
 -- What calls of `step` and `run_slice` answer.
-use Rattle.std.specs.Prelude.{◌≡◌, ◌≢◌, ℕ, ◌+◌, ◌≤◌, sum, Option, Some, None, true}
+use Rattle.std.specs.Prelude.{◌≡◌, ◌≢◌, ℕ, ◌+◌, ◌≤◌, sum, Option, Some, None, is_some, true}
 use Rattle.gw_step.specs.declared.ends.End.{End}
 use Rattle.gw_scan.specs.declared.sim.Status.{Status}
 use Rattle.gw_scan.specs.declared.slices.Slice.{Slice}
 use Rattle.gw_scan.specs.declared.sim.Status.TheVariants.{Running, Ended}
 use Rattle.gw_step.specs.State.{State}
-use Rattle.gw_step.specs.Job.{Job, Progress, Step}
+use Rattle.gw_step.specs.Job.{Job, Progress, Step, IsReached}
 use Rattle.gw_step.specs.Weight.{weight}
 
 -- running, or the named end that stands
@@ -32,3 +32,16 @@ StaysPaid old new =
 pub record IsSlice (steps : ℕ) (slice : Slice) : Type 0 where
   pub most : slice.made ≤ steps
   pub all : slice.made ≢ steps → slice.ended ≡ true
+
+-- the slice says what was made of these steps, from the old progress to the new one
+pub record MakesSlice (steps : ℕ) (old new : Progress) (slice : Slice) : Type 0 where
+  pub made : new.state.steps ≡ old.state.steps + slice.made
+  pub all : IsSlice steps slice
+  pub ended : slice.ended ≡ is_some new.state.ended
+
+-- a job makes so many steps at most
+pub record Advances (steps : ℕ) (old new : Progress) : Type 0 where
+  pub job : new.job ≡ old.job
+  pub rise : old.state.steps ≤ new.state.steps
+  pub most : new.state.steps ≤ old.state.steps + steps
+  pub reached : IsReached new

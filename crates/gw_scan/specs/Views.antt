@@ -1,5 +1,5 @@
 -- What is seen of a state by readers alone.
-use Rattle.std.specs.Prelude.{ℕ, List, length, sum_by, Option}
+use Rattle.std.specs.Prelude.{ℕ, length, sum_by, Option}
 use Rattle.std.specs.Option.{option_and_then}
 use Rattle.gw_transactions.specs.declared.Transaction.{Transaction}
 use Rattle.gw_transactions.specs.Transactions.{attributes_at}

@@ -56,7 +56,7 @@ pub record Meets (v : Visit) (m : Configuration) (block : Block) : Type 0 where
   pub visit : IsVisit v m
   pub own : IsOf v.verified.now m
   pub values : MayMeet v.verified.now (state_of m) v.tx.number v.transaction block
-  pub operands : OperandsFit (length m.facilities.facilities) block
+  pub operands : OperandsFit (length m.facilities.values) block
   pub slot : set_by block ≤ m.last
   pub asks : Asks v.verified.now v.tx.number (state_of m) block
   pub leads : Leads v.verified.now.blocks v.transaction.next block

@@ -201,7 +201,7 @@ impl Visit<'_> {
         streams: &[Stream; 16],
     ) -> Made
         requires visit { IsVisit self.now machine.old }
-        requires there { table < length machine.old.facilities.facilities }
+        requires there { table < length machine.old.facilities.values }
         requires falls { MayFall self.now }
         ensures { MakesFrom result (entry_after streams.now
             (λ bs n t. model.tabulate bs n t table value) self.now)

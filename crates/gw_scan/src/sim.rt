@@ -156,8 +156,8 @@ impl Sim {
 
     /// The facilities, each by its number as an entity. The clock units that passed over them are the clock.
     pub fn facilities(&self) -> &Facilities
-        ensures facilities { result.now.facilities ≡ self.now.state.entities.facilities }
-        ensures count { length result.now.facilities ≡ length self.now.job.parts.entities }
+        ensures facilities { result.now.values ≡ self.now.state.entities.facilities }
+        ensures count { length result.now.values ≡ length self.now.job.parts.entities }
         ensures clock { pos result.now.passed ≡ self.now.state.clock }
     {
         self.machine.facilities()
@@ -165,8 +165,8 @@ impl Sim {
 
     /// The storages, each by its number as an entity. The clock units that passed over them are the clock.
     pub fn storages(&self) -> &Storages
-        ensures storages { result.now.storages ≡ self.now.state.entities.storages }
-        ensures count { length result.now.storages ≡ length self.now.job.parts.entities }
+        ensures storages { result.now.values ≡ self.now.state.entities.storages }
+        ensures count { length result.now.values ≡ length self.now.job.parts.entities }
         ensures clock { pos result.now.passed ≡ self.now.state.clock }
     {
         self.machine.storages()
@@ -174,8 +174,8 @@ impl Sim {
 
     /// The queues, each by its number as an entity. The clock units that passed over them are the clock.
     pub fn queues(&self) -> &Queues
-        ensures queues { result.now.queues ≡ self.now.state.entities.queues }
-        ensures count { length result.now.queues ≡ length self.now.job.parts.entities }
+        ensures queues { result.now.values ≡ self.now.state.entities.queues }
+        ensures count { length result.now.values ≡ length self.now.job.parts.entities }
         ensures clock { pos result.now.passed ≡ self.now.state.clock }
     {
         self.machine.queues()

@@ -2,7 +2,7 @@
 
 ghost use Rattle.std.specs.Prelude.{◌≡◌, ◌+◌, ◌≤◌, IfOk, is_some};
 ghost use Rattle.gw_step.specs.Job.{IsReached};
-ghost use Rattle.gw_scan.specs.Answers.{IsSlice, StaysPaid, status_at};
+ghost use Rattle.gw_scan.specs.Answers.{Advances, IsSlice, MakesSlice, StaysPaid, status_at};
 
 use crate::sim::{Sim, Status};
 use gw_chains::Memory;
@@ -20,13 +20,8 @@ pub struct Slice {
 fn run(sim: &mut Sim, mut status: Status, steps: u32) -> Result<Slice, Memory>
     requires status { status ≡ status_at sim.old.state.ended }
     requires reached { IsReached sim.old }
-    ensures job { sim.new.job ≡ sim.old.job }
-    ensures made { IfOk result (λ slice. sim.new.state.steps ≡ sim.old.state.steps + slice.made) }
-    ensures all { IfOk result (IsSlice steps) }
-    ensures ended { IfOk result (λ slice. slice.ended ≡ is_some sim.new.state.ended) }
-    ensures rise { sim.old.state.steps ≤ sim.new.state.steps }
-    ensures most { sim.new.state.steps ≤ sim.old.state.steps + steps }
-    ensures reached { IsReached sim.new }
+    ensures made { IfOk result (MakesSlice steps sim.old sim.new) }
+    ensures advances { Advances steps sim.old sim.new }
 {
     let mut made = 0;
     while made < steps && status == Status::Running {

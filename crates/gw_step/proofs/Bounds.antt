@@ -11,6 +11,7 @@ use Rattle.gw_blocks.specs.declared.parts.Block.{Block}
 use Rattle.gw_blocks.specs.declared.parts.Block.TheVariants as blocks
 use Rattle.gw_object.specs.declared.parts.Parts.{Parts}
 use Rattle.gw_kinds.specs.Kinds.{block_at}
+use Rattle.gw_flow.specs.Rows.{Row}
 use Rattle.gw_num.specs.Table.{at, put}
 use Rattle.gw_num.proofs.Tables.{at_some, by_entry, count_by-put}
 use Rattle.gw_transactions.specs.declared.Transaction.{Transaction}
@@ -28,8 +29,27 @@ use Rattle.gw_step.proofs.Placed.{placed_at-leaves}
 use Rattle.gw_step.specs.Times.{parameters_of}
 use Rattle.gw_step.specs.Typing.{AreWithinCapacity, AreConserved, IsConserved}
 use Rattle.gw_step.proofs.Balances.{time_passed}
-use Rattle.gw_step.proofs.Agreeing.{AreWhole}
+use Rattle.gw_step.proofs.Agreeing.{Balanced}
 use Rattle.gw_step.proofs.Attributes.{number_below, attributes-parameter, is_some-attributes, is_some-parameter, is_some-chain}
+
+-- ALONG A TRACE
+
+-- a fact that each change keeps is kept by some, one after the other
+module _ (p : Parts) (P : State → Type 0) (keeps : (en ar c en' ar' c' : ℕ) (s t : State) → Change p en ar c s en' ar' c' t → P s → P t) where
+  along : {en ar c en' ar' c' : ℕ} {s t : State} → Trace p en ar c s en' ar' c' t → P s → P t
+  along Done h = h
+  along (Then x xs) h = along xs (keeps _ _ _ _ _ _ _ _ x h)
+
+-- a fact of the entities that a balanced move and the passing of time keep
+module _ (p : Parts) (P : EntityStates → Type 0) (balanced : (n : ℕ) (old new : Option Row) (g h : EntityStates) → Balanced p n old new g h → P g → P h) (later : (time : ℕ) (g : EntityStates) → P g → P (time_passes time g)) where
+  change-entities : {en ar c en' ar' c' : ℕ} {s t : State} → Change p en ar c s en' ar' c' t → P s.entities → P t.entities
+  change-entities (Goes n to t u block row state h is same here known along may balance pays) w = balanced _ _ _ _ _ balance w
+  change-entities (Rests {s = s} n placement may settles) w = subst P (sym (placed_at-leaves n placement s).entities) w
+  change-entities (ClockMoves {s = s} e es is) w = later (unsigned_abs (e.time -ℤ s.clock)) s.entities w
+  change-entities change w = w
+
+  trace-entities : {en ar c en' ar' c' : ℕ} {s t : State} → Trace p en ar c s en' ar' c' t → P s.entities → P t.entities
+  trace-entities = along p (λ (s : State). P s.entities) (λ en ar c en' ar' c' s t x. change-entities x)
 
 -- WITHIN CAPACITY
 
@@ -51,27 +71,8 @@ placed-live n (JoinsChain l) s = omega (arith, chained-live s.transactions n (So
 placed-live n LeavesModel s = omega (arith, written-live s.transactions n None)
 placed-live n placement s = omega arith
 
-change-fills : (p : Parts) {en ar c en' ar' c' : ℕ} {s t : State} → Change p en ar c s en' ar' c' t → AreWithinCapacity s.entities → AreWithinCapacity t.entities
-change-fills p (Goes n to t u block row state h is same here known along may balance pays) w = balance.filled w
-change-fills p (EntersLast n t block row is here pays) w = w
-change-fills p (GoesWith n to q value t block row state is here known along may balance pays) w = w
-change-fills p (Arrives b g row priority time block is none later passes owed few) w = w
-change-fills p (Rests {s = s} n placement may settles) w = subst AreWithinCapacity (sym (placed_at-leaves n placement s).entities) w
-change-fills p (Called e n here below) w = w
-change-fills p (Copied n target b t u block row state found mark known block_is row_is along may facilities units few pays) w = w
-change-fills p (Assembled a is) w = w
-change-fills p (Comes a is more) w = w
-change-fills p (Unlinked c target n t ns members row is found members_is row_is fits may below pays) w = w
-change-fills p Woken w = w
-change-fills p (Activates n ns nobody first) w = w
-change-fills p (ClockMoves {s = s} e es is) w = fills-later (unsigned_abs (e.time -ℤ s.clock)) s.entities w
-change-fills p (Draws streams same) w = w
-change-fills p (Counts by) w = w
-change-fills p (Marks steps ended) w = w
-
 pub trace-fills : (p : Parts) {en ar c en' ar' c' : ℕ} {s t : State} → Trace p en ar c s en' ar' c' t → AreWithinCapacity s.entities → AreWithinCapacity t.entities
-trace-fills p Done w = w
-trace-fills p (Then x xs) w = trace-fills p xs (change-fills p x w)
+trace-fills p = trace-entities p AreWithinCapacity (λ n old new g h balance. balance.filled) fills-later
 
 -- NO UNIT IS LOST
 
@@ -80,27 +81,8 @@ conserved-later time g w = record {
   units = λ e. subst (λ (x : Storage). IsConserved x.contents) (sym (storages-later time g.storages e)) (time_passed time _ (w.units e));
 }
 
-change-conserves : (p : Parts) {en ar c en' ar' c' : ℕ} {s t : State} → Change p en ar c s en' ar' c' t → AreConserved s.entities → AreConserved t.entities
-change-conserves p (Goes n to t u block row state h is same here known along may balance pays) w = balance.conserved w
-change-conserves p (EntersLast n t block row is here pays) w = w
-change-conserves p (GoesWith n to q value t block row state is here known along may balance pays) w = w
-change-conserves p (Arrives b g row priority time block is none later passes owed few) w = w
-change-conserves p (Rests {s = s} n placement may settles) w = subst AreConserved (sym (placed_at-leaves n placement s).entities) w
-change-conserves p (Called e n here below) w = w
-change-conserves p (Copied n target b t u block row state found mark known block_is row_is along may facilities units few pays) w = w
-change-conserves p (Assembled a is) w = w
-change-conserves p (Comes a is more) w = w
-change-conserves p (Unlinked c target n t ns members row is found members_is row_is fits may below pays) w = w
-change-conserves p Woken w = w
-change-conserves p (Activates n ns nobody first) w = w
-change-conserves p (ClockMoves {s = s} e es is) w = conserved-later (unsigned_abs (e.time -ℤ s.clock)) s.entities w
-change-conserves p (Draws streams same) w = w
-change-conserves p (Counts by) w = w
-change-conserves p (Marks steps ended) w = w
-
 pub trace-conserves : (p : Parts) {en ar c en' ar' c' : ℕ} {s t : State} → Trace p en ar c s en' ar' c' t → AreConserved s.entities → AreConserved t.entities
-trace-conserves p Done w = w
-trace-conserves p (Then x xs) w = trace-conserves p xs (change-conserves p x w)
+trace-conserves p = trace-entities p AreConserved (λ n old new g h balance. balance.conserved) conserved-later
 
 -- NUMBERS
 
@@ -116,12 +98,9 @@ module _ (p : Parts) where
   rests-within en ar n (JoinsChain l) s may w = within-linked (length p.blocks) (length p.entities) en ar s w n l may.1.below (at_some s.transactions n may.1.t may.1.found)
   rests-within en ar n LeavesModel s may w = within-destroyed (length p.blocks) (length p.entities) en ar s w n (at_some s.transactions n may.1.t may.1.found)
 
-  whole-of : (en ar : ℕ) (s : State) → IsWithin (length p.blocks) (length p.entities) en ar s → AreWhole (length p.entities) s.entities
-  whole-of en ar s w = record { facilities = w.whole.facilities; storages = w.whole.storages; queues = w.whole.queues; switches = w.whole.switches; savevalues = w.whole.savevalues; tables = w.whole.tables }
-
   pub change-within : {en ar c en' ar' c' : ℕ} {s t : State} → Change p en ar c s en' ar' c' t → IsWithin (length p.blocks) (length p.entities) en ar s → IsWithin (length p.blocks) (length p.entities) en' ar' t
   change-within (Goes {en = en} {ar = ar} {s = s} n to t u block row state h is same here known along may balance pays) w =
-      within-entered (length p.blocks) (length p.entities) en ar s w n u to h (omega (arith, same.next, block_below p.blocks t.next block is.block_is)) (number_below s.transactions n t is.found) (same.mark w.clock (mark_from s.transactions n t w.marked is.found)) (balance.raises (whole-of en ar s w))
+      within-entered (length p.blocks) (length p.entities) en ar s w n u to h (omega (arith, same.next, block_below p.blocks t.next block is.block_is)) (number_below s.transactions n t is.found) (same.mark w.clock (mark_from s.transactions n t w.marked is.found)) (balance.raises w.whole.entity_tables)
   change-within (EntersLast {en = en} {ar = ar} {s = s} n t block row is here pays) w =
       within-entered (length p.blocks) (length p.entities) en ar s w n t t.next s.entities (block_below p.blocks t.next block is.block_is) (number_below s.transactions n t is.found) (mark_from s.transactions n t w.marked is.found) (raises-same s.entities)
   change-within (GoesWith {en = en} {ar = ar} {s = s} n to q value t block row state is here known along may balance pays) w =
@@ -173,26 +152,12 @@ limits-raised bs scheduled b g is owed l = record {
 }
 
 change-limits : (p : Parts) {en ar c en' ar' c' : ℕ} {s t : State} → Change p en ar c s en' ar' c' t → AreWithinLimits p.blocks s.scheduled → AreWithinLimits p.blocks t.scheduled
-change-limits p (Goes n to t u block row state h is same here known along may balance pays) l = l
-change-limits p (EntersLast n t block row is here pays) l = l
-change-limits p (GoesWith n to q value t block row state is here known along may balance pays) l = l
 change-limits p (Arrives {s = s} b g row priority time block is none later passes owed few) l = limits-raised p.blocks s.scheduled b g block owed l
 change-limits p (Rests {s = s} n placement may settles) l = subst (AreWithinLimits p.blocks) (sym (placed_at-leaves n placement s).scheduled) l
-change-limits p (Called e n here below) l = l
-change-limits p (Copied n target b t u block row state found mark known block_is row_is along may facilities units few pays) l = l
-change-limits p (Assembled a is) l = l
-change-limits p (Comes a is more) l = l
-change-limits p (Unlinked c target n t ns members row is found members_is row_is fits may below pays) l = l
-change-limits p Woken l = l
-change-limits p (Activates n ns nobody first) l = l
-change-limits p (ClockMoves e es is) l = l
-change-limits p (Draws streams same) l = l
-change-limits p (Counts by) l = l
-change-limits p (Marks steps ended) l = l
+change-limits p change l = l
 
 pub trace-limits : (p : Parts) {en ar c en' ar' c' : ℕ} {s t : State} → Trace p en ar c s en' ar' c' t → AreWithinLimits p.blocks s.scheduled → AreWithinLimits p.blocks t.scheduled
-trace-limits p Done l = l
-trace-limits p (Then x xs) l = trace-limits p xs (change-limits p x l)
+trace-limits p = along p (λ (s : State). AreWithinLimits p.blocks s.scheduled) (λ en ar c en' ar' c' s t x. change-limits p x)
 
 change-live : (p : Parts) {en ar c en' ar' c' : ℕ} {s t : State} → Change p en ar c s en' ar' c' t → AreFewLive s.transactions → AreFewLive t.transactions
 change-live p (Goes {s = s} n to t u block row state h is same here known along may balance pays) l = record { live = omega (arith, l.live, entered-live s.transactions n (record u { current = u.next; next = to })) }
@@ -202,20 +167,11 @@ change-live p (GoesWith {s = s} n to q value t block row state is here known alo
 change-live p (Arrives {s = s} b g row priority time block is none later passes owed few) l =
     record { live = omega (arith, leb-true (live_count s.transactions + 1) 65536 few, written-live s.transactions (length s.transactions) (Some (newcomer b priority s))) }
 change-live p (Rests {s = s} n placement may settles) l = record { live = omega (arith, l.live, placed-live n placement s) }
-change-live p (Called e n here below) l = l
 change-live p (Copied {s = s} n target b t u block row state found mark known block_is row_is along may facilities units few pays) l =
     record { live = omega (arith, few, written-live s.transactions (length s.transactions) (Some (made_with (parameters_of n s) (record t { next = target })))) }
-change-live p (Assembled a is) l = l
-change-live p (Comes a is more) l = l
 change-live p (Unlinked {s = s} c target n t ns members row is found members_is row_is fits may below pays) l =
     record { live = omega (arith, l.live, entered-live s.transactions n (record t { next = target }), chained-live (put_attributes n (record t { next = target }) s.transactions) n None) }
-change-live p Woken l = l
-change-live p (Activates n ns nobody first) l = l
-change-live p (ClockMoves e es is) l = l
-change-live p (Draws streams same) l = l
-change-live p (Counts by) l = l
-change-live p (Marks steps ended) l = l
+change-live p change l = l
 
 pub trace-live : (p : Parts) {en ar c en' ar' c' : ℕ} {s t : State} → Trace p en ar c s en' ar' c' t → AreFewLive s.transactions → AreFewLive t.transactions
-trace-live p Done l = l
-trace-live p (Then x xs) l = trace-live p xs (change-live p x l)
+trace-live p = along p (λ (s : State). AreFewLive s.transactions) (λ en ar c en' ar' c' s t x. change-live p x)

@@ -2,7 +2,7 @@
 use Rattle.gw_kinds.specs.Kinds.{block_at, is_none_or, has_good_constants}
 use Rattle.gw_operands.specs.Environment.{Environment}
 use Rattle.gw_transactions.specs.Transactions.{LiveTransaction, live_count}
-use Rattle.std.proofs.Common.{false, ◌≡◌, ℕ, zero, suc, ◌+◌, ◌≤◌, ℤ, pos, ◌≤ℤ◌, List, [], ◌∷◌, map, length, replicate, Option, Some, None, IfSome, refl, sym, ap, ◌∙◌, subst, arith, ◌<◌}
+use Rattle.std.proofs.Common.{false, ◌≡◌, ℕ, zero, suc, ◌+◌, ◌≤◌, ℤ, pos, ◌≤ℤ◌, ◌<ℤ◌, List, [], ◌∷◌, map, length, replicate, Option, Some, None, IfSome, refl, sym, ap, ◌∙◌, subst, arith, ◌<◌}
 use Rattle.std.specs.Prelude.{sum, int_le, nat_lt, IfSome, IsTrue}
 use Rattle.std.specs.List.{AllByRecursion}
 use Rattle.std.proofs.lemmas.Bool.{and_parts, ltb-true}
@@ -23,7 +23,8 @@ use Rattle.gw_object.specs.Entities.{capacity_of}
 use Rattle.gw_entities.specs.Storage.{vacant}
 use Rattle.gw_object.specs.declared.parts.Kind.{Kind}
 use Rattle.gw_object.specs.declared.parts.Kind.TheVariants as kinds
-use Rattle.gw_entities.specs.Table.{initial_setting, initial_value, nothing_entered, tables_of, table_at}
+use Rattle.gw_entities.specs.Table.{initial_setting, initial_value, nothing_entered, table_at}
+use Rattle.gw_entities.specs.Numbered.{of_each}
 use Rattle.gw_step.specs.declared.ends.End.{End}
 use Rattle.gw_step.specs.Outcome.{Outcome, Gives, EndsBy, HasNoCase}
 use Rattle.gw_step.specs.State.{State, with_streams}
@@ -66,32 +67,26 @@ record Numbered (j : Job) (k : ℕ) (t : State) : Type 0 where
   conserved : AreConserved t.entities
   weight : weight j.parts t ≤ most_weight
 
+-- with the steps that are left, they bound a state
+bounds : (j : Job) (t : State) → Numbered j t.steps t → t.steps ≤ j.budget → (t.ended ≡ None → t.steps < j.budget) → (t.ended ≡ None → pos 0 <ℤ t.count) → IsWoken t → IsBounded j t
+bounds j t n steps runs counts woken = record {
+  steps = steps;
+  runs = runs;
+  counts = counts;
+  numbers = n.numbers;
+  limits = n.limits;
+  live = n.live;
+  conserved = n.conserved;
+  woken = woken;
+  weight = n.weight;
+}
+
 -- what one step keeps of them
 bounded_more : (j : Job) (s u : State) → IsBounded j s → s.ended ≡ None → IsCounted s u → IsWoken u → Numbered j (s.steps + 1) (within_budget j.budget (record u { steps = s.steps + 1 })) → IsBounded j (within_budget j.budget (record u { steps = s.steps + 1 }))
 bounded_more j s u b runs c woken =
     by_budget (λ (v : State). Numbered j (s.steps + 1) v → IsBounded j v) j.budget (record u { steps = s.steps + 1 })
-    (λ _ same n. record {
-      steps = omega (arith, b.runs runs);
-      runs = λ e. absurd (cc);
-      counts = λ e. absurd (cc);
-      numbers = n.numbers;
-      limits = n.limits;
-      live = n.live;
-      conserved = n.conserved;
-      woken = λ none. woken none;
-      weight = n.weight;
-    })
-    (λ other n. record {
-      steps = omega (arith, b.runs runs);
-      runs = λ e. omega (arith, b.runs runs, other e);
-      counts = λ e. runs_still s u c e (b.counts runs);
-      numbers = n.numbers;
-      limits = n.limits;
-      live = n.live;
-      conserved = n.conserved;
-      woken = λ none. woken none;
-      weight = n.weight;
-    })
+    (λ _ same n. bounds j _ n (omega (arith, b.runs runs)) (λ e. absurd (cc)) (λ e. absurd (cc)) (λ none. woken none))
+    (λ other n. bounds j _ n (omega (arith, b.runs runs)) (λ e. omega (arith, b.runs runs, other e)) (λ e. runs_still s u c e (b.counts runs)) woken)
 
 bounded_ended : (j : Job) (s : State) (end : End) → IsBounded j s → s.ended ≡ None → IsBounded j (record s { steps = s.steps + 1; ended = Some end })
 unfolding weight
@@ -233,7 +228,7 @@ all_vacant [] k = omega arith
 all_vacant (e ∷ es) zero = omega arith
 all_vacant (e ∷ es) (suc k) = all_vacant es k
 
-none_entered : (es : List Entity) (t : ℕ) → (table_at t (tables_of es)).count ≡ 0
+none_entered : (es : List Entity) (t : ℕ) → (table_at t (of_each nothing_entered es)).count ≡ 0
 none_entered [] t = refl
 none_entered (e ∷ es) zero = by_kind e.kind
   where
@@ -268,12 +263,14 @@ nothing_begun j fits =
           scheduled = table;
           delay_lists = length-replicate (length es) [];
           user_chains = length-replicate (length es) [];
-          facilities = length-map es (λ _. idle);
-          storages = length-map es (λ (e : Entity). vacant (capacity_of e.kind));
-          queues = length-map es (λ _. empty);
-          switches = length-map es (λ (e : Entity). initial_setting e.kind);
-          savevalues = length-map es (λ (e : Entity). initial_value e.kind);
-          tables = length-map es (λ (e : Entity). nothing_entered e.kind);
+          entity_tables = record {
+            facilities = length-map es (λ _. idle);
+            storages = length-map es (λ (e : Entity). vacant (capacity_of e.kind));
+            queues = length-map es (λ _. empty);
+            switches = length-map es (λ (e : Entity). initial_setting e.kind);
+            savevalues = length-map es (λ (e : Entity). initial_value e.kind);
+            tables = length-map es (λ (e : Entity). nothing_entered e.kind);
+          };
           streams = fits.streams;
         };
         clock = omega (arith, ints);

@@ -14,8 +14,8 @@ use Rattle.gw_object.specs.declared.parts.Kind.TheVariants as kinds
 use Rattle.gw_object.specs.declared.parts.Parts.{Parts}
 use Rattle.gw_kinds.specs.declared.ways.Exit.{Exit}
 use Rattle.gw_kinds.specs.declared.ways.Way.{Way}
-use Rattle.gw_kinds.specs.Exits.{leads_to, exits, other_way, ways}
-use Rattle.gw_operands.specs.Sources.{kind_at, operand_at}
+use Rattle.gw_kinds.specs.Exits.{leads_to, exits, ways}
+use Rattle.gw_operands.specs.Sources.{kind_at}
 use Rattle.gw_kinds.specs.Kinds.{block_at}
 use Rattle.gw_kinds.specs.Laws.{MayBeEntered, ReturnsHold, BlockHolds}
 use Rattle.gw_flow.specs.Codes as codes

@@ -10,17 +10,18 @@ use Rattle.gw_num.specs.Table.{at, put}
 use Rattle.gw_num.proofs.Tables.{by_entry, length-put, length-put_next, sum_by-put}
 use Rattle.gw_transactions.specs.declared.Transaction.{Transaction}
 use Rattle.gw_transactions.specs.Transactions.{LiveTransaction, made_with, with_attributes, with_parameter, with_chain, attributes_at, put_attributes, put_parameter, put_chain}
+use Rattle.gw_entities.specs.declared.contents.Contents.{Contents}
 use Rattle.gw_entities.specs.Contents.{empty}
 use Rattle.gw_entities.specs.Facility.{idle}
 use Rattle.gw_entities.specs.Storage.{vacant}
-use Rattle.gw_entities.specs.Table.{table_at}
+use Rattle.gw_entities.specs.Table.{no_table}
 use Rattle.gw_step.specs.declared.placement.Assembling.{Assembling}
 use Rattle.gw_step.specs.Times.{parameters_of}
 use Rattle.gw_step.specs.State.{Assembly, FutureEvent, EntityStates, State, priority_of, raised, with_streams, delay_list, without}
 use Rattle.gw_step.specs.Changes.{newcomer, copied, rests_ahead, rests_behind, awaits_set, assembled, come_to, joins_chain, leaves_chain, retries, woken, entered, assigned, destroyed, arrives, rests_until, waits_for, called_from, counted}
 use Rattle.gw_step.specs.Residence.{occurrences}
 use Rattle.gw_step.proofs.Residence.{one_if}
-use Rattle.gw_step.specs.Numbers.{IsFrom, waiting, IsWithin, AreEntered, AreMarked}
+use Rattle.gw_step.specs.Numbers.{IsFrom, waiting, AreWhole, IsWithin, AreEntered, AreMarked}
 
 -- LENGTHS AND SUMS
 
@@ -75,26 +76,38 @@ from-later a moment (e ∷ es) h = by_order (int_le e.time moment) refl (from-la
 
 -- ENTITIES
 
--- from g to h each entity has one entry more at most
-pub record Raises (g h : EntityStates) : Type 0 where
-  pub facilities : (f : ℕ) → (at idle h.facilities f).entries ≤ (at idle g.facilities f).entries + 1
-  pub storages : (e : ℕ) → (at (vacant 0) h.storages e).contents.entries ≤ (at (vacant 0) g.storages e).contents.entries + 2 ^ 20
-  pub queues : (q : ℕ) → (at empty h.queues q).entries ≤ (at empty g.queues q).entries + 2 ^ 20
-  pub tables : (t : ℕ) → (table_at t h.tables).count ≤ (table_at t g.tables).count + 1
-  -- no more than ever joined is inside
-  pub inside : (q : ℕ) → (at empty g.queues q).content ≤ (at empty g.queues q).entries → (at empty h.queues q).content ≤ (at empty h.queues q).entries
-  pub facility_table : length h.facilities ≡ length g.facilities
-  pub storage_table : length h.storages ≡ length g.storages
-  pub queue_table : length h.queues ≡ length g.queues
-  pub switch_table : length h.switches ≡ length g.switches
-  pub savevalue_table : length h.savevalues ≡ length g.savevalues
-  pub table_table : length h.tables ≡ length g.tables
-
-pub raises-same : (g : EntityStates) → Raises g g
-raises-same g = record { facilities = λ f. omega arith; storages = λ e. omega arith; queues = λ q. omega arith; tables = λ t. omega arith; inside = λ q h. h; facility_table = refl; storage_table = refl; queue_table = refl; switch_table = refl; savevalue_table = refl; table_table = refl }
-
 pub raised_by_put : {X : Type 0} (d : X) (xs : List X) (k : ℕ) (v : X) (f : X → ℕ) (more : ℕ) → f v ≤ f (at d xs k) + more → (j : ℕ) → f (at d (put d xs k v) j) ≤ f (at d xs j) + more
 raised_by_put d xs k v f more here = by_entry d xs k v (λ j x. f x ≤ f (at d xs j) + more) here (λ j other. omega arith)
+
+-- the table ys has the entries of xs, each of which counts so much more at most
+pub record RaisesBy {X : Type 0} (d : X) (count : X → ℕ) (more : ℕ) (xs ys : List X) : Type 0 where
+  pub counts : (k : ℕ) → count (at d ys k) ≤ count (at d xs k) + more
+  pub size : length ys ≡ length xs
+
+pub raises-none : {X : Type 0} {d : X} {count : X → ℕ} {more : ℕ} {xs : List X} → RaisesBy d count more xs xs
+raises-none = record { counts = λ k. omega arith; size = refl }
+
+pub raised-put : {X : Type 0} (d : X) (xs : List X) (k : ℕ) (v : X) (count : X → ℕ) (more : ℕ) → k < length xs → count v ≤ count (at d xs k) + more → RaisesBy d count more xs (put d xs k v)
+raised-put d xs k v count more there here = record { counts = raised_by_put d xs k v count more here; size = length-put d xs k v there }
+
+-- the same of queues, in which no more than ever joined is inside
+pub record RaisesQueues (xs ys : List Contents) : Type 0 where
+  pub entered : RaisesBy empty (λ q. q.entries) (2 ^ 20) xs ys
+  pub inside : (q : ℕ) → (at empty xs q).content ≤ (at empty xs q).entries → (at empty ys q).content ≤ (at empty ys q).entries
+
+pub raises-no_queue : {xs : List Contents} → RaisesQueues xs xs
+raises-no_queue = record { entered = raises-none; inside = λ q h. h }
+
+-- from g to h each entity has one entry more at most
+pub record Raises (g h : EntityStates) : Type 0 where
+  pub facilities : RaisesBy idle (λ f. f.entries) 1 g.facilities h.facilities
+  pub storages : RaisesBy (vacant 0) (λ e. e.contents.entries) (2 ^ 20) g.storages h.storages
+  pub queues : RaisesQueues g.queues h.queues
+  pub tables : RaisesBy no_table (λ t. t.count) 1 g.tables h.tables
+  pub settings : (length h.switches ≡ length g.switches) × (length h.savevalues ≡ length g.savevalues)
+
+pub raises-same : (g : EntityStates) → Raises g g
+raises-same g = record { facilities = raises-none; storages = raises-none; queues = raises-no_queue; tables = raises-none; settings = (refl, refl) }
 
 -- MARK TIMES
 
@@ -137,31 +150,32 @@ marked-chained ts n chain m = marked-put ts n (option_map (with_chain chain) (at
 -- CHANGES
 
 module _ (bs es en ar : ℕ) (s : State) (w : IsWithin bs es en ar s) where
+  -- the blocks and the entities have the entries that they had
+  pub within-by : (t : State) (entered arrived : ℕ) → t.entries ≡ s.entries → t.entities ≡ s.entities → length t.lists.delay_lists ≡ length s.lists.delay_lists → length t.lists.user_chains ≡ length s.lists.user_chains → length t.scheduled ≡ length s.scheduled → length t.streams ≡ 16
+      → sum s.entries + waiting t ≤ entered → length t.transactions ≤ arrived + 4097 → sum t.scheduled ≤ arrived + 4096 → AreMarked t.transactions → pos 0 ≤ℤ t.clock → IsFrom t.clock t.lists.future_events → IsWithin bs es entered arrived t
+  within-by t entered arrived entries entities delayed chains length_scheduled streams few made scheduled marked clock future = record {
+    entries = omega (arith, few, ap sum entries);
+    entity_entries = subst (λ (g : EntityStates). AreEntered (sum t.entries) g) (sym entities) (subst (λ (xs : List ℕ). AreEntered (sum xs) s.entities) (sym entries) w.entity_entries);
+    made = made;
+    scheduled = scheduled;
+    marked = marked;
+    whole = record {
+      entries = ap length entries ∙ w.whole.entries;
+      scheduled = length_scheduled ∙ w.whole.scheduled;
+      delay_lists = delayed ∙ w.whole.delay_lists;
+      user_chains = chains ∙ w.whole.user_chains;
+      entity_tables = subst (AreWhole es) (sym entities) w.whole.entity_tables;
+      streams = streams;
+    };
+    clock = clock;
+    future = future;
+  }
+
   -- the numbers stay as they were, or fewer wait
   within-apart : (t : State) → t.entries ≡ s.entries → t.scheduled ≡ s.scheduled → t.transactions ≡ s.transactions → t.entities ≡ s.entities → length t.lists.delay_lists ≡ length s.lists.delay_lists → length t.lists.user_chains ≡ length s.lists.user_chains → waiting t ≤ waiting s
       → length t.streams ≡ 16 → t.clock ≡ s.clock → t.lists.future_events ≡ s.lists.future_events → IsWithin bs es en ar t
-  within-apart t entries scheduled ts entities lists chains wait streams clock future = record {
-    entries = omega (arith, w.entries, wait, ap sum entries);
-    entity_entries = subst (λ (g : EntityStates). AreEntered (sum t.entries) g) (sym entities) (subst (λ (xs : List ℕ). AreEntered (sum xs) s.entities) (sym entries) w.entity_entries);
-    made = omega (arith, w.made, ap (λ (xs : List (Option LiveTransaction)). length xs) ts);
-    scheduled = omega (arith, w.scheduled, ap sum scheduled);
-    marked = rw ts w.marked;
-    whole = record {
-      entries = ap length entries ∙ w.whole.entries;
-      scheduled = ap length scheduled ∙ w.whole.scheduled;
-      delay_lists = lists ∙ w.whole.delay_lists;
-      user_chains = chains ∙ w.whole.user_chains;
-      facilities = ap (λ (g : EntityStates). length g.facilities) entities ∙ w.whole.facilities;
-      storages = ap (λ (g : EntityStates). length g.storages) entities ∙ w.whole.storages;
-      queues = ap (λ (g : EntityStates). length g.queues) entities ∙ w.whole.queues;
-      switches = ap (λ (g : EntityStates). length g.switches) entities ∙ w.whole.switches;
-      savevalues = ap (λ (g : EntityStates). length g.savevalues) entities ∙ w.whole.savevalues;
-      tables = ap (λ (g : EntityStates). length g.tables) entities ∙ w.whole.tables;
-      streams = streams;
-    };
-    clock = rw clock w.clock;
-    future = rw (clock, future) w.future;
-  }
+  within-apart t entries scheduled ts entities lists chains wait streams clock future =
+      within-by t en ar entries entities lists chains (ap length scheduled) streams (omega (arith, w.entries, wait)) (omega (arith, w.made, ap (λ (xs : List (Option LiveTransaction)). length xs) ts)) (omega (arith, w.scheduled, ap sum scheduled)) (rw ts w.marked) (rw clock w.clock) (rw (clock, future) w.future)
 
   pub within-woken : IsWithin bs es en ar (woken s)
   within-woken = within-apart (woken s) refl refl refl refl refl refl (omega arith) w.whole.streams refl refl
@@ -197,16 +211,7 @@ module _ (bs es en ar : ℕ) (s : State) (w : IsWithin bs es en ar s) where
   pub within-copied : (n : ℕ) (t : Transaction) (target : ℕ) → pos 0 ≤ℤ t.mark → IsWithin bs es en (suc ar) (copied n t target s)
   within-copied n t target mark =
       let v : Option LiveTransaction = Some (made_with (parameters_of n s) (record t { next = target })) in
-      record {
-        entries = w.entries;
-        entity_entries = w.entity_entries;
-        made = omega (arith, w.made, length-put_next None s.transactions v);
-        scheduled = omega (arith, w.scheduled);
-        marked = marked-put s.transactions (length s.transactions) v mark w.marked;
-        whole = record { entries = w.whole.entries; scheduled = w.whole.scheduled; delay_lists = w.whole.delay_lists; user_chains = w.whole.user_chains; facilities = w.whole.facilities; storages = w.whole.storages; queues = w.whole.queues; switches = w.whole.switches; savevalues = w.whole.savevalues; tables = w.whole.tables; streams = w.whole.streams };
-        clock = w.clock;
-        future = w.future;
-      }
+      within-by (copied n t target s) en (suc ar) refl refl refl refl refl w.whole.streams w.entries (omega (arith, w.made, length-put_next None s.transactions v)) (omega (arith, w.scheduled)) (marked-put s.transactions (length s.transactions) v mark w.marked) w.clock w.future
 
   -- an entry, and what it does to an entity
   pub within-entered : (n : ℕ) (t : Transaction) (next : ℕ) (g : EntityStates) → t.next ≤ bs → n < length s.transactions → pos 0 ≤ℤ t.mark → Raises s.entities g → IsWithin bs es (suc en) ar (record (entered n t next s) { entities = g })
@@ -217,11 +222,11 @@ module _ (bs es en ar : ℕ) (s : State) (w : IsWithin bs es en ar s) where
       record {
         entries = omega (arith, more, entries);
         entity_entries = record {
-          facilities = λ f. omega (arith, r.facilities f, w.entity_entries.facilities f, more);
-          storages = λ e. omega (arith, r.storages e, w.entity_entries.storages e, more);
-          queues = λ q. omega (arith, r.queues q, w.entity_entries.queues q, more);
-          tables = λ t. omega (arith, r.tables t, w.entity_entries.tables t, more);
-          inside = λ q. r.inside q (w.entity_entries.inside q);
+          facilities = λ f. omega (arith, r.facilities.counts f, w.entity_entries.facilities f, more);
+          storages = λ e. omega (arith, r.storages.counts e, w.entity_entries.storages e, more);
+          queues = λ q. omega (arith, r.queues.entered.counts q, w.entity_entries.queues q, more);
+          tables = λ t. omega (arith, r.tables.counts t, w.entity_entries.tables t, more);
+          inside = λ q. r.queues.inside q (w.entity_entries.inside q);
         };
         made = omega (arith, w.made, length-put None s.transactions n (option_map (with_attributes (record t { current = t.next; next = next })) (at None s.transactions n)) there);
         scheduled = w.scheduled;
@@ -231,12 +236,14 @@ module _ (bs es en ar : ℕ) (s : State) (w : IsWithin bs es en ar s) where
           scheduled = w.whole.scheduled;
           delay_lists = w.whole.delay_lists;
           user_chains = w.whole.user_chains;
-          facilities = r.facility_table ∙ w.whole.facilities;
-          storages = r.storage_table ∙ w.whole.storages;
-          queues = r.queue_table ∙ w.whole.queues;
-          switches = r.switch_table ∙ w.whole.switches;
-          savevalues = r.savevalue_table ∙ w.whole.savevalues;
-          tables = r.table_table ∙ w.whole.tables;
+          entity_tables = record {
+            facilities = r.facilities.size ∙ w.whole.entity_tables.facilities;
+            storages = r.storages.size ∙ w.whole.entity_tables.storages;
+            queues = r.queues.entered.size ∙ w.whole.entity_tables.queues;
+            switches = r.settings.0 ∙ w.whole.entity_tables.switches;
+            savevalues = r.settings.1 ∙ w.whole.entity_tables.savevalues;
+            tables = r.tables.size ∙ w.whole.entity_tables.tables;
+          };
           streams = w.whole.streams;
         };
         clock = w.clock;
@@ -244,109 +251,40 @@ module _ (bs es en ar : ℕ) (s : State) (w : IsWithin bs es en ar s) where
       }
 
   pub within-destroyed : (n : ℕ) → n < length s.transactions → IsWithin bs es en ar (destroyed n s)
-  within-destroyed n there = record {
-    entries = w.entries;
-    entity_entries = w.entity_entries;
-    made = omega (arith, w.made, length-put None s.transactions n None there);
-    scheduled = w.scheduled;
-    marked = marked-put s.transactions n None tt w.marked;
-    whole = record { entries = w.whole.entries; scheduled = w.whole.scheduled; delay_lists = w.whole.delay_lists; user_chains = w.whole.user_chains; facilities = w.whole.facilities; storages = w.whole.storages; queues = w.whole.queues; switches = w.whole.switches; savevalues = w.whole.savevalues; tables = w.whole.tables; streams = w.whole.streams };
-    clock = w.clock;
-    future = w.future;
-  }
+  within-destroyed n there =
+      within-by (destroyed n s) en ar refl refl refl refl refl w.whole.streams w.entries (omega (arith, w.made, length-put None s.transactions n None there)) w.scheduled (marked-put s.transactions n None tt w.marked) w.clock w.future
 
   -- a parameter is set
   pub within-assigned : (n p : ℕ) (value : ℤ) → n < length s.transactions → IsWithin bs es en ar (assigned n p value s)
-  within-assigned n p value there = record {
-    entries = w.entries;
-    entity_entries = w.entity_entries;
-    made = omega (arith, w.made, length-put None s.transactions n (option_map (with_parameter p value) (at None s.transactions n)) there);
-    scheduled = w.scheduled;
-    marked = marked-assigned s.transactions n p value w.marked;
-    whole = record { entries = w.whole.entries; scheduled = w.whole.scheduled; delay_lists = w.whole.delay_lists; user_chains = w.whole.user_chains; facilities = w.whole.facilities; storages = w.whole.storages; queues = w.whole.queues; switches = w.whole.switches; savevalues = w.whole.savevalues; tables = w.whole.tables; streams = w.whole.streams };
-    clock = w.clock;
-    future = w.future;
-  }
+  within-assigned n p value there =
+      let made = length-put None s.transactions n (option_map (with_parameter p value) (at None s.transactions n)) there in
+      within-by (assigned n p value s) en ar refl refl refl refl refl w.whole.streams w.entries (omega (arith, w.made, made)) w.scheduled (marked-assigned s.transactions n p value w.marked) w.clock w.future
 
   pub within-retries : (n : ℕ) → IsWithin bs es (suc en) ar (retries n s)
-  within-retries n = record {
-    entries = omega (arith, w.entries, length-joined n s.lists.retry);
-    entity_entries = w.entity_entries;
-    made = w.made;
-    scheduled = w.scheduled;
-    marked = w.marked;
-    whole = record { entries = w.whole.entries; scheduled = w.whole.scheduled; delay_lists = w.whole.delay_lists; user_chains = w.whole.user_chains; facilities = w.whole.facilities; storages = w.whole.storages; queues = w.whole.queues; switches = w.whole.switches; savevalues = w.whole.savevalues; tables = w.whole.tables; streams = w.whole.streams };
-    clock = w.clock;
-    future = w.future;
-  }
+  within-retries n =
+      within-by (retries n s) (suc en) ar refl refl refl refl refl w.whole.streams (omega (arith, w.entries, length-joined n s.lists.retry)) w.made w.scheduled w.marked w.clock w.future
 
   pub within-arrives : (b : ℕ) (priority time : ℤ) → b ≤ bs → s.clock ≤ℤ time → IsWithin bs es en (suc ar) (arrives b priority time s)
   within-arrives b priority time block later =
-      let table = w.whole.scheduled in
-      record {
-        entries = w.entries;
-        entity_entries = w.entity_entries;
-        made = omega (arith, w.made, length-put_next None s.transactions (Some (newcomer b priority s)));
-        scheduled = omega (arith, w.scheduled, sum-raised b s.scheduled);
-        marked = marked-put s.transactions (length s.transactions) (Some (newcomer b priority s)) w.clock w.marked;
-        whole = record {
-          entries = w.whole.entries;
-          scheduled = length-raised b s.scheduled (omega (arith, table, block)) ∙ table;
-          delay_lists = w.whole.delay_lists;
-          user_chains = w.whole.user_chains;
-          facilities = w.whole.facilities;
-          storages = w.whole.storages;
-          queues = w.whole.queues;
-          switches = w.whole.switches;
-          savevalues = w.whole.savevalues;
-          tables = w.whole.tables;
-          streams = w.whole.streams;
-        };
-        clock = w.clock;
-        future = from-in_time s.clock (record { time = time; number = length s.transactions }) s.lists.future_events later w.future;
-      }
+      let n = length s.transactions in
+      let t : Option LiveTransaction = Some (newcomer b priority s) in
+      within-by (arrives b priority time s) en (suc ar) refl refl refl refl (length-raised b s.scheduled (omega (arith, w.whole.scheduled, block))) w.whole.streams w.entries (omega (arith, w.made, length-put_next None s.transactions t)) (omega (arith, w.scheduled, sum-raised b s.scheduled))
+      (marked-put s.transactions n t w.clock w.marked) w.clock (from-in_time s.clock (record { time = time; number = n }) s.lists.future_events later w.future)
 
   pub within-rests : (n : ℕ) (time : ℤ) → s.clock ≤ℤ time → IsWithin bs es en ar (rests_until n time s)
-  within-rests n time later = record {
-    entries = w.entries;
-    entity_entries = w.entity_entries;
-    made = w.made;
-    scheduled = w.scheduled;
-    marked = w.marked;
-    whole = record { entries = w.whole.entries; scheduled = w.whole.scheduled; delay_lists = w.whole.delay_lists; user_chains = w.whole.user_chains; facilities = w.whole.facilities; storages = w.whole.storages; queues = w.whole.queues; switches = w.whole.switches; savevalues = w.whole.savevalues; tables = w.whole.tables; streams = w.whole.streams };
-    clock = w.clock;
-    future = from-in_time s.clock (record { time = time; number = n }) s.lists.future_events later w.future;
-  }
+  within-rests n time later =
+      within-by (rests_until n time s) en ar refl refl refl refl refl w.whole.streams w.entries w.made w.scheduled w.marked w.clock (from-in_time s.clock (record { time = time; number = n }) s.lists.future_events later w.future)
+
+  -- one delay list is another
+  delay_lists-size : (e : ℕ) (ns : List ℕ) → e < es → length (put [] s.lists.delay_lists e ns) ≡ length s.lists.delay_lists
+  delay_lists-size e ns there = length-put [] s.lists.delay_lists e ns (omega (arith, there, w.whole.delay_lists))
 
   pub within-waits : (e n : ℕ) → e < es → IsWithin bs es (suc en) ar (waits_for e n s)
   within-waits e n there =
-      let table = w.whole.delay_lists in
       let joined = behind (priority_of s.transactions) n (delay_list e s) in
       let more : length joined ≡ suc (length (delay_list e s)) = length-placed (λ m. int_le (priority_of s.transactions n) (priority_of s.transactions m)) n (delay_list e s) in
       let total = sum_by-put [] length s.lists.delay_lists e joined refl in
-      let entries = w.entries in
-      record {
-        entries = omega (arith, more, total, entries);
-        entity_entries = w.entity_entries;
-        made = w.made;
-        scheduled = w.scheduled;
-        marked = w.marked;
-        whole = record {
-          entries = w.whole.entries;
-          scheduled = w.whole.scheduled;
-          delay_lists = length-put [] s.lists.delay_lists e joined (omega (arith, there, table)) ∙ table;
-          user_chains = w.whole.user_chains;
-          facilities = w.whole.facilities;
-          storages = w.whole.storages;
-          queues = w.whole.queues;
-          switches = w.whole.switches;
-          savevalues = w.whole.savevalues;
-          tables = w.whole.tables;
-          streams = w.whole.streams;
-        };
-        clock = w.clock;
-        future = w.future;
-      }
+      within-by (waits_for e n s) (suc en) ar refl refl (delay_lists-size e joined there) refl refl w.whole.streams (omega (arith, more, total, w.entries)) w.made w.scheduled w.marked w.clock w.future
 
   -- a waiter leaves its delay list: its entry is now to come
   pub called-less : (e n : ℕ) → e < es → 1 ≤ occurrences n (delay_list e s) → sum s.entries + suc (waiting (called_from e n s)) ≤ en
@@ -358,69 +296,25 @@ module _ (bs es en ar : ℕ) (s : State) (w : IsWithin bs es en ar s) where
 
   pub within-called : (e n : ℕ) → e < es → 1 ≤ occurrences n (delay_list e s) → (less : ℕ) → en ≡ suc less → IsWithin bs es less ar (called_from e n s)
   within-called e n there waits less is =
-      let table = w.whole.delay_lists in
-      record {
-        entries = omega (arith, called-less e n there waits, is);
-        entity_entries = w.entity_entries;
-        made = w.made;
-        scheduled = w.scheduled;
-        marked = w.marked;
-        whole = record {
-          entries = w.whole.entries;
-          scheduled = w.whole.scheduled;
-          delay_lists = length-put [] s.lists.delay_lists e (without n (delay_list e s)) (omega (arith, there, table)) ∙ table;
-          user_chains = w.whole.user_chains;
-          facilities = w.whole.facilities;
-          storages = w.whole.storages;
-          queues = w.whole.queues;
-          switches = w.whole.switches;
-          savevalues = w.whole.savevalues;
-          tables = w.whole.tables;
-          streams = w.whole.streams;
-        };
-        clock = w.clock;
-        future = w.future;
-      }
+      within-by (called_from e n s) less ar refl refl (delay_lists-size e (without n (delay_list e s)) there) refl refl w.whole.streams (omega (arith, called-less e n there waits, is)) w.made w.scheduled w.marked w.clock w.future
 
-  -- user chains and transactions change, and no entry is made
-  within-chained : (t : State) → t.entries ≡ s.entries → t.scheduled ≡ s.scheduled → length t.transactions ≡ length s.transactions → AreMarked t.transactions → t.entities ≡ s.entities → t.lists.delay_lists ≡ s.lists.delay_lists → t.lists.retry ≡ s.lists.retry
-      → length t.lists.user_chains ≡ length s.lists.user_chains → t.streams ≡ s.streams → t.clock ≡ s.clock → t.lists.future_events ≡ s.lists.future_events → IsWithin bs es en ar t
-  within-chained t entries scheduled made marked entities delayed retrying chains streams clock future =
-      let before = within-apart (record t { transactions = s.transactions }) entries scheduled refl entities (ap length delayed) chains (rw (delayed, retrying) (omega arith)) (ap length streams ∙ w.whole.streams) clock future in
-      record {
-        entries = before.entries;
-        entity_entries = before.entity_entries;
-        made = omega (arith, w.made, made);
-        scheduled = before.scheduled;
-        marked = marked;
-        whole = record { entries = before.whole.entries; scheduled = before.whole.scheduled; delay_lists = before.whole.delay_lists; user_chains = before.whole.user_chains; facilities = before.whole.facilities; storages = before.whole.storages; queues = before.whole.queues; switches = before.whole.switches; savevalues = before.whole.savevalues; tables = before.whole.tables; streams = before.whole.streams };
-        clock = before.clock;
-        future = before.future;
-      }
+  -- one user chain is another
+  user_chains-size : (c : ℕ) (ns : List ℕ) → c < es → length (put [] s.lists.user_chains c ns) ≡ length s.lists.user_chains
+  user_chains-size c ns there = length-put [] s.lists.user_chains c ns (omega (arith, there, w.whole.user_chains))
 
   pub within-linked : (n : ℕ) (l : Link) → l.chain < es → n < length s.transactions → IsWithin bs es en ar (joins_chain n l s)
   within-linked n l below there =
-      let table = w.whole.user_chains in
-      within-chained (joins_chain n l s) refl refl (length-put None s.transactions n _ there) (marked-chained s.transactions n (Some l.chain) w.marked) refl refl refl
-      (length-put [] s.lists.user_chains l.chain _ (omega (arith, below, table))) refl refl refl
+      let one = length-put None s.transactions n (option_map (with_chain (Some l.chain)) (at None s.transactions n)) there in
+      within-by (joins_chain n l s) en ar refl refl refl (user_chains-size l.chain _ below) refl w.whole.streams w.entries (omega (arith, w.made, one)) w.scheduled (marked-chained s.transactions n (Some l.chain) w.marked) w.clock w.future
 
   pub within-unlinked : (c target n : ℕ) (t : Transaction) → c < es → n < length s.transactions → pos 0 ≤ℤ t.mark → IsWithin bs es en ar (leaves_chain c target n t s)
   within-unlinked c target n t below there mark =
-      let table = w.whole.user_chains in
       let a : Transaction = record t { next = target } in
+      let ts = put_attributes n a s.transactions in
       let one = length-put None s.transactions n (option_map (with_attributes a) (at None s.transactions n)) there in
-      within-chained (leaves_chain c target n t s) refl refl (length-put None (put_attributes n a s.transactions) n _ (omega (arith, there, one)) ∙ one)
-      (marked-chained (put_attributes n a s.transactions) n None (marked-written s.transactions n a mark w.marked)) refl refl refl
-      (length-put [] s.lists.user_chains c _ (omega (arith, below, table))) refl refl refl
+      let two = length-put None ts n (option_map (with_chain None) (at None ts n)) (omega (arith, there, one)) in
+      within-by (leaves_chain c target n t s) en ar refl refl refl (user_chains-size c _ below) refl w.whole.streams w.entries (omega (arith, w.made, one, two)) w.scheduled (marked-chained ts n None (marked-written s.transactions n a mark w.marked)) w.clock w.future
 
   pub within-more : (en_more ar_more : ℕ) → en ≤ en_more → ar ≤ ar_more → IsWithin bs es en_more ar_more s
-  within-more en_more ar_more le le' = record {
-    entries = omega (arith, w.entries, le);
-    entity_entries = w.entity_entries;
-    made = omega (arith, w.made, le');
-    scheduled = omega (arith, w.scheduled, le');
-    marked = w.marked;
-    whole = w.whole;
-    clock = w.clock;
-    future = w.future;
-  }
+  within-more en_more ar_more le le' =
+      within-by s en_more ar_more refl refl refl refl refl w.whole.streams (omega (arith, w.entries, le)) (omega (arith, w.made, le')) (omega (arith, w.scheduled, le')) w.marked w.clock w.future

@@ -1,12 +1,12 @@
 -- What the fields tell of the population, before a call and after it.
-use Rattle.std.proofs.Common.{◌≡◌, ◌≢◌, ℕ, zero, suc, ◌+◌, ◌^◌, ◌<◌, List, [], ◌∷◌, get_or, inl, inr, length, set, Option, Some, None, option_map, is_some, cond, refl, sym, ap, ◌∙◌, subst, arith}
+use Rattle.std.proofs.Common.{◌≡◌, ◌≢◌, ℕ, zero, suc, ◌+◌, ◌^◌, ◌<◌, ◌≤◌, List, [], ◌∷◌, get_or, inl, inr, length, set, Option, Some, None, option_map, is_some, cond, refl, sym, ap, ◌∙◌, subst, arith}
 use Rattle.std.proofs.lemmas.Bool.{cases_eq}
 use Rattle.slab.specs.Slab.{Slab, get, Updates, slab_len, with_value}
 use Rattle.gw_chains.specs.declared.tx.Tx.{Tx}
 use Rattle.gw_transactions.specs.declared.Kept.{Kept}
 use Rattle.gw_transactions.specs.declared.Transactions.TheInside.{Inside}
 use Rattle.gw_num.specs.Table.{at, put}
-use Rattle.gw_transactions.specs.Transactions.{Population, LiveTransaction, Holds, IsSound, live_count}
+use Rattle.gw_transactions.specs.Transactions.{Population, LiveTransaction, Holds, KeepsRest, IsSound, live_count}
 use Rattle.gw_transactions.specs.Slots.{live_as, by_number, population_of, AreNumbered, AreCounted, AreAlike}
 use Rattle.gw_num.proofs.Tables.{at_some, at-get_or, at_past, put-at, count_by-put}
 use Rattle.gw_transactions.proofs.Slots.{same_slot, own_number, entry_of, by_number-set, by_number-next, numbered-set, numbered-next, at-by_number, at-by_number_free, slot_of, length-by_number, count_by-by_number}
@@ -225,3 +225,20 @@ module _ (inside : Inside) (num : AreNumbered inside.slots.slots (inside.created
     -- which has as many parameters
     pub written-alike : AreAlike inside.unset.last inside.slots.slots → now.parameters.last ≡ was.1.parameters.last → AreAlike inside.unset.last (set inside.slots.slots tx.place (Some (was.0, now)))
     written-alike alike same = alike-set inside.unset.last inside.slots.slots tx.place (Some (was.0, now)) alike (λ b is. ap (λ (a : ℕ × Kept). a.1.parameters.last) (sym (same_slot (was.0, now) b is)) ∙ same ∙ alike tx.place was there)
+
+    -- all else stays
+    pub written-rest : KeepsRest p (population_of (with_value inside.slots tx.place (was.0, now)) (inside.created + 1) inside.unset.last)
+    written-rest = record {
+      places = written-places;
+      room = omega (arith, written-len, ap (λ (q : Population). q.room) is);
+      last = ap (λ (q : Population). q.last) is;
+      made = written-length;
+      live = written-live;
+      sound = sound (with_value inside.slots tx.place (was.0, now)) inside.created inside.unset.last written-numbered;
+    }
+
+    -- what holds of the fields holds still, where these are the counts then
+    pub written-fields : (here : List ℕ) → slab_len inside.slots ≤ inside.slots.capacity → AreCounted here (put None p.txs tx.number (Some (live_as now))) → AreAlike inside.unset.last inside.slots.slots → now.parameters.last ≡ was.1.parameters.last
+        → AreNumbered (set inside.slots.slots tx.place (Some (was.0, now))) (inside.created + 1) × (slab_len (with_value inside.slots tx.place (was.0, now)) ≤ inside.slots.capacity)
+        × AreCounted here (by_number (λ place kept. live_as kept) (inside.created + 1) 0 (set inside.slots.slots tx.place (Some (was.0, now)))) × AreAlike inside.unset.last (set inside.slots.slots tx.place (Some (was.0, now)))
+    written-fields here room counted alike same = (written-numbered, omega (arith, written-len, room), subst (AreCounted here) (sym written-txs) counted, written-alike alike same)

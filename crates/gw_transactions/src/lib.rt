@@ -83,7 +83,7 @@ impl Model for Transactions {
 }
 
 impl Transactions {
-    ghost use Rattle.gw_transactions.specs.Transactions.{Holds, KeepsHandles, KeepsOtherHandles, IsSound, made_with, attributes_at, put_attributes, chain_of, put_chain, kept_of, put_parameter, listed, live_count, here_count};
+    ghost use Rattle.gw_transactions.specs.Transactions.{Holds, KeepsHandles, KeepsOtherHandles, KeepsRest, IsSound, with_newcomer, with_place, attributes_at, put_attributes, chain_of, put_chain, kept_of, put_parameter, listed, live_count, here_count};
 
     /// None yet: the first number is 1. Each will have as many parameters. It takes memory for the counts of `here`, and none
     /// for transactions.
@@ -205,8 +205,8 @@ impl Transactions {
         requires parameters { parameters.last ≡ self.old.last }
         requires few { length self.old.txs < 2 ^ 62 }
         ensures number { result.number ≡ length self.old.txs }
-        ensures txs { self.new.txs ≡ put None self.old.txs (length self.old.txs) (Some (made_with parameters.values transaction)) }
-        ensures places { self.new.places ≡ put None self.old.places (length self.old.txs) (Some result.place) }
+        ensures txs { self.new.txs ≡ with_newcomer parameters.values transaction self.old }
+        ensures places { self.new.places ≡ with_place result.place self.old }
         ensures room { self.old.room ≤ self.new.room + 1 }
         ensures last { self.new.last ≡ self.old.last }
 
@@ -244,15 +244,8 @@ impl Transactions {
         requires held { Holds self.old tx }
         requires block { transaction.current ≤ 4096 }
         ensures txs { self.new.txs ≡ put_attributes tx.number transaction self.old.txs }
-        ensures places { self.new.places ≡ self.old.places }
-        ensures room { self.old.room ≤ self.new.room }
-        ensures last { self.new.last ≡ self.old.last }
-
-        // What follows for callers.
-        ensures made { length self.new.txs ≡ length self.old.txs }
-        ensures live { live_count self.new.txs ≡ live_count self.old.txs }
+        ensures rest { KeepsRest self.old self.new }
         ensures handles { KeepsHandles self.old self.new }
-        ensures sound { IsSound self.new }
     {
         let was = self.slots[tx.place].1.attributes.current;
         self.slots[tx.place].1.attributes = transaction;
@@ -273,15 +266,8 @@ impl Transactions {
     pub fn put_chain(&mut self, tx: Tx, chain: Option<u16>)
         requires { Holds self.old tx }
         ensures txs { self.new.txs ≡ put_chain tx.number chain self.old.txs }
-        ensures places { self.new.places ≡ self.old.places }
-        ensures room { self.old.room ≤ self.new.room }
-        ensures last { self.new.last ≡ self.old.last }
-
-        // What follows for callers.
-        ensures made { length self.new.txs ≡ length self.old.txs }
-        ensures live { live_count self.new.txs ≡ live_count self.old.txs }
+        ensures rest { KeepsRest self.old self.new }
         ensures handles { KeepsHandles self.old self.new }
-        ensures sound { IsSound self.new }
     {
         self.slots[tx.place].1.chain = chain;
     }
@@ -299,15 +285,8 @@ impl Transactions {
         requires held { Holds self.old tx }
         requires number { (1 ≤ number) × (number ≤ self.old.last) }
         ensures txs { self.new.txs ≡ put_parameter tx.number number value self.old.txs }
-        ensures places { self.new.places ≡ self.old.places }
-        ensures room { self.old.room ≤ self.new.room }
-        ensures last { self.new.last ≡ self.old.last }
-
-        // What follows for callers.
-        ensures made { length self.new.txs ≡ length self.old.txs }
-        ensures live { live_count self.new.txs ≡ live_count self.old.txs }
+        ensures rest { KeepsRest self.old self.new }
         ensures handles { KeepsHandles self.old self.new }
-        ensures sound { IsSound self.new }
     {
         self.slots[tx.place].1.parameters.set(number, value);
     }

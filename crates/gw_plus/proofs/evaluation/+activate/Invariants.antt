@@ -7,7 +7,8 @@ abbrev pub decreases-activate : goal.decreases-activate
 decreases-activate l = l.number
 
 abbrev pub invariant-loop-called : goal.invariant-loop-called
-invariant-loop-called l = Standing l.parts (environment_of l.env) l.number l.code l.fn.locals.items (frame_of l.activation)
+invariant-loop-called l =
+    Standing l.parts (environment_of l.env) l.number l.code l.fn.locals.items (frame_of l.activation)
 
 abbrev pub decreases-loop-called : goal.decreases-loop-called
 decreases-loop-called l = left l.parts l.code (frame_of l.activation)

@@ -98,6 +98,6 @@ loop-tx-preserved c =
 pub returns : goal.returns
 returns c =
     let steady = c.loop-tx.invariant.steady in (
-      sym (walk-ends c.args.blocks.now (length c.loop-tx.self.facilities.facilities) c.args.e (at 0 c.loop-tx.self.waits.places c.args.e) c.loop-tx.self steady.fit c.in_default.ensures) ∙ c.loop-tx.invariant.walk,
+      sym (walk-ends c.args.blocks.now (length c.loop-tx.self.facilities.values) c.args.e (at 0 c.loop-tx.self.waits.places c.args.e) c.loop-tx.self steady.fit c.in_default.ensures) ∙ c.loop-tx.invariant.walk,
       c.loop-tx.invariant.slots,
     )

@@ -22,9 +22,11 @@ rank c = priority-found (shown c.self.inside).transactions.txs c.finish.result.f
 pub returns-clause-state : goal.returns-clause-state
 returns-clause-state c =
     rw (← c.self.view_is) (
-    state-assembled (shown c.self.inside) c.self.invariant c.args.assembly (rw (← c.self.view_is) at c.requires.there) c.finish.result c.finish.ensures.value c.get.result.now.priority (rank c) c.insert_behind.new.self.items (joined c) c.finish.new.self.items c.finish.ensures.items)
+      state-assembled (shown c.self.inside) c.self.invariant c.args.assembly (rw (← c.self.view_is) at c.requires.there) c.finish.result c.finish.ensures.value c.get.result.now.priority (rank c) c.insert_behind.new.self.items (joined c) c.finish.new.self.items c.finish.ensures.items,
+      refl,
+    )
 
 pub invariant_of-self : goal.invariant_of-self
 invariant_of-self c =
     linked-assembled (shown c.self.inside) c.self.invariant c.args.assembly (rw (← c.self.view_is) at c.requires.there) c.finish.result c.finish.ensures.value c.get.result.now.priority (rank c) c.insert_behind.new.self.items (joined c) c.finish.new.self.items c.finish.ensures.items
-    _ refl refl refl refl refl refl refl refl refl refl refl (rw (← c.self.view_is) at (returns-clause-state c))
+    _ refl refl refl refl refl refl refl refl refl refl refl ((rw (← c.self.view_is) at (returns-clause-state c)).0)

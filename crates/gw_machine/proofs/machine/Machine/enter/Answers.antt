@@ -14,7 +14,7 @@ pub returns-clause-state : goal.returns-clause-state
 returns-clause-state c = rw (← c.self.view_is) (search rules)
 
 pub invariant_of-self : goal.invariant_of-self
-invariant_of-self c = linked-entered (shown c.self.inside) _ c.args.tx c.args.transaction c.args.next c.set.ensures.txs c.set.ensures.places c.set.ensures.last c.set.ensures.sound refl refl refl (record { waits = refl; assemblies = refl; chains = refl; facilities = refl; storages = refl; queues = refl; clock = refl }) (rw (← c.self.view_is) at (returns-clause-state c)) c.requires.block.1 (rw (← c.self.view_is) at c.requires.rank) c.self.invariant
+invariant_of-self c = linked-entered (shown c.self.inside) _ c.args.tx c.args.transaction c.args.next c.set.ensures.txs c.set.ensures.rest.places c.set.ensures.rest.last c.set.ensures.rest.sound refl refl refl (record { waits = refl; assemblies = refl; chains = refl; facilities = refl; storages = refl; queues = refl; clock = refl }) (rw (← c.self.view_is) at (returns-clause-state c)) c.requires.block.1 (rw (← c.self.view_is) at c.requires.rank) c.self.invariant
 
 pub returns-clause-rank : goal.returns-clause-rank
 returns-clause-rank c =

@@ -14,7 +14,7 @@ returns-clause-state c = rw (← c.self.view_is) (search rules)
 
 pub invariant_of-self : goal.invariant_of-self
 invariant_of-self c =
-    linked-ranked (shown c.self.inside) _ c.args.tx (record c.args.transaction { priority = c.args.priority }) (c.args.transaction.next + 1) (written c) c.set.ensures.places c.set.ensures.last c.set.ensures.sound
+    linked-ranked (shown c.self.inside) _ c.args.tx (record c.args.transaction { priority = c.args.priority }) (c.args.transaction.next + 1) (written c) c.set.ensures.rest.places c.set.ensures.rest.last c.set.ensures.rest.sound
     (rw (← c.self.view_is) at c.requires.active) (rw (← c.self.view_is) at c.requires.held) refl refl refl (record { waits = refl; assemblies = refl; chains = refl; facilities = refl; storages = refl; queues = refl; clock = refl }) (rw (← c.self.view_is) at (returns-clause-state c)) c.requires.block.1 c.self.invariant
 
 pub returns-clause-rank : goal.returns-clause-rank

@@ -7,7 +7,10 @@ use Rattle.gw_chains.specs.declared.tx.Event.{Event}
 use Rattle.gw_step.specs.Changes.{time_passes}
 use Rattle.gw_machine.specs.View.{entities_of}
 use Rattle.gw_machine.specs.Coherence.{ranked}
-use Rattle.gw_entities.specs.Table.{FacilityTable, StorageTable, QueueTable}
+use Rattle.gw_entities.specs.declared.facilities.Facility.{Facility}
+use Rattle.gw_entities.specs.declared.storages.Storage.{Storage}
+use Rattle.gw_entities.specs.declared.contents.Contents.{Contents}
+use Rattle.gw_entities.specs.Numbered.{ByNumber}
 use Rattle.gw_machine.proofs.Due.{state-moved, linked-moved, entities-passed, count-passed}
 use Rattle.gw_machine.specs.Shown.{shown}
 use Rattle.gw_machine.proofs.machine.Machine.move_clock.Goals as goal
@@ -23,7 +26,7 @@ left c = let fits = c.ranges.time in simp to_z-of_z at c.move_due.ensures.future
 time_is : (c : goal.After-self-1) → c.abs_diff-passed.result ≡ unsigned_abs (c.args.time -ℤ (shown c.self.inside).clock)
 time_is c = search rules
 
-entities : (c : goal.After-self-1) → record (entities_of (shown c.self.inside)) { facilities = c.pass_time.new.self.facilities; storages = c.pass_time-2.new.self.storages; queues = c.pass_time-3.new.self.queues } ≡ time_passes (unsigned_abs (c.args.time -ℤ (shown c.self.inside).clock)) (entities_of (shown c.self.inside))
+entities : (c : goal.After-self-1) → record (entities_of (shown c.self.inside)) { facilities = c.pass_time.new.self.values; storages = c.pass_time-2.new.self.values; queues = c.pass_time-3.new.self.values } ≡ time_passes (unsigned_abs (c.args.time -ℤ (shown c.self.inside).clock)) (entities_of (shown c.self.inside))
 entities c =
     entities-passed (shown c.self.inside) c.abs_diff-passed.result c.pass_time.new.self c.pass_time-2.new.self c.pass_time-3.new.self c.pass_time.ensures c.pass_time-2.ensures c.pass_time-3.ensures
     ∙ ap (λ dt. time_passes dt (entities_of (shown c.self.inside))) (time_is c)
@@ -42,8 +45,8 @@ invariant_of-self c =
     linked-moved (shown c.self.inside) c.args.time c.move_due.new.current_events.items c.move_due.new.future_events.items _ c.self.invariant (joined c) (left c) (entities c) _ refl refl refl refl refl refl refl
     (count-passed (shown c.self.inside) c.abs_diff-passed.result c.pass_time.new.self c.pass_time.ensures)
     (record {
-      facilities = simp to_z-of_z (omega (arith, ints, timed.facilities, ap (λ (f : FacilityTable). f.passed) c.pass_time.ensures, dt));
-      storages = simp to_z-of_z (omega (arith, ints, timed.storages, ap (λ (s : StorageTable). s.passed) c.pass_time-2.ensures, dt));
-      queues = simp to_z-of_z (omega (arith, ints, timed.queues, ap (λ (q : QueueTable). q.passed) c.pass_time-3.ensures, dt));
+      facilities = simp to_z-of_z (omega (arith, ints, timed.facilities, ap (λ (f : ByNumber Facility). f.passed) c.pass_time.ensures, dt));
+      storages = simp to_z-of_z (omega (arith, ints, timed.storages, ap (λ (s : ByNumber Storage). s.passed) c.pass_time-2.ensures, dt));
+      queues = simp to_z-of_z (omega (arith, ints, timed.queues, ap (λ (q : ByNumber Contents). q.passed) c.pass_time-3.ensures, dt));
     })
     ((rw (← c.self.view_is) at (returns-clause-state c)).0)

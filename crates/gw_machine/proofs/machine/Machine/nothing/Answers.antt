@@ -26,10 +26,10 @@ made c = record {
   savevalues = c.in_ok-tables.tables.savevalues;
   tables = c.in_ok-tables.tables.tables;
   entries = c.in_ok-entries.entries.items;
-  ended = None;
+  ended = c.args.ended;
 }
 
-begins : (c : goal.After-new-6) → Begins c.args.object.now c.args.count c.args.streams (made c)
+begins : (c : goal.After-new-6) → Begins c.args.object.now c.args.count c.args.streams c.args.ended (made c)
 begins c = record {
   clock = refl;
   count = search rules;
@@ -46,21 +46,16 @@ begins c = record {
   assemblies = c.new-6.ensures;
   chains = search rules;
   stir = refl;
-  facilities = c.in_ok-tables.ensures.facilities;
-  storages = c.in_ok-tables.ensures.storages;
-  queues = c.in_ok-tables.ensures.queues;
-  switches = c.in_ok-tables.ensures.switches;
-  savevalues = c.in_ok-tables.ensures.savevalues;
-  tables = c.in_ok-tables.ensures.tables;
+  tables = c.in_ok-tables.ensures;
   entries = search rules;
   ended = refl;
 }
 
 pub returns-clause-state : goal.returns-clause-state
-returns-clause-state c = state-nothing c.args.object.now c.args.count c.args.streams (made c) (begins c)
+returns-clause-state c = state-nothing c.args.object.now c.args.count c.args.streams c.args.ended (made c) (begins c)
 
 pub invariant_of-result : goal.invariant_of-result
-invariant_of-result c = linked-nothing c.args.object.now c.args.count c.args.streams (made c) (begins c)
+invariant_of-result c = linked-nothing c.args.object.now c.args.count c.args.streams c.args.ended (made c) (begins c)
 
 pub returns-clause-readable : goal.returns-clause-readable
-returns-clause-readable c = readable-nothing c.args.object.now c.args.count c.args.streams (made c) (begins c)
+returns-clause-readable c = readable-nothing c.args.object.now c.args.count c.args.streams c.args.ended (made c) (begins c)

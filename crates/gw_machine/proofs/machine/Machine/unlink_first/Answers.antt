@@ -24,13 +24,13 @@ pub returns-in-Some-clause-state : goal.returns-in-Some-clause-state
 returns-in-Some-clause-state c =
     rw (← c.self.view_is) (
     state-unlinks (shown c.self.inside) c.self.invariant c.args.chain c.args.target (rw (← c.self.view_is) at c.requires.chain) c.in-Some.tx (sym c.in-Some.ensures.first) c.get-member.result.now c.get-member.ensures.value
-    c.set.new.self c.put_chain.new.self (written c) c.set.ensures.places c.put_chain.ensures.txs c.put_chain.ensures.places c.set.ensures.last c.put_chain.ensures.last c.put_chain.ensures.sound
+    c.set.new.self c.put_chain.new.self (written c) c.set.ensures.rest.places c.put_chain.ensures.txs c.put_chain.ensures.rest.places c.set.ensures.rest.last c.put_chain.ensures.rest.last c.put_chain.ensures.rest.sound
     c.insert_behind.new.self (joined c) c.unlink.new.self c.in-Some.ensures.lists)
 
 pub invariant_of-self : goal.invariant_of-self
 invariant_of-self c =
     linked-unlinks (shown c.self.inside) c.self.invariant c.args.chain c.args.target (rw (← c.self.view_is) at c.requires.chain) c.in-Some.tx (sym c.in-Some.ensures.first) c.get-member.result.now c.get-member.ensures.value
-    c.set.new.self c.put_chain.new.self (written c) c.set.ensures.places c.put_chain.ensures.txs c.put_chain.ensures.places c.set.ensures.last c.put_chain.ensures.last c.put_chain.ensures.sound
+    c.set.new.self c.put_chain.new.self (written c) c.set.ensures.rest.places c.put_chain.ensures.txs c.put_chain.ensures.rest.places c.set.ensures.rest.last c.put_chain.ensures.rest.last c.put_chain.ensures.rest.sound
     c.insert_behind.new.self (joined c) c.unlink.new.self c.in-Some.ensures.lists
 
 pub returns-in_default-clause-state : goal.returns-in_default-clause-state

@@ -1,12 +1,6 @@
-use Rattle.std.proofs.Common.{◌+◌, sym, ap, subst}
-use Rattle.gw_machine.specs.Configuration.{Configuration}
-use Rattle.gw_machine.specs.Coherence.{IsSteady}
-use Rattle.gw_machine.proofs.Steady.{steady-entered}
+use Rattle.gw_scan.proofs.Entering.{steady-passed}
 use Rattle.gw_scan.proofs.visit.Visit.pass_and_admit.Goals as goal
 
 pub admit-requires-clause-steady : goal.admit-requires-clause-steady
 admit-requires-clause-steady c =
-    let p = c.requires.entering in
-    let frame = c.enter.ensures.frame in
-    rw c.blocks_of.ensures (subst (λ k. IsSteady c.args.self.now.verified.now.blocks (k + 1) c.enter.new.self) (sym (ap (λ (m : Configuration). m.steps) frame))
-    (steady-entered c.args.self.now.verified.now.blocks c.args.machine.now c.enter.new.self c.args.self.now.tx c.args.self.now.transaction p.steady p.few p.next p.found c.enter.ensures.state (ap (λ (m : Configuration). m.facilities) frame)))
+    rw c.blocks_of.ensures (steady-passed c.args.self.now c.args.machine.now c.enter.new.self c.requires.entering c.enter.ensures.state c.enter.ensures.frame)

@@ -2,7 +2,7 @@ use Rattle.std.proofs.Common.{◌≡◌, map, take}
 use Rattle.std.specs.List.{All}
 use Rattle.gw_object.specs.declared.parts.Entity.{Entity}
 use Rattle.gw_entities.specs.Numbered.{IsKept, today}
-use Rattle.gw_entities.proofs.numbered.Numbered.new.Given as goal
+use Rattle.gw_entities.proofs.numbered.kept_at_start.Given as goal
 
 abbrev pub invariant-loop-entity : goal.invariant-loop-entity
 invariant-loop-entity g l = record {
