@@ -90,19 +90,19 @@ module _ (p : Parts) (w : Written) (well : IsWell p) (t : IsTableOf p w) where
       All-from_map (λ cs. All (λ b. is_call_at p.blocks b ≡ true) cs) (λ (row : ReturnRow). row.blocks) w.returns
       (subst (All (λ cs. All (λ b. is_call_at p.blocks b ≡ true) cs)) (sym t.says.returns)
       (rows_sets p.blocks (with_rows [] t.rows.blocks) t.rows.chains
-      (rows_sets p.blocks [] t.rows.blocks (All-nil (λ cs. All (λ b. is_call_at p.blocks b ≡ true) cs)) t.kept.block_calls) t.kept.chain_calls))
+      (rows_sets p.blocks [] t.rows.blocks (All-nil (λ cs. All (λ b. is_call_at p.blocks b ≡ true) cs)) t.final.kept.block_calls) t.final.kept.chain_calls))
 
   block_rows : All (λ s. IfSome s (IsRowWell p.entities (length w.returns))) w.states
   block_rows =
       list_well p.entities w.returns (length w.returns) w.states
-      (subst (All (λ r. IfSome r (IsNamed p.entities))) (sym t.says.blocks) (all_from_at (IsNamed p.entities) t.rows.blocks (λ k. t.kept.named (targets.Block (suc k)))))
+      (subst (All (λ r. IfSome r (IsNamed p.entities))) (sym t.says.blocks) (all_from_at (IsNamed p.entities) t.rows.blocks (λ k. t.final.kept.named (targets.Block (suc k)))))
       t.says.block_numbers
 
   chain_rows : (e : ℕ) → IfSome (chain_row q e) (IsRowWell p.entities (length w.returns))
   chain_rows e =
       let k = chain_place p.entities e in
       let named : IfSome (option_map (row_meaning w.returns) (option_flatten (slice_get w.chain_states k))) (IsNamed p.entities) =
-      subst (λ o. IfSome o (IsNamed p.entities)) (ap (λ (rows : List (Option Row)). option_flatten (slice_get rows k)) (sym t.says.chains) ∙ at_map w.returns w.chain_states k) (t.kept.named (targets.Chain e)) in
+      subst (λ o. IfSome o (IsNamed p.entities)) (ap (λ (rows : List (Option Row)). option_flatten (slice_get rows k)) (sym t.says.chains) ∙ at_map w.returns w.chain_states k) (t.final.kept.named (targets.Chain e)) in
       one_well p.entities w.returns (length w.returns) (option_flatten (slice_get w.chain_states k)) named (all_at (NamesRows (length w.returns)) w.chain_states k t.says.chain_numbers)
 
   pub kinds_settled : KindsPass q
@@ -112,13 +112,13 @@ module _ (p : Parts) (w : Written) (well : IsWell p) (t : IsTableOf p w) where
   rows_are = ap₂ (λ (bs cs : List (Option Row)). record { blocks = bs; chains = cs }) (sym t.says.blocks) (sym t.says.chains)
 
   pub table_settled : HasAssemblersTable p q
-  table_settled = record { rows = subst (AreSettled p) rows_are t.last; returns = t.says.returns ∙ ap sets_in rows_are }
+  table_settled = record { rows = subst (AreSettled p) rows_are t.final.table; returns = t.says.returns ∙ ap sets_in rows_are }
 
   kept : AreKept p (own_rows q)
-  kept = subst (AreKept p) rows_are t.kept
+  kept = subst (AreKept p) rows_are t.final.kept
 
   settled : IsSettled p (own_rows q)
-  settled = subst (IsSettled p) rows_are t.settled
+  settled = subst (IsSettled p) rows_are t.final.settled
 
   -- the table of another object with these blocks, as one of this object's
   other_passes : (o : Parts) → Passes p o → FlowPasses p (own_table o) × IsByPlace p (own_table o)

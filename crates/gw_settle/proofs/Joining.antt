@@ -110,23 +110,18 @@ units_joined row state e = ap (λ o. unwrap_or o 0) (entry-keep (λ x. nonzero (
 
 -- KINDS
 
-first_fits : (k l : Option ParamKind) → IsTrue (kind_fits k (joined_kind k l))
-first_fits None l = refl
-first_fits (Some Num) None = refl
-first_fits (Some Num) (Some Num) = refl
-first_fits (Some Num) (Some (Ret cs)) = refl
-first_fits (Some (Ret bs)) None = refl
-first_fits (Some (Ret bs)) (Some Num) = refl
-first_fits (Some (Ret bs)) (Some (Ret cs)) = included_from bs (united bs cs) (λ b has. in_left bs cs b has)
-
-second_fits : (k l : Option ParamKind) → IsTrue (kind_fits l (joined_kind k l))
-second_fits None l = refl
-second_fits (Some Num) None = refl
-second_fits (Some Num) (Some Num) = refl
-second_fits (Some Num) (Some (Ret cs)) = refl
-second_fits (Some (Ret bs)) None = refl
-second_fits (Some (Ret bs)) (Some Num) = refl
-second_fits (Some (Ret bs)) (Some (Ret cs)) = included_from cs (united bs cs) (λ b has. in_right bs cs b has)
+-- what a parameter holds on either way fits what it holds on each
+each_fits : (k l : Option ParamKind) → IsTrue (kind_fits k (joined_kind k l)) × IsTrue (kind_fits l (joined_kind k l))
+each_fits None l = (refl, refl)
+each_fits (Some Num) None = (refl, refl)
+each_fits (Some Num) (Some Num) = (refl, refl)
+each_fits (Some Num) (Some (Ret cs)) = (refl, refl)
+each_fits (Some (Ret bs)) None = (refl, refl)
+each_fits (Some (Ret bs)) (Some Num) = (refl, refl)
+each_fits (Some (Ret bs)) (Some (Ret cs)) = (
+  included_from bs (united bs cs) (λ b has. in_left bs cs b has),
+  included_from cs (united bs cs) (λ b has. in_right bs cs b has),
+)
 
 both_fit : (k l o : Option ParamKind) → IsTrue (kind_fits k o) → IsTrue (kind_fits l o) → IsTrue (kind_fits (joined_kind k l) o)
 both_fit k l None h g = refl
@@ -147,11 +142,11 @@ both_fit (Some (Ret bs)) (Some Num) (Some (Ret ds)) h g = absurd (false≢true g
 pub join_is_below_both : JoinIsBelowBoth
 join_is_below_both row state = (
   record {
-    params = λ p. subst (λ k. IsTrue (kind_fits (kind_of row p) k)) (sym (kind_joined row state p)) (first_fits (kind_of row p) (kind_of state p));
+    params = λ p. subst (λ k. IsTrue (kind_fits (kind_of row p) k)) (sym (kind_joined row state p)) (each_fits (kind_of row p) (kind_of state p)).0;
     units = λ e. omega (arith, units_joined row state e);
   },
   record {
-    params = λ p. subst (λ k. IsTrue (kind_fits (kind_of state p) k)) (sym (kind_joined row state p)) (second_fits (kind_of row p) (kind_of state p));
+    params = λ p. subst (λ k. IsTrue (kind_fits (kind_of state p) k)) (sym (kind_joined row state p)) (each_fits (kind_of row p) (kind_of state p)).1;
     units = λ e. omega (arith, units_joined row state e);
   },
 )

@@ -12,6 +12,7 @@ pub mod Falling
 pub mod Sent
 pub mod Marking
 pub mod Sharing
+pub mod Drafting
 pub mod Reached
 pub mod Writing
 pub mod Alike

@@ -24,7 +24,7 @@ use Rattle.gw_flow.proofs.Fitting.{fits_is_decided, fits_itself, fits_on}
 use Rattle.gw_settle.specs.declared.table.Change.{Change}
 use Rattle.gw_settle.specs.declared.table.Change.TheVariants.{Same, Less, More}
 use Rattle.gw_settle.specs.Joins.{is_within, Within, joined, with_state}
-use Rattle.gw_settle.specs.Rounds.{TableRows, rows_of, as_table, sent_at, sent_to, sent, all_sent, sends_in, sends, visited, change_of, changes_of, change_at}
+use Rattle.gw_settle.specs.Rounds.{TableRows, as_table, sent_to, sent, all_sent, sends_in, sends, visited, change_of, changes_of, change_at}
 use Rattle.gw_settle.specs.Keeps.{MayEnter, HasShape, IsWell, AreSound, IsIdle, IsIdleAt}
 use Rattle.gw_settle.specs.Marks.{is_marked, with_mark, MarksGrow, UnlinksMarked, MarksSuffice, MarksFollow}
 use Rattle.gw_settle.proofs.Joining.{join_is_below_both}
@@ -276,17 +276,6 @@ module _ (p : Parts) where
       subst (λ r. MarksFollow p marks marks (as_table p rows) (as_table p r)) (sym (same_stays p (record { code = 0; target = targets.Block (suc k); state = state }) rows (sym is))) (follow_itself marks (as_table p rows))
   follow_change state k marks rows Less lt is = follow_grown marks (set marks k true) (as_table p rows) (as_table p (sent_to p.entities state (targets.Block (suc k)) rows)) (grown_one marks marks k (grown_itself marks)) (block_sends state k marks rows lt)
   follow_change state k marks rows More lt is = follow_grown marks (set marks k true) (as_table p rows) (as_table p (sent_to p.entities state (targets.Block (suc k)) rows)) (grown_one marks marks k (grown_itself marks)) (block_sends state k marks rows lt)
-
-  pub follow_block : (state : Row) (b : ℕ) (marks after : List Bool) (rows next chains : List (Option Row)) (c : Change) → MayEnter p (targets.Block b) → length marks ≡ length p.blocks →
-      c ≡ change_of state (option_flatten (slice_get rows (b - 1))) → after ≡ with_mark c (b - 1) marks → next ≡ sent_at state (b - 1) rows →
-      MarksFollow p marks after (as_table p (rows_of rows chains)) (as_table p (rows_of next chains))
-  follow_block state zero marks after rows next chains c enters all is grown new = absurd (false≢true enters)
-  follow_block state (suc k) marks after rows next chains c enters all is grown new =
-      let place : suc k - 1 ≡ k = omega arith in
-      let changes : c ≡ change_of state (option_flatten (slice_get rows k)) = rw place at is in
-      let marked : after ≡ with_mark c k marks = rw place at grown in
-      let sent_there : next ≡ sent_at state k rows = rw place at new in
-      rw (marked, sent_there) (follow_change state k marks (rows_of rows chains) c (omega (arith, all, block_within p k enters)) changes)
 
   -- and where that of a user chain has
   chain_sends : (state : Row) (e : ℕ) (marks after : List Bool) (rows : TableRows) → UnlinksMarked p.blocks marks after → (b : ℕ) → is_marked after b ≡ false →

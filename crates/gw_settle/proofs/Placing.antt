@@ -44,9 +44,13 @@ module _ (n : ℕ) (rows next second last : List (Option Row)) where
   abbrev FallsOnAt : ℕ → Type 0
   FallsOnAt k = PlaceFallsOn n (row_in rows k) (row_in next k) (row_in second k) (row_in last k)
 
+  -- the places before one fall on
+  abbrev pub FallOnTo : ℕ → Type 0
+  FallOnTo i = (k : ℕ) → k < i → FallsOnAt k
+
   -- one place more
   pub fall_on_more : (i : ℕ) (d : Option Row) → i < length rows → length next ≡ length rows → length second ≡ length rows → length last ≡ length rows →
-      PlaceFallsOn n (get_or rows i d) (get_or next i d) (get_or second i d) (get_or last i d) → ((k : ℕ) → k < i → FallsOnAt k) → (k : ℕ) → k < i + 1 → FallsOnAt k
+      PlaceFallsOn n (get_or rows i d) (get_or next i d) (get_or second i d) (get_or last i d) → FallOnTo i → FallOnTo (i + 1)
   fall_on_more i d lt b c e here h k le =
       ⊎_elim
       (λ (q : k ≡ i).
@@ -56,7 +60,7 @@ module _ (n : ℕ) (rows next second last : List (Option Row)) where
       (cases_eq k i)
 
   -- all places
-  pub fall_on_all : (i : ℕ) → length rows ≤ i → length next ≡ length rows → ((k : ℕ) → k < i → FallsOnAt k) → PlacesFallOn n rows next second last
+  pub fall_on_all : (i : ℕ) → length rows ≤ i → length next ≡ length rows → FallOnTo i → PlacesFallOn n rows next second last
   fall_on_all i le same h k =
       ⊎_elim
       (λ (lt : k < length rows). h k (omega (arith, lt, le)))
@@ -85,10 +89,13 @@ amounts_fall_on n row next second last us is h e =
 
 -- RULES ON UNITS
 
+-- the rules of the blocks before a place are decided
+abbrev pub DecidedTo : List Block → List (Option Row) → List (Option Row) → ℕ → Type 0
+DecidedTo bs near last i = (k : ℕ) → k < i → (block : Block) → slice_get bs k ≡ Some block → IsBlockDecided block (row_in near k) (row_in last k)
+
 -- one block more
 pub decided_more : (bs : List Block) (near last : List (Option Row)) (i : ℕ) (b : Block) (x y : Option Row) → i < length near → i < length last → b ≡ get_or bs i b → x ≡ get_or near i x → y ≡ get_or last i y → IsBlockDecided b x y →
-    ((k : ℕ) → k < i → (block : Block) → slice_get bs k ≡ Some block → IsBlockDecided block (row_in near k) (row_in last k)) →
-    (k : ℕ) → k < i + 1 → (block : Block) → slice_get bs k ≡ Some block → IsBlockDecided block (row_in near k) (row_in last k)
+    DecidedTo bs near last i → DecidedTo bs near last (i + 1)
 decided_more bs near last i b x y ltn ltl eb ex ey here h k le block is =
     ⊎_elim
     (λ (q : k ≡ i).
@@ -103,7 +110,7 @@ decided_more bs near last i b x y ltn ltl eb ex ey here h k le block is =
 
 -- all blocks
 pub decided_all : (p : Parts) (near last : List (Option Row)) (i : ℕ) → length p.blocks ≤ i →
-    ((k : ℕ) → k < i → (block : Block) → slice_get p.blocks k ≡ Some block → IsBlockDecided block (row_in near k) (row_in last k)) →
+    DecidedTo p.blocks near last i →
     (b : ℕ) (block : Block) → block_at p.blocks b ≡ Some block → IsBlockDecided block (row_at near b) (row_at last b)
 decided_all p near last i le h zero block is = absurd (cc)
 decided_all p near last i le h (suc k) block is = h k (omega (arith, slice_get_within p.blocks k block is, le)) block is

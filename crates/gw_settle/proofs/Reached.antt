@@ -3,7 +3,8 @@ use Rattle.std.proofs.Common.{◌≡◌, ℕ, zero, suc, ◌+◌, length, sym, a
 use Rattle.gw_object.specs.declared.parts.Parts.{Parts}
 use Rattle.gw_settle.specs.declared.table.Change.{Change}
 use Rattle.gw_settle.specs.declared.table.Change.TheVariants.{Same}
-use Rattle.gw_settle.specs.Rounds.{TableRows, change_to, round, rounds, AreReached, AreSettled}
+use Rattle.gw_settle.specs.Rounds.{TableRows, change_to, round, rounds, AreReached}
+use Rattle.gw_settle.specs.Settles.{AreFinal}
 use Rattle.gw_settle.specs.Keeps.{IsWell, AreSound, AreKept, IsSettled}
 use Rattle.gw_settle.proofs.Kept.{start_kept, visited_keep, sound_if_kept}
 use Rattle.gw_settle.proofs.Falling.{Falls, falls_to, same_settles, same_stays}
@@ -30,13 +31,11 @@ fell p now new change well h is changes =
 pub last_same : (p : Parts) (now new : TableRows) → IsWell p → AreReached p now → new ≡ round p now → change_to p (length p.blocks) now ≡ Same → new ≡ now
 last_same p now new well h is changes = is ∙ same_stays p now well (reached_sound p now well h) changes
 
-pub settled_last : (p : Parts) (now new : TableRows) → IsWell p → AreReached p now → new ≡ round p now → change_to p (length p.blocks) now ≡ Same → AreSettled p new
-settled_last p now new well h is changes =
+pub final_last : (p : Parts) (now new : TableRows) → IsWell p → AreReached p now → new ≡ round p now → change_to p (length p.blocks) now ≡ Same → AreFinal p new
+final_last p now new well h is changes =
     let same = last_same p now new well h is changes in
-    record { count = h.0; after = same ∙ h.1; last = ap (round p) same ∙ sym is }
-
-pub kept_last : (p : Parts) (now new : TableRows) → IsWell p → AreReached p now → new ≡ round p now → change_to p (length p.blocks) now ≡ Same → AreKept p new
-kept_last p now new well h is changes = subst (AreKept p) (sym (last_same p now new well h is changes)) (reached_kept p now well h)
-
-pub idle_last : (p : Parts) (now new : TableRows) → IsWell p → AreReached p now → new ≡ round p now → change_to p (length p.blocks) now ≡ Same → IsSettled p new
-idle_last p now new well h is changes = subst (IsSettled p) (sym (last_same p now new well h is changes)) (same_settles p now well (reached_sound p now well h) changes)
+    record {
+      table = record { count = h.0; after = same ∙ h.1; last = ap (round p) same ∙ sym is };
+      kept = subst (AreKept p) (sym same) (reached_kept p now well h);
+      settled = subst (IsSettled p) (sym same) (same_settles p now well (reached_sound p now well h) changes);
+    }

@@ -1,7 +1,8 @@
 -- What a block sends, and what is written of it.
-use Rattle.std.proofs.Common.{◌≡◌, ℕ, zero, suc, List, [], ◌∷◌, ◌++◌, map, slice_set, Option, Some, None, Bool, true, false, ◌&&◌, if◌then◌else◌, refl, sym, ap, subst, append_assoc, ◌∙◌}
+use Rattle.std.proofs.Common.{◌≡◌, ℕ, zero, suc, ◌<◌, get_or, length, List, [], ◌∷◌, ◌++◌, map, slice_set, Option, Some, None, Bool, true, false, ◌&&◌, if◌then◌else◌, refl, sym, ap, subst, append_assoc, ◌∙◌}
 use Rattle.std.specs.Prelude.{slice_get, is_err, Result, Ok, Err}
 use Rattle.std.proofs.lemmas.Bool.{false≢true}
+use Rattle.std.proofs.lemmas.Option.{slice_get-get_or}
 use Rattle.std.specs.List.{list_all}
 use Rattle.gw_object.specs.declared.fault.Fault.{Fault}
 use Rattle.gw_object.specs.declared.parts.Parts.{Parts}
@@ -75,6 +76,10 @@ pub sends_are : (p : Parts) (table : Table) (b : ℕ) (block : Block) (row : Row
 sends_are p table b block row is has = rw (is, has) refl
 
 -- ONE ROW
+
+-- what is read at a place
+pub full_at : {X : Type 0} (xs : List X) (k : ℕ) (d x : X) → k < length xs → get_or xs k d ≡ x → slice_get xs k ≡ Some x
+full_at xs k d x lt is = slice_get-get_or xs k d lt ∙ ap Some is
 
 -- a row that is written where a state was sent
 pub set_is : (state : Row) (k : ℕ) (rows : List (Option Row)) (row : Option Row) → slice_get rows k ≡ Some row → slice_set rows k (Some (with_state state row)) ≡ sent_at state k rows

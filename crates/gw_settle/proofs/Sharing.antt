@@ -22,13 +22,13 @@ use Rattle.gw_settle.specs.declared.table.Change.TheVariants.{Same, Less, More}
 use Rattle.gw_settle.specs.declared.returns.Like.{Like}
 use Rattle.gw_settle.specs.Joins.{is_within, with_state}
 use Rattle.gw_settle.specs.Keeps.{MayEnter, sets_return}
-use Rattle.gw_settle.specs.Marks.{with_mark}
+use Rattle.gw_settle.specs.Marks.{MarksFollow}
 use Rattle.gw_settle.specs.Rounds.{rows_of, as_table, sent_at, all_sent, sends_in, sends, visited, change_of, followed_by, changes_of, change_at}
-use Rattle.gw_settle.specs.Versions.{IsUnused, AreOf, AreVersions, without_version, SaySameBut, Makes, IsSharing, moves_behind, sent_behind, change_behind, FollowsAt, returned, change_returned}
+use Rattle.gw_settle.specs.Versions.{IsUnused, AreOf, AreVersions, without_version, SaySameBut, Makes, IsSharing, moves_behind, sent_behind, change_behind, returned, change_returned}
 use Rattle.gw_settle.proofs.Rows.{length-changed, at_place, at_other, block_within}
 use Rattle.gw_settle.proofs.Falling.{same_rows}
 use Rattle.gw_settle.proofs.Sent.{set_is, sends_are}
-use Rattle.gw_settle.proofs.Marking.{grown_itself, follow_grown, follow_change, follow_on, sends_same}
+use Rattle.gw_settle.proofs.Marking.{grown_itself, follow_grown, sends_same}
 
 -- FILTERS
 
@@ -104,6 +104,12 @@ itself_is state k rows next lt new same =
     cc
 
 -- VERSIONS
+
+-- what is read at a place that is there, whatever is read past the last one
+pub read_or : (xs : List ℕ) (k d e : ℕ) → k < length xs → get_or xs k d ≡ get_or xs k e
+read_or [] k d e lt = absurd (omega (arith, lt))
+read_or (x ∷ xs) zero d e lt = refl
+read_or (x ∷ xs) (suc k) d e lt = read_or xs k d e (omega (arith, lt))
 
 -- a version at a place, where the rows elsewhere are as they were
 pub are_set : (row : ℕ → Row) (versions : List ℕ) (rows next : List (Option Row)) (k v : ℕ) → k < length versions → AreOf row versions rows → ((i : ℕ) → k ≢ i → slice_get next i ≡ slice_get rows i) → (v ≢ 0 → slice_get next k ≡ Some (Some (row v))) → AreOf row (set versions k v) next
@@ -267,24 +273,10 @@ module _ (q : ℕ) (state : Row) (version : ℕ) where
         (λ (other : k ≢ j). sends_same p (as_table p (rows_of rows chains)) (as_table p (rows_of (sent_at state k rows) chains)) (suc j) (ap option_flatten (at_other state k j rows other)) (λ u there. refl))
         (cases_eq k j)
 
-    pub quiet_follows : (p : Parts) (marks : List Bool) (next : List (Option Row)) → like.change ≢ Same → like.alone ≡ true → sets_return (slice_get p.blocks k) q ≡ true → next ≡ slice_set rows k (Some state) → FollowsAt p marks marks rows next
+    pub quiet_follows : (p : Parts) (marks : List Bool) (next : List (Option Row)) → like.change ≢ Same → like.alone ≡ true → sets_return (slice_get p.blocks k) q ≡ true → next ≡ slice_set rows k (Some state) → (chains : List (Option Row)) → MarksFollow p marks marks (as_table p (rows_of rows chains)) (as_table p (rows_of next chains))
     quiet_follows p marks next ne alone sets new chains =
         let sent_there : next ≡ sent_at state k rows = new ∙ like_set ne in
         rw sent_there (follow_grown p marks marks (as_table p (rows_of rows chains)) (as_table p (rows_of (sent_at state k rows) chains)) (grown_itself marks) (λ b unmarked. quiet_sends p chains ne alone sets b))
-
--- MARKS
-
-pub follows_itself : (p : Parts) (marks : List Bool) (rows : List (Option Row)) → FollowsAt p marks marks rows rows
-follows_itself p marks rows chains = follow_grown p marks marks (as_table p (rows_of rows chains)) (as_table p (rows_of rows chains)) (grown_itself marks) (λ b unmarked. refl)
-
-pub follows_change : (p : Parts) (marks after : List Bool) (rows next : List (Option Row)) (state : Row) (k : ℕ) (c : Change) → k < length marks → c ≡ change_of state (option_flatten (slice_get rows k)) → after ≡ with_mark c k marks → next ≡ sent_at state k rows → FollowsAt p marks after rows next
-follows_change p marks after rows next state k c lt is grown new chains = rw (grown, new) (follow_change p state k marks (rows_of rows chains) c lt is)
-
-pub follows_on : (p : Parts) (a b c : List Bool) (r s t : List (Option Row)) → FollowsAt p a b r s → FollowsAt p b c s t → FollowsAt p a c r t
-follows_on p a b c r s t h g chains = follow_on p a b c (as_table p (rows_of r chains)) (as_table p (rows_of s chains)) (as_table p (rows_of t chains)) (h chains) (g chains)
-
-pub follows_length : (p : Parts) (a b : List Bool) (r s : List (Option Row)) → FollowsAt p a b r s → length b ≡ length a
-follows_length p a b r s h = (h []).length
 
 -- A VISIT
 

@@ -1,5 +1,5 @@
 -- Rows whose amounts fall by as much in each round.
-use Rattle.std.proofs.Common.{◌≡◌, ⊎_elim, ℕ, zero, suc, ◌+◌, ◌-◌, ◌*◌, ◌≤◌, ◌<◌, ◌≢◌, List, [], ◌∷◌, length, Option, Some, None, refl, sym, ap, ap₂, subst, ◌∙◌, arith, suc-mul, zero-mul, mul-le-mul_right}
+use Rattle.std.proofs.Common.{◌≡◌, ⊎_elim, ℕ, zero, suc, ◌+◌, ◌-◌, ◌*◌, ◌≤◌, ◌<◌, ◌≢◌, List, [], ◌∷◌, ◌++◌, drop, length, Option, Some, None, refl, sym, ap, ap₂, subst, ◌∙◌, arith, suc-mul, zero-mul, mul-le-mul_right}
 use Rattle.std.specs.Prelude.{All, IfSome, unwrap_or}
 use Rattle.std.proofs.lemmas.Bool.{cases_lt}
 use Rattle.std.proofs.lemmas.List.{length-map}
@@ -168,6 +168,10 @@ course_in_after (row ∷ rows) [] zero = refl
 course_in_after (row ∷ rows) [] (suc i) = course_in_after rows [] i
 course_in_after (row ∷ rows) (next ∷ nexts) zero = refl
 course_in_after (row ∷ rows) (next ∷ nexts) (suc i) = course_in_after rows nexts i
+
+-- the rows that were made so far, and those of what is left, are all
+abbrev pub PlacesSoFar : ℕ → List (Option Row) → List (Option Row) → List (Option Row) → ℕ → Type 0
+PlacesSoFar t rows nexts all i = all ++ places_after t (drop i rows) (drop i nexts) ≡ places_after t rows nexts
 
 pub row_in_after : (t : ℕ) (rows nexts : List (Option Row)) (i : ℕ) → row_in (places_after t rows nexts) i ≡ place_after t (row_in rows i) (row_in nexts i)
 row_in_after t [] nexts i = refl

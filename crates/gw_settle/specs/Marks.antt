@@ -32,6 +32,10 @@ pub record UnlinksMarked (bs : List Block) (before marks : List Bool) : Type 0 w
   pub grow : MarksGrow before marks
   pub marked : (b : ℕ) (u : Unlink) → block_at bs b ≡ Some (blocks.Unlink u) → is_marked marks b ≡ true
 
+-- nothing has changed, and no mark has; or each UNLINK is marked
+abbrev pub UnlinksFollow : List Block → List Bool → List Bool → Change → Type 0
+UnlinksFollow bs before marks change = ((change ≡ Same) × (marks ≡ before)) ⊎ UnlinksMarked bs before marks
+
 -- each block is marked, or sends nothing that changes these rows
 pub record MarksSuffice (p : Parts) (marks : List Bool) (rows : TableRows) : Type 0 where
   pub length : length marks ≡ length p.blocks

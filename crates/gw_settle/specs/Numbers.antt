@@ -1,18 +1,25 @@
 -- The return rows of a state table: its sets of blocks, in order of first sight.
-use Rattle.std.specs.Prelude.{ℕ, List, [], ◌∷◌, ◌++◌, map, Option, Some, None, if◌then◌else◌, nat_eq}
+use Rattle.std.specs.Prelude.{◌≡◌, ℕ, Bool, List, [], ◌∷◌, ◌++◌, map, Option, Some, None, if◌then◌else◌, nat_eq}
 use Rattle.std.specs.List.{list_any, fold}
 use Rattle.std.specs.Cmp.Lexicographic.{pointwise}
 use Rattle.gw_object.specs.declared.parts.ReturnRow.{ReturnRow}
 use Rattle.gw_flow.specs.Rows.{ParamKind, Num, Ret, Row}
+use Rattle.gw_settle.specs.declared.known.KnownKind.{KnownKind}
+use Rattle.gw_settle.specs.declared.known.KnownParam.{KnownParam}
+use Rattle.gw_settle.specs.Known.{kind_known, params_known}
 use Rattle.gw_settle.specs.Rounds.{TableRows}
 
 -- the sets of return rows
 abbrev pub sets_of : List ReturnRow → List (List ℕ)
 sets_of returns = map (λ (row : ReturnRow). row.blocks) returns
 
+-- whether a set is among these
+abbrev pub has_set : List (List ℕ) → List ℕ → Bool
+has_set sets bs = list_any (λ cs. pointwise nat_eq cs bs) sets
+
 -- sets with one more, unless it is among them
 abbrev pub with_set : List (List ℕ) → List ℕ → List (List ℕ)
-with_set sets bs = if list_any (λ cs. pointwise nat_eq cs bs) sets then sets else sets ++ bs ∷ []
+with_set sets bs = if has_set sets bs then sets else sets ++ bs ∷ []
 
 -- with that of what a parameter holds, if it holds a return
 abbrev pub with_kind : List (List ℕ) → ParamKind → List (List ℕ)
@@ -35,3 +42,25 @@ with_rows sets rows = fold with_row sets rows
 -- the sets of a table: of the blocks' rows, and then of the user chains'
 abbrev pub sets_in : TableRows → List (List ℕ)
 sets_in rows = with_rows (with_rows [] rows.blocks) rows.chains
+
+-- RETURN ROWS
+
+-- return rows become others, with one of these blocks
+abbrev pub AddsSet : List ℕ → List ReturnRow → List ReturnRow → Type 0
+AddsSet bs old new = sets_of new ≡ with_set (sets_of old) bs
+
+-- with that of what a parameter holds
+abbrev pub AddsKind : KnownKind → List ReturnRow → List ReturnRow → Type 0
+AddsKind kind old new = sets_of new ≡ with_kind (sets_of old) (kind_known kind)
+
+-- with those of parameters
+abbrev pub AddsParams : List KnownParam → List ReturnRow → List ReturnRow → Type 0
+AddsParams params old new = sets_of new ≡ with_params (sets_of old) (params_known params)
+
+-- with those of a row, if there is one
+abbrev pub AddsRow : Option Row → List ReturnRow → List ReturnRow → Type 0
+AddsRow row old new = sets_of new ≡ with_row (sets_of old) row
+
+-- with those of rows
+abbrev pub AddsRows : List (Option Row) → List ReturnRow → List ReturnRow → Type 0
+AddsRows rows old new = sets_of new ≡ with_rows (sets_of old) rows

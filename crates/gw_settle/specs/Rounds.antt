@@ -32,6 +32,10 @@ rows_of blocks chains = record { blocks = blocks; chains = chains }
 abbrev pub as_table : Parts → TableRows → Table
 as_table p rows = table_of rows.blocks p.entities rows.chains
 
+-- the rows of a table with those of its blocks changed
+abbrev pub with_blocks : (List (Option Row) → List (Option Row)) → TableRows → TableRows
+with_blocks f rows = record rows { blocks = f rows.blocks }
+
 -- the rows of an object's own table
 abbrev pub own_rows : Parts → TableRows
 own_rows p = record { blocks = map (option_map (row_meaning p.returns)) p.states; chains = map (option_map (row_meaning p.returns)) p.chain_states }

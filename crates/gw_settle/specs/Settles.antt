@@ -19,6 +19,10 @@ use Rattle.gw_settle.specs.Numbers.{sets_of, sets_in}
 abbrev pub with_table : Parts → List ReturnRow → List (Option TableState) → List (Option TableState) → Parts
 with_table p returns states chain_states = record p { returns = returns; states = states; chain_states = chain_states }
 
+-- an object with a written table in place of its own
+abbrev pub with_written : Parts → Written → Parts
+with_written p table = with_table p table.returns table.states table.chain_states
+
 -- an object is another one with some return rows and some state table
 abbrev pub DiffersInTable : Parts → Parts → Type 0
 DiffersInTable p q = q ≡ with_table p q.returns q.states q.chain_states
@@ -33,6 +37,10 @@ pub record Passes (p q : Parts) : Type 0 where
 pub record HasAssemblersTable (p q : Parts) : Type 0 where
   pub rows : AreSettled p (own_rows q)
   pub returns : sets_of q.returns ≡ sets_in (own_rows q)
+
+-- the first fault that flow finds in an object with its own table, or that memory ran out
+abbrev pub IsFlowFault : Parts → Fault → Type 0
+IsFlowFault p fault = (first_broken (flow_checks p (own_table p)) ≡ Some fault) ⊎ (fault ≡ out_of_memory)
 
 -- that a limit of the object format is passed
 abbrev pub past_limit : Fault
@@ -54,10 +62,14 @@ IsComplete p fault = NoneChanged p → (q : Parts) → Passes p q → IsNoFlowFa
 abbrev pub IsGreatest : Parts → Parts → Type 0
 IsGreatest p settled = NoneChanged p → (q : Parts) → Passes p q → IsTableBelow (own_table settled) (own_table q)
 
+-- rows are those of the assembler's table, the rounds have kept what they keep of them, and nothing is left to be sent
+pub record AreFinal (p : Parts) (rows : TableRows) : Type 0 where
+  pub table : AreSettled p rows
+  pub kept : AreKept p rows
+  pub settled : IsSettled p rows
+
 -- a written table is the assembler's of an object, by what the rounds keep
 pub record IsTableOf (p : Parts) (table : Written) : Type 0 where
   pub rows : TableRows
   pub says : SaysRows table rows
-  pub last : AreSettled p rows
-  pub kept : AreKept p rows
-  pub settled : IsSettled p rows
+  pub final : AreFinal p rows

@@ -5,14 +5,15 @@ use Rattle.std.specs.Option.{option_flatten}
 use Rattle.gw_object.specs.declared.parts.Parts.{Parts}
 use Rattle.gw_flow.specs.declared.edges.FlowEdge.{FlowEdge}
 use Rattle.gw_blocks.specs.declared.parts.Block.TheVariants as blocks
-use Rattle.gw_flow.specs.Rows.{Row, kind_of, return_blocks}
+use Rattle.gw_flow.specs.Rows.{Row, ParamKind, kind_of, return_blocks}
 use Rattle.gw_flow.specs.Blocks.{Rule, rules, move}
 use Rattle.gw_settle.specs.declared.table.Change.{Change}
 use Rattle.gw_settle.specs.declared.table.Change.TheVariants.{Same, Less, More}
 use Rattle.gw_settle.specs.declared.returns.Like.{Like}
+use Rattle.gw_settle.specs.declared.known.KnownParam.{KnownParam}
 use Rattle.gw_settle.specs.Joins.{with_state}
-use Rattle.gw_settle.specs.Rounds.{rows_of, as_table, sent_at, change_of, followed_by}
-use Rattle.gw_settle.specs.Marks.{MarksFollow}
+use Rattle.gw_settle.specs.Known.{params_known}
+use Rattle.gw_settle.specs.Rounds.{sent_at, change_of, followed_by}
 
 -- no row has a version, which isn't 0
 abbrev pub IsUnused : List ℕ → ℕ → Type 0
@@ -34,9 +35,21 @@ without_version Same i versions = versions
 without_version Less i versions = set versions i 0
 without_version More i versions = set versions i 0
 
+-- versions become others: where it is so, with this one at a place, from 0
+abbrev pub Sets : Bool → ℕ → ℕ → List ℕ → List ℕ → Type 0
+Sets is i version old new = new ≡ (if is then set old i version else old)
+
+-- parameters but for one
+abbrev pub params_but : ℕ → List (ℕ × ParamKind) → List (ℕ × ParamKind)
+params_but q ps = filter (λ e. not (e.0 == q)) ps
+
+-- known parameters hold the same but for one
+abbrev pub AgreeBut : ℕ → List KnownParam → List KnownParam → Type 0
+AgreeBut q params others = params_but q (params_known params) ≡ params_but q (params_known others)
+
 -- two rows say the same but for what one parameter holds
 pub record SaySameBut (q : ℕ) (row other : Row) : Type 0 where
-  pub params : filter (λ e. not (e.0 == q)) row.params ≡ filter (λ e. not (e.0 == q)) other.params
+  pub params : params_but q row.params ≡ params_but q other.params
   pub facilities : row.facilities ≡ other.facilities
   pub units : row.units ≡ other.units
 
@@ -68,10 +81,6 @@ sent_behind state (b ∷ bs) rows = sent_behind state bs (sent_at state b rows)
 abbrev pub change_behind : Row → List ℕ → List (Option Row) → Change
 change_behind state [] rows = Same
 change_behind state (b ∷ bs) rows = followed_by (change_of state (option_flatten (slice_get rows b))) (change_behind state bs (sent_at state b rows))
-
--- marks follow where these rows of blocks become those
-abbrev pub FollowsAt : Parts → List Bool → List Bool → List (Option Row) → List (Option Row) → Type 0
-FollowsAt p before marks rows next = (chains : List (Option Row)) → MarksFollow p before marks (as_table p (rows_of rows chains)) (as_table p (rows_of next chains))
 
 -- the rows of blocks once a TRANSFER in parameter mode, by this parameter, was visited in a row
 abbrev pub returned : Parts → ℕ → Row → List (Option Row) → List (Option Row)

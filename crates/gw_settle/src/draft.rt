@@ -1,11 +1,9 @@
 //! A state table in the making, with what rounds over its blocks note.
 
 ghost use Rattle.std.specs.Prelude.{◌≡◌, IfOk, length, replicate, true};
-ghost use Rattle.gw_settle.specs.Drafts.{rows_held, AreNoted, IsRound};
-ghost use Rattle.gw_settle.specs.Keeps.{IsWell, AreSound};
+ghost use Rattle.gw_settle.specs.Drafts.{rows_held, AreNoted};
 
 use crate::known::Known;
-use crate::table::{Change, round};
 use gw_object::{Memory, Parts};
 use std::alloc::Global;
 
@@ -65,25 +63,6 @@ pub(crate) fn draft_of(alloc: Global, parts: &Parts, rows: TableRows) -> Result<
         marks,
         versions,
     })
-}
-
-/// One more round.
-pub(crate) fn next_round(alloc: Global, parts: &Parts, draft: &mut Draft) -> Result<Change, Memory>
-    requires well { IsWell parts.now }
-    requires sound { AreSound parts.now (rows_held draft.old.rows) }
-    requires noted { AreNoted parts.now draft.old }
-    ensures round { IfOk result (IsRound parts.now draft.old draft.new) }
-    ensures noted { IfOk result (λ _. AreNoted parts.now draft.new) }
-{
-    let change = round(
-        alloc,
-        parts,
-        &mut draft.rows.blocks,
-        &mut draft.rows.chains,
-        &mut draft.marks,
-        &mut draft.versions,
-    )?;
-    Ok(change)
 }
 
 /// The row at a place once more, if there is one.

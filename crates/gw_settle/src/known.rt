@@ -1,11 +1,11 @@
 //! Rows of a state table that is being computed: abstract states that own their lists.
 
-ghost use Rattle.std.specs.Prelude.{◌≡◌, ◌≢◌, ◌<◌, ◌++◌, List, IfOk, IfSome, Some, option_map, All, AllPairs, min};
-ghost use Rattle.gw_flow.specs.Entries.{entry, amount_of};
-ghost use Rattle.gw_flow.specs.Rows.{IsOrdered, KindAscends, Ret, kind_of, return_blocks, units_of, nonzero, nothing_known};
+ghost use Rattle.std.specs.Prelude.{◌≡◌, ◌≢◌, ◌<◌, List, IfOk, IfSome, Some, option_map, All, AllPairs};
+ghost use Rattle.gw_flow.specs.Rows.{IsOrdered, KindAscends, Ret, kind_of, return_blocks, units_of, nothing_known};
 ghost use Rattle.gw_flow.specs.Seen.{amounts_of};
 ghost use Rattle.gw_flow.specs.Viewed.{kind_viewed, params_viewed};
 ghost use Rattle.gw_settle.specs.Joins as model;
+ghost use Rattle.gw_settle.specs.Joins.{kind_in, kind_with, params_with, units_with, AddsJoined, AddsUnits};
 ghost use Rattle.gw_settle.specs.Jumps as jumps;
 ghost use Rattle.gw_settle.specs.Drafts.{held_units_after};
 ghost use Rattle.gw_settle.specs.Known.{kind_known, params_known, known_viewed};
@@ -143,7 +143,7 @@ fn returns_joined(
 ) -> Result<Option<KnownKind>, Memory>
     requires blocks { AllPairs (λ a b. a < b) blocks.now }
     requires others { AllPairs (λ a b. a < b) others.now }
-    ensures { IfOk result (λ kind. option_map kind_known kind ≡ Some (Ret (model.united blocks.now others.now))) }
+    ensures { IfOk result (λ k. kind_in k ≡ Some (Ret (model.united blocks.now others.now))) }
 {
     let all = united(alloc, blocks.as_slice(), others)?;
     Ok(Some(KnownKind::Ret(Items::from_vec(all))))
@@ -157,7 +157,7 @@ fn kind_joined(
 ) -> Result<Option<KnownKind>, Memory>
     requires kind { KindAscends (kind_known kind.now) }
     requires other { IfSome (option_map kind_viewed other) KindAscends }
-    ensures { IfOk result (λ joined. option_map kind_known joined ≡ model.joined_kind (Some (kind_known kind.now)) (option_map kind_viewed other.entry)) }
+    ensures { IfOk result (λ k. kind_in k ≡ kind_with kind.now other.entry) }
 {
     match kind {
         KnownKind::Num => match other {
@@ -181,7 +181,7 @@ fn push_joined(
 ) -> Result<(), Memory>
     requires kind { KindAscends (kind_known param.now.kind) }
     requires state { IsOrdered state.now }
-    ensures { IfOk result (λ _. params_known all.new.items ≡ params_known all.old.items ++ model.one param.now.number (model.joined_kind (Some (kind_known param.now.kind)) (kind_of state.now param.now.number))) }
+    ensures { IfOk result (λ _. AddsJoined param.now state.now all.old.items all.new.items) }
 {
     let number = param.number;
     match kind_joined(alloc, &param.kind, state.kind_of(number))? {
@@ -202,7 +202,7 @@ fn params_joined(
     requires params { AllPairs (λ (a b : KnownParam). a.number < b.number) params.now }
     requires kinds { All (λ (p : KnownParam). KindAscends (kind_known p.kind)) params.now }
     requires state { IsOrdered state.now }
-    ensures { IfOk result (λ all. params_known all.items ≡ model.keep (λ p. model.joined_kind (entry (params_known params.now) p) (kind_of state.now p)) (params_known params.now)) }
+    ensures { IfOk result (λ all. params_known all.items ≡ params_with params.now state.now) }
 {
     let mut all = Vec::with_capacity(alloc, params.len())?;
     for param in params {
@@ -213,7 +213,7 @@ fn params_joined(
 
 /// Adds so many units of an entity, if there are any.
 fn push_units(all: &mut Vec<Amount>, entity: u16, number: u64) -> Result<(), Memory>
-    ensures { IfOk result (λ _. amounts_of all.new.items ≡ amounts_of all.old.items ++ model.one entity (nonzero number)) }
+    ensures { IfOk result (λ _. AddsUnits entity number all.old.items all.new.items) }
 {
     if number == 0 {
         return Ok(());
@@ -225,7 +225,7 @@ fn push_units(all: &mut Vec<Amount>, entity: u16, number: u64) -> Result<(), Mem
 /// The lesser of the units of a row and of a state, of each entity of which both have some.
 fn units_joined(alloc: Global, units: &[Amount], state: &State<'_>) -> Result<Vec<Amount>, Memory>
     requires { AllPairs (λ (a b : Amount). a.entity < b.entity) units.now }
-    ensures { IfOk result (λ all. amounts_of all.items ≡ model.keep (λ e. nonzero (min (amount_of (amounts_of units.now) e) (units_of state.now e))) (amounts_of units.now)) }
+    ensures { IfOk result (λ all. amounts_of all.items ≡ units_with units.now state.now) }
 {
     let mut all = Vec::with_capacity(alloc, units.len())?;
     for amount in units {
@@ -250,7 +250,7 @@ fn units_after(
     times: u64,
 ) -> Result<Vec<Amount>, Memory>
     requires { AllPairs (λ (a b : Amount). a.entity < b.entity) units.now }
-    ensures { IfOk result (λ all. amounts_of all.items ≡ held_units_after times units.now next.now) }
+    ensures { IfOk result (λ us. amounts_of us.items ≡ held_units_after times units.now next.now) }
 {
     let mut all = Vec::with_capacity(alloc, units.len())?;
     for amount in units {
@@ -258,6 +258,19 @@ fn units_after(
         push_units(&mut all, amount.entity, number)?;
     }
     Ok(all)
+}
+
+/// Parameters, facilities and units as the lists of a row.
+fn lists_of(params: Vec<KnownParam>, facilities: Vec<u16>, units: Vec<Amount>) -> Lists
+    ensures params { result.params ≡ params.items }
+    ensures facilities { result.facilities ≡ facilities.items }
+    ensures units { result.units ≡ units.items }
+{
+    Lists {
+        params: Items::from_vec(params),
+        facilities: Items::from_vec(facilities),
+        units: Items::from_vec(units),
+    }
 }
 
 impl Known {
@@ -279,28 +292,15 @@ impl Known {
         let params = params_owned(alloc, state.params())?;
         let facilities = Vec::from_slice(alloc, state.facilities())?;
         let units = Vec::from_slice(alloc, state.units())?;
-        Known::of_lists(
-            alloc,
-            Lists {
-                params: Items::from_vec(params),
-                facilities: Items::from_vec(facilities),
-                units: Items::from_vec(units),
-            },
-        )
+        Known::of_lists(alloc, lists_of(params, facilities, units))
     }
 
     /// The row of which nothing is known, but that no facility is owned.
     pub(crate) fn nothing(alloc: Global) -> Result<Known, Memory>
         ensures { IfOk result (λ row. row ≡ nothing_known) }
     {
-        Known::of_lists(
-            alloc,
-            Lists {
-                params: Items::from_vec(Vec::new(alloc)),
-                facilities: Items::from_vec(Vec::new(alloc)),
-                units: Items::from_vec(Vec::new(alloc)),
-            },
-        )
+        let lists = lists_of(Vec::new(alloc), Vec::new(alloc), Vec::new(alloc));
+        Known::of_lists(alloc, lists)
     }
 
     /// This row once more; its lists are shared.
@@ -340,14 +340,7 @@ impl Known {
         let params = params_joined(alloc, lists.params.as_slice(), state)?;
         let facilities = Vec::from_slice(alloc, lists.facilities.as_slice())?;
         let units = units_joined(alloc, lists.units.as_slice(), state)?;
-        Known::of_lists(
-            alloc,
-            Lists {
-                params: Items::from_vec(params),
-                facilities: Items::from_vec(facilities),
-                units: Items::from_vec(units),
-            },
-        )
+        Known::of_lists(alloc, lists_of(params, facilities, units))
     }
 
     /// This row once its amounts have fallen so many times by as much as to the next row.

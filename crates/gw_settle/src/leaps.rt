@@ -1,17 +1,17 @@
 //! Leaps: many rounds at once, where each only lowers amounts, and as the one before it did.
 
 ghost use Rattle.std.specs.Prelude.{◌≡◌, ◌≤◌, ◌<◌, IfOk, length, false};
-ghost use Rattle.gw_settle.specs.Drafts.{rows_held, AreNoted, DraftAdvances, DraftJumps, held_after};
+ghost use Rattle.gw_settle.specs.Drafts.{rows_held, held_after, AreNoted, AreRounds, DraftAdvances, DraftJumps};
 ghost use Rattle.gw_settle.specs.Keeps.{IsWell};
-ghost use Rattle.gw_settle.specs.Rounds.{AreReached, round};
+ghost use Rattle.gw_settle.specs.Rounds.{AreReached};
 ghost use Rattle.gw_settle.specs.Jumps as model;
 
-use crate::draft::{Draft, TableRows, draft_of, next_round, rows_shared};
+use crate::draft::{Draft, TableRows, draft_of, rows_shared};
 use crate::falls::may_jump;
 use crate::known::Known;
 use crate::pace::Pace;
 use crate::returns::are_same_params;
-use crate::table::Change;
+use crate::table::{Change, next_round};
 use gw_flow::Amount;
 use gw_object::{Memory, Parts};
 use std::alloc::Global;
@@ -123,12 +123,11 @@ fn times_in(
     second: &[Option<Known>],
     most: u64,
 ) -> u64
-    requires next { length next.now ≡ length rows.now }
-    requires second { length second.now ≡ length rows.now }
     ensures { result ≤ most }
 {
+    let count = rows.len().min(next.len()).min(second.len());
     let mut times = most;
-    for i in 0..rows.len() {
+    for i in 0..count {
         times = times_at(&rows[i], &next[i], &second[i], times);
     }
     times
@@ -145,10 +144,7 @@ fn jump_over(
 ) -> Result<bool, Memory>
     requires times { 0 < times }
     requires well { IsWell parts.now }
-    requires near { AreReached parts.now (rows_held near.now) }
-    requires next { rows_held next.now ≡ round parts.now (rows_held near.now) }
-    requires second { rows_held draft.old.rows ≡ round parts.now (rows_held next.now) }
-    requires noted { AreNoted parts.now draft.old }
+    requires rounds { AreRounds parts.now near.now next.now draft.old }
     ensures rows { IfOk result (λ _. DraftJumps parts.now next.now draft.old draft.new) }
     ensures stays { IfOk result (λ jumped. jumped ≡ false → draft.new ≡ draft.old) }
     ensures noted { IfOk result (λ _. AreNoted parts.now draft.new) }
@@ -173,10 +169,7 @@ fn jump(
     pace: &mut Pace,
 ) -> Result<(), Memory>
     requires well { IsWell parts.now }
-    requires near { AreReached parts.now (rows_held near.now) }
-    requires next { rows_held next.now ≡ round parts.now (rows_held near.now) }
-    requires second { rows_held draft.old.rows ≡ round parts.now (rows_held next.now) }
-    requires noted { AreNoted parts.now draft.old }
+    requires rounds { AreRounds parts.now near.now next.now draft.old }
     ensures rows { IfOk result (λ _. DraftJumps parts.now next.now draft.old draft.new) }
     ensures noted { IfOk result (λ _. AreNoted parts.now draft.new) }
 {
@@ -199,8 +192,8 @@ fn jump(
     Ok(())
 }
 
-/// Makes two rounds, and then a jump, if they lower amounts alone and alike.
-pub(crate) fn leap(
+/// One more round, or, where a leap is due, two rounds, and then a jump, if they lower amounts alone and alike.
+pub(crate) fn advance(
     alloc: Global,
     parts: &Parts,
     draft: &mut Draft,
@@ -212,6 +205,9 @@ pub(crate) fn leap(
     ensures rows { IfOk result (DraftAdvances parts.now draft.old draft.new) }
     ensures noted { IfOk result (λ _. AreNoted parts.now draft.new) }
 {
+    if !pace.is_due() {
+        return next_round(alloc, parts, draft);
+    }
     let near = rows_shared(alloc, &draft.rows)?;
     let first = next_round(alloc, parts, draft)?;
     if first != Change::Less {

@@ -1,21 +1,18 @@
 //! Visits of TRANSFERs in parameter mode: each sends its own row on behind every block to which its parameter may return,
 //! and most of these places have one row. So rows that say the same share a version, and what was made of one is made of all.
 
-ghost use Rattle.std.specs.Prelude.{◌≡◌, ◌≢◌, ◌<◌, All, IfOk, IsSomeAnd, Some, true, length, filter, get_or, set, slice_get, not, ◌==◌, ◌&&◌, if◌then◌else◌};
-ghost use Rattle.std.specs.List.{list_all};
-ghost use Rattle.std.specs.Option.{option_flatten};
-ghost use Rattle.gw_blocks.specs.declared.parts.Block.TheVariants as all_blocks;
-ghost use Rattle.gw_flow.specs.Blocks.{Rule, rules as rules_of};
-ghost use Rattle.gw_flow.specs.Rows.{kind_of, return_blocks};
+ghost use Rattle.std.specs.Prelude.{◌≡◌, ◌≢◌, ◌<◌, All, IfOk, Some, true, length, get_or, slice_get, ◌&&◌};
 ghost use Rattle.gw_flow.specs.Seen.{amounts_of};
+ghost use Rattle.gw_settle.specs.Drafts.{HasBlocks, IsSentAt, IsSentBehind, IsReturn, IsRowSent, NotesGoOn, CallersAreThere, AreShared, MakesOf, IsMarkedAt};
 ghost use Rattle.gw_settle.specs.Joins.{with_state};
+ghost use Rattle.gw_settle.specs.Jumps.{row_in};
 ghost use Rattle.gw_settle.specs.Keeps.{sets_return};
 ghost use Rattle.gw_settle.specs.Known.{kind_known, params_known};
-ghost use Rattle.gw_settle.specs.Marks.{with_mark};
-ghost use Rattle.gw_settle.specs.Rounds.{sent_at, change_of};
+ghost use Rattle.gw_settle.specs.Rounds.{change_of};
 ghost use Rattle.gw_settle.specs.Versions as model;
-ghost use Rattle.gw_settle.specs.Versions.{AreVersions, IsSharing, SaySameBut, Makes, FollowsAt};
+ghost use Rattle.gw_settle.specs.Versions.{AreVersions, SaySameBut, AgreeBut, Sets};
 
+use crate::draft::Draft;
 use crate::known::{Known, KnownKind, KnownParam};
 use crate::table::{Change, followed_by, note, row_shared, send_at};
 use gw_blocks::Block;
@@ -43,13 +40,13 @@ const NO_LIKE: Like = Like {
 
 /// A row that is sent as it is.
 #[derive(Clone, Copy)]
-struct Sent<'r> {
+pub(crate) struct Sent<'r> {
     /// The row.
-    row: &'r Known,
+    pub row: &'r Known,
     /// The parameter that holds the return by which it is sent.
-    parameter: u8,
+    pub parameter: u8,
     /// The version of rows that say the same as it; 0 is none.
-    version: u64,
+    pub version: u64,
 }
 
 /// Whether a parameter holds the same.
@@ -85,7 +82,7 @@ pub(crate) fn are_same_params(params: &[KnownParam], others: &[KnownParam]) -> b
 
 /// Whether the same parameters hold the same, but for one of this number.
 fn are_same_params_but(parameter: u8, params: &[KnownParam], others: &[KnownParam]) -> bool
-    ensures { result ≡ true → filter (λ e. not (e.0 == parameter)) (params_known params.now) ≡ filter (λ e. not (e.0 == parameter)) (params_known others.now) }
+    ensures { result ≡ true → AgreeBut parameter params.now others.now }
 {
     if params.len() != others.len() {
         return false;
@@ -170,7 +167,8 @@ fn like_of(
 ) -> Like
     requires change { change ≡ change_of sent.row.now before.now }
     requires itself { itself ≡ true → with_state sent.row.now before.now ≡ sent.row.now }
-    ensures { result.version ≢ 0 → (result.version ≡ version × IsSomeAnd before.now (Makes sent.entry.parameter sent.entry.row.now result)) }
+    ensures version { result.version ≢ 0 → result.version ≡ version }
+    ensures makes { result.version ≢ 0 → MakesOf sent.entry before.now result }
 {
     let Some(old) = before else {
         return NO_LIKE;
@@ -200,11 +198,11 @@ fn share_version(
     change: Change,
     place: usize,
     blocks: &[Option<Known>],
-    versions: &mut [u64],
+    versions: &mut Vec<u64>,
 ) -> bool
-    requires place { place < length versions.old }
-    ensures same { result ≡ true → option_flatten (slice_get blocks.now place) ≡ Some sent.entry.row.now }
-    ensures versions { versions.new ≡ (if result then set versions.old place sent.entry.version else versions.old) }
+    requires place { place < length versions.old.items }
+    ensures same { result ≡ true → row_in blocks.now place ≡ Some sent.entry.row.now }
+    ensures versions { Sets result place sent.entry.version versions.old.items versions.new.items }
 {
     if change == Change::Same {
         return false;
@@ -225,24 +223,21 @@ fn send_first(
     sent: Sent<'_>,
     place: usize,
     like: &mut Like,
-    blocks: &mut [Option<Known>],
-    marks: &mut [bool],
-    versions: &mut [u64],
+    draft: &mut Draft,
 ) -> Result<Change, Memory>
-    requires place { place < length blocks.old }
-    requires marks { length marks.old ≡ length blocks.old }
-    requires versions { IsSharing sent.parameter sent.row.now sent.version like.old versions.old blocks.old }
-    ensures rows { IfOk result (λ _. blocks.new ≡ sent_at sent.entry.row.now place blocks.old) }
-    ensures change { IfOk result (λ change. change ≡ change_of sent.entry.row.now (option_flatten (slice_get blocks.old place))) }
-    ensures marks { IfOk result (λ change. marks.new ≡ with_mark change place marks.old) }
-    ensures versions { IfOk result (λ _. IsSharing sent.entry.parameter sent.entry.row.now sent.entry.version like.new versions.new blocks.new) }
+    requires place { place < length draft.old.rows.blocks.items }
+    requires mark { place < length draft.old.marks.items }
+    requires versions { AreShared sent like.old draft.old }
+    ensures sent { IfOk result (IsSentAt sent.entry.row.now place draft.old draft.new) }
+    ensures marks { IfOk result (IsMarkedAt place draft.old draft.new) }
+    ensures versions { IfOk result (λ _. AreShared sent.entry like.new draft.new) }
 {
-    let version = versions[place];
-    let before = row_shared(blocks, place)?;
+    let version = draft.versions[place];
+    let before = row_shared(&draft.rows.blocks, place)?;
     let state = sent.row.lent(alloc)?;
-    let change = send_at(alloc, &state, place, blocks)?;
-    note(change, place, marks, versions);
-    let itself = share_version(sent, change, place, blocks, versions);
+    let change = send_at(alloc, &state, place, &mut draft.rows.blocks)?;
+    note(change, place, &mut draft.marks, &mut draft.versions);
+    let itself = share_version(sent, change, place, &draft.rows.blocks, &mut draft.versions);
     *like = like_of(sent, &before, version, change, itself);
     Ok(change)
 }
@@ -262,28 +257,22 @@ fn send_like(
     sent: Sent<'_>,
     place: usize,
     like: Like,
-    blocks: &mut [Option<Known>],
-    marks: &mut [bool],
-    versions: &mut [u64],
+    draft: &mut Draft,
 ) -> Result<Change, Memory>
-    requires place { place < length blocks.old }
-    requires blocks { length blocks.old ≡ length parts.now.blocks }
-    requires marks { length marks.old ≡ length blocks.old }
-    requires versions { IsSharing sent.parameter sent.row.now sent.version like versions.old blocks.old }
-    requires same { get_or versions.old place 0 ≡ like.version }
+    requires place { place < length parts.now.blocks }
+    requires blocks { HasBlocks parts.now draft.old }
+    requires versions { AreShared sent like draft.old }
+    requires same { get_or draft.old.versions.items place 0 ≡ like.version }
     requires known { like.version ≢ 0 }
-    ensures rows { IfOk result (λ _. blocks.new ≡ sent_at sent.entry.row.now place blocks.old) }
-    ensures change { IfOk result (λ change. change ≡ change_of sent.entry.row.now (option_flatten (slice_get blocks.old place))) }
-    ensures marks { IfOk result (λ _. FollowsAt parts.now marks.old marks.new blocks.old blocks.new) }
-    ensures versions { IfOk result (λ _. IsSharing sent.entry.parameter sent.entry.row.now sent.entry.version like versions.new blocks.new) }
+    ensures { IfOk result (IsRowSent parts.now sent.entry place like draft.old draft.new) }
 {
     if like.change == Change::Same {
         return Ok(Change::Same);
     }
-    blocks[place] = Some(sent.row.share()?);
-    versions[place] = sent.version;
+    draft.rows.blocks[place] = Some(sent.row.share()?);
+    draft.versions[place] = sent.version;
     if !sends_the_same(parts, sent.parameter, like, place) {
-        marks[place] = true;
+        draft.marks[place] = true;
     }
     Ok(like.change)
 }
@@ -295,24 +284,18 @@ fn send_row(
     sent: Sent<'_>,
     place: usize,
     like: &mut Like,
-    blocks: &mut [Option<Known>],
-    marks: &mut [bool],
-    versions: &mut [u64],
+    draft: &mut Draft,
 ) -> Result<Change, Memory>
-    requires place { place < length blocks.old }
-    requires blocks { length blocks.old ≡ length parts.now.blocks }
-    requires marks { length marks.old ≡ length blocks.old }
-    requires versions { IsSharing sent.parameter sent.row.now sent.version like.old versions.old blocks.old }
-    ensures rows { IfOk result (λ _. blocks.new ≡ sent_at sent.entry.row.now place blocks.old) }
-    ensures change { IfOk result (λ change. change ≡ change_of sent.entry.row.now (option_flatten (slice_get blocks.old place))) }
-    ensures marks { IfOk result (λ _. FollowsAt parts.now marks.old marks.new blocks.old blocks.new) }
-    ensures versions { IfOk result (λ _. IsSharing sent.entry.parameter sent.entry.row.now sent.entry.version like.new versions.new blocks.new) }
+    requires place { place < length parts.now.blocks }
+    requires blocks { HasBlocks parts.now draft.old }
+    requires versions { AreShared sent like.old draft.old }
+    ensures { IfOk result (IsRowSent parts.now sent.entry place like.new draft.old draft.new) }
 {
     let known = *like;
-    if known.version != 0 && versions[place] == known.version {
-        return send_like(parts, sent, place, known, blocks, marks, versions);
+    if known.version != 0 && draft.versions[place] == known.version {
+        return send_like(parts, sent, place, known, draft);
     }
-    let change = send_first(alloc, sent, place, like, blocks, marks, versions)?;
+    let change = send_first(alloc, sent, place, like, draft)?;
     Ok(change)
 }
 
@@ -322,27 +305,20 @@ fn send_behind(
     parts: &Parts,
     sent: Sent<'_>,
     callers: &[u16],
-    blocks: &mut [Option<Known>],
-    marks: &mut [bool],
-    versions: &mut [u64],
+    draft: &mut Draft,
 ) -> Result<Change, Memory>
-    requires callers { All (λ c. c < length blocks.old) callers.now }
-    requires blocks { length blocks.old ≡ length parts.now.blocks }
-    requires marks { length marks.old ≡ length blocks.old }
-    requires versions { AreVersions versions.old blocks.old }
-    requires unused { model.IsUnused versions.old sent.version }
-    ensures rows { IfOk result (λ _. blocks.new ≡ model.sent_behind sent.entry.row.now callers.now blocks.old) }
-    ensures change { IfOk result (λ change. change ≡ model.change_behind sent.entry.row.now callers.now blocks.old) }
-    ensures marks { IfOk result (λ _. FollowsAt parts.now marks.old marks.new blocks.old blocks.new) }
-    ensures versions { IfOk result (λ _. AreVersions versions.new blocks.new) }
+    requires callers { All (λ c. c < length parts.now.blocks) callers.now }
+    requires blocks { HasBlocks parts.now draft.old }
+    requires versions { AreVersions draft.old.versions.items draft.old.rows.blocks.items }
+    requires unused { model.IsUnused draft.old.versions.items sent.version }
+    ensures sent { IfOk result (IsSentBehind sent.entry.row.now callers.now draft.old draft.new) }
+    ensures noted { IfOk result (λ _. NotesGoOn parts.now draft.old draft.new) }
 {
     let mut like = NO_LIKE;
     let mut change = Change::Same;
     for caller in callers {
         let place = *caller as usize;
-        let next = send_row(
-            alloc, parts, sent, place, &mut like, blocks, marks, versions,
-        )?;
+        let next = send_row(alloc, parts, sent, place, &mut like, draft)?;
         change = followed_by(change, next);
     }
     Ok(change)
@@ -356,18 +332,13 @@ pub(crate) fn visit_return(
     number: u16,
     parameter: u8,
     row: &Known,
-    blocks: &mut [Option<Known>],
-    marks: &mut [bool],
-    versions: &mut [u64],
+    draft: &mut Draft,
 ) -> Result<Change, Memory>
-    requires callers { list_all (λ (rule : Rule). rule.holds) (rules_of parts.now (all_blocks.TransferByParameter parameter) row.now) ≡ true → All (λ c. c < length blocks.old) (return_blocks (kind_of row.now parameter)) }
-    requires blocks { length blocks.old ≡ length parts.now.blocks }
-    requires marks { length marks.old ≡ length blocks.old }
-    requires versions { AreVersions versions.old blocks.old }
-    ensures rows { IfOk result (λ _. blocks.new ≡ model.returned parts.now parameter row.now blocks.old) }
-    ensures change { IfOk result (λ change. change ≡ model.change_returned parts.now parameter row.now blocks.old) }
-    ensures marks { IfOk result (λ _. FollowsAt parts.now marks.old marks.new blocks.old blocks.new) }
-    ensures versions { IfOk result (λ _. AreVersions versions.new blocks.new) }
+    requires callers { CallersAreThere parts.now parameter row.now }
+    requires blocks { HasBlocks parts.now draft.old }
+    requires versions { AreVersions draft.old.versions.items draft.old.rows.blocks.items }
+    ensures sent { IfOk result (IsReturn parts.now parameter row.now draft.old draft.new) }
+    ensures noted { IfOk result (λ _. NotesGoOn parts.now draft.old draft.new) }
 {
     let state = row.lent(alloc)?;
     if check_rules(
@@ -383,16 +354,8 @@ pub(crate) fn visit_return(
     let sent = Sent {
         row,
         parameter,
-        version: unused_version(versions),
+        version: unused_version(&draft.versions),
     };
-    let change = send_behind(
-        alloc,
-        parts,
-        sent,
-        row.callers(parameter),
-        blocks,
-        marks,
-        versions,
-    )?;
+    let change = send_behind(alloc, parts, sent, row.callers(parameter), draft)?;
     Ok(change)
 }

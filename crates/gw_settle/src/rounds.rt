@@ -1,13 +1,14 @@
 //! The rounds that compute the assembler's state table.
 
 ghost use Rattle.std.specs.Prelude.{◌≡◌, IfOk, None, map, replicate};
-ghost use Rattle.gw_settle.specs.Drafts.{rows_held, AreNoted, DraftAdvances};
-ghost use Rattle.gw_settle.specs.Keeps.{IsWell, IsSettled, AreKept};
+ghost use Rattle.gw_settle.specs.Drafts.{rows_held, AreNoted};
+ghost use Rattle.gw_settle.specs.Keeps.{IsWell};
 ghost use Rattle.gw_settle.specs.Rounds as model;
+ghost use Rattle.gw_settle.specs.Settles.{AreFinal};
 
-use crate::draft::{Draft, TableRows, draft_of, next_round};
+use crate::draft::{Draft, TableRows, draft_of};
 use crate::known::Known;
-use crate::leaps::leap;
+use crate::leaps::advance;
 use crate::pace::Pace;
 use crate::table::Change;
 use gw_blocks::Block;
@@ -55,33 +56,12 @@ fn start_rows(alloc: Global, parts: &Parts) -> Result<TableRows, Memory>
     Ok(TableRows { blocks, chains })
 }
 
-/// One more round, or, where a leap is due, as many as it makes.
-fn advance(
-    alloc: Global,
-    parts: &Parts,
-    draft: &mut Draft,
-    pace: &mut Pace,
-) -> Result<Change, Memory>
-    requires well { IsWell parts.now }
-    requires reached { model.AreReached parts.now (rows_held draft.old.rows) }
-    requires noted { AreNoted parts.now draft.old }
-    ensures rows { IfOk result (DraftAdvances parts.now draft.old draft.new) }
-    ensures noted { IfOk result (λ _. AreNoted parts.now draft.new) }
-{
-    if pace.is_due() {
-        return leap(alloc, parts, draft, pace);
-    }
-    next_round(alloc, parts, draft)
-}
-
 /// Visits the blocks that are marked in rounds, until one changes nothing.
 fn settle_rows(alloc: Global, parts: &Parts, draft: &mut Draft) -> Result<(), Memory>
     requires well { IsWell parts.now }
     requires noted { AreNoted parts.now draft.old }
     requires start { rows_held draft.old.rows ≡ model.start parts.now }
-    ensures table { IfOk result (λ _. model.AreSettled parts.now (rows_held draft.new.rows)) }
-    ensures kept { IfOk result (λ _. AreKept parts.now (rows_held draft.new.rows)) }
-    ensures settled { IfOk result (λ _. IsSettled parts.now (rows_held draft.new.rows)) }
+    ensures { IfOk result (λ _. AreFinal parts.now (rows_held draft.new.rows)) }
 {
     let mut pace = Pace::new();
     'more: loop {
@@ -98,9 +78,7 @@ fn settle_rows(alloc: Global, parts: &Parts, draft: &mut Draft) -> Result<(), Me
 /// The rows of the assembler's state table: those after as many rounds as change something.
 pub(crate) fn settled_rows(alloc: Global, parts: &Parts) -> Result<TableRows, Memory>
     requires { IsWell parts.now }
-    ensures table { IfOk result (λ rows. model.AreSettled parts.now (rows_held rows)) }
-    ensures kept { IfOk result (λ rows. AreKept parts.now (rows_held rows)) }
-    ensures settled { IfOk result (λ rows. IsSettled parts.now (rows_held rows)) }
+    ensures { IfOk result (λ rows. AreFinal parts.now (rows_held rows)) }
 {
     let rows = start_rows(alloc, parts)?;
     let mut draft = draft_of(alloc, parts, rows)?;

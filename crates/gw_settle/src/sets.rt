@@ -1,7 +1,7 @@
 //! Sets of numbers, as lists that ascend.
 
-ghost use Rattle.std.specs.Prelude.{◌≡◌, ◌++◌, ◌<◌, ◌≤◌, IfOk, All, AllPairs, drop, filter, length, nat_lt, not, take};
-ghost use Rattle.gw_settle.specs.Joins as model;
+ghost use Rattle.std.specs.Prelude.{◌≡◌, ◌++◌, ◌<◌, ◌≤◌, IfOk, All, AllPairs, drop, filter, length, nat_lt, take};
+ghost use Rattle.gw_settle.specs.Joins.{below, not_below, united as united_of};
 
 use gw_object::Memory;
 use std::alloc::Global;
@@ -10,8 +10,8 @@ use std::alloc::Global;
 fn count_below(numbers: &[u16], bound: u16) -> usize
     requires { AllPairs (λ a b. a < b) numbers.now }
     ensures within { result ≤ length numbers.now }
-    ensures below { take result numbers.now ≡ filter (λ n. nat_lt n bound) numbers.now }
-    ensures others { drop result numbers.now ≡ filter (λ n. not (nat_lt n bound)) numbers.now }
+    ensures below { take result numbers.now ≡ below bound numbers.now }
+    ensures others { drop result numbers.now ≡ not_below bound numbers.now }
 {
     for i in 0..numbers.len() {
         if bound <= numbers[i] {
@@ -24,8 +24,8 @@ fn count_below(numbers: &[u16], bound: u16) -> usize
 /// Adds those of these numbers that are below a bound to others; answers those that are left.
 fn push_below<'s>(all: &mut Vec<u16>, numbers: &'s [u16], bound: u16) -> Result<&'s [u16], Memory>
     requires { AllPairs (λ a b. a < b) numbers.now }
-    ensures below { IfOk result (λ rest. all.new.items ≡ all.old.items ++ filter (λ n. nat_lt n bound) numbers.now) }
-    ensures others { IfOk result (λ rest. rest.now ≡ filter (λ n. not (nat_lt n bound)) numbers.now) }
+    ensures below { IfOk result (λ _. all.new.items ≡ all.old.items ++ below bound numbers.now) }
+    ensures others { IfOk result (λ rest. rest.now ≡ not_below bound numbers.now) }
 {
     let count = count_below(numbers, bound);
     all.extend_from_slice(&numbers[..count])?;
@@ -63,7 +63,7 @@ fn count_common(numbers: &[u16], others: &[u16]) -> usize
 fn push_united(all: &mut Vec<u16>, numbers: &[u16], others: &[u16]) -> Result<(), Memory>
     requires numbers { AllPairs (λ a b. a < b) numbers.now }
     requires others { AllPairs (λ a b. a < b) others.now }
-    ensures { IfOk result (λ _. all.new.items ≡ all.old.items ++ model.united numbers.now others.now) }
+    ensures { IfOk result (λ _. all.new.items ≡ all.old.items ++ united_of numbers.now others.now) }
 {
     let mut rest = numbers;
     for number in others {
@@ -79,7 +79,7 @@ fn push_united(all: &mut Vec<u16>, numbers: &[u16], others: &[u16]) -> Result<()
 pub(crate) fn united(alloc: Global, numbers: &[u16], others: &[u16]) -> Result<Vec<u16>, Memory>
     requires numbers { AllPairs (λ a b. a < b) numbers.now }
     requires others { AllPairs (λ a b. a < b) others.now }
-    ensures { IfOk result (λ all. all.items ≡ model.united numbers.now others.now) }
+    ensures { IfOk result (λ all. all.items ≡ united_of numbers.now others.now) }
 {
     let common = count_common(numbers, others);
     let mut all = Vec::with_capacity(alloc, numbers.len())?;

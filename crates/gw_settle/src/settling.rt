@@ -1,12 +1,10 @@
 //! The state table of an object, found from its entities, procedures and blocks alone.
 
-ghost use Rattle.std.specs.Prelude.{◌≡◌, ◌⊎◌, IfOk, IfErr, Some};
+ghost use Rattle.std.specs.Prelude.{◌≡◌, IfOk, IfErr};
 ghost use Rattle.gw_object.specs.Grammar.{HasSpelling};
-ghost use Rattle.gw_object.specs.Reading.{out_of_memory};
-ghost use Rattle.gw_kinds.specs.Checks.{first_broken};
 ghost use Rattle.gw_kinds.specs.Pass.{KindsPass};
 ghost use Rattle.gw_code_flow.specs.PlusChecks.{PlusPasses};
-ghost use Rattle.gw_flow.specs.Flow.{own_table, flow_checks, FlowPasses};
+ghost use Rattle.gw_flow.specs.Flow.{own_table, FlowPasses};
 ghost use Rattle.gw_settle.specs.Keeps.{IsWell};
 ghost use Rattle.gw_settle.specs.Settles as model;
 
@@ -60,7 +58,7 @@ pub fn table_of(alloc: Global, parts: &Parts) -> Result<Written, Fault>
 
 /// Parts and a state table that change places.
 fn exchange(parts: &mut Parts, table: &mut Written)
-    ensures parts { parts.new ≡ model.with_table parts.old table.old.returns table.old.states table.old.chain_states }
+    ensures parts { parts.new ≡ model.with_written parts.old table.old }
     ensures returns { table.new.returns ≡ parts.old.returns }
     ensures states { table.new.states ≡ parts.old.states }
     ensures chain_states { table.new.chain_states ≡ parts.old.chain_states }
@@ -72,8 +70,8 @@ fn exchange(parts: &mut Parts, table: &mut Written)
 
 /// The object of parts with the table that they had.
 fn restored(parts: Parts, table: Written) -> Object
-    requires { HasSpelling (model.with_table parts table.returns table.states table.chain_states) }
-    ensures { result ≡ model.with_table parts table.returns table.states table.chain_states }
+    requires { HasSpelling (model.with_written parts table) }
+    ensures { result ≡ model.with_written parts table }
 {
     let mut parts = parts;
     let mut table = table;
@@ -84,10 +82,10 @@ fn restored(parts: Parts, table: Written) -> Object
 /// An object, if flow passes; else its parts with the table that they had, and the fault.
 fn checked(alloc: Global, settled: Object, table: Written) -> Result<Object, (Object, Fault)>
     requires kinds { KindsPass settled }
-    requires spelled { HasSpelling (model.with_table settled table.returns table.states table.chain_states) }
+    requires spelled { HasSpelling (model.with_written settled table) }
     ensures passed { IfOk result (λ o. (o ≡ settled) × FlowPasses settled (own_table settled)) }
-    ensures unchanged { IfErr result (λ e. e.0 ≡ model.with_table settled table.returns table.states table.chain_states) }
-    ensures refused { IfErr result (λ e. (first_broken (flow_checks settled (own_table settled)) ≡ Some e.1) ⊎ (e.1 ≡ out_of_memory)) }
+    ensures unchanged { IfErr result (λ e. e.0 ≡ model.with_written settled table) }
+    ensures refused { IfErr result (λ e. model.IsFlowFault settled e.1) }
 {
     match check_flow(alloc, &settled) {
         Ok(()) => Ok(settled),
@@ -95,25 +93,19 @@ fn checked(alloc: Global, settled: Object, table: Written) -> Result<Object, (Ob
     }
 }
 
-/// An object with this table, if flow passes; else as it was, with the fault.
-fn settle_with(alloc: Global, object: Object, table: Written) -> Result<Object, (Object, Fault)>
-    requires well { IsWell object }
-    requires code { PlusPasses object }
-    requires table { model.IsTableOf object table }
-    ensures accepted { IfOk result (λ settled. model.Passes object settled) }
-    ensures code { IfOk result PlusPasses }
-    ensures table { IfOk result (λ settled. model.HasAssemblersTable object settled) }
-    ensures greatest { IfOk result (λ settled. model.IsGreatest object settled) }
-    ensures unchanged { IfErr result (λ e. e.0 ≡ object) }
-    ensures refused { IfErr result (λ e. model.IsRefused object e.1) }
-    ensures complete { IfErr result (λ e. model.IsComplete object e.1) }
+/// An object with this table, and the table that it had; as it was, where it then passes a limit.
+fn with_table(object: Object, table: Written) -> Result<(Object, Written), Object>
+    requires { HasSpelling object }
+    ensures there { IfOk result (λ pair. pair.0 ≡ model.with_written object table) }
+    ensures back { IfOk result (λ pair. model.with_written pair.0 pair.1 ≡ object) }
+    ensures unchanged { IfErr result (λ o. o ≡ object) }
 {
     let mut parts = object.into_parts();
     let mut table = table;
     exchange(&mut parts, &mut table);
     match build(parts) {
-        Ok(settled) => checked(alloc, settled, table),
-        Err((parts, _)) => Err((restored(parts, table), PAST_LIMIT)),
+        Ok(settled) => Ok((settled, table)),
+        Err((parts, _)) => Err(restored(parts, table)),
     }
 }
 
@@ -139,7 +131,10 @@ pub fn settle(alloc: Global, object: Object) -> Result<Object, (Object, Fault)>
     ensures complete { IfErr result (λ e. model.IsComplete object e.1) }
 {
     match table_of(alloc, object.parts()) {
-        Ok(table) => settle_with(alloc, object, table),
+        Ok(table) => match with_table(object, table) {
+            Ok((settled, own)) => checked(alloc, settled, own),
+            Err(object) => Err((object, PAST_LIMIT)),
+        },
         Err(fault) => Err((object, fault)),
     }
 }

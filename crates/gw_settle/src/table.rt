@@ -1,18 +1,19 @@
 //! The rows of a state table in the making, and what visits of blocks make of them.
 
-ghost use Rattle.std.specs.Prelude.{◌≡◌, ◌⊎◌, ◌≤◌, ◌<◌, ◌-◌, ◌++◌, List, Option, Some, IfOk, IsSome, All, length, slice_get};
-ghost use Rattle.std.specs.Option.{option_copied, option_flatten};
+ghost use Rattle.std.specs.Prelude.{◌≡◌, ◌≤◌, ◌<◌, ◌-◌, Some, IfOk, IsSome, All, length};
 ghost use Rattle.gw_kinds.specs.Kinds.{block_at};
 ghost use Rattle.gw_flow.specs.declared.edges.Target.TheVariants as targets;
 ghost use Rattle.gw_flow.specs.declared.edges.FlowEdge.{FlowEdge as DeclaredEdge};
-ghost use Rattle.gw_flow.specs.Blocks.{Table as FlowTable};
-ghost use Rattle.gw_flow.specs.Rows.{Row, HasRoom};
-ghost use Rattle.gw_settle.specs.Keeps.{MayEnter, HasShape, IsWell, AreSound};
-ghost use Rattle.gw_settle.specs.Marks.{with_mark, UnlinksMarked, MarksFollow, MarksSuffice};
-ghost use Rattle.gw_settle.specs.Versions.{without_version, AreVersions};
+ghost use Rattle.gw_flow.specs.Rows.{HasRoom};
+ghost use Rattle.gw_settle.specs.Drafts.{rows_held, table_in, members_at, with_members, AreNoted, IsWhole, MayVisit, IsRound, IsVisit, IsSending, AreSendings, NotesGoOn, Sends};
+ghost use Rattle.gw_settle.specs.Keeps.{MayEnter, IsWell, AreSound};
+ghost use Rattle.gw_settle.specs.Marks.{with_mark, UnlinksMarked, UnlinksFollow};
+ghost use Rattle.gw_settle.specs.Versions.{without_version};
+ghost use Rattle.gw_settle.specs.Jumps.{row_in};
 ghost use Rattle.gw_settle.specs.Rounds as model;
-ghost use Rattle.gw_settle.specs.declared.table.Change.TheVariants.{Same};
+ghost use Rattle.gw_settle.specs.Rounds.{sent_at, change_of};
 
+use crate::draft::Draft;
 use crate::known::Known;
 use crate::returns::visit_return;
 use gw_blocks::Block;
@@ -52,11 +53,11 @@ pub(crate) fn send_at(
     alloc: Global,
     state: &State<'_>,
     place: usize,
-    rows: &mut [Option<Known>],
+    rows: &mut Vec<Option<Known>>,
 ) -> Result<Change, Memory>
-    requires { place < length rows.old }
-    ensures rows { IfOk result (λ _. rows.new ≡ model.sent_at state.now place rows.old) }
-    ensures change { IfOk result (λ change. change ≡ model.change_of state.now (option_flatten (slice_get rows.old place))) }
+    requires { place < length rows.old.items }
+    ensures rows { IfOk result (λ _. rows.new.items ≡ sent_at state.now place rows.old.items) }
+    ensures change { IfOk result (λ c. c ≡ change_of state.now (row_in rows.old.items place)) }
 {
     match &rows[place] {
         None => {
@@ -75,11 +76,11 @@ pub(crate) fn send_at(
 }
 
 /// Marks the block at a place, from 0, and takes its row's version away, if the row has changed.
-pub(crate) fn note(change: Change, place: usize, marks: &mut [bool], versions: &mut [u64])
-    requires marks { place < length marks.old }
-    requires versions { place < length versions.old }
-    ensures marks { marks.new ≡ with_mark change place marks.old }
-    ensures versions { versions.new ≡ without_version change place versions.old }
+pub(crate) fn note(change: Change, place: usize, marks: &mut Vec<bool>, versions: &mut Vec<u64>)
+    requires marks { place < length marks.old.items }
+    requires versions { place < length versions.old.items }
+    ensures marks { marks.new.items ≡ with_mark change place marks.old.items }
+    ensures versions { versions.new.items ≡ without_version change place versions.old.items }
 {
     match change {
         Change::Same => {}
@@ -91,9 +92,9 @@ pub(crate) fn note(change: Change, place: usize, marks: &mut [bool], versions: &
 }
 
 /// Marks each UNLINK.
-fn mark_unlinks(blocks: &[Block], marks: &mut [bool])
-    requires { length marks.old ≡ length blocks.now }
-    ensures { UnlinksMarked blocks.now marks.old marks.new }
+fn mark_unlinks(blocks: &[Block], marks: &mut Vec<bool>)
+    requires { length marks.old.items ≡ length blocks.now }
+    ensures { UnlinksMarked blocks.now marks.old.items marks.new.items }
 {
     for i in 0..blocks.len() {
         if let Block::Unlink(_) = &blocks[i] {
@@ -108,14 +109,14 @@ fn send_to_chain(
     blocks: &[Block],
     state: &State<'_>,
     place: usize,
-    chains: &mut [Option<Known>],
-    marks: &mut [bool],
+    chains: &mut Vec<Option<Known>>,
+    marks: &mut Vec<bool>,
 ) -> Result<Change, Memory>
-    requires place { place < length chains.old }
-    requires marks { length marks.old ≡ length blocks.now }
-    ensures rows { IfOk result (λ _. chains.new ≡ model.sent_at state.now place chains.old) }
-    ensures change { IfOk result (λ change. change ≡ model.change_of state.now (option_flatten (slice_get chains.old place))) }
-    ensures marks { IfOk result (λ change. (change ≡ Same × marks.new ≡ marks.old) ⊎ UnlinksMarked blocks.now marks.old marks.new) }
+    requires place { place < length chains.old.items }
+    requires marks { length marks.old.items ≡ length blocks.now }
+    ensures rows { IfOk result (λ _. chains.new.items ≡ sent_at state.now place chains.old.items) }
+    ensures change { IfOk result (λ c. c ≡ change_of state.now (row_in chains.old.items place)) }
+    ensures marks { IfOk result (UnlinksFollow blocks.now marks.old.items marks.new.items) }
 {
     let change = send_at(alloc, state, place, chains)?;
     if change != Change::Same {
@@ -129,31 +130,31 @@ fn send(
     alloc: Global,
     parts: &Parts,
     edge: &FlowEdge<'_>,
-    blocks: &mut [Option<Known>],
-    chains: &mut [Option<Known>],
-    marks: &mut [bool],
-    versions: &mut [u64],
+    draft: &mut Draft,
 ) -> Result<Change, Memory>
     requires enters { MayEnter parts.now edge.now.target }
-    requires shape { HasShape parts.now (model.rows_of blocks.old chains.old) }
-    requires marks { length marks.old ≡ length parts.now.blocks }
-    requires versions { AreVersions versions.old blocks.old }
-    ensures rows { IfOk result (λ _. model.rows_of blocks.new chains.new ≡ model.sent parts.now edge.now (model.rows_of blocks.old chains.old)) }
-    ensures change { IfOk result (λ change. change ≡ model.change_of edge.now.state (model.as_table parts.now (model.rows_of blocks.old chains.old) edge.now.target)) }
-    ensures marks { IfOk result (λ _. MarksFollow parts.now marks.old marks.new (model.as_table parts.now (model.rows_of blocks.old chains.old)) (model.as_table parts.now (model.rows_of blocks.new chains.new))) }
-    ensures versions { IfOk result (λ _. AreVersions versions.new blocks.new) }
+    requires whole { IsWhole parts.now draft.old }
+    ensures sent { IfOk result (IsSending parts.now edge.now draft.old draft.new) }
+    ensures noted { IfOk result (λ _. NotesGoOn parts.now draft.old draft.new) }
 {
     match edge.target {
         Target::Block(block) => {
             let place = block as usize - 1;
-            let change = send_at(alloc, &edge.state, place, blocks)?;
-            note(change, place, marks, versions);
+            let change = send_at(alloc, &edge.state, place, &mut draft.rows.blocks)?;
+            note(change, place, &mut draft.marks, &mut draft.versions);
             Ok(change)
         }
         Target::Chain(chain) => {
             let place = chain_place(parts.entities.as_slice(), chain);
             let all = parts.blocks.as_slice();
-            let change = send_to_chain(alloc, all, &edge.state, place, chains, marks)?;
+            let change = send_to_chain(
+                alloc,
+                all,
+                &edge.state,
+                place,
+                &mut draft.rows.chains,
+                &mut draft.marks,
+            )?;
             Ok(change)
         }
     }
@@ -164,23 +165,16 @@ fn send_all(
     alloc: Global,
     parts: &Parts,
     edges: &[FlowEdge<'_>],
-    blocks: &mut [Option<Known>],
-    chains: &mut [Option<Known>],
-    marks: &mut [bool],
-    versions: &mut [u64],
+    draft: &mut Draft,
 ) -> Result<Change, Memory>
     requires enter { All (λ (e : DeclaredEdge). MayEnter parts.now e.target) edges.now }
-    requires shape { HasShape parts.now (model.rows_of blocks.old chains.old) }
-    requires marks { length marks.old ≡ length parts.now.blocks }
-    requires versions { AreVersions versions.old blocks.old }
-    ensures rows { IfOk result (λ _. model.rows_of blocks.new chains.new ≡ model.all_sent parts.now edges.now (model.rows_of blocks.old chains.old)) }
-    ensures change { IfOk result (λ change. change ≡ model.changes_of parts.now edges.now (model.rows_of blocks.old chains.old)) }
-    ensures marks { IfOk result (λ _. MarksFollow parts.now marks.old marks.new (model.as_table parts.now (model.rows_of blocks.old chains.old)) (model.as_table parts.now (model.rows_of blocks.new chains.new))) }
-    ensures versions { IfOk result (λ _. AreVersions versions.new blocks.new) }
+    requires whole { IsWhole parts.now draft.old }
+    ensures sent { IfOk result (AreSendings parts.now edges.now draft.old draft.new) }
+    ensures noted { IfOk result (λ _. NotesGoOn parts.now draft.old draft.new) }
 {
     let mut change = Change::Same;
     for edge in edges {
-        let next = send(alloc, parts, edge, blocks, chains, marks, versions)?;
+        let next = send(alloc, parts, edge, draft)?;
         change = followed_by(change, next);
     }
     Ok(change)
@@ -188,7 +182,7 @@ fn send_all(
 
 /// The row at a place, from 0, once more, if there is one.
 pub(crate) fn row_shared(rows: &[Option<Known>], place: usize) -> Result<Option<Known>, Memory>
-    ensures { IfOk result (λ row. row ≡ option_flatten (slice_get rows.now place)) }
+    ensures { IfOk result (λ row. row ≡ row_in rows.now place) }
 {
     match rows.get(place) {
         Some(Some(row)) => Ok(Some(row.share()?)),
@@ -197,34 +191,33 @@ pub(crate) fn row_shared(rows: &[Option<Known>], place: usize) -> Result<Option<
 }
 
 /// The row of the user chain from which a block sends members on, if it is an UNLINK, and there is one.
-fn members_shared(
-    parts: &Parts,
-    block: &Block,
-    chains: &[Option<Known>],
-) -> Result<Option<Known>, Memory>
-    ensures { IfOk result (λ row. (blocks : List (Option Row)) → row ≡ model.members_in (model.as_table parts.now (model.rows_of blocks chains.now)) block.now) }
+fn members_shared(parts: &Parts, block: &Block, draft: &Draft) -> Result<Option<Known>, Memory>
+    ensures { IfOk result (λ row. row ≡ members_at parts.now draft.now block.now) }
 {
     let Block::Unlink(unlink) = block else {
         return Ok(None);
     };
-    row_shared(chains, chain_place(parts.entities.as_slice(), unlink.chain))
+    row_shared(
+        &draft.rows.chains,
+        chain_place(parts.entities.as_slice(), unlink.chain),
+    )
 }
 
 /// Adds the edge of the members whom a block sends on from their user chain, if it is an UNLINK, and they have a row.
 fn push_members<'r>(
     alloc: Global,
-    edges: &mut Vec<FlowEdge<'r>>,
+    all: &mut Vec<FlowEdge<'r>>,
     block: &Block,
-    members: Option<&'r Known>,
+    members: &'r Option<Known>,
 ) -> Result<(), Memory>
-    ensures { IfOk result (λ _. edges.new.items ≡ edges.old.items ++ model.members_from block.now (option_copied members.entry)) }
+    ensures { IfOk result (λ _. all.new.items ≡ with_members all.old.items block.now members.now) }
 {
     let Block::Unlink(unlink) = block else {
         return Ok(());
     };
     match members {
         Some(row) => {
-            edges.push(FlowEdge {
+            all.push(FlowEdge {
                 code: CHAIN_STATE,
                 target: Target::Block(unlink.target),
                 state: row.lent(alloc)?,
@@ -243,11 +236,11 @@ fn edges_sent<'r>(
     number: u16,
     block: &Block,
     state: &State<'r>,
-    members: Option<&'r Known>,
+    members: &'r Option<Known>,
 ) -> Result<Vec<FlowEdge<'r>>, Memory>
     requires number { number ≤ 4096 }
     requires room { HasRoom state.now }
-    ensures { IfOk result (λ edges. (table : FlowTable) → option_copied members.entry ≡ model.members_in table block.now → edges.items ≡ model.sends_in parts.now table number (Some block.now) (Some state.now)) }
+    ensures { IfOk result (λ es. Sends parts.now number block.now state.now members.now es.items) }
 {
     if check_rules(parts, number, block, state).is_err() {
         return Ok(Vec::new(alloc));
@@ -274,71 +267,38 @@ fn visit_in(
     number: u16,
     block: &Block,
     row: &Known,
-    members: Option<&Known>,
-    blocks: &mut [Option<Known>],
-    chains: &mut [Option<Known>],
-    marks: &mut [bool],
-    versions: &mut [u64],
+    members: &Option<Known>,
+    draft: &mut Draft,
 ) -> Result<Change, Memory>
     requires number { number ≤ 4096 }
     requires there { block_at parts.now.blocks number ≡ Some block.now }
-    requires well { IsWell parts.now }
-    requires sound { AreSound parts.now (model.rows_of blocks.old chains.old) }
-    requires row { model.as_table parts.now (model.rows_of blocks.old chains.old) (targets.Block number) ≡ Some row.now }
-    requires members { option_copied members ≡ model.members_in (model.as_table parts.now (model.rows_of blocks.old chains.old)) block.now }
-    requires marks { length marks.old ≡ length parts.now.blocks }
-    requires versions { AreVersions versions.old blocks.old }
-    ensures rows { IfOk result (λ _. model.rows_of blocks.new chains.new ≡ model.visited parts.now number (model.rows_of blocks.old chains.old)) }
-    ensures change { IfOk result (λ change. change ≡ model.change_at parts.now number (model.rows_of blocks.old chains.old)) }
-    ensures marks { IfOk result (λ _. MarksFollow parts.now marks.old marks.new (model.as_table parts.now (model.rows_of blocks.old chains.old)) (model.as_table parts.now (model.rows_of blocks.new chains.new))) }
-    ensures versions { IfOk result (λ _. AreVersions versions.new blocks.new) }
+    requires may { MayVisit parts.now draft.old }
+    requires row { table_in parts.now draft.old (targets.Block number) ≡ Some row.now }
+    requires members { members.now ≡ members_at parts.now draft.old block.now }
+    ensures visited { IfOk result (IsVisit parts.now number draft.old draft.new) }
+    ensures noted { IfOk result (λ _. NotesGoOn parts.now draft.old draft.new) }
 {
     if let Block::TransferByParameter(parameter) = block {
-        let change = visit_return(
-            alloc, parts, number, *parameter, row, blocks, marks, versions,
-        )?;
+        let change = visit_return(alloc, parts, number, *parameter, row, draft)?;
         return Ok(change);
     }
     let state = row.lent(alloc)?;
     let edges = edges_sent(alloc, parts, number, block, &state, members)?;
-    send_all(alloc, parts, &edges, blocks, chains, marks, versions)
+    let change = send_all(alloc, parts, &edges, draft)?;
+    Ok(change)
 }
 
 /// Visits the block of this number, if it has a row.
-fn visit(
-    alloc: Global,
-    parts: &Parts,
-    number: u16,
-    blocks: &mut [Option<Known>],
-    chains: &mut [Option<Known>],
-    marks: &mut [bool],
-    versions: &mut [u64],
-) -> Result<Change, Memory>
+fn visit(alloc: Global, parts: &Parts, number: u16, draft: &mut Draft) -> Result<Change, Memory>
     requires there { IsSome (block_at parts.now.blocks number) }
-    requires well { IsWell parts.now }
-    requires sound { AreSound parts.now (model.rows_of blocks.old chains.old) }
-    requires marks { length marks.old ≡ length parts.now.blocks }
-    requires versions { AreVersions versions.old blocks.old }
-    ensures rows { IfOk result (λ _. model.rows_of blocks.new chains.new ≡ model.visited parts.now number (model.rows_of blocks.old chains.old)) }
-    ensures change { IfOk result (λ change. change ≡ model.change_at parts.now number (model.rows_of blocks.old chains.old)) }
-    ensures marks { IfOk result (λ _. MarksFollow parts.now marks.old marks.new (model.as_table parts.now (model.rows_of blocks.old chains.old)) (model.as_table parts.now (model.rows_of blocks.new chains.new))) }
-    ensures versions { IfOk result (λ _. AreVersions versions.new blocks.new) }
+    requires may { MayVisit parts.now draft.old }
+    ensures visited { IfOk result (IsVisit parts.now number draft.old draft.new) }
+    ensures noted { IfOk result (λ _. NotesGoOn parts.now draft.old draft.new) }
 {
     let block = block_of(parts, number);
-    let members = members_shared(parts, block, chains)?;
-    match row_shared(blocks, number as usize - 1)? {
-        Some(row) => visit_in(
-            alloc,
-            parts,
-            number,
-            block,
-            &row,
-            members.as_ref(),
-            blocks,
-            chains,
-            marks,
-            versions,
-        ),
+    let members = members_shared(parts, block, draft)?;
+    match row_shared(&draft.rows.blocks, number as usize - 1)? {
+        Some(row) => visit_in(alloc, parts, number, block, &row, &members, draft),
         None => Ok(Change::Same),
     }
 }
@@ -348,60 +308,36 @@ fn visit_marked(
     alloc: Global,
     parts: &Parts,
     number: u16,
-    blocks: &mut [Option<Known>],
-    chains: &mut [Option<Known>],
-    marks: &mut [bool],
-    versions: &mut [u64],
+    draft: &mut Draft,
 ) -> Result<Change, Memory>
     requires there { IsSome (block_at parts.now.blocks number) }
     requires first { 1 ≤ number }
     requires well { IsWell parts.now }
-    requires sound { AreSound parts.now (model.rows_of blocks.old chains.old) }
-    requires marks { MarksSuffice parts.now marks.old (model.rows_of blocks.old chains.old) }
-    requires versions { AreVersions versions.old blocks.old }
-    ensures rows { IfOk result (λ _. model.rows_of blocks.new chains.new ≡ model.visited parts.now number (model.rows_of blocks.old chains.old)) }
-    ensures change { IfOk result (λ change. change ≡ model.change_at parts.now number (model.rows_of blocks.old chains.old)) }
-    ensures marks { IfOk result (λ _. MarksSuffice parts.now marks.new (model.rows_of blocks.new chains.new)) }
-    ensures versions { IfOk result (λ _. AreVersions versions.new blocks.new) }
+    requires sound { AreSound parts.now (rows_held draft.old.rows) }
+    requires noted { AreNoted parts.now draft.old }
+    ensures visited { IfOk result (IsVisit parts.now number draft.old draft.new) }
+    ensures noted { IfOk result (λ _. AreNoted parts.now draft.new) }
 {
     let place = number as usize - 1;
-    if !marks[place] {
+    if !draft.marks[place] {
         return Ok(Change::Same);
     }
-    marks[place] = false;
-    let change = visit(alloc, parts, number, blocks, chains, marks, versions)?;
+    draft.marks[place] = false;
+    let change = visit(alloc, parts, number, draft)?;
     Ok(change)
 }
 
-/// Visits each block that is marked, in ascending order: the others would change nothing.
-pub(crate) fn round(
-    alloc: Global,
-    parts: &Parts,
-    blocks: &mut [Option<Known>],
-    chains: &mut [Option<Known>],
-    marks: &mut [bool],
-    versions: &mut [u64],
-) -> Result<Change, Memory>
+/// One more round: visits each block that is marked, in ascending order; the others would change nothing.
+pub(crate) fn next_round(alloc: Global, parts: &Parts, draft: &mut Draft) -> Result<Change, Memory>
     requires well { IsWell parts.now }
-    requires sound { AreSound parts.now (model.rows_of blocks.old chains.old) }
-    requires marks { MarksSuffice parts.now marks.old (model.rows_of blocks.old chains.old) }
-    requires versions { AreVersions versions.old blocks.old }
-    ensures rows { IfOk result (λ _. model.rows_of blocks.new chains.new ≡ model.round parts.now (model.rows_of blocks.old chains.old)) }
-    ensures change { IfOk result (λ change. change ≡ model.change_to parts.now (length parts.now.blocks) (model.rows_of blocks.old chains.old)) }
-    ensures marks { IfOk result (λ _. MarksSuffice parts.now marks.new (model.rows_of blocks.new chains.new)) }
-    ensures versions { IfOk result (λ _. AreVersions versions.new blocks.new) }
+    requires sound { AreSound parts.now (rows_held draft.old.rows) }
+    requires noted { AreNoted parts.now draft.old }
+    ensures round { IfOk result (IsRound parts.now draft.old draft.new) }
+    ensures noted { IfOk result (λ _. AreNoted parts.now draft.new) }
 {
     let mut change = Change::Same;
     for i in 0..parts.blocks.as_slice().len() {
-        let next = visit_marked(
-            alloc,
-            parts,
-            (i + 1) as u16,
-            blocks,
-            chains,
-            marks,
-            versions,
-        )?;
+        let next = visit_marked(alloc, parts, (i + 1) as u16, draft)?;
         change = followed_by(change, next);
     }
     Ok(change)

@@ -1,16 +1,11 @@
 //! The state table as an object has it: its sets of blocks as return rows.
 
-ghost use Rattle.std.specs.Prelude.{◌≡◌, ◌<◌, ◌≤◌, ◌++◌, ◌∷◌, [], IfOk, IfSome, All, is_some, length, map, option_map, nat_eq};
-ghost use Rattle.std.specs.List.{list_any};
-ghost use Rattle.std.specs.Cmp.Lexicographic.{pointwise};
-ghost use Rattle.gw_object.specs.declared.parts.TableParameter.{TableParameter as DeclaredParameter};
-ghost use Rattle.gw_kinds.specs.Kinds.{return_row_of};
-ghost use Rattle.gw_flow.specs.Seen.{row_blocks, kind_said, params_said, units_seen, amounts_of, row_meaning};
+ghost use Rattle.std.specs.Prelude.{◌≡◌, ◌<◌, ◌≤◌, ◌++◌, ◌∷◌, [], IfOk, IfSome, is_some, length, option_map};
+ghost use Rattle.gw_flow.specs.Seen.{row_blocks, kind_said, params_said, units_seen, amounts_of, row_meaning, seen_rows};
 ghost use Rattle.gw_settle.specs.Known.{kind_known, params_known};
-ghost use Rattle.gw_settle.specs.Numbers as numbers;
-ghost use Rattle.gw_settle.specs.Numbers.{sets_of};
+ghost use Rattle.gw_settle.specs.Numbers.{sets_of, has_set, AddsSet, AddsKind, AddsParams, AddsRow, AddsRows};
 ghost use Rattle.gw_settle.specs.Rounds.{rows_of};
-ghost use Rattle.gw_settle.specs.Written.{NamesRows, SaysRows};
+ghost use Rattle.gw_settle.specs.Written.{NamesRow, NamesRows, ParamsName, StatesName, SaysRows};
 
 use crate::known::{Known, KnownKind, KnownParam};
 use gw_blocks::Units;
@@ -57,8 +52,9 @@ fn push<T: Drop>(all: &mut Vec<T>, item: T) -> Result<(), Memory>
 
 /// The number of the return row of these blocks, if there is one.
 fn row_number(returns: &[ReturnRow], blocks: &Items<u16>) -> Option<usize>
-    ensures found { IfSome result (λ i. (row_blocks returns.now i ≡ blocks.now) × (i < length returns.now)) }
-    ensures exactly { is_some result ≡ list_any (λ bs. pointwise nat_eq bs blocks.now) (sets_of returns.now) }
+    ensures found { IfSome result (λ i. row_blocks returns.now i ≡ blocks.now) }
+    ensures within { IfSome result (λ i. i < length returns.now) }
+    ensures exactly { is_some result ≡ has_set (sets_of returns.now) blocks.now }
 {
     for i in 0..returns.len() {
         if returns[i].blocks.as_slice() == blocks.as_slice() {
@@ -71,7 +67,7 @@ fn row_number(returns: &[ReturnRow], blocks: &Items<u16>) -> Option<usize>
 /// The return rows with one of these blocks.
 fn add_row(alloc: Global, returns: &mut Vec<ReturnRow>, blocks: &Items<u16>) -> Result<(), Stop>
     requires { length returns.old.items ≤ 4096 }
-    ensures sets { IfOk result (λ _. sets_of returns.new.items ≡ numbers.with_set (sets_of returns.old.items) blocks.now) }
+    ensures sets { IfOk result (λ _. AddsSet blocks.now returns.old.items returns.new.items) }
     ensures few { IfOk result (λ _. length returns.new.items ≤ 4096) }
 {
     if row_number(returns, blocks).is_some() {
@@ -89,7 +85,7 @@ fn add_row(alloc: Global, returns: &mut Vec<ReturnRow>, blocks: &Items<u16>) -> 
 /// The return rows with that of what a parameter holds, if it holds a return.
 fn add_kind(alloc: Global, returns: &mut Vec<ReturnRow>, kind: &KnownKind) -> Result<(), Stop>
     requires { length returns.old.items ≤ 4096 }
-    ensures sets { IfOk result (λ _. sets_of returns.new.items ≡ numbers.with_kind (sets_of returns.old.items) (kind_known kind.now)) }
+    ensures sets { IfOk result (λ _. AddsKind kind.now returns.old.items returns.new.items) }
     ensures few { IfOk result (λ _. length returns.new.items ≤ 4096) }
 {
     match kind {
@@ -105,7 +101,7 @@ fn add_params(
     params: &[KnownParam],
 ) -> Result<(), Stop>
     requires { length returns.old.items ≤ 4096 }
-    ensures sets { IfOk result (λ _. sets_of returns.new.items ≡ numbers.with_params (sets_of returns.old.items) (params_known params.now)) }
+    ensures sets { IfOk result (λ _. AddsParams params.now returns.old.items returns.new.items) }
     ensures few { IfOk result (λ _. length returns.new.items ≤ 4096) }
 {
     for param in params {
@@ -117,7 +113,7 @@ fn add_params(
 /// The return rows with those of a row of a state table, if there is one.
 fn add_state(alloc: Global, returns: &mut Vec<ReturnRow>, row: &Option<Known>) -> Result<(), Stop>
     requires { length returns.old.items ≤ 4096 }
-    ensures sets { IfOk result (λ _. sets_of returns.new.items ≡ numbers.with_row (sets_of returns.old.items) row.now) }
+    ensures sets { IfOk result (λ _. AddsRow row.now returns.old.items returns.new.items) }
     ensures few { IfOk result (λ _. length returns.new.items ≤ 4096) }
 {
     match row {
@@ -133,7 +129,7 @@ fn add_states(
     rows: &[Option<Known>],
 ) -> Result<(), Stop>
     requires { length returns.old.items ≤ 4096 }
-    ensures sets { IfOk result (λ _. sets_of returns.new.items ≡ numbers.with_rows (sets_of returns.old.items) rows.now) }
+    ensures sets { IfOk result (λ _. AddsRows rows.now returns.old.items returns.new.items) }
     ensures few { IfOk result (λ _. length returns.new.items ≤ 4096) }
 {
     for row in rows {
@@ -145,7 +141,8 @@ fn add_states(
 /// What a parameter holds, by the return rows.
 fn kind_written(returns: &[ReturnRow], kind: &KnownKind) -> Result<TableKind, Stop>
     requires { length returns.now ≤ 4096 }
-    ensures { IfOk result (λ k. (kind_said returns.now k ≡ kind_known kind.now) × IfSome (return_row_of k) (λ r. r < length returns.now)) }
+    ensures said { IfOk result (λ k. kind_said returns.now k ≡ kind_known kind.now) }
+    ensures number { IfOk result (NamesRow (length returns.now)) }
 {
     match kind {
         KnownKind::Num => Ok(TableKind::Num),
@@ -163,8 +160,8 @@ fn params_written(
     params: &[KnownParam],
 ) -> Result<Vec<TableParameter>, Stop>
     requires { length returns.now ≤ 4096 }
-    ensures said { IfOk result (λ all. params_said returns.now all.items ≡ params_known params.now) }
-    ensures numbers { IfOk result (λ all. All (λ (p : DeclaredParameter). IfSome (return_row_of p.kind) (λ r. r < length returns.now)) all.items) }
+    ensures said { IfOk result (λ ps. params_said returns.now ps.items ≡ params_known params.now) }
+    ensures numbers { IfOk result (λ all. ParamsName (length returns.now) all.items) }
 {
     let mut all = Vec::with_capacity(alloc, params.len())?;
     for param in params {
@@ -230,8 +227,8 @@ fn states_written(
     rows: &[Option<Known>],
 ) -> Result<Vec<Option<TableState>>, Stop>
     requires { length returns.now ≤ 4096 }
-    ensures seen { IfOk result (λ all. map (option_map (row_meaning returns.now)) all.items ≡ rows.now) }
-    ensures numbers { IfOk result (λ all. All (λ state. IfSome state (NamesRows (length returns.now))) all.items) }
+    ensures seen { IfOk result (λ all. seen_rows returns.now all.items ≡ rows.now) }
+    ensures numbers { IfOk result (λ all. StatesName (length returns.now) all.items) }
 {
     let mut all = Vec::with_capacity(alloc, rows.len())?;
     for row in rows {

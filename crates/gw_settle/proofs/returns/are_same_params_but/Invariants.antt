@@ -1,6 +1,6 @@
-use Rattle.std.proofs.Common.{◌≡◌, ◌==◌, not, filter, take}
-use Rattle.gw_settle.specs.Known.{params_known}
+use Rattle.std.proofs.Common.{take}
+use Rattle.gw_settle.specs.Versions.{AgreeBut}
 use Rattle.gw_settle.proofs.returns.are_same_params_but.Given as goal
 
 abbrev pub invariant-loop-i : goal.invariant-loop-i
-invariant-loop-i l = filter (λ e. not (e.0 == l.parameter)) (params_known (take l.i l.params)) ≡ filter (λ e. not (e.0 == l.parameter)) (params_known (take l.i l.others))
+invariant-loop-i l = AgreeBut l.parameter (take l.i l.params) (take l.i l.others)

@@ -1,6 +1,5 @@
-use Rattle.std.proofs.Common.{rules, ◌≡◌, ◌≤◌, ◌<◌, drop, take, get_or, length, arith, add-one}
-use Rattle.std.specs.Prelude.{All}
-use Rattle.gw_settle.proofs.Uniting.{IsSplit, split_at, under_more, over_from, over_end}
+use Rattle.std.proofs.Common.{◌≡◌, length, arith, add-one}
+use Rattle.gw_settle.proofs.Uniting.{split_at, under_more, over_from, over_end}
 use Rattle.gw_settle.proofs.sets.count_below.Goals as goal
 
 pub returns-then-bound-numbers-clause-below : goal.returns-then-bound-numbers-clause-below

@@ -1,6 +1,5 @@
 use Rattle.std.proofs.Common.{rules, ◌≡◌, ◌++◌, [], true, false, map, ◌∙◌}
 use Rattle.std.specs.Prelude.{is_err}
-use Rattle.std.specs.Option.{option_copied}
 use Rattle.gw_flow.specs.Blocks.{rules as rules_of, edges_from, joins}
 use Rattle.gw_flow.specs.Flow.{rule_check}
 use Rattle.gw_settle.specs.Rounds.{members_from}
@@ -20,5 +19,5 @@ returns c = λ table members.
     let checks = map (rule_check c.args.number) (rules_of c.args.parts.now c.args.block.now c.args.state.now) in
     let is : is_err c.check_rules.result ≡ false = search rules in
     let held = none_found c.check_rules.result checks is c.check_rules.ensures in
-    let all : c.push_members.new.edges.items ≡ (edges_from c.args.number c.args.block.now c.args.state.now ++ joins c.args.block.now c.args.state.now) ++ members_from c.args.block.now (option_copied c.args.members) = search rules in
-    all ∙ edges_are c.args.parts.now table c.args.number c.args.block.now c.args.state.now (option_copied c.args.members) members (rules_hold c.args.number (rules_of c.args.parts.now c.args.block.now c.args.state.now) held)
+    let all : c.push_members.new.all.items ≡ (edges_from c.args.number c.args.block.now c.args.state.now ++ joins c.args.block.now c.args.state.now) ++ members_from c.args.block.now c.args.members.now = search rules in
+    all ∙ edges_are c.args.parts.now table c.args.number c.args.block.now c.args.state.now c.args.members.now members (rules_hold c.args.number (rules_of c.args.parts.now c.args.block.now c.args.state.now) held)

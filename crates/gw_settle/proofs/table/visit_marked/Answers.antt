@@ -1,24 +1,25 @@
-use Rattle.std.proofs.Common.{rules, ◌≡◌, ◌-◌, get_or, set, false, sym}
-use Rattle.gw_settle.specs.Rounds.{rows_of, as_table, visited}
+use Rattle.std.proofs.Common.{rules, ◌≡◌, ◌-◌, get_or, set, false, sym, arith}
+use Rattle.gw_settle.specs.Drafts.{rows_held, table_in}
 use Rattle.gw_settle.specs.Marks.{MarksFollow}
 use Rattle.gw_settle.proofs.Marking.{unmarked_at, unmarked_changes_none, suffice_visited}
+use Rattle.gw_settle.proofs.Drafting.{there_within}
 use Rattle.gw_settle.proofs.table.visit_marked.Goals as goal
 
-pub returns-then-not-marks-place-clause-rows : goal.returns-then-not-marks-place-clause-rows
-returns-then-not-marks-place-clause-rows c =
-    let unmarked : get_or c.args.marks.now (c.args.number - 1) false ≡ false = search rules in
-    sym (unmarked_changes_none c.args.parts.now c.args.marks.now (rows_of c.args.blocks.now c.args.chains.now) c.args.number c.requires.marks (unmarked_at c.args.marks.now c.args.number unmarked)).0
+pub returns-then-not-index-clause-visited : goal.returns-then-not-index-clause-visited
+returns-then-not-index-clause-visited c =
+    let unmarked : get_or c.args.draft.now.marks.items (c.args.number - 1) false ≡ false = search rules in
+    let none = unmarked_changes_none c.args.parts.now c.args.draft.now.marks.items (rows_held c.args.draft.now.rows) c.args.number c.requires.noted.marks (unmarked_at c.args.draft.now.marks.items c.args.number unmarked) in
+    record { rows = sym none.0; is = sym none.1 }
 
-pub returns-then-not-marks-place-clause-change : goal.returns-then-not-marks-place-clause-change
-returns-then-not-marks-place-clause-change c =
-    let unmarked : get_or c.args.marks.now (c.args.number - 1) false ≡ false = search rules in
-    sym (unmarked_changes_none c.args.parts.now c.args.marks.now (rows_of c.args.blocks.now c.args.chains.now) c.args.number c.requires.marks (unmarked_at c.args.marks.now c.args.number unmarked)).1
+pub index_mut-requires : goal.index_mut-requires
+index_mut-requires c = omega (arith, c.args.draft.now.marks.ok.0, there_within c.args.parts.now c.args.draft.now.marks.items c.args.number c.requires.noted.marks.length c.requires.there)
 
-pub returns-clause-marks : goal.returns-clause-marks
-returns-clause-marks c =
+pub returns-clause-noted : goal.returns-clause-noted
+returns-clause-noted c =
     let p = c.args.parts.now in
-    let rows = rows_of c.args.blocks.now c.args.chains.now in
-    let next = rows_of c.visit.new.blocks c.visit.new.chains in
-    let is : next ≡ visited p c.args.number rows = search rules in
-    let follows : MarksFollow p (set c.args.marks.now (c.args.number - 1) false) c.visit.new.marks (as_table p rows) (as_table p next) = search rules in
-    suffice_visited p c.args.marks.now c.visit.new.marks c.args.number rows next c.requires.first c.requires.well c.requires.sound c.requires.marks is follows
+    let marks = c.args.draft.now.marks.items in
+    let follows : MarksFollow p (set marks (c.args.number - 1) false) c.visit.new.draft.marks.items (table_in p c.args.draft.now) (table_in p c.visit.new.draft) = search rules in
+    record {
+      marks = suffice_visited p marks c.visit.new.draft.marks.items c.args.number (rows_held c.args.draft.now.rows) (rows_held c.visit.new.draft.rows) c.requires.first c.requires.well c.requires.sound c.requires.noted.marks (c.in_ok-change.ensures.visited.rows) follows;
+      versions = c.in_ok-change.ensures.noted.versions;
+    }

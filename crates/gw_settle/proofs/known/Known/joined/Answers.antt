@@ -1,11 +1,11 @@
 use Rattle.std.proofs.Common.{rules, ◌≡◌, ◌<◌, ℕ, sym, subst}
 use Rattle.std.specs.Prelude.{All, AllPairs}
-use Rattle.gw_flow.specs.declared.abstract_state.Amount.{Amount}
 use Rattle.gw_flow.specs.Rows.{ParamKind, KindAscends, IsOrdered}
 use Rattle.gw_flow.proofs.Ascending.{All-from_map, AllPairs-from_map}
 use Rattle.gw_settle.specs.declared.known.KnownParam.{KnownParam}
 use Rattle.gw_settle.specs.Joins.{joined}
 use Rattle.gw_settle.specs.Known.{kind_known, known_viewed}
+use Rattle.gw_settle.proofs.Keeping.{amounts_ascend}
 use Rattle.gw_settle.proofs.Ordering.{join_is_ordered}
 use Rattle.gw_settle.proofs.known.Known.joined.Goals as goal
 
@@ -22,13 +22,9 @@ params_joined-requires-clause-kinds c =
     (All-from_map (λ (e : ℕ × ParamKind). KindAscends e.1) (λ (p : KnownParam). (p.number, kind_known p.kind)) c.self.inside.lists.value.params c.self.invariant.returns)
 
 pub units_joined-requires : goal.units_joined-requires
-units_joined-requires c =
-    let is : c.as_slice-3.result.now ≡ c.self.inside.lists.value.units = search rules in
-    subst (AllPairs (λ (a b : Amount). a.entity < b.entity)) (sym is)
-    (AllPairs-from_map (λ (a b : ℕ × ℕ). a.0 < b.0) (λ (a : Amount). (a.entity, a.number)) c.self.inside.lists.value.units c.self.invariant.units)
-
-made : (c : goal.After-from_vec-3) → known_viewed (record { params = c.from_vec.result; facilities = c.from_vec-2.result; units = c.from_vec-3.result }) ≡ joined c.args.self.now c.args.state.now
-made c = search rules
+units_joined-requires c = amounts_ascend c.as_slice-3.result.now c.self.inside.lists.value.units (search rules) c.self.invariant.units
 
 pub of_lists-requires : goal.of_lists-requires
-of_lists-requires c = subst IsOrdered (sym (made c)) (join_is_ordered c.args.self.now c.args.state.now (subst IsOrdered c.self.view_is c.self.invariant) c.params.ensures.ordered)
+of_lists-requires c =
+    let all : known_viewed c.lists_of.result ≡ joined c.args.self.now c.args.state.now = search rules in
+    subst IsOrdered (sym all) (join_is_ordered c.args.self.now c.args.state.now (subst IsOrdered c.self.view_is c.self.invariant) c.params.ensures.ordered)
