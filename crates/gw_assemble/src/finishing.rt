@@ -3,22 +3,19 @@
 ghost use Rattle.std.specs.Prelude.{◌≡◌, ◌⊎◌, IfOk, IfErr, Some};
 ghost use Rattle.gw_object.specs.Grammar.{HasSpelling};
 ghost use Rattle.gw_object.specs.Reading.{out_of_memory};
-ghost use Rattle.gw_kinds.specs.Checks.{Finds};
 ghost use Rattle.gw_kinds.specs.Pass.{KindsPass};
 ghost use Rattle.gw_code_flow.specs.PlusChecks.{PlusPasses};
 ghost use Rattle.gw_settle.specs.Settles.{Passes, HasAssemblersTable};
 ghost use Rattle.gw_object.specs.declared.parts.Parts.{Parts};
-ghost use Rattle.gw_verify.specs.Checks.{first_checks, fault_of};
+ghost use Rattle.gw_verify.specs.Checks.{fault_of};
 ghost use Rattle.gw_weighing.specs.Raising.{DifferInWeights};
 ghost use Rattle.gw_assemble.specs.Completion.{IsAccepted, IsCompletion, HasNoCompletion};
 
-use gw_flow::check_plus;
-use gw_kinds::check_kinds;
 use gw_object::codes::MEMORY;
 use gw_object::{Fault, Object, Parts, Place};
 use gw_object_bytes::build;
 use gw_settle::settle;
-use gw_verify::{Verified, verify};
+use gw_verify::{Verified, check_first, verify};
 use gw_weighing::weigh;
 use std::alloc::Global;
 
@@ -36,16 +33,6 @@ const PAST_LIMIT: Fault = Fault {
     code: LIMIT,
     place: Place::Nowhere,
 };
-
-/// The first fault of kinds and of PLUS code, if there is one.
-fn check_first(object: &Object) -> Result<(), Fault>
-    ensures found { Finds result (first_checks object.now) }
-    ensures kinds { IfOk result (λ _. KindsPass object.now) }
-    ensures code { IfOk result (λ _. PlusPasses object.now) }
-{
-    check_kinds(object)?;
-    check_plus(object)
-}
 
 /// A settled object with the weights that it gets, if it is accepted.
 fn weighed(alloc: Global, settled: Object) -> Result<Verified, Fault>

@@ -4,4 +4,4 @@
 pub mod laws;
 mod verified;
 
-pub use verified::{Verified, verify};
+pub use verified::{Verified, check_first, verify};

@@ -4,6 +4,7 @@ ghost use Rattle.std.specs.Prelude.{◌≡◌, IfOk, IfErr, length, List, ℕ};
 ghost use Rattle.gw_flow.specs.Flow.{MayFind};
 ghost use Rattle.gw_kinds.specs.Checks.{Finds};
 ghost use Rattle.gw_kinds.specs.Pass.{KindsPass};
+ghost use Rattle.gw_code_flow.specs.PlusChecks.{PlusPasses};
 ghost use Rattle.gw_weights.specs.Weights.{WeightsPass};
 ghost use Rattle.gw_verify.specs.Checks.{Checked, Accepted, first_checks, checks, all_checks, heaviest as heaviest_of};
 ghost use Rattle.gw_verify.specs.Checks.{IsRefusedFor, TellsFirst};
@@ -32,10 +33,12 @@ impl Model for Verified {
     ghost invariant = { λ v. Accepted v.object };
 }
 
-/// The first fault of kinds and of PLUS code, if there is one.
-fn check_first(object: &Object) -> Result<(), Fault>
+/// The first fault of kinds and of PLUS code, if there is one: kinds (10 to 15) before PLUS code (30 to 35), in order. It
+/// takes no memory (ours: docs/refusals.md).
+pub fn check_first(object: &Object) -> Result<(), Fault>
     ensures found { Finds result (first_checks object.now) }
     ensures kinds { IfOk result (λ _. KindsPass object.now) }
+    ensures code { IfOk result (λ _. PlusPasses object.now) }
 {
     check_kinds(object)?;
     check_plus(object)
