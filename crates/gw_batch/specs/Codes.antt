@@ -4,6 +4,7 @@ use Rattle.std.specs.Option.{option_map}
 use Rattle.gw_object.specs.declared.fault.Fault.{Fault}
 use Rattle.gw_object.specs.declared.fault.Place.TheVariants.{Nowhere}
 use Rattle.gw_object.specs.Codes.{memory}
+use Rattle.gw_verdicts.specs.declared.codes.TheConstants.{WORKERS, SLICE, SPAWN, USER_FULL, SERVICE_FULL, JOURNAL_FULL, NOT_YOURS, NOT_ENDED, CANCELLED, STRANGER, ALREADY_ENDED}
 use Rattle.gw_service.specs.declared.faults.JobFault.{JobFault}
 use Rattle.gw_service.specs.declared.faults.JobFault.TheVariants as jobs
 use Rattle.gw_pool.specs.declared.faults.PoolFault.{PoolFault}
@@ -18,19 +19,19 @@ nowhere code = record { code = code; place = Nowhere }
 
 -- a service takes no more jobs
 abbrev pub service_full : ℕ
-service_full = 61
+service_full = SERVICE_FULL
 
 -- the code with which a call of the service is refused; want of memory has the code that it has everywhere
 abbrev pub job_code : JobFault → ℕ
-job_code jobs.UserFull = 60
+job_code jobs.UserFull = USER_FULL
 job_code jobs.ServiceFull = service_full
-job_code jobs.JournalFull = 62
+job_code jobs.JournalFull = JOURNAL_FULL
 job_code jobs.Memory = memory
-job_code jobs.NotYours = 64
-job_code jobs.NotEnded = 65
-job_code jobs.Cancelled = 66
-job_code jobs.Stranger = 67
-job_code jobs.AlreadyEnded = 68
+job_code jobs.NotYours = NOT_YOURS
+job_code jobs.NotEnded = NOT_ENDED
+job_code jobs.Cancelled = CANCELLED
+job_code jobs.Stranger = STRANGER
+job_code jobs.AlreadyEnded = ALREADY_ENDED
 
 -- a refusal by the service has no place
 abbrev pub job_refusal : JobFault → Fault
@@ -40,9 +41,9 @@ job_refusal fault = nowhere (job_code fault)
 
 -- the code with which workers are refused
 abbrev pub pool_code : PoolFault → ℕ
-pool_code pools.Workers = 55
-pool_code pools.Slice = 56
-pool_code pools.Spawn = 57
+pool_code pools.Workers = WORKERS
+pool_code pools.Slice = SLICE
+pool_code pools.Spawn = SPAWN
 pool_code pools.Memory = memory
 
 abbrev pub pool_refusal : PoolFault → Fault

@@ -11,5 +11,6 @@ mod ticket;
 
 pub use answer::answer_batch;
 pub use entry::{Entry, LENGTH_BYTES, MOST_OBJECTS};
-pub use refusals::{SERVICE_FULL, refusal_of_job, refusal_of_words};
+pub use gw_verdicts::codes::SERVICE_FULL;
+pub use refusals::{refusal_of_job, refusal_of_words};
 pub use telling::reply_to;

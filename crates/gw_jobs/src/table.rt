@@ -3,17 +3,7 @@
 ghost use Rattle.std.specs.Prelude.{◌≡◌, ◌+◌, ◌≤◌, ◌<◌, ◌^◌, None, Some, Ok, IfOk, IfErr, OnErr};
 ghost use Rattle.gw_service.specs.Rows.{out_of, steps_of};
 ghost use Rattle.gw_service.specs.Journal.{new_service, with_event, Submit, Cancel};
-ghost use Rattle.gw_service.specs.Calls.{
-  new_pass,
-  submit_fault,
-  take_reply,
-  RefusesTake,
-  poll_reply,
-  collect_reply,
-  cancel_fault,
-  fault_in,
-  Refuses,
-};
+ghost use Rattle.gw_service.specs.Calls.{new_pass, submit_fault, take_reply, RefusesTake, poll_reply, collect_reply, cancel_fault, fault_in, Refuses};
 ghost use Rattle.gw_service.specs.Keeping.{IsKept};
 ghost use Rattle.gw_jobs.specs.Passes.{steps_made};
 ghost use Rattle.gw_jobs.specs.Answers.{IsCollected, AnswersTake, after_take, CountsTake, reply_to, after_return, ComesBack};

@@ -48,16 +48,12 @@ RefusesRun None answer = (answer ≡ faults.Spawn) ⊎ (answer ≡ faults.Memory
 -- 1 for a worker that was started
 abbrev pub started_in : Ending → ℕ
 started_in endings.NotStarted = 0
-started_in endings.Finished = 1
-started_in endings.Short = 1
-started_in (endings.Stray task) = 1
+started_in ending = 1
 
 -- 1 for a worker that memory ended
 abbrev pub short_in : Ending → ℕ
-short_in endings.NotStarted = 0
-short_in endings.Finished = 0
 short_in endings.Short = 1
-short_in (endings.Stray task) = 0
+short_in ending = 0
 
 -- 1 for a worker whose task the table didn't take back
 abbrev pub strays_in : Ending → ℕ

@@ -19,7 +19,7 @@ pub use board::{Board, Seat};
 pub use crew::Crew;
 pub use faults::PoolFault;
 pub use gate::{Gate, OpenGate};
-pub use service::Service;
+pub use service::{Service, range_fault};
 pub use share::Share;
 pub use shared::{Shared, new_shared};
 pub use totals::Totals;

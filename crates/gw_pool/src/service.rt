@@ -44,7 +44,7 @@ impl<R: Ledger, S: Ledger> Model for Service<R, S> {
 }
 
 /// The first number out of its range: that of the workers, else that of the steps of a slice.
-fn range_fault(workers: u32, slice: u32) -> Option<PoolFault>
+pub fn range_fault(workers: u32, slice: u32) -> Option<PoolFault>
     ensures { result ≡ model.range_fault workers slice }
 {
     if workers == 0 || workers > MOST_WORKERS {

@@ -1,17 +1,7 @@
 //! The lines of the entities.
 
 ghost use Rattle.std.specs.Prelude.{◌<◌, ◌++◌, length, codes};
-ghost use Rattle.gw_report.specs.Report.{
-  Puts,
-  contents_text,
-  ownership_text,
-  waiting_for,
-  facility_line,
-  storage_line,
-  queue_line,
-  lines_of,
-  lines_of_entities,
-};
+ghost use Rattle.gw_report.specs.Report.{Puts, contents_text, ownership_text, waiting_for, facility_line, storage_line, queue_line, lines_of, lines_of_entities};
 
 use crate::tables::put_table_lines;
 use crate::text::{put, put_average, put_name, put_number};

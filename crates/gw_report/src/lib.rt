@@ -7,13 +7,7 @@ mod tables;
 pub mod text;
 
 ghost use Rattle.std.specs.Prelude.{◌≡◌, IfOk};
-ghost use Rattle.gw_report.specs.Report.{
-  Puts,
-  status_word as word_of_status,
-  counts,
-  end_line,
-  report_of,
-};
+ghost use Rattle.gw_report.specs.Report.{Puts, status_word as word_of_status, counts, end_line, report_of};
 
 use blocks::put_block_lines;
 use entities::put_entity_lines;

@@ -1,7 +1,24 @@
 -- The derived `==` of blocks and of their operands answers true only for equal values.
 use denote.Enum.Bare.{same_true}
 use Rattle.gw_same.specs.Same.{TellsApart, same_operand, same_block}
-use Rattle.gw_same.proofs.Fields.{OnlyEqual, apart, nat_only, int_only, bool_only, option_only, next, ◌⊕◌, bare, no_more, of_choices}
+use Rattle.gw_same.proofs.Fields.{OnlyEqual, apart, nat_only, int_only, bool_only, option_only, of_fields, ◌⊗◌, ◌⊕◌, bare, no_more, of_choices}
+use Rattle.gw_blocks.specs.declared.parts.Assign.{Assign}
+use Rattle.gw_blocks.specs.declared.parts.Call.{Call}
+use Rattle.gw_blocks.specs.declared.parts.Fraction.{Fraction}
+use Rattle.gw_blocks.specs.declared.parts.Gate.{Gate}
+use Rattle.gw_blocks.specs.declared.parts.Generate.{Generate}
+use Rattle.gw_blocks.specs.declared.parts.Link.{Link}
+use Rattle.gw_blocks.specs.declared.parts.Logic.{Logic}
+use Rattle.gw_blocks.specs.declared.parts.Loop.{Loop}
+use Rattle.gw_blocks.specs.declared.parts.Numbered.{Numbered}
+use Rattle.gw_blocks.specs.declared.parts.Plus.{Plus}
+use Rattle.gw_blocks.specs.declared.parts.Priority.{Priority}
+use Rattle.gw_blocks.specs.declared.parts.Save.{Save}
+use Rattle.gw_blocks.specs.declared.parts.Split.{Split}
+use Rattle.gw_blocks.specs.declared.parts.Spread.{Spread}
+use Rattle.gw_blocks.specs.declared.parts.Test.{Test}
+use Rattle.gw_blocks.specs.declared.parts.Units.{Units}
+use Rattle.gw_blocks.specs.declared.parts.Unlink.{Unlink}
 use Rattle.gw_blocks.specs.contracts.parts.AttributePartialEq.TheImpl as attribute_eq
 use Rattle.gw_blocks.specs.contracts.parts.Attribute as attribute_type
 use Rattle.gw_blocks.specs.contracts.parts.EntityAttributePartialEq.TheImpl as entity_attribute_eq
@@ -49,10 +66,7 @@ pub entity_attribute_only : OnlyEqual entity_attribute_eq.ghosts.eq
 entity_attribute_only = same_true entity_attribute_type.the_type tt
 
 pub numbered_only : OnlyEqual numbered_eq.ghosts.eq
-numbered_only x y h =
-    let attribute = next entity_attribute_only x.attribute y.attribute h in
-    let number = nat_only x.number y.number attribute.1 in
-    λ i. record { attribute = attribute.0 i; number = number i }
+numbered_only = of_fields (λ (x : Numbered). (x.attribute, x.number)) (λ f. record { attribute = f.0; number = f.1 }) (λ x i. x) (entity_attribute_only ⊗ nat_only)
 
 pub operand_only : OnlyEqual operand_eq.ghosts.eq
 operand_only = of_choices operand_type.enum (int_only ⊕ nat_only ⊕ attribute_only ⊕ numbered_only ⊕ nat_only ⊕ nat_only ⊕ no_more)
@@ -63,53 +77,28 @@ operand_apart = apart operand_laws.laws-law operand_only
 -- TIMES, UNITS AND VALUES
 
 pub spread_only : OnlyEqual spread_eq.ghosts.eq
-spread_only x y h =
-    let mean = next operand_only x.mean y.mean h in
-    let half = operand_only x.half y.half mean.1 in
-    λ i. record { mean = mean.0 i; half = half i }
+spread_only = of_fields (λ (x : Spread). (x.mean, x.half)) (λ f. record { mean = f.0; half = f.1 }) (λ x i. x) (operand_only ⊗ operand_only)
 
 pub generate_only : OnlyEqual generate_eq.ghosts.eq
-generate_only x y h =
-    let interval = next spread_only x.interval y.interval h in
-    let first = next (option_only int_only) x.first y.first interval.1 in
-    let limit = next (option_only nat_only) x.limit y.limit first.1 in
-    let priority = int_only x.priority y.priority limit.1 in
-    λ i. record { interval = interval.0 i; first = first.0 i; limit = limit.0 i; priority = priority i }
+generate_only = of_fields (λ (x : Generate). (x.interval, (x.first, (x.limit, x.priority)))) (λ f. record { interval = f.0; first = f.1.0; limit = f.1.1.0; priority = f.1.1.1 }) (λ x i. x) (spread_only ⊗ option_only int_only ⊗ option_only nat_only ⊗ int_only)
 
 pub units_only : OnlyEqual units_eq.ghosts.eq
-units_only x y h =
-    let entity = next nat_only x.entity y.entity h in
-    let number = nat_only x.number y.number entity.1 in
-    λ i. record { entity = entity.0 i; number = number i }
+units_only = of_fields (λ (x : Units). (x.entity, x.number)) (λ f. record { entity = f.0; number = f.1 }) (λ x i. x) (nat_only ⊗ nat_only)
 
 pub mode_only : OnlyEqual mode_eq.ghosts.eq
 mode_only = same_true mode_type.the_type tt
 
 pub assign_only : OnlyEqual assign_eq.ghosts.eq
-assign_only x y h =
-    let parameter = next nat_only x.parameter y.parameter h in
-    let mode = next mode_only x.mode y.mode parameter.1 in
-    let value = operand_only x.value y.value mode.1 in
-    λ i. record { parameter = parameter.0 i; mode = mode.0 i; value = value i }
+assign_only = of_fields (λ (x : Assign). (x.parameter, (x.mode, x.value))) (λ f. record { parameter = f.0; mode = f.1.0; value = f.1.1 }) (λ x i. x) (nat_only ⊗ mode_only ⊗ operand_only)
 
 pub save_only : OnlyEqual save_eq.ghosts.eq
-save_only x y h =
-    let savevalue = next nat_only x.savevalue y.savevalue h in
-    let mode = next mode_only x.mode y.mode savevalue.1 in
-    let value = operand_only x.value y.value mode.1 in
-    λ i. record { savevalue = savevalue.0 i; mode = mode.0 i; value = value i }
+save_only = of_fields (λ (x : Save). (x.savevalue, (x.mode, x.value))) (λ f. record { savevalue = f.0; mode = f.1.0; value = f.1.1 }) (λ x i. x) (nat_only ⊗ mode_only ⊗ operand_only)
 
 pub plus_only : OnlyEqual plus_eq.ghosts.eq
-plus_only x y h =
-    let value = next operand_only x.value y.value h in
-    let parameter = option_only nat_only x.parameter y.parameter value.1 in
-    λ i. record { value = value.0 i; parameter = parameter i }
+plus_only = of_fields (λ (x : Plus). (x.value, x.parameter)) (λ f. record { value = f.0; parameter = f.1 }) (λ x i. x) (operand_only ⊗ option_only nat_only)
 
 pub priority_only : OnlyEqual priority_eq.ghosts.eq
-priority_only x y h =
-    let value = next operand_only x.value y.value h in
-    let behind = bool_only x.behind y.behind value.1 in
-    λ i. record { value = value.0 i; behind = behind i }
+priority_only = of_fields (λ (x : Priority). (x.value, x.behind)) (λ f. record { value = f.0; behind = f.1 }) (λ x i. x) (operand_only ⊗ bool_only)
 
 -- CONDITIONS
 
@@ -117,58 +106,33 @@ pub comparison_only : OnlyEqual comparison_eq.ghosts.eq
 comparison_only = same_true comparison_type.the_type tt
 
 pub test_only : OnlyEqual test_eq.ghosts.eq
-test_only x y h =
-    let comparison = next comparison_only x.comparison y.comparison h in
-    let left = next operand_only x.left y.left comparison.1 in
-    let right = next operand_only x.right y.right left.1 in
-    let otherwise = option_only nat_only x.otherwise y.otherwise right.1 in
-    λ i. record { comparison = comparison.0 i; left = left.0 i; right = right.0 i; otherwise = otherwise i }
+test_only = of_fields (λ (x : Test). (x.comparison, (x.left, (x.right, x.otherwise)))) (λ f. record { comparison = f.0; left = f.1.0; right = f.1.1.0; otherwise = f.1.1.1 }) (λ x i. x) (comparison_only ⊗ operand_only ⊗ operand_only ⊗ option_only nat_only)
 
 pub condition_only : OnlyEqual condition_eq.ghosts.eq
 condition_only = same_true condition_type.the_type tt
 
 pub gate_only : OnlyEqual gate_eq.ghosts.eq
-gate_only x y h =
-    let condition = next condition_only x.condition y.condition h in
-    let entity = next nat_only x.entity y.entity condition.1 in
-    let otherwise = option_only nat_only x.otherwise y.otherwise entity.1 in
-    λ i. record { condition = condition.0 i; entity = entity.0 i; otherwise = otherwise i }
+gate_only = of_fields (λ (x : Gate). (x.condition, (x.entity, x.otherwise))) (λ f. record { condition = f.0; entity = f.1.0; otherwise = f.1.1 }) (λ x i. x) (condition_only ⊗ nat_only ⊗ option_only nat_only)
 
 pub switch_action_only : OnlyEqual switch_action_eq.ghosts.eq
 switch_action_only = same_true switch_action_type.the_type tt
 
 pub logic_only : OnlyEqual logic_eq.ghosts.eq
-logic_only x y h =
-    let action = next switch_action_only x.action y.action h in
-    let switch = nat_only x.switch y.switch action.1 in
-    λ i. record { action = action.0 i; switch = switch i }
+logic_only = of_fields (λ (x : Logic). (x.action, x.switch)) (λ f. record { action = f.0; switch = f.1 }) (λ x i. x) (switch_action_only ⊗ nat_only)
 
 -- WAYS AND COPIES
 
 pub fraction_only : OnlyEqual fraction_eq.ghosts.eq
-fraction_only x y h =
-    let thousandths = next nat_only x.thousandths y.thousandths h in
-    let otherwise = next (option_only nat_only) x.otherwise y.otherwise thousandths.1 in
-    let target = nat_only x.target y.target otherwise.1 in
-    λ i. record { thousandths = thousandths.0 i; otherwise = otherwise.0 i; target = target i }
+fraction_only = of_fields (λ (x : Fraction). (x.thousandths, (x.otherwise, x.target))) (λ f. record { thousandths = f.0; otherwise = f.1.0; target = f.1.1 }) (λ x i. x) (nat_only ⊗ option_only nat_only ⊗ nat_only)
 
 pub call_only : OnlyEqual call_eq.ghosts.eq
-call_only x y h =
-    let target = next nat_only x.target y.target h in
-    let parameter = nat_only x.parameter y.parameter target.1 in
-    λ i. record { target = target.0 i; parameter = parameter i }
+call_only = of_fields (λ (x : Call). (x.target, x.parameter)) (λ f. record { target = f.0; parameter = f.1 }) (λ x i. x) (nat_only ⊗ nat_only)
 
 pub loop_only : OnlyEqual loop_eq.ghosts.eq
-loop_only x y h =
-    let parameter = next nat_only x.parameter y.parameter h in
-    let target = nat_only x.target y.target parameter.1 in
-    λ i. record { parameter = parameter.0 i; target = target i }
+loop_only = of_fields (λ (x : Loop). (x.parameter, x.target)) (λ f. record { parameter = f.0; target = f.1 }) (λ x i. x) (nat_only ⊗ nat_only)
 
 pub split_only : OnlyEqual split_eq.ghosts.eq
-split_only x y h =
-    let copies = next nat_only x.copies y.copies h in
-    let target = option_only nat_only x.target y.target copies.1 in
-    λ i. record { copies = copies.0 i; target = target i }
+split_only = of_fields (λ (x : Split). (x.copies, x.target)) (λ f. record { copies = f.0; target = f.1 }) (λ x i. x) (nat_only ⊗ option_only nat_only)
 
 -- USER CHAINS
 
@@ -176,17 +140,10 @@ pub link_order_only : OnlyEqual link_order_eq.ghosts.eq
 link_order_only = same_true link_order_type.the_type tt
 
 pub link_only : OnlyEqual link_eq.ghosts.eq
-link_only x y h =
-    let chain = next nat_only x.chain y.chain h in
-    let order = link_order_only x.order y.order chain.1 in
-    λ i. record { chain = chain.0 i; order = order i }
+link_only = of_fields (λ (x : Link). (x.chain, x.order)) (λ f. record { chain = f.0; order = f.1 }) (λ x i. x) (nat_only ⊗ link_order_only)
 
 pub unlink_only : OnlyEqual unlink_eq.ghosts.eq
-unlink_only x y h =
-    let chain = next nat_only x.chain y.chain h in
-    let target = next nat_only x.target y.target chain.1 in
-    let most = option_only nat_only x.most y.most target.1 in
-    λ i. record { chain = chain.0 i; target = target.0 i; most = most i }
+unlink_only = of_fields (λ (x : Unlink). (x.chain, (x.target, x.most))) (λ f. record { chain = f.0; target = f.1.0; most = f.1.1 }) (λ x i. x) (nat_only ⊗ nat_only ⊗ option_only nat_only)
 
 -- BLOCKS
 

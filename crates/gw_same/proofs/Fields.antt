@@ -1,5 +1,5 @@
 -- A derived `==` answers true only for equal values where those of the fields do.
-use Rattle.std.proofs.Common.{◌≡◌, [], ◌∷◌, Some, None, Bool, true, false, refl, sym, ap, subst}
+use Rattle.std.proofs.Common.{◌≡◌, [], ◌∷◌, Some, None, Bool, true, false, refl, sym, ap, ◌∙◌, subst}
 use Rattle.std.specs.Prelude.{◌&&◌, nat_eq}
 use Rattle.std.specs.Option.{option_eq}
 use Rattle.std.specs.Ordering.{int_eq}
@@ -46,9 +46,17 @@ list_only {K} {E} only (x ∷ xs) (y ∷ ys) h =
 
 -- STRUCTS: `==` tests the fields, one after the other
 
--- the first of several fields is equal, and the test of the others passes
-pub next : {K : Type 0} {E : K → K → Bool} {rest : Bool} → OnlyEqual E → (x y : K) → (E x y && rest) ≡ true → (x ≡ y) × (rest ≡ true)
-next {K} {E} {rest} only x y h = (only x y (first_so (E x y) rest h), second_so (E x y) rest h)
+-- the first field, and then the others
+infixr 30 ◌⊗◌
+pub ◌⊗◌ : {A B : Type 0} {E : A → A → Bool} {F : B → B → Bool} → OnlyEqual E → OnlyEqual F → OnlyEqual (λ (x y : A × B). E x.0 y.0 && F x.1 y.1)
+◌⊗◌ {A} {B} {E} {F} only others x y h =
+    let first = only x.0 y.0 (first_so (E x.0 y.0) (F x.1 y.1) h) in
+    let rest = others x.1 y.1 (second_so (E x.0 y.0) (F x.1 y.1) h) in
+    λ i. (first i, rest i)
+
+-- two values of a struct that have the same fields are equal
+pub of_fields : {K T : Type 0} {E : T → T → Bool} (fields : K → T) (of : T → K) → ((x : K) → of (fields x) ≡ x) → OnlyEqual E → OnlyEqual (λ (x y : K). E (fields x) (fields y))
+of_fields fields of whole only x y h = sym (whole x) ∙ ap of (only (fields x) (fields y) h) ∙ whole y
 
 -- ENUMS: a value is the choice of a variant, with its fields; `==` tests whether both choose the first variant, and else goes on among the others
 

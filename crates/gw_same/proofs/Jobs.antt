@@ -5,16 +5,15 @@ use Rattle.gw_object.specs.contracts.parts.PartsEq.TheImpl.Laws as parts_laws
 use Rattle.gw_step.specs.Job.{Job}
 use Rattle.gw_same.specs.Same.{TellsApart}
 use Rattle.gw_same.specs.Jobs.{same_job}
-use Rattle.gw_same.proofs.Fields.{OnlyEqual, apart, nat_only, list_only, next}
+use Rattle.gw_same.proofs.Fields.{OnlyEqual, apart, nat_only, list_only, of_fields, ◌⊗◌}
 use Rattle.gw_same.proofs.Objects.{parts_only}
 
 job_only : OnlyEqual same_job
-job_only x y h =
-    let budget = next nat_only x.budget y.budget h in
-    let count = next nat_only x.count y.count budget.1 in
-    let streams = next (list_only nat_only) x.streams y.streams count.1 in
-    let parts = parts_only x.parts y.parts streams.1 in
-    λ i. record { parts = parts i; streams = streams.0 i; count = count.0 i; budget = budget.0 i }
+job_only = of_fields
+    (λ (j : Job). (j.budget, (j.count, (j.streams, j.parts))))
+    (λ f. record { parts = f.1.1.1; streams = f.1.1.0; count = f.1.0; budget = f.0 })
+    (λ x i. x)
+    (nat_only ⊗ nat_only ⊗ list_only nat_only ⊗ parts_only)
 
 -- what the law of `Eq` asks for
 pub job_equivalence : IsEquivalence same_job

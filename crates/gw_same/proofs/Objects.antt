@@ -1,8 +1,16 @@
 -- The derived `==` of entities, of rows of the state table, and of the parts of objects answers true only for equal values.
 use Rattle.gw_same.specs.Same.{TellsApart, same_entity, same_state, same_parts}
-use Rattle.gw_same.proofs.Fields.{OnlyEqual, apart, nat_only, int_only, bool_only, option_only, list_only, next, ◌⊕◌, bare, no_more, of_choices}
+use Rattle.gw_same.proofs.Fields.{OnlyEqual, apart, nat_only, int_only, bool_only, option_only, list_only, of_fields, ◌⊗◌, ◌⊕◌, bare, no_more, of_choices}
 use Rattle.gw_same.proofs.Blocks.{operand_only, units_only, block_only}
 use Rattle.gw_same.proofs.Procedures.{procedure_only}
+use Rattle.gw_object.specs.declared.parts.Entity.{Entity}
+use Rattle.gw_object.specs.declared.parts.Function.{Function}
+use Rattle.gw_object.specs.declared.parts.Parts.{Parts}
+use Rattle.gw_object.specs.declared.parts.Point.{Point}
+use Rattle.gw_object.specs.declared.parts.ReturnRow.{ReturnRow}
+use Rattle.gw_object.specs.declared.parts.Table.{Table}
+use Rattle.gw_object.specs.declared.parts.TableParameter.{TableParameter}
+use Rattle.gw_object.specs.declared.parts.TableState.{TableState}
 use Rattle.gw_object.specs.contracts.parts.TablePartialEq.TheImpl as table_eq
 use Rattle.gw_object.specs.contracts.parts.PointPartialEq.TheImpl as point_eq
 use Rattle.gw_object.specs.contracts.parts.FunctionPartialEq.TheImpl as function_eq
@@ -22,33 +30,19 @@ use Rattle.gw_object.specs.contracts.parts.PartsEq.TheImpl.Laws as parts_laws
 -- ENTITIES
 
 pub table_only : OnlyEqual table_eq.ghosts.eq
-table_only x y h =
-    let argument = next operand_only x.argument y.argument h in
-    let limit = next int_only x.limit y.limit argument.1 in
-    let width = next nat_only x.width y.width limit.1 in
-    let classes = nat_only x.classes y.classes width.1 in
-    λ i. record { argument = argument.0 i; limit = limit.0 i; width = width.0 i; classes = classes i }
+table_only = of_fields (λ (x : Table). (x.argument, (x.limit, (x.width, x.classes)))) (λ f. record { argument = f.0; limit = f.1.0; width = f.1.1.0; classes = f.1.1.1 }) (λ x i. x) (operand_only ⊗ int_only ⊗ nat_only ⊗ nat_only)
 
 pub point_only : OnlyEqual point_eq.ghosts.eq
-point_only a b h =
-    let argument = next int_only a.x b.x h in
-    let value = int_only a.y b.y argument.1 in
-    λ i. record { x = argument.0 i; y = value i }
+point_only = of_fields (λ (x : Point). (x.x, x.y)) (λ f. record { x = f.0; y = f.1 }) (λ x i. x) (int_only ⊗ int_only)
 
 pub function_only : OnlyEqual function_eq.ghosts.eq
-function_only x y h =
-    let argument = next operand_only x.argument y.argument h in
-    let points = list_only point_only x.points y.points argument.1 in
-    λ i. record { argument = argument.0 i; points = points i }
+function_only = of_fields (λ (x : Function). (x.argument, x.points)) (λ f. record { argument = f.0; points = f.1 }) (λ x i. x) (operand_only ⊗ list_only point_only)
 
 pub kind_only : OnlyEqual kind_eq.ghosts.eq
 kind_only = of_choices kind_type.enum (bare (nat_only ⊕ bare (bool_only ⊕ int_only ⊕ table_only ⊕ bare (nat_only ⊕ nat_only ⊕ function_only ⊕ no_more))))
 
 pub entity_only : OnlyEqual entity_eq.ghosts.eq
-entity_only x y h =
-    let name = next (list_only nat_only) x.name y.name h in
-    let kind = kind_only x.kind y.kind name.1 in
-    λ i. record { name = name.0 i; kind = kind i }
+entity_only = of_fields (λ (x : Entity). (x.name, x.kind)) (λ f. record { name = f.0; kind = f.1 }) (λ x i. x) (list_only nat_only ⊗ kind_only)
 
 pub entity_apart : TellsApart same_entity
 entity_apart = apart entity_laws.laws-law entity_only
@@ -59,22 +53,13 @@ pub table_kind_only : OnlyEqual table_kind_eq.ghosts.eq
 table_kind_only = of_choices table_kind_type.enum (bare (nat_only ⊕ no_more))
 
 pub table_parameter_only : OnlyEqual table_parameter_eq.ghosts.eq
-table_parameter_only x y h =
-    let number = next nat_only x.number y.number h in
-    let kind = table_kind_only x.kind y.kind number.1 in
-    λ i. record { number = number.0 i; kind = kind i }
+table_parameter_only = of_fields (λ (x : TableParameter). (x.number, x.kind)) (λ f. record { number = f.0; kind = f.1 }) (λ x i. x) (nat_only ⊗ table_kind_only)
 
 pub return_row_only : OnlyEqual return_row_eq.ghosts.eq
-return_row_only x y h =
-    let blocks_same = (list_only nat_only) x.blocks y.blocks h in
-    λ i. record { blocks = blocks_same i }
+return_row_only = of_fields (λ (x : ReturnRow). x.blocks) (λ f. record { blocks = f }) (λ x i. x) (list_only nat_only)
 
 pub table_state_only : OnlyEqual table_state_eq.ghosts.eq
-table_state_only x y h =
-    let parameters = next (list_only table_parameter_only) x.parameters y.parameters h in
-    let facilities = next (list_only nat_only) x.facilities y.facilities parameters.1 in
-    let units = list_only units_only x.units y.units facilities.1 in
-    λ i. record { parameters = parameters.0 i; facilities = facilities.0 i; units = units i }
+table_state_only = of_fields (λ (x : TableState). (x.parameters, (x.facilities, x.units))) (λ f. record { parameters = f.0; facilities = f.1.0; units = f.1.1 }) (λ x i. x) (list_only table_parameter_only ⊗ list_only nat_only ⊗ list_only units_only)
 
 pub state_apart : TellsApart same_state
 state_apart = apart state_laws.laws-law table_state_only
@@ -82,29 +67,9 @@ state_apart = apart state_laws.laws-law table_state_only
 -- PARTS
 
 pub parts_only : OnlyEqual parts_eq.ghosts.eq
-parts_only x y h =
-    let seeds = next (list_only nat_only) x.seeds y.seeds h in
-    let count = next nat_only x.count y.count seeds.1 in
-    let entities = next (list_only entity_only) x.entities y.entities count.1 in
-    let procedures = next (list_only procedure_only) x.procedures y.procedures entities.1 in
-    let blocks = next (list_only block_only) x.blocks y.blocks procedures.1 in
-    let returns = next (list_only return_row_only) x.returns y.returns blocks.1 in
-    let states = next (list_only (option_only table_state_only)) x.states y.states returns.1 in
-    let chain_states = next (list_only (option_only table_state_only)) x.chain_states y.chain_states states.1 in
-    let weights = next (list_only nat_only) x.weights y.weights chain_states.1 in
-    let chain_weights = list_only nat_only x.chain_weights y.chain_weights weights.1 in
-    λ i. record {
-      seeds = seeds.0 i;
-      count = count.0 i;
-      entities = entities.0 i;
-      procedures = procedures.0 i;
-      blocks = blocks.0 i;
-      returns = returns.0 i;
-      states = states.0 i;
-      chain_states = chain_states.0 i;
-      weights = weights.0 i;
-      chain_weights = chain_weights i;
-    }
+parts_only = of_fields
+    (λ (x : Parts). (x.seeds, (x.count, (x.entities, (x.procedures, (x.blocks, (x.returns, (x.states, (x.chain_states, (x.weights, x.chain_weights))))))))))
+    (λ f. record { seeds = f.0; count = f.1.0; entities = f.1.1.0; procedures = f.1.1.1.0; blocks = f.1.1.1.1.0; returns = f.1.1.1.1.1.0; states = f.1.1.1.1.1.1.0; chain_states = f.1.1.1.1.1.1.1.0; weights = f.1.1.1.1.1.1.1.1.0; chain_weights = f.1.1.1.1.1.1.1.1.1 }) (λ x i. x) (list_only nat_only ⊗ nat_only ⊗ list_only entity_only ⊗ list_only procedure_only ⊗ list_only block_only ⊗ list_only return_row_only ⊗ list_only (option_only table_state_only) ⊗ list_only (option_only table_state_only) ⊗ list_only nat_only ⊗ list_only nat_only)
 
 pub parts_apart : TellsApart same_parts
 parts_apart = apart parts_laws.laws-law parts_only

@@ -16,59 +16,34 @@ alike u c d s t agree same h g =
 
 -- A USER ALONE
 
-own_notices : ℕ → List Concern → List Row → List Notice
-own_notices u [] rows = []
-own_notices u (x ∷ xs) rows = with_notice (own_notice x rows) (own_notices u xs (own_next u x rows))
+-- what the user is told, and the user's rows then
+own_run : ℕ → List Concern → List Row → List Notice × List Row
+own_run u [] rows = ([], rows)
+own_run u (x ∷ xs) rows =
+    let rest = own_run u xs (own_next u x rows) in
+    (with_notice (own_notice x rows) rest.0, rest.1)
 
-own_all_next : ℕ → List Concern → List Row → List Row
-own_all_next u [] rows = rows
-own_all_next u (x ∷ xs) rows = own_all_next u xs (own_next u x rows)
+run-with : (u : ℕ) (x : Concern) (xs : List Concern) (rows : List Row) → own_run u (x ∷ xs) rows ≡ own_run u (with_concern x xs) rows
+unfolding own_run
+run-with u (OwnSubmit j) xs rows = refl
+run-with u (OwnPoll p j) xs rows = refl
+run-with u (OwnCollect p j) xs rows = refl
+run-with u (OwnCancel p j) xs rows = refl
+run-with u (OwnTake i) xs rows = refl
+run-with u (OwnReturn i n) xs rows = refl
+run-with u NoConcern xs rows = refl
 
-told-with : (u : ℕ) (x : Concern) (xs : List Concern) (rows : List Row) → with_notice (own_notice x rows) (own_notices u xs (own_next u x rows)) ≡ own_notices u (with_concern x xs) rows
-unfolding own_notices
-told-with u (OwnSubmit j) xs rows = refl
-told-with u (OwnPoll p j) xs rows = refl
-told-with u (OwnCollect p j) xs rows = refl
-told-with u (OwnCancel p j) xs rows = refl
-told-with u (OwnTake i) xs rows = refl
-told-with u (OwnReturn i n) xs rows = refl
-told-with u NoConcern xs rows = refl
-
-next-with : (u : ℕ) (x : Concern) (xs : List Concern) (rows : List Row) → own_all_next u xs (own_next u x rows) ≡ own_all_next u (with_concern x xs) rows
-unfolding own_all_next
-next-with u (OwnSubmit j) xs rows = refl
-next-with u (OwnPoll p j) xs rows = refl
-next-with u (OwnCollect p j) xs rows = refl
-next-with u (OwnCancel p j) xs rows = refl
-next-with u (OwnTake i) xs rows = refl
-next-with u (OwnReturn i n) xs rows = refl
-next-with u NoConcern xs rows = refl
-
-run-told : (u : ℕ) (cs : List Call) (s : Service) → NeverLimited u cs s → notices u cs s ≡ own_notices u (concerns u cs s) (rows_of u s.now.rows)
-unfolding own_notices
-run-told u [] s h = refl
-run-told u (c ∷ cs) s h =
+run-is : (u : ℕ) (cs : List Call) (s : Service) → NeverLimited u cs s → (notices u cs s, rows_of u (all_next cs s).now.rows) ≡ own_run u (concerns u cs s) (rows_of u s.now.rows)
+unfolding own_run
+run-is u [] s h = refl
+run-is u (c ∷ cs) s h =
     let p = private u c s h.0 in
-    let x = concern u c s in
     let xs = concerns u cs (next c s) in
-    ap (λ (t : Notice). with_notice t (notices u cs (next c s))) p.notice
-    ∙ ap (with_notice (own_notice x (rows_of u s.now.rows))) (run-told u cs (next c s) h.1 ∙ ap (own_notices u xs) p.rows)
-    ∙ told-with u x xs (rows_of u s.now.rows)
-
-run-next : (u : ℕ) (cs : List Call) (s : Service) → NeverLimited u cs s → rows_of u (all_next cs s).now.rows ≡ own_all_next u (concerns u cs s) (rows_of u s.now.rows)
-unfolding own_all_next
-run-next u [] s h = refl
-run-next u (c ∷ cs) s h =
-    let p = private u c s h.0 in
-    let x = concern u c s in
-    let xs = concerns u cs (next c s) in
-    run-next u cs (next c s) h.1 ∙ ap (own_all_next u xs) p.rows ∙ next-with u x xs (rows_of u s.now.rows)
+    let rest = run-is u cs (next c s) h.1 ∙ ap (own_run u xs) p.rows in
+    (λ i. (with_notice (p.notice i) (rest i).0, (rest i).1)) ∙ run-with u (concern u c s) xs (rows_of u s.now.rows)
 
 pub all_alike : SameCallsSameReplies
 all_alike u cs ds s t agree same h g =
-    let told : own_notices u (concerns u cs s) (rows_of u s.now.rows) ≡ own_notices u (concerns u ds t) (rows_of u t.now.rows) = ap (λ (xs : List Concern). own_notices u xs (rows_of u s.now.rows)) same ∙ ap (own_notices u (concerns u ds t)) agree in
-    let rows : own_all_next u (concerns u cs s) (rows_of u s.now.rows) ≡ own_all_next u (concerns u ds t) (rows_of u t.now.rows) = ap (λ (xs : List Concern). own_all_next u xs (rows_of u s.now.rows)) same ∙ ap (own_all_next u (concerns u ds t)) agree in
-    record {
-      notices = run-told u cs s h ∙ told ∙ sym (run-told u ds t g);
-      agree = run-next u cs s h ∙ rows ∙ sym (run-next u ds t g);
-    }
+    let both : own_run u (concerns u cs s) (rows_of u s.now.rows) ≡ own_run u (concerns u ds t) (rows_of u t.now.rows) = ap (λ (xs : List Concern). own_run u xs (rows_of u s.now.rows)) same ∙ ap (own_run u (concerns u ds t)) agree in
+    let told = run-is u cs s h ∙ both ∙ sym (run-is u ds t g) in
+    record { notices = λ i. (told i).0; agree = λ i. (told i).1 }

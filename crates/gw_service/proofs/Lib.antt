@@ -1,3 +1,4 @@
+pub mod Standings
 pub mod Rows
 pub mod Private
 pub mod Alike

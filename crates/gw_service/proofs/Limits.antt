@@ -6,10 +6,11 @@ use Rattle.std.proofs.lemmas.List.{length_push}
 use Rattle.std.proofs.lemmas.Bool.Decides.{nat_tests}
 use Rattle.gw_step.specs.Job.{Job}
 use Rattle.gw_service.specs.declared.faults.JobFault.TheVariants as faults
-use Rattle.gw_service.specs.Rows.{Standing, Ready, Out, Ended, Cancelled, CancelledOut, Row, change_row, new_row, taken_row, returned_row, cancelled_row, standing_back, standing_off, is_ready, is_out, is_running, rows_of, running_in}
+use Rattle.gw_service.specs.Rows.{Standing, Ready, Out, Ended, Cancelled, CancelledOut, Row, change_row, new_row, taken_row, returned_row, cancelled_row, standing_back, standing_off, is_out, is_running, rows_of, running_in}
 use Rattle.gw_service.specs.Journal.{Service, Event, Submit, Take, Return, Cancel, with_event, new_service}
 use Rattle.gw_service.specs.Calls.{places_of, most_events, most_jobs, most_running, is_journal_full, is_user_full, submit_fault}
 use Rattle.gw_service.specs.Keeping.{ListsReady, IsWithinLimits, NextIsWithinLimits, EveryServiceIsWithinLimits}
+use Rattle.gw_service.proofs.Standings.{ready_runs, out_runs}
 use Rattle.gw_service.proofs.Rows.{are_equal, rows-added, rows-others}
 use Rattle.gw_service.proofs.Changing.{one_if, length-changed}
 use Rattle.gw_service.proofs.Grounds.{TakeGrounds, ReturnGrounds, CancelGrounds, Grounds, all_keep, call_keeps}
@@ -55,20 +56,6 @@ running-changed u zero f (q ∷ rows) r h user less =
 running-changed u (suc k) f (q ∷ rows) r h user less =
     omega (arith, running-changed u k f rows r h user less, running-cons (q.user == u) q (rows_of u (change_row k f rows)), running-cons (q.user == u) q (rows_of u rows))
 
-ready_runs : (t : Standing) → is_ready t ≡ true → 1 ≤ one_if (is_running t)
-ready_runs Ready h = omega arith
-ready_runs Out h = absurd cc
-ready_runs Ended h = absurd cc
-ready_runs Cancelled h = absurd cc
-ready_runs CancelledOut h = absurd cc
-
-out_runs : (t : Standing) → is_out t ≡ true → 1 ≤ one_if (is_running t)
-out_runs Ready h = absurd cc
-out_runs Out h = omega arith
-out_runs Ended h = absurd cc
-out_runs Cancelled h = absurd cc
-out_runs CancelledOut h = omega arith
-
 off_runs : (t : Standing) → one_if (is_running (standing_off t)) ≤ one_if (is_running t)
 off_runs Ready = omega arith
 off_runs Out = omega arith
@@ -77,7 +64,7 @@ off_runs Cancelled = omega arith
 off_runs CancelledOut = omega arith
 
 back_runs : (j : Job) (n : ℕ) (t : Standing) → is_out t ≡ true → one_if (is_running (standing_back j n t)) ≤ one_if (is_running t)
-back_runs j n t h = omega (arith, one_at_most (is_running (standing_back j n t)), out_runs t h)
+back_runs j n t h = omega (arith, one_at_most (is_running (standing_back j n t)), ap one_if (out_runs t h))
 
 -- SUBMIT
 
@@ -128,7 +115,7 @@ submit_within u j s room h = record {
 take_within : (k : ℕ) (s : Service) → TakeGrounds k s → ReadyRow (slice_get s.now.rows k) → IsWithinLimits s → IsWithinLimits (with_event (Take k) s)
 take_within k s g r h = record {
   jobs = omega (arith, h.jobs, length-changed k taken_row s.now.rows);
-  users = λ u. omega (arith, h.users u, running-changed u k taken_row s.now.rows r.row r.here refl (ready_runs r.row.standing r.ready));
+  users = λ u. omega (arith, h.users u, running-changed u k taken_row s.now.rows r.row r.here refl (omega (arith, ap one_if (ready_runs r.row.standing r.ready))));
   places = omega (arith, at_most most_events (places_of s + 2) g.room, length_push s.journal (Take k), take_out k s r);
 }
 

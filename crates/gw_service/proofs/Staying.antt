@@ -10,31 +10,18 @@ use Rattle.gw_service.proofs.Rows.{are_equal}
 use Rattle.gw_service.proofs.Changing.{map_row, get-changed, get-added, get-past}
 use Rattle.gw_service.proofs.Grounds.{Grounds, grounds}
 use Rattle.gw_service.proofs.Listing.{taken_ready}
+use Rattle.gw_service.proofs.Standings.{ready_runs, out_runs, running_is_open}
 
 -- ROWS
 
 same_later : (r : Row) → IsLater r r
 same_later r = record { user = refl; job = refl; steps = omega arith; settled = λ h. refl }
 
-ready_open : (t : Standing) → is_ready t ≡ true → is_settled t ≡ true → ⊥
-ready_open Ready h s = absurd cc
-ready_open Out h s = absurd cc
-ready_open Ended h s = absurd cc
-ready_open Cancelled h s = absurd cc
-ready_open CancelledOut h s = absurd cc
-
-out_open : (t : Standing) → is_out t ≡ true → is_settled t ≡ true → ⊥
-out_open Ready h s = absurd cc
-out_open Out h s = absurd cc
-out_open Ended h s = absurd cc
-out_open Cancelled h s = absurd cc
-out_open CancelledOut h s = absurd cc
-
 taken_later : (r : Row) → is_ready r.standing ≡ true → IsLater r (taken_row r)
-taken_later r h = record { user = refl; job = refl; steps = omega arith; settled = λ s. absurd (ready_open r.standing h s) }
+taken_later r h = record { user = refl; job = refl; steps = omega arith; settled = λ s. absurd (running_is_open r.standing (ready_runs r.standing h) s) }
 
 returned_later : (n : ℕ) (r : Row) → is_out r.standing ≡ true → r.steps ≤ n → IsLater r (returned_row n r)
-returned_later n r h least = record { user = refl; job = refl; steps = least; settled = λ s. absurd (out_open r.standing h s) }
+returned_later n r h least = record { user = refl; job = refl; steps = least; settled = λ s. absurd (running_is_open r.standing (out_runs r.standing h) s) }
 
 settled_off : (t : Standing) → is_settled t ≡ true → standing_off t ≡ t
 settled_off Ready h = absurd cc

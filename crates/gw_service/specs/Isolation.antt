@@ -92,31 +92,20 @@ notice u c s = if is_by u c then notice_of (reply c s) else NoNotice
 
 -- a fault by what all users share
 abbrev pub is_shared : JobFault → Bool
-is_shared faults.UserFull = false
 is_shared faults.ServiceFull = true
 is_shared faults.JournalFull = true
 is_shared faults.Memory = true
-is_shared faults.NotYours = false
-is_shared faults.NotEnded = false
-is_shared faults.Cancelled = false
-is_shared faults.Stranger = false
-is_shared faults.AlreadyEnded = false
+is_shared fault = false
 
 -- a refusal by what all users share
 abbrev pub is_shared_reply : Reply → Bool
 is_shared_reply (Refusal fault) = is_shared fault
-is_shared_reply (SlotReply k) = false
-is_shared_reply (ProgressReply p) = false
-is_shared_reply (RowReply r) = false
-is_shared_reply Assent = false
-is_shared_reply (TaskReply slot) = false
-is_shared_reply (ReceiptReply receipt) = false
+is_shared_reply reply = false
 
 -- the user is refused by what all share
 abbrev pub is_limited : Notice → Bool
-is_limited NoNotice = false
-is_limited NewJob = false
 is_limited (Answer r) = is_shared_reply r
+is_limited other = false
 
 -- A USER ALONE: what the user is told, and what becomes of the user's rows
 

@@ -59,27 +59,18 @@ EveryServiceIsWithinLimits = (cs : List Call) → IsWithinLimits (all_next cs ne
 
 -- the rows that an event, if there is one, sends out
 abbrev pub rows_sent : Option Event → ℕ
-rows_sent None = 0
-rows_sent (Some (Submit u j)) = 0
 rows_sent (Some (Take k)) = 1
-rows_sent (Some (Return k n)) = 0
-rows_sent (Some (Cancel k)) = 0
+rows_sent event = 0
 
 -- those that it brings back
 abbrev pub rows_back : Option Event → ℕ
-rows_back None = 0
-rows_back (Some (Submit u j)) = 0
-rows_back (Some (Take k)) = 0
 rows_back (Some (Return k n)) = 1
-rows_back (Some (Cancel k)) = 0
+rows_back event = 0
 
 -- the steps with which a row comes back
 abbrev pub steps_back : Option Event → ℕ
-steps_back None = 0
-steps_back (Some (Submit u j)) = 0
-steps_back (Some (Take k)) = 0
 steps_back (Some (Return k n)) = n
-steps_back (Some (Cancel k)) = 0
+steps_back event = 0
 
 -- the steps of a row, if there is one
 abbrev pub steps_in : Option Row → ℕ

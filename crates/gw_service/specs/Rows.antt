@@ -17,50 +17,36 @@ pub data Standing : Type 0 where
 -- it waits to be taken
 abbrev pub is_ready : Standing → Bool
 is_ready Ready = true
-is_ready Out = false
-is_ready Ended = false
-is_ready Cancelled = false
-is_ready CancelledOut = false
+is_ready standing = false
 
 -- a worker has it, cancelled or not
 abbrev pub is_out : Standing → Bool
-is_out Ready = false
 is_out Out = true
-is_out Ended = false
-is_out Cancelled = false
 is_out CancelledOut = true
+is_out standing = false
 
 -- it counts as running while it is ready or out, cancelled or not
 abbrev pub is_running : Standing → Bool
 is_running Ready = true
 is_running Out = true
-is_running Ended = false
-is_running Cancelled = false
 is_running CancelledOut = true
+is_running standing = false
 
 -- it may be cancelled
 abbrev pub is_cancellable : Standing → Bool
 is_cancellable Ready = true
 is_cancellable Out = true
-is_cancellable Ended = false
-is_cancellable Cancelled = false
-is_cancellable CancelledOut = false
+is_cancellable standing = false
 
 -- a named end stands
 abbrev pub is_ended : Standing → Bool
-is_ended Ready = false
-is_ended Out = false
 is_ended Ended = true
-is_ended Cancelled = false
-is_ended CancelledOut = false
+is_ended standing = false
 
 -- it was cancelled, and is out no more
 abbrev pub is_cancelled : Standing → Bool
-is_cancelled Ready = false
-is_cancelled Out = false
-is_cancelled Ended = false
 is_cancelled Cancelled = true
-is_cancelled CancelledOut = false
+is_cancelled standing = false
 
 -- ROWS
 
@@ -122,11 +108,9 @@ taken_row r = record r { standing = Out }
 
 -- how a job stands, once it was given back after so many steps
 abbrev pub standing_back : Job → ℕ → Standing → Standing
-standing_back j n Ready = standing_at j n
-standing_back j n Out = standing_at j n
-standing_back j n Ended = standing_at j n
 standing_back j n Cancelled = Cancelled
 standing_back j n CancelledOut = Cancelled
+standing_back j n standing = standing_at j n
 
 -- a row, once it was given back after so many steps
 abbrev pub returned_row : ℕ → Row → Row
@@ -136,9 +120,7 @@ returned_row n r = record r { steps = n; standing = standing_back r.job n r.stan
 abbrev pub standing_off : Standing → Standing
 standing_off Ready = Cancelled
 standing_off Out = CancelledOut
-standing_off Ended = Ended
-standing_off Cancelled = Cancelled
-standing_off CancelledOut = CancelledOut
+standing_off standing = standing
 
 -- a row, once it was cancelled
 abbrev pub cancelled_row : Row → Row
