@@ -1,5 +1,5 @@
 -- A procedure's needs ascend, and suffice.
-use Rattle.std.proofs.Common.{◌≡◌, ℕ, zero, suc, ◌<◌, List, [], ◌∷◌, length, Some, Bool, true, false, if◌then◌else◌, ◌||◌, ◌==◌, nat_lt, refl, sym, ap, ◌∙◌, subst, arith, All}
+use Rattle.std.proofs.Common.{rules, ◌≡◌, ℕ, zero, suc, ◌<◌, List, [], ◌∷◌, length, Some, Bool, true, false, if◌then◌else◌, ◌||◌, ◌==◌, nat_lt, refl, sym, ap, ◌∙◌, subst, arith, All}
 use Rattle.std.specs.Prelude.{slice_get}
 use Rattle.std.specs.List.{list_all, AllPairs}
 use Rattle.std.proofs.lemmas.Bool.{eqb-true, eq-eqb, ltb-true, or_right}
@@ -7,10 +7,10 @@ use Rattle.std.proofs.lemmas.List.Elements.{All-nil, All-cons, All-head, All-tai
 use Rattle.std.proofs.lemmas.List.Kept.{AllPairs-cons}
 use Rattle.std.proofs.lemmas.Bool.Decides.{nat_tests}
 use Rattle.gw_blocks.specs.declared.parts.Operand.{Operand}
-use Rattle.gw_blocks.specs.declared.parts.Operand.TheVariants as operands
 use Rattle.gw_code.specs.declared.parts.Instruction.{Instruction}
-use Rattle.gw_code.specs.declared.parts.Instruction.TheVariants.{Push, Get, Set, Value, Binary, Unary, Pop, Jump, JumpIfZero, Back, Call, Return}
+use Rattle.gw_code.specs.declared.parts.Instruction.TheVariants.{Value}
 use Rattle.gw_code.specs.declared.parts.Procedure.{Procedure}
+use Rattle.gw_code.specs.declared.parts.Sna.{Sna}
 use Rattle.gw_code.specs.declared.parts.Sna.TheVariants as snas
 use Rattle.gw_object.specs.declared.parts.Parts.{Parts}
 use Rattle.gw_operands.specs.Sources.{procedure_named}
@@ -74,32 +74,21 @@ module _ (n : Numbers) (procedures : List Procedure) (p : Parts) (goes : GoesOnF
   lower : (q : ℕ) → nat_lt q (length procedures) ≡ true → needs_of (procedure_at p q) ≡ needs_of (slice_get procedures q)
   lower q is = ap needs_of (goes.before q (ltb-true q (length procedures) is))
 
+  -- a source that is a lower procedure, if it is one, asks in the object for what it asks here
   of_source : (source : Operand) → calls_lower (length procedures) (procedure_named source) ≡ true → asked_by_source p source ≡ asked_by procedures source
-  of_source (operands.Constant z) is = refl
-  of_source (operands.Parameter x) is = refl
-  of_source (operands.Attribute a) is = refl
-  of_source (operands.OfEntity of) is = refl
-  of_source (operands.Random j) is = refl
-  of_source (operands.Procedure q) is = lower q is
+  of_source source is = grind (rules, lower)
 
-  -- an instruction that calls a lower procedure, if any, asks in the object for what it asks here
-  asks_the_same : (i : Instruction) → calls_lower (length procedures) (called_in p.entities i) ≡ true → asks_for p i ≡ asks n procedures i
-  asks_the_same (Value (snas.Parameter x)) is = refl
-  asks_the_same (Value (snas.Attribute a)) is = refl
-  asks_the_same (Value (snas.OfEntity of)) is =
+  -- and so does a value
+  of_value : (sna : Sna) → calls_lower (length procedures) (called_in p.entities (Value sna)) ≡ true → asks_for p (Value sna) ≡ asks n procedures (Value sna)
+  of_value (snas.Parameter x) is = refl
+  of_value (snas.Attribute a) is = refl
+  of_value (snas.OfEntity of) is =
       let same = goes.sources of in
       ap (asked_by_source p) same ∙ of_source (n.source of) (subst (λ o. calls_lower (length procedures) (procedure_named o) ≡ true) same is)
-  asks_the_same (Call q) is = lower q is
-  asks_the_same (Push z) is = refl
-  asks_the_same (Get k) is = refl
-  asks_the_same (Set k) is = refl
-  asks_the_same (Binary operator) is = refl
-  asks_the_same (Unary operator) is = refl
-  asks_the_same Pop is = refl
-  asks_the_same (Jump t) is = refl
-  asks_the_same (JumpIfZero t) is = refl
-  asks_the_same (Back b) is = refl
-  asks_the_same Return is = refl
+
+  -- and an instruction
+  asks_the_same : (i : Instruction) → calls_lower (length procedures) (called_in p.entities i) ≡ true → asks_for p i ≡ asks n procedures i
+  asks_the_same i is = grind (rules, lower, of_value)
 
 -- so a procedure that needs what its code asks for needs enough
 needs_suffice : (n : Numbers) (procedures : List Procedure) (pr : Procedure) → pr.needs ≡ needs_in n procedures pr.code → NeedsSuffice n procedures pr

@@ -7,6 +7,7 @@ use Rattle.indexmap.specs.IndexMap.{IndexMap}
 use Rattle.gw_kinds.specs.declared.entities.EntityKind.{EntityKind}
 use Rattle.gw_text_tokens.specs.declared.words.Word.{Word}
 use Rattle.gw_text_tokens.specs.declared.words.Word.TheVariants as words
+use Rattle.gw_text_tokens.specs.Words.{is_block}
 use Rattle.gw_text_expressions.specs.declared.model.Expression.TheVariants as expressions
 use Rattle.gw_text_statements.specs.declared.model.Operand.{Operand}
 use Rattle.gw_text_statements.specs.declared.model.Operand.TheVariants as operands
@@ -107,21 +108,6 @@ abbrev pub procedure_of : List Statement → List ℕ → Option ℕ
 procedure_of statements name = last_of (places_from declared_procedure 0 statements) name
 
 -- BLOCKS
-
--- whether a statement of this word is a block
-unfoldable pub is_block : Word → Bool
-is_block words.Storage = false
-is_block words.Variable = false
-is_block words.BVariable = false
-is_block words.Equ = false
-is_block words.Function = false
-is_block words.Table = false
-is_block words.Initial = false
-is_block words.Rmult = false
-is_block words.Start = false
-is_block words.Simulate = false
-is_block words.Procedure = false
-is_block word = true
 
 -- the number of the next block; the last one that 16 bits hold stays
 unfoldable pub next_block : ℕ → ℕ

@@ -43,7 +43,7 @@ pub type Declarations = ByKind<usize>;
 
 impl<T: Copy + Drop> ByKind<T> {
     /// Nothing is kept yet.
-    pub(crate) fn new(alloc: Global) -> ByKind<T>
+    pub fn new(alloc: Global) -> ByKind<T>
         ensures { (kind : EntityKind) (name : List ℕ) → entity_of result kind name ≡ None }
     {
         ByKind {

@@ -5,30 +5,9 @@ ghost use Rattle.gw_names.specs.Places as model;
 ghost use Rattle.gw_names.specs.Places.{Sets, block_label};
 
 use crate::maps::set_label;
-use gw_text::{Statement, Word};
+use gw_text::Statement;
 use indexmap::IndexMap;
 use std::alloc::AllocError;
-
-/// Whether a statement of this word is a block.
-#[tactic(auto, unfolding(crate::specs::Places::is_block))]
-pub fn is_block(word: Word) -> bool
-    ensures { result ≡ model.is_block word }
-{
-    match word {
-        Word::Storage
-        | Word::Variable
-        | Word::BVariable
-        | Word::Equ
-        | Word::Function
-        | Word::Table
-        | Word::Initial
-        | Word::Rmult
-        | Word::Start
-        | Word::Simulate
-        | Word::Procedure => false,
-        _ => true,
-    }
-}
 
 /// The number behind this one; the last one that 16 bits hold stays.
 #[tactic(auto, unfolding(crate::specs::Places::next_block))]
@@ -47,7 +26,7 @@ pub(crate) fn count(
     ensures counted { IfOk result (λ after. after ≡ model.counted number statement.now) }
     ensures added { Sets result blocks.old blocks.new (block_label number statement.now) }
 {
-    if is_block(statement.word) {
+    if statement.word.is_block() {
         let number = next_block(number);
         set_label(blocks, &statement.label, number)?;
         Ok(number)

@@ -21,7 +21,6 @@ pub use entities::{ByKind, Declarations, EntityNames};
 pub use gw_uses::{Use, put_uses, put_uses_of_operand, put_uses_of_procedure};
 pub use judgement::check_uses;
 pub use known::{Known, known_names};
-pub use labels::is_block;
 pub use ledger::{Ledger, Noted};
 pub use maps::{found, set, set_label};
 pub use names::Names;

@@ -9,7 +9,7 @@ use Rattle.gw_compile.specs.Unknown.{Blame, Unknown, Arguments, Target, Judges}
 use Rattle.gw_names.specs.declared.ledger.Noted.{Noted}
 use Rattle.gw_names.specs.Codes.{name_fault, limit_fault}
 use Rattle.gw_names.specs.Ledger.{with_note, with_notes, noted_at}
-use Rattle.gw_names.specs.Places.{is_block}
+use Rattle.gw_text_tokens.specs.Words.{is_block}
 use Rattle.gw_pieces.specs.declared.compiling.Blamed.{Blamed}
 use Rattle.gw_pieces.specs.declared.compiling.Blamed.TheVariants as blamed
 use Rattle.gw_pieces.specs.declared.origins.Origin.{Origin}

@@ -6,7 +6,7 @@ use Rattle.gw_compile.specs.Numbers.{Numbers}
 use Rattle.gw_records.specs.Records.{record_of}
 use Rattle.gw_pieces.specs.declared.origins.Origin.{Origin}
 use Rattle.gw_pieces.specs.Origins.{numbers_for}
-use Rattle.gw_names.specs.Places.{is_block}
+use Rattle.gw_text_tokens.specs.Words.{is_block}
 
 module _ (n : Numbers) (order : List Origin) where
   -- the record of a block statement, by its number, where the procedures have these origins, in order

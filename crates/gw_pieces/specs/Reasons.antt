@@ -21,7 +21,8 @@ use Rattle.gw_names.specs.declared.sights.Sighted.{Sighted}
 use Rattle.gw_names.specs.Codes.{name_fault, limit_fault}
 use Rattle.gw_names.specs.Known.{Key}
 use Rattle.gw_names.specs.Ledger.{noted_at, with_note}
-use Rattle.gw_names.specs.Places.{is_block, declaration_of}
+use Rattle.gw_text_tokens.specs.Words.{is_block}
+use Rattle.gw_names.specs.Places.{declaration_of}
 use Rattle.gw_records.specs.Entities.{entity_kind}
 use Rattle.gw_pieces.specs.declared.compiling.Blamed.{Blamed}
 use Rattle.gw_pieces.specs.declared.compiling.Blamed.TheVariants as blamed

@@ -11,7 +11,7 @@ ghost use Rattle.gw_pieces.specs.Reasons.{BlockMissing, least_after_block};
 use crate::origins::{Origin, expression_at, is_variable, place_of, whole_call};
 use gw_blocks::Block;
 use gw_compile::{Callee, Numbering};
-use gw_names::{Ledger, Names, codes, is_block};
+use gw_names::{Ledger, Names, codes};
 use gw_records::record_of;
 use gw_text::{Body, Expression, Model, Statement};
 use std::alloc::{AllocError, Global};
@@ -175,7 +175,7 @@ fn put_block(
     ensures notes { OnOk result (ledger.new.least
         ≡ least_after_block (numbers_of names.now) order.now statement.now number ledger.old.least) }
 {
-    if is_block(statement.word) {
+    if statement.word.is_block() {
         put_record(
             blocks,
             record_at(names, order, statement, number),

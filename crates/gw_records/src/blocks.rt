@@ -8,27 +8,12 @@ ghost use Rattle.gw_records.specs.Records as model;
 use crate::operands::*;
 use crate::operators::{action_of, asked_of, comparison_of, condition_of, mode_of};
 use gw_blocks::{
-    Assign, Block, Call, Fraction, Generate, Link, Logic, Loop, Plus, Priority, Save, Split,
-    Spread, Units, Unlink,
+    Assign, Block, Call, Fraction, Generate, Link, Logic, Loop, Operand, Plus, Priority, Save,
+    Split, Spread, Units, Unlink,
 };
 use gw_compile::Numbering;
 use gw_kinds::EntityKind;
 use gw_text::{Gate, Modifier, Operand as Text, Statement, Switching, Test, Word};
-
-/// A time, of operands that are the first two.
-fn time_of<N: Numbering>(
-    names: &N,
-    procedures: &[Option<u16>],
-    mean: &Text,
-    half: &Text,
-) -> Option<Spread>
-    ensures { result ≡ model.time_in (N.numbers names.now) procedures.now mean.now half.now }
-{
-    Some(Spread {
-        mean: value_of(names, procedure_at(procedures, 0), mean)?,
-        half: value_of(names, procedure_at(procedures, 1), half)?,
-    })
-}
 
 /// GENERATE, with this interval.
 fn generate_of(
@@ -47,299 +32,287 @@ fn generate_of(
     }))
 }
 
-/// Units of an entity of this kind.
-fn units_in<N: Numbering>(
-    names: &N,
-    kind: EntityKind,
-    entity: &Text,
-    number: &Text,
-) -> Option<Units>
-    ensures { result ≡ model.units_in (N.numbers names.now) kind entity.now number.now }
-{
-    Some(Units {
-        entity: entity_of(names, kind, entity)?,
-        number: units_of(number)?,
-    })
+/// What the operands of a statement are read by.
+#[derive(Drop)]
+struct Reading<'a, N: Numbering> {
+    /// What names stand for.
+    names: &'a N,
+    /// What operands that are expressions become: procedures, by their numbers from 0.
+    procedures: &'a [Option<u16>],
 }
 
-/// TEST.
-fn test_of<N: Numbering>(
-    names: &N,
-    procedures: &[Option<u16>],
-    test: Test,
-    left: &Text,
-    right: &Text,
-    otherwise: &Text,
-) -> Option<Block>
-    ensures { result ≡ model.test_of (N.numbers names.now) procedures.now test left.now right.now otherwise.now }
-{
-    Some(Block::Test(gw_blocks::Test {
-        comparison: comparison_of(test),
-        left: value_of(names, procedure_at(procedures, 0), left)?,
-        right: value_of(names, procedure_at(procedures, 1), right)?,
-        otherwise: optional_block_of(names, otherwise)?,
-    }))
-}
+impl<N: Numbering> Reading<'_, N> {
+    /// The value of the operand at a position.
+    fn value_at(&self, position: usize, operand: &Text) -> Option<Operand>
+        ensures { result ≡ model.value_at (N.numbers self.now.names.now) self.now.procedures.now
+            position operand.now }
+    {
+        value_of(self.names, procedure_at(self.procedures, position), operand)
+    }
 
-/// GATE.
-fn gate_of<N: Numbering>(names: &N, gate: Gate, entity: &Text, otherwise: &Text) -> Option<Block>
-    ensures { result ≡ model.gate_of (N.numbers names.now) gate entity.now otherwise.now }
-{
-    Some(Block::Gate(gw_blocks::Gate {
-        condition: condition_of(gate),
-        entity: entity_of(names, asked_of(gate), entity)?,
-        otherwise: optional_block_of(names, otherwise)?,
-    }))
-}
+    /// A time, of operands that are the first two.
+    fn time_of(&self, mean: &Text, half: &Text) -> Option<Spread>
+        ensures { result ≡ model.time_in (N.numbers self.now.names.now) self.now.procedures.now
+            mean.now half.now }
+    {
+        Some(Spread {
+            mean: self.value_at(0, mean)?,
+            half: self.value_at(1, half)?,
+        })
+    }
 
-/// ASSIGN.
-fn assign_of<N: Numbering>(
-    names: &N,
-    procedures: &[Option<u16>],
-    modifier: Option<Modifier>,
-    parameter: &Text,
-    value: &Text,
-) -> Option<Block>
-    ensures { result ≡ model.assign_of (N.numbers names.now) procedures.now modifier parameter.now value.now }
-{
-    Some(Block::Assign(Assign {
-        parameter: parameter_of(names, parameter)?,
-        mode: mode_of(modifier),
-        value: value_of(names, procedure_at(procedures, 1), value)?,
-    }))
-}
+    /// Units of an entity of this kind.
+    fn units_in(&self, kind: EntityKind, entity: &Text, number: &Text) -> Option<Units>
+        ensures { result ≡ model.units_in (N.numbers self.now.names.now)
+            kind entity.now number.now }
+    {
+        Some(Units {
+            entity: entity_of(self.names, kind, entity)?,
+            number: units_of(number)?,
+        })
+    }
 
-/// SAVEVALUE.
-fn save_of<N: Numbering>(
-    names: &N,
-    procedures: &[Option<u16>],
-    modifier: Option<Modifier>,
-    savevalue: &Text,
-    value: &Text,
-) -> Option<Block>
-    ensures { result ≡ model.save_of (N.numbers names.now) procedures.now modifier savevalue.now value.now }
-{
-    Some(Block::Savevalue(Save {
-        savevalue: entity_of(names, EntityKind::Savevalue, savevalue)?,
-        mode: mode_of(modifier),
-        value: value_of(names, procedure_at(procedures, 1), value)?,
-    }))
-}
+    /// TEST.
+    fn test_of(&self, test: Test, left: &Text, right: &Text, otherwise: &Text) -> Option<Block>
+        ensures { result ≡ model.test_of (N.numbers self.now.names.now) self.now.procedures.now
+            test left.now right.now otherwise.now }
+    {
+        Some(Block::Test(gw_blocks::Test {
+            comparison: comparison_of(test),
+            left: self.value_at(0, left)?,
+            right: self.value_at(1, right)?,
+            otherwise: optional_block_of(self.names, otherwise)?,
+        }))
+    }
 
-/// TRANSFER by a fraction.
-fn by_fraction<N: Numbering>(
-    names: &N,
-    thousandths: u16,
-    otherwise: &Text,
-    target: &Text,
-) -> Option<Block>
-    ensures { result ≡ model.by_fraction (N.numbers names.now) thousandths otherwise.now target.now }
-{
-    Some(Block::TransferByFraction(Fraction {
-        thousandths,
-        otherwise: optional_block_of(names, otherwise)?,
-        target: block_of(names, target)?,
-    }))
-}
+    /// GATE.
+    fn gate_of(&self, gate: Gate, entity: &Text, otherwise: &Text) -> Option<Block>
+        ensures { result ≡ model.gate_of (N.numbers self.now.names.now)
+            gate entity.now otherwise.now }
+    {
+        Some(Block::Gate(gw_blocks::Gate {
+            condition: condition_of(gate),
+            entity: entity_of(self.names, asked_of(gate), entity)?,
+            otherwise: optional_block_of(self.names, otherwise)?,
+        }))
+    }
 
-/// TRANSFER to a subroutine.
-fn call_of<N: Numbering>(names: &N, target: &Text, parameter: &Text) -> Option<Block>
-    ensures { result ≡ model.call_of (N.numbers names.now) target.now parameter.now }
-{
-    Some(Block::TransferToSubroutine(Call {
-        target: block_of(names, target)?,
-        parameter: parameter_of(names, parameter)?,
-    }))
-}
+    /// ASSIGN.
+    fn assign_of(&self, modifier: Option<Modifier>, parameter: &Text, value: &Text) -> Option<Block>
+        ensures { result ≡ model.assign_of (N.numbers self.now.names.now) self.now.procedures.now
+            modifier parameter.now value.now }
+    {
+        Some(Block::Assign(Assign {
+            parameter: parameter_of(self.names, parameter)?,
+            mode: mode_of(modifier),
+            value: self.value_at(1, value)?,
+        }))
+    }
 
-/// LOOP.
-fn loop_of<N: Numbering>(names: &N, parameter: &Text, target: &Text) -> Option<Block>
-    ensures { result ≡ model.loop_of (N.numbers names.now) parameter.now target.now }
-{
-    Some(Block::Loop(Loop {
-        parameter: parameter_of(names, parameter)?,
-        target: block_of(names, target)?,
-    }))
-}
+    /// SAVEVALUE.
+    fn save_of(&self, modifier: Option<Modifier>, savevalue: &Text, value: &Text) -> Option<Block>
+        ensures { result ≡ model.save_of (N.numbers self.now.names.now) self.now.procedures.now
+            modifier savevalue.now value.now }
+    {
+        Some(Block::Savevalue(Save {
+            savevalue: entity_of(self.names, EntityKind::Savevalue, savevalue)?,
+            mode: mode_of(modifier),
+            value: self.value_at(1, value)?,
+        }))
+    }
 
-/// SPLIT.
-fn split_of<N: Numbering>(names: &N, copies: &Text, target: &Text) -> Option<Block>
-    ensures { result ≡ model.split_of (N.numbers names.now) copies.now target.now }
-{
-    Some(Block::Split(Split {
-        copies: partners_of(copies)?,
-        target: optional_block_of(names, target)?,
-    }))
-}
+    /// TRANSFER by a fraction.
+    fn by_fraction(&self, thousandths: u16, otherwise: &Text, target: &Text) -> Option<Block>
+        ensures { result ≡ model.by_fraction (N.numbers self.now.names.now)
+            thousandths otherwise.now target.now }
+    {
+        Some(Block::TransferByFraction(Fraction {
+            thousandths,
+            otherwise: optional_block_of(self.names, otherwise)?,
+            target: block_of(self.names, target)?,
+        }))
+    }
 
-/// LINK.
-fn link_of<N: Numbering>(names: &N, chain: &Text, order: &Text) -> Option<Block>
-    ensures { result ≡ model.link_of (N.numbers names.now) chain.now order.now }
-{
-    Some(Block::Link(Link {
-        chain: entity_of(names, EntityKind::Chain, chain)?,
-        order: order_of(order),
-    }))
-}
+    /// TRANSFER to a subroutine.
+    fn call_of(&self, target: &Text, parameter: &Text) -> Option<Block>
+        ensures { result ≡ model.call_of (N.numbers self.now.names.now) target.now parameter.now }
+    {
+        Some(Block::TransferToSubroutine(Call {
+            target: block_of(self.names, target)?,
+            parameter: parameter_of(self.names, parameter)?,
+        }))
+    }
 
-/// UNLINK.
-fn unlink_of<N: Numbering>(names: &N, chain: &Text, target: &Text, most: &Text) -> Option<Block>
-    ensures { result ≡ model.unlink_of (N.numbers names.now) chain.now target.now most.now }
-{
-    Some(Block::Unlink(Unlink {
-        chain: entity_of(names, EntityKind::Chain, chain)?,
-        target: block_of(names, target)?,
-        most: optional_count_of(most)?,
-    }))
-}
+    /// LOOP.
+    fn loop_of(&self, parameter: &Text, target: &Text) -> Option<Block>
+        ensures { result ≡ model.loop_of (N.numbers self.now.names.now) parameter.now target.now }
+    {
+        Some(Block::Loop(Loop {
+            parameter: parameter_of(self.names, parameter)?,
+            target: block_of(self.names, target)?,
+        }))
+    }
 
-/// LOGIC.
-fn logic_of<N: Numbering>(names: &N, switching: Switching, switch: &Text) -> Option<Block>
-    ensures { result ≡ model.logic_of (N.numbers names.now) switching switch.now }
-{
-    Some(Block::Logic(Logic {
-        action: action_of(switching),
-        switch: entity_of(names, EntityKind::Switch, switch)?,
-    }))
-}
+    /// SPLIT.
+    fn split_of(&self, copies: &Text, target: &Text) -> Option<Block>
+        ensures { result ≡ model.split_of (N.numbers self.now.names.now) copies.now target.now }
+    {
+        Some(Block::Split(Split {
+            copies: partners_of(copies)?,
+            target: optional_block_of(self.names, target)?,
+        }))
+    }
 
-/// PRIORITY.
-fn priority_block_of<N: Numbering>(
-    names: &N,
-    procedures: &[Option<u16>],
-    value: &Text,
-    behind: &Text,
-) -> Option<Block>
-    ensures { result ≡ model.priority_of (N.numbers names.now) procedures.now value.now behind.now }
-{
-    Some(Block::Priority(Priority {
-        value: value_of(names, procedure_at(procedures, 0), value)?,
-        behind: is_written(behind),
-    }))
-}
+    /// LINK.
+    fn link_of(&self, chain: &Text, order: &Text) -> Option<Block>
+        ensures { result ≡ model.link_of (N.numbers self.now.names.now) chain.now order.now }
+    {
+        Some(Block::Link(Link {
+            chain: entity_of(self.names, EntityKind::Chain, chain)?,
+            order: order_of(order),
+        }))
+    }
 
-/// PLUS.
-fn plus_of<N: Numbering>(
-    names: &N,
-    procedures: &[Option<u16>],
-    value: &Text,
-    parameter: &Text,
-) -> Option<Block>
-    ensures { result ≡ model.plus_of (N.numbers names.now) procedures.now value.now parameter.now }
-{
-    Some(Block::Plus(Plus {
-        value: value_of(names, procedure_at(procedures, 0), value)?,
-        parameter: optional_parameter_of(names, parameter)?,
-    }))
-}
+    /// UNLINK.
+    fn unlink_of(&self, chain: &Text, target: &Text, most: &Text) -> Option<Block>
+        ensures { result ≡ model.unlink_of (N.numbers self.now.names.now)
+            chain.now target.now most.now }
+    {
+        Some(Block::Unlink(Unlink {
+            chain: entity_of(self.names, EntityKind::Chain, chain)?,
+            target: block_of(self.names, target)?,
+            most: optional_count_of(most)?,
+        }))
+    }
 
-/// A block of one operand.
-fn of_one<N: Numbering>(
-    names: &N,
-    procedures: &[Option<u16>],
-    word: Word,
-    modifier: Option<Modifier>,
-    operand: &Text,
-) -> Option<Block>
-    ensures { result ≡ model.block_of (N.numbers names.now) procedures.now word modifier (operand.now ∷ []) }
-{
-    match word {
-        Word::Terminate => {
-            value_of(names, procedure_at(procedures, 0), operand).map(Block::Terminate)
+    /// LOGIC.
+    fn logic_of(&self, switching: Switching, switch: &Text) -> Option<Block>
+        ensures { result ≡ model.logic_of (N.numbers self.now.names.now) switching switch.now }
+    {
+        Some(Block::Logic(Logic {
+            action: action_of(switching),
+            switch: entity_of(self.names, EntityKind::Switch, switch)?,
+        }))
+    }
+
+    /// PRIORITY.
+    fn priority_block_of(&self, value: &Text, behind: &Text) -> Option<Block>
+        ensures { result ≡ model.priority_of (N.numbers self.now.names.now) self.now.procedures.now
+            value.now behind.now }
+    {
+        Some(Block::Priority(Priority {
+            value: self.value_at(0, value)?,
+            behind: is_written(behind),
+        }))
+    }
+
+    /// PLUS.
+    fn plus_of(&self, value: &Text, parameter: &Text) -> Option<Block>
+        ensures { result ≡ model.plus_of (N.numbers self.now.names.now) self.now.procedures.now
+            value.now parameter.now }
+    {
+        Some(Block::Plus(Plus {
+            value: self.value_at(0, value)?,
+            parameter: optional_parameter_of(self.names, parameter)?,
+        }))
+    }
+
+    /// A block of one operand.
+    fn of_one(&self, word: Word, modifier: Option<Modifier>, operand: &Text) -> Option<Block>
+        ensures { result ≡ model.block_of (N.numbers self.now.names.now) self.now.procedures.now
+            word modifier (operand.now ∷ []) }
+    {
+        match word {
+            Word::Terminate => self.value_at(0, operand).map(Block::Terminate),
+            Word::Seize => entity_of(self.names, EntityKind::Facility, operand).map(Block::Seize),
+            Word::Release => entity_of(self.names, EntityKind::Facility, operand).map(
+                Block::Release,
+            ),
+            Word::Assemble => partners_of(operand).map(Block::Assemble),
+            Word::Mark => optional_parameter_of(self.names, operand).map(Block::Mark),
+            Word::Tabulate => entity_of(self.names, EntityKind::Table, operand).map(
+                Block::Tabulate,
+            ),
+            Word::Logic => match modifier {
+                Some(Modifier::Logic(switching)) => self.logic_of(switching, operand),
+                _ => None,
+            },
+            _ => None,
         }
-        Word::Seize => entity_of(names, EntityKind::Facility, operand).map(Block::Seize),
-        Word::Release => entity_of(names, EntityKind::Facility, operand).map(Block::Release),
-        Word::Assemble => partners_of(operand).map(Block::Assemble),
-        Word::Mark => optional_parameter_of(names, operand).map(Block::Mark),
-        Word::Tabulate => entity_of(names, EntityKind::Table, operand).map(Block::Tabulate),
-        Word::Logic => match modifier {
-            Some(Modifier::Logic(switching)) => logic_of(names, switching, operand),
+    }
+
+    /// TRANSFER with two operands: to a block, or back from a subroutine.
+    fn transfer_of_two(&self, form: &Text, operand: &Text) -> Option<Block>
+        ensures { result ≡ model.transfer_of_two (N.numbers self.now.names.now)
+            form.now operand.now }
+    {
+        match form {
+            Text::Missing => block_of(self.names, operand).map(Block::Transfer),
+            Text::Name(_) => parameter_of(self.names, operand).map(Block::TransferByParameter),
             _ => None,
-        },
-        _ => None,
+        }
     }
-}
 
-/// TRANSFER with two operands: to a block, or back from a subroutine.
-fn transfer_of_two<N: Numbering>(names: &N, form: &Text, operand: &Text) -> Option<Block>
-    ensures { result ≡ model.transfer_of_two (N.numbers names.now) form.now operand.now }
-{
-    match form {
-        Text::Missing => block_of(names, operand).map(Block::Transfer),
-        Text::Name(_) => parameter_of(names, operand).map(Block::TransferByParameter),
-        _ => None,
-    }
-}
-
-/// TRANSFER with three operands: by a fraction, or to a subroutine.
-fn transfer_of_three<N: Numbering>(
-    names: &N,
-    form: &Text,
-    first: &Text,
-    second: &Text,
-) -> Option<Block>
-    ensures { result ≡ model.transfer_of_three (N.numbers names.now) form.now first.now second.now }
-{
-    match form {
-        Text::Fraction(thousandths) => by_fraction(names, *thousandths, first, second),
-        Text::Name(_) => call_of(names, first, second),
-        _ => None,
-    }
-}
-
-/// A block of two operands.
-fn of_two<N: Numbering>(
-    names: &N,
-    procedures: &[Option<u16>],
-    word: Word,
-    modifier: Option<Modifier>,
-    a: &Text,
-    b: &Text,
-) -> Option<Block>
-    ensures { result ≡ model.block_of (N.numbers names.now) procedures.now word modifier (a.now ∷ b.now ∷ []) }
-{
-    match word {
-        Word::Advance => time_of(names, procedures, a, b).map(Block::Advance),
-        Word::Enter => units_in(names, EntityKind::Storage, a, b).map(Block::Enter),
-        Word::Leave => units_in(names, EntityKind::Storage, a, b).map(Block::Leave),
-        Word::Queue => units_in(names, EntityKind::Queue, a, b).map(Block::Queue),
-        Word::Depart => units_in(names, EntityKind::Queue, a, b).map(Block::Depart),
-        Word::Assign => assign_of(names, procedures, modifier, a, b),
-        Word::Savevalue => save_of(names, procedures, modifier, a, b),
-        Word::Gate => match modifier {
-            Some(Modifier::Gate(gate)) => gate_of(names, gate, a, b),
+    /// TRANSFER with three operands: by a fraction, or to a subroutine.
+    fn transfer_of_three(&self, form: &Text, first: &Text, second: &Text) -> Option<Block>
+        ensures { result ≡ model.transfer_of_three (N.numbers self.now.names.now)
+            form.now first.now second.now }
+    {
+        match form {
+            Text::Fraction(thousandths) => self.by_fraction(*thousandths, first, second),
+            Text::Name(_) => self.call_of(first, second),
             _ => None,
-        },
-        Word::Transfer => transfer_of_two(names, a, b),
-        Word::Loop => loop_of(names, a, b),
-        Word::Split => split_of(names, a, b),
-        Word::Link => link_of(names, a, b),
-        Word::Priority => priority_block_of(names, procedures, a, b),
-        Word::Plus => plus_of(names, procedures, a, b),
-        _ => None,
+        }
     }
-}
 
-/// A block of three operands.
-fn of_three<N: Numbering>(
-    names: &N,
-    procedures: &[Option<u16>],
-    word: Word,
-    modifier: Option<Modifier>,
-    a: &Text,
-    b: &Text,
-    c: &Text,
-) -> Option<Block>
-    ensures { result ≡ model.block_of (N.numbers names.now) procedures.now word modifier (a.now ∷ b.now ∷ c.now ∷ []) }
-{
-    match word {
-        Word::Test => match modifier {
-            Some(Modifier::Test(test)) => test_of(names, procedures, test, a, b, c),
+    /// A block of two operands.
+    fn of_two(&self, word: Word, modifier: Option<Modifier>, a: &Text, b: &Text) -> Option<Block>
+        ensures { result ≡ model.block_of (N.numbers self.now.names.now) self.now.procedures.now
+            word modifier (a.now ∷ b.now ∷ []) }
+    {
+        match word {
+            Word::Advance => self.time_of(a, b).map(Block::Advance),
+            Word::Enter => self.units_in(EntityKind::Storage, a, b).map(Block::Enter),
+            Word::Leave => self.units_in(EntityKind::Storage, a, b).map(Block::Leave),
+            Word::Queue => self.units_in(EntityKind::Queue, a, b).map(Block::Queue),
+            Word::Depart => self.units_in(EntityKind::Queue, a, b).map(Block::Depart),
+            Word::Assign => self.assign_of(modifier, a, b),
+            Word::Savevalue => self.save_of(modifier, a, b),
+            Word::Gate => match modifier {
+                Some(Modifier::Gate(gate)) => self.gate_of(gate, a, b),
+                _ => None,
+            },
+            Word::Transfer => self.transfer_of_two(a, b),
+            Word::Loop => self.loop_of(a, b),
+            Word::Split => self.split_of(a, b),
+            Word::Link => self.link_of(a, b),
+            Word::Priority => self.priority_block_of(a, b),
+            Word::Plus => self.plus_of(a, b),
             _ => None,
-        },
-        Word::Transfer => transfer_of_three(names, a, b, c),
-        Word::Unlink => unlink_of(names, a, b, c),
-        _ => None,
+        }
+    }
+
+    /// A block of three operands.
+    fn of_three(
+        &self,
+        word: Word,
+        modifier: Option<Modifier>,
+        a: &Text,
+        b: &Text,
+        c: &Text,
+    ) -> Option<Block>
+        ensures { result ≡ model.block_of (N.numbers self.now.names.now) self.now.procedures.now
+            word modifier (a.now ∷ b.now ∷ c.now ∷ []) }
+    {
+        match word {
+            Word::Test => match modifier {
+                Some(Modifier::Test(test)) => self.test_of(test, a, b, c),
+                _ => None,
+            },
+            Word::Transfer => self.transfer_of_three(a, b, c),
+            Word::Unlink => self.unlink_of(a, b, c),
+            _ => None,
+        }
     }
 }
 
@@ -353,6 +326,7 @@ pub fn record_of<N: Numbering>(
 ) -> Option<Block>
     ensures { result ≡ model.record_of (N.numbers names.now) procedures.now statement.now }
 {
+    let reading = Reading { names, procedures };
     let word = statement.word;
     let modifier = statement.modifier;
     match statement.operands.as_slice() {
@@ -360,11 +334,11 @@ pub fn record_of<N: Numbering>(
             Word::Buffer => Some(Block::Buffer),
             _ => None,
         },
-        [a] => of_one(names, procedures, word, modifier, a),
-        [a, b] => of_two(names, procedures, word, modifier, a, b),
-        [a, b, c] => of_three(names, procedures, word, modifier, a, b, c),
+        [a] => reading.of_one(word, modifier, a),
+        [a, b] => reading.of_two(word, modifier, a, b),
+        [a, b, c] => reading.of_three(word, modifier, a, b, c),
         [a, b, c, d, e] => match word {
-            Word::Generate => generate_of(time_of(names, procedures, a, b), c, d, e),
+            Word::Generate => generate_of(reading.time_of(a, b), c, d, e),
             _ => None,
         },
         _ => None,

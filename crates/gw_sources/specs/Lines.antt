@@ -5,7 +5,8 @@ use Rattle.gw_text.specs.declared.model.Statement.{Statement}
 use Rattle.gw_uses.specs.Sites.{Mentioned, mentioned_in}
 use Rattle.gw_names.specs.declared.sights.Sighted.{Sighted}
 use Rattle.gw_names.specs.Known.{Key, is_same}
-use Rattle.gw_names.specs.Places.{is_block, declaration_of}
+use Rattle.gw_text_tokens.specs.Words.{is_block}
+use Rattle.gw_names.specs.Places.{declaration_of}
 use Rattle.gw_names.specs.Sighting.{key_of}
 use Rattle.gw_names.specs.Sights.{entity_in, entities_of}
 use Rattle.gw_pieces.specs.Reasons.{line_of}

@@ -12,7 +12,7 @@ ghost use Rattle.gw_sources.specs.Lines as model;
 
 use crate::places::Sources;
 use gw_kinds::EntityKind;
-use gw_names::{Known, Ledger, Sighted, Use, is_block, known_names};
+use gw_names::{Known, Ledger, Sighted, Use, known_names};
 use gw_object::Memory;
 use gw_pieces::procedure_lines;
 use gw_text::{Model, Statement};
@@ -30,7 +30,7 @@ fn put(lines: &mut Vec<u32>, line: u32) -> Result<(), Memory>
 fn put_block(lines: &mut Vec<u32>, statement: &Statement) -> Result<(), Memory>
     ensures { OnOk result (lines.new.items ≡ lines.old.items ++ model.block_line statement.now) }
 {
-    if is_block(statement.word) {
+    if statement.word.is_block() {
         put(lines, statement.line)
     } else {
         Ok(())

@@ -31,6 +31,24 @@ struct Reader {
     has_token: bool,
 }
 
+impl Reader {
+    /// The PROCEDURE that ended.
+    fn end(&mut self, expressions: &mut Expressions) -> Result<Procedure, Stop> {
+        expressions.begin_procedure();
+        self.plus.end(expressions)
+    }
+
+    /// The PROCEDURE at the end of the text.
+    fn end_of_text(&mut self, expressions: &mut Expressions) -> Result<Procedure, Stop> {
+        let refusal = self.plus.cut_off();
+        self.plus.end_all()?;
+        if !self.plus.is_done() {
+            return Err(Stop::Refused(refusal));
+        }
+        self.end(expressions)
+    }
+}
+
 /// The PROCEDURE that begins on line `first`, and its last line. Lines count from 0 here.
 pub fn read_procedure(
     alloc: Global,
@@ -51,48 +69,25 @@ pub fn read_procedure(
     for i in first..lines.len() {
         match read_line(&mut reader, expressions, line_at(lines, i)) {
             Ok(Progress::More) => {}
-            Ok(Progress::Ended) => return end(&mut reader, expressions, i),
-            Ok(Progress::Before) => return end(&mut reader, expressions, last),
+            Ok(Progress::Ended) => return at_line(reader.end(expressions), i),
+            Ok(Progress::Before) => return at_line(reader.end(expressions), last),
             Err(stop) => return Err((i, stop)),
         }
         if reader.has_token {
             last = i;
         }
     }
-    end_of_text(&mut reader, expressions, last)
+    at_line(reader.end_of_text(expressions), last)
 }
 
-/// The PROCEDURE that ended on this line.
-fn end(
-    reader: &mut Reader,
-    expressions: &mut Expressions,
-    last: usize,
-) -> Result<(Procedure, usize), Where>
+/// What was read of a PROCEDURE whose last line, or the one that is refused, is this.
+fn at_line(read: Result<Procedure, Stop>, last: usize) -> Result<(Procedure, usize), Where>
     ensures { MatchResult result (λ x. x.1 ≡ last) (λ place. place.0 ≡ last) }
 {
-    expressions.begin_procedure();
-    match reader.plus.end(expressions) {
+    match read {
         Ok(procedure) => Ok((procedure, last)),
         Err(stop) => Err((last, stop)),
     }
-}
-
-/// The PROCEDURE at the end of the text, whose last token stands on this line.
-fn end_of_text(
-    reader: &mut Reader,
-    expressions: &mut Expressions,
-    last: usize,
-) -> Result<(Procedure, usize), Where>
-    ensures { MatchResult result (λ x. x.1 ≡ last) (λ place. place.0 ≡ last) }
-{
-    let refusal = reader.plus.cut_off();
-    if let Err(stop) = reader.plus.end_all() {
-        return Err((last, stop));
-    }
-    if !reader.plus.is_done() {
-        return Err((last, Stop::Refused(refusal)));
-    }
-    end(reader, expressions, last)
 }
 
 /// Reads a line.

@@ -2,3 +2,4 @@ pub mod Codes
 pub mod Faults
 pub mod Lines
 pub mod Numbers
+pub mod Words

@@ -1,5 +1,8 @@
 //! The words of statements, and the names that GPSS World has and this text leaves out.
 
+ghost use Rattle.std.specs.Prelude.{◌≡◌};
+ghost use Rattle.gw_text_tokens.specs.Words.{is_block};
+
 use crate::characters::is_spelled;
 
 /// The word of a statement: a block's, or a declaration's (GPSS World Reference Manual, chapters 6 and 7).
@@ -56,8 +59,24 @@ pub enum Known {
 
 impl Word {
     /// Whether it is a block.
-    pub fn is_block(self) -> bool {
-        !self.is_named() && !self.is_control()
+    #[tactic(auto, unfolding(crate::specs::Words::is_block))]
+    pub fn is_block(self) -> bool
+        ensures { result ≡ is_block self }
+    {
+        match self {
+            Word::Storage
+            | Word::Variable
+            | Word::BVariable
+            | Word::Equ
+            | Word::Function
+            | Word::Table
+            | Word::Initial
+            | Word::Rmult
+            | Word::Start
+            | Word::Simulate
+            | Word::Procedure => false,
+            _ => true,
+        }
     }
 
     /// Whether what it declares has the label for its name: STORAGE, EQU and the like.
@@ -78,13 +97,6 @@ impl Word {
         matches!(
             self,
             Word::Storage | Word::Variable | Word::BVariable | Word::Function | Word::Table
-        )
-    }
-
-    fn is_control(self) -> bool {
-        matches!(
-            self,
-            Word::Initial | Word::Rmult | Word::Start | Word::Simulate | Word::Procedure
         )
     }
 }
