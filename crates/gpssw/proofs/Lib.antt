@@ -1,4 +1,3 @@
-pub mod ThreeWords
 pub mod Entries
 pub mod Batches
 pub mod Whole

@@ -1,7 +1,6 @@
 //! The program, over its words, a reader and a writer.
 
 ghost use Rattle.std.specs.Prelude.{◌≡◌, ◌≢◌, ◌+◌, [], ◌∷◌, map, false, None, IfOk, OnOk, MatchResult, MatchOption, Contains};
-ghost use Rattle.std.specs.Io.KnownBytes.{Appends};
 ghost use Rattle.std.specs.String.{string_bytes};
 ghost use Rattle.gw_answers.specs.Status.{ended, refused as refused_status, wrong_words, failed, no_memory};
 ghost use Rattle.gw_answers.specs.Requests as requests;
@@ -10,7 +9,7 @@ ghost use Rattle.gw_answers.specs.Assembly.{IsAssembly};
 ghost use Rattle.gw_batch.specs.Codes.{words_fault};
 ghost use Rattle.gw_batch.specs.Parts.{IsPool};
 ghost use Rattle.gpssw.specs.Words.{command_in};
-ghost use Rattle.gw_console.specs.Output.{memory_line, AnswersReader, Writes, Responds, WritesAnswer};
+ghost use Rattle.gw_console.specs.Output.{AnswersReader, Writes, Responds, Delivers};
 ghost use Rattle.gw_console.specs.Calls.{LosesFront, LosesAtMost, TellsReads, TellsCalls};
 ghost use Rattle.gpssw.specs.Output.{usage_line, answering};
 ghost use Rattle.gpssw.specs.Framing.{LosesBatch, most_bytes_of_batch};
@@ -57,15 +56,7 @@ fn respond<R: Read, W: Write>(
 ) -> u8
     requires reader { reader.old.failed ≡ false }
     requires writer { writer.old.failed ≡ false }
-    ensures answered { result ≢ failed → result ≢ no_memory →
-        WritesAnswer (requests.answering request)
-        reader.old.left result writer.old.held writer.new.held }
-    ensures memory { result ≡ no_memory →
-        Appends writer.old.held writer.new.held memory_line }
-    ensures statuses { Contains (ended ∷ refused_status ∷ failed ∷ no_memory ∷ []) result }
-
-    // Whatever failed: what was to be written, and how much of it was.
-    ensures output { Responds (requests.answering request)
+    ensures written { Delivers (requests.answering request)
         reader.old.left result writer.old.held writer.new.held }
     ensures calls { TellsCalls result reader.old reader.new writer.old writer.new }
 {
@@ -77,14 +68,8 @@ fn respond<R: Read, W: Write>(
 pub fn asm<R: Read, W: Write>(alloc: Global, reader: &mut Input<R>, writer: &mut Output<W>) -> u8
     requires reader { reader.old.failed ≡ false }
     requires writer { writer.old.failed ≡ false }
-    ensures answered { result ≢ failed → result ≢ no_memory →
-        WritesAnswer IsAssembly reader.old.left result writer.old.held writer.new.held }
-    ensures memory { result ≡ no_memory →
-        Appends writer.old.held writer.new.held memory_line }
-    ensures statuses { Contains (ended ∷ refused_status ∷ failed ∷ no_memory ∷ []) result }
-
-    // Whatever failed: what was to be written, and how much of it was.
-    ensures output { Responds IsAssembly reader.old.left result writer.old.held writer.new.held }
+    ensures written { Delivers IsAssembly
+        reader.old.left result writer.old.held writer.new.held }
     ensures calls { TellsCalls result reader.old reader.new writer.old writer.new }
 {
     respond(alloc, Request::Asm, reader, writer)
@@ -95,14 +80,8 @@ pub fn asm<R: Read, W: Write>(alloc: Global, reader: &mut Input<R>, writer: &mut
 pub fn check<R: Read, W: Write>(alloc: Global, reader: &mut Input<R>, writer: &mut Output<W>) -> u8
     requires reader { reader.old.failed ≡ false }
     requires writer { writer.old.failed ≡ false }
-    ensures answered { result ≢ failed → result ≢ no_memory →
-        WritesAnswer IsCheck reader.old.left result writer.old.held writer.new.held }
-    ensures memory { result ≡ no_memory →
-        Appends writer.old.held writer.new.held memory_line }
-    ensures statuses { Contains (ended ∷ refused_status ∷ failed ∷ no_memory ∷ []) result }
-
-    // Whatever failed: what was to be written, and how much of it was.
-    ensures output { Responds IsCheck reader.old.left result writer.old.held writer.new.held }
+    ensures written { Delivers IsCheck
+        reader.old.left result writer.old.held writer.new.held }
     ensures calls { TellsCalls result reader.old reader.new writer.old writer.new }
 {
     respond(alloc, Request::Check, reader, writer)
@@ -119,14 +98,8 @@ pub fn run<R: Read, W: Write>(
 ) -> u8
     requires reader { reader.old.failed ≡ false }
     requires writer { writer.old.failed ≡ false }
-    ensures answered { result ≢ failed → result ≢ no_memory →
-        WritesAnswer (IsAnswer seed count) reader.old.left result writer.old.held writer.new.held }
-    ensures memory { result ≡ no_memory →
-        Appends writer.old.held writer.new.held memory_line }
-    ensures statuses { Contains (ended ∷ refused_status ∷ failed ∷ no_memory ∷ []) result }
-
-    // Whatever failed: what was to be written, and how much of it was.
-    ensures output { Responds (IsAnswer seed count) reader.old.left result writer.old.held writer.new.held }
+    ensures written { Delivers (IsAnswer seed count)
+        reader.old.left result writer.old.held writer.new.held }
     ensures calls { TellsCalls result reader.old reader.new writer.old writer.new }
 {
     respond(alloc, Request::Run { seed, count }, reader, writer)
@@ -170,15 +143,9 @@ pub fn pool<R: Read, W: Write, T: Threads + Wait + Sync>(
 ) -> u8
     requires reader { reader.old.failed ≡ false }
     requires writer { writer.old.failed ≡ false }
-    ensures answered { result ≢ failed → result ≢ no_memory →
-        WritesAnswer (IsPool workers slice) reader.old.left result writer.old.held writer.new.held }
+    ensures written { Delivers (IsPool workers slice)
+        reader.old.left result writer.old.held writer.new.held }
     ensures unread { words_fault workers slice ≢ None → reader.new ≡ reader.old }
-    ensures memory { result ≡ no_memory →
-        Appends writer.old.held writer.new.held memory_line }
-    ensures statuses { Contains (ended ∷ refused_status ∷ failed ∷ no_memory ∷ []) result }
-
-    // Whatever failed: what was to be written, and how much of it was.
-    ensures output { Responds (IsPool workers slice) reader.old.left result writer.old.held writer.new.held }
     ensures calls { TellsPoolCalls workers slice result reader.old reader.new writer.old writer.new }
 {
     deliver(writer, read_and_run(rt, alloc, workers, slice, reader))

@@ -1,5 +1,5 @@
 -- What a command writes, by what stands in the place of its answer.
-use Rattle.std.proofs.Common.{◌≡◌, ◌≢◌, ◌⊎◌, ℕ, List, [], ◌∷◌, Option, Some, None, Bool, true, false, Result, Ok, Err, IfOk, MatchResult, MatchOption, Contains, inl, inr, refl, sym, subst, arith}
+use Rattle.std.proofs.Common.{◌≡◌, ◌≢◌, ◌⊎◌, ℕ, List, [], ◌∷◌, Option, Result, Ok, Err, IfOk, MatchResult, Contains, inl, inr, refl, sym, subst, arith}
 use Rattle.gw_object.specs.declared.fault.Fault.{Fault}
 use Rattle.gw_object.specs.declared.parts.Parts.{Parts}
 use Rattle.gw_step.specs.Job.{Job}
@@ -13,7 +13,8 @@ use Rattle.gw_console.specs.declared.fault.ProgramFault.{ProgramFault}
 use Rattle.gw_console.specs.declared.fault.ProgramFault.TheVariants.{Read, Write, Memory}
 use Rattle.gw_answers.specs.Status.{ended, refused, failed, no_memory}
 use Rattle.gw_answers.specs.Requests.{Answering, answering}
-use Rattle.gw_console.specs.Output.{AnswersReader, memory_line, Writes, Fails, Responds, WritesAnswer}
+use Rattle.gw_console.specs.Output.{AnswersReader, memory_line, Writes, Fails, Responds, WritesAnswer, Delivers}
+use Rattle.std.specs.Io.KnownBytes.{Appends}
 use Rattle.gw_console.proofs.Bytes.{kept}
 
 -- a status of an answer
@@ -55,6 +56,10 @@ of_answer : (status : ℕ) → IsEnd status → Statuses status
 of_answer status (inl h) = (0, omega arith, sym h)
 of_answer status (inr h) = (1, omega arith, sym h)
 
+not_memory : (status : ℕ) → IsEnd status → status ≡ no_memory → ⊥
+not_memory status (inl h) is = omega (arith, h, is)
+not_memory status (inr h) is = omega (arith, h, is)
+
 of_failed : (status : ℕ) → status ≡ failed → Statuses status
 of_failed status h = (2, omega arith, sym h)
 
@@ -67,14 +72,14 @@ module _ (Answers : Answering) (ends : Ends Answers) (known : Option (List ℕ))
   answer_statuses (Err fault) answer = tt
 
 module _ (Answers : Answering) (ends : Ends Answers) (known : Option (List ℕ)) (status : ℕ) (old new : Option (List ℕ)) where
-  pub output : (r : Result Answer ProgramFault) → IfOk r (λ a. AnswersReader Answers known a.text.items a.status)
+  output : (r : Result Answer ProgramFault) → IfOk r (λ a. AnswersReader Answers known a.text.items a.status)
       → MatchResult r (λ a. Writes a.text.items a.status status old new) (λ fault. Fails fault status old new) → Responds Answers known status old new
   output (Ok a) answer h = (a.text.items, a.status, inl answer, h)
   output (Err Memory) answer h = (memory_line, no_memory, inr (inl (refl, refl)), h)
   output (Err Read) answer h = ([], failed, inr (inr (refl, refl)), inl (h.0, kept old new h.1))
   output (Err Write) answer h = ([], failed, inr (inr (refl, refl)), inl (h.0, kept old new h.1))
 
-  pub answered : (r : Result Answer ProgramFault) → IfOk r (λ a. AnswersReader Answers known a.text.items a.status)
+  answered : (r : Result Answer ProgramFault) → IfOk r (λ a. AnswersReader Answers known a.text.items a.status)
       → MatchResult r (λ a. Writes a.text.items a.status status old new) (λ fault. Fails fault status old new)
       → status ≢ failed → status ≢ no_memory → WritesAnswer Answers known status old new
   answered (Ok a) answer (inl h) whole enough = (a.text.items, subst (λ s. AnswersReader Answers known a.text.items s) (sym h.0) answer, h.1)
@@ -84,7 +89,7 @@ module _ (Answers : Answering) (ends : Ends Answers) (known : Option (List ℕ))
   answered (Err Read) answer h whole enough = absurd (whole h.0)
   answered (Err Write) answer h whole enough = absurd (whole h.0)
 
-  pub statuses : (r : Result Answer ProgramFault) → IfOk r (λ a. AnswersReader Answers known a.text.items a.status)
+  statuses : (r : Result Answer ProgramFault) → IfOk r (λ a. AnswersReader Answers known a.text.items a.status)
       → MatchResult r (λ a. Writes a.text.items a.status status old new) (λ fault. Fails fault status old new) → Statuses status
   statuses (Ok a) answer (inl h) = subst Statuses (sym h.0) (of_answer a.status (ends answer.0 a.text.items a.status answer.2))
   statuses (Ok a) answer (inr h) = of_failed status h.0
@@ -92,3 +97,22 @@ module _ (Answers : Answering) (ends : Ends Answers) (known : Option (List ℕ))
   statuses (Err Memory) answer (inr h) = of_failed status h.0
   statuses (Err Read) answer h = of_failed status h.0
   statuses (Err Write) answer h = of_failed status h.0
+
+  memory : (r : Result Answer ProgramFault) → IfOk r (λ a. AnswersReader Answers known a.text.items a.status)
+      → MatchResult r (λ a. Writes a.text.items a.status status old new) (λ fault. Fails fault status old new)
+      → status ≡ no_memory → Appends old new memory_line
+  memory (Ok a) answer (inl h) is = absurd (not_memory status (subst IsEnd (sym h.0) (ends answer.0 a.text.items a.status answer.2)) is)
+  memory (Ok a) answer (inr h) is = absurd (omega (arith, h.0, is))
+  memory (Err Memory) answer (inl h) is = h.1
+  memory (Err Memory) answer (inr h) is = absurd (omega (arith, h.0, is))
+  memory (Err Read) answer h is = absurd (omega (arith, h.0, is))
+  memory (Err Write) answer h is = absurd (omega (arith, h.0, is))
+
+  pub delivers : (r : Result Answer ProgramFault) → IfOk r (λ a. AnswersReader Answers known a.text.items a.status)
+      → MatchResult r (λ a. Writes a.text.items a.status status old new) (λ fault. Fails fault status old new) → Delivers Answers known status old new
+  delivers r answer written = record {
+    answered = answered r answer written;
+    memory = memory r answer written;
+    status = statuses r answer written;
+    output = output r answer written;
+  }

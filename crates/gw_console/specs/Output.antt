@@ -1,9 +1,9 @@
 -- What the program writes to a writer whose bytes are known, given a reader whose bytes are known.
-use Rattle.std.specs.Prelude.{◌≡◌, ◌≤◌, ◌⊎◌, ℕ, List, [], length, take, codes, Option, IfSome}
+use Rattle.std.specs.Prelude.{◌≡◌, ◌≢◌, ◌≤◌, ◌⊎◌, ℕ, List, [], ◌∷◌, length, take, codes, Option, IfSome, Contains}
 use Rattle.std.specs.Io.KnownBytes.{Appends, Keeps}
 use Rattle.gw_console.specs.declared.fault.ProgramFault.{ProgramFault}
 use Rattle.gw_console.specs.declared.fault.ProgramFault.TheVariants.{Read, Write, Memory}
-use Rattle.gw_answers.specs.Status.{failed, no_memory}
+use Rattle.gw_answers.specs.Status.{ended, refused, failed, no_memory}
 use Rattle.gw_answers.specs.Requests.{Answering}
 
 -- the line on want of memory
@@ -42,3 +42,13 @@ Responds Answers known result old new = (text : List ℕ) × (status : ℕ) × I
 -- the answer is written whole, and its status answered
 abbrev pub WritesAnswer : Answering → Option (List ℕ) → ℕ → Option (List ℕ) → Option (List ℕ) → Type 0
 WritesAnswer Answers known result old new = (text : List ℕ) × AnswersReader Answers known text result × Appends old new text
+
+-- what a command writes, by the status that it answers
+pub record Delivers (Answers : Answering) (known : Option (List ℕ)) (result : ℕ) (old new : Option (List ℕ)) : Type 0 where
+  -- the answer, unless a read or a write failed, or memory ran out
+  pub answered : result ≢ failed → result ≢ no_memory → WritesAnswer Answers known result old new
+  -- the line on want of memory
+  pub memory : result ≡ no_memory → Appends old new memory_line
+  pub status : Contains (ended ∷ refused ∷ failed ∷ no_memory ∷ []) result
+  -- whatever failed: what was to be written, and how much of it was
+  pub output : Responds Answers known result old new

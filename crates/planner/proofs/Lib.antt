@@ -1,4 +1,3 @@
 pub mod Endings
 pub mod Fronts
-pub mod ThreeWords
 pub mod Telling

@@ -3,7 +3,7 @@
 ghost use Rattle.std.specs.Prelude.{◌≡◌, ◌≢◌, ◌+◌, [], ◌∷◌, map, false, None, IfOk, OnOk, MatchOption, Contains};
 ghost use Rattle.std.specs.String.{string_bytes};
 ghost use Rattle.gw_answers.specs.Status.{ended, refused, wrong_words, failed, no_memory};
-ghost use Rattle.gw_console.specs.Output.{AnswersReader, Writes, Responds, WritesAnswer};
+ghost use Rattle.gw_console.specs.Output.{AnswersReader, Writes, Delivers};
 ghost use Rattle.gw_console.specs.Calls.{LosesFront, LosesAtMost, TellsReads, TellsCalls};
 ghost use Rattle.planner.specs.Words.{command_in};
 ghost use Rattle.planner.specs.Asking.{MayBeAsked};
@@ -78,12 +78,7 @@ pub fn ask<R: Read, W: Write, T: Threads + Wait + Sync + Eprint>(
     requires asked { MayBeAsked question }
     requires reader { reader.old.failed ≡ false }
     requires writer { writer.old.failed ≡ false }
-    ensures answered { result ≢ failed → result ≢ no_memory →
-        WritesAnswer (answering question) reader.old.left result writer.old.held writer.new.held }
-    ensures statuses { Contains (ended ∷ refused ∷ failed ∷ no_memory ∷ []) result }
-
-    // Whatever failed: what was to be written, and how much of it was.
-    ensures output { Responds (answering question)
+    ensures written { Delivers (answering question)
         reader.old.left result writer.old.held writer.new.held }
     ensures calls { TellsCalls result reader.old reader.new writer.old writer.new }
 {

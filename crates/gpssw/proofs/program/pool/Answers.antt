@@ -1,16 +1,10 @@
-use Rattle.gw_console.proofs.Outputs.{output, answered, statuses, answer_statuses}
+use Rattle.gw_console.proofs.Outputs.{delivers, answer_statuses}
 use Rattle.gpssw.proofs.Outputs.{pool_ends}
 use Rattle.gpssw.proofs.Calls.{of_batch}
 use Rattle.gpssw.proofs.program.pool.Goals as goal
 
-pub returns-clause-answered : goal.returns-clause-answered
-returns-clause-answered g c = answered _ (pool_ends c.args.workers c.args.slice) _ _ _ _ c.read_and_run.result c.read_and_run.ensures.answer c.deliver.ensures.bytes
-
-pub returns-clause-statuses : goal.returns-clause-statuses
-returns-clause-statuses g c = statuses _ (pool_ends c.args.workers c.args.slice) _ _ _ _ c.read_and_run.result c.read_and_run.ensures.answer c.deliver.ensures.bytes
-
-pub returns-clause-output : goal.returns-clause-output
-returns-clause-output g c = output _ (pool_ends c.args.workers c.args.slice) _ _ _ _ c.read_and_run.result c.read_and_run.ensures.answer c.deliver.ensures.bytes
+pub returns-clause-written : goal.returns-clause-written
+returns-clause-written g c = delivers _ (pool_ends c.args.workers c.args.slice) _ _ _ _ c.read_and_run.result c.read_and_run.ensures.answer c.deliver.ensures.bytes
 
 pub returns-clause-calls : goal.returns-clause-calls
 returns-clause-calls g c =

@@ -1,15 +1,9 @@
-use Rattle.gw_console.proofs.Outputs.{output, answered, statuses, answer_statuses, request_ends}
+use Rattle.gw_console.proofs.Outputs.{delivers, answer_statuses, request_ends}
 use Rattle.gw_console.proofs.Calls.{of_reading}
 use Rattle.gpssw.proofs.program.respond.Goals as goal
 
-pub returns-clause-answered : goal.returns-clause-answered
-returns-clause-answered g c = answered _ (request_ends c.args.request) _ _ _ _ c.read_and_answer.result c.read_and_answer.ensures.answer c.deliver.ensures.bytes
-
-pub returns-clause-statuses : goal.returns-clause-statuses
-returns-clause-statuses g c = statuses _ (request_ends c.args.request) _ _ _ _ c.read_and_answer.result c.read_and_answer.ensures.answer c.deliver.ensures.bytes
-
-pub returns-clause-output : goal.returns-clause-output
-returns-clause-output g c = output _ (request_ends c.args.request) _ _ _ _ c.read_and_answer.result c.read_and_answer.ensures.answer c.deliver.ensures.bytes
+pub returns-clause-written : goal.returns-clause-written
+returns-clause-written g c = delivers _ (request_ends c.args.request) _ _ _ _ c.read_and_answer.result c.read_and_answer.ensures.answer c.deliver.ensures.bytes
 
 pub returns-clause-calls : goal.returns-clause-calls
 returns-clause-calls g c =

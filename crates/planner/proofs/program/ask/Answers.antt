@@ -1,16 +1,10 @@
-use Rattle.gw_console.proofs.Outputs.{output, answered, statuses, answer_statuses}
+use Rattle.gw_console.proofs.Outputs.{delivers, answer_statuses}
 use Rattle.gw_console.proofs.Calls.{of_reading}
 use Rattle.planner.proofs.Endings.{question_ends}
 use Rattle.planner.proofs.program.ask.Goals as goal
 
-pub returns-clause-answered : goal.returns-clause-answered
-returns-clause-answered g c = answered _ (question_ends c.args.question) _ _ _ _ c.read_and_answer.result c.read_and_answer.ensures.answer c.deliver.ensures.bytes
-
-pub returns-clause-statuses : goal.returns-clause-statuses
-returns-clause-statuses g c = statuses _ (question_ends c.args.question) _ _ _ _ c.read_and_answer.result c.read_and_answer.ensures.answer c.deliver.ensures.bytes
-
-pub returns-clause-output : goal.returns-clause-output
-returns-clause-output g c = output _ (question_ends c.args.question) _ _ _ _ c.read_and_answer.result c.read_and_answer.ensures.answer c.deliver.ensures.bytes
+pub returns-clause-written : goal.returns-clause-written
+returns-clause-written g c = delivers _ (question_ends c.args.question) _ _ _ _ c.read_and_answer.result c.read_and_answer.ensures.answer c.deliver.ensures.bytes
 
 pub returns-clause-calls : goal.returns-clause-calls
 returns-clause-calls g c =
