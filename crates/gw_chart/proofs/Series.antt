@@ -1,11 +1,19 @@
 -- What grows by one at a time.
-use Rattle.std.proofs.Common.{◌≡◌, ◌+◌, ◌++◌, ℕ, suc, max, List, [], arith, refl, sym, ap, ◌∙◌, append_assoc, append-nil}
+use Rattle.std.proofs.Common.{◌≡◌, ◌+◌, ◌++◌, ℕ, drop, suc, max, List, [], arith, refl, sym, ap, ◌∙◌, append_assoc, append-nil}
 use Rattle.gw_chart.specs.Numbers.{greatest, total}
 use Rattle.gw_chart.specs.Text.{upto}
 
 pub upto_more : (f : ℕ → List ℕ) (i : ℕ) → upto f (i + 1) ≡ upto f i ++ f i
 unfolding upto
 upto_more f i = let e : i + 1 ≡ suc i = omega arith in ap (upto f) e
+
+-- a text has so many of them behind what was there
+abbrev pub HasUpto : (ℕ → List ℕ) → ℕ → List ℕ → List ℕ → Type 0
+HasUpto f i old new = new ≡ old ++ upto f i
+
+-- a text, and what is written of those that are left, are what was there and what is written of all
+abbrev pub Lacks : (List ℕ → List ℕ) → List ℕ → ℕ → List ℕ → List ℕ → Type 0
+Lacks f xs i old new = new ++ f (drop i xs) ≡ old ++ f xs
 
 -- a text that has the first of them, and the next
 pub grown : (f : ℕ → List ℕ) (i : ℕ) (start old new : List ℕ) → old ≡ start ++ upto f i → new ≡ old ++ f i → new ≡ start ++ upto f (i + 1)

@@ -1,5 +1,5 @@
 -- The classes of a table, as bars.
-use Rattle.std.specs.Prelude.{ℕ, ◌+◌, ◌-◌, ◌*◌, ◌/◌, ◌%◌, ℤ, pos, ◌+ℤ◌, min, List, [], ◌++◌, length, slice_index, codes, ◌||◌, ◌==◌, if◌then◌else◌}
+use Rattle.std.specs.Prelude.{Bool, ℕ, ◌+◌, ◌-◌, ◌*◌, ◌/◌, ◌%◌, ℤ, pos, ◌+ℤ◌, min, List, [], ◌++◌, length, slice_index, codes, ◌||◌, ◌==◌, if◌then◌else◌}
 use Rattle.std.specs.Fmt.{signed_decimal}
 use Rattle.gw_object.specs.declared.parts.Table.{Table}
 use Rattle.gw_chart.specs.declared.plot.Plot.{Plot}
@@ -42,10 +42,14 @@ limit plot table classes i =
     text_at (800 + scaled 6200 i classes + 6200 / classes / 2) (floor_of plot + 160) (codes " text-anchor=\"middle\"")
     ++ limit_text table classes i ++ codes "</text>\n"
 
--- the same, where there is room for it: below one of so many bars, and below the last
+-- there is room for it below one of so many bars, and below the last
+abbrev pub has_room : ℕ → ℕ → Bool
+has_room classes i = (i % (classes / 12 + 1) == 0) || (i + 1 == classes)
+
+-- the same, where there is room for it
 abbrev pub limit_if_room : Plot → Table → ℕ → ℕ → List ℕ
 limit_if_room plot table classes i =
-    if (i % (classes / 12 + 1) == 0) || (i + 1 == classes) then limit plot table classes i else []
+    if has_room classes i then limit plot table classes i else []
 
 -- a class: its bar, and its upper limit
 abbrev pub class : Plot → Steps → Table → List ℕ → ℕ → List ℕ

@@ -17,11 +17,12 @@ plot_of kinds.Queue = Some Waiting
 plot_of (kinds.Table operands) = Some Classes
 plot_of kind = None
 
-abbrev pub words_of : Plot → List ℕ
-words_of Owned = codes "facility, 1 where it is owned"
-words_of Units = codes "storage, units in it"
-words_of Waiting = codes "queue, units that wait"
-words_of Classes = codes "table, values in each class over the whole run"
+-- what it shows
+abbrev pub shown_in : Plot → List ℕ
+shown_in Owned = codes "facility, 1 where it is owned"
+shown_in Units = codes "storage, units in it"
+shown_in Waiting = codes "queue, units that wait"
+shown_in Classes = codes "table, values in each class over the whole run"
 
 abbrev pub unit_of : Plot → List ℕ
 unit_of Owned = codes "owned"
@@ -73,7 +74,7 @@ unfoldable pub title : List ℕ → Plot → List ℕ
 title name plot =
     codes "<rect x=\"80\" y=\"12\" width=\"10\" height=\"10\" fill=\"" ++ colour_of plot
     ++ codes "\"/>\n<text x=\"96\" y=\"21\"><tspan font-weight=\"bold\">" ++ escaped name
-    ++ codes "</tspan><tspan fill=\"#555\">: " ++ words_of plot ++ codes "</tspan></text>\n"
+    ++ codes "</tspan><tspan fill=\"#555\">: " ++ shown_in plot ++ codes "</tspan></text>\n"
 
 -- the unit of the upright axis
 unfoldable pub unit : Plot → List ℕ

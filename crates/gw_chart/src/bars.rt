@@ -125,26 +125,15 @@ fn put_limit(
     put(out, "</text>\n")
 }
 
-/// The same, where there is room for it: below one of so many bars, and below the last.
-fn put_limit_if_room(
-    out: &mut Vec<u8>,
-    plot: Plot,
-    table: &Table,
-    classes: u64,
-    i: u64,
-) -> Result<(), Memory>
+/// Whether there is room for the upper limit of a class of so many: below one of so many bars, and below the last.
+fn has_room(classes: u64, i: u64) -> bool
     requires { i < classes }
-    ensures { OnOk result (out.new.items ≡ out.old.items
-        ++ model.limit_if_room plot table.now classes i) }
+    ensures { result ≡ model.has_room classes i }
 {
-    if i % (classes / 12 + 1) == 0 || i + 1 == classes {
-        put_limit(out, plot, table, classes, i)
-    } else {
-        Ok(())
-    }
+    i % (classes / 12 + 1) == 0 || i + 1 == classes
 }
 
-/// A class: its bar, and its upper limit.
+/// A class: its bar, and its upper limit where there is room for it.
 fn put_class(
     out: &mut Vec<u8>,
     plot: Plot,
@@ -158,7 +147,11 @@ fn put_class(
         ++ model.class plot scale table.now values.now i) }
 {
     put_bar(out, plot, scale, values.len() as u64, i as u64, values[i])?;
-    put_limit_if_room(out, plot, table, values.len() as u64, i as u64)
+    if has_room(values.len() as u64, i as u64) {
+        put_limit(out, plot, table, values.len() as u64, i as u64)
+    } else {
+        Ok(())
+    }
 }
 
 /// The classes of a table, one after the other.

@@ -14,6 +14,19 @@ use crate::text::put_tenths;
 use gw_object::{Items, Memory};
 use gw_report::text::put;
 
+/// What was in an entity, to be drawn.
+#[derive(Clone, Copy)]
+struct Curve<'a> {
+    /// The plot.
+    plot: Plot,
+    /// The scale of its upright axis.
+    scale: Scale,
+    /// What was in each entity at each moment.
+    rows: &'a [Items<u64>],
+    /// The number of the entity.
+    entity: usize,
+}
+
 /// The upright line at a step of the clock axis, which reaches so far, and its clock.
 fn put_clock(out: &mut Vec<u8>, plot: Plot, span: u64, step: u128, i: u64) -> Result<(), Memory>
     requires { (0 < span) × (step * i ≤ span) }
@@ -99,98 +112,68 @@ fn put_turn(out: &mut Vec<u8>, moment: u64, from: u64, to: u64) -> Result<(), Me
 }
 
 /// The points at the moment after this one: none where nothing changed.
-fn put_points_after(
-    out: &mut Vec<u8>,
-    plot: Plot,
-    scale: Scale,
-    rows: &[Items<u64>],
-    entity: usize,
-    moment: usize,
-) -> Result<(), Memory>
+fn put_points_after(out: &mut Vec<u8>, curve: &Curve<'_>, moment: usize) -> Result<(), Memory>
     requires { moment < 499 }
     ensures { OnOk result (out.new.items ≡ out.old.items
-        ++ model.points_after plot scale rows.now entity moment) }
+        ++ model.points_after curve.now.plot curve.now.scale curve.now.rows.now curve.now.entity moment) }
 {
-    let from = content(rows, entity, moment);
-    let to = content(rows, entity, moment + 1);
+    let from = content(curve.rows, curve.entity, moment);
+    let to = content(curve.rows, curve.entity, moment + 1);
     if to == from {
         return Ok(());
     }
     put_turn(
         out,
         moment as u64 + 1,
-        height_at(plot, scale, from),
-        height_at(plot, scale, to),
+        height_at(curve.plot, curve.scale, from),
+        height_at(curve.plot, curve.scale, to),
     )
 }
 
 /// The point at a moment, by its number, where a content is shown.
-fn put_point_at(
-    out: &mut Vec<u8>,
-    plot: Plot,
-    scale: Scale,
-    rows: &[Items<u64>],
-    entity: usize,
-    moment: usize,
-) -> Result<(), Memory>
+fn put_point_at(out: &mut Vec<u8>, curve: &Curve<'_>, moment: usize) -> Result<(), Memory>
     requires { moment ≤ 499 }
     ensures { OnOk result (out.new.items ≡ out.old.items
-        ++ model.point_at plot scale rows.now entity moment) }
+        ++ model.point_at curve.now.plot curve.now.scale curve.now.rows.now curve.now.entity moment) }
 {
-    let y = height_at(plot, scale, content(rows, entity, moment));
+    let value = content(curve.rows, curve.entity, moment);
+    let y = height_at(curve.plot, curve.scale, value);
     put_point(out, moment as u64, y)
 }
 
 /// The points at all moments after the first.
 #[tactic(auto, unfolding(crate::specs::Lines::turns))]
-fn put_turns(
-    out: &mut Vec<u8>,
-    plot: Plot,
-    scale: Scale,
-    rows: &[Items<u64>],
-    entity: usize,
-) -> Result<(), Memory>
+fn put_turns(out: &mut Vec<u8>, curve: &Curve<'_>) -> Result<(), Memory>
     ensures { OnOk result (out.new.items ≡ out.old.items
-        ++ model.turns plot scale rows.now entity) }
+        ++ model.turns curve.now.plot curve.now.scale curve.now.rows.now curve.now.entity) }
 {
     for i in 0..499 {
-        put_points_after(out, plot, scale, rows, entity, i)?;
+        put_points_after(out, curve, i)?;
     }
     Ok(())
 }
 
 /// The points of a line over the moments: it goes level from moment to moment, and up or down where the content changes.
 #[tactic(auto, unfolding(crate::specs::Lines::points))]
-fn put_points(
-    out: &mut Vec<u8>,
-    plot: Plot,
-    scale: Scale,
-    rows: &[Items<u64>],
-    entity: usize,
-) -> Result<(), Memory>
+fn put_points(out: &mut Vec<u8>, curve: &Curve<'_>) -> Result<(), Memory>
     ensures { OnOk result (out.new.items ≡ out.old.items
-        ++ model.points plot scale rows.now entity) }
+        ++ model.points curve.now.plot curve.now.scale curve.now.rows.now curve.now.entity) }
 {
-    put_point_at(out, plot, scale, rows, entity, 0)?;
-    put_turns(out, plot, scale, rows, entity)?;
-    put_point_at(out, plot, scale, rows, entity, 499)
+    put_point_at(out, curve, 0)?;
+    put_turns(out, curve)?;
+    put_point_at(out, curve, 499)
 }
 
 /// The line.
 #[tactic(auto, unfolding(crate::specs::Lines::line))]
-fn put_polyline(
-    out: &mut Vec<u8>,
-    plot: Plot,
-    scale: Scale,
-    rows: &[Items<u64>],
-    entity: usize,
-) -> Result<(), Memory>
-    ensures { OnOk result (out.new.items ≡ out.old.items ++ model.line plot scale rows.now entity) }
+fn put_polyline(out: &mut Vec<u8>, curve: &Curve<'_>) -> Result<(), Memory>
+    ensures { OnOk result (out.new.items ≡ out.old.items
+        ++ model.line curve.now.plot curve.now.scale curve.now.rows.now curve.now.entity) }
 {
     put(out, "<polyline fill=\"none\" stroke=\"")?;
-    put(out, colour_of(plot))?;
+    put(out, colour_of(curve.plot))?;
     put(out, "\" points=\"")?;
-    put_points(out, plot, scale, rows, entity)?;
+    put_points(out, curve)?;
     put(out, "\"/>\n")
 }
 
@@ -214,5 +197,11 @@ pub(crate) fn put_line_panel(
     put_levels(out, plot, scale)?;
     put_clocks(out, plot, span)?;
     put_below(out, plot, "clock units")?;
-    put_polyline(out, plot, scale, rows, entity)
+    let curve = Curve {
+        plot,
+        scale,
+        rows,
+        entity,
+    };
+    put_polyline(out, &curve)
 }

@@ -35,28 +35,27 @@ pub(crate) fn plot_of(kind: &Kind) -> Option<Plot>
     }
 }
 
-/// What a plot shows.
-fn words_of(plot: Plot) -> &'static str
-    ensures { result.now ≡ model.words_of plot }
-{
-    match plot {
-        Plot::Owned => "facility, 1 where it is owned",
-        Plot::Units => "storage, units in it",
-        Plot::Waiting => "queue, units that wait",
-        Plot::Classes => "table, values in each class over the whole run",
-    }
+/// What is written beside a plot.
+#[derive(Clone, Copy)]
+struct Words {
+    /// What it shows.
+    shown: &'static str,
+    /// The unit of its upright axis.
+    unit: &'static str,
 }
 
-/// The unit of a plot's upright axis.
-fn unit_of(plot: Plot) -> &'static str
-    ensures { result.now ≡ model.unit_of plot }
+/// What is written beside a plot.
+fn words_of(plot: Plot) -> Words
+    ensures shown { result.shown.now ≡ model.shown_in plot }
+    ensures unit { result.unit.now ≡ model.unit_of plot }
 {
-    match plot {
-        Plot::Owned => "owned",
-        Plot::Units => "units",
-        Plot::Waiting => "waiting",
-        Plot::Classes => "values",
-    }
+    let (shown, unit) = match plot {
+        Plot::Owned => ("facility, 1 where it is owned", "owned"),
+        Plot::Units => ("storage, units in it", "units"),
+        Plot::Waiting => ("queue, units that wait", "waiting"),
+        Plot::Classes => ("table, values in each class over the whole run", "values"),
+    };
+    Words { shown, unit }
 }
 
 /// The colour of a plot.
@@ -161,7 +160,7 @@ pub(crate) fn put_title(out: &mut Vec<u8>, name: &[u8], plot: Plot) -> Result<()
     )?;
     put_escaped(out, name)?;
     put(out, "</tspan><tspan fill=\"#555\">: ")?;
-    put(out, words_of(plot))?;
+    put(out, words_of(plot).shown)?;
     put(out, "</tspan></text>\n")
 }
 
@@ -172,7 +171,7 @@ pub(crate) fn put_unit(out: &mut Vec<u8>, plot: Plot) -> Result<(), Memory>
     put(out, "<text transform=\"translate(14,")?;
     put_tenths(out, 320 + height_of(plot) / 2)?;
     put(out, ") rotate(-90)\" text-anchor=\"middle\" fill=\"#555\">")?;
-    put(out, unit_of(plot))?;
+    put(out, words_of(plot).unit)?;
     put(out, "</text>\n")
 }
 

@@ -1,3 +1,4 @@
 pub mod Lines
 pub mod Shape
+pub mod Sections
 pub mod Listing

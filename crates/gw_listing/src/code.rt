@@ -1,14 +1,15 @@
 //! Procedures, with their instructions.
 
-ghost use Rattle.std.specs.Prelude.{◌≡◌, ◌++◌, ◌∷◌, [], Some, None, length, slice_get, OnOk};
-ghost use Rattle.gw_listing.specs.Lines.{Front, AddsLines, numbered};
-ghost use Rattle.gw_listing.specs.Shape.{procedure_front, procedure_head, instruction_front, instruction_opening, takes_front, takes_opening, code_openings};
+ghost use Rattle.std.specs.Prelude.{◌≡◌, ◌++◌, ◌∷◌, [], Some, None, slice_get, OnOk};
+ghost use Rattle.gw_listing.specs.Lines.{Front, AddsLines};
+ghost use Rattle.gw_listing.specs.Shape.{procedure_front, procedure_head, takes_front, takes_opening, code_openings};
 
 use crate::operands::{put_attribute, put_numbered};
+use crate::sections::{Section, put_section};
 use crate::text::end_line;
 use gw_code::{Back, Instruction, Procedure, Sna};
 use gw_num::{Binary, Unary};
-use gw_object::{Entity, Memory};
+use gw_object::{Entity, Memory, Parts};
 use gw_report::text::{put, put_number};
 use std::alloc::Global;
 
@@ -57,7 +58,7 @@ fn put_back(out: &mut Vec<u8>, back: Back) -> Result<(), Memory> {
 }
 
 /// An instruction, with its operands.
-fn put_instruction(
+pub(crate) fn put_instruction(
     out: &mut Vec<u8>,
     entities: &[Entity],
     instruction: Instruction,
@@ -113,74 +114,19 @@ fn put_takes(alloc: Global, out: &mut Vec<u8>, procedure: &Procedure) -> Result<
     end_line(alloc, out, &words)
 }
 
-/// An instruction of these, with its operands.
-fn instruction_words(
-    alloc: Global,
-    entities: &[Entity],
-    code: &[Instruction],
-    number: usize,
-) -> Result<Vec<u8>, Memory> {
-    let mut words = Vec::new(alloc);
-    if let Some(instruction) = code.get(number) {
-        put_instruction(&mut words, entities, *instruction)?;
-    }
-    Ok(words)
-}
-
-/// What the line of an instruction begins with.
-fn put_instruction_front(out: &mut Vec<u8>, number: usize) -> Result<(), Memory>
-    ensures { OnOk result (out.new.items ≡ out.old.items ++ instruction_front number) }
-{
-    put_number(out, "    ", number)?;
-    put(out, " ")
-}
-
-/// The line of an instruction.
-#[tactic(auto, using(crate::proofs::Adding::fronted))]
-fn put_instruction_line(
-    alloc: Global,
-    out: &mut Vec<u8>,
-    entities: &[Entity],
-    code: &[Instruction],
-    number: usize,
-) -> Result<(), Memory>
-    ensures { OnOk result (AddsLines (instruction_opening number) out.old.items out.new.items) }
-{
-    let words = instruction_words(alloc, entities, code, number)?;
-    put_instruction_front(out, number)?;
-    end_line(alloc, out, &words)
-}
-
-/// A line for each instruction.
-#[tactic(auto, using(crate::proofs::Adding::begun, crate::proofs::Adding::one_more))]
-fn put_instructions(
-    alloc: Global,
-    out: &mut Vec<u8>,
-    entities: &[Entity],
-    code: &[Instruction],
-) -> Result<(), Memory>
-    ensures { OnOk result (AddsLines (numbered instruction_opening (length code.now))
-        out.old.items out.new.items) }
-{
-    for i in 0..code.len() {
-        put_instruction_line(alloc, out, entities, code, i)?;
-    }
-    Ok(())
-}
-
 /// What a procedure takes, and below that a line for each of its instructions.
-#[tactic(auto, using(crate::proofs::Adding::joined))]
 pub(crate) fn put_code(
     alloc: Global,
     out: &mut Vec<u8>,
-    entities: &[Entity],
+    parts: &Parts,
     procedure: &Procedure,
 ) -> Result<(), Memory>
     ensures { OnOk result (AddsLines (code_openings (Some procedure.now))
         out.old.items out.new.items) }
 {
     put_takes(alloc, out, procedure)?;
-    put_instructions(alloc, out, entities, procedure.code.as_slice())
+    let instructions = Section::Instructions(procedure.code.as_slice());
+    put_section(alloc, out, parts, &instructions)
 }
 
 /// The line of a number of a text, without blanks at its ends; none where there is no such line.

@@ -7,6 +7,7 @@ mod entities;
 mod listing;
 mod operands;
 mod parts;
+mod sections;
 mod text;
 
 pub use listing::list;

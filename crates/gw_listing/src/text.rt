@@ -28,7 +28,8 @@ pub(crate) fn put_told(
     numbers: &[u32],
     place: usize,
 ) -> Result<(), Memory>
-    ensures { OnOk result (out.new.items ≡ out.old.items ++ told text.now (slice_get numbers.now place)) }
+    ensures { OnOk result (out.new.items
+        ≡ out.old.items ++ told text.now (slice_get numbers.now place)) }
 {
     match numbers.get(place) {
         Some(number) => put_number(out, text, *number),

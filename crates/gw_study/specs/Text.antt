@@ -22,18 +22,26 @@ sign_text (negsuc n) = codes "-"
 abbrev pub thousandths_text : ℤ → List ℕ
 thousandths_text z = sign_text z ++ amount_text (unsigned_abs z)
 
+-- the same in its column
+abbrev pub amount_column : ℤ → List ℕ
+amount_column z = right 16 (thousandths_text z)
+
 -- a half-width, or a line where there is none
 abbrev pub half_width_text : Option ℕ → List ℕ
 half_width_text None = codes "-"
 half_width_text (Some h) = if nat_lt h (2 ^ 64) then thousandths_text (pos h) else codes "-"
 
+-- the same in its column
+abbrev pub half_width_column : Option ℕ → List ℕ
+half_width_column h = right 16 (half_width_text h)
+
 -- the mean, the least and the greatest
 abbrev pub values_text : Summary → List ℕ
-values_text s = right 16 (thousandths_text s.mean) ++ right 16 (thousandths_text s.least) ++ right 16 (thousandths_text s.greatest)
+values_text s = amount_column s.mean ++ amount_column s.least ++ amount_column s.greatest
 
 -- the row of a figure: its name, these, and the half-width
 abbrev pub row_line : List ℕ → Summary → List ℕ
-row_line name s = left 40 name ++ values_text s ++ right 16 (half_width_text s.half_width) ++ codes "\n"
+row_line name s = left 40 name ++ values_text s ++ half_width_column s.half_width ++ codes "\n"
 
 -- the row of one that isn't a number of each run
 abbrev pub missing_line : List ℕ → List ℕ

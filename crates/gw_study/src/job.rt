@@ -11,6 +11,15 @@ use gw_verdicts::Refusal;
 use gw_verify::Verified;
 use std::alloc::Global;
 
+/// What the runs of a study have in common.
+#[derive(Clone, Copy)]
+pub(crate) struct Setup<'a> {
+    /// The bytes of the object.
+    pub object: &'a [u8],
+    /// How many transactions a run counts; 0 means the object's own count.
+    pub count: u64,
+}
+
 /// The job of an accepted object with the seeds of a run, and this count; 0 means the object's own.
 fn seeded(alloc: Global, verified: Verified, run: u32, count: u64) -> Result<Spec, NoJob>
     requires { run < 1024 }

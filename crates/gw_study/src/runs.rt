@@ -1,11 +1,11 @@
 //! The runs of a study, by a service and its workers.
 
-ghost use Rattle.std.specs.Prelude.{◌≡◌, ◌<◌, ◌≤◌, ◌+◌, length, vec_len, map, IfOk, OnOk};
+ghost use Rattle.std.specs.Prelude.{◌≡◌, ◌<◌, ◌≤◌, ◌+◌, length, vec_len, IfOk, OnOk};
 ghost use Rattle.gw_pool.specs.Shares.{AreWhole};
 ghost use Rattle.gw_answers.specs.Answer.{Ends};
-ghost use Rattle.gw_study.specs.Runs.{IsPassOf, ArePassesFrom, AddsReports, AreReports};
+ghost use Rattle.gw_study.specs.Runs.{IsPassOf, ArePassesOf, AddsReportsTo, AreReportsOf};
 
-use crate::job::job_of_run;
+use crate::job::{Setup, job_of_run};
 use gw_answers::NoJob;
 use gw_batch::{refusal_of_job, reply_to};
 use gw_jobs::{JobFault, Pass};
@@ -43,38 +43,22 @@ fn refused_by(fault: JobFault) -> NoJob {
 }
 
 /// Submits the job of a run.
-fn submit<R: Ledger, S: Ledger, W: Wait>(
-    rt: &W,
-    alloc: Global,
-    table: &Mutex<Shared<R, S>>,
-    run: u32,
-    spec: Spec,
-) -> Result<Pass, NoJob>
-    ensures { IfOk result (λ pass. pass.job ≡ spec) }
-{
-    match table
-        .lock(rt)
-        .submit(alloc, u64::from(run / RUNS_OF_A_USER), spec)
-    {
-        Ok(pass) => Ok(pass),
-        Err((_, fault)) => Err(refused_by(fault)),
-    }
-}
-
-/// Submits a run.
 fn submit_run<R: Ledger, S: Ledger, W: Wait>(
     rt: &W,
     alloc: Global,
     table: &Mutex<Shared<R, S>>,
-    object: &[u8],
-    count: u64,
+    setup: &Setup<'_>,
     run: u32,
 ) -> Result<Pass, NoJob>
     requires { run < 1024 }
-    ensures { IfOk result (IsPassOf count object.now run) }
+    ensures { IfOk result (IsPassOf setup.now.count setup.now.object.now run) }
 {
-    let spec = job_of_run(alloc, object, run, count)?;
-    submit(rt, alloc, table, run, spec)
+    let spec = job_of_run(alloc, setup.object, run, setup.count)?;
+    let user = u64::from(run / RUNS_OF_A_USER);
+    match table.lock(rt).submit(alloc, user, spec) {
+        Ok(pass) => Ok(pass),
+        Err((_, fault)) => Err(refused_by(fault)),
+    }
 }
 
 /// Submits the runs from one number to another, but not that one.
@@ -82,18 +66,17 @@ fn submit_runs<R: Ledger, S: Ledger, W: Wait>(
     rt: &W,
     alloc: Global,
     table: &Mutex<Shared<R, S>>,
-    object: &[u8],
-    count: u64,
+    setup: &Setup<'_>,
     first: u32,
     end: u32,
 ) -> Result<VecDeque<Pass>, NoJob>
     requires { (first ≤ end) × (end ≤ 1024) }
-    ensures passes { IfOk result (λ passes. ArePassesFrom count object.now first passes.items) }
+    ensures passes { IfOk result (λ passes. ArePassesOf setup.now first passes.items) }
     ensures all { IfOk result (λ passes. first + length passes.items ≡ end) }
 {
     let mut passes = VecDeque::new(alloc);
     for run in first..end {
-        let pass = submit_run(rt, alloc, table, object, count, run)?;
+        let pass = submit_run(rt, alloc, table, setup, run)?;
         if passes.push_back(pass).is_err() {
             return Err(NoJob::OutOfMemory);
         }
@@ -125,7 +108,7 @@ fn collect_runs<R: Ledger, S: Ledger, W: Wait>(
     reports: &mut Vec<Vec<u8>>,
 ) -> Result<(), NoJob>
     ensures len { OnOk result (vec_len reports.new ≡ vec_len reports.old + length passes.items) }
-    ensures added { OnOk result (AddsReports passes.items (map (λ r. r.items) reports.old.items) (map (λ r. r.items) reports.new.items)) }
+    ensures added { OnOk result (AddsReportsTo passes.items reports.old.items reports.new.items) }
 {
     while let Some(pass) = passes.pop_front() {
         let report = report_to(rt, alloc, table, &pass)?;
@@ -136,66 +119,51 @@ fn collect_runs<R: Ledger, S: Ledger, W: Wait>(
     Ok(())
 }
 
-/// Runs the workers of a service. Where none could be started the jobs stay as they are.
-fn run_workers<R: Ledger + Send + Sync, S: Ledger + Send + Sync, W: Threads + Wait + Sync>(
-    rt: &W,
-    alloc: Global,
-    service: &Service<R, S>,
-    crew: &mut Crew<R, S>,
-) -> Result<(), NoJob>
-    requires { crew.old.board ≡ service.now }
-    ensures { crew.new.board ≡ crew.old.board }
-{
-    match service.run_workers(rt, alloc, crew, WORKERS, SLICE, &OpenGate) {
-        Err(PoolFault::Memory) => Err(NoJob::OutOfMemory),
-        Ok(_) | Err(_) => Ok(()),
-    }
-}
-
-/// Makes the runs from one number to another, but not that one, and appends their reports.
+/// Makes the runs from the first without a report to one of a number, but not that one, and appends their reports. Where no worker
+/// could be started their jobs stay as they are.
 fn make_runs<R: Ledger + Send + Sync, S: Ledger + Send + Sync, W: Threads + Wait + Sync>(
     rt: &W,
     alloc: Global,
     service: &Service<R, S>,
     crew: &mut Crew<R, S>,
-    object: &[u8],
-    count: u64,
+    setup: &Setup<'_>,
     end: u32,
     reports: &mut Vec<Vec<u8>>,
 ) -> Result<(), NoJob>
     requires crew { crew.old.board ≡ service.now }
     requires runs { (vec_len reports.old ≤ end) × (end ≤ 1024) }
-    requires before { AreReports count object.now (map (λ r. r.items) reports.old.items) }
+    requires before { AreReportsOf setup.now reports.old.items }
     ensures crew { crew.new.board ≡ crew.old.board }
-    ensures reports { OnOk result (AreReports count object.now (map (λ r. r.items) reports.new.items)) }
+    ensures reports { OnOk result (AreReportsOf setup.now reports.new.items) }
     ensures all { OnOk result (vec_len reports.new ≡ end) }
 {
     let first = reports.len() as u32;
-    let passes = submit_runs(rt, alloc, service.table(), object, count, first, end)?;
-    run_workers(rt, alloc, service, crew)?;
-    collect_runs(rt, alloc, service.table(), passes, reports)
+    let passes = submit_runs(rt, alloc, service.table(), setup, first, end)?;
+    match service.run_workers(rt, alloc, crew, WORKERS, SLICE, &OpenGate) {
+        Err(PoolFault::Memory) => Err(NoJob::OutOfMemory),
+        Ok(_) | Err(_) => collect_runs(rt, alloc, service.table(), passes, reports),
+    }
 }
 
-/// Makes all runs of an object, some at a time, and tells how far it is.
+/// Makes all runs with a setup, some at a time, and tells how far it is.
 fn all_runs<R: Ledger + Send + Sync, S: Ledger + Send + Sync, W: Threads + Wait + Sync + Eprint>(
     rt: &W,
     alloc: Global,
     service: &Service<R, S>,
     crew: &mut Crew<R, S>,
-    object: &[u8],
-    count: u64,
+    setup: &Setup<'_>,
     runs: u32,
 ) -> Result<Vec<Vec<u8>>, NoJob>
     requires crew { crew.old.board ≡ service.now }
     requires runs { runs ≤ 1024 }
-    ensures reports { IfOk result (λ reports. AreReports count object.now (map (λ r. r.items) reports.items)) }
+    ensures reports { IfOk result (λ r. AreReportsOf setup.now r.items) }
     ensures all { IfOk result (λ reports. vec_len reports ≡ runs) }
 {
     let mut reports = Vec::new(alloc);
     let mut end = 0;
     while end < runs {
         end = runs.min(end + TOGETHER);
-        make_runs(rt, alloc, service, crew, object, count, end, &mut reports)?;
+        make_runs(rt, alloc, service, crew, setup, end, &mut reports)?;
         let _ = eprintln!(rt; "{end} of {runs} runs");
     }
     Ok(reports)
@@ -207,45 +175,33 @@ fn runs_by<R: Ledger + Send + Sync, S: Ledger + Send + Sync, W: Threads + Wait +
     alloc: Global,
     rows: Blank,
     steps: Blank,
-    object: &[u8],
-    count: u64,
+    setup: &Setup<'_>,
     runs: u32,
 ) -> Result<Vec<Vec<u8>>, NoJob>
     requires names { (rows.name ≡ R.name) × (steps.name ≡ S.name) }
     requires parts { (rows.parts ≡ R.parts) × (steps.parts ≡ S.parts) }
     requires whole { AreWhole rows.parts steps.parts }
     requires runs { runs ≤ 1024 }
-    ensures reports { IfOk result (λ reports. AreReports count object.now (map (λ r. r.items) reports.items)) }
+    ensures reports { IfOk result (λ r. AreReportsOf setup.now r.items) }
     ensures all { IfOk result (λ reports. vec_len reports ≡ runs) }
 {
     match Service::<R, S>::new(alloc, rows, steps) {
-        Ok((service, mut crew, _seat)) => all_runs(
-            rt, alloc, &service, &mut crew, object, count, runs,
-        ),
+        Ok((service, mut crew, _seat)) => all_runs(rt, alloc, &service, &mut crew, setup, runs),
         Err(_) => Err(NoJob::OutOfMemory),
     }
 }
 
-/// The reports of so many runs of an object, at most 1,024, with this count, where 0 is the object's own. Workers make them, 64
+/// The reports of so many runs with a setup, at most 1,024. Workers make them, 64
 /// at a time, each in slices; a line on standard error tells how far they are.
 pub(crate) fn reports_of<W: Threads + Wait + Sync + Eprint>(
     rt: &W,
     alloc: Global,
-    object: &[u8],
-    count: u64,
+    setup: &Setup<'_>,
     runs: u32,
 ) -> Result<Vec<Vec<u8>>, NoJob>
     requires { runs ≤ 1024 }
-    ensures reports { IfOk result (λ reports. AreReports count object.now (map (λ r. r.items) reports.items)) }
+    ensures reports { IfOk result (λ r. AreReportsOf setup.now r.items) }
     ensures all { IfOk result (λ reports. vec_len reports ≡ runs) }
 {
-    runs_by::<Brand, Brand, W>(
-        rt,
-        alloc,
-        Blank::new(PARTS),
-        Blank::new(PARTS),
-        object,
-        count,
-        runs,
-    )
+    runs_by::<Brand, Brand, W>(rt, alloc, Blank::new(PARTS), Blank::new(PARTS), setup, runs)
 }

@@ -1,10 +1,12 @@
 //! A study of a model text.
 
-ghost use Rattle.std.specs.Prelude.{◌≡◌, ◌<◌, ◌≤◌, length, map, IfOk};
+ghost use Rattle.std.specs.Prelude.{◌≡◌, ◌<◌, ◌≤◌, length, IfOk};
 ghost use Rattle.gw_answers.specs.Status.{ended};
 ghost use Rattle.gw_study.specs.Rows.{IsTable};
+ghost use Rattle.gw_study.specs.Runs.{texts};
 ghost use Rattle.gw_study.specs.Study.{IsStudy, IsStudied};
 
+use crate::job::Setup;
 use crate::rows::table;
 use crate::runs::reports_of;
 use gw_answers::status::ENDED;
@@ -21,7 +23,7 @@ pub const MOST_RUNS: u32 = 1024;
 /// What is told of the reports of runs.
 fn told(alloc: Global, reports: &[Vec<u8>]) -> Result<Answer, Memory>
     requires { (0 < length reports.now) × (length reports.now ≤ MOST_RUNS) }
-    ensures { IfOk result (λ a. (a.status ≡ ended) × IsTable (map (λ r. r.items) reports.now) a.text.items) }
+    ensures { IfOk result (λ a. (a.status ≡ ended) × IsTable (texts reports.now) a.text.items) }
 {
     Ok(Answer {
         text: table(alloc, reports)?,
@@ -29,18 +31,18 @@ fn told(alloc: Global, reports: &[Vec<u8>]) -> Result<Answer, Memory>
     })
 }
 
-/// The study of an object: its runs are made, and what their reports say is told.
-fn study_of_object<W: Threads + Wait + Sync + Eprint>(
+/// The study of what runs have in common: they are made, and what their reports say is told.
+fn study_of_runs<W: Threads + Wait + Sync + Eprint>(
     rt: &W,
     alloc: Global,
-    object: &[u8],
+    setup: &Setup<'_>,
     runs: u32,
-    count: u64,
 ) -> Result<Answer, Memory>
     requires { (0 < runs) × (runs ≤ MOST_RUNS) }
-    ensures { IfOk result (λ a. IsStudied object.now runs count a.text.items a.status) }
+    ensures { IfOk result (λ a. IsStudied setup.now.object.now runs setup.now.count
+        a.text.items a.status) }
 {
-    match reports_of(rt, alloc, object, count, runs) {
+    match reports_of(rt, alloc, setup, runs) {
         Ok(reports) => told(alloc, &reports),
         Err(NoJob::Refused(refusal)) => refused(alloc, refusal),
         Err(NoJob::OutOfMemory) => Err(Memory),
@@ -66,5 +68,9 @@ pub fn study<W: Threads + Wait + Sync + Eprint>(
     if object.status != ENDED {
         return Ok(object);
     }
-    study_of_object(rt, alloc, &object.text, runs, count)
+    let setup = Setup {
+        object: &object.text,
+        count,
+    };
+    study_of_runs(rt, alloc, &setup, runs)
 }

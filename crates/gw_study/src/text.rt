@@ -1,7 +1,7 @@
 //! The lines of a study.
 
 ghost use Rattle.std.specs.Prelude.{◌≡◌, ◌≤◌, ◌++◌, OnOk, Some, length, replicate};
-ghost use Rattle.gw_study.specs.Text.{thousandths_text, right, left, half_width_text, values_text, row_line, missing_line, head_line};
+ghost use Rattle.gw_study.specs.Text.{thousandths_text, amount_column, right, left, half_width_column, values_text, row_line, missing_line, head_line};
 ghost use Rattle.gw_study.specs.Rows.{more_line};
 
 use gw_object::Memory;
@@ -64,7 +64,7 @@ fn put_right(out: &mut Vec<u8>, width: usize, text: &[u8]) -> Result<(), Memory>
 
 /// Appends thousandths.
 fn put_thousandths(alloc: Global, out: &mut Vec<u8>, number: &i128) -> Result<(), Memory>
-    ensures { OnOk result (out.new.items ≡ out.old.items ++ right NUMBER (thousandths_text number.now)) }
+    ensures { OnOk result (out.new.items ≡ out.old.items ++ amount_column number.now) }
 {
     let text = format!(in alloc; "{}", Thousandths(*number))?;
     put_right(out, NUMBER, text.as_bytes())
@@ -72,7 +72,7 @@ fn put_thousandths(alloc: Global, out: &mut Vec<u8>, number: &i128) -> Result<()
 
 /// Appends a half-width, or a line where there is none.
 fn put_half_width(alloc: Global, out: &mut Vec<u8>, half_width: Option<u128>) -> Result<(), Memory>
-    ensures { OnOk result (out.new.items ≡ out.old.items ++ right NUMBER (half_width_text half_width)) }
+    ensures { OnOk result (out.new.items ≡ out.old.items ++ half_width_column half_width) }
 {
     match half_width {
         Some(half_width) if half_width < 1 << 64 => put_thousandths(
@@ -86,7 +86,7 @@ fn put_half_width(alloc: Global, out: &mut Vec<u8>, half_width: Option<u128>) ->
 
 /// Appends a value.
 fn put_value(alloc: Global, out: &mut Vec<u8>, value: &i64) -> Result<(), Memory>
-    ensures { OnOk result (out.new.items ≡ out.old.items ++ right NUMBER (thousandths_text value.now)) }
+    ensures { OnOk result (out.new.items ≡ out.old.items ++ amount_column value.now) }
 {
     put_thousandths(alloc, out, &i128::from(*value))
 }

@@ -14,6 +14,15 @@ use gw_report::text::{put, put_number};
 use gw_report::{block_word, status_word};
 use gw_scan::{Sim, Status};
 
+/// A step: what was seen before it, and the state that it led to.
+#[derive(Clone, Copy)]
+struct Step<'a> {
+    /// What was seen before it.
+    before: &'a Sight,
+    /// The job after it.
+    sim: &'a Sim,
+}
+
 /// The entity that a block is about, by its number from 0, if it is about one.
 fn entity_of(block: &Block) -> Option<u16>
     ensures { result ≡ model.entity_of block.now }
@@ -79,18 +88,13 @@ fn resting_place(block: Option<&Block>) -> &'static str
 }
 
 /// What became of who entered a block: nothing is said where it is still active.
-fn put_rest(
-    out: &mut Vec<u8>,
-    before: &Sight,
-    sim: &Sim,
-    block: Option<&Block>,
-) -> Result<(), Memory>
+fn put_rest(out: &mut Vec<u8>, step: &Step<'_>, block: Option<&Block>) -> Result<(), Memory>
     ensures { OnOk result (out.new.items ≡ out.old.items
-        ++ model.rest_text before.now sim.now.state (option_copied block.entry)) }
+        ++ model.rest_text step.now.before.now step.now.sim.now.state (option_copied block.entry)) }
 {
-    if sim.active().is_some() {
+    if step.sim.active().is_some() {
         Ok(())
-    } else if sim.live() < before.live {
+    } else if step.sim.live() < step.before.live {
         put(out, ", leaves the model")
     } else {
         put(out, resting_place(block))
@@ -139,32 +143,27 @@ fn put_taken(
 }
 
 /// The same, if somebody left a delay list.
-fn put_let_in(
-    out: &mut Vec<u8>,
-    before: &Sight,
-    sim: &Sim,
-    block: Option<&Block>,
-) -> Result<(), Memory>
+fn put_let_in(out: &mut Vec<u8>, step: &Step<'_>, block: Option<&Block>) -> Result<(), Memory>
     ensures { OnOk result (out.new.items ≡ out.old.items
-        ++ model.let_in_text before.now sim.now.state (option_copied block.entry)) }
+        ++ model.let_in_text step.now.before.now step.now.sim.now.state (option_copied block.entry)) }
 {
-    let count = let_in(before, sim);
+    let count = let_in(step.before, step.sim);
     if count == 0 {
         return Ok(());
     }
-    put_taken(out, sim, count, released_by(block))
+    put_taken(out, step.sim, count, released_by(block))
 }
 
 /// An entry of the block of a number, from 1, and what became of it.
-fn put_entry(out: &mut Vec<u8>, parts: &Parts, before: &Sight, sim: &Sim) -> Result<(), Memory>
+fn put_entry(out: &mut Vec<u8>, parts: &Parts, step: &Step<'_>) -> Result<(), Memory>
     ensures { OnOk result (out.new.items ≡ out.old.items
-        ++ model.entry_text parts.now before.now sim.now.state) }
+        ++ model.entry_text parts.now step.now.before.now step.now.sim.now.state) }
 {
     put(out, "enters ")?;
-    put_block_at(out, parts, before.next)?;
-    let block = block_of(parts.blocks.as_slice(), before.next);
-    put_rest(out, before, sim, block)?;
-    put_let_in(out, before, sim, block)
+    put_block_at(out, parts, step.before.next)?;
+    let block = block_of(parts.blocks.as_slice(), step.before.next);
+    put_rest(out, step, block)?;
+    put_let_in(out, step, block)
 }
 
 /// Where a transaction rests that was refused.
@@ -179,13 +178,13 @@ fn waiting_place(before: &Sight, sim: &Sim) -> &'static str
 }
 
 /// A refusal, and where the refused one rests.
-fn put_refusal(out: &mut Vec<u8>, parts: &Parts, before: &Sight, sim: &Sim) -> Result<(), Memory>
+fn put_refusal(out: &mut Vec<u8>, parts: &Parts, step: &Step<'_>) -> Result<(), Memory>
     ensures { OnOk result (out.new.items ≡ out.old.items
-        ++ model.refusal_text parts.now before.now sim.now.state) }
+        ++ model.refusal_text parts.now step.now.before.now step.now.sim.now.state) }
 {
     put(out, "refused by ")?;
-    put_block_at(out, parts, before.next)?;
-    put(out, waiting_place(before, sim))
+    put_block_at(out, parts, step.before.next)?;
+    put(out, waiting_place(step.before, step.sim))
 }
 
 /// Where a run stopped by an end that changes nothing else.
@@ -205,19 +204,18 @@ fn put_stop(out: &mut Vec<u8>, parts: &Parts, before: &Sight) -> Result<(), Memo
 fn put_happening(
     out: &mut Vec<u8>,
     parts: &Parts,
-    before: &Sight,
-    sim: &Sim,
+    step: &Step<'_>,
     happening: Happening,
 ) -> Result<(), Memory>
     ensures { OnOk result (out.new.items ≡ out.old.items
-        ++ model.happening_text parts.now before.now sim.now.state happening) }
+        ++ model.happening_text parts.now step.now.before.now step.now.sim.now.state happening) }
 {
     match happening {
         Happening::Activation => put(out, "becomes active"),
         Happening::ClockMove => put(out, "the clock moves"),
-        Happening::Entry => put_entry(out, parts, before, sim),
-        Happening::Refusal => put_refusal(out, parts, before, sim),
-        Happening::Stop => put_stop(out, parts, before),
+        Happening::Entry => put_entry(out, parts, step),
+        Happening::Refusal => put_refusal(out, parts, step),
+        Happening::Stop => put_stop(out, parts, step.before),
     }
 }
 
@@ -252,23 +250,18 @@ fn put_end(out: &mut Vec<u8>, sim: &Sim) -> Result<(), Memory>
 }
 
 /// The numbers of the transaction and of the block that a step was about; a dash where it was about none.
-fn put_subject(
-    out: &mut Vec<u8>,
-    before: &Sight,
-    sim: &Sim,
-    happening: Happening,
-) -> Result<(), Memory>
+fn put_subject(out: &mut Vec<u8>, step: &Step<'_>, happening: Happening) -> Result<(), Memory>
     ensures { OnOk result (out.new.items ≡ out.old.items
-        ++ model.subject before.now sim.now.state happening) }
+        ++ model.subject step.now.before.now step.now.sim.now.state happening) }
 {
     match happening {
         Happening::Activation => {
-            put_number_or_dash(out, 8, sim.active().unwrap_or(0))?;
-            put_number_or_dash(out, 7, u64::from(next_block(sim)))
+            put_number_or_dash(out, 8, step.sim.active().unwrap_or(0))?;
+            put_number_or_dash(out, 7, u64::from(next_block(step.sim)))
         }
         _ => {
-            put_number_or_dash(out, 8, before.active.unwrap_or(0))?;
-            put_number_or_dash(out, 7, u64::from(before.next))
+            put_number_or_dash(out, 8, step.before.active.unwrap_or(0))?;
+            put_number_or_dash(out, 7, u64::from(step.before.next))
         }
     }
 }
@@ -285,18 +278,13 @@ fn put_lengths(out: &mut Vec<u8>, sim: &Sim) -> Result<(), Memory>
 
 /// The columns of a line.
 #[tactic(auto, unfolding(crate::specs::Lines::columns))]
-fn put_columns(
-    out: &mut Vec<u8>,
-    before: &Sight,
-    sim: &Sim,
-    happening: Happening,
-) -> Result<(), Memory>
+fn put_columns(out: &mut Vec<u8>, step: &Step<'_>, happening: Happening) -> Result<(), Memory>
     ensures { OnOk result (out.new.items ≡ out.old.items
-        ++ model.columns before.now sim.now.state happening) }
+        ++ model.columns step.now.before.now step.now.sim.now.state happening) }
 {
-    put_column(out, 12, sim.clock())?;
-    put_subject(out, before, sim, happening)?;
-    put_lengths(out, sim)?;
+    put_column(out, 12, step.sim.clock())?;
+    put_subject(out, step, happening)?;
+    put_lengths(out, step.sim)?;
     put(out, "  ")
 }
 
@@ -305,16 +293,15 @@ fn put_columns(
 fn put_words(
     out: &mut Vec<u8>,
     parts: &Parts,
-    before: &Sight,
-    sim: &Sim,
+    step: &Step<'_>,
     happening: Happening,
 ) -> Result<(), Memory>
     ensures { OnOk result (out.new.items ≡ out.old.items
-        ++ model.words parts.now before.now sim.now.state happening) }
+        ++ model.words parts.now step.now.before.now step.now.sim.now.state happening) }
 {
-    put_happening(out, parts, before, sim, happening)?;
-    put_woken(out, woken(before, sim, happening))?;
-    put_end(out, sim)?;
+    put_happening(out, parts, step, happening)?;
+    put_woken(out, woken(step.before, step.sim, happening))?;
+    put_end(out, step.sim)?;
     put(out, "\n")
 }
 
@@ -325,6 +312,7 @@ pub(crate) fn put_line(out: &mut Vec<u8>, before: &Sight, sim: &Sim) -> Result<(
 {
     let parts = sim.spec().verified().object().parts();
     let happening = what_happened(before, sim);
-    put_columns(out, before, sim, happening)?;
-    put_words(out, parts, before, sim, happening)
+    let step = Step { before, sim };
+    put_columns(out, &step, happening)?;
+    put_words(out, parts, &step, happening)
 }

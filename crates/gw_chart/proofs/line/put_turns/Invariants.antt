@@ -1,7 +1,8 @@
-use Rattle.std.proofs.Common.{◌≡◌, ◌++◌}
-use Rattle.gw_chart.specs.Text.{upto}
 use Rattle.gw_chart.specs.Lines.{points_after}
+use Rattle.gw_chart.proofs.Series.{HasUpto}
 use Rattle.gw_chart.proofs.line.put_turns.Given as goal
 
 abbrev pub invariant-loop-i : goal.invariant-loop-i
-invariant-loop-i l = l.out.items ≡ l.initial.out.items ++ upto (points_after l.plot l.scale l.rows l.entity) l.i
+invariant-loop-i l =
+    HasUpto (points_after l.curve.plot l.curve.scale l.curve.rows.now l.curve.entity)
+    l.i l.initial.out.items l.out.items

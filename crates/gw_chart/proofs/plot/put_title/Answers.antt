@@ -1,7 +1,7 @@
 use Rattle.std.proofs.Common.{codes}
 use Rattle.std.proofs.lemmas.Result.{IfOk-equal}
 use Rattle.gw_chart.specs.Text.{escaped}
-use Rattle.gw_chart.specs.Plots.{title, colour_of, words_of}
+use Rattle.gw_chart.specs.Plots.{title, colour_of, shown_in}
 use Rattle.gw_chart.proofs.Series.{chain7}
 use Rattle.gw_chart.proofs.plot.put_title.Goals as goal
 
@@ -12,6 +12,6 @@ returns c =
     (chain7 _ _ _ _ _ _ _
     (codes "<rect x=\"80\" y=\"12\" width=\"10\" height=\"10\" fill=\"") (colour_of c.args.plot)
     (codes "\"/>\n<text x=\"96\" y=\"21\"><tspan font-weight=\"bold\">") (escaped c.args.name.now)
-    (codes "</tspan><tspan fill=\"#555\">: ") (words_of c.args.plot) (codes "</tspan></text>\n")
+    (codes "</tspan><tspan fill=\"#555\">: ") (shown_in c.args.plot) (codes "</tspan></text>\n")
     c.in_ok-put.ensures (rw c.colour_of.ensures at c.in_ok-put-2.ensures) c.in_ok-put-3.ensures c.in_ok-put_escaped.ensures c.in_ok-put-4.ensures
-    (rw c.words_of.ensures at c.in_ok-put-5.ensures))
+    (rw c.words_of.ensures.shown at c.in_ok-put-5.ensures))

@@ -4,4 +4,5 @@ use Rattle.gw_listing.proofs.parts.put_procedures.Given as goal
 
 -- the lines so far are those of the numbers so far
 abbrev pub invariant-loop-i : goal.invariant-loop-i
-invariant-loop-i l = AddsLines (numbered (procedure_openings l.lines l.parts.procedures) l.i) l.fn.out.items l.out.items
+invariant-loop-i l =
+    AddsLines (numbered (procedure_openings l.lines l.parts.procedures) l.i) l.fn.out.items l.out.items

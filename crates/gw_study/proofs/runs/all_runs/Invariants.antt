@@ -1,12 +1,12 @@
-use Rattle.std.proofs.Common.{◌≡◌, ◌≤◌, ◌-◌, map}
+use Rattle.std.proofs.Common.{◌≡◌, ◌≤◌, ◌-◌}
 use Rattle.std.specs.Vec.{vec_len}
-use Rattle.gw_study.specs.Runs.{AreReports}
+use Rattle.gw_study.specs.Runs.{AreReportsOf}
 use Rattle.gw_study.proofs.runs.all_runs.Given as goal
 
 abbrev pub invariant-loop-end : goal.invariant-loop-end
 invariant-loop-end g l = record {
   crew : l.crew.board ≡ l.fn.service;
-  reports : AreReports l.count l.object (map (λ r. r.items) l.reports.items);
+  reports : AreReportsOf l.setup l.reports.items;
   all : vec_len l.reports ≡ l.end;
   within : l.end ≤ l.runs;
 }

@@ -6,8 +6,8 @@ use Rattle.gw_study.proofs.runs.submit_runs.Goals as goal
 
 pub loop-run-preserved : goal.loop-run-preserved
 loop-run-preserved g c =
-    let count = c.args.count in
-    let object = c.args.object.now in
+    let count = c.args.setup.now.count in
+    let object = c.args.setup.now.object.now in
     let old = c.loop-run.passes.items in
     let ok : is_ok c.push_back.result ≡ true = c.is_err.ensures.negation ∙ ap not c.if-is_err.false in
     let pushed = rw ok at c.push_back.ensures.items in
