@@ -1,8 +1,10 @@
 //! Both bodies of the future events chain and of the current events chain.
 
+ghost use Rattle.std.specs.Prelude.{◌<◌, ◌≤◌};
+
 use gw_chains::{
-    Cec, Event, EventCall, EventChain, Fec, Member, Memory, PriorityCall, PriorityChain, Tx,
-    make_calls, make_priority_calls, plain,
+    CallTarget, Cec, ChainCall, Event, EventCall, Fec, Member, Memory, PriorityCall, Tx,
+    make_calls, plain,
 };
 use std::alloc::Global;
 use std::test::Fail;
@@ -21,10 +23,10 @@ fn schedule(number: u64, time: i64) -> EventCall {
 }
 
 /// Whether a chain with no member answers calls so.
-fn is_answered<C: EventChain + Drop>(
+fn is_answered<M, K: ChainCall<M>, C: CallTarget<M, K> + Drop>(
     alloc: Global,
     mut chain: C,
-    calls: &[EventCall],
+    calls: &[K],
     wanted: &[Option<Tx>],
 ) -> Result<bool, Memory> {
     let mut answers = Vec::new(alloc);
@@ -32,12 +34,33 @@ fn is_answered<C: EventChain + Drop>(
     Ok(answers.as_slice() == wanted)
 }
 
-/// Whether a chain of either body answers calls so.
-fn both_answer(alloc: Global, calls: &[EventCall], wanted: &[Option<Tx>]) -> Result<bool, Memory> {
-    Ok(
-        is_answered(alloc, plain::Fec::new(alloc), calls, wanted)?
-            && is_answered(alloc, Fec::new(alloc), calls, wanted)?,
-    )
+/// Whether a chain of either body, with no member, answers calls so.
+pub fn both_answer<M, K: ChainCall<M>, A: CallTarget<M, K> + Drop, B: CallTarget<M, K> + Drop>(
+    alloc: Global,
+    (one, other): (A, B),
+    calls: &[K],
+    wanted: &[Option<Tx>],
+) -> Result<bool, Memory> {
+    Ok(is_answered(alloc, one, calls, wanted)? && is_answered(alloc, other, calls, wanted)?)
+}
+
+/// The transaction of a number; 0 is nobody.
+fn answer_by_number(number: u64) -> Option<Tx> {
+    if number == 0 { None } else { Some(tx(number)) }
+}
+
+/// The transactions of these numbers; 0 is nobody.
+pub fn answers_by_number(alloc: Global, numbers: &[u64]) -> Result<Vec<Option<Tx>>, Memory> {
+    let mut answers = Vec::new(alloc);
+    for i in 0..numbers.len() {
+        answers.push(answer_by_number(numbers[i]))?;
+    }
+    Ok(answers)
+}
+
+/// A future events chain of each body.
+fn event_chains(alloc: Global) -> (plain::Fec, Fec) {
+    (plain::Fec::new(alloc), Fec::new(alloc))
 }
 
 /// The calls by which 1 and 3 are scheduled for 9 and 2 for 4, and those that are due at 8 and at 9 leave.
@@ -54,19 +77,8 @@ fn few_calls() -> [EventCall; 8] {
     ]
 }
 
-/// Who leaves by each of these calls.
-fn few_answers() -> [Option<Tx>; 8] {
-    [
-        None,
-        None,
-        None,
-        Some(tx(2)),
-        None,
-        Some(tx(1)),
-        Some(tx(3)),
-        None,
-    ]
-}
+/// Who leaves by each of these calls; 0 is nobody.
+const FEW_LEAVERS: [u64; 8] = [0, 0, 0, 2, 0, 1, 3, 0];
 
 /// Whether a chain on which two are scheduled tells how many they are and the earlier time, and an empty one no time.
 fn tells_of_two(alloc: Global) -> Result<bool, Memory> {
@@ -80,19 +92,23 @@ fn tells_of_two(alloc: Global) -> Result<bool, Memory> {
 
 #[test]
 fn both_future_events_chains_go_by_time(rt: HostRuntime) -> Result<(), Fail> {
-    assert!(rt; both_answer(rt.alloc(), &few_calls(), &few_answers())?);
+    let wanted = answers_by_number(rt.alloc(), &FEW_LEAVERS)?;
+    assert!(rt; both_answer(rt.alloc(), event_chains(rt.alloc()), &few_calls(), &wanted)?);
     assert!(rt; tells_of_two(rt.alloc())?);
     Ok(())
 }
 
-/// The calls by which 600 are scheduled, by turns for 1 and for 2, and then as many leave.
-fn calls_by_turns(alloc: Global) -> Result<Vec<EventCall>, Memory> {
+/// The calls by which 600 are scheduled, and then as many leave at a time: number n for n times a factor, modulo a divisor.
+fn calls_at(alloc: Global, factor: u64, divisor: u64, last: i64) -> Result<Vec<EventCall>, Memory>
+    requires divisor { 0 < divisor }
+    requires factor { factor ≤ 7 }
+{
     let mut calls = Vec::new(alloc);
     for number in 0..600u64 {
-        calls.push(schedule(number, 1 + (number % 2) as i64))?;
+        calls.push(schedule(number, (factor * number % divisor) as i64))?;
     }
     for _ in 0..600u64 {
-        calls.push(EventCall::PopDue(2))?;
+        calls.push(EventCall::PopDue(last))?;
     }
     Ok(calls)
 }
@@ -100,33 +116,10 @@ fn calls_by_turns(alloc: Global) -> Result<Vec<EventCall>, Memory> {
 /// Nobody leaves by the first 600 of them; then the even numbers leave in their order, and the odd ones after them.
 fn answers_by_turns(alloc: Global) -> Result<Vec<Option<Tx>>, Memory> {
     let mut answers = vec![in alloc; None; 600]?;
-    for i in 0..300u64 {
-        answers.push(Some(tx(2 * i)))?;
-    }
-    for i in 0..300u64 {
-        answers.push(Some(tx(2 * i + 1)))?;
+    for place in 0..600u64 {
+        answers.push(Some(tx(2 * (place % 300) + place / 300)))?;
     }
     Ok(answers)
-}
-
-#[test]
-fn many_leave_both_future_events_chains_by_time(rt: HostRuntime) -> Result<(), Fail> {
-    let calls = calls_by_turns(rt.alloc())?;
-    let wanted = answers_by_turns(rt.alloc())?;
-    assert!(rt; both_answer(rt.alloc(), &calls, &wanted)?);
-    Ok(())
-}
-
-/// The calls by which 600 are scheduled, each for a time of its own, and then leave: number n for 7 n modulo 601.
-fn calls_at_many_times(alloc: Global) -> Result<Vec<EventCall>, Memory> {
-    let mut calls = Vec::new(alloc);
-    for number in 0..600u64 {
-        calls.push(schedule(number, (7 * number % 601) as i64))?;
-    }
-    for _ in 0..600u64 {
-        calls.push(EventCall::PopDue(600))?;
-    }
-    Ok(calls)
 }
 
 /// Nobody leaves by the first 600 of them; then they leave by their times: 86 t modulo 601 for the time t, since 7 times
@@ -142,10 +135,20 @@ fn answers_at_many_times(alloc: Global) -> Result<Vec<Option<Tx>>, Memory> {
 }
 
 #[test]
-fn many_leave_both_future_events_chains_at_many_times(rt: HostRuntime) -> Result<(), Fail> {
-    let calls = calls_at_many_times(rt.alloc())?;
+fn many_leave_both_future_events_chains_by_time(rt: HostRuntime) -> Result<(), Fail> {
+    let by_turns = calls_at(rt.alloc(), 1, 2, 1)?;
+    let wanted = answers_by_turns(rt.alloc())?;
+    assert!(rt; both_answer(rt.alloc(), event_chains(rt.alloc()), &by_turns, &wanted)?);
+    let at_many_times = calls_at(rt.alloc(), 7, 601, 600)?;
     let wanted = answers_at_many_times(rt.alloc())?;
-    assert!(rt; both_answer(rt.alloc(), &calls, &wanted)?);
+    assert!(rt;
+        both_answer(
+            rt.alloc(),
+            event_chains(rt.alloc()),
+            &at_many_times,
+            &wanted
+        )?
+    );
     Ok(())
 }
 
@@ -155,18 +158,6 @@ pub fn member(number: u64, priority: i32) -> Member {
         tx: tx(number),
         priority,
     }
-}
-
-/// Whether a current events chain with no member answers calls so.
-fn is_answered_by_priority<C: PriorityChain + Drop>(
-    alloc: Global,
-    mut chain: C,
-    calls: &[PriorityCall],
-    wanted: &[Option<Tx>],
-) -> Result<bool, Memory> {
-    let mut answers = Vec::new(alloc);
-    make_priority_calls(&mut chain, calls, &mut answers)?;
-    Ok(answers.as_slice() == wanted)
 }
 
 /// The calls by which 1, 2 and 4 join behind their peers and 3 ahead of them, and all leave.
@@ -184,27 +175,14 @@ fn few_priority_calls() -> [PriorityCall; 9] {
     ]
 }
 
-/// Who leaves by each of these calls.
-fn few_priority_answers() -> [Option<Tx>; 9] {
-    [
-        None,
-        None,
-        None,
-        None,
-        Some(tx(2)),
-        Some(tx(4)),
-        Some(tx(3)),
-        Some(tx(1)),
-        None,
-    ]
-}
+/// Who leaves by each of these calls; 0 is nobody.
+const FEW_PRIORITY_LEAVERS: [u64; 9] = [0, 0, 0, 0, 2, 4, 3, 1, 0];
 
 #[test]
 fn both_current_events_chains_go_by_priority(rt: HostRuntime) -> Result<(), Fail> {
     let alloc = rt.alloc();
-    let calls = few_priority_calls();
-    let wanted = few_priority_answers();
-    assert!(rt; is_answered_by_priority(alloc, plain::Cec::new(alloc), &calls, &wanted)?);
-    assert!(rt; is_answered_by_priority(alloc, Cec::new(alloc), &calls, &wanted)?);
+    let chains = (plain::Cec::new(alloc), Cec::new(alloc));
+    let wanted = answers_by_number(alloc, &FEW_PRIORITY_LEAVERS)?;
+    assert!(rt; both_answer(alloc, chains, &few_priority_calls(), &wanted)?);
     Ok(())
 }

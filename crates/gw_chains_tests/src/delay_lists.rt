@@ -1,28 +1,13 @@
 //! Both bodies of a delay list.
 
-use crate::bodies::{member, tx};
-use gw_chains::{DelayCall, DelayChain, DelayList, Memory, Tx, make_delay_calls, plain};
+use crate::bodies::{answers_by_number, both_answer, member, tx};
+use gw_chains::{DelayCall, DelayList, Memory, Tx, plain};
 use std::alloc::Global;
 use std::test::Fail;
 
-/// Whether a delay list with no member answers calls so.
-fn is_answered<C: DelayChain + Drop>(
-    alloc: Global,
-    mut list: C,
-    calls: &[DelayCall],
-    wanted: &[Option<Tx>],
-) -> Result<bool, Memory> {
-    let mut answers = Vec::new(alloc);
-    make_delay_calls(&mut list, calls, &mut answers)?;
-    Ok(answers.as_slice() == wanted)
-}
-
-/// Whether a delay list of either body answers calls so.
-fn both_answer(alloc: Global, calls: &[DelayCall], wanted: &[Option<Tx>]) -> Result<bool, Memory> {
-    Ok(
-        is_answered(alloc, plain::DelayList::new(alloc), calls, wanted)?
-            && is_answered(alloc, DelayList::new(alloc), calls, wanted)?,
-    )
+/// A delay list of each body.
+fn delay_lists(alloc: Global) -> (plain::DelayList, DelayList) {
+    (plain::DelayList::new(alloc), DelayList::new(alloc))
 }
 
 /// Calls, with what is left of the list behind each of them.
@@ -65,38 +50,15 @@ fn few_calls() -> [DelayCall; 23] {
     ]
 }
 
-/// Who is passed, taken out or removed by each of these calls.
-fn few_answers() -> [Option<Tx>; 23] {
-    [
-        None,
-        None,
-        None,
-        None,
-        None,
-        None,
-        Some(tx(2)),
-        Some(tx(4)),
-        Some(tx(1)),
-        Some(tx(3)),
-        Some(tx(5)),
-        None,
-        None,
-        None,
-        None,
-        Some(tx(7)),
-        None,
-        Some(tx(2)),
-        Some(tx(1)),
-        None,
-        Some(tx(8)),
-        Some(tx(6)),
-        None,
-    ]
-}
+/// Who is passed, taken out or removed by each of these calls; 0 is nobody.
+const FEW_ANSWERS: [u64; 23] = [
+    0, 0, 0, 0, 0, 0, 2, 4, 1, 3, 5, 0, 0, 0, 0, 7, 0, 2, 1, 0, 8, 6, 0,
+];
 
 #[test]
 fn both_delay_lists_go_by_priority(rt: HostRuntime) -> Result<(), Fail> {
-    assert!(rt; both_answer(rt.alloc(), &few_calls(), &few_answers())?);
+    let wanted = answers_by_number(rt.alloc(), &FEW_ANSWERS)?;
+    assert!(rt; both_answer(rt.alloc(), delay_lists(rt.alloc()), &few_calls(), &wanted)?);
     Ok(())
 }
 
@@ -143,6 +105,6 @@ fn answers_by_turns(alloc: Global) -> Result<Vec<Option<Tx>>, Memory> {
 fn a_walk_takes_every_second_of_both_delay_lists(rt: HostRuntime) -> Result<(), Fail> {
     let calls = calls_by_turns(rt.alloc())?;
     let wanted = answers_by_turns(rt.alloc())?;
-    assert!(rt; both_answer(rt.alloc(), &calls, &wanted)?);
+    assert!(rt; both_answer(rt.alloc(), delay_lists(rt.alloc()), &calls, &wanted)?);
     Ok(())
 }

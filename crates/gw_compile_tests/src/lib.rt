@@ -1,9 +1,11 @@
-//! Tests of compiled expressions and PROCEDUREs: texts are read, compiled, checked and evaluated, and what they come to
-//! was worked out by hand.
+//! Tests of compiled expressions and PROCEDUREs, and of PLUS code: texts are read, compiled, checked and evaluated, and code is
+//! evaluated. What they come to was worked out by hand. Which code is accepted is in the cases (docs/cases.md).
 #![tactic(auto)]
 
 #[cfg(test)]
 mod expressions;
+#[cfg(test)]
+mod instructions;
 #[cfg(test)]
 mod models;
 #[cfg(test)]

@@ -2,58 +2,39 @@
 
 ghost use Rattle.std.specs.Prelude.{◌≡◌, IfOk, length};
 
-use gw_blocks::{Block, Operand};
 use gw_chains::UserChains;
 use gw_code::Procedure;
 use gw_entities::{Facilities, Queues, Savevalues, Storages, Switches, Tables};
-use gw_object::{Entity, Items, Kind, Memory, Object, Parts, Point};
-use gw_object_bytes::build;
-use gw_samples::{add_entity, add_five, empty_parts, function, no_states, terminate};
+use gw_object::{Items, Memory, Object, Parts};
+use gw_object_bytes::{build, read};
 use std::alloc::Global;
 use std::test::Fail;
 
-/// Points at 0 and 9.
-const POINTS: [Point; 2] = [Point { x: 0, y: 10 }, Point { x: 9, y: 30 }];
+/// Eight entities: a facility, a storage for 5 units, a queue, a savevalue of 7, a logic switch that is set, a variable and a
+/// boolean variable of the procedure 0, and the function of P2 with points at 0 and 9. No procedure, and two blocks to which
+/// nobody comes.
+const EIGHT_ENTITIES: &[u8] = b"\
+    GPSO\0\x01\0\0\0\0\0\0\0\0\x01\
+    \x08\x01\x01F\x02\x01S\0\0\0\x05\x03\x01Q\x05\x01X\0\0\0\0\0\0\0\x07\x04\x01L\x01\
+    \x08\x01V\0\0\x09\x01B\0\0\
+    \x0a\x02FN\x01\x02\x02\0\0\0\0\0\0\0\0\0\0\0\0\0\0\0\x0a\0\0\0\0\0\0\0\x09\0\0\0\0\0\0\0\x1e\
+    \0\x02\x02\0\0\0\0\0\0\0\0\x01\x02\0\0\0\0\0\0\0\0\x01\0\0\0\
+    \0\0\0\x01\0\0\0\x01";
 
-/// Adds a variable and a boolean variable of the procedure 0, and the function of P2 with those points, in this order.
-fn add_three(alloc: Global, entities: &mut Vec<Entity>) -> Result<(), Memory> {
-    add_entity(alloc, entities, Kind::Variable(0), b"V")?;
-    add_entity(alloc, entities, Kind::BooleanVariable(0), b"B")?;
-    let function = function(alloc, Operand::Parameter(2), &POINTS)?;
-    add_entity(alloc, entities, function, b"FN")
-}
-
-/// Five entities, from a facility to a logic switch, and those three.
-fn eight_entities(alloc: Global) -> Result<Items<Entity>, Memory> {
-    let mut entities = Vec::new(alloc);
-    add_five(alloc, &mut entities)?;
-    add_three(alloc, &mut entities)?;
-    Ok(Items::from_vec(entities))
-}
-
-/// Gives parts eight entities, and two blocks to which nobody comes.
-fn put_blocks(alloc: Global, parts: &mut Parts) -> Result<(), Memory> {
-    const BLOCKS: &[Block] = &[terminate!(1), terminate!(1)];
-    parts.entities = eight_entities(alloc)?;
-    parts.blocks = Items::from_vec(Vec::from_slice(alloc, BLOCKS)?);
-    parts.states = Items::from_vec(no_states(alloc, 2)?);
-    parts.weights = Items::from_vec(Vec::from_slice(alloc, &[1, 1])?);
-    Ok(())
-}
-
-/// Parts of these procedures, with eight entities, and two blocks to which nobody comes.
-fn parts_of(alloc: Global, procedures: Vec<Procedure>) -> Result<Parts, Memory> {
-    let mut parts = empty_parts(alloc, 1);
+/// The object of these parts, with these procedures.
+fn with_procedures(mut parts: Parts, procedures: Vec<Procedure>) -> Result<Object, Fail> {
     parts.procedures = Items::from_vec(procedures);
-    put_blocks(alloc, &mut parts)?;
-    Ok(parts)
+    match build(parts) {
+        Ok(object) => Ok(object),
+        Err(_) => Err(Fail::from("the parts have a spelling")),
+    }
 }
 
 /// An object of these procedures, with eight entities, and two blocks to which nobody comes.
 pub(crate) fn object_of(alloc: Global, procedures: Vec<Procedure>) -> Result<Object, Fail> {
-    match build(parts_of(alloc, procedures)?) {
-        Ok(object) => Ok(object),
-        Err(_) => Err(Fail::from("the parts have a spelling")),
+    match read(alloc, EIGHT_ENTITIES) {
+        Ok(object) => with_procedures(object.into_parts(), procedures),
+        Err(_) => Err(Fail::from("an object")),
     }
 }
 
@@ -67,8 +48,8 @@ pub(crate) struct Equipment {
 
 /// The equipment of this object, as it is at first.
 pub(crate) fn equipment_of(alloc: Global, object: &Object) -> Result<Equipment, Memory>
-    ensures facilities { IfOk result (λ e. length e.facilities.facilities ≡ length object.now.entities) }
-    ensures storages { IfOk result (λ e. length e.storages.storages ≡ length object.now.entities) }
+    ensures facilities { IfOk result (λ e. length e.facilities.values ≡ length object.now.entities) }
+    ensures storages { IfOk result (λ e. length e.storages.values ≡ length object.now.entities) }
     ensures switches { IfOk result (λ e. length e.switches ≡ length object.now.entities) }
 {
     Ok(Equipment {
@@ -89,7 +70,7 @@ pub(crate) struct Records {
 
 /// Those of this object, as they are at first.
 pub(crate) fn records_of(alloc: Global, object: &Object) -> Result<Records, Memory>
-    ensures queues { IfOk result (λ r. length r.queues.queues ≡ length object.now.entities) }
+    ensures queues { IfOk result (λ r. length r.queues.values ≡ length object.now.entities) }
     ensures savevalues { IfOk result (λ r. length r.savevalues ≡ length object.now.entities) }
     ensures tables { IfOk result (λ r. length r.tables ≡ length object.now.entities) }
     ensures chains { IfOk result (λ r. length r.chains.lists ≡ length object.now.entities) }

@@ -65,15 +65,31 @@ struct Compiled {
     procedures: Vec<Procedure>,
 }
 
-/// Nothing but the procedure 0, the value of P1.
-fn none_compiled(alloc: Global) -> Result<Compiled, Fail> {
+/// Adds a procedure of no argument with this code, which may read P1.
+fn add_code(
+    alloc: Global,
+    procedures: &mut Vec<Procedure>,
+    code: &[Instruction],
+) -> Result<(), Memory> {
+    procedures.push(procedure(alloc, (0, 0), &[1], code)?)?;
+    Ok(())
+}
+
+/// The procedure 0, which is the value of P1.
+fn first_procedure(alloc: Global) -> Result<Vec<Procedure>, Memory> {
     const CODE: &[Instruction] = &[Instruction::Value(Sna::Parameter(1)), Instruction::Return];
+    let mut procedures = Vec::new(alloc);
+    add_code(alloc, &mut procedures, CODE)?;
+    Ok(procedures)
+}
+
+/// Nothing but the procedure 0.
+fn none_compiled(alloc: Global) -> Result<Compiled, Memory> {
+    let procedures = first_procedure(alloc)?;
     let names = Names {
         procedures: IndexMap::new(alloc),
         equs: IndexMap::new(alloc),
     };
-    let mut procedures = Vec::new(alloc);
-    procedures.push(procedure(alloc, (0, 0), &[1], CODE)?)?;
     Ok(Compiled { names, procedures })
 }
 
@@ -309,8 +325,17 @@ fn compiled_of(
     }
 }
 
+/// What a last procedure is made of.
+#[derive(Clone, Copy)]
+pub(crate) enum Source {
+    /// A model text, of which it is compiled.
+    Text(&'static [u8]),
+    /// Its code, behind the procedure 0.
+    Code(&'static [Instruction]),
+}
+
 /// What the last procedure of a text comes to.
-fn outcome_of(alloc: Global, text: &[u8]) -> Result<Outcome, Fail> {
+fn outcome_of_text(alloc: Global, text: &[u8]) -> Result<Outcome, Fail> {
     let model = match parse(alloc, text) {
         Ok(model) => model,
         Err(fault) => return Ok(Outcome::Unread(fault.code)),
@@ -321,14 +346,29 @@ fn outcome_of(alloc: Global, text: &[u8]) -> Result<Outcome, Fail> {
     }
 }
 
-/// The place, from 0, of the first of these texts of which something else becomes.
-pub(crate) fn wrong_outcome(
-    alloc: Global,
-    cases: &[(&[u8], Outcome)],
-) -> Result<Option<usize>, Fail> {
+/// What a procedure of this code comes to.
+fn outcome_of_code(alloc: Global, code: &[Instruction]) -> Result<Outcome, Fail> {
+    let mut procedures = first_procedure(alloc)?;
+    add_code(alloc, &mut procedures, code)?;
+    last_value(alloc, procedures)
+}
+
+/// What the last procedure of a source comes to.
+fn outcome_of(alloc: Global, source: Source) -> Result<Outcome, Fail> {
+    match source {
+        Source::Text(text) => outcome_of_text(alloc, text),
+        Source::Code(code) => outcome_of_code(alloc, code),
+    }
+}
+
+/// A source, and its outcome.
+pub(crate) type Case = (Source, Outcome);
+
+/// The place, from 0, of the first of these of which something else becomes.
+pub(crate) fn wrong_outcome(alloc: Global, cases: &[Case]) -> Result<Option<usize>, Fail> {
     for i in 0..cases.len() {
-        let (text, outcome) = cases[i];
-        if outcome_of(alloc, text)? != outcome {
+        let (source, outcome) = cases[i];
+        if outcome_of(alloc, source)? != outcome {
             return Ok(Some(i));
         }
     }

@@ -1,9 +1,6 @@
-//! Tests of what the statements of a model text become: a row for each word, with its operands in their forms.
+//! Tests of model texts: what is read of them, and what their statements become, by a row for each word with its operands in
+//! their forms. Which texts are accepted and which are refused is in the cases (docs/cases.md).
 #![tactic(auto)]
 
 #[cfg(test)]
-mod entities;
-#[cfg(test)]
-mod known;
-#[cfg(test)]
-mod records;
+mod tests;

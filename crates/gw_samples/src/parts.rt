@@ -1,11 +1,10 @@
 //! The parts of objects that take memory, and what a test compares of many at once. What takes memory fails for want of it.
 
-ghost use Rattle.std.specs.Prelude.{◌≡◌, ◌+◌, length, ◌++◌, ◌∷◌, [], None, not, replicate, IfOk, OnOk, OnErr};
+ghost use Rattle.std.specs.Prelude.{◌≡◌, ◌++◌, ◌∷◌, [], None, not, replicate, IfOk, OnOk, OnErr};
 ghost use Rattle.std.specs.List.{position};
 
-use gw_blocks::Operand;
 use gw_code::{Instruction, Procedure};
-use gw_object::{Entity, Function, Items, Kind, Memory, Parts, Point, TableState};
+use gw_object::{Entity, Items, Kind, Memory, Parts, TableState};
 use std::alloc::Global;
 
 /// An entity of this kind and name.
@@ -28,25 +27,6 @@ pub fn add_entity(
 {
     entities.push(entity(alloc, kind, name)?)?;
     Ok(())
-}
-
-/// Adds a facility, a storage for 5 units, a queue, a savevalue of 7 and a logic switch that is set, in this order.
-pub fn add_five(alloc: Global, entities: &mut Vec<Entity>) -> Result<(), Memory>
-    ensures { IfOk result (λ _. length entities.new.items ≡ length entities.old.items + 5) }
-{
-    add_entity(alloc, entities, Kind::Facility, b"F")?;
-    add_entity(alloc, entities, Kind::Storage(5), b"S")?;
-    add_entity(alloc, entities, Kind::Queue, b"Q")?;
-    add_entity(alloc, entities, Kind::Savevalue(7), b"X")?;
-    add_entity(alloc, entities, Kind::Switch(true), b"L")
-}
-
-/// A function of this argument, with these points.
-pub fn function(alloc: Global, argument: Operand, points: &[Point]) -> Result<Kind, Memory>
-    ensures { IfOk result (λ k. k ≡ Kind.Function (record { argument = argument; points = points.now })) }
-{
-    let points = Items::from_vec(Vec::from_slice(alloc, points)?);
-    Ok(Kind::Function(Function { argument, points }))
 }
 
 /// A procedure with these numbers of arguments and of locals, needs and code.

@@ -1,5 +1,7 @@
 //! An object on its way from blocks alone to one that is accepted: with its state table, with its weights, and verified.
 
+ghost use Rattle.gw_kinds.specs.Pass.{KindsPass};
+
 use crate::models::*;
 use gw_blocks::Block;
 use gw_kinds::check_kinds;
@@ -20,11 +22,27 @@ fn weighed(alloc: Global, blocks: &[Block]) -> Result<Object, Fail> {
 /// The same, of an object with the assembler's table.
 fn weighed_as_settled(alloc: Global, object: Object) -> Result<Object, Fail> {
     match check_kinds(&object) {
-        Ok(()) => match weigh(alloc, object) {
-            Ok(object) => Ok(object),
-            Err(_) => Err(Fail::from("there is memory")),
-        },
+        Ok(()) => weighed_by_kinds(alloc, object),
         Err(_) => Err(Fail::from("kinds pass")),
+    }
+}
+
+/// The same, of an object of which kinds pass.
+fn weighed_by_kinds(alloc: Global, object: Object) -> Result<Object, Fail>
+    requires { KindsPass object }
+{
+    Ok(weigh(alloc, object).ok().ok_or("there is memory")?)
+}
+
+/// Whether an object has these weights, and is accepted with them.
+fn passes_with(alloc: Global, object: Object, weights: &[u32]) -> bool {
+    let has_them = object.parts().weights.as_slice() == weights;
+    match verify(alloc, object).ok() {
+        Some(verified) => {
+            drop(verified);
+            has_them
+        }
+        None => false,
     }
 }
 
@@ -37,7 +55,6 @@ fn weights_are_the_least_that_pass(rt: HostRuntime) -> Result<(), Fail> {
         terminate!(1),
     ];
     let splitting = weighed(rt.alloc(), SPLITTING)?;
-    assert!(rt; splitting.parts().weights.as_slice() == [8u32, 7, 2, 1].as_slice());
-    assert!(rt; verify(rt.alloc(), splitting).is_ok());
+    assert!(rt; passes_with(rt.alloc(), splitting, &[8, 7, 2, 1]));
     Ok(())
 }

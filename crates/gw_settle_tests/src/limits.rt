@@ -2,7 +2,7 @@
 
 use crate::models::*;
 use gw_blocks::Block;
-use gw_object::{Fault, Items, Kind, Memory, Parts, Place};
+use gw_object::{Entity, Fault, Items, Kind, Memory, Parts, Place};
 use gw_object_bytes::build;
 use std::alloc::Global;
 use std::test::Fail;
@@ -24,44 +24,44 @@ fn push_calls(blocks: &mut Vec<Block>, here: &mut u16) -> Result<(), Memory> {
     Ok(())
 }
 
-/// Adds TRANSFERs by fraction to so many blocks, from one on and so far from each other.
-fn push_branches(
-    blocks: &mut Vec<Block>,
-    here: &mut u16,
+/// Blocks at which ways meet: from one on, so far from each other, and so many.
+#[derive(Clone, Copy)]
+struct Meetings {
     first: u16,
     step: u16,
     count: u16,
-) -> Result<(), Memory> {
-    let mut target = first;
-    for _ in 0..count {
+}
+
+/// Adds TRANSFERs by fraction to these blocks.
+fn push_branches(blocks: &mut Vec<Block>, here: &mut u16, at: Meetings) -> Result<(), Memory> {
+    let mut target = at.first;
+    for _ in 0..at.count {
         *here = here.saturating_add(1);
         blocks.push(by_fraction!(500, None, target))?;
-        target = target.saturating_add(step);
+        target = target.saturating_add(at.step);
     }
     Ok(())
 }
 
-/// Adds ways: each sets all parameters to returns of its own, and leads to so many of the blocks at which ways meet. Where it
-/// isn't taken the next one is.
+/// Adds ways: each sets all parameters to returns of its own, and leads to the blocks at which it meets others, the first one
+/// to these. Where it isn't taken the next one is.
 fn push_ways(
     blocks: &mut Vec<Block>,
     here: &mut u16,
-    first: u16,
     ways: u16,
     apart: u16,
-    step: u16,
-    count: u16,
+    first: Meetings,
 ) -> Result<(), Memory> {
-    let mut meets = first;
+    let mut at = first;
     for _ in 0..ways {
-        let next = here.saturating_add(66).saturating_add(count);
+        let next = here.saturating_add(66).saturating_add(at.count);
         blocks.push(by_fraction!(500, None, next))?;
         *here = here.saturating_add(1);
         push_calls(blocks, here)?;
-        push_branches(blocks, here, meets, step, count)?;
+        push_branches(blocks, here, at)?;
         blocks.push(terminate!(1))?;
         *here = here.saturating_add(1);
-        meets = meets.saturating_add(apart);
+        at.first = at.first.saturating_add(apart);
     }
     Ok(())
 }
@@ -78,8 +78,18 @@ fn meeting_ways(alloc: Global, calls: u16) -> Result<Vec<Block>, Memory> {
     }
     // 4 ways of 1 + 64 + 12 + 1 blocks, 12 of 1 + 64 + 4 + 1, and what stands before the ends.
     let first = here.saturating_add(4 * 78 + 12 * 70 + 1);
-    push_ways(&mut blocks, &mut here, first, 4, 12, 1, 12)?;
-    push_ways(&mut blocks, &mut here, first, 12, 1, 12, 4)?;
+    let far = Meetings {
+        first,
+        step: 1,
+        count: 12,
+    };
+    push_ways(&mut blocks, &mut here, 4, 12, far)?;
+    let near = Meetings {
+        first,
+        step: 12,
+        count: 4,
+    };
+    push_ways(&mut blocks, &mut here, 12, 1, near)?;
     blocks.push(terminate!(1))?;
     for _ in 0..48 {
         blocks.push(terminate!(1))?;
@@ -115,22 +125,26 @@ fn long_rows(alloc: Global, count: usize) -> Result<Vec<Block>, Memory> {
     Ok(blocks)
 }
 
-/// Gives parts five queues, with names of 32, 32, 32, 32 and so many letters.
-fn put_names(alloc: Global, parts: &mut Parts, letters: usize) -> Result<(), Memory> {
-    let mut entities = Vec::new(alloc);
+/// Adds five queues: four with names of 32 letters each, and one with this name.
+fn push_names(alloc: Global, entities: &mut Vec<Entity>, last: &[u8]) -> Result<(), Memory> {
     for letter in [b'A', b'B', b'C', b'D'] {
-        add_entity(alloc, &mut entities, Kind::Queue, &[letter; 32])?;
+        add_entity(alloc, entities, Kind::Queue, &[letter; 32])?;
     }
-    let name = vec![in alloc; b'E'; letters]?;
-    add_entity(alloc, &mut entities, Kind::Queue, &name)?;
+    add_entity(alloc, entities, Kind::Queue, last)
+}
+
+/// Gives parts those five queues.
+fn put_names(alloc: Global, parts: &mut Parts, last: &[u8]) -> Result<(), Memory> {
+    let mut entities = Vec::new(alloc);
+    push_names(alloc, &mut entities, last)?;
     parts.entities = Items::from_vec(entities);
     Ok(())
 }
 
-/// What settling an object of long rows answers, with a name of so many letters: whether it is refused.
-fn long_rows_settled(alloc: Global, letters: usize) -> Result<Result<(), Fault>, Fail> {
+/// What settling an object of long rows answers, whose last queue has this name: whether it is refused.
+fn long_rows_settled(alloc: Global, last: &[u8]) -> Result<Result<(), Fault>, Fail> {
     let mut parts = object_of(alloc, &long_rows(alloc, 3921)?)?.into_parts();
-    put_names(alloc, &mut parts, letters)?;
+    put_names(alloc, &mut parts, last)?;
     match build(parts) {
         Ok(object) => Ok(settled(alloc, object).map(|_| ())),
         Err(_) => Err(Fail::from("the parts have a spelling")),
@@ -143,7 +157,7 @@ fn long_rows_settled(alloc: Global, letters: usize) -> Result<Result<(), Fault>,
 // others; 4 x 3,987 of weights. That makes 1,048,557 + n.
 #[test]
 fn objects_of_at_most_a_mebibyte_are_made(rt: HostRuntime) -> Result<(), Fail> {
-    assert!(rt; long_rows_settled(rt.alloc(), 19)? == Ok(()));
-    assert!(rt; long_rows_settled(rt.alloc(), 20)? == Err(PAST_LIMIT));
+    assert!(rt; long_rows_settled(rt.alloc(), &[b'E'; 19])? == Ok(()));
+    assert!(rt; long_rows_settled(rt.alloc(), &[b'E'; 20])? == Err(PAST_LIMIT));
     Ok(())
 }

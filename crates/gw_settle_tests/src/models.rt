@@ -55,7 +55,13 @@ fn settled_code(alloc: Global, object: Object) -> Result<Object, Fault>
     requires { KindsPass object }
 {
     match check_plus(&object) {
-        Ok(()) => settle(alloc, object).map_err(|refused| refused.1),
+        Ok(()) => match settle(alloc, object) {
+            Ok(object) => Ok(object),
+            Err((object, fault)) => {
+                drop(object);
+                Err(fault)
+            }
+        },
         Err(fault) => Err(fault),
     }
 }

@@ -15,10 +15,7 @@ const BUDGET: u64 = 10_000;
 
 /// Whether an answer is want of memory.
 fn lacks_memory<T>(answer: &Result<T, Fault>) -> bool {
-    match answer {
-        Ok(_) => false,
-        Err(fault) => fault.code == codes::MEMORY,
-    }
+    matches!(answer, Err(fault) if fault.code == codes::MEMORY)
 }
 
 /// The statements of a text.

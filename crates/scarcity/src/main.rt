@@ -7,9 +7,8 @@ mod calls;
 mod refusals;
 
 use calls::{assembled, bytes_of, ended, job_of, model_of, object_of, reported, started, verified};
-use gw_object::{Memory, Object};
-use gw_scan::{Sim, Spec};
-use gw_text::Model;
+use gw_object::Memory;
+use gw_scan::Sim;
 use gw_verify::Verified;
 use refusals::Refusals;
 use std::alloc::Global;
@@ -23,71 +22,36 @@ fn report_of_sim(alloc: Global, sim: &mut Sim, refusals: &mut Refusals) -> Resul
     reported(alloc, sim, refusals)
 }
 
-/// The report of a job.
-fn report_of_job(alloc: Global, spec: Spec, refusals: &mut Refusals) -> Result<Vec<u8>, Memory> {
-    match started(alloc, spec, refusals) {
-        Ok(mut sim) => report_of_sim(alloc, &mut sim, refusals),
-        Err(_) => Err(Memory),
-    }
-}
-
 /// The report of an accepted object.
 fn report_of_verified(
     alloc: Global,
     verified: Verified,
     refusals: &mut Refusals,
 ) -> Result<Vec<u8>, Memory> {
-    match job_of(alloc, verified, refusals) {
-        Ok(spec) => report_of_job(alloc, spec, refusals),
-        Err(_) => Err(Memory),
-    }
+    let spec = job_of(alloc, verified, refusals)?;
+    let mut sim = started(alloc, spec, refusals)?;
+    report_of_sim(alloc, &mut sim, refusals)
 }
 
-/// The report of an object.
-fn report_of_object(
-    alloc: Global,
-    object: Object,
-    refusals: &mut Refusals,
-) -> Result<Vec<u8>, Memory> {
-    match verified(alloc, object, refusals) {
-        Ok(verified) => report_of_verified(alloc, verified, refusals),
-        Err(_) => Err(Memory),
-    }
-}
-
-/// The report of the object that these bytes spell.
+/// The report of the object that these bytes spell. One that is refused has none.
 fn report_of_bytes(
     alloc: Global,
     bytes: &[u8],
     refusals: &mut Refusals,
 ) -> Result<Vec<u8>, Memory> {
-    match object_of(alloc, bytes, refusals) {
-        Ok(object) => report_of_object(alloc, object, refusals),
-        Err(_) => Err(Memory),
-    }
+    let object = object_of(alloc, bytes, refusals).ok().ok_or(Memory)?;
+    let verified = verified(alloc, object, refusals).ok().ok_or(Memory)?;
+    report_of_verified(alloc, verified, refusals)
 }
 
-/// The spelling of the object that the statements of a text become.
-fn bytes_of_model(
-    alloc: Global,
-    model: &Model,
-    refusals: &mut Refusals,
-) -> Result<Vec<u8>, Memory> {
-    match assembled(alloc, model, refusals) {
-        Ok(verified) => bytes_of(alloc, verified.object(), refusals),
-        Err(_) => Err(Memory),
-    }
-}
-
-/// The spelling of the object that a text becomes.
+/// The spelling of the object that a text becomes. A text that is refused has none.
 fn bytes_of_text(alloc: Global, text: &[u8], refusals: &mut Refusals) -> Result<Vec<u8>, Memory> {
-    match model_of(alloc, text, refusals) {
-        Ok(model) => bytes_of_model(alloc, &model, refusals),
-        Err(_) => Err(Memory),
-    }
+    let model = model_of(alloc, text, refusals).ok().ok_or(Memory)?;
+    let verified = assembled(alloc, &model, refusals).ok().ok_or(Memory)?;
+    bytes_of(alloc, verified.object(), refusals)
 }
 
-/// The report of a text, by way of the bytes of its object. A text that is refused has none.
+/// The report of a text, by way of the bytes of its object.
 fn report_of(alloc: Global, text: &[u8], refusals: &mut Refusals) -> Result<Vec<u8>, Memory> {
     let bytes = bytes_of_text(alloc, text, refusals)?;
     report_of_bytes(alloc, bytes.as_slice(), refusals)

@@ -1,10 +1,11 @@
 //! The jobs of the tests, and what users and workers do with them.
 
 use gw_jobs::{JobFault, Pass, Returned, State, Table, Task};
-use gw_object_bytes::read;
+use gw_object::{Object, Parts};
+use gw_object_bytes::{build, read};
 pub(super) use gw_samples::{QUEUEING, THREE_BLOCKS};
-use gw_scan::Spec;
-use gw_verify::verify;
+use gw_scan::{Sim, Spec};
+use gw_verify::{Verified, verify};
 use std::alloc::Global;
 use std::test::Fail;
 
@@ -17,17 +18,38 @@ pub(super) const ENDED: &[u8] = b"\
     \0\0\0\x02\0\0\0\x01";
 
 /// More steps than any job makes here.
-const AMPLE: u64 = 1_000_000_000;
+pub(super) const AMPLE: u64 = 1_000_000_000;
+
+/// The object that is spelled so.
+pub(super) fn object_of(alloc: Global, bytes: &[u8]) -> Result<Object, Fail> {
+    Ok(read(alloc, bytes).ok().ok_or("an object")?)
+}
+
+/// The object of these parts.
+pub(super) fn built(parts: Parts) -> Result<Object, Fail> {
+    Ok(build(parts).ok().ok_or("parts of an object")?)
+}
+
+/// An object, accepted.
+pub(super) fn accepted(alloc: Global, object: Object) -> Result<Verified, Fail> {
+    Ok(verify(alloc, object).ok().ok_or("an accepted object")?)
+}
+
+/// The spec of an object, with its own seeds and termination count.
+pub(super) fn own_spec(alloc: Global, object: Object) -> Result<Spec, Fail> {
+    let verified = accepted(alloc, object)?;
+    let made = Spec::new(alloc, verified, &[], 0, AMPLE);
+    Ok(made.ok().ok_or("a spec")?)
+}
 
 /// The spec of an object that is spelled so.
 pub(super) fn spec_of(alloc: Global, bytes: &[u8]) -> Result<Spec, Fail> {
-    let object = read(alloc, bytes).ok().ok_or("an object")?;
-    let verified = verify(alloc, object).ok().ok_or("an accepted object")?;
-    Ok(
-        Spec::new(alloc, verified, &[], 0, AMPLE)
-            .ok()
-            .ok_or("a spec")?,
-    )
+    own_spec(alloc, object_of(alloc, bytes)?)
+}
+
+/// A job before its first step.
+pub(super) fn started(alloc: Global, spec: Spec) -> Result<Sim, Fail> {
+    Ok(Sim::start(alloc, spec).ok().ok_or("a job")?)
 }
 
 /// A pass of this user for this slot and a job of that object.

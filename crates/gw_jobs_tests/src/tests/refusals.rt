@@ -132,12 +132,23 @@ fn cancel_first(alloc: Global, table: &mut Table, slot: u32) -> Result<bool, Fai
     Ok(cancel(table, &pass).is_none())
 }
 
+/// Takes the next task, if a job is ready, and loses it.
+fn lose_task(table: &mut Table) -> bool {
+    match next_task(table) {
+        Some(task) => {
+            drop(task);
+            true
+        }
+        None => false,
+    }
+}
+
 /// Makes slots 0 to 3, in 10 places of the journal, with that of the return of slot 0, whose task is lost.
 fn make_rows(alloc: Global, table: &mut Table) -> Result<bool, Fail> {
     submit_all(alloc, table, THREE_BLOCKS, 2)?;
     submit_all(alloc, table, ENDED, 1)?;
     submit_all(alloc, table, THREE_BLOCKS, 1)?;
-    let is_out = next_task(table).is_some();
+    let is_out = lose_task(table);
     let are_cancelled = cancel_first(alloc, table, 0)? && cancel_first(alloc, table, 1)?;
     Ok(is_out && are_cancelled && work(table, 3) && is_unchanged(alloc, table)?)
 }

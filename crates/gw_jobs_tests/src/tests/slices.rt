@@ -8,9 +8,9 @@ use gw_scan::{Sim, Status};
 use std::alloc::Global;
 use std::test::Fail;
 
-/// Makes all steps of a job.
-fn run(sim: &mut Sim) -> Result<(), Memory> {
-    for _ in 0..1000 {
+/// At most so many steps, as long as the job runs.
+pub(super) fn run(sim: &mut Sim, most: u64) -> Result<(), Memory> {
+    for _ in 0..most {
         if sim.step()? != Status::Running {
             break;
         }
@@ -18,12 +18,21 @@ fn run(sim: &mut Sim) -> Result<(), Memory> {
     Ok(())
 }
 
+/// The report of a job once it has ended.
+fn reported(alloc: Global, sim: &mut Sim) -> Result<Vec<u8>, Memory> {
+    run(sim, 1000)?;
+    report(alloc, sim)
+}
+
+/// The same of a job that is owned, and let go then.
+fn report_of(alloc: Global, mut sim: Sim) -> Result<Vec<u8>, Memory> {
+    reported(alloc, &mut sim)
+}
+
 /// The report of a job that runs alone.
 fn alone(alloc: Global, bytes: &[u8]) -> Result<Vec<u8>, Fail> {
-    let spec = spec_of(alloc, bytes)?;
-    let mut sim = Sim::start(alloc, spec).ok().ok_or("a job")?;
-    run(&mut sim)?;
-    Ok(report(alloc, &sim)?)
+    let sim = started(alloc, spec_of(alloc, bytes)?)?;
+    Ok(report_of(alloc, sim)?)
 }
 
 /// Works until no job is ready.

@@ -1,7 +1,7 @@
 //! How many workers are run, and in which slices.
 
 use super::services::{Fixture, Trial, totals_are, wrong_of};
-use gw_pool::{OpenGate, PoolFault};
+use gw_pool::{OpenGate, PoolFault, range_fault};
 use gw_samples::first_wrong;
 use std::sync::Wait;
 use std::sync::ledger::Ledger;
@@ -69,6 +69,8 @@ impl<R: Ledger + Send + Sync, S: Ledger + Send + Sync, W: Threads + Wait + Sync>
 
 #[test]
 fn numbers_out_of_range_are_refused(rt: HostRuntime) -> Result<(), Fail> {
+    assert!(rt; range_fault(0, 0) == Some(PoolFault::Workers));
+    assert!(rt; range_fault(16, 1 << 20).is_none());
     assert!(rt; wrong_of(&rt, rt.alloc(), Trial::Ranges)?.is_none());
     Ok(())
 }

@@ -1,7 +1,7 @@
 use Rattle.std.proofs.Common.{rules, ◌≡◌, Some, sym, ap, ◌∙◌}
 use Rattle.std.specs.Option.{option_copied}
 use Rattle.std.specs.List.{list_all}
-use Rattle.gw_code_flow.specs.Code.{procedure_at}
+use Rattle.gw_operands.specs.Code.{procedure_at}
 use Rattle.gw_compile_tests.specs.Beginning.{is_set}
 use Rattle.gw_compile_tests.proofs.outcomes.may_begin.Goals as goal
 
