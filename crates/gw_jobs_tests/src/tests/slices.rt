@@ -1,81 +1,67 @@
 //! A job in slices, beside that of another user.
 
 use super::jobs::*;
-use gw_jobs::{Pass, Table};
+use gw_jobs::{Pass, Reply, Table};
 use gw_object::Memory;
-use gw_report::report;
-use gw_scan::{Sim, Status};
+use gw_samples::{QUEUEING_REPORT, first_wrong};
 use std::alloc::Global;
 use std::test::Fail;
 
-/// At most so many steps, as long as the job runs.
-pub(super) fn run(sim: &mut Sim, most: u64) -> Result<(), Memory> {
-    for _ in 0..most {
-        if sim.step()? != Status::Running {
-            break;
-        }
-    }
-    Ok(())
-}
-
-/// The report of a job once it has ended.
-fn reported(alloc: Global, sim: &mut Sim) -> Result<Vec<u8>, Memory> {
-    run(sim, 1000)?;
-    report(alloc, sim)
-}
-
-/// The same of a job that is owned, and let go then.
-fn report_of(alloc: Global, mut sim: Sim) -> Result<Vec<u8>, Memory> {
-    reported(alloc, &mut sim)
-}
-
-/// The report of a job that runs alone.
-fn alone(alloc: Global, bytes: &[u8]) -> Result<Vec<u8>, Fail> {
-    let sim = started(alloc, spec_of(alloc, bytes)?)?;
-    Ok(report_of(alloc, sim)?)
-}
-
-/// Works until no job is ready.
+/// Works in slices of so many steps until no job is ready.
 fn work_all(table: &mut Table, steps: u32) {
     for _ in 0..1000 {
-        if !work(table, steps) {
+        if told_of_next(table, steps).is_none() {
             break;
         }
     }
 }
 
-/// Whether the job of a pass is collected with this report, after 23 steps.
-fn is_collected(alloc: Global, table: &Table, pass: &Pass, due: &[u8]) -> bool {
-    match table.collect(alloc, pass) {
-        Ok(reply) => reply.steps == 23 && reply.report.as_slice() == due,
-        Err(_) => false,
-    }
+/// Whether a reply has the report of the two customers, after 23 steps.
+fn is_due(reply: &Reply) -> bool {
+    reply.steps == 23 && reply.report.as_slice() == QUEUEING_REPORT
 }
 
-/// Whether a table that makes slices of so many steps reports the job of user 1 so, beside one of user 2.
-fn reports_so(alloc: Global, table: &mut Table, steps: u32, due: &[u8]) -> Result<bool, Fail> {
-    let _ = submit(alloc, table, 2, THREE_BLOCKS)?;
-    let _ = submit(alloc, table, 1, QUEUEING)?;
+/// Whether the job of a pass is collected so.
+fn is_collected(alloc: Global, table: &Table, pass: &Pass) -> Option<bool> {
+    let reply = table.collect(alloc, pass).ok()?;
+    Some(is_due(&reply))
+}
+
+/// The place of the first that is wrong where a job of user 2 and one of user 1 are submitted, and both run in slices of so many
+/// steps.
+fn wrong_in(
+    alloc: Global,
+    table: &mut Table,
+    jobs: &Jobs,
+    steps: u32,
+) -> Result<Option<usize>, Memory> {
+    let first = submit(alloc, table, 2, &jobs.short);
+    let second = submit(alloc, table, 1, &jobs.queueing);
     work_all(table, steps);
-    let pass = pass_for(alloc, 1, 1, QUEUEING)?;
-    Ok(is_collected(alloc, table, &pass, due))
+    let pass = pass_for(1, 1, &jobs.queueing)?;
+    let collected = is_collected(alloc, table, &pass);
+    Ok(first_wrong(&[first == Some(0), second == Some(1), collected == Some(true)]))
 }
 
-/// The same of a table of its own.
-fn reports_in(alloc: Global, steps: u32, due: &[u8]) -> Result<bool, Fail> {
+/// Whether nothing is wrong in a table of its own.
+fn is_reported(alloc: Global, jobs: &Jobs, steps: u32) -> Result<bool, Memory> {
     let mut table = Table::new(alloc)?;
-    reports_so(alloc, &mut table, steps, due)
+    Ok(wrong_in(alloc, &mut table, jobs, steps)?.is_none())
+}
+
+/// The place of the first of these numbers of steps in whose slices the report is another.
+fn wrong_slice(alloc: Global, jobs: &Jobs, slices: &[u32]) -> Result<Option<usize>, Memory> {
+    for i in 0..slices.len() {
+        if !is_reported(alloc, jobs, slices[i])? {
+            return Ok(Some(i));
+        }
+    }
+    Ok(None)
 }
 
 #[test]
 fn slices_give_the_report_of_the_lone_run(rt: HostRuntime) -> Result<(), Fail> {
-    let due = alone(rt.alloc(), QUEUEING)?;
-    assert!(rt;
-        due.as_slice()
-            .starts_with(b"END Done CLOCK 8 STEPS 23 ENTRIES 14 ")
-    );
-    assert!(rt; reports_in(rt.alloc(), 1, due.as_slice())?);
-    assert!(rt; reports_in(rt.alloc(), 7, due.as_slice())?);
-    assert!(rt; reports_in(rt.alloc(), 1_000_000, due.as_slice())?);
+    let jobs = both_jobs(rt.alloc())?;
+    assert!(rt; wrong_slice(rt.alloc(), &jobs, &[1, 7, 1_000_000])?.is_none());
     Ok(())
 }
