@@ -1,48 +1,111 @@
-//! What seats read of what is published.
+//! What seats read of what is published, one after another and side by side.
 
-use super::jobs::{return_after_7, table};
-use gw_pool::Board;
+ghost use Rattle.std.specs.Prelude.{◌≡◌, ◌<◌};
+
+use super::tables::{Trial, make_7, submit, wrong_of};
+use gw_jobs::Returned;
+use gw_object::Memory;
+use gw_pool::{Board, Seat, Share, Shared};
+use gw_samples::first_wrong;
 use std::alloc::Global;
+use std::sync::Wait;
+use std::sync::ledger::Ledger;
 use std::test::Fail;
+use std::thread;
+use std::thread::Threads;
 
-/// What is read of a board on which the first return of the job was published: slot 0 by the seat that published it, by one
-/// that was split off before, and by the joined one, then slot 5; and what was published.
-fn read_after_one_return(alloc: Global) -> Result<([u64; 4], u32, u64), Fail> {
-    let mut table = table(alloc)?;
-    let returned = return_after_7(&mut table)?;
-    let (board, seat) = Board::new(alloc)?;
-    let (mut seat, mut other) = board.split(seat);
-    board.publish(&mut seat, &returned);
-    let own = board.progress(&mut seat, 0);
-    let told = board.progress(&mut other, 0);
-    let mut joined = board.join(seat, other);
-    let again = board.progress(&mut joined, 0);
-    let idle = board.progress(&mut joined, 5);
-    Ok(([own, told, again, idle], returned.slot(), returned.steps()))
+/// How often the count is read.
+const READINGS: u32 = 10_000;
+
+/// Publishes two returns, one after the other.
+fn publish_both(board: &Board, seat: Seat, first: &Returned, second: &Returned) -> Seat
+    requires { seat.board ≡ board.now }
+    ensures { result.board ≡ board.now }
+{
+    let mut seat = seat;
+    board.publish(&mut seat, first);
+    thread::yield_now();
+    board.publish(&mut seat, second);
+    seat
 }
 
-/// What is read of slot 0 where the second return is published before the first: before both, and after each.
-fn read_after_late_return(alloc: Global) -> Result<[u64; 3], Fail> {
-    let mut table = table(alloc)?;
-    let first = return_after_7(&mut table)?;
-    let second = return_after_7(&mut table)?;
+/// Reads slot 0 again and again, and answers whether it always read 0, 7 or 14, and never less than before.
+fn readings_rise(board: &Board, seat: Seat) -> (Seat, bool)
+    requires { seat.board ≡ board.now }
+    ensures { result.0.board ≡ board.now }
+{
+    let mut seat = seat;
+    let mut last = 0;
+    let mut rises = true;
+    for _ in 0..READINGS {
+        let read = board.progress(&mut seat, 0);
+        rises = rises && read >= last && (read == 0 || read == 7 || read == 14);
+        last = read;
+    }
+    (seat, rises)
+}
+
+/// A thread publishes two returns, and another reads beside it: whether its readings rose.
+fn read_beside<W: Threads + Wait + Sync>(
+    rt: &W,
+    board: &Board,
+    seat: Seat,
+    first: &Returned,
+    second: &Returned,
+) -> (Seat, bool)
+    requires { seat.board ≡ board.now }
+    ensures { result.0.board ≡ board.now }
+{
+    let (publisher, reader) = board.split(seat);
+    let (publisher, (reader, rises)) = thread::join(
+        rt,
+        move || -> Seat
+            requires { publisher.board ≡ board.now }
+            ensures { result.board ≡ board.entry.now }
+        { publish_both(board, publisher, first, second) },
+        move || -> (Seat, bool)
+            requires { reader.board ≡ board.now }
+            ensures { result.0.board ≡ board.entry.now }
+        { readings_rise(board, reader) },
+    );
+    (board.join(reader, publisher), rises)
+}
+
+/// The return of a job after 7 steps is published, then that after 14 steps and once more the first, which comes late and lowers
+/// no count: so slot 0 is read as 0, as 7 and at last as 14, and slot 5 as 0.
+fn wrong_of_readings<W: Threads + Wait + Sync>(
+    rt: &W,
+    alloc: Global,
+    first: &Returned,
+    second: &Returned,
+) -> Result<Option<usize>, Memory> {
     let (board, mut seat) = Board::new(alloc)?;
-    let before = board.progress(&mut seat, 0);
-    board.publish(&mut seat, &second);
+    let none = board.progress(&mut seat, 0);
+    board.publish(&mut seat, first);
+    let half = board.progress(&mut seat, 0);
+    let (mut seat, rises) = read_beside(rt, &board, seat, second, first);
     let whole = board.progress(&mut seat, 0);
-    board.publish(&mut seat, &first);
-    let after = board.progress(&mut seat, 0);
-    Ok([before, whole, after])
+    let idle = board.progress(&mut seat, 5);
+    Ok(first_wrong(&[none == 0, half == 7, rises, whole == 14, idle == 0]))
+}
+
+/// The same of the returns of a job in slices of 7 steps.
+pub(super) fn wrong_of_returns<R: Ledger, S: Ledger, W: Threads + Wait + Sync>(
+    rt: &W,
+    alloc: Global,
+    shared: &mut Shared<R, S>,
+    share: &mut Share<R, S>,
+) -> Result<Option<usize>, Memory>
+    requires { 0 < share.old.parts }
+{
+    submit(alloc, shared, 1)?;
+    let (first, _) = make_7(shared, share)?;
+    let (second, _) = make_7(shared, share)?;
+    wrong_of_readings(rt, alloc, &first, &second)
 }
 
 #[test]
 fn a_published_return_is_read(rt: HostRuntime) -> Result<(), Fail> {
-    let ([own, told, joined, idle], slot, steps) = read_after_one_return(rt.alloc())?;
-    assert!(rt; own == 7 && joined == 7 && idle == 0);
-    // Who was told nothing may read what was there before.
-    assert!(rt; told == 0 || told == 7);
-    assert!(rt; slot == 0 && steps == 7);
-    // A return that comes late lowers no count.
-    assert!(rt; read_after_late_return(rt.alloc())? == [0, 14, 14]);
+    assert!(rt; wrong_of(&rt, rt.alloc(), Trial::Returns)?.is_none());
     Ok(())
 }

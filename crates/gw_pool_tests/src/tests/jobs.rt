@@ -1,45 +1,22 @@
-//! The jobs of these tests, and slices of them.
+//! The job of these tests, and passes for it.
 
-use gw_jobs::{Returned, Table, Task};
+use gw_jobs::Pass;
+use gw_object::Memory;
 use gw_object_bytes::read;
-use gw_samples::THREE_BLOCKS;
 use gw_scan::Spec;
 use gw_verify::verify;
 use std::alloc::Global;
-use std::test::Fail;
 
-/// The spec of the three blocks.
-pub(super) fn spec(alloc: Global) -> Result<Spec, Fail> {
-    spec_of(alloc, THREE_BLOCKS)
+/// The spec of an object that is spelled so, which is accepted: if there is none, memory is wanting.
+pub(super) fn spec_of(alloc: Global, bytes: &[u8]) -> Result<Spec, Memory> {
+    let object = read(alloc, bytes).ok().ok_or(Memory)?;
+    let verified = verify(alloc, object).ok().ok_or(Memory)?;
+    Spec::new(alloc, verified, &[], 0, 1_000_000_000)
+        .ok()
+        .ok_or(Memory)
 }
 
-/// The spec of an object that is spelled so.
-pub(super) fn spec_of(alloc: Global, bytes: &[u8]) -> Result<Spec, Fail> {
-    let object = read(alloc, bytes).ok().ok_or("an object")?;
-    let verified = verify(alloc, object).ok().ok_or("an accepted object")?;
-    let made = Spec::new(alloc, verified, &[], 0, 1_000_000_000);
-    Ok(made.ok().ok_or("a spec")?)
-}
-
-/// A table with that job in slot 0.
-pub(super) fn table(alloc: Global) -> Result<Table, Fail> {
-    let mut table = Table::new(alloc)?;
-    table.submit(alloc, 1, spec(alloc)?).ok().ok_or("a pass")?;
-    Ok(table)
-}
-
-/// The task that is next.
-fn taken(table: &mut Table) -> Result<Task, Fail> {
-    match table.take() {
-        Ok(task) => Ok(task.ok_or("a task")?),
-        Err(_) => Err(Fail::new("no refusal")),
-    }
-}
-
-/// What is told of the return of the next task, once it made 7 steps.
-pub(super) fn return_after_7(table: &mut Table) -> Result<Returned, Fail> {
-    let mut task = taken(table)?;
-    task.run_slice(7)?;
-    let returned = table.give_back(task).ok();
-    Ok(returned.ok_or("a task that is taken back")?)
+/// A pass of this user for this slot and a job of that object.
+pub(super) fn pass_for(alloc: Global, user: u64, slot: u32, bytes: &[u8]) -> Result<Pass, Memory> {
+    Ok(Pass::of(user, slot, spec_of(alloc, bytes)?))
 }

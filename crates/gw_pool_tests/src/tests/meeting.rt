@@ -1,9 +1,10 @@
 //! Two workers that meet, each with a job.
 
-use super::services::{Fixture, Trial, totals_are, wrong_of};
-use gw_jobs::{Pass, State};
+use super::jobs::pass_for;
+use super::services::{Fixture, Shift, Trial, run, wrong_of};
+use gw_jobs::State;
 use gw_pool::Gate;
-use gw_samples::{THREE_BLOCKS_REPORT, first_wrong};
+use gw_samples::{THREE_BLOCKS, first_wrong};
 use std::sync::Wait;
 use std::sync::atomic::{AtomicU64, Ordering};
 use std::sync::ledger::Ledger;
@@ -64,9 +65,14 @@ impl<R: Ledger + Send + Sync, S: Ledger + Send + Sync, W: Threads + Wait + Sync>
     S,
     W,
 > {
-    /// Whether a job ended after 14 steps, with its report.
-    fn is_told(&self, pass: &Pass) -> bool {
-        self.stands(pass, State::Ended, 14) && self.reports(pass, THREE_BLOCKS_REPORT)
+    /// Whether the job of a user in a slot ended after 14 steps, with its report.
+    fn is_told(&self, user: u64, slot: u32) -> bool {
+        match pass_for(self.alloc, user, slot, THREE_BLOCKS) {
+            Ok(pass) => {
+                self.stands(&pass, State::Ended, 14) && self.collect_report(&pass) == Ok(true)
+            }
+            Err(_) => false,
+        }
     }
 
     /// Whether two slots are said to have made 14 steps, and a third none.
@@ -79,28 +85,36 @@ impl<R: Ledger + Send + Sync, S: Ledger + Send + Sync, W: Threads + Wait + Sync>
 
     /// Whether two workers make 4 slices of 7 steps.
     fn runs_two(&mut self, gate: &Meeting) -> bool {
-        match self
-            .service
-            .run_workers(self.rt, self.alloc, &mut self.crew, 2, 7, gate)
-        {
-            Ok(totals) => totals_are(&totals, 2, 4, 28),
-            Err(_) => false,
-        }
+        let shift = Shift {
+            workers: 2,
+            slice: 7,
+            slices: 4,
+            steps: 28,
+        };
+        let outcome = run(
+            self.rt,
+            self.alloc,
+            &self.service,
+            &mut self.crew,
+            gate,
+            shift,
+        );
+        outcome == Ok(true)
     }
 
     /// Two workers run a job each, and neither waits for the other in vain.
-    pub(super) fn wrong_of_meeting(&mut self) -> Result<Option<usize>, Fail> {
-        let first = self.new_pass(1)?;
-        let second = self.new_pass(2)?;
+    pub(super) fn wrong_of_meeting(&mut self) -> Option<usize> {
         let gate = Meeting::new();
-        Ok(first_wrong(&[
+        first_wrong(&[
+            self.new_slot(1) == Ok(0),
+            self.new_slot(2) == Ok(1),
             self.runs_two(&gate),
             gate.misses.load(Ordering::SeqCst) == 0,
             self.counts_are(28),
-            self.is_told(&first),
-            self.is_told(&second),
+            self.is_told(1, 0),
+            self.is_told(2, 1),
             self.is_published(),
-        ]))
+        ])
     }
 }
 

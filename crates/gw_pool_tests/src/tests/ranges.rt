@@ -1,6 +1,6 @@
 //! How many workers are run, and in which slices.
 
-use super::services::{Fixture, Trial, totals_are, wrong_of};
+use super::services::{Fixture, Shift, Trial, run, wrong_of};
 use gw_pool::{OpenGate, PoolFault, range_fault};
 use gw_samples::first_wrong;
 use std::sync::Wait;
@@ -18,52 +18,66 @@ const OUT_OF_RANGE: [(u32, u32, PoolFault); 6] = [
     (16, (1 << 20) + 1, PoolFault::Slice),
 ];
 
+/// The most workers and the longest slices, of which a job takes one.
+const MOST: Shift = Shift {
+    workers: 16,
+    slice: 1 << 20,
+    slices: 1,
+    steps: 14,
+};
+
+/// A worker who finds nothing to do.
+const IDLE: Shift = Shift {
+    workers: 1,
+    slice: 1,
+    slices: 0,
+    steps: 0,
+};
+
 impl<R: Ledger + Send + Sync, S: Ledger + Send + Sync, W: Threads + Wait + Sync> Fixture<
     '_,
     R,
     S,
     W,
 > {
-    /// Why workers aren't run, if they aren't.
-    fn fault_of_run(&mut self, n: u32, slice: u32) -> Option<PoolFault> {
-        let totals = self
-            .service
-            .run_workers(self.rt, self.alloc, &mut self.crew, n, slice, &OpenGate);
-        totals.err()
+    /// How the workers of a shift do whom no gate holds.
+    fn run_freely(&mut self, shift: Shift) -> Result<bool, PoolFault> {
+        run(
+            self.rt,
+            self.alloc,
+            &self.service,
+            &mut self.crew,
+            &OpenGate,
+            shift,
+        )
     }
 
     /// Whether all that is out of range is refused as it must be.
     fn refuses_all(&mut self) -> bool {
-        for (n, slice, fault) in OUT_OF_RANGE {
-            if self.fault_of_run(n, slice) != Some(fault) {
+        for (workers, slice, fault) in OUT_OF_RANGE {
+            let shift = Shift {
+                workers,
+                slice,
+                ..IDLE
+            };
+            if self.run_freely(shift) != Err(fault) {
                 return false;
             }
         }
         true
     }
 
-    /// Whether so many workers, in slices of so many steps, make so many slices, which come to so many steps.
-    fn makes(&mut self, n: u32, slice: u32, made: (u64, u128)) -> bool {
-        let totals = self
-            .service
-            .run_workers(self.rt, self.alloc, &mut self.crew, n, slice, &OpenGate);
-        match totals {
-            Ok(totals) => totals_are(&totals, n, made.0, made.1),
-            Err(_) => false,
-        }
-    }
-
     /// With a job of 14 steps, out of range nothing is done, 16 workers with the longest slices do it, and one worker finds
     /// nothing left to do.
-    pub(super) fn wrong_of_ranges(&mut self) -> Result<Option<usize>, Fail> {
-        self.new_pass(1)?;
-        Ok(first_wrong(&[
+    pub(super) fn wrong_of_ranges(&mut self) -> Option<usize> {
+        first_wrong(&[
+            self.new_slot(1) == Ok(0),
             self.refuses_all(),
             self.counts_are(0),
-            self.makes(16, 1 << 20, (1, 14)),
-            self.makes(1, 1, (0, 0)),
+            self.run_freely(MOST) == Ok(true),
+            self.run_freely(IDLE) == Ok(true),
             self.counts_are(14),
-        ]))
+        ])
     }
 }
 

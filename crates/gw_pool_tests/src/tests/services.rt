@@ -3,14 +3,16 @@
 ghost use Rattle.std.specs.Prelude.{◌≡◌};
 ghost use Rattle.gw_pool.specs.Shares.{AreWhole};
 
-use super::jobs::spec;
-use gw_jobs::{JobFault, Pass, State};
-use gw_pool::{Crew, Seat, Service, Totals};
+use super::jobs::spec_of;
+use gw_jobs::{JobFault, Pass, Progress, State};
+use gw_object::Memory;
+use gw_pool::{Crew, Gate, PoolFault, Seat, Service, Totals};
+use gw_samples::{THREE_BLOCKS, THREE_BLOCKS_REPORT};
+use gw_scan::Spec;
 use std::alloc::Global;
 use std::marker::Brand;
 use std::sync::Wait;
 use std::sync::ledger::{Blank, Ledger};
-use std::test::Fail;
 use std::thread::Threads;
 
 /// A service with its crew and a seat of its board, and what runs it.
@@ -45,7 +47,7 @@ fn wrong_in_service<R: Ledger + Send + Sync, S: Ledger + Send + Sync, W: Threads
     rows: Blank,
     steps: Blank,
     trial: Trial,
-) -> Result<Option<usize>, Fail>
+) -> Result<Option<usize>, Memory>
     requires names { (rows.name ≡ R.name) × (steps.name ≡ S.name) }
     requires parts { (rows.parts ≡ R.parts) × (steps.parts ≡ S.parts) }
     requires whole { AreWhole rows.parts steps.parts }
@@ -59,10 +61,10 @@ fn wrong_in_service<R: Ledger + Send + Sync, S: Ledger + Send + Sync, W: Threads
         seat,
     };
     match trial {
-        Trial::Meeting => fixture.wrong_of_meeting(),
+        Trial::Meeting => Ok(fixture.wrong_of_meeting()),
         Trial::Cancel => fixture.wrong_of_cancel(),
-        Trial::Ranges => fixture.wrong_of_ranges(),
-        Trial::Users => fixture.wrong_of_users(),
+        Trial::Ranges => Ok(fixture.wrong_of_ranges()),
+        Trial::Users => Ok(fixture.wrong_of_users()),
     }
 }
 
@@ -71,57 +73,45 @@ pub(super) fn wrong_of<W: Threads + Wait + Sync>(
     rt: &W,
     alloc: Global,
     trial: Trial,
-) -> Result<Option<usize>, Fail> {
+) -> Result<Option<usize>, Memory> {
     wrong_in_service::<Brand, Brand, W>(rt, alloc, Blank::new(17), Blank::new(17), trial)
 }
 
-impl<R: Ledger, S: Ledger, W: Wait> Fixture<'_, R, S, W> {
-    /// The pass of a new job of a user, or why there is none.
-    pub(super) fn submitted(&self, user: u64) -> Result<Result<Pass, JobFault>, Fail> {
-        let spec = spec(self.alloc)?;
-        let submitted = self
-            .service
-            .table()
-            .lock(self.rt)
-            .submit(self.alloc, user, spec);
-        match submitted {
-            Ok(pass) => Ok(Ok(pass)),
-            Err((_, fault)) => Ok(Err(fault)),
+/// The slot of a job, or why there is none.
+fn slot_of(submitted: Result<Pass, (Spec, JobFault)>) -> Result<u32, JobFault> {
+    match submitted {
+        Ok(pass) => Ok(pass.slot()),
+        Err((spec, fault)) => {
+            drop(spec);
+            Err(fault)
         }
     }
+}
 
-    /// The pass of a new job of a user.
-    pub(super) fn new_pass(&self, user: u64) -> Result<Pass, Fail> {
-        Ok(self.submitted(user)?.ok().ok_or("a pass")?)
+impl<R: Ledger, S: Ledger, W: Wait> Fixture<'_, R, S, W> {
+    /// The slot of a new job of a user, which is done after 14 steps, or why there is none.
+    pub(super) fn new_slot(&self, user: u64) -> Result<u32, JobFault> {
+        let spec = match spec_of(self.alloc, THREE_BLOCKS) {
+            Ok(spec) => spec,
+            Err(_) => return Err(JobFault::Memory),
+        };
+        let table = self.service.table();
+        slot_of(table.lock(self.rt).submit(self.alloc, user, spec))
     }
 
     /// Whether a job stands so, after so many steps.
     pub(super) fn stands(&self, pass: &Pass, state: State, steps: u64) -> bool {
         let progress = self.service.table().lock(self.rt).poll(pass);
-        match progress {
-            Ok(progress) => progress.state == state && progress.steps == steps,
-            Err(_) => false,
-        }
+        progress == Ok(Progress { state, steps })
     }
 
-    /// Whether an ended job tells this report.
-    pub(super) fn reports(&self, pass: &Pass, report: &[u8]) -> bool {
+    /// Collects a job: whether its report is that of one that is done, or why it isn't collected.
+    pub(super) fn collect_report(&self, pass: &Pass) -> Result<bool, JobFault> {
         let reply = self.service.table().lock(self.rt).collect(self.alloc, pass);
         match reply {
-            Ok(reply) => reply.report.as_slice() == report,
-            Err(_) => false,
+            Ok(reply) => Ok(reply.report.as_slice() == THREE_BLOCKS_REPORT),
+            Err(fault) => Err(fault),
         }
-    }
-
-    /// Why a job isn't collected, if it isn't.
-    pub(super) fn fault_of_collect(&self, pass: &Pass) -> Option<JobFault> {
-        let reply = self.service.table().lock(self.rt).collect(self.alloc, pass);
-        reply.err()
-    }
-
-    /// Cancels a job: why it isn't, if it isn't.
-    pub(super) fn fault_of_cancel(&self, pass: &Pass) -> Option<JobFault> {
-        cancel(self.rt, &self.service, pass).err()
     }
 
     /// Whether the table and the crew count these steps, and no row that is out.
@@ -129,6 +119,48 @@ impl<R: Ledger, S: Ledger, W: Wait> Fixture<'_, R, S, W> {
         let (table_steps, out) = self.service.audit(self.rt, &mut self.crew);
         table_steps == steps && out == 0 && self.crew.steps() == steps && self.crew.rows() == 0
     }
+}
+
+/// Workers and the steps of a slice, and the slices and the steps that come of it.
+#[derive(Clone, Copy)]
+pub(super) struct Shift {
+    pub(super) workers: u32,
+    pub(super) slice: u32,
+    pub(super) slices: u64,
+    pub(super) steps: u128,
+}
+
+/// Runs the workers of a shift: whether just that comes of it, and none of them runs short or leaves a stray; or why they aren't
+/// run.
+pub(super) fn run<
+    R: Ledger + Send + Sync,
+    S: Ledger + Send + Sync,
+    W: Threads + Wait + Sync,
+    G: Gate + Sync,
+>(
+    rt: &W,
+    alloc: Global,
+    service: &Service<R, S>,
+    crew: &mut Crew<R, S>,
+    gate: &G,
+    shift: Shift,
+) -> Result<bool, PoolFault>
+    requires { crew.old.board ≡ service.now }
+    ensures { crew.new.board ≡ crew.old.board }
+{
+    match service.run_workers(rt, alloc, crew, shift.workers, shift.slice, gate) {
+        Ok(totals) => Ok(totals_are(&totals, shift)),
+        Err(fault) => Err(fault),
+    }
+}
+
+/// Whether workers' totals are those of a shift, and none of them ran short or left a stray.
+fn totals_are(totals: &Totals, shift: Shift) -> bool {
+    totals.workers == shift.workers
+        && totals.slices == shift.slices
+        && totals.steps == shift.steps
+        && totals.short == 0
+        && totals.strays.is_empty()
 }
 
 /// Cancels a job of a service.
@@ -139,13 +171,4 @@ pub(super) fn cancel<R: Ledger, S: Ledger, W: Wait>(
 ) -> Result<(), JobFault> {
     let cancelled = service.table().lock(rt).cancel(pass);
     cancelled
-}
-
-/// Whether workers' totals are these, and none of them ran short or left a stray.
-pub(super) fn totals_are(totals: &Totals, workers: u32, slices: u64, steps: u128) -> bool {
-    totals.workers == workers
-        && totals.slices == slices
-        && totals.steps == steps
-        && totals.short == 0
-        && totals.strays.is_empty()
 }

@@ -1,85 +1,68 @@
 //! What shares count of a table.
 
-ghost use Rattle.std.specs.Prelude.{◌≡◌, ◌<◌, ◌≤◌, OnOk};
+ghost use Rattle.std.specs.Prelude.{◌≡◌, ◌<◌};
 ghost use Rattle.gw_pool.specs.Shares.{all_parts};
 
-use super::tables::{Fixture, Trial, wrong_of};
-use gw_jobs::Task;
+use super::tables::{Trial, make_7, submit, wrong_of};
+use gw_object::Memory;
 use gw_pool::{Share, Shared};
 use gw_samples::first_wrong;
+use std::alloc::Global;
 use std::sync::ledger::Ledger;
 use std::test::Fail;
-
-/// The task that is next, taken by a share.
-pub(super) fn taken<R: Ledger, S: Ledger>(
-    shared: &mut Shared<R, S>,
-    share: &mut Share<R, S>,
-) -> Result<Task, Fail>
-    requires { 0 < share.old.parts }
-    ensures parts { share.new.parts ≡ share.old.parts }
-    ensures rows { OnOk result (1 ≤ share.new.rows) }
-{
-    match shared.take_as(share) {
-        Ok(task) => match task {
-            Some(task) => Ok(task),
-            None => Err(Fail::new("a task")),
-        },
-        Err(_) => Err(Fail::new("no refusal")),
-    }
-}
-
-/// Makes 7 steps with the next task and gives it back, both by a share. Answers the rows that the share had meanwhile.
-pub(super) fn make_7<R: Ledger, S: Ledger>(
-    shared: &mut Shared<R, S>,
-    share: &mut Share<R, S>,
-) -> Result<u32, Fail>
-    requires { 0 < share.old.parts }
-    ensures { share.new.parts ≡ share.old.parts }
-{
-    let mut task = taken(shared, share)?;
-    let rows = share.rows();
-    if task.run_slice(7).is_err() {
-        return Err(Fail::new("memory"));
-    }
-    let returned = shared.give_back_as(task, share).ok();
-    returned.ok_or("a task that is taken back")?;
-    Ok(rows)
-}
 
 /// The steps and the rows that a share counts.
 fn counts<R: Ledger, S: Ledger>(share: &Share<R, S>) -> (u128, u32) {
     (share.steps(), share.rows())
 }
 
-impl<R: Ledger, S: Ledger> Fixture<R, S> {
-    /// Two shares of a table with two jobs make 7 steps each, the first of them 7 more; then they are joined. Meanwhile the
-    /// second has one row.
-    pub(super) fn wrong_of_shares(&mut self) -> Result<Option<usize>, Fail>
-        requires { self.old.share.parts ≡ all_parts }
-    {
-        let mut other = self.share.split(1);
-        self.new_pass(1)?;
-        self.new_pass(2)?;
-        make_7(&mut self.shared, &mut self.share)?;
-        let meanwhile = make_7(&mut self.shared, &mut other)?;
-        make_7(&mut self.shared, &mut self.share)?;
-        let first = counts(&self.share);
-        let second = counts(&other);
-        self.shared.audit(&mut self.share);
-        self.shared.audit(&mut other);
-        self.share.join(other);
-        Ok(first_wrong(&[
-            meanwhile == 1,
-            first == (14, 0),
-            second == (7, 0),
-            counts(&self.share) == (21, 0),
-            self.shared.audit(&mut self.share) == (21, 0),
-        ]))
-    }
+/// Two shares of a table with two jobs make 7 steps each, and the first of them 7 more. Answers the rows that the second has
+/// while its task is out.
+fn make_slices<R: Ledger, S: Ledger>(
+    alloc: Global,
+    shared: &mut Shared<R, S>,
+    share: &mut Share<R, S>,
+    other: &mut Share<R, S>,
+) -> Result<u32, Memory>
+    requires first { 0 < share.old.parts }
+    requires second { 0 < other.old.parts }
+    ensures first { share.new.parts ≡ share.old.parts }
+    ensures second { other.new.parts ≡ other.old.parts }
+{
+    submit(alloc, shared, 1)?;
+    submit(alloc, shared, 2)?;
+    make_7(shared, share)?;
+    let (_, meanwhile) = make_7(shared, other)?;
+    make_7(shared, share)?;
+    Ok(meanwhile)
+}
+
+/// The first of two shares makes 14 steps and the second 7; then they are joined.
+pub(super) fn wrong_of_counts<R: Ledger, S: Ledger>(
+    alloc: Global,
+    shared: &mut Shared<R, S>,
+    share: &mut Share<R, S>,
+) -> Option<usize>
+    requires { share.old.parts ≡ all_parts }
+{
+    let mut other = share.split(1);
+    let meanwhile = make_slices(alloc, shared, share, &mut other);
+    let first = counts(share);
+    let second = counts(&other);
+    shared.audit(share);
+    shared.audit(&mut other);
+    share.join(other);
+    first_wrong(&[
+        meanwhile == Ok(1),
+        first == (14, 0),
+        second == (7, 0),
+        counts(share) == (21, 0),
+        shared.audit(share) == (21, 0),
+    ])
 }
 
 #[test]
 fn shares_count_what_the_table_does(rt: HostRuntime) -> Result<(), Fail> {
-    assert!(rt; wrong_of(rt.alloc(), Trial::Shares)?.is_none());
+    assert!(rt; wrong_of(&rt, rt.alloc(), Trial::Shares)?.is_none());
     Ok(())
 }

@@ -1,8 +1,8 @@
 //! Users of a service, who look at its table under the lock.
 
-use super::jobs::spec_of;
+use super::jobs::pass_for;
 use super::services::{Fixture, Trial, wrong_of};
-use gw_jobs::{JobFault, Pass};
+use gw_jobs::JobFault;
 use gw_samples::{QUEUEING, THREE_BLOCKS, first_wrong};
 use std::sync::Wait;
 use std::sync::ledger::Ledger;
@@ -12,41 +12,35 @@ use std::test::Fail;
 const MOST_RUNNING: u32 = 16;
 
 impl<R: Ledger, S: Ledger, W: Wait> Fixture<'_, R, S, W> {
-    /// The slot of a new job of a user, or why there is none.
-    fn slot_for(&self, user: u64) -> Result<Result<u32, JobFault>, Fail> {
-        match self.submitted(user)? {
-            Ok(pass) => Ok(Ok(pass.slot())),
-            Err(fault) => Ok(Err(fault)),
-        }
-    }
-
     /// Whether the first 16 jobs of a user get the slots in order.
-    fn fills_slots(&self) -> Result<bool, Fail> {
+    fn fills_slots(&self) -> bool {
         for slot in 0..MOST_RUNNING {
-            if self.slot_for(1)? != Ok(slot) {
-                return Ok(false);
+            if self.new_slot(1) != Ok(slot) {
+                return false;
             }
         }
-        Ok(true)
+        true
     }
 
-    /// Why the job of an object in slot 0 isn't collected by a user, if it isn't.
-    fn fault_of_first(&self, user: u64, bytes: &[u8]) -> Result<Option<JobFault>, Fail> {
-        let pass = Pass::of(user, 0, spec_of(self.alloc, bytes)?);
-        Ok(self.fault_of_collect(&pass))
+    /// What a user is told who collects the job of an object in slot 0.
+    fn collect_first(&self, user: u64, bytes: &[u8]) -> Result<bool, JobFault> {
+        match pass_for(self.alloc, user, 0, bytes) {
+            Ok(pass) => self.collect_report(&pass),
+            Err(_) => Err(JobFault::Memory),
+        }
     }
 
     /// A 17th job of a user is refused, and another user's first job gets the next slot. The first job of user 1 isn't
     /// collected by another user, by its own user since it isn't ended, or with another spec.
-    pub(super) fn wrong_of_users(&self) -> Result<Option<usize>, Fail> {
-        Ok(first_wrong(&[
-            self.fills_slots()?,
-            self.slot_for(1)? == Err(JobFault::UserFull),
-            self.slot_for(2)? == Ok(MOST_RUNNING),
-            self.fault_of_first(2, THREE_BLOCKS)? == Some(JobFault::NotYours),
-            self.fault_of_first(1, THREE_BLOCKS)? == Some(JobFault::NotEnded),
-            self.fault_of_first(1, QUEUEING)? == Some(JobFault::Stranger),
-        ]))
+    pub(super) fn wrong_of_users(&self) -> Option<usize> {
+        first_wrong(&[
+            self.fills_slots(),
+            self.new_slot(1) == Err(JobFault::UserFull),
+            self.new_slot(2) == Ok(MOST_RUNNING),
+            self.collect_first(2, THREE_BLOCKS) == Err(JobFault::NotYours),
+            self.collect_first(1, THREE_BLOCKS) == Err(JobFault::NotEnded),
+            self.collect_first(1, QUEUEING) == Err(JobFault::Stranger),
+        ])
     }
 }
 

@@ -1,7 +1,7 @@
 use Rattle.gw_pool_tests.proofs.tests.tables.wrong_of.Given as goal
 
 abbrev pub ghosts-wrong_in_table-R-Ledger : goal.ghosts-wrong_in_table-R-Ledger
-ghosts-wrong_in_table-R-Ledger a = record { name = a.rows.name; parts = a.rows.parts }
+ghosts-wrong_in_table-R-Ledger g a = record { name = a.rows.name; parts = a.rows.parts }
 
 abbrev pub ghosts-wrong_in_table-S-Ledger : goal.ghosts-wrong_in_table-S-Ledger
-ghosts-wrong_in_table-S-Ledger a = record { name = a.steps.name; parts = a.steps.parts }
+ghosts-wrong_in_table-S-Ledger g a = record { name = a.steps.name; parts = a.steps.parts }

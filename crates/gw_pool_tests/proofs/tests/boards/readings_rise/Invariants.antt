@@ -1,5 +1,5 @@
 use Rattle.std.specs.Prelude.{◌≡◌}
-use Rattle.gw_pool_tests.proofs.tests.readers.readings_rise.Given as goal
+use Rattle.gw_pool_tests.proofs.tests.boards.readings_rise.Given as goal
 
 abbrev pub invariant-loop : goal.invariant-loop
 invariant-loop l = l.seat.board ≡ l.board
