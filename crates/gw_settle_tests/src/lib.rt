@@ -1,5 +1,5 @@
-//! Tests of the assembler's state table and weights: objects built by hand, and tables at the limits of the object
-//! format. Which rows and weights models have is in the cases (docs/cases.md).
+//! Tests of the assembler's state table and weights: an object that was worked out by hand, from its blocks alone, and tables
+//! at the limits of the object format. Which rows and weights models have is in the cases (docs/cases.md).
 #![tactic(auto)]
 
 #[cfg(test)]

@@ -125,10 +125,18 @@ fn long_rows(alloc: Global, count: usize) -> Result<Vec<Block>, Memory> {
     Ok(blocks)
 }
 
-/// Adds five queues: four with names of 32 letters each, and one with this name.
+/// Four names of 32 letters.
+const LONG_NAMES: [&[u8]; 4] = [
+    b"AAAAAAAAAAAAAAAAAAAAAAAAAAAAAAAA",
+    b"BBBBBBBBBBBBBBBBBBBBBBBBBBBBBBBB",
+    b"CCCCCCCCCCCCCCCCCCCCCCCCCCCCCCCC",
+    b"DDDDDDDDDDDDDDDDDDDDDDDDDDDDDDDD",
+];
+
+/// Adds five queues: four with those names, and one with this.
 fn push_names(alloc: Global, entities: &mut Vec<Entity>, last: &[u8]) -> Result<(), Memory> {
-    for letter in [b'A', b'B', b'C', b'D'] {
-        add_entity(alloc, entities, Kind::Queue, &[letter; 32])?;
+    for name in LONG_NAMES {
+        add_entity(alloc, entities, Kind::Queue, name)?;
     }
     add_entity(alloc, entities, Kind::Queue, last)
 }

@@ -9,26 +9,17 @@ use gw_kinds::check_kinds;
 use gw_object::{Fault, Items, Memory, Object, Parts};
 use gw_object_bytes::build;
 pub(crate) use gw_samples::{
-    add_entity, by_fraction, call, empty_parts, generate, no_states, split, terminate,
+    add_entity, by_fraction, call, empty_parts, generate, no_states, terminate,
 };
 use gw_settle::settle;
 use std::alloc::Global;
 use std::test::Fail;
 
-/// So many weights of 1.
-fn ones(alloc: Global, count: usize) -> Result<Vec<u32>, Memory> {
-    let mut weights = Vec::new(alloc);
-    for _ in 0..count {
-        weights.push(1)?;
-    }
-    Ok(weights)
-}
-
 /// Gives parts these blocks, and no state table.
 fn put_blocks(alloc: Global, parts: &mut Parts, blocks: &[Block]) -> Result<(), Memory> {
     parts.blocks = Items::from_vec(Vec::from_slice(alloc, blocks)?);
     parts.states = Items::from_vec(no_states(alloc, blocks.len())?);
-    parts.weights = Items::from_vec(ones(alloc, blocks.len())?);
+    parts.weights = Items::from_vec(vec![in alloc; 1; blocks.len()]?);
     Ok(())
 }
 
