@@ -1,5 +1,6 @@
-//! Tests of the layers below the machine: what no contract says of numbers, fields, readers and writers, objects, kinds, flow,
-//! weights, the verifier, entities, chains and transactions, on values worked out by hand.
+//! Tests of the layers below the machine: numbers, fields, readers and writers, objects, kinds, flow, weights, the verifier and
+//! PLUS code, on values worked out by hand. What entities do, which values the expressions of a model have, and which code is
+//! accepted, is in the cases (docs/cases.md).
 #![tactic(auto)]
 
 #[cfg(test)]

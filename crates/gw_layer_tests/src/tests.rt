@@ -1,7 +1,5 @@
 //! Rows worked out by hand, layer by layer, and what they are made of.
 
-mod chains;
-mod entities;
 mod fields;
 mod flow;
 mod kinds;
@@ -9,8 +7,7 @@ mod models;
 mod numbers;
 mod objects;
 mod operands;
-mod parameters;
 mod streams;
-mod transactions;
+mod values;
 mod verified;
 mod weights;

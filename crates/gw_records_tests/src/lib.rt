@@ -1,5 +1,5 @@
-//! Tests of model texts: what is read of them, and what their statements become, by a row for each word with its operands in
-//! their forms. Which texts are accepted and which are refused is in the cases (docs/cases.md).
+//! Tests of model texts: what is read of one, and what its statements, its expressions and its PROCEDUREs become. Which texts are
+//! accepted, which are refused, how operators bind, and how each word is spelled in an object is in the cases (docs/cases.md).
 #![tactic(auto)]
 
 #[cfg(test)]

@@ -1,7 +1,6 @@
-//! Rows worked out by hand, and how texts are read.
+//! Statements of a text, worked out by hand.
 
-mod entities;
-mod known;
-mod records;
+mod becoming;
+mod code;
+mod names;
 mod statements;
-mod trees;

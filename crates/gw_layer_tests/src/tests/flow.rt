@@ -1,4 +1,81 @@
-//! Flow: objects of a few blocks with their state tables.
+//! Flow: what leaves a block of an object, by what is known of the transactions that come to it.
 
-mod edges;
-mod tables;
+ghost use Rattle.std.specs.Prelude.{◌≡◌, ◌≤◌, ◌^◌, List, is_some, IsTrue, All};
+ghost use Rattle.gw_object.specs.declared.parts.ReturnRow.{ReturnRow};
+ghost use Rattle.gw_flow.specs.Rows.{HasRoom};
+ghost use Rattle.gw_flow.specs.Seen.{known};
+ghost use Rattle.gw_kinds.specs.Kinds.{block_at};
+
+use crate::tests::models::*;
+use gw_flow::{AbsState, Amount, Edge, StateParts, Target, out_edges};
+use gw_object::{Items, Memory, Object};
+use gw_samples::QUEUEING;
+use std::alloc::Global;
+use std::test::Fail;
+
+/// Whether there is a block of this number.
+fn is_block(object: &Object, number: u16) -> bool
+    ensures { result ≡ is_some (block_at object.now.blocks number) }
+{
+    number != 0 && number as usize <= object.parts().blocks.as_slice().len()
+}
+
+/// Whether there is room for what a block adds to amounts.
+fn have_room(amounts: &[Amount]) -> bool
+    ensures { IsTrue result → All (λ (a : Amount). a.number ≤ 2 ^ 62) amounts.now }
+{
+    amounts.iter().all(|amount| amount.number <= 1 << 62)
+}
+
+/// Whether a state knows no parameter, and has room for what a block adds to it.
+fn has_room(state: &AbsState) -> bool
+    ensures { IsTrue result → (rows : List ReturnRow) → HasRoom (known rows state.now) }
+{
+    let parts = state.parts();
+    parts.parameters.as_slice().is_empty() && have_room(parts.units.as_slice())
+}
+
+/// The parts of a state that holds nothing.
+fn nothing(alloc: Global) -> StateParts {
+    StateParts {
+        parameters: Items::from_vec(Vec::new(alloc)),
+        facilities: Items::from_vec(Vec::new(alloc)),
+        units: Items::from_vec(Vec::new(alloc)),
+    }
+}
+
+/// Whether these edges are one, to block 4, on which the facility is owned, and nothing else is held.
+fn is_seized(edges: &[Edge]) -> bool {
+    let [edge] = edges else { return false };
+    let state = edge.state.parts();
+    edge.target == Target::Block(4)
+        && state.parameters.as_slice().is_empty()
+        && state.facilities.as_slice() == [F].as_slice()
+        && state.units.as_slice().is_empty()
+}
+
+/// Whether the third block of an object, a SEIZE, has that edge alone in this state.
+fn seizes(alloc: Global, object: &Object, state: &AbsState) -> bool {
+    if !is_block(object, 3) || !has_room(state) {
+        return false;
+    }
+    match out_edges(alloc, object, 3, state).ok() {
+        Some(edges) => is_seized(&edges),
+        None => false,
+    }
+}
+
+/// Whether a SEIZE adds its facility to a state that holds nothing.
+fn adds_facility(alloc: Global, object: &Object) -> bool {
+    match AbsState::build(nothing(alloc)).ok() {
+        Some(state) => seizes(alloc, object, &state),
+        None => false,
+    }
+}
+
+#[test]
+fn a_seize_adds_its_facility(rt: HostRuntime) -> Result<(), Fail> {
+    let object = object_of(rt.alloc(), QUEUEING)?;
+    assert!(rt; adds_facility(rt.alloc(), &object));
+    Ok(())
+}

@@ -1,71 +1,11 @@
-//! Kinds: objects of a few blocks, with numbers that name what they must, and that don't.
+//! Kinds: what blocks lead to, and which take time.
 
 use crate::tests::models::*;
 use gw_blocks::Block;
-use gw_kinds::{Way, check_kinds, exits, leads_to, takes_time};
-use gw_object::{Fault, Memory, TableState};
-use std::alloc::Global;
-use std::test::Fail;
-
-/// The rows of so many blocks, of which the first has this one, if there is one, and the others none.
-fn rows(
-    alloc: Global,
-    count: usize,
-    first_row: Option<TableState>,
-) -> Result<Vec<Option<TableState>>, Memory> {
-    let mut states = vec![in alloc; first_row]?;
-    for _ in 1..count {
-        states.push(None)?;
-    }
-    Ok(states)
-}
-
-/// The fault of the object of these blocks, whose first block has this row and the others none, if it has one.
-fn fault_with(
-    alloc: Global,
-    blocks: &[Block],
-    first_row: Option<Row>,
-) -> Result<Option<Fault>, Fail> {
-    let states = rows(alloc, blocks.len(), row_if(alloc, first_row)?)?;
-    let object = model(alloc, 2_000_000, blocks, states)?;
-    Ok(check_kinds(&object).err())
-}
-
-/// The place, from 0, of the first of these blocks that has another fault between a GENERATE and a TERMINATE.
-fn wrong_block(
-    alloc: Global,
-    blocks: &[Block],
-    fault: Option<Fault>,
-) -> Result<Option<usize>, Fail> {
-    for i in 0..blocks.len() {
-        let object = [GENERATE, blocks[i], TERMINATE];
-        if fault_with(alloc, &object, None)? != fault {
-            return Ok(Some(i));
-        }
-    }
-    Ok(None)
-}
-
-#[test]
-fn each_kind_of_block_is_accepted(rt: HostRuntime) -> Result<(), Fail> {
-    const BLOCKS: &[Block] = &[
-        ADVANCE,
-        Block::Seize(F),
-        Block::Release(F),
-        Block::Enter(units!(S, 1)),
-        Block::Leave(units!(S, 1_048_576)),
-        Block::Queue(units!(Q, 1_048_576)),
-        Block::Depart(units!(Q, 1)),
-        Block::Transfer(3),
-        by_fraction!(1000, None, 2),
-        by_fraction!(0, Some(3), 2),
-    ];
-    assert!(rt; wrong_block(rt.alloc(), BLOCKS, None)?.is_none());
-    Ok(())
-}
+use gw_kinds::{Way, exits, leads_to, takes_time};
 
 /// Whether the exits of a block are these, in order.
-pub(super) fn leave_by(block: Block, expected: &[(Way, bool)]) -> bool {
+fn leave_by(block: Block, expected: &[(Way, bool)]) -> bool {
     let exits = exits(&block);
     let found = exits.as_slice();
     found.len() == expected.len()

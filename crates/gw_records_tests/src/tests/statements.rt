@@ -1,5 +1,6 @@
 //! What is read of a text.
 
+use super::becoming::{become_blocks, becomes_entity};
 use gw_object::Fault;
 use gw_text::{Body, Expression, Modifier, Operand, PlusStatement, Point, Statement, Word, parse};
 use std::alloc::Global;
@@ -111,8 +112,9 @@ fn has_procedure(found: &[Statement]) -> Option<bool> {
     )
 }
 
-/// Which parts of the text are read as they are written: lines, labels, operands, points and the PROCEDURE.
-fn parts_read(alloc: Global) -> Result<[bool; 5], Fault> {
+/// Which parts of the text are read as they are written, lines, labels, operands, points and the PROCEDURE, and whether the
+/// statements become the blocks and the entity that they should.
+fn parts_read(alloc: Global) -> Result<[bool; 7], Fault> {
     let model = parse(alloc, TEXT)?;
     let found = model.statements.as_slice();
     Ok([
@@ -121,10 +123,12 @@ fn parts_read(alloc: Global) -> Result<[bool; 5], Fault> {
         have_operands(found) == Some(true),
         has_points(found) == Some(true),
         has_procedure(found) == Some(true),
+        become_blocks(found),
+        becomes_entity(alloc, found),
     ])
 }
 
 #[test]
 fn statements_are_read_as_they_are_written(rt: HostRuntime) {
-    assert_eq!(rt; parts_read(rt.alloc()).ok(), Some([true; 5]));
+    assert!(rt; parts_read(rt.alloc()).ok() == Some([true; 7]));
 }

@@ -1,5 +1,5 @@
 use Rattle.std.proofs.Common.{◌≡◌, length}
-use Rattle.gw_layer_tests.proofs.tests.chains.unlink_in_order.Given as goal
+use Rattle.gw_chains_tests.proofs.chains.unlink_in_order.Given as goal
 
 -- there are as many chains as there were
 abbrev pub invariant-loop-number : goal.invariant-loop-number

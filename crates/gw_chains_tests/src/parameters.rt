@@ -3,10 +3,8 @@
 ghost use Rattle.std.specs.Prelude.{◌≡◌, ◌≤◌, length, None, [], ◌∷◌};
 ghost use Rattle.gw_transactions.specs.Transactions.{Holds};
 
-use crate::tests::models::first_wrong;
-use crate::tests::transactions::add;
-use gw_chains::Tx;
-use gw_object::Memory;
+use crate::transactions::add;
+use gw_chains::{Memory, Tx};
 use gw_transactions::{Transaction, Transactions};
 use std::test::Fail;
 
@@ -67,8 +65,7 @@ fn two_transactions(transactions: &mut Transactions) -> Result<[bool; 6], Memory
 #[test]
 fn parameters_are_read_as_they_were_set(rt: HostRuntime) -> Result<(), Fail> {
     let mut transactions = Transactions::new(rt.alloc(), 64)?;
-    let are_right = two_transactions(&mut transactions)?;
-    assert!(rt; first_wrong(&are_right).is_none());
+    assert!(rt; two_transactions(&mut transactions)? == [true; 6]);
     Ok(())
 }
 
@@ -90,7 +87,6 @@ fn one_at_the_place_of_another(transactions: &mut Transactions) -> Result<[bool;
 #[test]
 fn a_removed_transaction_leaves_no_parameter(rt: HostRuntime) -> Result<(), Fail> {
     let mut transactions = Transactions::new(rt.alloc(), 64)?;
-    let are_right = one_at_the_place_of_another(&mut transactions)?;
-    assert!(rt; first_wrong(&are_right).is_none());
+    assert!(rt; one_at_the_place_of_another(&mut transactions)? == [true; 2]);
     Ok(())
 }

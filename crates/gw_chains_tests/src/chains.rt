@@ -2,7 +2,6 @@
 
 ghost use Rattle.std.specs.Prelude.{◌≡◌, ◌<◌, length, IfOk};
 
-use crate::tests::models::first_wrong;
 use gw_chains::{Assemblies, Assembly, Cec, Memory, Tx, UserChains, Waits};
 use std::alloc::Global;
 use std::test::Fail;
@@ -85,7 +84,7 @@ fn put_waiters(waits: &mut Waits) -> Result<(), Memory>
 fn delay_lists_keep_their_entities_apart(rt: HostRuntime) -> Result<(), Fail> {
     let mut waits = Waits::new(rt.alloc(), 8)?;
     put_waiters(&mut waits)?;
-    assert!(rt; first_wrong(&delay_lists(&mut waits)).is_none());
+    assert!(rt; delay_lists(&mut waits) == [true; 8]);
     Ok(())
 }
 
@@ -156,7 +155,7 @@ fn put_members(chains: &mut UserChains) -> Result<(), Memory>
 fn user_chains_have_two_ends(rt: HostRuntime) -> Result<(), Fail> {
     let mut chains = UserChains::new(rt.alloc(), 7)?;
     put_members(&mut chains)?;
-    assert!(rt; first_wrong(&two_chains(&mut chains)).is_none());
+    assert!(rt; two_chains(&mut chains) == [true; 6]);
     Ok(())
 }
 
@@ -215,18 +214,17 @@ fn assemblies_are_of_a_block_and_a_set(rt: HostRuntime) -> Result<(), Fail> {
         assembly(3, 2, 9, 1),
     ];
     let mut all = begun(rt.alloc(), &assemblies)?;
-    assert!(rt; first_wrong(&three_assemblies(&mut all)).is_none());
+    assert!(rt; three_assemblies(&mut all) == [true; 7]);
     Ok(())
 }
 
-/// A chain that as many as may live joined, of equal priority.
-fn crowd(alloc: Global) -> Result<Cec, Memory> {
-    let mut chain = Cec::new(alloc);
+/// As many as may live join a chain, of equal priority.
+fn crowd(chain: &mut Cec) -> Result<(), Memory> {
     for number in 0..MOST {
         chain.reserve(1)?;
         chain.insert_behind(tx(number), 0);
     }
-    Ok(chain)
+    Ok(())
 }
 
 /// The first number, from 0 on, as which another one leaves the chain.
@@ -244,25 +242,26 @@ fn as_many_as_may_live_join_behind_their_peers_within_a_second(
     rt: HostRuntime,
 ) -> Result<(), Fail> {
     let start = Instant::now(&rt)?;
-    let mut chain = crowd(rt.alloc())?;
+    let mut chain = Cec::new(rt.alloc());
+    crowd(&mut chain)?;
     assert!(rt; start.elapsed(&rt)? < Duration::from_secs(1));
     assert!(rt; out_of_turn(&mut chain).is_none() && chain.is_empty());
     Ok(())
 }
 
-/// A retry list with as many as may live.
-fn crowded_retry_list(alloc: Global) -> Result<Waits, Memory> {
-    let mut waits = Waits::new(alloc, 0)?;
+/// As many as may live come to a retry list.
+fn crowd_retry_list(waits: &mut Waits) -> Result<(), Memory> {
     for number in 0..MOST {
         waits.reserve_retry(1)?;
         waits.push_retry(tx(number), 0);
     }
-    Ok(waits)
+    Ok(())
 }
 
 #[test]
 fn as_many_as_may_live_wake_within_a_second(rt: HostRuntime) -> Result<(), Fail> {
-    let mut waits = crowded_retry_list(rt.alloc())?;
+    let mut waits = Waits::new(rt.alloc(), 0)?;
+    crowd_retry_list(&mut waits)?;
     let mut chain = Cec::new(rt.alloc());
     let start = Instant::now(&rt)?;
     let are_woken = wake(&mut waits, &mut chain)?;

@@ -1,5 +1,5 @@
 use Rattle.std.proofs.Common.{◌≡◌, length}
-use Rattle.gw_layer_tests.proofs.tests.chains.crowded_user_chain.Given as goal
+use Rattle.gw_chains_tests.proofs.chains.crowded_user_chain.Given as goal
 
 -- there are two chains
 abbrev pub invariant-loop-number : goal.invariant-loop-number

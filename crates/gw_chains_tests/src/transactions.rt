@@ -4,14 +4,12 @@ ghost use Rattle.std.specs.Prelude.{◌≡◌, ◌≤◌, ◌<◌, ◌+◌, ◌^
 ghost use Rattle.gw_num.specs.Table.{put};
 ghost use Rattle.gw_transactions.specs.Transactions.{as_made, Holds, KeepsHandles};
 
-use crate::tests::models::first_wrong;
-use gw_chains::Tx;
-use gw_object::Memory;
+use gw_chains::{Memory, Tx};
 use gw_transactions::{Transaction, Transactions};
 use std::test::Fail;
 
 /// Makes a transaction, of which no parameter is set.
-pub(super) fn add(transactions: &mut Transactions, transaction: Transaction) -> Result<Tx, Memory>
+pub(crate) fn add(transactions: &mut Transactions, transaction: Transaction) -> Result<Tx, Memory>
     requires block { transaction.current ≤ 4096 }
     requires few { length transactions.old.txs < 2 ^ 62 }
     ensures number { IfOk result (λ tx. tx.number ≡ length transactions.old.txs) }
@@ -66,8 +64,7 @@ fn third_after_the_first_left(transactions: &mut Transactions) -> Result<[bool; 
 #[test]
 fn numbers_count_from_one_and_come_once(rt: HostRuntime) -> Result<(), Fail> {
     let mut transactions = Transactions::new(rt.alloc(), 3)?;
-    let are_right = third_after_the_first_left(&mut transactions)?;
-    assert!(rt; first_wrong(&are_right).is_none());
+    assert!(rt; third_after_the_first_left(&mut transactions)? == [true; 9]);
     Ok(())
 }
 
@@ -102,7 +99,6 @@ fn three_that_move(transactions: &mut Transactions) -> Result<[bool; 6], Memory>
 #[test]
 fn live_and_here_count_those_that_are_there(rt: HostRuntime) -> Result<(), Fail> {
     let mut transactions = Transactions::new(rt.alloc(), 3)?;
-    let are_right = three_that_move(&mut transactions)?;
-    assert!(rt; first_wrong(&are_right).is_none());
+    assert!(rt; three_that_move(&mut transactions)? == [true; 6]);
     Ok(())
 }
