@@ -1,5 +1,4 @@
 -- What names stand for in the tests.
-use Rattle.std.specs.Prelude.{ℕ}
 use Rattle.gw_compile.specs.declared.numbering.Callee.{Callee}
 
 -- the procedure that each PROCEDURE is

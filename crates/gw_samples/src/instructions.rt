@@ -8,14 +8,6 @@ macro_rules! push {
     };
 }
 
-/// VALUE of an attribute of the clock, the termination count or the transaction: `value!(Clock)` for example.
-#[macro_export]
-macro_rules! value {
-    ($attribute:ident) => {
-        gw_code::Instruction::Value(gw_code::Sna::Attribute(gw_blocks::Attribute::$attribute))
-    };
-}
-
 /// VALUE of an attribute of an entity or a block: `value_of!(QueueContent, 2)` for example.
 #[macro_export]
 macro_rules! value_of {

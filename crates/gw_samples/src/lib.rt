@@ -10,5 +10,5 @@ mod operands;
 mod parts;
 mod spellings;
 
-pub use parts::{add_entity, empty_parts, entity, first_wrong, no_states, procedure};
+pub use parts::{add_entity, empty_parts, first_wrong, no_states, procedure};
 pub use spellings::{QUEUEING, QUEUEING_REPORT, THREE_BLOCKS, THREE_BLOCKS_REPORT};

@@ -8,17 +8,6 @@ macro_rules! number {
     };
 }
 
-/// An attribute of an entity or a block: `of!(SavevalueValue, 4)` for example.
-#[macro_export]
-macro_rules! of {
-    ($attribute:ident, $number:expr) => {
-        gw_blocks::Operand::OfEntity(gw_blocks::Numbered {
-            attribute: gw_blocks::EntityAttribute::$attribute,
-            number: $number,
-        })
-    };
-}
-
 /// A time of this mean and half range, both operands.
 #[macro_export]
 macro_rules! time {

@@ -8,7 +8,7 @@ use gw_object::{Entity, Items, Kind, Memory, Parts, TableState};
 use std::alloc::Global;
 
 /// An entity of this kind and name.
-pub fn entity(alloc: Global, kind: Kind, name: &[u8]) -> Result<Entity, Memory>
+fn entity(alloc: Global, kind: Kind, name: &[u8]) -> Result<Entity, Memory>
     ensures { IfOk result (λ e. e ≡ record { name = name.now; kind = kind }) }
 {
     let name = Items::from_vec(Vec::from_slice(alloc, name)?);
