@@ -1,7 +1,6 @@
 //! Facilities.
 
 ghost use Rattle.std.specs.Prelude.{◌≡◌, ◌≤◌, ◌<◌, ◌+◌, ◌^◌, ℕ, length, IfOk, Some, false, true};
-ghost use Rattle.std.specs.List.{list_any};
 ghost use Rattle.std.proofs.Common.{rules};
 ghost use Rattle.std.proofs.lemmas.Grind.{common_steps};
 ghost use Rattle.gw_entities.specs.Average.{average};
@@ -11,7 +10,7 @@ ghost use Rattle.gw_entities.specs.Fits.{FacilityFits, StaysFit};
 ghost use Rattle.gw_entities.specs.Numbered.{OthersStay};
 
 use crate::average::{Average, average_of};
-use crate::numbered::{Kept, Numbered, Timed};
+use crate::numbered::{Numbered, Timed};
 use gw_object::Kind;
 
 /// A facility: at most one transaction owns it (GPSS World Reference Manual, "SEIZE" and "RELEASE").
@@ -31,13 +30,6 @@ impl Facility {
         ensures { result ≡ model.is_idle self.now }
     {
         self.owner.is_none()
-    }
-
-    /// Whether this transaction owns it.
-    fn is_owned_by(&self, xn: u64) -> bool
-        ensures { result ≡ model.is_owned_by xn self.now }
-    {
-        self.owner == Some(xn)
     }
 
     /// The transaction `xn` seizes it, if it is idle.
@@ -93,13 +85,6 @@ impl Timed for Facility {
     ghost in_parts = { λ a b value. Prim.search (rules, common_steps) };
 }
 
-/// Whether this transaction owns any of these. Time changes no owner.
-fn any_is_owned_by(kept: &[Kept<Facility>], xn: u64) -> bool
-    ensures { result ≡ list_any (λ k. model.is_owned_by xn k.value) kept.now }
-{
-    kept.iter().any(|k| k.value.is_owned_by(xn))
-}
-
 /// The facilities of a job, each by its number as an entity of the object.
 pub type Facilities = Numbered<Facility>;
 
@@ -137,13 +122,6 @@ impl Numbered<Facility> {
         let mut facility = self.get(f);
         facility.release();
         self.set(f, facility);
-    }
-
-    /// Whether the transaction `xn` owns any facility. It looks at each.
-    pub fn owns_any(&self, xn: u64) -> bool
-        ensures { result ≡ model.owns_any xn self.now.values }
-    {
-        any_is_owned_by(self.kept(), xn)
     }
 
     /// The utilisation of the facility `f`: the part of the time so far for which it was owned, at most 1

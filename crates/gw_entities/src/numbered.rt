@@ -124,13 +124,6 @@ impl<T: Timed> Numbered<T> {
         self.kept[number as usize].today(self.passed)
     }
 
-    /// The values as they were when they last changed, by number.
-    pub(crate) fn kept(&self) -> &[Kept<T>]
-        ensures { self.now.values ≡ map (today T.after self.now.passed) result.now }
-    {
-        self.kept.as_slice()
-    }
-
     /// Gives an entity another value, or the same.
     #[tactic(auto, using(crate::proofs::Rules::tables))]
     pub(crate) fn set(&mut self, number: u16, value: T)

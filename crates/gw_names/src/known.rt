@@ -8,12 +8,9 @@ ghost use Rattle.gw_names.specs.Sights.{limits_in};
 use crate::declarations::declare_all;
 use crate::entities::{ByKind, Declarations, EntityNames};
 use crate::ledger::Ledger;
-use crate::names::Names;
 use crate::parameters::parameters_in;
 use crate::places::places_in;
 use crate::sights::{Sighted, see_sites};
-use gw_compile::{Callee, Equ};
-use gw_object::Entity;
 use gw_text::Statement;
 use gw_uses::uses_in;
 use indexmap::IndexMap;
@@ -112,33 +109,5 @@ pub fn known_names(
             Ok(known)
         }
         Err(error) => Err(error),
-    }
-}
-
-impl Known {
-    /// The numbers of all names, with the entities of the object, and the procedures of PROCEDUREs and EQUs.
-    pub fn into_names(
-        self,
-        list: Vec<Entity>,
-        procedures: IndexMap<String, Callee>,
-        equs: IndexMap<String, Equ>,
-    ) -> Names
-        ensures { result ≡ record {
-          entities = self.entities;
-          list = list;
-          blocks = self.blocks;
-          parameters = self.parameters;
-          procedures = procedures;
-          equs = equs;
-        } }
-    {
-        Names {
-            entities: self.entities,
-            list,
-            blocks: self.blocks,
-            parameters: self.parameters,
-            procedures,
-            equs,
-        }
     }
 }
