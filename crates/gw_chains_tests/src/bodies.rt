@@ -180,6 +180,28 @@ fn schedules_two(chain: &mut Fec) -> bool {
     is_empty && chain.len() == 2 && chain.first_time() == Some(4)
 }
 
+/// Whether the plain future events chain tells its members, once three are scheduled on it: how many, and the first time.
+fn tells_three(alloc: Global, mut chain: plain::Fec) -> bool {
+    let mut found = Vec::new(alloc);
+    make_calls(&mut chain, &EVENT_CALLS[..3], &mut found).is_ok()
+        && chain.len() == 3
+        && chain.iter().count() == 3
+        && chain.first_time() == Some(4)
+}
+
+/// Whether the plain current events chain tells that it is empty, and how many it has once four joined.
+fn tells_four(alloc: Global, mut chain: plain::Cec) -> bool {
+    let is_empty = chain.is_empty();
+    let mut found = Vec::new(alloc);
+    make_calls(&mut chain, &PRIORITY_CALLS[..4], &mut found).is_ok() && is_empty && chain.len() == 4
+}
+
+/// Whether the plain delay list tells how many it has once five joined.
+fn tells_five(alloc: Global, mut chain: plain::DelayList) -> bool {
+    let mut found = Vec::new(alloc);
+    make_calls(&mut chain, &DELAY_CALLS[..5], &mut found).is_ok() && chain.len() == 5
+}
+
 #[test]
 fn bodies_of_one_chain_answer_alike(rt: HostRuntime) {
     let alloc = rt.alloc();
@@ -201,6 +223,9 @@ fn bodies_of_one_chain_answer_alike(rt: HostRuntime) {
             &DELAY_ANSWERS,
         ),
         schedules_two(&mut Fec::new(alloc)),
+        tells_three(alloc, plain::Fec::new(alloc)),
+        tells_four(alloc, plain::Cec::new(alloc)),
+        tells_five(alloc, plain::DelayList::new(alloc)),
     ];
-    assert!(rt; holds == [true; 7]);
+    assert!(rt; holds == [true; 10]);
 }

@@ -72,7 +72,7 @@ fn put_waiters(waits: &mut Waits) -> Result<(), Memory>
     requires { 7 < length waits.old.lists }
     ensures { length waits.new.lists ≡ length waits.old.lists }
 {
-    waits.reserve_retry(1)?;
+    waits.reserve(1)?;
     waits.push_retry(tx(5), 2);
     wait(waits, 3, 1, 0)?;
     wait(waits, 3, 2, 5)?;
