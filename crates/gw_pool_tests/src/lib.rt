@@ -1,4 +1,5 @@
-//! Tests of the progress board and of shares: worked examples, and threads that publish and read side by side.
+//! Tests of jobs, of the job table, of shares and the progress board, and of workers: worked examples, and threads that publish
+//! and read side by side. What models do is in the cases (docs/cases.md).
 #![tactic(auto)]
 
 #[cfg(test)]

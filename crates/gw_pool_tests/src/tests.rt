@@ -7,5 +7,7 @@ mod meeting;
 mod ranges;
 mod services;
 mod shares;
+mod specs;
+mod standings;
 mod tables;
 mod users;

@@ -1,4 +1,4 @@
-//! The job of these tests, and passes for it.
+//! The jobs of these tests, and passes for them.
 
 use gw_jobs::Pass;
 use gw_object::Memory;
@@ -7,13 +7,27 @@ use gw_scan::Spec;
 use gw_verify::verify;
 use std::alloc::Global;
 
-/// The spec of an object that is spelled so, which is accepted: if there is none, memory is wanting.
-pub(super) fn spec_of(alloc: Global, bytes: &[u8]) -> Result<Spec, Memory> {
+/// More steps than any job makes here.
+const AMPLE: u64 = 1_000_000_000;
+
+/// The spec of an object that is spelled so, which is accepted, with these seeds and this termination count: if there is none,
+/// memory is wanting.
+pub(super) fn spec_by(
+    alloc: Global,
+    bytes: &[u8],
+    seeds: &[u32],
+    count: u64,
+) -> Result<Spec, Memory> {
     let object = read(alloc, bytes).ok().ok_or(Memory)?;
     let verified = verify(alloc, object).ok().ok_or(Memory)?;
-    Spec::new(alloc, verified, &[], 0, 1_000_000_000)
+    Spec::new(alloc, verified, seeds, count, AMPLE)
         .ok()
         .ok_or(Memory)
+}
+
+/// The same with the object's own seeds and termination count.
+pub(super) fn spec_of(alloc: Global, bytes: &[u8]) -> Result<Spec, Memory> {
+    spec_by(alloc, bytes, &[], 0)
 }
 
 /// A pass of this user for this slot and a job of that object.

@@ -58,6 +58,8 @@ pub(super) fn wrong_of_counts<R: Ledger, S: Ledger>(
         second == (7, 0),
         counts(share) == (21, 0),
         shared.audit(share) == (21, 0),
+        shared.steps() == 21,
+        shared.out() == 0,
     ])
 }
 

@@ -1,7 +1,8 @@
 //! What jobs are made of: seeds and termination counts that are given, and which specs are the same job.
 
-use super::jobs::*;
+use super::jobs::{spec_by, spec_of};
 use gw_num::Stream;
+use gw_object::Memory;
 use gw_scan::{Sim, Spec};
 use std::alloc::Global;
 use std::marker::{Send, Sync};
@@ -76,13 +77,13 @@ fn is_due(spec: &Spec, own: &Spec, making: &Making) -> bool {
 }
 
 /// Whether that is so of the spec that is made.
-fn is_made(alloc: Global, own: &Spec, making: &Making) -> Result<bool, Fail> {
+fn is_made(alloc: Global, own: &Spec, making: &Making) -> Result<bool, Memory> {
     let spec = spec_by(alloc, SEEDED, making.seeds, making.count)?;
     Ok(is_due(&spec, own, making))
 }
 
 /// The place, from 0, of the first of which it isn't.
-fn wrong_making(alloc: Global, own: &Spec) -> Result<Option<usize>, Fail> {
+fn wrong_making(alloc: Global, own: &Spec) -> Result<Option<usize>, Memory> {
     for i in 0..MAKINGS.len() {
         if !is_made(alloc, own, &MAKINGS[i])? {
             return Ok(Some(i));
@@ -97,8 +98,6 @@ fn given_seeds_and_count_go_before_the_objects_own(rt: HostRuntime) -> Result<()
     assert!(rt; wrong_making(rt.alloc(), &own)?.is_none());
     Ok(())
 }
-
-// THREADS
 
 /// What may be sent to another thread.
 fn may_be_sent<T: Send>() {}
