@@ -1,6 +1,6 @@
-//! Tests of the layers below the machine: numbers, fields, readers and writers, objects, kinds, flow, weights, the verifier and
-//! PLUS code, on values worked out by hand. What entities do, which values the expressions of a model have, and which code is
-//! accepted, is in the cases (docs/cases.md).
+//! Tests of what no run of a model shows of the layers below the machine: numbers, fields, readers and writers, what a block leads
+//! to, and what is known of a transaction behind it, on values worked out by hand. What objects, weights, the verifier, entities
+//! and PLUS code do is in the cases (docs/cases.md).
 #![tactic(auto)]
 
 #[cfg(test)]

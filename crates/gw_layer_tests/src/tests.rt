@@ -3,11 +3,5 @@
 mod fields;
 mod flow;
 mod kinds;
-mod models;
 mod numbers;
-mod objects;
-mod operands;
 mod streams;
-mod values;
-mod verified;
-mod weights;

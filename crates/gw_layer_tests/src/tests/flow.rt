@@ -6,12 +6,15 @@ ghost use Rattle.gw_flow.specs.Rows.{HasRoom};
 ghost use Rattle.gw_flow.specs.Seen.{known};
 ghost use Rattle.gw_kinds.specs.Kinds.{block_at};
 
-use crate::tests::models::*;
 use gw_flow::{AbsState, Amount, Edge, StateParts, Target, out_edges};
-use gw_object::{Items, Memory, Object};
+use gw_object::{Items, Object};
+use gw_object_bytes::read;
 use gw_samples::QUEUEING;
 use std::alloc::Global;
 use std::test::Fail;
+
+/// The facility of the object that `QUEUEING` spells, by its number.
+const FACILITY: u16 = 1;
 
 /// Whether there is a block of this number.
 fn is_block(object: &Object, number: u16) -> bool
@@ -50,7 +53,7 @@ fn is_seized(edges: &[Edge]) -> bool {
     let state = edge.state.parts();
     edge.target == Target::Block(4)
         && state.parameters.as_slice().is_empty()
-        && state.facilities.as_slice() == [F].as_slice()
+        && state.facilities.as_slice() == [FACILITY].as_slice()
         && state.units.as_slice().is_empty()
 }
 
@@ -75,7 +78,7 @@ fn adds_facility(alloc: Global, object: &Object) -> bool {
 
 #[test]
 fn a_seize_adds_its_facility(rt: HostRuntime) -> Result<(), Fail> {
-    let object = object_of(rt.alloc(), QUEUEING)?;
+    let object = read(rt.alloc(), QUEUEING).ok().ok_or("an object")?;
     assert!(rt; adds_facility(rt.alloc(), &object));
     Ok(())
 }

@@ -1,7 +1,7 @@
 //! Arithmetic and streams of random numbers: that the rules are those meant.
 
-use crate::tests::models::first_wrong;
 use gw_num::{NumFault, Stream, add, mul, neg, sub};
+use gw_samples::first_wrong;
 use std::test::Fail;
 
 const LEAST: i64 = i64::MIN;

@@ -1,6 +1,0 @@
-//! Statements of a text, worked out by hand.
-
-mod becoming;
-mod code;
-mod names;
-mod statements;
