@@ -2,7 +2,7 @@
 use Rattle.std.specs.Prelude.{◌≡◌, ℕ, List, Some, Ok, Err}
 use Rattle.gw_object.specs.declared.parts.Parts.{Parts}
 use Rattle.gw_object.specs.Reading.{first_fault}
-use Rattle.gw_verify.specs.Checks.{Accepted, fault_of}
+use Rattle.gw_rules.specs.Accepted.{Accepted, fault_of}
 use Rattle.damage.specs.declared.outcome.Outcome.{Outcome}
 use Rattle.damage.specs.declared.outcome.Outcome.TheVariants.{Unreadable, Refused, Accepted as IsAccepted}
 

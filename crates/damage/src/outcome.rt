@@ -6,8 +6,9 @@ ghost use Rattle.damage.specs.Outcome.{IsVerdict, IsOutcome};
 use gw_object::{Fault, Memory, Object, codes};
 use gw_object_bytes::{read, write};
 use gw_report::report;
+use gw_rules::Verified;
 use gw_scan::{Sim, Spec, StartFault, Status};
-use gw_verify::{Verified, verify};
+use gw_verify::verify;
 use std::alloc::Global;
 
 /// At most how many steps an object that is accepted makes here.

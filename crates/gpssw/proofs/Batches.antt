@@ -3,7 +3,7 @@ use Rattle.std.proofs.Common.{◌≡◌, ◌≢◌, ℕ, List, ◌++◌, map, Op
 use Rattle.std.specs.Io.KnownBytes.{Consumes, Keeps}
 use Rattle.std.proofs.KnownBytes.{Keeps-refl}
 use Rattle.gw_object.specs.declared.fault.Fault.{Fault}
-use Rattle.gw_verdicts.specs.Refusal.{refusal_line}
+use Rattle.gw_answers.specs.Refusal.{refusal_line}
 use Rattle.gw_answers.specs.Status.{refused}
 use Rattle.gw_batch.specs.Codes.{words_fault}
 use Rattle.gw_batch.specs.declared.entry.Entry.{Entry as StoredEntry}

@@ -10,7 +10,7 @@ use Rattle.byteorder.specs.Numbers.{big_from-append}
 use Rattle.gw_object.specs.declared.fault.Fault.{Fault}
 use Rattle.gw_object.specs.declared.limits.TheConstants.{MOST_BYTES}
 use Rattle.gw_object.specs.Codes.{truncated, limit}
-use Rattle.gw_batch.specs.Codes.{nowhere, service_full}
+use Rattle.gw_answers.specs.Service.{nowhere, service_full}
 use Rattle.gw_batch.specs.declared.entry.Entry.{Entry as StoredEntry}
 use Rattle.gw_batch.specs.declared.entry.Entry.TheVariants as stored
 use Rattle.gw_batch.specs.Batch.{Entry, Object, Broken, Front, front, entry_of, sized, behind_length, first_entry, surplus, next_entry, with_next, past, entries, unread, most_objects}

@@ -2,7 +2,7 @@
 use Rattle.std.proofs.Common.{◌≡◌, ◌⊎◌, ℕ, List, Option, Some, None, Bool, true, false, Result, Ok, Err, MatchResult, MatchOption, inl, inr}
 use Rattle.gw_object.specs.declared.fault.Fault.{Fault}
 use Rattle.gw_answers.specs.Status.{ended, refused}
-use Rattle.gw_verdicts.specs.Refusal.{refusal_line}
+use Rattle.gw_answers.specs.Refusal.{refusal_line}
 use Rattle.gw_batch.specs.Codes.{words_fault}
 use Rattle.gw_batch.specs.Batch.{Entry, entries, most_objects}
 use Rattle.gw_batch.specs.Parts.{status_if, IsBatchTold, IsPool}

@@ -2,7 +2,8 @@
 use Rattle.std.specs.Prelude.{◌≡◌, ℕ, ◌+◌, ◌*◌, List, [], ◌∷◌, ◌++◌, length, map, Option, Some, None, IfSome, MatchOption, Bool, if◌then◌else◌}
 use Rattle.std.specs.Io.KnownBytes.{Consumes, Keeps}
 use Rattle.gw_object.specs.declared.limits.TheConstants.{MOST_BYTES}
-use Rattle.gw_batch.specs.Codes.{words_fault, nowhere, service_full}
+use Rattle.gw_batch.specs.Codes.{words_fault}
+use Rattle.gw_answers.specs.Service.{nowhere, service_full}
 use Rattle.gw_batch.specs.declared.entry.Entry.{Entry as StoredEntry}
 use Rattle.gw_batch.specs.declared.entry.Entry.TheVariants as stored
 use Rattle.gw_batch.specs.Batch.{Entry, Object, Broken, Front, front, entry_of, first_entry, entries, unread, most_objects}

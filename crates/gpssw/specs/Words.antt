@@ -1,7 +1,7 @@
 -- The words of the command line.
 use Rattle.std.specs.Prelude.{ℕ, ◌^◌, List, [], ◌∷◌, codes, Option, Some, None, if◌then◌else◌}
 use Rattle.std.specs.Str.{bytes_eq}
-use Rattle.gw_numerals.specs.Numerals.{number_below}
+use Rattle.gw_num.specs.Numerals.{number_below}
 use Rattle.gpssw.specs.declared.words.Command.{Command}
 use Rattle.gpssw.specs.declared.words.Command.TheVariants.{Single, Pool}
 use Rattle.gw_answers.specs.declared.request.Request.TheVariants.{Run, Check, Asm}

@@ -1,7 +1,7 @@
 //! Reading a batch: objects, each behind its length.
 
 ghost use Rattle.std.specs.Prelude.{◌≡◌, ◌≤◌, ◌<◌, ◌+◌, ◌⊎◌, ◌++◌, ◌∷◌, [], Some, length, IfOk, IfErr, false};
-ghost use Rattle.gw_batch.specs.Codes.{nowhere};
+ghost use Rattle.gw_answers.specs.Service.{nowhere};
 ghost use Rattle.gw_batch.specs.Batch.{sized, first_entry, surplus};
 ghost use Rattle.gw_console.specs.Calls.{LosesAtMost, TellsReads};
 ghost use Rattle.gpssw.specs.Framing.{surplus_entry, GivesEntry, GivesBatch, most_bytes_of_batch};

@@ -3,11 +3,11 @@
 ghost use Rattle.std.specs.Prelude.{◌≡◌, ◌^◌, map};
 ghost use Rattle.std.specs.String.{string_bytes};
 ghost use Rattle.gpssw.specs.Words as words;
-ghost use Rattle.gw_numerals.specs.Numerals.{number_below};
+ghost use Rattle.gw_num.specs.Numerals.{number_below};
 ghost use Rattle.gpssw.specs.Words.{run_of, pool_of, command_named as named_by, command_in};
 
 use gw_answers::Request;
-use gw_numerals::{count_in, number_in};
+use gw_num::{count_in, number_in};
 
 /// A command of the program.
 #[derive(Clone, Copy, Debug, PartialEq, Eq)]

@@ -1,6 +1,6 @@
 -- Each job of a checked object comes to a named end, and so to a report.
 use Rattle.std.proofs.Common.{◌<◌, ℕ, List, refl}
-use Rattle.gw_verify.specs.Checks.{Checked}
+use Rattle.gw_rules.specs.Accepted.{Checked}
 use Rattle.gw_step.specs.Job.{Job}
 use Rattle.gw_step.proofs.Safe.{all_jobs_end}
 use Rattle.gw_report.specs.Report.{report_of}

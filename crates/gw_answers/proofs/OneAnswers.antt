@@ -5,8 +5,9 @@ use Rattle.gw_step.specs.State.{State}
 use Rattle.gw_step.specs.Job.{Job, Progress, start_of}
 use Rattle.gw_report.specs.Report.{report_of}
 use Rattle.gw_answers.specs.Status.{refused}
-use Rattle.gw_verdicts.specs.Refusal.{refusal_line}
-use Rattle.gw_answers.specs.Answer.{Ends, Concludes, job_of}
+use Rattle.gw_answers.specs.Refusal.{refusal_line}
+use Rattle.gw_answers.specs.Answer.{Concludes, job_of}
+use Rattle.gw_report.specs.Report.{Ends}
 use Rattle.gw_answers.specs.Laws.{OneAnswer}
 use Rattle.gw_answers.proofs.Endings.{one_ending, final_has_no_step}
 

@@ -4,12 +4,12 @@ use Rattle.std.specs.Option.{option_map}
 use Rattle.gw_object.specs.declared.fault.Fault.{Fault}
 use Rattle.gw_object.specs.declared.parts.Parts.{Parts}
 use Rattle.gw_object.specs.Reading.{first_fault}
-use Rattle.gw_verify.specs.Checks.{Checked, fault_of}
-use Rattle.gw_verify.proofs.AllPass.{is_checked}
+use Rattle.gw_rules.specs.Accepted.{Checked, fault_of}
+use Rattle.gw_rules.proofs.AllPass.{is_checked}
 use Rattle.gw_scan.specs.Making.{spec_fault, job_from}
 use Rattle.gw_step.specs.Job.{Job}
 use Rattle.gw_answers.specs.Status.{refused, run_budget}
-use Rattle.gw_verdicts.specs.Refusal.{refusal_line, start_refusal}
+use Rattle.gw_answers.specs.Refusal.{refusal_line, start_refusal}
 use Rattle.gw_answers.specs.Answer.{◌>>=◌, Concludes, job_of, unless, verified, job_made, seeds_given}
 use Rattle.gw_answers.specs.Laws.{SomeAnswer}
 use Rattle.gw_answers.proofs.Conclusions.{job_concludes}

@@ -1,18 +1,16 @@
 -- What checking and running an object come to: a text and a status.
 use Rattle.std.specs.Prelude.{◌≡◌, ℕ, List, [], ◌∷◌, ◌++◌, length, codes, Option, Some, None, Result, Ok, Err, MatchResult, ◌==◌, if◌then◌else◌}
-use Rattle.std.specs.Fmt.{decimal}
 use Rattle.std.specs.Option.{option_map}
 use Rattle.gw_object.specs.declared.fault.Fault.{Fault}
 use Rattle.gw_object.specs.declared.parts.Parts.{Parts}
 use Rattle.gw_object.specs.Reading.{first_fault}
-use Rattle.gw_verify.specs.Checks.{fault_of, heaviest}
-use Rattle.gw_step.specs.State.{State}
-use Rattle.gw_step.specs.Job.{Job, Alone, IsFinal}
+use Rattle.gw_rules.specs.Accepted.{fault_of, heaviest}
+use Rattle.gw_step.specs.Job.{Job}
 use Rattle.gw_scan.specs.Making.{spec_fault, job_from}
-use Rattle.gw_report.specs.Report.{report_of}
+use Rattle.gw_report.specs.Report.{Ends}
 use Rattle.gw_answers.specs.Status.{ended, refused, run_budget}
-use Rattle.gw_verdicts.specs.Acceptance.{accepted_text}
-use Rattle.gw_verdicts.specs.Refusal.{refusal_line, start_refusal}
+use Rattle.gw_answers.specs.Acceptance.{accepted_text}
+use Rattle.gw_answers.specs.Refusal.{refusal_line, start_refusal}
 
 -- the seed list that a seed stands for: 0 means the object's own
 abbrev pub seeds_given : ℕ → List ℕ
@@ -40,14 +38,6 @@ job_made seed count parts =
 -- the job of the object that these bytes spell; or the refusal of the first that refuses: reading, verifying, making a job
 unfoldable pub job_of : ℕ → ℕ → List ℕ → Result Job Fault
 job_of seed count bytes = first_fault bytes >>= verified >>= job_made seed count
-
--- the report of the final state that the lone run reaches
-pub record Ends (j : Job) (text : List ℕ) : Type 0 where
-  pub steps : ℕ
-  pub state : State
-  pub alone : Alone j steps state
-  pub final : IsFinal state
-  pub report : text ≡ report_of (record { job = j; state = state })
 
 -- the text and the status of a job
 abbrev pub Concludes : Job → List ℕ → ℕ → Type 0

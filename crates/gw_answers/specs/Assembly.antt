@@ -4,14 +4,14 @@ use Rattle.gw_object.specs.declared.fault.Fault.{Fault}
 use Rattle.gw_object.specs.declared.fault.Place.TheVariants.{Line}
 use Rattle.gw_object.specs.declared.parts.Parts.{Parts}
 use Rattle.gw_object.specs.Grammar.{spelling}
-use Rattle.gw_verify.specs.Checks.{Accepted}
+use Rattle.gw_rules.specs.Accepted.{Accepted}
 use Rattle.gw_text_tokens.specs.Codes.{length_fault}
 use Rattle.std.specs.Str.Lines.{lines as lines_of_text}
 use Rattle.gw_text.specs.Reading.{StandOn, IsRefusedAt}
 use Rattle.gw_text.specs.declared.model.Statement.{Statement}
 use Rattle.gw_assemble.specs.Assembly.{Assembles, IsRefusal}
 use Rattle.gw_answers.specs.Status.{ended, refused}
-use Rattle.gw_verdicts.specs.Refusal.{refusal_line}
+use Rattle.gw_answers.specs.Refusal.{refusal_line}
 
 -- statements that a text of these bytes has
 pub record HasStatements (bytes : List ℕ) (statements : List Statement) : Type 0 where

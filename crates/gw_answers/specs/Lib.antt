@@ -7,3 +7,6 @@ pub mod Assembly
 pub mod Finding
 -- LAWS
 pub mod Laws
+pub mod Acceptance
+pub mod Refusal
+pub mod Service

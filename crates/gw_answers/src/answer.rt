@@ -4,7 +4,7 @@ ghost use Rattle.std.specs.Prelude.{◌≡◌, OnOk, IfOk, Some};
 ghost use Rattle.gw_step.specs.Job.{Alone, IsFinal};
 ghost use Rattle.gw_object.specs.Grammar.{spelling};
 ghost use Rattle.gw_answers.specs.Status.{ended as ended_status, refused as refused_status};
-ghost use Rattle.gw_verdicts.specs.Refusal.{refusal_line};
+ghost use Rattle.gw_answers.specs.Refusal.{refusal_line};
 ghost use Rattle.gw_object.specs.Reading.{first_fault};
 ghost use Rattle.gw_answers.specs.Answer.{verified, job_made, job_of, object_of, accepted_line, Concludes, IsAnswer, IsCheck};
 ghost use Rattle.gw_answers.specs.Assembly.{IsAssembly, IsWorkOf};
@@ -13,14 +13,15 @@ ghost use Rattle.gw_answers.specs.Finding.{FindsJob};
 
 use crate::request::Request;
 use crate::status::{ENDED, REFUSED};
+use crate::{Acceptance, Refusal};
 use gw_assemble::assemble;
 use gw_object::{Fault, Memory, Object, codes};
 use gw_object_bytes::{read, write};
 use gw_report::report;
+use gw_rules::Verified;
 use gw_scan::{Sim, Spec, StartFault};
 use gw_text::{Model, parse};
-use gw_verdicts::{Acceptance, Refusal};
-use gw_verify::{Verified, verify};
+use gw_verify::verify;
 use std::alloc::Global;
 
 /// At most how many steps a run makes.

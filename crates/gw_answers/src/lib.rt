@@ -1,14 +1,24 @@
-//! What the program has to say of one input: from the bytes of a model text or of an object to a text and a status
-//! (docs/program.md). It reads and writes nothing.
+//! What the program has to say of one input: from the bytes of a model text or of an object to a text and a status; and
+//! verdicts in words, the text of a refusal with the name of its code, and that of an accepted object (docs/program.md). It
+//! reads and writes nothing.
 #![tactic(auto)]
 
+mod acceptance;
 mod answer;
+pub mod codes;
 mod laws;
+mod names;
+mod refusal;
 mod request;
+mod service;
 pub mod status;
 
+pub use acceptance::Acceptance;
 pub use answer::{
     Answer, BUDGET, NoJob, accepted, accepted_in, answer_to, refused, run_to_end, spec_of,
 };
 pub use laws::answers_are_determined;
+pub use names::NAMES;
+pub use refusal::Refusal;
 pub use request::Request;
+pub use service::{refusal_of_job, without_place};

@@ -4,8 +4,8 @@ use Rattle.gw_object.specs.declared.parts.Parts.{Parts}
 use Rattle.gw_object.specs.declared.parts.ReturnRow.{ReturnRow}
 use Rattle.gw_object.specs.declared.parts.TableState.{TableState}
 use Rattle.gw_object.specs.Grammar.{HasSpelling}
-use Rattle.gw_verify.specs.Checks.{Accepted}
-use Rattle.gw_verify.proofs.AllPass.{is_checked, kinds_pass, plus_passes}
+use Rattle.gw_rules.specs.Accepted.{Accepted}
+use Rattle.gw_rules.proofs.AllPass.{is_checked, kinds_pass, plus_passes}
 use Rattle.gw_settle.specs.Settles.{with_table}
 use Rattle.gw_text.specs.declared.model.Statement.{Statement}
 use Rattle.gw_pieces.specs.Pieces.{IsMadeOf}

@@ -4,12 +4,12 @@ use Rattle.gw_object.specs.declared.fault.Fault.{Fault}
 use Rattle.gw_object.specs.declared.parts.Parts.{Parts}
 use Rattle.gw_object.specs.Grammar.{HasSpelling}
 use Rattle.gw_object.specs.Reading.{out_of_memory}
-use Rattle.gw_kinds.specs.Checks.{first_broken}
-use Rattle.gw_kinds.specs.Pass.{KindsPass}
-use Rattle.gw_code_flow.specs.PlusChecks.{PlusPasses}
+use Rattle.gw_rules.specs.Checks.{first_broken}
+use Rattle.gw_rules.specs.Pass.{KindsPass}
+use Rattle.gw_rules.specs.PlusChecks.{PlusPasses}
 use Rattle.gw_settle.specs.Settles.{Passes, HasAssemblersTable, past_limit, IsRefused, IsComplete}
-use Rattle.gw_weighing.specs.Raising.{DifferInWeights}
-use Rattle.gw_verify.specs.Checks.{first_checks, fault_of, Accepted}
+use Rattle.gw_assemble.specs.Raising.{DifferInWeights}
+use Rattle.gw_rules.specs.Accepted.{first_checks, fault_of, Accepted}
 
 -- an object has a spelling, and the verifier accepts it
 pub record IsAccepted (p : Parts) : Type 0 where

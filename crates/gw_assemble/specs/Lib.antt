@@ -1,2 +1,4 @@
 pub mod Completion
 pub mod Assembly
+pub mod Counts
+pub mod Raising

@@ -7,8 +7,8 @@ ghost use Rattle.gw_assemble.specs.Completion.{IsAccepted};
 use crate::finishing::finish;
 use gw_object::Fault;
 use gw_pieces::parts_of;
+use gw_rules::Verified;
 use gw_text::Model;
-use gw_verify::Verified;
 use std::alloc::Global;
 
 /// The object that a model text becomes, accepted by the verifier: it has one block for each block statement, in order, each

@@ -3,20 +3,21 @@
 ghost use Rattle.std.specs.Prelude.{◌≡◌, ◌⊎◌, IfOk, IfErr, Some};
 ghost use Rattle.gw_object.specs.Grammar.{HasSpelling};
 ghost use Rattle.gw_object.specs.Reading.{out_of_memory};
-ghost use Rattle.gw_kinds.specs.Pass.{KindsPass};
-ghost use Rattle.gw_code_flow.specs.PlusChecks.{PlusPasses};
+ghost use Rattle.gw_rules.specs.Pass.{KindsPass};
+ghost use Rattle.gw_rules.specs.PlusChecks.{PlusPasses};
 ghost use Rattle.gw_settle.specs.Settles.{Passes, HasAssemblersTable};
 ghost use Rattle.gw_object.specs.declared.parts.Parts.{Parts};
-ghost use Rattle.gw_verify.specs.Checks.{fault_of};
-ghost use Rattle.gw_weighing.specs.Raising.{DifferInWeights};
+ghost use Rattle.gw_rules.specs.Accepted.{fault_of};
+ghost use Rattle.gw_assemble.specs.Raising.{DifferInWeights};
 ghost use Rattle.gw_assemble.specs.Completion.{IsAccepted, IsCompletion, HasNoCompletion};
 
+use crate::weigh;
 use gw_object::codes::MEMORY;
 use gw_object::{Fault, Object, Parts, Place};
 use gw_object_bytes::build;
+use gw_rules::Verified;
 use gw_settle::settle;
-use gw_verify::{Verified, check_first, verify};
-use gw_weighing::weigh;
+use gw_verify::{check_first, verify};
 use std::alloc::Global;
 
 /// What the assembler makes passes a limit of the object format.

@@ -5,11 +5,11 @@ use Rattle.gw_object.specs.Codes.{memory}
 use Rattle.gw_step.specs.Job.{Job}
 use Rattle.gw_service.specs.declared.faults.JobFault.{JobFault}
 use Rattle.gw_service.specs.declared.faults.JobFault.TheVariants.{Memory}
-use Rattle.gw_verdicts.specs.Refusal.{refusal_line}
+use Rattle.gw_answers.specs.Refusal.{refusal_line}
 use Rattle.gw_answers.specs.Answer.{job_of}
 use Rattle.gw_batch.specs.declared.ticket.Ticket.{Ticket}
 use Rattle.gw_batch.specs.declared.ticket.Ticket.TheVariants.{Submitted, Refused}
-use Rattle.gw_batch.specs.Codes.{nowhere, job_refusal}
+use Rattle.gw_answers.specs.Service.{nowhere, job_refusal}
 use Rattle.gw_batch.specs.Batch.{Entry, Object, Broken}
 use Rattle.gw_batch.specs.Parts.{IsJobTold, IsRefusalTold, IsTold, AreParts}
 use Rattle.gw_batch.specs.Tickets.{IsRefused, IsTicket, IsTicketFor, AreTickets, TellsTicket, AreTicketParts}

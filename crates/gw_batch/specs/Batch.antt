@@ -2,10 +2,9 @@
 use Rattle.std.specs.Prelude.{ℕ, zero, suc, ◌==◌, nat_lt, List, [], ◌∷◌, length, take, drop, Option, Some, None, Bool, true, false, if◌then◌else◌}
 use Rattle.byteorder.specs.Endian.{big_number}
 use Rattle.gw_object.specs.declared.fault.Fault.{Fault}
-use Rattle.gw_object.specs.declared.fault.Place.TheVariants.{Nowhere}
 use Rattle.gw_object.specs.declared.limits.TheConstants.{MOST_BYTES}
 use Rattle.gw_object.specs.Codes.{truncated, limit}
-use Rattle.gw_batch.specs.Codes.{service_full, nowhere}
+use Rattle.gw_answers.specs.Service.{service_full, nowhere}
 use Rattle.gw_batch.specs.declared.entry.Entry.{Entry as StoredEntry}
 use Rattle.gw_batch.specs.declared.entry.Entry.TheVariants as stored
 

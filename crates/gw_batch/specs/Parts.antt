@@ -5,10 +5,12 @@ use Rattle.gw_object.specs.declared.fault.Fault.{Fault}
 use Rattle.gw_object.specs.Codes.{memory}
 use Rattle.gw_step.specs.Job.{Job}
 use Rattle.gw_service.specs.declared.faults.JobFault.{JobFault}
-use Rattle.gw_verdicts.specs.Refusal.{refusal_line}
+use Rattle.gw_answers.specs.Refusal.{refusal_line}
 use Rattle.gw_answers.specs.Status.{ended, refused as refused_status}
-use Rattle.gw_answers.specs.Answer.{job_of, Ends}
-use Rattle.gw_batch.specs.Codes.{nowhere, words_fault, job_refusal}
+use Rattle.gw_answers.specs.Answer.{job_of}
+use Rattle.gw_report.specs.Report.{Ends}
+use Rattle.gw_batch.specs.Codes.{words_fault}
+use Rattle.gw_answers.specs.Service.{nowhere, job_refusal}
 use Rattle.gw_batch.specs.Batch.{Entry, Object, Broken, entries, most_objects}
 
 -- THE PARTS

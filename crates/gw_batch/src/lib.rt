@@ -11,6 +11,5 @@ mod ticket;
 
 pub use answer::answer_batch;
 pub use entry::{Entry, LENGTH_BYTES, MOST_OBJECTS};
-pub use gw_verdicts::codes::SERVICE_FULL;
-pub use refusals::{refusal_of_job, refusal_of_words};
-pub use telling::reply_to;
+pub use gw_answers::codes::SERVICE_FULL;
+pub use refusals::refusal_of_words;

@@ -5,13 +5,12 @@ ghost use Rattle.gw_batch.specs.Batch.{entry_of, Object};
 ghost use Rattle.gw_batch.specs.Tickets.{user_of, IsTicket, IsTicketFor, AreTickets};
 
 use crate::entry::Entry;
-use crate::refusals::{refusal_of_job, want_of_memory};
+use crate::refusals::want_of_memory;
 use crate::ticket::Ticket;
-use gw_answers::{NoJob, spec_of};
+use gw_answers::{NoJob, Refusal, refusal_of_job, spec_of};
 use gw_object::Memory;
 use gw_pool::Shared;
 use gw_scan::Spec;
-use gw_verdicts::Refusal;
 use std::alloc::Global;
 use std::collections::VecDeque;
 use std::sync::ledger::Ledger;

@@ -1,18 +1,14 @@
 //! What is told of the jobs of a batch.
 
 ghost use Rattle.std.specs.Prelude.{◌≡◌, ◌++◌, ◌||◌, true, IfOk};
-ghost use Rattle.gw_verdicts.specs.Refusal.{refusal_line};
-ghost use Rattle.gw_answers.specs.Answer.{Ends};
+ghost use Rattle.gw_answers.specs.Refusal.{refusal_line};
 ghost use Rattle.gw_batch.specs.Parts.{job_line};
 ghost use Rattle.gw_batch.specs.Tickets.{TellsTicket, AreTicketParts};
 
-use crate::refusals::refusal_of_job;
 use crate::ticket::Ticket;
-use gw_answers::refused;
-use gw_jobs::{JobFault, Pass, Reply};
+use gw_answers::{Refusal, refusal_of_job, refused};
 use gw_object::Memory;
-use gw_pool::Shared;
-use gw_verdicts::Refusal;
+use gw_pool::{Shared, reply_to};
 use std::alloc::Global;
 use std::collections::VecDeque;
 use std::sync::ledger::Ledger;
@@ -25,18 +21,6 @@ pub struct Told {
     pub text: Vec<u8>,
     /// Whether something is refused.
     pub refused: bool,
-}
-
-/// The reply to a pass, whose report is that of the final state of the job's lone run.
-pub fn reply_to<R: Ledger, S: Ledger, W: Wait>(
-    rt: &W,
-    alloc: Global,
-    table: &Mutex<Shared<R, S>>,
-    pass: &Pass,
-) -> Result<Reply, JobFault>
-    ensures { IfOk result (λ reply. Ends pass.now.job reply.report.items) }
-{
-    table.lock(rt).collect(alloc, pass)
 }
 
 /// The line of a refusal.

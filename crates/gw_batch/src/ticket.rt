@@ -1,7 +1,7 @@
 //! What became of an entry.
 
+use gw_answers::Refusal;
 use gw_jobs::Pass;
-use gw_verdicts::Refusal;
 
 /// What became of an entry of a batch.
 #[derive(Drop)]

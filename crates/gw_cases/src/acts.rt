@@ -6,9 +6,9 @@ use crate::objects::{Kind, Source, assembled, model_of, object_of, verified_of};
 use crate::rows::{put_number, put_row_at, put_weights};
 use crate::stop::Stop;
 use crate::words::{number, number_u32, place};
+use gw_answers::{Acceptance, Refusal};
 use gw_object_bytes::write;
 use gw_scan::Sim;
-use gw_verdicts::{Acceptance, Refusal};
 use std::alloc::{AllocError, Global};
 
 /// More steps than any job makes.

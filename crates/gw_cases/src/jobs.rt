@@ -3,10 +3,10 @@
 use crate::objects::{Source, verified_of};
 use crate::rows::put_number;
 use crate::stop::Stop;
+use gw_answers::Refusal;
 use gw_report::report;
+use gw_rules::Verified;
 use gw_scan::{Sim, Spec, StartFault, Status};
-use gw_verdicts::Refusal;
-use gw_verify::Verified;
 use std::alloc::{AllocError, Global};
 
 /// How a job is made of a case's object.

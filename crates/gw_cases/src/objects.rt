@@ -6,8 +6,9 @@ use crate::words::words_of;
 use gw_assemble::assemble;
 use gw_object::{Object, Parts};
 use gw_object_bytes::{build, read, write};
+use gw_rules::Verified;
 use gw_text::{Model, parse};
-use gw_verify::{Verified, verify};
+use gw_verify::verify;
 use std::alloc::Global;
 
 /// What the source of a case is.

@@ -4,10 +4,10 @@ use Rattle.std.proofs.lemmas.List.{drop_all}
 use Rattle.gw_code.specs.declared.parts.Procedure.{Procedure}
 use Rattle.gw_object.specs.declared.fault.Fault.{Fault}
 use Rattle.gw_object.specs.declared.parts.Parts.{Parts}
-use Rattle.gw_kinds.specs.Checks.{first_broken}
-use Rattle.gw_kinds.proofs.Broken.{first, first_broken-append}
+use Rattle.gw_rules.specs.Checks.{first_broken}
+use Rattle.gw_rules.proofs.Broken.{first, first_broken-append}
 use Rattle.gw_operands.specs.Code.{cost_of_code}
-use Rattle.gw_code_flow.specs.PlusChecks.{procedure_checks, checks_from}
+use Rattle.gw_rules.specs.PlusChecks.{procedure_checks, checks_from}
 
 module _ (p : Parts) (costs : List ℕ) (prs : List Procedure) (n : ℕ) (pr : Procedure) (within : n < length prs) (here : pr ≡ get_or prs n pr) where
   -- the first fault of the procedures from number n on

@@ -6,8 +6,8 @@ use Rattle.gw_code.specs.declared.parts.Instruction.{Instruction}
 use Rattle.gw_code.specs.declared.parts.Procedure.{Procedure}
 use Rattle.gw_object.specs.declared.parts.Parts.{Parts}
 use Rattle.gw_operands.specs.Code.{targets}
-use Rattle.gw_code_flow.specs.PlusChecks.{Heights, agrees, known_height, height_after, spread, instruction_checks, code_checks}
-use Rattle.gw_code_flow.proofs.Rules.{all_agree}
+use Rattle.gw_rules.specs.PlusChecks.{Heights, agrees, known_height, height_after, spread, instruction_checks, code_checks}
+use Rattle.gw_rules.proofs.PlusRules.{all_agree}
 
 -- at each instruction the same is known
 abbrev pub Alike : Heights → Heights → Type 0

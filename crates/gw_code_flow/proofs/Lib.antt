@@ -1,10 +1,2 @@
 pub mod EachProcedure
 pub mod KnownHeights
-pub mod OneHeight
-pub mod Outcomes
-pub mod Potential
-pub mod Reading
-pub mod Rules
-pub mod Steps
-pub mod Theorems
-pub mod Within

@@ -3,20 +3,21 @@
 ghost use Rattle.std.specs.Prelude.{◌≡◌, ◌<◌, ◌≤◌, length, All, Some, None, [], ◌∷◌, IfOk, OnOk};
 ghost use Rattle.gw_num.specs.Table.{at};
 ghost use Rattle.gw_code.specs.Grammar.{ProcedureFits};
-ghost use Rattle.gw_kinds.specs.Checks.{Finds};
+ghost use Rattle.gw_rules.specs.Checks.{Finds};
 ghost use Rattle.gw_operands.specs.Code.{most_values, cost_of_code};
-ghost use Rattle.gw_code_flow.specs.PlusChecks as model;
-ghost use Rattle.gw_code_flow.specs.PlusChecks.{procedure_checks, cost_of};
+ghost use Rattle.gw_rules.specs.PlusChecks as model;
+ghost use Rattle.gw_code_flow.specs.AtInstruction as at_instruction;
+ghost use Rattle.gw_rules.specs.PlusChecks.{procedure_checks, cost_of};
 
-use crate::codes::*;
 use crate::costs::cost_of_code;
 use crate::heights::{Heights, fits_ahead, height_at, mark_ahead};
 use crate::instructions::{called_in, calls_lower, finds_values, height_after, leads_well};
 use crate::parameters::asks_for_needs;
 use arrayvec::ArrayVec;
 use gw_code::{Instruction, MOST_INSTRUCTIONS, Procedure};
-use gw_kinds::check;
 use gw_object::{Fault, MOST_PROCEDURES, Object, Parts, Place};
+use gw_rules::check;
+use gw_rules::plus_codes::*;
 
 /// An instruction of a procedure of an object, at its position.
 #[derive(Clone, Copy)]
@@ -35,8 +36,8 @@ pub(crate) struct InstructionAt<'a> {
 
 /// The first fault of an instruction with this height before it, if there is one; else the height after it.
 fn check_at_height(here: InstructionAt<'_>, heights: &Heights, height: u8) -> Result<u16, Fault>
-    ensures checks { Finds result (model.checks_with here.entry heights.now (Some height)) }
-    ensures after { IfOk result (λ after. after ≡ model.height_behind here.entry height) }
+    ensures checks { Finds result (at_instruction.checks_with here.entry heights.now (Some height)) }
+    ensures after { IfOk result (λ after. after ≡ at_instruction.height_behind here.entry height) }
     ensures room { IfOk result (λ after. after ≤ most_values) }
 {
     let InstructionAt {
@@ -68,8 +69,8 @@ fn check_at_height(here: InstructionAt<'_>, heights: &Heights, height: u8) -> Re
 fn check_instruction(here: InstructionAt<'_>, heights: &mut Heights) -> Result<(), Fault>
     requires place { here.position < length here.procedure.now.code }
     requires limit { length here.procedure.now.code ≤ 4096 }
-    ensures checks { Finds result (model.checks_at here.entry heights.old) }
-    ensures heights { OnOk result (heights.new ≡ model.heights_behind here.entry heights.old) }
+    ensures checks { Finds result (at_instruction.checks_at here.entry heights.old) }
+    ensures heights { OnOk result (heights.new ≡ at_instruction.heights_behind here.entry heights.old) }
 {
     match height_at(heights, here.position as usize) {
         Some(height) => {

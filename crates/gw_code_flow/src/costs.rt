@@ -3,7 +3,7 @@
 ghost use Rattle.std.specs.Prelude.{◌≡◌, ◌<◌, ◌≤◌, ◌+◌, ◌*◌, ◌^◌, length, drop, IfSome, IfNone};
 ghost use Rattle.gw_num.specs.Table.{at};
 ghost use Rattle.gw_operands.specs.Code as model;
-ghost use Rattle.gw_code_flow.specs.PlusChecks.{IsTooCostly, MayCost};
+ghost use Rattle.gw_rules.specs.PlusChecks.{IsTooCostly, MayCost};
 
 use crate::instructions::called_in;
 use gw_code::Instruction;

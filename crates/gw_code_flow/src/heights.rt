@@ -3,7 +3,7 @@
 ghost use Rattle.std.specs.Prelude.{◌≡◌, ◌<◌, ◌≤◌, length, Some, None, true};
 ghost use Rattle.gw_num.specs.Table.{at, put};
 ghost use Rattle.gw_operands.specs.Code.{leads_well, targets};
-ghost use Rattle.gw_code_flow.specs.PlusChecks as model;
+ghost use Rattle.gw_rules.specs.PlusChecks as model;
 
 use gw_code::{Instruction, MOST_INSTRUCTIONS};
 

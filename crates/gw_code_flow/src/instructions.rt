@@ -4,7 +4,7 @@ ghost use Rattle.std.specs.Prelude.{◌≡◌, ◌≤◌, nat_le};
 ghost use Rattle.std.specs.Option.{option_copied};
 ghost use Rattle.gw_operands.specs.Sources.{procedure_named};
 ghost use Rattle.gw_operands.specs.Code as model;
-ghost use Rattle.gw_code_flow.specs.PlusChecks.{height_after};
+ghost use Rattle.gw_rules.specs.PlusChecks.{height_after};
 
 use gw_blocks::Operand;
 use gw_code::{Instruction, Procedure};

@@ -7,23 +7,23 @@ use Rattle.gw_num.specs.Table.{at}
 use Rattle.gw_code.specs.declared.parts.Sna.{Sna}
 use Rattle.gw_code.specs.declared.parts.Instruction.TheVariants.{Value}
 use Rattle.gw_operands.specs.Sources.{source_of, as_operand}
-use Rattle.gw_code_flow.proofs.Reading.{MayRead, may_read}
+use Rattle.gw_rules.proofs.PlusReading.{MayRead, may_read}
 use Rattle.gw_code.specs.declared.parts.Instruction.{Instruction}
 use Rattle.gw_code.specs.declared.parts.Procedure.{Procedure}
 use Rattle.gw_object.specs.declared.parts.Parts.{Parts}
 use Rattle.gw_object.specs.Grammar.{HasSpelling}
-use Rattle.gw_kinds.specs.Pass.{KindsPass}
-use Rattle.gw_kinds.specs.Laws.{InstructionHolds}
+use Rattle.gw_rules.specs.Pass.{KindsPass}
+use Rattle.gw_rules.specs.KindsLaws.{InstructionHolds}
 use Rattle.gw_operands.specs.declared.ends.PlusEnd.{PlusEnd}
 use Rattle.gw_operands.specs.Environment.{Environment}
 use Rattle.gw_operands.specs.Code.{procedure_at, asks_for, called_in, calls_lower, costs_of}
-use Rattle.gw_code_flow.specs.PlusChecks.{PlusPasses}
+use Rattle.gw_rules.specs.PlusChecks.{PlusPasses}
 use Rattle.gw_operands.specs.Meaning.{Derives, opening}
-use Rattle.gw_code_flow.specs.Laws.{HasSet, MayBegin}
-use Rattle.gw_code_flow.proofs.Rules.{checked}
-use Rattle.gw_code_flow.proofs.Steps.{among_more}
-use Rattle.gw_code_flow.proofs.Theorems.{has_outcome_law, cost_bounds_law, code_holds}
-use Rattle.gw_code_flow.proofs.Within.{derived_is_answered}
+use Rattle.gw_rules.specs.PlusLaws.{HasSet, MayBegin}
+use Rattle.gw_rules.proofs.PlusRules.{checked}
+use Rattle.gw_rules.proofs.PlusSteps.{among_more}
+use Rattle.gw_rules.proofs.PlusTheorems.{has_outcome_law, cost_bounds_law, code_holds}
+use Rattle.gw_rules.proofs.Within.{derived_is_answered}
 use Rattle.gw_compile.specs.Value.{outcome_with}
 
 module _ (p : Parts) (env : Environment) (fits : HasSpelling p) (kinds : KindsPass p) (passes : PlusPasses p) where

@@ -16,17 +16,17 @@ use Rattle.gw_code.specs.declared.parts.Procedure.{Procedure}
 use Rattle.gw_object.specs.declared.parts.Parts.{Parts}
 use Rattle.gw_object.specs.Grammar.{HasSpelling}
 use Rattle.gw_operands.specs.Sources.{source_of, as_operand}
-use Rattle.gw_kinds.specs.Pass.{KindsPass}
+use Rattle.gw_rules.specs.Pass.{KindsPass}
 use Rattle.gw_operands.specs.declared.ends.PlusEnd.{PlusEnd}
 use Rattle.gw_operands.specs.Environment.{Environment, attribute_value as own_value}
 use Rattle.gw_operands.specs.Code.{procedure_at, arguments_of, needs_of, most_values}
-use Rattle.gw_code_flow.specs.PlusChecks.{PlusPasses}
+use Rattle.gw_rules.specs.PlusChecks.{PlusPasses}
 use Rattle.gw_operands.specs.Results.{value_by_operand}
 use Rattle.gw_operands.specs.Meaning.{Taken, Frame, Next, Goes, Calls, Returns, Stuck, pushed, given, popped, calculated, calls_with, reads_source, act, next, opened, opening, Derives}
 use Rattle.gw_operands.specs.Outcome.{outcome_of}
-use Rattle.gw_code_flow.specs.Laws.{HasSet, MayBegin}
-use Rattle.gw_code_flow.proofs.Reading.{MayRead}
-use Rattle.gw_code_flow.proofs.Outcomes.{Continues, Unrolled, unroll}
+use Rattle.gw_rules.specs.PlusLaws.{HasSet, MayBegin}
+use Rattle.gw_rules.proofs.PlusReading.{MayRead}
+use Rattle.gw_rules.proofs.Outcomes.{Continues, Unrolled, unroll}
 use Rattle.gw_text_expressions.specs.declared.model.Expression.{Expression, Row_of-Expression, end_of-Expression, more_of-Expression}
 use Rattle.gw_text_expressions.specs.declared.model.Expression.TheVariants.{Whole, Name, Sna as ReadSna, Parentheses', Call', Unary', Binary'}
 use Rattle.gw_compile.specs.declared.numbering.Equ.{Equ}

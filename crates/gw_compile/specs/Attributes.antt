@@ -5,8 +5,8 @@ use Rattle.gw_blocks.specs.declared.parts.EntityAttribute.{EntityAttribute}
 use Rattle.gw_blocks.specs.declared.parts.EntityAttribute.TheVariants as attributes
 use Rattle.gw_code.specs.declared.parts.Sna.{Sna}
 use Rattle.gw_code.specs.declared.parts.Sna.TheVariants as snas
-use Rattle.gw_kinds.specs.declared.entities.EntityKind.{EntityKind}
-use Rattle.gw_kinds.specs.declared.entities.EntityKind.TheVariants as kinds
+use Rattle.gw_rules.specs.declared.entities.EntityKind.{EntityKind}
+use Rattle.gw_rules.specs.declared.entities.EntityKind.TheVariants as kinds
 use Rattle.gw_text_expressions.specs.declared.model.Sna.{Sna as TextSna}
 use Rattle.gw_text_expressions.specs.declared.model.Sna.TheVariants as texts
 use Rattle.gw_text_expressions.specs.declared.model.EntityValue.{EntityValue}

@@ -10,14 +10,14 @@ use Rattle.gw_code.specs.declared.parts.Procedure.{Procedure}
 use Rattle.gw_object.specs.declared.parts.Parts.{Parts}
 use Rattle.gw_object.specs.Grammar.{HasSpelling}
 use Rattle.gw_operands.specs.Sources.{source_of}
-use Rattle.gw_kinds.specs.Pass.{KindsPass}
+use Rattle.gw_rules.specs.Pass.{KindsPass}
 use Rattle.gw_operands.specs.declared.ends.PlusEnd.{PlusEnd}
 use Rattle.gw_operands.specs.Environment.{Environment}
 use Rattle.gw_operands.specs.Code.{procedure_at, arguments_of, is_among, called_in, calls_lower, asks_for}
-use Rattle.gw_code_flow.specs.PlusChecks.{PlusPasses}
+use Rattle.gw_rules.specs.PlusChecks.{PlusPasses}
 use Rattle.gw_operands.specs.Meaning.{Taken, Derives}
 use Rattle.gw_operands.specs.Outcome.{outcome_of}
-use Rattle.gw_code_flow.specs.Laws.{HasSet}
+use Rattle.gw_rules.specs.PlusLaws.{HasSet}
 use Rattle.gw_text_expressions.specs.declared.model.Expression.{Expression}
 use Rattle.gw_compile.specs.declared.numbering.Callee.{Callee}
 use Rattle.gw_compile.specs.declared.numbering.Equ.TheVariants as equs

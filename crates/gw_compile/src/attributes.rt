@@ -6,7 +6,7 @@ ghost use Rattle.gw_compile.specs.Attributes as model;
 use crate::numbering::Numbering;
 use gw_blocks::{Attribute, EntityAttribute, Numbered};
 use gw_code::Sna;
-use gw_kinds::EntityKind;
+use gw_rules::EntityKind;
 use gw_text_expressions::{BlockName, BlockValue, EntityValue, Parameter, Sna as TextSna};
 
 /// What is asked of an entity.

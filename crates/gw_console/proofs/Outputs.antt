@@ -3,7 +3,7 @@ use Rattle.std.proofs.Common.{◌≡◌, ◌≢◌, ◌⊎◌, ℕ, List, [], �
 use Rattle.gw_object.specs.declared.fault.Fault.{Fault}
 use Rattle.gw_object.specs.declared.parts.Parts.{Parts}
 use Rattle.gw_step.specs.Job.{Job}
-use Rattle.gw_verdicts.specs.Refusal.{refusal_line}
+use Rattle.gw_answers.specs.Refusal.{refusal_line}
 use Rattle.gw_answers.specs.Answer.{Concludes, job_of, object_of, accepted_line}
 use Rattle.gw_answers.specs.Assembly.{IsAssembly, IsWorkOf}
 use Rattle.gw_answers.specs.declared.request.Request.{Request}

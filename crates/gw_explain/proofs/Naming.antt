@@ -3,7 +3,7 @@ use Rattle.std.proofs.Common.{◌≡◌, ◌∙◌, ◌≤◌, ℕ, List, [], �
 use Rattle.std.specs.Fmt.{decimal}
 use Rattle.std.proofs.lemmas.List.{append-nil}
 use Rattle.gw_object.specs.declared.fault.Place.TheVariants.{Nowhere}
-use Rattle.gw_verdicts.specs.Refusal.{refusal_line, code_name}
+use Rattle.gw_answers.specs.Refusal.{refusal_line, code_name}
 use Rattle.gw_explain.specs.Meaning.{code_line}
 
 -- behind the first word a number and a name stand

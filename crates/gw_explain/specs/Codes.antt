@@ -1,7 +1,7 @@
 -- The codes of refusals, and the advice on each.
 use Rattle.std.specs.Prelude.{ℕ, List, [], ◌∷◌, ◌++◌, codes, Bool, ◌==◌, Option, Some, None, if◌then◌else◌}
 use Rattle.std.specs.List.{list_any}
-use Rattle.gw_verdicts.specs.declared.names.TheConstants.{NAMES}
+use Rattle.gw_answers.specs.declared.names.TheConstants.{NAMES}
 use Rattle.gw_explain.specs.declared.advice.TheConstants.{ADVICE}
 
 -- CODES

@@ -3,13 +3,13 @@ use Rattle.std.specs.Prelude.{◌≡◌, ◌⊎◌, ℕ, List, ◌++◌, MatchRe
 use Rattle.std.specs.Str.Lines.{lines as lines_of_text}
 use Rattle.gw_object.specs.declared.fault.Fault.{Fault}
 use Rattle.gw_object.specs.declared.parts.Parts.{Parts}
-use Rattle.gw_verify.specs.Checks.{Accepted}
+use Rattle.gw_rules.specs.Accepted.{Accepted}
 use Rattle.gw_text.specs.declared.model.Statement.{Statement}
 use Rattle.gw_assemble.specs.Assembly.{Assembles, IsRefusal}
 use Rattle.gw_answers.specs.Status.{ended, refused}
 use Rattle.gw_answers.specs.Answer.{accepted_line, object_of}
 use Rattle.gw_answers.specs.Assembly.{HasStatements, IsRefusedText}
-use Rattle.gw_verdicts.specs.Refusal.{refusal_line}
+use Rattle.gw_answers.specs.Refusal.{refusal_line}
 use Rattle.gw_sources.specs.Sites.{Sites, sites_of, no_sites, is_object}
 use Rattle.gw_explain.specs.Codes.{advice_lines}
 use Rattle.gw_explain.specs.Shown.{shown_lines}

@@ -1,7 +1,7 @@
 -- What the code of a refusal means, in words.
 use Rattle.std.specs.Prelude.{ℕ, List, [], ◌++◌, codes}
 use Rattle.std.specs.Fmt.{decimal}
-use Rattle.gw_verdicts.specs.Refusal.{code_name}
+use Rattle.gw_answers.specs.Refusal.{code_name}
 use Rattle.gw_explain.specs.Codes.{advice_lines}
 
 -- a code and its name, as refusals have them

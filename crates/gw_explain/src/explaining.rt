@@ -13,14 +13,13 @@ use crate::lines::put_lines_of;
 use crate::meaning::put_advice;
 use crate::objects::explain_object;
 use crate::summary::model_summary;
-use gw_answers::{Answer, accepted, refused};
+use gw_answers::{Answer, Refusal, accepted, refused};
 use gw_assemble::assemble;
 use gw_object::{Fault, Memory, Place, codes};
+use gw_rules::Verified;
 use gw_sources::{Sources, is_object, sources};
 use gw_text::{Model, parse};
 use gw_text_tokens::lines::lines_of;
-use gw_verdicts::Refusal;
-use gw_verify::Verified;
 use std::alloc::Global;
 
 /// The lines of a text that a refusal at a place is about, behind what there is.

@@ -1,8 +1,7 @@
 //! What is known of a transaction, in words, where a model or an object is refused by flow (docs/object-format.md).
 
 use gw_blocks::{Block, Split, Units};
-use gw_flow::codes::CHAIN_STATE;
-use gw_kinds::{chain_place, check_kinds};
+use gw_kinds::check_kinds;
 use gw_names::{Known, Ledger, known_names};
 use gw_object::{
     Entity, Fault, Memory, Object, Parts, Place, TableKind, TableParameter, TableState, codes,
@@ -10,6 +9,8 @@ use gw_object::{
 use gw_object_bytes::{build, read};
 use gw_pieces::parts_of;
 use gw_report::text::{put, put_number};
+use gw_rules::chain_place;
+use gw_rules::flow_codes::CHAIN_STATE;
 use gw_settle::table_of;
 use gw_text::Model;
 use indexmap::IndexMap;

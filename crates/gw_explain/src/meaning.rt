@@ -8,10 +8,9 @@ ghost use Rattle.gw_explain.specs.Meaning.{code_line, meaning};
 
 use crate::advice::advice_on;
 use gw_answers::status::ENDED;
-use gw_answers::{Answer, refused};
+use gw_answers::{Answer, Refusal, refused};
 use gw_object::{Fault, Memory, Place};
 use gw_report::text::put;
-use gw_verdicts::Refusal;
 use std::alloc::Global;
 
 /// A line for what is wrong and one for how to mend it, with what is known between them, behind what there is.

@@ -3,16 +3,15 @@
 ghost use Rattle.std.specs.Prelude.{◌≡◌, IfOk, OnOk};
 ghost use Rattle.gw_answers.specs.Status.{ended as ended_status, refused as refused_status};
 ghost use Rattle.gw_answers.specs.Answer.{accepted_line};
-ghost use Rattle.gw_verdicts.specs.Refusal.{refusal_line};
+ghost use Rattle.gw_answers.specs.Refusal.{refusal_line};
 ghost use Rattle.gw_explain.specs.Explanation.{Begins, IsAdvised, IsExplainedObject};
 
 use crate::known::known_in_object;
 use crate::meaning::put_advice;
 use crate::summary::object_summary;
-use gw_answers::{Answer, NoJob, accepted, accepted_in, refused};
+use gw_answers::{Answer, NoJob, Refusal, accepted, accepted_in, refused};
 use gw_object::{Fault, Memory};
-use gw_verdicts::Refusal;
-use gw_verify::Verified;
+use gw_rules::Verified;
 use std::alloc::Global;
 
 /// What an object that is accepted has, behind what there is.

@@ -2,9 +2,9 @@
 
 use gw_object::{Entity, Kind, Memory, Parts};
 use gw_report::text::{put, put_number};
+use gw_rules::Verified;
 use gw_sources::{Sources, sources};
 use gw_text::Model;
-use gw_verify::Verified;
 use std::alloc::Global;
 
 /// A kind of entities.

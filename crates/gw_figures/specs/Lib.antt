@@ -1,2 +1,4 @@
 pub mod Numbers
 pub mod Figures
+pub mod Quantiles
+pub mod Summaries

@@ -2,7 +2,7 @@
 use Rattle.std.specs.Prelude.{ℕ, ◌+◌, ◌*◌, ◌^◌, ◌==◌, List, [], ◌∷◌, length, map, Bool, ◌||◌, ℤ, pos, neg_ℤ, Option, Some, None, if◌then◌else◌}
 use Rattle.std.specs.List.{list_all, slice_split, position_or_len, before_first, after_first}
 use Rattle.std.specs.Char.{is_ascii}
-use Rattle.gw_numerals.specs.Numerals.{number_below}
+use Rattle.gw_num.specs.Numerals.{number_below}
 
 -- WORDS
 

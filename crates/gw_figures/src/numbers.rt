@@ -3,11 +3,11 @@
 ghost use Rattle.std.specs.Prelude.{◌≡◌, ◌<◌, ◌≤◌, ◌*◌, ◌^◌, IfSome, length};
 ghost use Rattle.std.specs.List.{list_all};
 ghost use Rattle.std.specs.Char.{is_ascii};
-ghost use Rattle.gw_numerals.specs.Numerals.{number_below};
+ghost use Rattle.gw_num.specs.Numerals.{number_below};
 ghost use Rattle.gw_figures.specs.Numbers as model;
 ghost use Rattle.gw_figures.specs.Numbers.{whole_in, part_in, amount_in, ascii_amount, value_in, negated, unchanged};
 
-use gw_numerals::count_in;
+use gw_num::count_in;
 use std::str;
 
 /// The whole number that digits spell, if it is below 2^53.

@@ -4,10 +4,10 @@ use Rattle.std.specs.Prelude.{filter, option_to_list, option_map}
 use Rattle.std.proofs.lemmas.List.{map-append, append-nil}
 use Rattle.std.proofs.lemmas.Bool.{ne_eqb}
 use Rattle.gw_flow.specs.declared.abstract_state.Amount.{Amount}
-use Rattle.gw_flow.specs.Entries.{with_entry}
-use Rattle.gw_flow.specs.Rows.{nonzero}
-use Rattle.gw_flow.specs.Seen.{amounts_of}
-use Rattle.gw_flow.proofs.Entries.{map-filter}
+use Rattle.gw_rules.specs.Entries.{with_entry}
+use Rattle.gw_rules.specs.Rows.{nonzero}
+use Rattle.gw_flow.specs.Known.{amounts_of}
+use Rattle.gw_rules.proofs.Entries.{map-filter}
 
 -- what is entered for a number that may be 0
 abbrev pub entered : ℕ → ℕ → List (ℕ × ℕ)

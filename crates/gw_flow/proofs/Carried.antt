@@ -5,9 +5,10 @@ use Rattle.gw_object.specs.declared.parts.TableKind.{TableKind}
 use Rattle.gw_object.specs.declared.parts.TableKind.TheVariants.{Num as TableNum, Ret as TableRet}
 use Rattle.gw_object.specs.declared.parts.TableParameter.{TableParameter}
 use Rattle.gw_object.specs.declared.parts.ReturnRow.{ReturnRow}
-use Rattle.gw_flow.specs.declared.abstract_state.Parameter.{Parameter}
-use Rattle.gw_flow.specs.Rows.{ParamKind}
-use Rattle.gw_flow.specs.Seen.{kind_seen, kind_said, kind_carried, parameter_carried, params_of, params_said}
+use Rattle.gw_rules.specs.declared.set_parameters.Parameter.{Parameter}
+use Rattle.gw_rules.specs.Rows.{ParamKind}
+use Rattle.gw_rules.specs.Seen.{kind_seen, kind_said, params_said}
+use Rattle.gw_flow.specs.Known.{kind_carried, parameter_carried, params_of}
 use Rattle.gw_flow.proofs.Ascending.{AllPairs-map}
 
 -- they ascend where those of the row do

@@ -2,12 +2,12 @@
 use Rattle.std.proofs.Common.{◌≡◌, ℕ, ◌+◌, ◌≤◌, ◌<◌, List, length, map, drop, get_or, Option, Some, None, sym, ap, ◌∙◌}
 use Rattle.std.proofs.lemmas.List.{drop_all, drop_more, map-append}
 use Rattle.gw_object.specs.declared.fault.Fault.{Fault}
-use Rattle.gw_kinds.specs.declared.ways.Exit.{Exit}
-use Rattle.gw_kinds.specs.Checks.{Check, first_broken}
-use Rattle.gw_kinds.proofs.Broken.{first, first_broken-append}
-use Rattle.gw_flow.specs.declared.edges.FlowEdge.{FlowEdge}
-use Rattle.gw_flow.specs.Rows.{Row}
-use Rattle.gw_flow.specs.Blocks.{edge_along, edges_along}
+use Rattle.gw_rules.specs.declared.ways.Exit.{Exit}
+use Rattle.gw_rules.specs.Checks.{Check, first_broken}
+use Rattle.gw_rules.proofs.Broken.{first, first_broken-append}
+use Rattle.gw_rules.specs.Blocks.{FlowEdge}
+use Rattle.gw_rules.specs.Rows.{Row}
+use Rattle.gw_rules.specs.Blocks.{edge_along, edges_along}
 
 module _ (check : FlowEdge → Check) (b : ℕ) (passed : Row) where
   -- the checks of the edges along exits

@@ -1,10 +1,10 @@
 -- What tests found, where memory may have run out.
 use Rattle.std.proofs.Common.{◌≡◌, ◌⊎◌, inl, inr, ℕ, ◌<◌, List, ◌++◌, length, drop, get_or, Option, Some, None, Result, Ok, Err}
 use Rattle.gw_object.specs.declared.fault.Fault.{Fault}
-use Rattle.gw_kinds.specs.Checks.{Check, Finds, first_broken, numbered}
-use Rattle.gw_kinds.proofs.Broken.{stops, stops_first, joined}
+use Rattle.gw_rules.specs.Checks.{Check, Finds, first_broken, numbered}
+use Rattle.gw_rules.proofs.Broken.{stops, stops_first, joined}
 use Rattle.gw_object.specs.Reading.{out_of_memory}
-use Rattle.gw_flow.specs.Flow.{MayFind}
+use Rattle.gw_rules.specs.Flow.{MayFind}
 
 -- none of the first checks is broken: what a test of the further checks found is what all have
 pub found_later : {X : Type 0} (r : Result X Fault) (cs ds : List Check) → first_broken cs ≡ None → MayFind r ds → MayFind r (cs ++ ds)

@@ -6,8 +6,8 @@ use Rattle.std.proofs.lemmas.Bool.{cases_eq, eq-eqb, ne_eqb}
 use Rattle.std.proofs.lemmas.List.{drop_more}
 use Rattle.std.proofs.lemmas.List.Elements.{All-head, All-tail, All-cons}
 use Rattle.std.proofs.lemmas.List.Folds.{list_all-map, list_any_none}
-use Rattle.gw_flow.specs.Entries.{entry}
-use Rattle.gw_flow.specs.Entries as entries
+use Rattle.gw_rules.specs.Entries.{entry}
+use Rattle.gw_rules.specs.Entries as entries
 use Rattle.gw_flow.proofs.Ascending.{Ascends, AllPairs-head, AllPairs-tail, AllPairs-drop}
 
 or_false : (b : Bool) → (b || false) ≡ b

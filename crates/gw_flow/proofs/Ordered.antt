@@ -1,7 +1,7 @@
 -- States whose lists ascend, and whose amounts aren't 0.
-use Rattle.std.proofs.Common.{◌≡◌, ◌≢◌, ℕ, zero, suc, ◌<◌, get_or, Bool, true, false, ◌==◌, if◌then◌else◌, List, [], ◌∷◌, ◌++◌, Option, Some, None, refl, sym, subst, append_assoc, true≢false, ◌∙◌, arith}
+use Rattle.std.proofs.Common.{◌≡◌, ◌≢◌, ℕ, zero, ◌<◌, get_or, Bool, true, false, ◌==◌, if◌then◌else◌, List, [], ◌∷◌, ◌++◌, Option, Some, None, refl, sym, subst, append_assoc, true≢false, ◌∙◌, arith}
 use Rattle.std.specs.Prelude.{All, AllPairs, filter, nat_lt, not, option_map, option_to_list}
-use Rattle.std.proofs.lemmas.List.Elements.{All-nil, All-cons, All-head, All-tail, All-append, All-map, All-filter}
+use Rattle.std.proofs.lemmas.List.Elements.{All-nil, All-cons, All-append, All-map, All-filter}
 use Rattle.std.proofs.lemmas.List.Kept.{AllPairs-filter}
 use Rattle.std.proofs.lemmas.Bool.{eq-eqb}
 use Rattle.gw_blocks.specs.declared.parts.Units.{Units}
@@ -11,25 +11,21 @@ use Rattle.gw_object.specs.declared.parts.TableParameter.{TableParameter}
 use Rattle.gw_object.specs.declared.parts.TableState.{TableState}
 use Rattle.gw_object.specs.declared.parts.ReturnRow.{ReturnRow}
 use Rattle.gw_object.specs.Grammar.{HeldFits, AreAscending, IsAscending}
-use Rattle.gw_flow.specs.declared.abstract_state.ParameterKind.{ParameterKind}
-use Rattle.gw_flow.specs.declared.abstract_state.ParameterKind.TheVariants.{Num as OwnNum, Ret as OwnRet, RetTo as OwnRetTo}
-use Rattle.gw_flow.specs.declared.abstract_state.Parameter.{Parameter}
+use Rattle.gw_rules.proofs.Rooms.{row_blocks_keep}
+use Rattle.gw_rules.specs.declared.set_parameters.ParameterKind.{ParameterKind}
+use Rattle.gw_rules.specs.declared.set_parameters.ParameterKind.TheVariants.{Num as OwnNum, Ret as OwnRet, RetTo as OwnRetTo}
+use Rattle.gw_rules.specs.declared.set_parameters.Parameter.{Parameter}
 use Rattle.gw_flow.specs.declared.abstract_state.Amount.{Amount}
 use Rattle.gw_flow.specs.declared.abstract_state.StateParts.{StateParts}
 use Rattle.gw_flow.specs.declared.state.Param.{Param}
-use Rattle.gw_flow.specs.Entries.{in_place, with_number, with_entry}
-use Rattle.gw_flow.specs.Rows.{Row, ParamKind, KindAscends, IsOrdered, with_parameter, with_facility, without_facility, with_units, nonzero}
-use Rattle.gw_flow.specs.Seen.{row_blocks, kind_seen, kind_said, PartsAscend, known, row_meaning}
+use Rattle.gw_rules.specs.Entries.{in_place, with_number, with_entry}
+use Rattle.gw_rules.specs.Rows.{Row, ParamKind, KindAscends, IsOrdered, with_parameter, with_facility, without_facility, with_units, nonzero}
+use Rattle.gw_rules.specs.Seen.{row_blocks, kind_seen, kind_said, row_meaning}
+use Rattle.gw_flow.specs.Known.{PartsAscend, known}
 use Rattle.gw_flow.specs.Viewed.{kind_viewed, viewed}
 use Rattle.gw_flow.proofs.Ascending.{Ascends, All-from_map, AllPairs-map, AllPairs-from_map, ascends_placed}
 
 -- RETURN ROWS
-
--- what holds of no blocks, and of the blocks of each return row, holds of those of the row of any number
-pub row_blocks_keep : (P : List ℕ → Type 0) → P [] → (rows : List ReturnRow) → All (λ (row : ReturnRow). P row.blocks) rows → (r : ℕ) → P (row_blocks rows r)
-row_blocks_keep P none [] h r = none
-row_blocks_keep P none (x ∷ xs) h zero = All-head (λ (row : ReturnRow). P row.blocks) x xs h
-row_blocks_keep P none (x ∷ xs) h (suc r) = row_blocks_keep P none xs (All-tail (λ (row : ReturnRow). P row.blocks) x xs h) r
 
 one_ascends : {X : Type 0} (key : X → ℕ) (x : X) → Ascends key (x ∷ [])
 one_ascends key x i j d lt within = absurd (omega arith)

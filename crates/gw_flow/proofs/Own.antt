@@ -5,21 +5,22 @@ use Rattle.std.proofs.lemmas.List.Elements.{All-nil, All-cons, All-append}
 use Rattle.gw_blocks.specs.declared.parts.Block.{Block}
 use Rattle.gw_blocks.specs.declared.parts.Block.TheVariants as blocks
 use Rattle.gw_object.specs.declared.parts.ReturnRow.{ReturnRow}
-use Rattle.gw_kinds.specs.declared.ways.Who.{Who}
-use Rattle.gw_kinds.specs.declared.ways.Who.TheVariants.{Itself, Copies}
-use Rattle.gw_kinds.specs.declared.ways.Exit.{Exit}
-use Rattle.gw_kinds.specs.Exits.{leads_to, exits_with}
-use Rattle.gw_flow.specs.declared.abstract_state.Parameter.{Parameter}
+use Rattle.gw_rules.specs.declared.ways.Who.{Who}
+use Rattle.gw_rules.specs.declared.ways.Who.TheVariants.{Itself, Copies}
+use Rattle.gw_rules.specs.declared.ways.Exit.{Exit}
+use Rattle.gw_rules.specs.Exits.{leads_to, exits_with}
+use Rattle.gw_rules.specs.declared.set_parameters.Parameter.{Parameter}
 use Rattle.gw_flow.specs.declared.abstract_state.StateParts.{StateParts}
-use Rattle.gw_flow.specs.declared.edges.FlowEdge.{FlowEdge}
-use Rattle.gw_flow.specs.Entries.{with_entry}
-use Rattle.gw_flow.specs.Rows.{ParamKind, Row}
-use Rattle.gw_flow.specs.Seen.{kind_seen, params_of, known}
-use Rattle.gw_flow.specs.Flow.{parameters_with}
-use Rattle.gw_flow.specs.Blocks.{number_in, parameter_set, with_setting, after, returns_read, move, is_used, known_of, edge_along, edges_along, edges_from, join, joins}
-use Rattle.gw_flow.proofs.Chains.{ChainUse, Links, Unlinks, Neither, chain_use}
-use Rattle.gw_flow.proofs.Entries.{entries-in_place}
-use Rattle.gw_flow.proofs.Parameters.{after_params}
+use Rattle.gw_rules.specs.Blocks.{FlowEdge}
+use Rattle.gw_rules.specs.Entries.{with_entry}
+use Rattle.gw_rules.specs.Rows.{ParamKind, Row}
+use Rattle.gw_rules.specs.Seen.{kind_seen}
+use Rattle.gw_flow.specs.Known.{params_of, known}
+use Rattle.gw_flow.specs.Answered.{parameters_with}
+use Rattle.gw_rules.specs.Blocks.{number_in, parameter_set, with_setting, after, returns_read, move, is_used, known_of, edge_along, edges_along, edges_from, join, joins}
+use Rattle.gw_rules.proofs.Chains.{ChainUse, Links, Unlinks, Neither, chain_use}
+use Rattle.gw_rules.proofs.Entries.{entries-in_place}
+use Rattle.gw_rules.proofs.Parameters.{after_params}
 use Rattle.gw_flow.proofs.Ordered.{in_place_ascends}
 
 -- a parameter that is set names no return row
@@ -74,7 +75,7 @@ module _ (params : List (ℕ × ParamKind)) where
   at_join : (b : ℕ) (block : Block) (state : Row) → ChainUse block → (after b block state).params ≡ params → All Has (joins block state)
   at_join b _ state (Links l) h = All-cons Has (join l.chain state) [] h (All-nil Has)
   at_join b _ state (Unlinks u) h = All-nil Has
-  at_join b block state (Neither none members own) h = subst (All Has) (sym (none state)) (All-nil Has)
+  at_join b block state (Neither none members) h = subst (All Has) (sym (none state)) (All-nil Has)
 
 -- and so at each edge of who enters the block
 pub own_at_edges : (rows : List ReturnRow) (b : ℕ) (block : Block) (s : StateParts) →

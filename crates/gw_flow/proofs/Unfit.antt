@@ -9,12 +9,12 @@ use Rattle.std.proofs.lemmas.List.Elements.{All-nil, All-cons, All-head, All-tai
 use Rattle.gw_object.specs.declared.fault.Fault.{Fault}
 use Rattle.gw_blocks.specs.declared.parts.Operand.{Operand}
 use Rattle.gw_object.specs.declared.parts.Parts.{Parts}
-use Rattle.gw_kinds.specs.Checks.{first_broken}
+use Rattle.gw_rules.specs.Checks.{first_broken}
 use Rattle.gw_operands.specs.Code.{parameters_asked}
-use Rattle.gw_flow.specs.Entries.{with_number, in_order}
-use Rattle.gw_flow.specs.Rows.{Row, ParamKind, Num, Ret, kind_of, is_number}
-use Rattle.gw_flow.specs.Blocks.{number_rules, parameters_read}
-use Rattle.gw_flow.specs.Flow.{rule_check}
+use Rattle.gw_rules.specs.Entries.{with_number, in_order}
+use Rattle.gw_rules.specs.Rows.{Row, ParamKind, Num, Ret, kind_of, is_number}
+use Rattle.gw_rules.specs.Blocks.{number_rules, parameters_read}
+use Rattle.gw_rules.specs.Flow.{rule_check}
 use Rattle.gw_flow.specs.Unfit.{is_unfit, lower, lowest}
 use Rattle.gw_flow.proofs.Ascending.{AllPairs-head, AllPairs-tail}
 use Rattle.gw_flow.proofs.Ordered.{with_number_ascends}

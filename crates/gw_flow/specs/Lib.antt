@@ -1,11 +1,6 @@
-pub mod Codes
-pub mod Entries
-pub mod Rows
-pub mod Seen
+pub mod Known
 pub mod Viewed
-pub mod Blocks
 pub mod Unfit
-pub mod Flow
 pub mod ViewedTable
 pub mod ReturnEdges
-pub mod Laws
+pub mod Answered

@@ -2,12 +2,13 @@
 use Rattle.std.specs.Prelude.{◌≡◌, ℕ, ◌+◌, List, Option, Some, option_map, true, All, IsSomeAnd}
 use Rattle.gw_object.specs.declared.parts.ReturnRow.{ReturnRow}
 use Rattle.gw_flow.specs.declared.abstract_state.StateParts.{StateParts}
-use Rattle.gw_flow.specs.declared.edges.Target.TheVariants as targets
+use Rattle.gw_rules.specs.declared.edges.Target.TheVariants as targets
 use Rattle.gw_flow.specs.declared.table.StateTable.{StateTable}
 use Rattle.gw_flow.specs.declared.return_edges.Return.{Return}
-use Rattle.gw_flow.specs.Rows.{Row, ParamKind, kind_of, is_return, return_blocks, Fits}
-use Rattle.gw_flow.specs.Seen.{known, kind_seen}
-use Rattle.gw_flow.specs.Blocks.{Table}
+use Rattle.gw_rules.specs.Rows.{Row, ParamKind, kind_of, is_return, return_blocks, Fits}
+use Rattle.gw_rules.specs.Seen.{kind_seen}
+use Rattle.gw_flow.specs.Known.{known}
+use Rattle.gw_rules.specs.Blocks.{Table}
 use Rattle.gw_flow.specs.ViewedTable.{table_viewed}
 
 -- what a parameter holds is a return, and after each of its blocks there is a row that the state fits

@@ -3,8 +3,8 @@ use Rattle.std.specs.Prelude.{ℕ, List, Option, Some, None, Bool, not, if◌the
 use Rattle.std.specs.List.{fold, find}
 use Rattle.gw_blocks.specs.declared.parts.Operand.{Operand}
 use Rattle.gw_object.specs.declared.parts.Parts.{Parts}
-use Rattle.gw_flow.specs.Rows.{Row, kind_of, is_number}
-use Rattle.gw_flow.specs.Blocks.{parameters_read}
+use Rattle.gw_rules.specs.Rows.{Row, kind_of, is_number}
+use Rattle.gw_rules.specs.Blocks.{parameters_read}
 
 -- whether a parameter isn't sure to hold a number
 abbrev pub is_unfit : Row → ℕ → Bool

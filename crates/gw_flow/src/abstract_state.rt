@@ -2,33 +2,14 @@
 
 ghost use Rattle.std.specs.Prelude.{◌≡◌, ◌↔◌, map, IsTrue, Ok, IfOk, IfErr, All};
 ghost use Rattle.gw_object.specs.Grammar.{HeldFits, IsAscending};
-ghost use Rattle.gw_flow.specs.Seen.{ParametersAscend, NumbersAscend, AmountsAscend, AreSome, PartsAscend};
-ghost use Rattle.gw_flow.specs.Seen.{kind_carried, parameter_carried, Carries};
+ghost use Rattle.gw_flow.specs.Known.{ParametersAscend, NumbersAscend, AmountsAscend, AreSome, PartsAscend};
+ghost use Rattle.gw_flow.specs.Known.{kind_carried, parameter_carried, Carries};
 
 use crate::lists::{amounts_seen, copy_of};
 use gw_object::{Items, Memory, TableKind, TableParameter, TableState};
+use gw_rules::{Parameter, ParameterKind};
 use std::alloc::Global;
 use std::marker::Model;
-
-/// What a parameter holds.
-#[derive(Clone, Copy, Debug, PartialEq, Eq)]
-pub enum ParameterKind {
-    /// A number.
-    Num,
-    /// A return to one of the blocks of the return row of this number, from 0.
-    Ret(u16),
-    /// The return to the block of this number, from 1; on edges alone.
-    RetTo(u16),
-}
-
-/// A parameter that is set.
-#[derive(Clone, Copy, Debug, PartialEq, Eq)]
-pub struct Parameter {
-    /// Its number, from 1 to 64.
-    pub number: u8,
-    /// What it holds.
-    pub kind: ParameterKind,
-}
 
 /// Units of a storage or a queue.
 #[derive(Clone, Copy, Debug, PartialEq, Eq)]
@@ -59,7 +40,7 @@ pub struct AbsState {
 
 impl Model for AbsState {
     ghost use Rattle.gw_flow.specs.declared.abstract_state.StateParts.{StateParts};
-    ghost use Rattle.gw_flow.specs.Seen.{PartsAscend};
+    ghost use Rattle.gw_flow.specs.Known.{PartsAscend};
 
     ghost Value = { StateParts };
 

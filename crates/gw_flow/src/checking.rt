@@ -3,16 +3,16 @@
 ghost use Rattle.std.specs.Prelude.{◌≡◌, ◌≤◌, All, length};
 ghost use Rattle.gw_blocks.specs.declared.parts.Block.TheVariants as blocks;
 ghost use Rattle.gw_object.specs.Grammar.{AreAscending, HasSpelling};
-ghost use Rattle.gw_kinds.specs.Pass.{KindsPass};
-ghost use Rattle.gw_flow.specs.Rows.{HasRoom};
-ghost use Rattle.gw_flow.specs.Flow as model;
-ghost use Rattle.gw_flow.specs.Flow.{MayFind};
-ghost use Rattle.gw_flow.specs.Seen.{known, HaveNext};
+ghost use Rattle.gw_rules.specs.Pass.{KindsPass};
+ghost use Rattle.gw_rules.specs.Rows.{HasRoom};
+ghost use Rattle.gw_rules.specs.Flow as model;
+ghost use Rattle.gw_rules.specs.Flow.{MayFind};
+ghost use Rattle.gw_rules.specs.Seen.{HaveNext};
+ghost use Rattle.gw_flow.specs.Known.{known};
 ghost use Rattle.gw_flow.specs.ViewedTable.{table_viewed, HaveRoom, checks_by, checks_in_row};
 ghost use Rattle.gw_flow.specs.ReturnEdges.{PassesBy, GoesBy};
 
 use crate::abstract_state::AbsState;
-use crate::edges::Target;
 use crate::flow::{OUT_OF_MEMORY, passed};
 use crate::leaving::check_edges;
 use crate::lookups::Carried;
@@ -22,6 +22,7 @@ use crate::table::{StateTable, rows_of};
 use gw_blocks::Block;
 use gw_object::{Fault, Object, Parts};
 use gw_returns::Inclusions;
+use gw_rules::Target;
 use std::alloc::{AllocError, Global};
 
 /// The first fault of the block of this number in a state, if there is one.
@@ -127,7 +128,7 @@ fn check_block<'r>(
 }
 
 /// The first fault of the blocks with this table, if there is one.
-#[tactic(auto, unfolding(crate::specs::Flow::flow_checks))]
+#[tactic(auto, unfolding(gw_rules::specs::Flow::flow_checks))]
 fn check_blocks(alloc: Global, parts: &Parts, table: StateTable<'_, '_>) -> Result<(), Fault>
     requires few { length parts.now.blocks ≤ 4096 }
     requires returns { All AreAscending table.returns.now }

@@ -1,31 +1,22 @@
 //! Flow edges: where a transaction goes on to, and what is known of it there.
 
 ghost use Rattle.std.specs.Prelude.{◌≡◌, ◌≤◌, ◌<◌, map, option_to_list, IfOk, All};
-ghost use Rattle.gw_kinds.specs.Exits.{returns_to as exit_after};
-ghost use Rattle.gw_flow.specs.Rows.{HasRoom};
+ghost use Rattle.gw_rules.specs.Exits.{returns_to as exit_after};
+ghost use Rattle.gw_rules.specs.Rows.{HasRoom};
 ghost use Rattle.gw_flow.specs.Viewed.{blocks_viewed};
-ghost use Rattle.gw_flow.specs.Blocks as model;
-ghost use Rattle.gw_flow.specs.Seen.{ParametersAscend, IsInNumbersOf};
+ghost use Rattle.gw_rules.specs.Blocks as model;
+ghost use Rattle.gw_flow.specs.Known.{ParametersAscend, IsInNumbersOf};
 
-use crate::abstract_state::{AbsState, Parameter};
-use crate::codes::{CHAIN_STATE, EDGE_STATE};
+use crate::abstract_state::AbsState;
 use crate::lists::with_last;
 use crate::lookups::Lookups;
 use crate::setting::parameter_set;
 use crate::state::{ParamKind, State, param_seen};
 use gw_blocks::Block;
-use gw_kinds::{Exit, Who, exits, leads_to, returns_to};
 use gw_object::{Items, Memory};
+use gw_rules::flow_codes::{CHAIN_STATE, EDGE_STATE};
+use gw_rules::{Exit, FlowEdge, Parameter, Target, Who, exits, is_used, leads_to, returns_to};
 use std::alloc::Global;
-
-/// Where an edge leads.
-#[derive(Clone, Copy, Debug, PartialEq, Eq)]
-pub enum Target {
-    /// To the block of this number, from 1.
-    Block(u16),
-    /// To the user chain that is the entity of this number, from 0.
-    Chain(u16),
-}
 
 /// An edge of a block.
 #[derive(Debug, Drop)]
@@ -36,34 +27,21 @@ pub struct Edge {
     pub state: AbsState,
 }
 
-/// A flow edge of a block.
-#[derive(Debug, Drop)]
-pub struct FlowEdge<'a> {
-    /// The code of the fault where the state doesn't fit the row of the target.
-    pub code: u16,
-    /// Where the transaction goes on to.
-    pub target: Target,
-    /// What is known of it there.
-    pub state: State<'a>,
-}
-
-impl<'a> FlowEdge<'a> {
-    /// This edge in the numbers of these parameters, which say what its state says of them.
-    pub(crate) fn in_numbers_of(
-        &self,
-        alloc: Global,
-        parameters: &Items<Parameter>,
-    ) -> Result<Edge, Memory>
-        requires { ParametersAscend parameters.now }
-        ensures target { IfOk result (λ e. e.target ≡ self.now.target) }
-        ensures same { IfOk result (λ e. IsInNumbersOf parameters.now e.state self.now.state) }
-        ensures own { IfOk result (λ e. e.state.parameters ≡ parameters.now) }
-    {
-        Ok(Edge {
-            target: self.target,
-            state: self.state.in_numbers_of(alloc, parameters)?,
-        })
-    }
+/// A flow edge in the numbers of these parameters, which say what its state says of them.
+pub(crate) fn edge_in_numbers_of(
+    alloc: Global,
+    edge: &FlowEdge<State<'_>>,
+    parameters: &Items<Parameter>,
+) -> Result<Edge, Memory>
+    requires { ParametersAscend parameters.now }
+    ensures target { IfOk result (λ e. e.target ≡ edge.now.target) }
+    ensures same { IfOk result (λ e. IsInNumbersOf parameters.now e.state edge.now.state) }
+    ensures own { IfOk result (λ e. e.state.parameters ≡ parameters.now) }
+{
+    Ok(Edge {
+        target: edge.target,
+        state: edge.state.in_numbers_of(alloc, parameters)?,
+    })
 }
 
 /// The state once this parameter is set, if one is; no return row is named.
@@ -109,23 +87,13 @@ pub(crate) fn after<'a>(
 }
 
 /// The edge of a transaction that goes on to a block.
-fn move_to<'a>(target: u16, state: State<'a>) -> FlowEdge<'a>
+fn move_to<'a>(target: u16, state: State<'a>) -> FlowEdge<State<'a>>
     ensures { result ≡ model.move target state.entry }
 {
     FlowEdge {
         code: EDGE_STATE,
         target: Target::Block(target),
         state,
-    }
-}
-
-/// Whether somebody may go along an exit: the way of no copies isn't gone.
-pub fn is_used(who: Who) -> bool
-    ensures { result ≡ model.is_used who }
-{
-    match who {
-        Who::Itself => true,
-        Who::Copies(copies) => copies != 0,
     }
 }
 
@@ -145,7 +113,7 @@ fn edges_along<'a>(
     number: u16,
     exits: &[Exit],
     passed: &State<'a>,
-) -> Result<Vec<FlowEdge<'a>>, Memory>
+) -> Result<Vec<FlowEdge<State<'a>>>, Memory>
     requires { number ≤ 4096 }
     ensures { IfOk result (λ edges. edges.items ≡ model.edges_along number exits.now passed.now) }
 {
@@ -192,7 +160,7 @@ fn edges_of<'a>(
     number: u16,
     block: &Block,
     state: &State<'a>,
-) -> Result<Vec<FlowEdge<'a>>, Memory>
+) -> Result<Vec<FlowEdge<State<'a>>>, Memory>
     requires number { number ≤ 4096 }
     requires room { HasRoom state.now }
     ensures { IfOk result (λ edges. edges.items ≡ model.edges_from number block.now state.now) }
@@ -208,7 +176,11 @@ fn edges_of<'a>(
 }
 
 /// The edge of who enters a block to the user chain that it joins, if it is a LINK.
-fn join<'a>(alloc: Global, block: &Block, state: &State<'a>) -> Result<Option<FlowEdge<'a>>, Memory>
+fn join<'a>(
+    alloc: Global,
+    block: &Block,
+    state: &State<'a>,
+) -> Result<Option<FlowEdge<State<'a>>>, Memory>
     ensures { IfOk result (λ edge. option_to_list edge ≡ model.joins block.now state.now) }
 {
     match block {
@@ -227,7 +199,7 @@ pub fn own_edges_of<'a>(
     number: u16,
     block: &Block,
     state: &State<'a>,
-) -> Result<Vec<FlowEdge<'a>>, Memory>
+) -> Result<Vec<FlowEdge<State<'a>>>, Memory>
     requires number { number ≤ 4096 }
     requires room { HasRoom state.now }
     ensures { IfOk result (λ edges. edges.items ≡ model.own_edges_in number block.now state.now) }

@@ -1,19 +1,21 @@
 //! Whether what is known of a transaction suffices for what a row of the state table asks. Both lists ascend, so each is
 //! walked once. Returns are compared block by block, or by the numbers of return rows whose inclusions are known.
 
-ghost use Rattle.std.specs.Prelude.{◌≡◌, ◌<◌, ℕ, Bool, true, [], ◌∷◌, nat_le, All, AllPairs};
+ghost use Rattle.std.specs.Prelude.{◌≡◌, ◌<◌, Bool, true, [], ◌∷◌, nat_le, All, AllPairs};
 ghost use Rattle.std.specs.List.{list_all};
-ghost use Rattle.gw_flow.specs.Entries as entries;
-ghost use Rattle.gw_flow.specs.Entries.{lists};
-ghost use Rattle.gw_flow.specs.Rows as rows;
-ghost use Rattle.gw_flow.specs.Seen.{amounts_of, kind_seen, params_of};
-ghost use Rattle.gw_flow.specs.Seen.{ParametersAscend, NumbersAscend, AmountsAscend, AreSome};
+ghost use Rattle.gw_rules.specs.Entries as entries;
+ghost use Rattle.gw_rules.specs.Entries.{lists};
+ghost use Rattle.gw_rules.specs.Rows as rows;
+ghost use Rattle.gw_rules.specs.Seen.{kind_seen};
+ghost use Rattle.gw_flow.specs.Known.{amounts_of, params_of};
+ghost use Rattle.gw_flow.specs.Known.{ParametersAscend, NumbersAscend, AmountsAscend, AreSome};
 ghost use Rattle.gw_flow.specs.Viewed.{kind_viewed, params_viewed};
 
-use crate::abstract_state::{Amount, Parameter, ParameterKind};
+use crate::abstract_state::Amount;
 use crate::lists::Keyed;
 use crate::state::{Param, ParamKind};
 use gw_returns::Inclusions;
+use gw_rules::{Parameter, ParameterKind};
 
 /// An entry of a list that ascends by number, which is compared by what else is known.
 trait Entry<C: Copy>: Keyed {

@@ -1,26 +1,27 @@
 //! The edges of a block in a state, in the numbers of that state.
 
 ghost use Rattle.std.specs.Prelude.{◌≡◌, ◌≤◌, IfOk, IfSome, IsSome, All, option_to_list};
-ghost use Rattle.gw_kinds.specs.Checks.{Finds};
+ghost use Rattle.gw_rules.specs.Checks.{Finds};
 ghost use Rattle.gw_object.specs.Grammar.{AreAscending, IsAscending, StateFits, HasSpelling};
-ghost use Rattle.gw_kinds.specs.Kinds.{block_at};
-ghost use Rattle.gw_flow.specs.Rows.{HasRoom};
-ghost use Rattle.gw_flow.specs.Flow as model;
-ghost use Rattle.gw_flow.specs.Flow.{HasPassed, HaveParameters, HaveGiven, KeepOwn, ForBlock};
-ghost use Rattle.gw_flow.specs.Flow.{AreInNumbersOf, AreOwnEdges, AreMembersEdges, AreEdges, AnswersEdges};
-ghost use Rattle.gw_flow.specs.Seen.{known, ParametersAscend};
+ghost use Rattle.gw_rules.specs.Kinds.{block_at};
+ghost use Rattle.gw_rules.specs.Rows.{HasRoom};
+ghost use Rattle.gw_flow.specs.Answered.{HasPassed, HaveParameters, HaveGiven, KeepOwn};
+ghost use Rattle.gw_flow.specs.Answered.{ForBlock, rule_checks_in};
+ghost use Rattle.gw_flow.specs.Answered.{parameters_with as with_parameter_set};
+ghost use Rattle.gw_flow.specs.Answered.{AreInNumbersOf, AreOwnEdges, AreMembersEdges, AreEdges, AnswersEdges};
+ghost use Rattle.gw_flow.specs.Known.{known, ParametersAscend};
 
-use crate::abstract_state::{AbsState, Parameter};
-use crate::edges::{Edge, FlowEdge, Target, after, own_edges_of};
+use crate::abstract_state::AbsState;
+use crate::edges::{Edge, after, edge_in_numbers_of, own_edges_of};
 use crate::lists::{copy_of, in_place, with_last};
 use crate::lookups::Carried;
 use crate::rules::check_rules;
 use crate::setting::parameter_set;
 use crate::state::State;
 use gw_blocks::Block;
-use gw_kinds::chain_row;
 use gw_object::codes::MEMORY;
 use gw_object::{Fault, Items, Memory, Object, Parts, Place, ReturnRow};
+use gw_rules::{FlowEdge, Parameter, Target, chain_row};
 use std::alloc::{AllocError, Global};
 
 /// That memory ran out.
@@ -35,7 +36,7 @@ fn parameters_with(
     set: Option<Parameter>,
     given: &Items<Parameter>,
 ) -> Result<Items<Parameter>, Memory>
-    ensures { IfOk result (λ own. own ≡ model.parameters_with set given.now) }
+    ensures { IfOk result (λ own. own ≡ with_parameter_set set given.now) }
 {
     match set {
         Some(parameter) => {
@@ -68,7 +69,7 @@ pub(crate) fn passed(
 /// Edges in the numbers of these parameters, where these say what the edges' states say of them.
 fn in_numbers_of(
     alloc: Global,
-    edges: &[FlowEdge<'_>],
+    edges: &[FlowEdge<State<'_>>],
     parameters: &Items<Parameter>,
 ) -> Result<Vec<Edge>, Memory>
     requires { ParametersAscend parameters.now }
@@ -77,7 +78,7 @@ fn in_numbers_of(
 {
     let mut out = Vec::new(alloc);
     for edge in edges {
-        out.push(edge.in_numbers_of(alloc, parameters)?)?;
+        out.push(edge_in_numbers_of(alloc, edge, parameters)?)?;
     }
     Ok(out)
 }
@@ -142,7 +143,7 @@ fn all_edges(
 
 /// The fault of the first rule of the block of this number that is broken in a state, if there is one.
 fn check_rules_in(parts: &Parts, number: u16, block: &Block, state: &AbsState) -> Result<(), Fault>
-    ensures { Finds result (model.rule_checks_in parts.now number state.now block.now) }
+    ensures { Finds result (rule_checks_in parts.now number state.now block.now) }
 {
     let returns = parts.returns.as_slice();
     check_rules(parts, number, block, &Carried { state, returns })

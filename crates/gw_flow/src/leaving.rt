@@ -1,23 +1,24 @@
 //! Checks of where transactions go on from a block: whether what is known of them there fits the row of the target.
 
 ghost use Rattle.std.specs.Prelude.{◌≡◌, ◌≤◌};
-ghost use Rattle.gw_flow.specs.Blocks.{known_of, edge_along, edges_along, edges_from, edges_of, chain_edges};
-ghost use Rattle.gw_flow.specs.Flow.{fits_row as row_fits, HasPassed};
-ghost use Rattle.gw_flow.specs.Rows.{fits as fits_of, parameters_alone, HasRoom};
-ghost use Rattle.gw_flow.specs.Seen.{known, row_by};
+ghost use Rattle.gw_rules.specs.Blocks.{known_of, edge_along, edges_along, edges_from, edges_of, chain_edges};
+ghost use Rattle.gw_rules.specs.Flow.{fits_row as row_fits};
+ghost use Rattle.gw_flow.specs.Answered.{HasPassed};
+ghost use Rattle.gw_rules.specs.Rows.{fits as fits_of, parameters_alone, HasRoom};
+ghost use Rattle.gw_flow.specs.Known.{known, row_by};
 ghost use Rattle.gw_flow.specs.ViewedTable.{FindsMisfit, MayFindMisfit};
 
 use crate::abstract_state::AbsState;
-use crate::codes::{CHAIN_STATE, EDGE_STATE};
-use crate::edges::{Target, exits_of_return, is_used};
+use crate::edges::exits_of_return;
 use crate::fits::{has_parameters, has_units};
 use crate::flow::OUT_OF_MEMORY;
 use crate::lookups::{Carried, Lookups};
 use crate::table::StateTable;
 use gw_blocks::Block;
-use gw_kinds::{Exit, Who, check, exits, leads_to};
 use gw_object::{Fault, Place};
 use gw_returns::Inclusions;
+use gw_rules::flow_codes::{CHAIN_STATE, EDGE_STATE};
+use gw_rules::{Exit, Target, Who, check, exits, is_used, leads_to};
 use std::alloc::{AllocError, Global};
 
 /// Whether a state fits a row: it has at least the row's parameters, exactly its facilities, and at least its units.

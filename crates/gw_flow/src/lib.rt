@@ -3,11 +3,9 @@
 
 mod abstract_state;
 mod checking;
-pub mod codes;
 mod edges;
 mod fits;
 mod flow;
-pub mod laws;
 mod leaving;
 mod lists;
 mod lookups;
@@ -17,11 +15,10 @@ mod setting;
 mod state;
 mod table;
 
-pub use abstract_state::{AbsState, Amount, Parameter, ParameterKind, StateParts};
+pub use abstract_state::{AbsState, Amount, StateParts};
 pub use checking::check_flow;
-pub use edges::{Edge, FlowEdge, Target, is_used, own_edges_of};
+pub use edges::{Edge, own_edges_of};
 pub use flow::out_edges;
-pub use gw_code_flow::check_plus;
 pub use lookups::Lookups;
 pub use rules::check_rules;
 pub use state::{Param, ParamKind, State};

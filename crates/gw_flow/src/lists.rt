@@ -2,12 +2,14 @@
 
 ghost use Rattle.std.specs.Prelude.{◌≡◌, ℕ, ◌==◌, ◌++◌, option_to_list, IfOk};
 ghost use Rattle.std.specs.List.{find};
-ghost use Rattle.gw_flow.specs.Entries as entries;
-ghost use Rattle.gw_flow.specs.Seen.{amounts_of, units_seen, ArePut};
+ghost use Rattle.gw_rules.specs.Entries as entries;
+ghost use Rattle.gw_rules.specs.Seen.{units_seen};
+ghost use Rattle.gw_flow.specs.Known.{amounts_of, ArePut};
 
-use crate::abstract_state::{Amount, Parameter};
+use crate::abstract_state::Amount;
 use gw_blocks::Units;
 use gw_object::{Items, Memory};
+use gw_rules::Parameter;
 use std::alloc::Global;
 
 /// A list once more.

@@ -1,10 +1,10 @@
 //! What the rules of blocks look up in what is known of a transaction.
 
 ghost use Rattle.std.specs.Prelude.{◌≡◌, ◌==◌, length, is_some, option_map};
-ghost use Rattle.gw_flow.specs.Rows.{Row};
-ghost use Rattle.gw_flow.specs.Rows as rows;
+ghost use Rattle.gw_rules.specs.Rows.{Row};
+ghost use Rattle.gw_rules.specs.Rows as rows;
 ghost use Rattle.gw_flow.specs.Viewed.{kind_viewed};
-ghost use Rattle.gw_flow.specs.Seen.{known as known_of, amounts_of};
+ghost use Rattle.gw_flow.specs.Known.{known as known_of, amounts_of};
 
 use crate::abstract_state::{AbsState, Amount};
 use crate::lists::{amount_in, of_key};

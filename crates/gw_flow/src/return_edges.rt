@@ -4,11 +4,12 @@ ghost use Rattle.std.specs.Prelude.{◌≡◌, All, IfSome, IsTrue};
 ghost use Rattle.gw_flow.specs.ReturnEdges.{PassesBy, IsHeld};
 ghost use Rattle.gw_flow.specs.declared.return_edges.Return.{Return as DeclaredReturn};
 
-use crate::abstract_state::{AbsState, ParameterKind};
+use crate::abstract_state::AbsState;
 use crate::fits::own_suffices;
 use crate::leaving::fits;
 use crate::lists::of_key;
 use crate::table::StateTable;
+use gw_rules::ParameterKind;
 
 /// With how many of the latest returns another one is compared: so few that it costs no more than a few edges do.
 const LATEST: usize = 8;

@@ -1,10 +1,10 @@
 //! The parameters that blocks set.
 
 ghost use Rattle.std.specs.Prelude.{◌≡◌};
-ghost use Rattle.gw_flow.specs.Blocks as model;
+ghost use Rattle.gw_rules.specs.Blocks as model;
 
-use crate::abstract_state::{Parameter, ParameterKind};
 use gw_blocks::Block;
+use gw_rules::{Parameter, ParameterKind};
 
 /// A parameter that is set to a number.
 fn number_in(parameter: u8) -> Parameter

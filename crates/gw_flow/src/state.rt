@@ -1,21 +1,21 @@
 //! What is known of a transaction, as flow works with it: its parameters, the facilities that it owns, and the units
 //! that it is sure to hold.
 
-ghost use Rattle.std.specs.Prelude.{◌≡◌, ◌≤◌, ◌<◌, ◌^◌, ◌≢◌, IfOk, All, length, ◌==◌};
+ghost use Rattle.std.specs.Prelude.{◌≡◌, ◌<◌, IfOk, All};
 ghost use Rattle.gw_object.specs.Grammar.{AreAscending};
-ghost use Rattle.gw_blocks.specs.declared.parts.Units.{Units};
-ghost use Rattle.gw_flow.specs.Entries as entries;
-ghost use Rattle.gw_flow.specs.Rows as rows;
-ghost use Rattle.gw_flow.specs.Rows.{Ret, with_parameter};
-ghost use Rattle.gw_flow.specs.Seen.{row_blocks, kind_seen, params_of, known};
-ghost use Rattle.gw_flow.specs.Seen.{ParametersAscend, IsInNumbersOf};
+ghost use Rattle.gw_rules.specs.Rows as rows;
+ghost use Rattle.gw_rules.specs.Rows.{Ret, with_parameter};
+ghost use Rattle.gw_rules.specs.Seen.{row_blocks, kind_seen};
+ghost use Rattle.gw_flow.specs.Known.{params_of, known};
+ghost use Rattle.gw_flow.specs.Known.{ParametersAscend, IsInNumbersOf};
 ghost use Rattle.gw_flow.specs.Viewed.{kind_viewed, params_viewed, viewed};
 
-use crate::abstract_state::{AbsState, Amount, Parameter, ParameterKind, StateParts};
+use crate::abstract_state::{AbsState, Amount, StateParts};
 use crate::fits::{has_params, has_units};
 use crate::lists::{Keyed, copy_of, in_place, of_key, with_amount, without_number};
 use crate::lookups::Lookups;
 use gw_object::{Items, Memory, ReturnRow};
+use gw_rules::{Parameter, ParameterKind};
 use std::alloc::Global;
 use std::marker::Model;
 
@@ -70,7 +70,7 @@ pub struct State<'a> {
 }
 
 impl<'a> Model for State<'a> {
-    ghost use Rattle.gw_flow.specs.Rows.{Row, IsOrdered};
+    ghost use Rattle.gw_rules.specs.Rows.{Row, IsOrdered};
     ghost use Rattle.gw_flow.specs.Viewed.{viewed};
 
     ghost Value = { Row };

@@ -2,16 +2,15 @@
 
 ghost use Rattle.std.specs.Prelude.{◌≡◌, IfOk, IfSome, All, option_copied};
 ghost use Rattle.gw_object.specs.Grammar.{StateFits, IsAscending, HasSpelling};
-ghost use Rattle.gw_kinds.specs.Kinds.{for_chain};
-ghost use Rattle.gw_flow.specs.Flow as model;
-ghost use Rattle.gw_flow.specs.Seen.{row_by, CarriesRow, CarryRows};
+ghost use Rattle.gw_rules.specs.Kinds.{for_chain};
+ghost use Rattle.gw_rules.specs.Flow as model;
+ghost use Rattle.gw_flow.specs.Known.{row_by, CarriesRow, CarryRows};
 ghost use Rattle.gw_flow.specs.ViewedTable.{table_viewed};
 
 use crate::abstract_state::AbsState;
-use crate::edges::Target;
-use gw_kinds::chain_place;
 use gw_object::{Entity, Memory, Parts, TableState};
 use gw_returns::Inclusions;
+use gw_rules::{Target, chain_place};
 use std::alloc::Global;
 
 /// A row of an object, if there is one.

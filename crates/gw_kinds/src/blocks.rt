@@ -1,16 +1,17 @@
 //! The checks of blocks.
 
-ghost use Rattle.gw_kinds.specs.Kinds as model;
+ghost use Rattle.gw_rules.specs.Kinds as model;
 
 use crate::calls::{called_are_there, calls_without_arguments};
-use crate::checks::{NumberedChecks, check};
-use crate::codes::*;
+use crate::checks::NumberedChecks;
 use crate::constants::has_good_constants;
 use crate::entities::{are_there, names_no_other_kind};
 use crate::operands::has_plain_half;
 use crate::targets::{enters_no_generate, has_named_blocks, never_falls_off};
 use gw_blocks::Block;
 use gw_object::{Fault, Parts, Place};
+use gw_rules::check;
+use gw_rules::kinds_codes::*;
 
 /// The checks of blocks.
 pub(crate) struct Blocks;

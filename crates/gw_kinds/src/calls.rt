@@ -2,7 +2,7 @@
 
 ghost use Rattle.std.specs.Prelude.{◌≡◌};
 ghost use Rattle.gw_operands.specs.Sources as evaluation;
-ghost use Rattle.gw_kinds.specs.Kinds as model;
+ghost use Rattle.gw_rules.specs.Kinds as model;
 
 use gw_blocks::{Block, Operand};
 use gw_code::Procedure;

@@ -1,11 +1,11 @@
 //! Checks of one element after the other.
 
-ghost use Rattle.std.specs.Prelude.{◌≡◌, ◌<◌, ◌≤◌, ◌+◌, ℕ, List, [], ◌∷◌, length};
+ghost use Rattle.std.specs.Prelude.{◌<◌, ◌≤◌, ◌+◌, ℕ, List, length};
 ghost use Rattle.std.specs.List.{All};
 ghost use Rattle.gw_object.specs.declared.parts.Parts.{Parts};
-ghost use Rattle.gw_kinds.specs.Checks.{Check, Finds, numbered, check as check_of};
+ghost use Rattle.gw_rules.specs.Checks.{Check, Finds, numbered};
 
-use gw_object::{Fault, Parts, Place};
+use gw_object::{Fault, Parts};
 
 /// What is checked of each of some elements of an object.
 pub(crate) trait NumberedChecks<T> {
@@ -20,17 +20,6 @@ pub(crate) trait NumberedChecks<T> {
         requires number { number ≤ 4096 }
         requires element { can_check element.now }
         ensures { Finds result (checks self.now parts.now number element.now) };
-}
-
-/// One check: nothing where it holds, else the fault of this code at this place (ours: docs/refusals.md).
-pub fn check(code: u16, place: Place, holds: bool) -> Result<(), Fault>
-    ensures { Finds result (check_of code place holds ∷ []) }
-{
-    if holds {
-        Ok(())
-    } else {
-        Err(Fault { code, place })
-    }
 }
 
 /// The first fault of these elements, if there is one; the first of them has this number.

@@ -1,7 +1,7 @@
 //! The ranges of constants.
 
 ghost use Rattle.std.specs.Prelude.{◌≡◌};
-ghost use Rattle.gw_kinds.specs.Kinds as model;
+ghost use Rattle.gw_rules.specs.Kinds as model;
 
 use gw_blocks::{Block, Generate};
 

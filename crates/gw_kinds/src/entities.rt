@@ -1,66 +1,12 @@
 //! The entities that operands, blocks and rows of the state table name.
 
 ghost use Rattle.std.specs.Prelude.{◌≡◌};
-ghost use Rattle.gw_kinds.specs.Kinds as model;
-ghost use Rattle.gw_kinds.specs.declared.entities.EntityKind.TheVariants as needed;
+ghost use Rattle.gw_rules.specs.Kinds as model;
 
 use gw_blocks::{Block, Condition, EntityAttribute, Numbered, Operand};
 use gw_object::{Entity, Kind};
 use gw_operands::values;
-
-/// What an entity is needed as: SEIZE and RELEASE need a facility, ENTER and LEAVE a storage, QUEUE and DEPART a queue,
-/// GATE what its condition asks of, LOGIC a logic switch, SAVEVALUE a savevalue, TABULATE a table, and LINK and UNLINK a
-/// user chain (GPSS World Reference Manual, chapter 7); an attribute needs what it is of (chapter 3).
-#[derive(Clone, Copy, Debug, PartialEq, Eq)]
-pub enum EntityKind {
-    /// A facility.
-    Facility,
-    /// A storage.
-    Storage,
-    /// A queue.
-    Queue,
-    /// A logic switch.
-    Switch,
-    /// A savevalue.
-    Savevalue,
-    /// A table.
-    Table,
-    /// A user chain.
-    Chain,
-    /// A variable.
-    Variable,
-    /// A boolean variable.
-    BooleanVariable,
-    /// A function.
-    Function,
-    /// What units can be inside: a storage or a queue.
-    StorageOrQueue,
-}
-
-/// An entity that is named.
-#[derive(Clone, Copy, Debug, PartialEq, Eq)]
-pub struct Named {
-    /// What it is needed as.
-    pub needed: EntityKind,
-    /// Its number, from 0.
-    pub entity: u16,
-}
-
-impl Default for Named {
-    ghost is_default = { λ named. named ≡ model.needs needed.Facility 0 };
-
-    /// A facility of number 0.
-    fn default() -> Named {
-        needs(EntityKind::Facility, 0)
-    }
-}
-
-/// An entity that is named by its number, and what it is needed as.
-pub(crate) fn needs(needed: EntityKind, entity: u16) -> Named
-    ensures { result ≡ model.needs needed entity }
-{
-    Named { needed, entity }
-}
+use gw_rules::{EntityKind, Named, needs};
 
 /// What an attribute needs its entity to be; an attribute of a block needs none.
 pub(crate) fn needed_for(attribute: EntityAttribute) -> Option<EntityKind>
@@ -170,7 +116,7 @@ fn read_no_other_kind(entities: &[Entity], operands: &[Operand]) -> bool
 }
 
 /// Whether none of the entities that a block names is of another kind than what it is needed as.
-#[tactic(auto, using(crate::proofs::EachNamed::tests_both))]
+#[tactic(auto, using(gw_rules::proofs::EachNamed::tests_both))]
 pub(crate) fn names_no_other_kind(entities: &[Entity], block: &Block) -> bool
     ensures { result ≡ model.names_no_other_kind entities.now (model.named_entities block.now) }
 {
@@ -197,7 +143,7 @@ fn read_are_there(entities: &[Entity], operands: &[Operand]) -> bool
 }
 
 /// Whether the entities that a block names are there.
-#[tactic(auto, using(crate::proofs::EachNamed::tests_both))]
+#[tactic(auto, using(gw_rules::proofs::EachNamed::tests_both))]
 pub(crate) fn are_there(entities: &[Entity], block: &Block) -> bool
     ensures { result ≡ model.are_there entities.now (model.named_entities block.now) }
 {

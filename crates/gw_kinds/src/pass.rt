@@ -1,8 +1,8 @@
 //! The checks of kinds, in order.
 
 ghost use Rattle.gw_object.specs.Grammar.{HasSpelling};
-ghost use Rattle.gw_kinds.specs.Checks.{Finds};
-ghost use Rattle.gw_kinds.specs.Pass.{kinds_checks};
+ghost use Rattle.gw_rules.specs.Checks.{Finds};
+ghost use Rattle.gw_rules.specs.Pass.{kinds_checks};
 
 use crate::blocks::Blocks;
 use crate::checks::check_each;

@@ -1,16 +1,17 @@
 //! The entities, the procedures, the blocks and the numbers that instructions name.
 
-ghost use Rattle.std.specs.Prelude.{◌≡◌, ◌≤◌, length};
-ghost use Rattle.gw_kinds.specs.Procedures as model;
+ghost use Rattle.std.specs.Prelude.{◌≡◌};
+ghost use Rattle.gw_rules.specs.Procedures as model;
 
 use crate::calls::is_procedure;
-use crate::checks::{NumberedChecks, check, check_each};
-use crate::codes::{BAD_CONSTANT, NO_BLOCK, NO_ENTITY, WRONG_KIND};
-use crate::entities::{Named, entity_of, is_no_other_kind, is_there};
+use crate::checks::{NumberedChecks, check_each};
+use crate::entities::{entity_of, is_no_other_kind, is_there};
 use crate::targets::{block_of, is_block};
 use gw_code::{Instruction, Procedure};
 use gw_object::{Entity, Fault, Parts, Place};
 use gw_operands::{argument_in, as_operand, is_drawn};
+use gw_rules::kinds_codes::{BAD_CONSTANT, NO_BLOCK, NO_ENTITY, WRONG_KIND};
+use gw_rules::{Named, check};
 
 /// The most times that a jump back may be taken.
 const MOST_TURNS: u32 = 1_000_000;

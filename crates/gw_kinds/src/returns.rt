@@ -1,19 +1,22 @@
 //! The blocks that return rows name.
 
 ghost use Rattle.std.specs.Prelude.{◌≡◌};
-ghost use Rattle.gw_kinds.specs.Kinds as model;
+ghost use Rattle.gw_rules.specs.Kinds as model;
 
-use crate::checks::{NumberedChecks, check};
-use crate::codes::WRONG_KIND;
-use crate::ways::is_call;
+use crate::checks::NumberedChecks;
 use gw_blocks::Block;
 use gw_object::{Fault, Parts, Place, ReturnRow};
+use gw_rules::kinds_codes::WRONG_KIND;
+use gw_rules::{check, is_call};
 
 /// Whether there is a block of this number, from 1, that calls a subroutine.
 fn is_call_at(blocks: &[Block], number: u16) -> bool
     ensures { result ≡ model.is_call_at blocks.now number }
 {
-    number != 0 && blocks.get(number as usize - 1).is_some_and(is_call)
+    number != 0
+        && blocks
+            .get(number as usize - 1)
+            .is_some_and(|block| is_call(block))
 }
 
 /// Whether each block of a return row is there and calls a subroutine.

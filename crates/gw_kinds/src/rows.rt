@@ -1,16 +1,17 @@
 //! The entities and the return rows that the rows of the state table name.
 
-ghost use Rattle.std.specs.Prelude.{◌≡◌, Some, map, option_map};
-ghost use Rattle.gw_kinds.specs.Checks.{Finds};
+ghost use Rattle.std.specs.Prelude.{◌≡◌, Some, map};
+ghost use Rattle.gw_rules.specs.Checks.{Finds};
 ghost use Rattle.gw_blocks.specs.declared.parts.Units.{Units};
-ghost use Rattle.gw_kinds.specs.Kinds as model;
-ghost use Rattle.gw_kinds.specs.declared.entities.EntityKind.TheVariants as needed;
+ghost use Rattle.gw_rules.specs.Kinds as model;
+ghost use Rattle.gw_rules.specs.declared.entities.EntityKind.TheVariants as needed;
 
-use crate::checks::{NumberedChecks, check};
-use crate::codes::{NO_ENTITY, WRONG_KIND};
-use crate::entities::{EntityKind, Named, is_no_other_kind, is_there, needs};
+use crate::checks::NumberedChecks;
+use crate::entities::{is_no_other_kind, is_there};
 use gw_blocks::Units;
 use gw_object::{Entity, Fault, Parts, Place, ReturnRow, TableKind, TableState, chains_in};
+use gw_rules::kinds_codes::{NO_ENTITY, WRONG_KIND};
+use gw_rules::{EntityKind, Named, chain_row, check, needs};
 
 /// A facility that a row names as owned.
 fn as_owned(facility: &u16) -> Named
@@ -97,22 +98,6 @@ impl NumberedChecks<Option<TableState>> for Rows {
             Some(row) => check_row(parts, Place::Block(number), row),
         }
     }
-}
-
-/// How many user chains come before the entity of this number, from 0: where its row of the state table and its weight
-/// stand among those of all user chains, if it is one itself.
-pub fn chain_place(entities: &[Entity], entity: u16) -> usize
-    ensures { result ≡ model.chain_place entities.now entity }
-{
-    chains_in(&entities[..(entity as usize).min(entities.len())])
-}
-
-/// The row of the state table of the user chain that is the entity of this number, from 0, if it has one.
-pub fn chain_row(parts: &Parts, entity: u16) -> Option<&TableState>
-    ensures { option_map (λ row. row.now) result ≡ model.chain_row parts.now entity }
-{
-    let place = chain_place(parts.entities.as_slice(), entity);
-    parts.chain_states.as_slice().get(place)?.as_ref()
 }
 
 /// The checks of the user chains' rows of the state table, each at its entity.

@@ -1,12 +1,12 @@
 //! Where transactions go on to: the blocks there.
 
-ghost use Rattle.std.specs.Prelude.{◌≡◌, ◌≤◌, ◌+◌, Some, not};
-ghost use Rattle.gw_kinds.specs.Kinds as model;
+ghost use Rattle.std.specs.Prelude.{◌≡◌, ◌≤◌, ◌+◌, Some};
+ghost use Rattle.gw_rules.specs.Kinds as model;
 
 use crate::entities::needed_for;
-use crate::ways::{Way, exits, leads_to, other_way};
 use gw_blocks::{Block, Numbered, Operand};
 use gw_operands::values;
+use gw_rules::{Way, exits, leads_to, other_way};
 
 /// Whether there is a block of this number, from 1.
 pub(crate) fn is_block(blocks: &[Block], number: u16) -> bool

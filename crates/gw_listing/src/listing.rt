@@ -7,13 +7,12 @@ ghost use Rattle.gw_listing.specs.Listing.{IsListingOf, TellsRefusal, IsListedOb
 
 use crate::parts::listing_of;
 use gw_answers::status::ENDED;
-use gw_answers::{Answer, NoJob, accepted_in, refused};
+use gw_answers::{Answer, NoJob, Refusal, accepted_in, refused};
 use gw_assemble::assemble;
 use gw_object::{Fault, Memory, codes};
+use gw_rules::Verified;
 use gw_sources::{Sources, is_object, sources};
 use gw_text::{Model, parse};
-use gw_verdicts::Refusal;
-use gw_verify::Verified;
 use std::alloc::Global;
 
 /// The listing of an accepted object, and the lines of a text that it comes from.

@@ -21,18 +21,18 @@ use Rattle.gw_object.specs.declared.parts.Kind.{Kind}
 use Rattle.gw_object.specs.declared.parts.Kind.TheVariants as kinds
 use Rattle.gw_object.specs.declared.parts.Parts.{Parts}
 use Rattle.gw_operands.specs.Sources.{operand_of, operand_at, if_function, if_variable, argument_in, call_in, source_of}
-use Rattle.gw_kinds.specs.Laws.{OperandHolds}
+use Rattle.gw_rules.specs.KindsLaws.{OperandHolds}
 use Rattle.gw_operands.specs.declared.ends.PlusEnd.{PlusEnd}
 use Rattle.gw_operands.specs.Code.{procedure_at, asked_by_source}
 use Rattle.gw_operands.specs.Environment.{Environment, kept_value, ReadTheSame}
-use Rattle.gw_code_flow.specs.Laws.{HasSet, MayBegin}
+use Rattle.gw_rules.specs.PlusLaws.{HasSet, MayBegin}
 use Rattle.gw_operands.specs.Meaning.{Evaluates, opening}
 use Rattle.gw_operands.specs.Outcome.{outcome_of}
-use Rattle.gw_code_flow.proofs.Theorems.{one_outcome_law, outcomes_are_evaluated_law}
-use Rattle.gw_code_flow.proofs.Within.{outcomes_depend_on_what_is_kept}
+use Rattle.gw_rules.proofs.PlusTheorems.{one_outcome_law, outcomes_are_evaluated_law}
+use Rattle.gw_rules.proofs.Within.{outcomes_depend_on_what_is_kept}
 use Rattle.gw_operands.specs.Values.{Value, ◌>>=◌, drawn_below, came_to, if_set, source_value}
-use Rattle.gw_verify.specs.Checks.{Checked}
-use Rattle.gw_verify.proofs.AllPass.{kinds_pass, plus_passes}
+use Rattle.gw_rules.specs.Accepted.{Checked}
+use Rattle.gw_rules.proofs.AllPass.{kinds_pass, plus_passes}
 use Rattle.gw_plus.specs.declared.env.Env.{Env}
 use Rattle.gw_plus.specs.Reading as lent
 use Rattle.gw_plus.proofs.Reading.{may_read}

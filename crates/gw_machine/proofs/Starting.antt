@@ -6,7 +6,7 @@ use Rattle.gw_blocks.specs.declared.parts.Block.{Block}
 use Rattle.gw_object.specs.declared.parts.Parts.{Parts}
 use Rattle.gw_step.specs.declared.ends.End.{End}
 use Rattle.gw_step.specs.Outcome.{Outcome, Gives, EndsBy, ◌>>=◌}
-use Rattle.gw_kinds.specs.Kinds.{block_at}
+use Rattle.gw_rules.specs.Kinds.{block_at}
 use Rattle.gw_step.specs.State.{State}
 use Rattle.gw_step.specs.Start.{first_arrival, first_arrivals}
 use Rattle.gw_machine.specs.Leaving.{Schedules}

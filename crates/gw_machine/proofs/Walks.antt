@@ -18,7 +18,7 @@ use Rattle.gw_step.specs.Changes.{storage, put_storage, called_from, enters_and_
 use Rattle.gw_step.specs.Operands.{BlocksFit}
 use Rattle.gw_step.proofs.Outcomes.{choose, by_option}
 use Rattle.gw_entities.specs.Storage.{has_room, entered}
-use Rattle.gw_kinds.specs.Kinds.{block_at}
+use Rattle.gw_rules.specs.Kinds.{block_at}
 use Rattle.gw_blocks.specs.declared.parts.Units.{Units}
 use Rattle.gw_blocks.specs.declared.parts.Block.TheVariants as blocks
 use Rattle.gw_transactions.specs.declared.Transaction.{Transaction}

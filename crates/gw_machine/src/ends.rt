@@ -5,7 +5,8 @@ ghost use Rattle.gw_operands.specs.Meaning as code;
 ghost use Rattle.gw_step.specs.Outcome as outcomes;
 
 use gw_num::NumFault;
-use gw_plus::{PlusEnd, ended_by};
+use gw_operands::PlusEnd;
+use gw_plus::ended_by;
 use gw_step::End;
 
 /// The named end that the end of an evaluation brings.

@@ -2,8 +2,8 @@
 
 ghost use Rattle.std.specs.Prelude.{◌≡◌, Some, ◌≤◌, ◌<◌, ◌+◌, ◌^◌, length, sum, replicate, IfOk, OnOk};
 ghost use Rattle.gw_object.specs.Grammar.{HasSpelling};
-ghost use Rattle.gw_kinds.specs.Kinds.{block_at};
-ghost use Rattle.gw_verify.specs.Checks.{Checked};
+ghost use Rattle.gw_rules.specs.Kinds.{block_at};
+ghost use Rattle.gw_rules.specs.Accepted.{Checked};
 ghost use Rattle.gw_step.specs.Operands.{BlocksFit, MayDraw};
 ghost use Rattle.gw_step.specs.Start as model;
 ghost use Rattle.gw_step.specs.Times.{environment_of_next};
@@ -21,9 +21,9 @@ use gw_chains::{Assemblies, Cec, Fec, Memory, UserChains, Waits};
 use gw_entities::{Facilities, Queues, Savevalues, Storages, Switches, Tables};
 use gw_num::Stream;
 use gw_object::Object;
+use gw_rules::Verified;
 use gw_step::End;
 use gw_transactions::Transactions;
-use gw_verify::Verified;
 use std::alloc::Global;
 
 /// A table of so many counts, each 0.

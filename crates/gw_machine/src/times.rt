@@ -13,9 +13,10 @@ use crate::machine::Machine;
 use crate::values::Subject;
 use gw_blocks::Spread;
 use gw_num::{NumFault, Stream, add};
-use gw_plus::{PlusEnd, ended_by};
+use gw_operands::PlusEnd;
+use gw_plus::ended_by;
+use gw_rules::Verified;
 use gw_step::End;
-use gw_verify::Verified;
 
 /// The clock so much later, in clock units. A time below 0, and a moment that an i64 can't hold, are named ends.
 fn moment_after(clock: i64, time: i64) -> Result<i64, End>

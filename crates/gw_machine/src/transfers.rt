@@ -6,7 +6,7 @@ ghost use Rattle.gw_num.specs.Table.{at};
 ghost use Rattle.gw_entities.specs.Facility.{idle, is_idle as is_idle_now};
 ghost use Rattle.gw_entities.specs.Storage.{has_room};
 ghost use Rattle.gw_transactions.specs.Transactions.{Holds, attributes_at};
-ghost use Rattle.gw_kinds.specs.Kinds.{block_at};
+ghost use Rattle.gw_rules.specs.Kinds.{block_at};
 ghost use Rattle.gw_step.specs.State.{delay_list};
 ghost use Rattle.gw_step.specs.Changes as change;
 ghost use Rattle.gw_step.specs.Changes.{facility, storage};

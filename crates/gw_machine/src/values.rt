@@ -5,12 +5,12 @@ ghost use Rattle.gw_num.specs.Generator as generator;
 ghost use Rattle.gw_blocks.specs.Grammar.{OperandFits};
 ghost use Rattle.gw_object.specs.Grammar.{HasSpelling};
 ghost use Rattle.gw_object.specs.declared.parts.Parts.{Parts};
-ghost use Rattle.gw_kinds.specs.Laws.{OperandHolds};
+ghost use Rattle.gw_rules.specs.KindsLaws.{OperandHolds};
 ghost use Rattle.gw_operands.specs.Code.{asked_by_source};
 ghost use Rattle.gw_operands.specs.Environment.{ReadTheSame};
-ghost use Rattle.gw_code_flow.specs.Laws.{HasSet};
+ghost use Rattle.gw_rules.specs.PlusLaws.{HasSet};
 ghost use Rattle.gw_operands.specs.Values as values;
-ghost use Rattle.gw_verify.specs.Checks.{Checked};
+ghost use Rattle.gw_rules.specs.Accepted.{Checked};
 ghost use Rattle.gw_plus.specs.Reading as lent;
 ghost use Rattle.gw_transactions.specs.Transactions.{Holds};
 ghost use Rattle.gw_step.specs.Operands.{MayEvaluate};
@@ -22,12 +22,11 @@ ghost use Rattle.gw_machine.specs.Evaluating.{subject_of, parameters_for, IsRead
 use crate::machine::Machine;
 use gw_blocks::{EntityAttribute, Numbered, Operand};
 use gw_chains::Tx;
-use gw_code_flow::{PlusEnd, made};
-use gw_kinds::source_of;
 use gw_num::Stream;
+use gw_operands::{PlusEnd, made, source_of};
 use gw_plus::{Env, eval};
+use gw_rules::Verified;
 use gw_transactions::{Parameters, Transaction};
-use gw_verify::Verified;
 
 /// For whom operands are evaluated: the active transaction, or the next that is to arrive.
 #[derive(Clone, Copy, Debug, PartialEq, Eq)]

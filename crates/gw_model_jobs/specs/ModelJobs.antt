@@ -2,12 +2,12 @@
 use Rattle.std.specs.Prelude.{◌≡◌, ◌⊎◌, ℕ, List, [], Result, Ok, Err}
 use Rattle.gw_object.specs.declared.fault.Fault.{Fault}
 use Rattle.gw_object.specs.declared.parts.Parts.{Parts}
-use Rattle.gw_verify.specs.Checks.{Accepted}
+use Rattle.gw_rules.specs.Accepted.{Accepted}
 use Rattle.gw_text.specs.declared.model.Statement.{Statement}
 use Rattle.gw_assemble.specs.Assembly.{Assembles, IsRefusal}
 use Rattle.gw_step.specs.Job.{Job}
 use Rattle.gw_scan.specs.Making.{job_from}
-use Rattle.gw_verdicts.specs.Refusal.{refusal_line}
+use Rattle.gw_answers.specs.Refusal.{refusal_line}
 use Rattle.gw_answers.specs.Status.{ended, refused, run_budget}
 use Rattle.gw_answers.specs.Assembly.{HasStatements, IsRefusedText}
 use Rattle.gw_answers.specs.declared.answer.NoJob.{NoJob}

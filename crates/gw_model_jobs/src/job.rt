@@ -5,13 +5,12 @@ ghost use Rattle.gw_assemble.specs.Assembly.{IsRefusal};
 ghost use Rattle.gw_scan.specs.Making.{job_from};
 ghost use Rattle.gw_model_jobs.specs.ModelJobs.{OnRefusal, Finds, IsJobOfStatements, FindsJobOf};
 
-use gw_answers::{BUDGET, NoJob};
+use gw_answers::{BUDGET, NoJob, Refusal};
 use gw_assemble::assemble;
 use gw_object::{Fault, codes};
+use gw_rules::Verified;
 use gw_scan::Spec;
 use gw_text::{Model, parse};
-use gw_verdicts::Refusal;
-use gw_verify::Verified;
 use std::alloc::Global;
 
 /// Why there is no job, by the fault of a text or of its assembly.

@@ -11,9 +11,9 @@ use Rattle.std.specs.String.{string_eq}
 use Rattle.std.specs.declared.string.String.{String}
 use Rattle.std.proofs.lemmas.Map.Text.{hash_map_updates_text}
 use Rattle.indexmap.specs.IndexMap.{IndexMap, Updates}
-use Rattle.gw_kinds.specs.declared.entities.EntityKind.TheVariants as kinds
+use Rattle.gw_rules.specs.declared.entities.EntityKind.TheVariants as kinds
 use Rattle.gw_names.specs.declared.entities.ByKind.{ByKind}
-use Rattle.gw_kinds.specs.declared.entities.EntityKind.{EntityKind}
+use Rattle.gw_rules.specs.declared.entities.EntityKind.{EntityKind}
 use Rattle.gw_names.specs.Known.{key, found_in, entity_of}
 use Rattle.gw_names.specs.Places.{last_by, last_of, Adds, AddsEntities, named, places_from, counted, block_label, block_labels, number_below, numbers_below}
 

@@ -3,8 +3,8 @@ use Rattle.std.specs.Prelude.{◌≡◌, ℕ, List, Option, None, Bool, true, fa
 use Rattle.std.specs.Str.{bytes_eq}
 use Rattle.std.specs.declared.string.String.{String}
 use Rattle.indexmap.specs.IndexMap.{IndexMap, get_by_text}
-use Rattle.gw_kinds.specs.declared.entities.EntityKind.{EntityKind}
-use Rattle.gw_kinds.specs.declared.entities.EntityKind.TheVariants as kinds
+use Rattle.gw_rules.specs.declared.entities.EntityKind.{EntityKind}
+use Rattle.gw_rules.specs.declared.entities.EntityKind.TheVariants as kinds
 use Rattle.gw_names.specs.declared.entities.ByKind.{ByKind}
 
 -- what a name stands for in a map

@@ -1,6 +1,6 @@
 -- What is known of a text's names.
 use Rattle.std.specs.Prelude.{◌≡◌, ℕ, List, [], None, map}
-use Rattle.gw_kinds.specs.declared.entities.EntityKind.{EntityKind}
+use Rattle.gw_rules.specs.declared.entities.EntityKind.{EntityKind}
 use Rattle.gw_text.specs.declared.model.Statement.{Statement}
 use Rattle.gw_names.specs.declared.known.Known.{Known}
 use Rattle.gw_names.specs.declared.sights.Sighted.{Sighted}

@@ -1,12 +1,12 @@
 //! What is kept of entities, by kind and name.
 
 ghost use Rattle.std.specs.Prelude.{◌≡◌, ℕ, List, None, string_bytes};
-ghost use Rattle.gw_kinds.specs.declared.entities.EntityKind.{EntityKind};
+ghost use Rattle.gw_rules.specs.declared.entities.EntityKind.{EntityKind};
 ghost use Rattle.gw_names.specs.Known.{entity_of};
 ghost use Rattle.gw_names.specs.Places.{SetsKeys, entry};
 
 use crate::maps::set;
-use gw_kinds::EntityKind;
+use gw_rules::EntityKind;
 use indexmap::IndexMap;
 use std::alloc::{AllocError, Global};
 

@@ -11,7 +11,7 @@ use crate::declarations::is_equ;
 use crate::known::Known;
 use crate::ledger::{Ledger, note_if};
 use crate::maps::found;
-use gw_kinds::EntityKind;
+use gw_rules::EntityKind;
 use gw_text::{Body, Statement};
 use gw_uses::{Site, Use, uses_in};
 use std::alloc::{AllocError, Global};

@@ -12,7 +12,7 @@ ghost use Rattle.gw_names.specs.Sighting.{AddsKey, IsSighted, keys_of};
 use crate::codes;
 use crate::entities::{Declarations, EntityNames};
 use crate::ledger::Ledger;
-use gw_kinds::EntityKind;
+use gw_rules::EntityKind;
 use gw_uses::{Site, Use};
 use std::alloc::AllocError;
 

@@ -2,3 +2,4 @@ pub mod Division
 pub mod Draws
 pub mod Powers
 pub mod Tables
+pub mod Numbers

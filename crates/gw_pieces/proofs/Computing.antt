@@ -21,12 +21,12 @@ use Rattle.gw_records.specs.Records.{of_two, of_three}
 use Rattle.gw_pieces.specs.Numbers.{with_source}
 use Rattle.gw_object.specs.Grammar.{HasSpelling}
 use Rattle.gw_code.specs.declared.parts.Procedure.{Procedure}
-use Rattle.gw_kinds.specs.Pass.{KindsPass}
+use Rattle.gw_rules.specs.Pass.{KindsPass}
 use Rattle.gw_operands.specs.Code.{procedure_at, arguments_of}
 use Rattle.gw_operands.specs.Environment.{Environment}
 use Rattle.gw_operands.specs.Outcome.{outcome_of}
-use Rattle.gw_code_flow.specs.PlusChecks.{PlusPasses}
-use Rattle.gw_code_flow.proofs.Theorems.{code_holds}
+use Rattle.gw_rules.specs.PlusChecks.{PlusPasses}
+use Rattle.gw_rules.proofs.PlusTheorems.{code_holds}
 use Rattle.gw_text_expressions.specs.declared.model.Expression.{Expression, Row_of-Expression, end_of-Expression, more_of-Expression}
 use Rattle.gw_text_expressions.specs.declared.model.Expression.TheVariants.{Whole, Name, Sna, Parentheses', Call', Unary', Binary'}
 use Rattle.gw_text_plus.specs.declared.model.Procedure.{Procedure as TextProcedure}

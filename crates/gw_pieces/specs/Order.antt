@@ -2,8 +2,8 @@
 use Rattle.std.specs.Prelude.{◌≡◌, Vec, ℕ, zero, suc, ◌+◌, ℤ, List, [], ◌∷◌, ◌++◌, length, replicate, set, Option, Some, None, option_and_then, option_to_list, Bool, true, false, ◌&&◌, not, is_some, is_none, if◌then◌else◌, nat_lt, ◌==◌, slice_get, string_bytes}
 use Rattle.std.specs.List.{flat_map}
 use Rattle.std.specs.Global.{Global}
-use Rattle.gw_kinds.specs.declared.entities.EntityKind.{EntityKind}
-use Rattle.gw_kinds.specs.declared.entities.EntityKind.TheVariants as kinds
+use Rattle.gw_rules.specs.declared.entities.EntityKind.{EntityKind}
+use Rattle.gw_rules.specs.declared.entities.EntityKind.TheVariants as kinds
 use Rattle.gw_object.specs.declared.limits.TheConstants.{MOST_PROCEDURES}
 use Rattle.gw_text_expressions.specs.declared.model.EntityValue.{EntityValue}
 use Rattle.gw_text_expressions.specs.declared.model.EntityValue.TheVariants as values

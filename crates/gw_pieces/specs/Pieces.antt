@@ -11,13 +11,13 @@ use Rattle.gw_object.specs.declared.parts.Kind.TheVariants as kinds
 use Rattle.gw_object.specs.declared.parts.Table.{Table}
 use Rattle.gw_object.specs.declared.parts.Parts.{Parts}
 use Rattle.gw_object.specs.Grammar.{HasSpelling}
-use Rattle.gw_kinds.specs.declared.entities.EntityKind.{EntityKind}
-use Rattle.gw_kinds.specs.Pass.{KindsPass}
+use Rattle.gw_rules.specs.declared.entities.EntityKind.{EntityKind}
+use Rattle.gw_rules.specs.Pass.{KindsPass}
 use Rattle.gw_operands.specs.Environment.{Environment}
 use Rattle.gw_operands.specs.Code.{procedure_at}
-use Rattle.gw_code_flow.specs.Laws.{HasSet}
+use Rattle.gw_rules.specs.PlusLaws.{HasSet}
 use Rattle.gw_operands.specs.Outcome.{outcome_of}
-use Rattle.gw_code_flow.specs.PlusChecks.{PlusPasses}
+use Rattle.gw_rules.specs.PlusChecks.{PlusPasses}
 use Rattle.gw_text_expressions.specs.declared.model.Expression.{Expression}
 use Rattle.gw_text_tokens.specs.declared.words.Word.{Word}
 use Rattle.gw_text_tokens.specs.declared.words.Word.TheVariants as words

@@ -15,10 +15,10 @@ ghost use Rattle.gw_records.specs.Entities.{entity_kind};
 use crate::blocks::{Numbers, note_none, numbers_for};
 use crate::initials::Initials;
 use crate::origins::Origin;
-use gw_kinds::EntityKind;
 use gw_names::{Ledger, Names, Sighted};
 use gw_object::{Entity, Items, Kind};
 use gw_records::kind_of;
+use gw_rules::EntityKind;
 use gw_text::{Model, Statement};
 use std::alloc::{AllocError, Global};
 

@@ -8,8 +8,8 @@ ghost use Rattle.gw_pieces.specs.Order.{lookup_by, lookup_of, ordered_by, search
 ghost use Rattle.gw_pieces.specs.Origins.{place_in};
 
 use crate::origins::{Origin, expression_at, place_of, whole_call};
-use gw_kinds::EntityKind;
 use gw_names::{Known, found};
+use gw_rules::EntityKind;
 use gw_text::{Body, EntityValue, Model, Operand, Sna, Statement};
 use gw_uses::{Use, put_uses_of_operand, put_uses_of_procedure};
 use std::alloc::{AllocError, Global};

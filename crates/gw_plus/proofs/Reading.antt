@@ -12,11 +12,11 @@ use Rattle.gw_object.specs.declared.parts.Entity.{Entity}
 use Rattle.gw_object.specs.declared.parts.Kind.{Kind}
 use Rattle.gw_object.specs.declared.parts.Parts.{Parts}
 use Rattle.gw_operands.specs.Sources.{kind_at}
-use Rattle.gw_kinds.specs.Kinds.{entity_named}
-use Rattle.gw_kinds.specs.Laws.{IsEntity}
+use Rattle.gw_rules.specs.Kinds.{entity_named}
+use Rattle.gw_rules.specs.KindsLaws.{IsEntity}
 use Rattle.gw_operands.specs.Environment.{Environment, kept_value}
 use Rattle.gw_operands.specs.Meaning.{Frame, Next, Stuck, given, pushed, reads_source}
-use Rattle.gw_code_flow.proofs.Reading.{IsGood}
+use Rattle.gw_rules.proofs.PlusReading.{IsGood}
 use Rattle.gw_plus.specs.declared.env.Env.{Env}
 use Rattle.gw_plus.specs.Reading.{environment_of, IsOf, MayRead, MayReadKept}
 

@@ -10,15 +10,15 @@ use Rattle.gw_code.specs.declared.parts.Instruction.{Instruction}
 use Rattle.gw_code.specs.declared.parts.Instruction.TheVariants.{Push}
 use Rattle.gw_code.specs.declared.parts.Procedure.{Procedure}
 use Rattle.gw_object.specs.declared.parts.Parts.{Parts}
-use Rattle.gw_kinds.specs.Laws.{InstructionHolds}
+use Rattle.gw_rules.specs.KindsLaws.{InstructionHolds}
 use Rattle.gw_operands.specs.Code.{procedure_at, costs_of}
 use Rattle.gw_operands.specs.Environment.{Environment}
-use Rattle.gw_code_flow.specs.Laws.{HasSet}
+use Rattle.gw_rules.specs.PlusLaws.{HasSet}
 use Rattle.gw_operands.specs.Meaning.{Frame, Next, Goes, Stuck, pushed, act, next, opening, Derives, returns, ends, goes, call_ends, call_gives}
 use Rattle.gw_operands.specs.declared.ends.PlusEnd.{PlusEnd}
-use Rattle.gw_code_flow.proofs.Potential.{potential}
-use Rattle.gw_code_flow.proofs.Rules.{checked}
-use Rattle.gw_code_flow.proofs.Steps.{Sound, Ready, Well, CallsWell, next_well, opened_ready}
+use Rattle.gw_rules.proofs.Potential.{potential}
+use Rattle.gw_rules.proofs.PlusRules.{checked}
+use Rattle.gw_rules.proofs.PlusSteps.{Sound, Ready, Well, CallsWell, next_well, opened_ready}
 use Rattle.gw_plus.specs.Activation.{HasGoodCode}
 use Rattle.gw_plus.specs.declared.activation.Step.TheVariants.{Called, Returned, Ended}
 use Rattle.gw_plus.specs.Activation.{begun, Begins, CanCountEach, CanCount, finish_of, Did}

@@ -11,9 +11,9 @@ use Rattle.gw_object.specs.Grammar.{HasSpelling}
 use Rattle.gw_operands.specs.Sources.{as_operand}
 use Rattle.gw_operands.specs.Code.{procedure_at}
 use Rattle.gw_operands.specs.Environment.{Environment}
-use Rattle.gw_code_flow.specs.Laws.{MayBegin, CodeHolds}
+use Rattle.gw_rules.specs.PlusLaws.{MayBegin, CodeHolds}
 use Rattle.gw_operands.specs.Results.{value_by_operand}
-use Rattle.gw_code_flow.specs.PlusChecks.{PlusPasses}
+use Rattle.gw_rules.specs.PlusChecks.{PlusPasses}
 use Rattle.gw_operands.specs.declared.ends.PlusEnd.{PlusEnd}
 use Rattle.gw_operands.specs.Meaning.{Taken, Frame, Next, Goes, Calls, Returns, Ends, Derives, opening, on, reads, calls, act}
 use Rattle.gw_plus.specs.Reading.{environment_of}

@@ -12,7 +12,7 @@ use Rattle.gw_object.specs.declared.parts.Parts.{Parts}
 use Rattle.gw_entities.specs.Attributes.{Readings, attribute_of}
 use Rattle.gw_operands.specs.Environment.{Environment}
 use Rattle.gw_operands.specs.Code.{procedure_at}
-use Rattle.gw_code_flow.specs.Laws.{HasSet}
+use Rattle.gw_rules.specs.PlusLaws.{HasSet}
 use Rattle.gw_plus.specs.declared.env.Env.{Env}
 
 -- what may be read of entities and blocks

@@ -4,8 +4,8 @@ ghost use Rattle.std.specs.Prelude.{◌≡◌, ◌≢◌, ◌≤◌, ◌<◌, �
 ghost use Rattle.std.specs.List.{position};
 ghost use Rattle.gw_code.specs.Limits.{most_instructions, most_locals};
 ghost use Rattle.gw_code.specs.Grammar.{is_back};
-ghost use Rattle.gw_kinds.specs.Laws.{InstructionHolds};
-ghost use Rattle.gw_code_flow.specs.Laws.{CodeHolds};
+ghost use Rattle.gw_rules.specs.KindsLaws.{InstructionHolds};
+ghost use Rattle.gw_rules.specs.PlusLaws.{CodeHolds};
 ghost use Rattle.gw_operands.specs.Meaning as model;
 ghost use Rattle.gw_operands.specs.Meaning.{Goes, Stuck, on, pushed, calculated, taken_at, take_once, opened};
 ghost use Rattle.gw_plus.specs.Reading.{IsOf};
@@ -15,10 +15,9 @@ use crate::env::Env;
 use arrayvec::ArrayVec;
 use gw_blocks::Operand;
 use gw_code::{Back, Instruction, Sna};
-use gw_code_flow::{PlusEnd, made};
-use gw_kinds::{as_operand, source_of};
 use gw_num::{Binary, NumFault, Unary};
 use gw_object::Parts;
+use gw_operands::{PlusEnd, as_operand, made, source_of};
 
 /// How often a BACK was taken.
 #[derive(Clone, Copy, Debug, Default, PartialEq, Eq)]
@@ -105,7 +104,7 @@ fn entry_for(turns: &mut ArrayVec<Turns, 32>, place: usize) -> usize
 }
 
 /// What an instruction makes of the value of the procedure that it called: VALUE what its attribute makes of it
-/// (`gw_code_flow::made`), and CALL leaves it as it is.
+/// (`gw_operands::made`), and CALL leaves it as it is.
 pub(crate) fn finished(parts: &Parts, instruction: Instruction, value: i64) -> i64
     ensures { result ≡ finish_of parts.now instruction value }
 {
@@ -214,7 +213,7 @@ impl Activation {
     }
 
     /// VALUE: by its source, a procedure is called, or what the attribute makes of a value that is kept comes onto the stack
-    /// (`gw_kinds::source_of`, `gw_code_flow::made`).
+    /// (`gw_operands::source_of`, `gw_operands::made`).
     fn value(&mut self, parts: &Parts, env: &Env, sna: Sna) -> Step
         requires code { CodeHolds parts.now }
         requires environment { IsOf parts.now env.now }

@@ -8,9 +8,9 @@ ghost use Rattle.gw_plus.specs.Reading.{environment_of, IsOf, CanEvaluate};
 use crate::activation::{Activation, Step, finished, opening_locals};
 use crate::env::Env;
 use arrayvec::ArrayVec;
-use gw_code_flow::PlusEnd;
 use gw_object::Parts;
-use gw_verify::Verified;
+use gw_operands::PlusEnd;
+use gw_rules::Verified;
 
 /// The value or the end of the procedure of this number, from 0, that begins with these locals.
 fn activate(

@@ -9,4 +9,3 @@ mod evaluation;
 pub use activation::ended_by;
 pub use env::Env;
 pub use evaluation::eval;
-pub use gw_code_flow::PlusEnd;

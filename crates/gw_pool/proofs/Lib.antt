@@ -1,2 +1,3 @@
+pub mod Answered
 pub mod Booked
 pub mod Steps

@@ -8,7 +8,7 @@ use Rattle.gw_blocks.specs.declared.parts.Mode.{Mode}
 use Rattle.gw_blocks.specs.declared.parts.Mode.TheVariants as modes
 use Rattle.gw_blocks.specs.declared.parts.LinkOrder.{LinkOrder}
 use Rattle.gw_blocks.specs.declared.parts.LinkOrder.TheVariants as orders
-use Rattle.gw_kinds.specs.declared.entities.EntityKind.{EntityKind}
+use Rattle.gw_rules.specs.declared.entities.EntityKind.{EntityKind}
 use Rattle.gw_operands.specs.Sources.{as_operand}
 use Rattle.gw_text_expressions.specs.declared.model.Sna.{Sna}
 use Rattle.gw_text_expressions.specs.declared.model.Sna.TheVariants.{Random}

@@ -11,9 +11,9 @@ use Rattle.gw_blocks.specs.declared.parts.Condition.{Condition}
 use Rattle.gw_blocks.specs.declared.parts.Condition.TheVariants as conditions
 use Rattle.gw_blocks.specs.declared.parts.SwitchAction.{SwitchAction}
 use Rattle.gw_blocks.specs.declared.parts.SwitchAction.TheVariants as actions
-use Rattle.gw_kinds.specs.declared.entities.EntityKind.{EntityKind}
-use Rattle.gw_kinds.specs.declared.entities.EntityKind.TheVariants as kinds
-use Rattle.gw_kinds.specs.Kinds.{needed_by}
+use Rattle.gw_rules.specs.declared.entities.EntityKind.{EntityKind}
+use Rattle.gw_rules.specs.declared.entities.EntityKind.TheVariants as kinds
+use Rattle.gw_rules.specs.Kinds.{needed_by}
 use Rattle.gw_text_tokens.specs.declared.words.Word.{Word}
 use Rattle.gw_text_tokens.specs.declared.words.Word.TheVariants as words
 use Rattle.gw_text_statements.specs.declared.model.Operand.{Operand as Text}

@@ -12,7 +12,7 @@ use gw_blocks::{
     Split, Spread, Units, Unlink,
 };
 use gw_compile::Numbering;
-use gw_kinds::EntityKind;
+use gw_rules::EntityKind;
 use gw_text::{Gate, Modifier, Operand as Text, Statement, Switching, Test, Word};
 
 /// GENERATE, with this interval.

@@ -5,7 +5,8 @@ ghost use Rattle.gw_records.specs.Operands as model;
 
 use gw_blocks::{LinkOrder, Operand};
 use gw_compile::{Equ, Numbering, attribute_in};
-use gw_kinds::{EntityKind, as_operand};
+use gw_operands::as_operand;
+use gw_rules::EntityKind;
 use gw_text::{Operand as Text, Sna};
 
 /// The value that an EQU is.

@@ -5,7 +5,7 @@ ghost use Rattle.gw_records.specs.Operands.{mode_in};
 ghost use Rattle.gw_records.specs.Records as model;
 
 use gw_blocks::{Comparison, Condition, Mode, SwitchAction};
-use gw_kinds::EntityKind;
+use gw_rules::EntityKind;
 use gw_text::{Gate, Modifier, Switching, Test};
 
 /// How the two values of a TEST are compared.

@@ -24,7 +24,7 @@ use Rattle.gw_step.specs.State.{State, delay_list, user_chain}
 use Rattle.gw_scan.specs.declared.sim.Status.{Status}
 use Rattle.gw_scan.specs.declared.sim.Status.TheVariants.{Running, Ended}
 use Rattle.gw_scan.specs.Answers.{status_at}
-use Rattle.gw_step.specs.Job.{Progress}
+use Rattle.gw_step.specs.Job.{Job, Progress, Alone, IsFinal}
 
 -- this text is put behind what is there, unless there is no memory for it
 abbrev pub Puts : {A E : Type 0} → Result A E → Vec ℕ Global → Vec ℕ Global → List ℕ → Type 0
@@ -171,3 +171,11 @@ lines_of_entities p = entity_lines p.state 0 p.job.parts.entities
 -- the report text of a job and its state
 abbrev pub report_of : Progress → List ℕ
 report_of p = end_line (status_at p.state.ended) p.state ++ lines_of_blocks p ++ lines_of_entities p
+
+-- the report of the final state that the lone run reaches
+pub record Ends (j : Job) (text : List ℕ) : Type 0 where
+  pub steps : ℕ
+  pub state : State
+  pub alone : Alone j steps state
+  pub final : IsFinal state
+  pub report : text ≡ report_of (record { job = j; state = state })

@@ -10,7 +10,7 @@ use Rattle.std.proofs.lemmas.List.{get_or-set_same, get_or-set_other, length-set
 use Rattle.std.proofs.lemmas.List.Elements.{All-head, All-tail}
 use Rattle.std.proofs.lemmas.Nat.Bits.{bit_at-zero, bit_at_and, bit_at_ones, bit_at_set_same, bit_at_set_other}
 use Rattle.std.proofs.Math.Bool.{or-true}
-use Rattle.gw_returns.specs.Returns.{lists}
+use Rattle.gw_object.specs.Returns.{lists}
 use Rattle.gw_returns.specs.Words.{bit_of, word_at, with_bit, with_bits, common}
 
 -- ONE BIT

@@ -6,7 +6,7 @@ use Rattle.std.specs.Int.{bit_at}
 use Rattle.std.proofs.lemmas.List.{get_or_append_left, get_or_push, length_push}
 use Rattle.std.proofs.lemmas.List.Elements.{All-head, All-tail, All-nil}
 use Rattle.gw_object.specs.declared.parts.ReturnRow.{ReturnRow}
-use Rattle.gw_returns.specs.Returns.{lists, are_among, row_blocks}
+use Rattle.gw_object.specs.Returns.{lists, are_among, row_blocks}
 use Rattle.gw_returns.specs.Words.{bit_of, word_at, with_bits, common}
 use Rattle.gw_returns.specs.Columns.{AreBelow, TellHolders, IsColumn, AreFirst}
 use Rattle.gw_returns.proofs.Bits.{other_places, same_places, no_bit, in_common}

@@ -3,7 +3,7 @@ use Rattle.std.specs.Prelude.{◌≡◌, ℕ, ◌<◌, ◌≤◌, ◌+◌, ◌*�
 use Rattle.std.specs.Int.{bit_at}
 use Rattle.std.specs.Global.{Global}
 use Rattle.gw_object.specs.declared.parts.ReturnRow.{ReturnRow}
-use Rattle.gw_returns.specs.Returns.{lists, are_among, row_blocks}
+use Rattle.gw_object.specs.Returns.{lists, are_among, row_blocks}
 use Rattle.gw_returns.specs.Words.{bit_of, word_at}
 
 -- the blocks of return rows are below a bound

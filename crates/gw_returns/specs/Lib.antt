@@ -1,3 +1,2 @@
-pub mod Returns
 pub mod Words
 pub mod Columns

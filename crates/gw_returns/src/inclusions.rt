@@ -1,7 +1,7 @@
 //! Which return rows are within which others.
 
 ghost use Rattle.std.specs.Prelude.{◌≡◌, ◌≤◌, IfOk, length};
-ghost use Rattle.gw_returns.specs.Returns.{lists, are_among, row_blocks};
+ghost use Rattle.gw_object.specs.Returns.{lists, are_among, row_blocks};
 ghost use Rattle.gw_returns.specs.Columns.{AreBelow};
 
 use crate::columns::{WIDTH, columns, word_in};

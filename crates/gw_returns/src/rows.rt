@@ -1,7 +1,7 @@
 //! Return rows by their numbers.
 
 ghost use Rattle.std.specs.Prelude.{◌≡◌};
-ghost use Rattle.gw_returns.specs.Returns.{row_blocks};
+ghost use Rattle.gw_object.specs.Returns.{row_blocks};
 
 use gw_object::ReturnRow;
 

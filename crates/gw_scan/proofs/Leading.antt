@@ -5,8 +5,8 @@ use Rattle.std.specs.List.{AllByRecursion}
 use Rattle.gw_blocks.specs.declared.parts.Block.{Block}
 use Rattle.gw_blocks.specs.declared.parts.Block.TheVariants as blocks
 use Rattle.gw_blocks.specs.declared.parts.Fraction.{Fraction}
-use Rattle.gw_kinds.specs.declared.ways.Exit.{Exit}
-use Rattle.gw_kinds.specs.Exits.{leads_to, falls_or_goes}
+use Rattle.gw_rules.specs.declared.ways.Exit.{Exit}
+use Rattle.gw_rules.specs.Exits.{leads_to, falls_or_goes}
 use Rattle.gw_step.specs.State.{may_enter}
 use Rattle.gw_step.specs.Blocks.{led_by, chosen}
 use Rattle.gw_step.specs.Asks.{MayLead, Leads}

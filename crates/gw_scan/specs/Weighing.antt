@@ -1,11 +1,11 @@
 -- What a machine's transactions weigh, and what its blocks owe.
 use Rattle.std.specs.Prelude.{ℕ, ◌*◌, ℤ, List, Option, None, int_lt, if◌then◌else◌}
 use Rattle.gw_object.specs.declared.parts.Parts.{Parts}
-use Rattle.gw_kinds.specs.Kinds.{block_at}
+use Rattle.gw_rules.specs.Kinds.{block_at}
 use Rattle.gw_num.specs.Table.{at}
 use Rattle.gw_chains.specs.declared.tx.Event.{Event}
 use Rattle.gw_transactions.specs.Transactions.{LiveTransaction}
-use Rattle.gw_weights.specs.Weights.{weight_at}
+use Rattle.gw_rules.specs.Weights.{weight_at}
 use Rattle.gw_step.specs.Weight.{weight_in, owed_by}
 
 -- the weight of the place of a transaction that is scheduled for later than a time; that of another one isn't counted

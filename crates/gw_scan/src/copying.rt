@@ -2,7 +2,7 @@
 #![tactic(auto, unfolding(gw_step::specs::Blocks::act, gw_step::specs::Blocks::effect))]
 
 ghost use Rattle.std.specs.Prelude.{◌≡◌, ◌≤◌, Some, false};
-ghost use Rattle.gw_kinds.specs.Exits.{leads_to, goes_or_falls};
+ghost use Rattle.gw_rules.specs.Exits.{leads_to, goes_or_falls};
 ghost use Rattle.gw_entities.specs.Facility.{owns_any};
 ghost use Rattle.gw_step.specs.Changes as change;
 ghost use Rattle.gw_step.specs.Blocks as model;

@@ -11,8 +11,8 @@ use crate::visit::{Visit, blocks_of};
 use gw_blocks::Block;
 use gw_chains::Memory;
 use gw_machine::{Machine, Made, block_of};
+use gw_rules::Verified;
 use gw_step::End;
-use gw_verify::Verified;
 
 /// Nobody is active: the first of the current events chain becomes so; else the clock moves; else nothing is left.
 fn next_active(machine: &mut Machine, blocks: &[Block]) -> Result<Made, Memory>

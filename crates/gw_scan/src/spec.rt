@@ -8,7 +8,7 @@ ghost use Rattle.gw_scan.specs.Making as model;
 use gw_chains::Memory;
 use gw_num::Stream;
 use gw_object::{GREATEST_SEED, MOST_SEEDS, Parts};
-use gw_verify::Verified;
+use gw_rules::Verified;
 use std::alloc::Global;
 use std::marker::Model;
 use std::sync::Arc;
@@ -130,7 +130,7 @@ fn fault_of(seeds: &[u32], count: u64, budget: u64) -> Option<StartFault>
 }
 
 impl Spec {
-    ghost use Rattle.gw_verify.specs.Checks.{Checked};
+    ghost use Rattle.gw_rules.specs.Accepted.{Checked};
     ghost use Rattle.gw_step.specs.Job.{JobFits};
     ghost use Rattle.gw_scan.specs.Making.{job_from, spec_fault, refusal_of};
 

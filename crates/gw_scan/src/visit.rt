@@ -14,10 +14,10 @@ use gw_blocks::{Block, Operand};
 use gw_chains::{Memory, Tx};
 use gw_machine::{Machine, active_subject};
 use gw_num::Stream;
-use gw_plus::PlusEnd;
+use gw_operands::PlusEnd;
+use gw_rules::Verified;
 use gw_step::Placement;
 use gw_transactions::Transaction;
-use gw_verify::Verified;
 
 /// The visit of a machine's active transaction to its next block, which it is about to enter. What it has stays the same
 /// until then; the machine, which the block changes, is passed beside it.

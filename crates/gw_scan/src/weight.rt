@@ -5,8 +5,8 @@ ghost use Rattle.std.specs.List.{AllByRecursion};
 ghost use Rattle.std.specs.Option.{option_copied};
 ghost use Rattle.gw_num.specs.Table.{at, tabulate};
 ghost use Rattle.gw_transactions.specs.Transactions.{Holds, live_count};
-ghost use Rattle.gw_kinds.specs.Kinds.{block_at};
-ghost use Rattle.gw_weights.specs.Weights as certified;
+ghost use Rattle.gw_rules.specs.Kinds.{block_at};
+ghost use Rattle.gw_rules.specs.Weights as certified;
 ghost use Rattle.gw_step.specs.Places.{place_of};
 ghost use Rattle.gw_step.specs.Weight as model;
 ghost use Rattle.gw_machine.specs.View.{state_of};
@@ -15,11 +15,10 @@ ghost use Rattle.gw_scan.specs.Weighing.{later_weight, owed_weight};
 
 use gw_blocks::{Block, Generate};
 use gw_chains::{Event, Tx};
-use gw_kinds::takes_time;
 use gw_machine::{Machine, block_of};
 use gw_object::Parts;
+use gw_rules::{chain_weight, takes_time, weight_at};
 use gw_transactions::Transactions;
-use gw_weights::{chain_weight, weight_at};
 
 /// The weight of a place: of the user chain that who is there is a member of, else of the block that it is about to enter.
 fn place_weight(parts: &Parts, chain: Option<u16>, next: u16) -> u32

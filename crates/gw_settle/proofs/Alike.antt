@@ -4,9 +4,9 @@ use Rattle.std.specs.Prelude.{All, AllPairs, IsTrue}
 use Rattle.std.specs.List.{list_all}
 use Rattle.std.proofs.lemmas.Bool.{cases_eq, cases_order, eq-eqb, ne_eqb, false≢true}
 use Rattle.std.proofs.lemmas.List.Elements.{All-nil, All-cons, All-head, All-tail, All-weaker, All-map}
-use Rattle.gw_flow.specs.Entries.{lists, entry, amount_of}
-use Rattle.gw_flow.specs.Rows.{Row, ParamKind, Num, Ret, kind_of, units_of, kind_fits, KindAscends, IsOrdered}
-use Rattle.gw_flow.proofs.Fitting.{included}
+use Rattle.gw_rules.specs.Entries.{lists, entry, amount_of}
+use Rattle.gw_rules.specs.Rows.{Row, ParamKind, Num, Ret, kind_of, units_of, kind_fits, KindAscends, IsOrdered}
+use Rattle.gw_rules.proofs.Fitting.{included}
 use Rattle.gw_flow.proofs.Ascending.{AllPairs-head, AllPairs-tail, AllPairs-map}
 use Rattle.gw_settle.specs.Joins.{keep, united, joined_kind, joined, is_within, with_state}
 use Rattle.gw_settle.proofs.Joining.{lists-united, units_joined}

@@ -12,13 +12,13 @@ use Rattle.gw_object.specs.declared.parts.Entity.{Entity}
 use Rattle.gw_object.specs.declared.parts.TableState.{TableState}
 use Rattle.gw_object.specs.declared.parts.ReturnRow.{ReturnRow}
 use Rattle.gw_object.specs.declared.parts.Parts.{Parts}
-use Rattle.gw_kinds.specs.Checks.{first_broken}
-use Rattle.gw_kinds.specs.Kinds.{is_call_at, chain_place, chain_row}
-use Rattle.gw_kinds.specs.Pass.{KindsPass}
-use Rattle.gw_flow.specs.declared.edges.Target.TheVariants as targets
-use Rattle.gw_flow.specs.Rows.{Row, ParamKind, Num, Ret}
-use Rattle.gw_flow.specs.Seen.{row_meaning}
-use Rattle.gw_flow.specs.Flow.{own_table, flow_checks, FlowPasses}
+use Rattle.gw_rules.specs.Checks.{first_broken}
+use Rattle.gw_rules.specs.Kinds.{is_call_at, chain_place, chain_row}
+use Rattle.gw_rules.specs.Pass.{KindsPass}
+use Rattle.gw_rules.specs.declared.edges.Target.TheVariants as targets
+use Rattle.gw_rules.specs.Rows.{Row, ParamKind, Num, Ret}
+use Rattle.gw_rules.specs.Seen.{row_meaning}
+use Rattle.gw_rules.specs.Flow.{own_table, flow_checks, FlowPasses}
 use Rattle.gw_flow.proofs.Ascending.{All-from_map}
 use Rattle.gw_settle.specs.declared.written.Written.{Written}
 use Rattle.gw_settle.specs.Rounds.{as_table, own_rows, AreSettled}

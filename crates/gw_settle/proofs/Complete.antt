@@ -10,21 +10,21 @@ use Rattle.gw_blocks.specs.declared.parts.Mode.TheVariants.{Set}
 use Rattle.gw_blocks.specs.declared.parts.Block.{Block}
 use Rattle.gw_blocks.specs.declared.parts.Block.TheVariants as blocks
 use Rattle.gw_object.specs.declared.parts.Parts.{Parts}
-use Rattle.gw_kinds.specs.Kinds.{block_at, is_generate}
-use Rattle.gw_flow.specs.declared.edges.Target.{Target}
-use Rattle.gw_flow.specs.declared.edges.Target.TheVariants as targets
-use Rattle.gw_flow.specs.declared.edges.FlowEdge.{FlowEdge}
-use Rattle.gw_flow.specs.Codes as codes
-use Rattle.gw_flow.specs.Entries.{lists}
-use Rattle.gw_flow.specs.Rows.{Row, ParamKind, Num, Ret, kind_of, is_return, is_empty, nothing_known, Fits}
-use Rattle.gw_flow.specs.Blocks.{Table, Rule, rule, replaces, rules, value_rules, own_rules, move, edges_from, members_move, members_edges, chain_edges, edges}
-use Rattle.gw_flow.specs.Flow.{FlowPasses}
-use Rattle.gw_flow.specs.Laws.{MayPass, FlowHolds, forbids}
-use Rattle.gw_flow.proofs.EachBlock.{All-front, All-back}
-use Rattle.gw_flow.proofs.Chains.{ChainUse, Links, Unlinks, Neither, chain_use}
-use Rattle.gw_flow.proofs.Fitting.{fits_on, fits_itself}
-use Rattle.gw_flow.proofs.Passing.{flow_passes_at_each_block}
-use Rattle.gw_flow.proofs.Monotone.{fitting_states_pass}
+use Rattle.gw_rules.specs.Kinds.{block_at, is_generate}
+use Rattle.gw_rules.specs.declared.edges.Target.{Target}
+use Rattle.gw_rules.specs.declared.edges.Target.TheVariants as targets
+use Rattle.gw_rules.specs.Blocks.{FlowEdge}
+use Rattle.gw_rules.specs.FlowCodes as codes
+use Rattle.gw_rules.specs.Entries.{lists}
+use Rattle.gw_rules.specs.Rows.{Row, ParamKind, Num, Ret, kind_of, is_return, is_empty, nothing_known, Fits}
+use Rattle.gw_rules.specs.Blocks.{Table, Rule, rule, replaces, rules, value_rules, own_rules, move, edges_from, members_move, members_edges, chain_edges, edges}
+use Rattle.gw_rules.specs.Flow.{FlowPasses}
+use Rattle.gw_rules.specs.FlowLaws.{MayPass, FlowHolds, forbids}
+use Rattle.gw_rules.proofs.EachBlock.{All-front, All-back}
+use Rattle.gw_rules.proofs.Chains.{ChainUse, Links, Unlinks, Neither, chain_use}
+use Rattle.gw_rules.proofs.Fitting.{fits_on, fits_itself}
+use Rattle.gw_rules.proofs.Passing.{flow_passes_at_each_block}
+use Rattle.gw_rules.proofs.Monotone.{fitting_states_pass}
 use Rattle.gw_settle.specs.Joins.{joined_kind, joined, Within}
 use Rattle.gw_settle.proofs.Joining.{join_is_greatest, kind_joined, in_either}
 use Rattle.gw_settle.specs.Rounds.{sends}
@@ -151,7 +151,7 @@ module _ (p : Parts) (s t : Table) (good : IsGood p s) (none : NoneChanged p) (b
   chains_fit : (block : Block) (state : Row) → ChainUse block → All Fit (chain_edges t block state) → All Fit (chain_edges s block state)
   chains_fit _ state (Links l) h = h
   chains_fit _ state (Unlinks u) h = members_fit u.target (s (targets.Chain u.chain)) (t (targets.Chain u.chain)) (below (targets.Chain u.chain)) h
-  chains_fit block state (Neither joins_none members own) h = subst (λ es. All Fit (es ++ members_edges s block)) (sym (joins_none state)) (subst (All Fit) (sym (members s)) (All-nil Fit))
+  chains_fit block state (Neither joins_none members) h = subst (λ es. All Fit (es ++ members_edges s block)) (sym (joins_none state)) (subst (All Fit) (sym (members s)) (All-nil Fit))
 
   -- in its row of the table of the rounds, a block's rules hold, and its edges fit the rows of the table that passes
   row_in : (b : ℕ) (block : Block) (state : Row) (there : Option Row) → block_at p.blocks b ≡ Some block → s (targets.Block b) ≡ Some state → t (targets.Block b) ≡ there → IsSomeAnd there (Fits state) → All Holds (rules p block state) × All Fit (edges p s b block state)

@@ -10,13 +10,13 @@ use Rattle.gw_blocks.specs.declared.parts.Block.{Block}
 use Rattle.gw_blocks.specs.declared.parts.Block.TheVariants as blocks
 use Rattle.gw_object.specs.declared.parts.Entity.{Entity}
 use Rattle.gw_object.specs.declared.parts.Parts.{Parts}
-use Rattle.gw_kinds.specs.Kinds.{block_at, chain_place, is_generate}
-use Rattle.gw_flow.specs.declared.edges.Target.{Target}
-use Rattle.gw_flow.specs.declared.edges.Target.TheVariants as targets
-use Rattle.gw_flow.specs.declared.edges.FlowEdge.{FlowEdge}
-use Rattle.gw_flow.specs.Codes as codes
-use Rattle.gw_flow.specs.Rows.{Row, nothing_known}
-use Rattle.gw_flow.specs.Blocks.{Rule, rules, members_move, members_edges, edges}
+use Rattle.gw_rules.specs.Kinds.{block_at, chain_place, is_generate}
+use Rattle.gw_rules.specs.declared.edges.Target.{Target}
+use Rattle.gw_rules.specs.declared.edges.Target.TheVariants as targets
+use Rattle.gw_rules.specs.Blocks.{FlowEdge}
+use Rattle.gw_rules.specs.FlowCodes as codes
+use Rattle.gw_rules.specs.Rows.{Row, nothing_known}
+use Rattle.gw_rules.specs.Blocks.{Rule, rules, members_move, members_edges, edges}
 use Rattle.gw_settle.specs.Joins.{joined, with_state}
 use Rattle.gw_settle.specs.Rounds.{TableRows, as_table, changed, sent_at, sent_to, all_sent, sends_in, visited, visited_to}
 use Rattle.gw_settle.specs.Jumps.{units_asked, row_in}

@@ -6,10 +6,10 @@ use Rattle.std.proofs.lemmas.Option.{slice_get_within}
 use Rattle.gw_blocks.specs.declared.parts.Block.{Block}
 use Rattle.gw_blocks.specs.declared.parts.Block.TheVariants as blocks
 use Rattle.gw_object.specs.declared.parts.Parts.{Parts}
-use Rattle.gw_kinds.specs.Kinds.{block_at, chain_place}
-use Rattle.gw_flow.specs.declared.edges.Target.TheVariants as targets
-use Rattle.gw_flow.specs.declared.edges.FlowEdge.{FlowEdge}
-use Rattle.gw_flow.specs.Rows.{Row}
+use Rattle.gw_rules.specs.Kinds.{block_at, chain_place}
+use Rattle.gw_rules.specs.declared.edges.Target.TheVariants as targets
+use Rattle.gw_rules.specs.Blocks.{FlowEdge}
+use Rattle.gw_rules.specs.Rows.{Row}
 use Rattle.gw_settle.specs.declared.draft.Draft.{Draft}
 use Rattle.gw_settle.specs.declared.returns.Like.{Like}
 use Rattle.gw_settle.specs.declared.returns.Sent.{Sent}

@@ -4,12 +4,12 @@ use Rattle.std.specs.Prelude.{All, IfSome}
 use Rattle.std.proofs.lemmas.List.Elements.{All-cons, All-head, All-tail}
 use Rattle.gw_object.specs.declared.parts.Parts.{Parts}
 use Rattle.gw_object.specs.declared.parts.Entity.{Entity}
-use Rattle.gw_kinds.specs.Kinds.{chain_place, needs}
-use Rattle.gw_kinds.specs.declared.entities.EntityKind.TheVariants.{StorageOrQueue}
-use Rattle.gw_kinds.specs.Laws.{IsEntity}
-use Rattle.gw_flow.specs.declared.edges.Target.{Target}
-use Rattle.gw_flow.specs.declared.edges.Target.TheVariants as targets
-use Rattle.gw_flow.specs.Rows.{Row}
+use Rattle.gw_rules.specs.Kinds.{chain_place, needs}
+use Rattle.gw_rules.specs.declared.entities.EntityKind.TheVariants.{StorageOrQueue}
+use Rattle.gw_rules.specs.KindsLaws.{IsEntity}
+use Rattle.gw_rules.specs.declared.edges.Target.{Target}
+use Rattle.gw_rules.specs.declared.edges.Target.TheVariants as targets
+use Rattle.gw_rules.specs.Rows.{Row}
 use Rattle.gw_settle.specs.Rounds.{TableRows, as_table}
 use Rattle.gw_settle.specs.Keeps.{IsGrounded, IsNamed, NamesCalls, absent_in, absent, HasFew, AreSound}
 use Rattle.gw_settle.specs.Jumps.{row_after, place_after, places_after, rows_after}

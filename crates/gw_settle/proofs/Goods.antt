@@ -9,23 +9,23 @@ use Rattle.gw_blocks.specs.declared.parts.Block.TheVariants as blocks
 use Rattle.gw_object.specs.declared.parts.Entity.{Entity}
 use Rattle.gw_object.specs.declared.parts.Kind.{Kind}
 use Rattle.gw_object.specs.declared.parts.Kind.TheVariants as kinds
-use Rattle.gw_kinds.specs.declared.entities.EntityKind.TheVariants.{Facility, Storage, Queue, StorageOrQueue}
-use Rattle.gw_kinds.specs.declared.ways.Exit.{Exit}
-use Rattle.gw_kinds.specs.declared.ways.Who.{Who}
-use Rattle.gw_kinds.specs.declared.ways.Who.TheVariants.{Itself, Copies}
+use Rattle.gw_rules.specs.declared.entities.EntityKind.TheVariants.{Facility, Storage, Queue, StorageOrQueue}
+use Rattle.gw_rules.specs.declared.ways.Exit.{Exit}
+use Rattle.gw_rules.specs.declared.ways.Who.{Who}
+use Rattle.gw_rules.specs.declared.ways.Who.TheVariants.{Itself, Copies}
 use Rattle.gw_operands.specs.Sources.{kind_at, values}
-use Rattle.gw_kinds.specs.Exits.{leads_to, is_call, exits_with}
-use Rattle.gw_kinds.specs.Kinds.{block_at, is_call_at, needs, serves_as, entity_of, named_entities, has_good_constants}
-use Rattle.gw_kinds.specs.Laws.{IsEntity}
-use Rattle.gw_flow.specs.declared.abstract_state.Parameter.{Parameter}
-use Rattle.gw_flow.specs.declared.edges.FlowEdge.{FlowEdge}
-use Rattle.gw_flow.specs.declared.edges.Target.TheVariants as targets
-use Rattle.gw_flow.specs.Rows.{Row, ParamKind, units_of, nonzero, with_units, parameters_alone}
-use Rattle.gw_flow.specs.Blocks.{Table, number_in, parameter_set, with_setting, after, returns_read, move, is_used, known_of, edge_along, edges_along, edges_from, join, members_move, members_edges, chain_edges}
-use Rattle.gw_flow.specs.Seen.{kind_seen}
-use Rattle.gw_flow.proofs.Entries.{amount-with_entry}
-use Rattle.gw_flow.proofs.Parameters.{after_params}
-use Rattle.gw_flow.proofs.Chains.{ChainUse, Links, Unlinks, Neither, chain_use}
+use Rattle.gw_rules.specs.Exits.{leads_to, is_call, exits_with}
+use Rattle.gw_rules.specs.Kinds.{block_at, is_call_at, needs, serves_as, entity_of, named_entities, has_good_constants}
+use Rattle.gw_rules.specs.KindsLaws.{IsEntity}
+use Rattle.gw_rules.specs.declared.set_parameters.Parameter.{Parameter}
+use Rattle.gw_rules.specs.Blocks.{FlowEdge}
+use Rattle.gw_rules.specs.declared.edges.Target.TheVariants as targets
+use Rattle.gw_rules.specs.Rows.{Row, ParamKind, units_of, nonzero, with_units, parameters_alone}
+use Rattle.gw_rules.specs.Blocks.{Table, number_in, parameter_set, with_setting, after, returns_read, move, is_used, known_of, edge_along, edges_along, edges_from, join, members_move, members_edges, chain_edges}
+use Rattle.gw_rules.specs.Seen.{kind_seen}
+use Rattle.gw_rules.proofs.Entries.{amount-with_entry}
+use Rattle.gw_rules.proofs.Parameters.{after_params}
+use Rattle.gw_rules.proofs.Chains.{ChainUse, Links, Unlinks, Neither, chain_use}
 use Rattle.gw_settle.specs.Keeps.{IsNamed, KindNamesCalls, NamesCalls}
 
 -- NAMES
@@ -167,7 +167,7 @@ module _ (P : Row → Type 0) where
   at_chains : (table : Table) (block : Block) (row : Row) → ChainUse block → P row → ((e : ℕ) → IfSome (table (targets.Chain e)) P) → All At (chain_edges table block row)
   at_chains table _ row (Links l) h g = All-cons At (join l.chain row) [] h (All-nil At)
   at_chains table _ row (Unlinks u) h g = at_members u.target (table (targets.Chain u.chain)) (g u.chain)
-  at_chains table block row (Neither none members own) h g = subst (λ es. All At (es ++ members_edges table block)) (sym (none row)) (subst (All At) (sym (members table)) (All-nil At))
+  at_chains table block row (Neither none members) h g = subst (λ es. All At (es ++ members_edges table block)) (sym (none row)) (subst (All At) (sym (members table)) (All-nil At))
 
   pub at_edges : (table : Table) (b : ℕ) (block : Block) (row : Row) → P row → P (after b block row) → P (parameters_alone (after b block row)) → ((e : ℕ) → IfSome (table (targets.Chain e)) P) →
       All At (edges_from b block row ++ chain_edges table block row)

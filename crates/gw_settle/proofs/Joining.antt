@@ -5,9 +5,9 @@ use Rattle.std.specs.List.{list_all}
 use Rattle.std.proofs.lemmas.List.Folds.{list_any-append}
 use Rattle.std.proofs.lemmas.Map.Views.{any-filter_same}
 use Rattle.std.proofs.lemmas.Bool.{cases_eq, cases_order, eqb-true, eq-eqb, ne_eqb, lt-ltb, le-ltb, or_cases, and_from, or_left, or_right, false≢true}
-use Rattle.gw_flow.specs.Entries.{entry, lists}
-use Rattle.gw_flow.specs.Rows.{ParamKind, Num, Ret, Row, kind_of, units_of, nonzero, kind_fits}
-use Rattle.gw_flow.proofs.Fitting.{included}
+use Rattle.gw_rules.specs.Entries.{entry, lists}
+use Rattle.gw_rules.specs.Rows.{ParamKind, Num, Ret, Row, kind_of, units_of, nonzero, kind_fits}
+use Rattle.gw_rules.proofs.Fitting.{included}
 use Rattle.gw_settle.specs.Joins.{one, keep, united, joined_kind, joined, JoinIsBelowBoth, JoinIsGreatest}
 
 -- SETS

@@ -8,9 +8,9 @@ use Rattle.gw_blocks.specs.declared.parts.Block.{Block}
 use Rattle.gw_blocks.specs.declared.parts.Units.{Units}
 use Rattle.gw_object.specs.declared.parts.Parts.{Parts}
 use Rattle.gw_object.specs.Entities.{chains_in}
-use Rattle.gw_kinds.specs.Kinds.{block_at, is_generate}
-use Rattle.gw_flow.specs.declared.edges.Target.TheVariants as targets
-use Rattle.gw_flow.specs.Rows.{Row, ParamKind, units_of, nothing_known, KindAscends, IsOrdered}
+use Rattle.gw_rules.specs.Kinds.{block_at, is_generate}
+use Rattle.gw_rules.specs.declared.edges.Target.TheVariants as targets
+use Rattle.gw_rules.specs.Rows.{Row, ParamKind, units_of, nothing_known, KindAscends, IsOrdered}
 use Rattle.gw_settle.specs.Rounds.{TableRows, as_table, visited_to, round, start_row, rounds, AreReached}
 use Rattle.gw_settle.specs.Keeps.{HasShape, IsWell, AreKept, absent_in, absent}
 use Rattle.gw_settle.specs.Jumps.{further, rows_after, row_in, units_asked, MayJump, HasJumped}

@@ -4,9 +4,9 @@ use Rattle.std.specs.Prelude.{All, AllPairs, IfSome, unwrap_or}
 use Rattle.std.proofs.lemmas.Bool.{eq-eqb, ne_eqb}
 use Rattle.std.proofs.lemmas.List.Elements.{All-get_or}
 use Rattle.gw_flow.specs.declared.abstract_state.Amount.{Amount}
-use Rattle.gw_flow.specs.Entries.{entry, amount_of}
-use Rattle.gw_flow.specs.Rows.{ParamKind, KindAscends, Row, kind_of, units_of, nonzero}
-use Rattle.gw_flow.specs.Seen.{amounts_of}
+use Rattle.gw_rules.specs.Entries.{entry, amount_of}
+use Rattle.gw_rules.specs.Rows.{ParamKind, KindAscends, Row, kind_of, units_of, nonzero}
+use Rattle.gw_flow.specs.Known.{amounts_of}
 use Rattle.gw_flow.proofs.Ascending.{AllPairs-head, AllPairs-tail, AllPairs-from_map}
 use Rattle.gw_settle.specs.declared.known.KnownParam.{KnownParam}
 use Rattle.gw_settle.specs.Joins.{one, keep, joined_kind, AddsJoined, AddsUnits}

@@ -15,21 +15,21 @@ use Rattle.gw_object.specs.declared.parts.Parts.{Parts}
 use Rattle.gw_object.specs.declared.parts.Kind.{Kind}
 use Rattle.gw_object.specs.declared.parts.Kind.TheVariants as kinds
 use Rattle.gw_object.specs.Entities.{chains_in, is_chain}
-use Rattle.gw_kinds.specs.declared.entities.EntityKind.TheVariants.{Chain, Facility, StorageOrQueue}
-use Rattle.gw_kinds.specs.declared.ways.Way.{Way}
-use Rattle.gw_kinds.specs.declared.ways.Exit.{Exit}
+use Rattle.gw_rules.specs.declared.entities.EntityKind.TheVariants.{Chain, Facility, StorageOrQueue}
+use Rattle.gw_rules.specs.declared.ways.Way.{Way}
+use Rattle.gw_rules.specs.declared.ways.Exit.{Exit}
 use Rattle.gw_operands.specs.Sources.{values}
-use Rattle.gw_kinds.specs.Exits.{leads_to, exits, is_call, other_way}
-use Rattle.gw_kinds.specs.Kinds.{block_at, chain_place, is_generate, is_call_at, needs, serves_as, entity_of}
-use Rattle.gw_kinds.specs.Laws.{IsEntity, MayBeEntered, BlockHolds}
-use Rattle.gw_kinds.proofs.KindsHold.{kinds_pass_at_each_place}
-use Rattle.gw_flow.specs.declared.edges.Target.{Target}
-use Rattle.gw_flow.specs.declared.edges.Target.TheVariants as targets
-use Rattle.gw_flow.specs.declared.edges.FlowEdge.{FlowEdge}
-use Rattle.gw_flow.specs.Entries.{lists}
-use Rattle.gw_flow.specs.Rows.{Row, ParamKind, Num, Ret, kind_of, units_of, return_blocks, nothing_known, parameters_alone, HasRoom, Fits}
-use Rattle.gw_flow.specs.Blocks.{Table, Rule, rules, after, edges}
-use Rattle.gw_flow.specs.Flow.{FlowPasses}
+use Rattle.gw_rules.specs.Exits.{leads_to, exits, is_call, other_way}
+use Rattle.gw_rules.specs.Kinds.{block_at, chain_place, is_generate, is_call_at, needs, serves_as, entity_of}
+use Rattle.gw_rules.specs.KindsLaws.{IsEntity, MayBeEntered, BlockHolds}
+use Rattle.gw_rules.proofs.KindsHold.{kinds_pass_at_each_place}
+use Rattle.gw_rules.specs.declared.edges.Target.{Target}
+use Rattle.gw_rules.specs.declared.edges.Target.TheVariants as targets
+use Rattle.gw_rules.specs.Blocks.{FlowEdge}
+use Rattle.gw_rules.specs.Entries.{lists}
+use Rattle.gw_rules.specs.Rows.{Row, ParamKind, Num, Ret, kind_of, units_of, return_blocks, nothing_known, parameters_alone, HasRoom, Fits}
+use Rattle.gw_rules.specs.Blocks.{Table, Rule, rules, after, edges}
+use Rattle.gw_rules.specs.Flow.{FlowPasses}
 use Rattle.gw_settle.specs.Joins.{is_within, joined_kind, joined, with_state}
 use Rattle.gw_settle.specs.Rounds.{TableRows, as_table, sent, all_sent, sends_in, sends, visited, visited_to, start_row, start}
 use Rattle.gw_settle.specs.Keeps.{NoneChanged, IsOnePlace, IsByPlace, IsBelow, may_enter, MayEnter, sets_return, IsKindGrounded, IsGrounded, IsNamed, KindNamesCalls, NamesCalls, absent, HasFew, IsGood, HasShape, IsWell, AreSound, AreKept}

@@ -17,16 +17,16 @@ use Rattle.gw_object.specs.declared.parts.TableState.{TableState}
 use Rattle.gw_object.specs.declared.parts.ReturnRow.{ReturnRow}
 use Rattle.gw_object.specs.declared.parts.Parts.{Parts}
 use Rattle.gw_object.specs.Entities.{is_chain}
-use Rattle.gw_kinds.specs.declared.entities.Named.{Named}
-use Rattle.gw_kinds.specs.declared.entities.EntityKind.TheVariants.{Facility, StorageOrQueue}
-use Rattle.gw_kinds.specs.Checks.{Check, first_broken, numbered}
+use Rattle.gw_rules.specs.declared.entities.Named.{Named}
+use Rattle.gw_rules.specs.declared.entities.EntityKind.TheVariants.{Facility, StorageOrQueue}
+use Rattle.gw_rules.specs.Checks.{Check, first_broken, numbered}
 use Rattle.gw_operands.specs.Sources.{kind_at}
-use Rattle.gw_kinds.specs.Kinds.{needs, serves_as, is_there, is_no_other_kind, names_no_other_kind, are_there, entities_of_row, return_row_of, has_return_rows, is_call_at, names_calls, chain_row, return_checks, row_checks, chain_checks, entity_checks, block_checks}
-use Rattle.gw_kinds.specs.Laws.{IsEntity}
-use Rattle.gw_kinds.specs.Procedures.{procedure_checks}
-use Rattle.gw_kinds.specs.Pass.{kinds_checks, KindsPass}
-use Rattle.gw_kinds.proofs.Broken.{first, first_broken-append}
-use Rattle.gw_flow.specs.Seen.{row_meaning}
+use Rattle.gw_rules.specs.Kinds.{needs, serves_as, is_there, is_no_other_kind, names_no_other_kind, are_there, entities_of_row, return_row_of, has_return_rows, is_call_at, names_calls, chain_row, return_checks, row_checks, chain_checks, entity_checks, block_checks}
+use Rattle.gw_rules.specs.KindsLaws.{IsEntity}
+use Rattle.gw_rules.specs.Procedures.{procedure_checks}
+use Rattle.gw_rules.specs.Pass.{kinds_checks, KindsPass}
+use Rattle.gw_rules.proofs.Broken.{first, first_broken-append}
+use Rattle.gw_rules.specs.Seen.{row_meaning}
 use Rattle.gw_flow.proofs.Ascending.{All-from_map}
 use Rattle.gw_settle.specs.Keeps.{IsNamed}
 use Rattle.gw_settle.specs.Written.{NamesRows}

@@ -14,13 +14,13 @@ use Rattle.gw_blocks.specs.declared.parts.Block.{Block}
 use Rattle.gw_blocks.specs.declared.parts.Block.TheVariants as blocks
 use Rattle.gw_blocks.specs.declared.parts.Unlink.{Unlink}
 use Rattle.gw_object.specs.declared.parts.Parts.{Parts}
-use Rattle.gw_kinds.specs.Kinds.{block_at, chain_place}
-use Rattle.gw_flow.specs.declared.edges.Target.{Target}
-use Rattle.gw_flow.specs.declared.edges.Target.TheVariants as targets
-use Rattle.gw_flow.specs.declared.edges.FlowEdge.{FlowEdge}
-use Rattle.gw_flow.specs.Rows.{Row, Fits, params_fit, units_fit}
-use Rattle.gw_flow.specs.Blocks.{Table, Rule, rules, edges_from, joins, members_move, members_edges, edges}
-use Rattle.gw_flow.proofs.Fitting.{fits_is_decided, fits_itself, fits_on}
+use Rattle.gw_rules.specs.Kinds.{block_at, chain_place}
+use Rattle.gw_rules.specs.declared.edges.Target.{Target}
+use Rattle.gw_rules.specs.declared.edges.Target.TheVariants as targets
+use Rattle.gw_rules.specs.Blocks.{FlowEdge}
+use Rattle.gw_rules.specs.Rows.{Row, Fits, params_fit, units_fit}
+use Rattle.gw_rules.specs.Blocks.{Table, Rule, rules, edges_from, joins, members_move, members_edges, edges}
+use Rattle.gw_rules.proofs.Fitting.{fits_is_decided, fits_itself, fits_on}
 use Rattle.gw_settle.specs.declared.table.Change.{Change}
 use Rattle.gw_settle.specs.declared.table.Change.TheVariants.{Same, Less, More}
 use Rattle.gw_settle.specs.Joins.{is_within, Within, joined, with_state}

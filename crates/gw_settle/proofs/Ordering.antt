@@ -4,8 +4,8 @@ use Rattle.std.specs.Prelude.{filter}
 use Rattle.std.proofs.lemmas.List.Elements.{All-nil, All-cons, All-head, All-tail, All-append, All-filter, All-weaker}
 use Rattle.std.proofs.lemmas.List.Kept.{AllPairs-cons, AllPairs-filter}
 use Rattle.std.proofs.lemmas.Bool.{cases_eq, eq-eqb, ne_eqb, ltb-true}
-use Rattle.gw_flow.specs.Entries.{entry}
-use Rattle.gw_flow.specs.Rows.{ParamKind, Num, Ret, kind_of, units_of, nonzero, KindAscends}
+use Rattle.gw_rules.specs.Entries.{entry}
+use Rattle.gw_rules.specs.Rows.{ParamKind, Num, Ret, kind_of, units_of, nonzero, KindAscends}
 use Rattle.gw_flow.proofs.Ascending.{AllPairs-head, AllPairs-tail, AllPairs-append}
 use Rattle.gw_settle.specs.Joins.{one, keep, united, joined_kind, JoinIsOrdered}
 

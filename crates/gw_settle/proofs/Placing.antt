@@ -2,15 +2,15 @@
 use Rattle.std.proofs.Common.{◌≡◌, ◌≢◌, ⊎_elim, ℕ, zero, suc, ◌+◌, ◌<◌, ◌≤◌, List, [], ◌∷◌, ◌++◌, length, get_or, drop, Option, Some, None, refl, sym, ap, ap₂, subst, append_assoc, ◌∙◌, arith}
 use Rattle.std.specs.Prelude.{All, slice_get}
 use Rattle.std.proofs.lemmas.Option.{slice_get_within, get_or_from_slice_get}
-use Rattle.gw_flow.specs.Flow.{row_at}
+use Rattle.gw_rules.specs.Flow.{row_at}
 use Rattle.std.proofs.lemmas.Bool.{cases_lt, cases_eq, eq-eqb, ne_eqb}
 use Rattle.std.proofs.lemmas.List.Elements.{All-head, All-tail}
 use Rattle.gw_blocks.specs.declared.parts.Block.{Block}
 use Rattle.gw_object.specs.declared.parts.Parts.{Parts}
-use Rattle.gw_kinds.specs.Kinds.{block_at}
-use Rattle.gw_flow.specs.Rows.{Row, units_of}
-use Rattle.gw_flow.specs.Entries.{amount_of}
-use Rattle.gw_flow.specs.Seen.{amounts_of}
+use Rattle.gw_rules.specs.Kinds.{block_at}
+use Rattle.gw_rules.specs.Rows.{Row, units_of}
+use Rattle.gw_rules.specs.Entries.{amount_of}
+use Rattle.gw_flow.specs.Known.{amounts_of}
 use Rattle.gw_flow.specs.declared.abstract_state.Amount.{Amount}
 use Rattle.gw_settle.specs.Jumps.{place_after, places_after, row_in, IsBlockDecided, FallsAlike, AmountFallsOn, PlaceFallsOn, PlacesFallOn}
 use Rattle.gw_settle.proofs.Uniting.{drop_at}

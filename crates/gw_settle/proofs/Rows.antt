@@ -7,11 +7,11 @@ use Rattle.std.proofs.lemmas.Bool.{cases_eq, false≢true}
 use Rattle.std.proofs.lemmas.Option.{slice_get_within}
 use Rattle.gw_blocks.specs.declared.parts.Block.{Block}
 use Rattle.gw_object.specs.declared.parts.Parts.{Parts}
-use Rattle.gw_kinds.specs.Kinds.{block_at, chain_place}
-use Rattle.gw_flow.specs.declared.edges.Target.{Target}
-use Rattle.gw_flow.specs.declared.edges.Target.TheVariants as targets
-use Rattle.gw_flow.specs.declared.edges.FlowEdge.{FlowEdge}
-use Rattle.gw_flow.specs.Rows.{Row}
+use Rattle.gw_rules.specs.Kinds.{block_at, chain_place}
+use Rattle.gw_rules.specs.declared.edges.Target.{Target}
+use Rattle.gw_rules.specs.declared.edges.Target.TheVariants as targets
+use Rattle.gw_rules.specs.Blocks.{FlowEdge}
+use Rattle.gw_rules.specs.Rows.{Row}
 use Rattle.gw_settle.specs.Joins.{is_within, joined, with_state}
 use Rattle.gw_settle.specs.Rounds.{TableRows, as_table, changed, sent_at, sent_to, sent}
 use Rattle.gw_settle.specs.Keeps.{IsOnePlace, IsByPlace, may_enter, MayEnter, absent_in, absent, HasShape}

@@ -7,26 +7,26 @@ use Rattle.gw_blocks.specs.declared.parts.Block.{Block}
 use Rattle.gw_blocks.specs.declared.parts.Link.{Link}
 use Rattle.gw_blocks.specs.declared.parts.Block.TheVariants as blocks
 use Rattle.gw_object.specs.declared.parts.Parts.{Parts}
-use Rattle.gw_kinds.specs.declared.ways.Way.{Way}
-use Rattle.gw_kinds.specs.declared.ways.Way.TheVariants.{Falls, Goes}
-use Rattle.gw_kinds.specs.declared.ways.Who.{Who}
-use Rattle.gw_kinds.specs.declared.ways.Who.TheVariants.{Itself, Copies}
-use Rattle.gw_kinds.specs.declared.ways.Exit.{Exit}
-use Rattle.gw_kinds.specs.Exits.{leads_to, exits, exits_with, returns_to, ways as ways_on, other_way}
-use Rattle.gw_kinds.specs.Kinds.{block_at, chain_place}
+use Rattle.gw_rules.specs.declared.ways.Way.{Way}
+use Rattle.gw_rules.specs.declared.ways.Way.TheVariants.{Falls, Goes}
+use Rattle.gw_rules.specs.declared.ways.Who.{Who}
+use Rattle.gw_rules.specs.declared.ways.Who.TheVariants.{Itself, Copies}
+use Rattle.gw_rules.specs.declared.ways.Exit.{Exit}
+use Rattle.gw_rules.specs.Exits.{leads_to, exits, exits_with, returns_to, ways as ways_on, other_way}
+use Rattle.gw_rules.specs.Kinds.{block_at, chain_place}
 use Rattle.gw_object.specs.Entities.{chains_in}
-use Rattle.gw_flow.specs.declared.edges.Target.{Target}
-use Rattle.gw_flow.specs.declared.edges.Target.TheVariants as targets
-use Rattle.gw_flow.specs.declared.edges.FlowEdge.{FlowEdge}
-use Rattle.gw_flow.specs.declared.abstract_state.Parameter.{Parameter}
-use Rattle.gw_flow.specs.Entries.{lists, entry}
-use Rattle.gw_flow.specs.Rows.{Row, ParamKind, Num, Ret, kind_of, return_blocks}
-use Rattle.gw_flow.specs.Seen.{kind_seen}
-use Rattle.gw_flow.specs.Blocks.{Table, number_in, parameter_set, with_setting, after, returns_read, move, is_used, known_of, edge_along, edges_along, edges_from, join, members_move, members_edges, chain_edges, edges}
-use Rattle.gw_flow.proofs.Entries.{entry-with_entry}
-use Rattle.gw_flow.proofs.EachBlock.{All-front, All-back}
-use Rattle.gw_flow.proofs.Chains.{ChainUse, Links, Unlinks, Neither, chain_use}
-use Rattle.gw_flow.proofs.Parameters.{after_params}
+use Rattle.gw_rules.specs.declared.edges.Target.{Target}
+use Rattle.gw_rules.specs.declared.edges.Target.TheVariants as targets
+use Rattle.gw_rules.specs.Blocks.{FlowEdge}
+use Rattle.gw_rules.specs.declared.set_parameters.Parameter.{Parameter}
+use Rattle.gw_rules.specs.Entries.{lists, entry}
+use Rattle.gw_rules.specs.Rows.{Row, ParamKind, Num, Ret, kind_of, return_blocks}
+use Rattle.gw_rules.specs.Seen.{kind_seen}
+use Rattle.gw_rules.specs.Blocks.{Table, number_in, parameter_set, with_setting, after, returns_read, move, is_used, known_of, edge_along, edges_along, edges_from, join, members_move, members_edges, chain_edges, edges}
+use Rattle.gw_rules.proofs.Entries.{entry-with_entry}
+use Rattle.gw_rules.proofs.EachBlock.{All-front, All-back}
+use Rattle.gw_rules.proofs.Chains.{ChainUse, Links, Unlinks, Neither, chain_use}
+use Rattle.gw_rules.proofs.Parameters.{after_params}
 use Rattle.gw_settle.specs.Keeps.{sets_return, may_enter, IsReturned, IsKindGrounded, IsGrounded, MayEnter}
 
 -- a block goes by a return that a parameter holds, or its exits are its own
@@ -163,7 +163,7 @@ module _ (p : Parts) where
     sound_chains table b _ row (Unlinks u) is g h =
         sound_members u.target (table (targets.Chain u.chain)) (h (targets.Chain u.chain))
         (All-head (λ (way : Way). may_enter (block_at p.blocks (leads_to b way)) ≡ true) (Goes u.target) [] (other_enters b (blocks.Unlink u) is))
-    sound_chains table b block row (Neither none members own) is g h =
+    sound_chains table b block row (Neither none members) is g h =
         subst (λ es. All IsSound (es ++ members_edges table block)) (sym (none row)) (subst (All IsSound) (sym (members table)) (All-nil IsSound))
 
     -- each edge of a block is sound

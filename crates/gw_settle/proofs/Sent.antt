@@ -8,13 +8,13 @@ use Rattle.gw_object.specs.declared.fault.Fault.{Fault}
 use Rattle.gw_object.specs.declared.parts.Parts.{Parts}
 use Rattle.gw_blocks.specs.declared.parts.Block.{Block}
 use Rattle.gw_blocks.specs.declared.parts.Block.TheVariants as blocks
-use Rattle.gw_kinds.specs.Checks.{Check, Finds, first_broken}
-use Rattle.gw_kinds.specs.Kinds.{block_at}
-use Rattle.gw_flow.specs.declared.edges.Target.TheVariants as targets
-use Rattle.gw_flow.specs.declared.edges.FlowEdge.{FlowEdge}
-use Rattle.gw_flow.specs.Rows.{Row}
-use Rattle.gw_flow.specs.Blocks.{Table, Rule, rules, edges_from, joins, members_edges, edges}
-use Rattle.gw_flow.specs.Flow.{rule_check}
+use Rattle.gw_rules.specs.Checks.{Check, Finds, first_broken}
+use Rattle.gw_rules.specs.Kinds.{block_at}
+use Rattle.gw_rules.specs.declared.edges.Target.TheVariants as targets
+use Rattle.gw_rules.specs.Blocks.{FlowEdge}
+use Rattle.gw_rules.specs.Rows.{Row}
+use Rattle.gw_rules.specs.Blocks.{Table, Rule, rules, edges_from, joins, members_edges, edges}
+use Rattle.gw_rules.specs.Flow.{rule_check}
 use Rattle.gw_settle.specs.declared.table.Change.{Change}
 use Rattle.gw_settle.specs.declared.table.Change.TheVariants.{Same, Less, More}
 use Rattle.gw_settle.specs.Joins.{is_within, with_state}

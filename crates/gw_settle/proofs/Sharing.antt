@@ -10,13 +10,13 @@ use Rattle.gw_blocks.specs.declared.parts.Block.{Block}
 use Rattle.gw_blocks.specs.declared.parts.Block.TheVariants as blocks
 use Rattle.gw_blocks.specs.declared.parts.Call.{Call}
 use Rattle.gw_object.specs.declared.parts.Parts.{Parts}
-use Rattle.gw_kinds.specs.Exits.{returns_to}
-use Rattle.gw_kinds.specs.Kinds.{block_at}
-use Rattle.gw_flow.specs.declared.edges.Target.TheVariants as targets
-use Rattle.gw_flow.specs.declared.edges.FlowEdge.{FlowEdge}
-use Rattle.gw_flow.specs.Entries.{with_entry}
-use Rattle.gw_flow.specs.Rows.{Row, ParamKind, kind_of, return_blocks}
-use Rattle.gw_flow.specs.Blocks.{Table, Rule, rules, after, move, edges_along}
+use Rattle.gw_rules.specs.Exits.{returns_to}
+use Rattle.gw_rules.specs.Kinds.{block_at}
+use Rattle.gw_rules.specs.declared.edges.Target.TheVariants as targets
+use Rattle.gw_rules.specs.Blocks.{FlowEdge}
+use Rattle.gw_rules.specs.Entries.{with_entry}
+use Rattle.gw_rules.specs.Rows.{Row, ParamKind, kind_of, return_blocks}
+use Rattle.gw_rules.specs.Blocks.{Table, Rule, rules, after, move, edges_along}
 use Rattle.gw_settle.specs.declared.table.Change.{Change}
 use Rattle.gw_settle.specs.declared.table.Change.TheVariants.{Same, Less, More}
 use Rattle.gw_settle.specs.declared.returns.Like.{Like}

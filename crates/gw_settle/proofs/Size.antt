@@ -2,8 +2,8 @@
 use Rattle.std.proofs.Common.{◌≡◌, ◌≢◌, ⊎_elim, ℕ, zero, suc, ◌+◌, ◌<◌, ◌≤◌, List, [], ◌∷◌, ◌++◌, Option, Some, None, Bool, true, false, ◌==◌, if◌then◌else◌, min, nat_le, refl, ap, subst, ◌∙◌, arith}
 use Rattle.std.specs.List.{list_all}
 use Rattle.std.proofs.lemmas.Bool.{cases_eq, eq-eqb, ne_eqb, and_cases, or_right, or_left, leb-false, true≢false}
-use Rattle.gw_flow.specs.Entries.{lists}
-use Rattle.gw_flow.specs.Rows.{Row, ParamKind, Num, Ret, kind_of, units_of, nonzero, kind_fits, params_fit, units_fit}
+use Rattle.gw_rules.specs.Entries.{lists}
+use Rattle.gw_rules.specs.Rows.{Row, ParamKind, Num, Ret, kind_of, units_of, nonzero, kind_fits, params_fit, units_fit}
 use Rattle.gw_settle.specs.Joins.{one, keep, united, joined_kind, joined, is_within}
 use Rattle.gw_settle.proofs.Joining.{in_left, in_right, kind_joined, units_joined}
 

@@ -4,8 +4,8 @@ use Rattle.std.specs.Prelude.{All, IfSome, unwrap_or}
 use Rattle.std.proofs.lemmas.Bool.{cases_lt}
 use Rattle.std.proofs.lemmas.List.{length-map}
 use Rattle.std.proofs.lemmas.List.Elements.{All-nil, All-cons, All-head, All-tail}
-use Rattle.gw_flow.specs.Entries.{entry}
-use Rattle.gw_flow.specs.Rows.{Row, units_of, nonzero, IsOrdered}
+use Rattle.gw_rules.specs.Entries.{entry}
+use Rattle.gw_rules.specs.Rows.{Row, units_of, nonzero, IsOrdered}
 use Rattle.gw_settle.specs.Jumps.{fall_of, amount_after, row_after, place_after, places_after, FallsOn, PlaceFallsOn, PlacesFallOn, row_in}
 use Rattle.gw_settle.proofs.Joining.{only_if, entry-keep, nonzero_is}
 use Rattle.gw_settle.proofs.Ordering.{keep_ascends, given_all, not_zero}

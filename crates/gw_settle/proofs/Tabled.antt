@@ -13,16 +13,16 @@ use Rattle.gw_code.specs.declared.parts.Procedure.{Procedure}
 use Rattle.gw_object.specs.declared.parts.ReturnRow.{ReturnRow}
 use Rattle.gw_object.specs.declared.parts.TableState.{TableState}
 use Rattle.gw_object.specs.declared.parts.Parts.{Parts}
-use Rattle.gw_kinds.specs.Checks.{Check, first_broken, numbered}
-use Rattle.gw_kinds.specs.Kinds.{entity_checks, block_checks}
-use Rattle.gw_kinds.specs.Procedures as kinds_of_code
+use Rattle.gw_rules.specs.Checks.{Check, first_broken, numbered}
+use Rattle.gw_rules.specs.Kinds.{entity_checks, block_checks}
+use Rattle.gw_rules.specs.Procedures as kinds_of_code
 use Rattle.gw_operands.specs.Code.{cost_of_code, takes, asks_for, asked_by_source, parameters_asked}
-use Rattle.gw_code_flow.specs.PlusChecks.{Heights, heights_after, instruction_checks, code_checks, whole_checks, checks_from, plus_checks, PlusPasses}
-use Rattle.gw_flow.specs.Rows.{Row}
-use Rattle.gw_flow.specs.Blocks.{Table, Rule, own_rules, rules}
-use Rattle.gw_flow.specs.Flow.{FlowPasses}
-use Rattle.gw_flow.specs.Laws.{FlowHolds}
-use Rattle.gw_flow.proofs.Passing.{flow_passes_at_each_block}
+use Rattle.gw_rules.specs.PlusChecks.{Heights, heights_after, instruction_checks, code_checks, whole_checks, checks_from, plus_checks, PlusPasses}
+use Rattle.gw_rules.specs.Rows.{Row}
+use Rattle.gw_rules.specs.Blocks.{Table, Rule, own_rules, rules}
+use Rattle.gw_rules.specs.Flow.{FlowPasses}
+use Rattle.gw_rules.specs.FlowLaws.{FlowHolds}
+use Rattle.gw_rules.proofs.Passing.{flow_passes_at_each_block}
 use Rattle.gw_operands.specs.Sources.{evaluated}
 use Rattle.gw_settle.specs.Settles.{with_table}
 

@@ -5,10 +5,10 @@ use Rattle.gw_blocks.specs.declared.parts.Block.{Block}
 use Rattle.gw_blocks.specs.declared.parts.Block.TheVariants as blocks
 use Rattle.gw_object.specs.declared.parts.Parts.{Parts}
 use Rattle.gw_flow.specs.declared.abstract_state.Amount.{Amount}
-use Rattle.gw_flow.specs.declared.edges.FlowEdge.{FlowEdge}
-use Rattle.gw_flow.specs.Blocks.{Table, Rule, rules}
-use Rattle.gw_flow.specs.Rows.{Row, units_of, kind_of, return_blocks}
-use Rattle.gw_flow.specs.Seen.{amounts_of}
+use Rattle.gw_rules.specs.Blocks.{FlowEdge}
+use Rattle.gw_rules.specs.Blocks.{Table, Rule, rules}
+use Rattle.gw_rules.specs.Rows.{Row, units_of, kind_of, return_blocks}
+use Rattle.gw_flow.specs.Known.{amounts_of}
 use Rattle.gw_settle.specs.declared.draft.Draft.{Draft}
 use Rattle.gw_settle.specs.declared.draft.TableRows.{TableRows as Held}
 use Rattle.gw_settle.specs.declared.table.Change.{Change}

@@ -3,9 +3,9 @@ use Rattle.std.specs.Prelude.{◌≡◌, ℕ, ◌≤◌, List, [], ◌∷◌, �
 use Rattle.std.specs.Option.{option_map}
 use Rattle.gw_flow.specs.declared.abstract_state.Amount.{Amount}
 use Rattle.gw_flow.specs.declared.state.ParamKind.{ParamKind as Working}
-use Rattle.gw_flow.specs.Entries.{entry, amount_of}
-use Rattle.gw_flow.specs.Rows.{ParamKind, Num, Ret, Row, kind_of, units_of, nonzero, kind_fits, params_fit, units_fit, IsOrdered}
-use Rattle.gw_flow.specs.Seen.{amounts_of}
+use Rattle.gw_rules.specs.Entries.{entry, amount_of}
+use Rattle.gw_rules.specs.Rows.{ParamKind, Num, Ret, Row, kind_of, units_of, nonzero, kind_fits, params_fit, units_fit, IsOrdered}
+use Rattle.gw_flow.specs.Known.{amounts_of}
 use Rattle.gw_flow.specs.Viewed.{kind_viewed}
 use Rattle.gw_settle.specs.declared.known.KnownKind.{KnownKind}
 use Rattle.gw_settle.specs.declared.known.KnownParam.{KnownParam}

@@ -6,17 +6,17 @@ use Rattle.gw_object.specs.declared.parts.Entity.{Entity}
 use Rattle.gw_object.specs.declared.parts.Parts.{Parts}
 use Rattle.gw_object.specs.Entities.{chains_in}
 use Rattle.gw_object.specs.Grammar.{HasSpelling}
-use Rattle.gw_kinds.specs.Pass.{KindsPass}
-use Rattle.gw_kinds.specs.declared.entities.EntityKind.TheVariants.{Facility, StorageOrQueue}
-use Rattle.gw_kinds.specs.Kinds.{block_at, chain_place, is_generate, is_call_at, needs}
-use Rattle.gw_kinds.specs.Laws.{IsEntity}
-use Rattle.gw_flow.specs.declared.edges.Target.{Target}
-use Rattle.gw_flow.specs.declared.edges.Target.TheVariants as targets
-use Rattle.gw_flow.specs.declared.edges.FlowEdge.{FlowEdge}
-use Rattle.gw_flow.specs.Entries.{lists}
-use Rattle.gw_flow.specs.Rows.{Row, ParamKind, Num, Ret, kind_of, units_of, nothing_known, Fits}
-use Rattle.gw_flow.specs.Blocks.{Table, replaces}
-use Rattle.gw_flow.specs.Flow.{FlowPasses}
+use Rattle.gw_rules.specs.Pass.{KindsPass}
+use Rattle.gw_rules.specs.declared.entities.EntityKind.TheVariants.{Facility, StorageOrQueue}
+use Rattle.gw_rules.specs.Kinds.{block_at, chain_place, is_generate, is_call_at, needs}
+use Rattle.gw_rules.specs.KindsLaws.{IsEntity}
+use Rattle.gw_rules.specs.declared.edges.Target.{Target}
+use Rattle.gw_rules.specs.declared.edges.Target.TheVariants as targets
+use Rattle.gw_rules.specs.Blocks.{FlowEdge}
+use Rattle.gw_rules.specs.Entries.{lists}
+use Rattle.gw_rules.specs.Rows.{Row, ParamKind, Num, Ret, kind_of, units_of, nothing_known, Fits}
+use Rattle.gw_rules.specs.Blocks.{Table, replaces}
+use Rattle.gw_rules.specs.Flow.{FlowPasses}
 use Rattle.gw_settle.specs.Joins.{Within}
 use Rattle.gw_settle.specs.Rounds.{TableRows, as_table, sends, visited, start}
 

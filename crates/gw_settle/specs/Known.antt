@@ -1,7 +1,7 @@
 -- Abstract states that own their lists, seen as abstract states.
 use Rattle.std.specs.Prelude.{ℕ, List, map}
-use Rattle.gw_flow.specs.Rows.{ParamKind, Num, Ret, Row}
-use Rattle.gw_flow.specs.Seen.{amounts_of}
+use Rattle.gw_rules.specs.Rows.{ParamKind, Num, Ret, Row}
+use Rattle.gw_flow.specs.Known.{amounts_of}
 use Rattle.gw_settle.specs.declared.known.KnownKind.{KnownKind}
 use Rattle.gw_settle.specs.declared.known.KnownKind.TheVariants as known
 use Rattle.gw_settle.specs.declared.known.KnownParam.{KnownParam}

@@ -3,7 +3,7 @@ use Rattle.std.specs.Prelude.{◌≡◌, ℕ, Bool, List, [], ◌∷◌, ◌++�
 use Rattle.std.specs.List.{list_any, fold}
 use Rattle.std.specs.Cmp.Lexicographic.{pointwise}
 use Rattle.gw_object.specs.declared.parts.ReturnRow.{ReturnRow}
-use Rattle.gw_flow.specs.Rows.{ParamKind, Num, Ret, Row}
+use Rattle.gw_rules.specs.Rows.{ParamKind, Num, Ret, Row}
 use Rattle.gw_settle.specs.declared.known.KnownKind.{KnownKind}
 use Rattle.gw_settle.specs.declared.known.KnownParam.{KnownParam}
 use Rattle.gw_settle.specs.Known.{kind_known, params_known}

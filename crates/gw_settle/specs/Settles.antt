@@ -6,9 +6,9 @@ use Rattle.gw_object.specs.declared.fault.Place.TheVariants as places
 use Rattle.gw_object.specs.declared.parts.ReturnRow.{ReturnRow}
 use Rattle.gw_object.specs.declared.parts.TableState.{TableState}
 use Rattle.gw_object.specs.declared.parts.Parts.{Parts}
-use Rattle.gw_kinds.specs.Checks.{first_broken}
-use Rattle.gw_kinds.specs.Pass.{KindsPass}
-use Rattle.gw_flow.specs.Flow.{own_table, flow_checks, FlowPasses}
+use Rattle.gw_rules.specs.Checks.{first_broken}
+use Rattle.gw_rules.specs.Pass.{KindsPass}
+use Rattle.gw_rules.specs.Flow.{own_table, flow_checks, FlowPasses}
 use Rattle.gw_settle.specs.Rounds.{TableRows, own_rows, AreSettled}
 use Rattle.gw_settle.specs.Keeps.{NoneChanged, IsTableBelow, AreKept, IsSettled}
 use Rattle.gw_settle.specs.declared.written.Written.{Written}

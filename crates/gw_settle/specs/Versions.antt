@@ -3,10 +3,10 @@ use Rattle.std.specs.Prelude.{◌≡◌, ◌≢◌, ◌<◌, ℕ, ◌+◌, List,
 use Rattle.std.specs.List.{list_all}
 use Rattle.std.specs.Option.{option_flatten}
 use Rattle.gw_object.specs.declared.parts.Parts.{Parts}
-use Rattle.gw_flow.specs.declared.edges.FlowEdge.{FlowEdge}
+use Rattle.gw_rules.specs.Blocks.{FlowEdge}
 use Rattle.gw_blocks.specs.declared.parts.Block.TheVariants as blocks
-use Rattle.gw_flow.specs.Rows.{Row, ParamKind, kind_of, return_blocks}
-use Rattle.gw_flow.specs.Blocks.{Rule, rules, move}
+use Rattle.gw_rules.specs.Rows.{Row, ParamKind, kind_of, return_blocks}
+use Rattle.gw_rules.specs.Blocks.{Rule, rules, move}
 use Rattle.gw_settle.specs.declared.table.Change.{Change}
 use Rattle.gw_settle.specs.declared.table.Change.TheVariants.{Same, Less, More}
 use Rattle.gw_settle.specs.declared.returns.Like.{Like}

@@ -3,8 +3,8 @@ use Rattle.std.specs.Prelude.{◌≡◌, ℕ, ◌<◌, List, length, Option, All
 use Rattle.gw_object.specs.declared.parts.TableKind.{TableKind}
 use Rattle.gw_object.specs.declared.parts.TableParameter.{TableParameter}
 use Rattle.gw_object.specs.declared.parts.TableState.{TableState}
-use Rattle.gw_kinds.specs.Kinds.{return_row_of}
-use Rattle.gw_flow.specs.Seen.{seen_rows}
+use Rattle.gw_rules.specs.Kinds.{return_row_of}
+use Rattle.gw_rules.specs.Seen.{seen_rows}
 use Rattle.gw_settle.specs.declared.written.Written.{Written}
 use Rattle.gw_settle.specs.Rounds.{TableRows}
 use Rattle.gw_settle.specs.Numbers.{sets_of, sets_in}

@@ -1,8 +1,8 @@
 //! Rows of a state table that is being computed: abstract states that own their lists.
 
 ghost use Rattle.std.specs.Prelude.{◌≡◌, ◌≢◌, ◌<◌, List, IfOk, IfSome, Some, option_map, All, AllPairs};
-ghost use Rattle.gw_flow.specs.Rows.{IsOrdered, KindAscends, Ret, kind_of, return_blocks, units_of, nothing_known};
-ghost use Rattle.gw_flow.specs.Seen.{amounts_of};
+ghost use Rattle.gw_rules.specs.Rows.{IsOrdered, KindAscends, Ret, kind_of, return_blocks, units_of, nothing_known};
+ghost use Rattle.gw_flow.specs.Known.{amounts_of};
 ghost use Rattle.gw_flow.specs.Viewed.{kind_viewed, params_viewed};
 ghost use Rattle.gw_settle.specs.Joins as model;
 ghost use Rattle.gw_settle.specs.Joins.{kind_in, kind_with, params_with, units_with, AddsJoined, AddsUnits};
@@ -54,7 +54,7 @@ pub(crate) struct Known {
 }
 
 impl Model for Known {
-    ghost use Rattle.gw_flow.specs.Rows.{Row, IsOrdered};
+    ghost use Rattle.gw_rules.specs.Rows.{Row, IsOrdered};
 
     ghost Value = { Row };
 

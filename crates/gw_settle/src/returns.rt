@@ -2,7 +2,7 @@
 //! and most of these places have one row. So rows that say the same share a version, and what was made of one is made of all.
 
 ghost use Rattle.std.specs.Prelude.{◌≡◌, ◌≢◌, ◌<◌, All, IfOk, Some, true, length, get_or, slice_get, ◌&&◌};
-ghost use Rattle.gw_flow.specs.Seen.{amounts_of};
+ghost use Rattle.gw_flow.specs.Known.{amounts_of};
 ghost use Rattle.gw_settle.specs.Drafts.{HasBlocks, IsSentAt, IsSentBehind, IsReturn, IsRowSent, NotesGoOn, CallersAreThere, AreShared, MakesOf, IsMarkedAt};
 ghost use Rattle.gw_settle.specs.Joins.{with_state};
 ghost use Rattle.gw_settle.specs.Jumps.{row_in};

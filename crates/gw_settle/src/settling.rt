@@ -2,9 +2,9 @@
 
 ghost use Rattle.std.specs.Prelude.{◌≡◌, IfOk, IfErr};
 ghost use Rattle.gw_object.specs.Grammar.{HasSpelling};
-ghost use Rattle.gw_kinds.specs.Pass.{KindsPass};
-ghost use Rattle.gw_code_flow.specs.PlusChecks.{PlusPasses};
-ghost use Rattle.gw_flow.specs.Flow.{own_table, FlowPasses};
+ghost use Rattle.gw_rules.specs.Pass.{KindsPass};
+ghost use Rattle.gw_rules.specs.PlusChecks.{PlusPasses};
+ghost use Rattle.gw_rules.specs.Flow.{own_table, FlowPasses};
 ghost use Rattle.gw_settle.specs.Keeps.{IsWell};
 ghost use Rattle.gw_settle.specs.Settles as model;
 

@@ -1,10 +1,10 @@
 //! The rows of a state table in the making, and what visits of blocks make of them.
 
 ghost use Rattle.std.specs.Prelude.{◌≡◌, ◌≤◌, ◌<◌, ◌-◌, Some, IfOk, IsSome, All, length};
-ghost use Rattle.gw_kinds.specs.Kinds.{block_at};
-ghost use Rattle.gw_flow.specs.declared.edges.Target.TheVariants as targets;
-ghost use Rattle.gw_flow.specs.declared.edges.FlowEdge.{FlowEdge as DeclaredEdge};
-ghost use Rattle.gw_flow.specs.Rows.{HasRoom};
+ghost use Rattle.gw_rules.specs.Kinds.{block_at};
+ghost use Rattle.gw_rules.specs.declared.edges.Target.TheVariants as targets;
+ghost use Rattle.gw_rules.specs.Blocks.{FlowEdge as DeclaredEdge};
+ghost use Rattle.gw_rules.specs.Rows.{HasRoom};
 ghost use Rattle.gw_settle.specs.Drafts.{rows_held, table_in, members_at, with_members, AreNoted, IsWhole, MayVisit, IsRound, IsVisit, IsSending, AreSendings, NotesGoOn, Sends};
 ghost use Rattle.gw_settle.specs.Keeps.{MayEnter, IsWell, AreSound};
 ghost use Rattle.gw_settle.specs.Marks.{with_mark, UnlinksMarked, UnlinksFollow};
@@ -17,10 +17,10 @@ use crate::draft::Draft;
 use crate::known::Known;
 use crate::returns::visit_return;
 use gw_blocks::Block;
-use gw_flow::codes::CHAIN_STATE;
-use gw_flow::{FlowEdge, State, Target, check_rules, own_edges_of};
-use gw_kinds::chain_place;
+use gw_flow::{State, check_rules, own_edges_of};
 use gw_object::{Memory, Parts};
+use gw_rules::flow_codes::CHAIN_STATE;
+use gw_rules::{FlowEdge, Target, chain_place};
 use std::alloc::Global;
 
 /// What a state that is sent makes of the rows.
@@ -129,7 +129,7 @@ fn send_to_chain(
 fn send(
     alloc: Global,
     parts: &Parts,
-    edge: &FlowEdge<'_>,
+    edge: &FlowEdge<State<'_>>,
     draft: &mut Draft,
 ) -> Result<Change, Memory>
     requires enters { MayEnter parts.now edge.now.target }
@@ -164,7 +164,7 @@ fn send(
 fn send_all(
     alloc: Global,
     parts: &Parts,
-    edges: &[FlowEdge<'_>],
+    edges: &[FlowEdge<State<'_>>],
     draft: &mut Draft,
 ) -> Result<Change, Memory>
     requires enter { All (λ (e : DeclaredEdge). MayEnter parts.now e.target) edges.now }
@@ -206,7 +206,7 @@ fn members_shared(parts: &Parts, block: &Block, draft: &Draft) -> Result<Option<
 /// Adds the edge of the members whom a block sends on from their user chain, if it is an UNLINK, and they have a row.
 fn push_members<'r>(
     alloc: Global,
-    all: &mut Vec<FlowEdge<'r>>,
+    all: &mut Vec<FlowEdge<State<'r>>>,
     block: &Block,
     members: &'r Option<Known>,
 ) -> Result<(), Memory>
@@ -237,7 +237,7 @@ fn edges_sent<'r>(
     block: &Block,
     state: &State<'r>,
     members: &'r Option<Known>,
-) -> Result<Vec<FlowEdge<'r>>, Memory>
+) -> Result<Vec<FlowEdge<State<'r>>>, Memory>
     requires number { number ≤ 4096 }
     requires room { HasRoom state.now }
     ensures { IfOk result (λ es. Sends parts.now number block.now state.now members.now es.items) }

@@ -1,7 +1,8 @@
 //! The state table as an object has it: its sets of blocks as return rows.
 
 ghost use Rattle.std.specs.Prelude.{◌≡◌, ◌<◌, ◌≤◌, ◌++◌, ◌∷◌, [], IfOk, IfSome, is_some, length, option_map};
-ghost use Rattle.gw_flow.specs.Seen.{row_blocks, kind_said, params_said, units_seen, amounts_of, row_meaning, seen_rows};
+ghost use Rattle.gw_rules.specs.Seen.{row_blocks, kind_said, params_said, units_seen, row_meaning, seen_rows};
+ghost use Rattle.gw_flow.specs.Known.{amounts_of};
 ghost use Rattle.gw_settle.specs.Known.{kind_known, params_known};
 ghost use Rattle.gw_settle.specs.Numbers.{sets_of, has_set, AddsSet, AddsKind, AddsParams, AddsRow, AddsRows};
 ghost use Rattle.gw_settle.specs.Rounds.{rows_of};

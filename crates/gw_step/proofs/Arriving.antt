@@ -8,13 +8,13 @@ use Rattle.gw_blocks.specs.declared.parts.Block.{Block}
 use Rattle.gw_blocks.specs.declared.parts.Block.TheVariants as blocks
 use Rattle.gw_object.specs.declared.parts.Parts.{Parts}
 use Rattle.gw_object.specs.Entities.{capacity_of}
-use Rattle.gw_kinds.specs.Kinds.{block_at, is_generate}
-use Rattle.gw_flow.specs.Codes as codes
-use Rattle.gw_flow.specs.Rows.{Row, is_empty}
-use Rattle.gw_flow.specs.Blocks.{capacity_at}
+use Rattle.gw_rules.specs.Kinds.{block_at, is_generate}
+use Rattle.gw_rules.specs.FlowCodes as codes
+use Rattle.gw_rules.specs.Rows.{Row, is_empty}
+use Rattle.gw_rules.specs.Blocks.{capacity_at}
 use Rattle.gw_operands.specs.Environment.{Environment}
-use Rattle.gw_flow.specs.Flow.{own_table, own_row}
-use Rattle.gw_flow.specs.Laws.{FlowHolds}
+use Rattle.gw_rules.specs.Flow.{own_table, own_row}
+use Rattle.gw_rules.specs.FlowLaws.{FlowHolds}
 use Rattle.gw_num.specs.Table.{at}
 use Rattle.gw_num.proofs.Tables.{at-replicate}
 use Rattle.gw_transactions.specs.declared.Transaction.{Transaction}
@@ -42,8 +42,8 @@ use Rattle.gw_step.proofs.Traces.{all_as_known, Goes, Arrives, Draws, Trace, Don
 use Rattle.gw_step.proofs.Unstopped.{Safe, Any, safe_bind, safe_then, safe_if, safe_given}
 use Rattle.gw_step.proofs.Timed.{moment_passes}
 use Rattle.gw_step.proofs.Within.{sum-raised}
-use Rattle.gw_kinds.specs.Exits.{takes_time}
-use Rattle.gw_kinds.specs.declared.ways.Way.TheVariants.{Falls}
+use Rattle.gw_rules.specs.Exits.{takes_time}
+use Rattle.gw_rules.specs.declared.ways.Way.TheVariants.{Falls}
 use Rattle.gw_step.proofs.Drawn.{IsSound, AreRead, IsDrawn, safe_drawn}
 use Rattle.gw_step.proofs.Asked.{interval_read}
 use Rattle.gw_step.proofs.AtBlock.{first_may_be_entered}

@@ -6,15 +6,15 @@ use Rattle.gw_blocks.specs.declared.parts.Block.{Block}
 use Rattle.gw_blocks.specs.declared.parts.Block.TheVariants as blocks
 use Rattle.gw_object.specs.declared.parts.Parts.{Parts}
 use Rattle.gw_operands.specs.Sources.{evaluated}
-use Rattle.gw_kinds.specs.Kinds.{block_at, is_generate}
-use Rattle.gw_kinds.specs.Laws.{EntityHolds, BlockHolds}
-use Rattle.gw_kinds.proofs.Sources.{evaluated_holds}
+use Rattle.gw_rules.specs.Kinds.{block_at, is_generate}
+use Rattle.gw_rules.specs.KindsLaws.{EntityHolds, BlockHolds}
+use Rattle.gw_rules.proofs.Sources.{evaluated_holds}
 use Rattle.gw_operands.specs.Environment.{Environment}
-use Rattle.gw_flow.specs.Codes as codes
-use Rattle.gw_flow.specs.Rows.{ParamKind, Num, Row, kind_of, is_empty}
-use Rattle.gw_flow.specs.Flow.{own_table, own_row}
-use Rattle.gw_flow.specs.Laws.{MayPass, FlowHolds}
-use Rattle.gw_flow.proofs.Parameters.{values_are_numbers}
+use Rattle.gw_rules.specs.FlowCodes as codes
+use Rattle.gw_rules.specs.Rows.{ParamKind, Num, Row, kind_of, is_empty}
+use Rattle.gw_rules.specs.Flow.{own_table, own_row}
+use Rattle.gw_rules.specs.FlowLaws.{MayPass, FlowHolds}
+use Rattle.gw_rules.proofs.Parameters.{values_are_numbers}
 use Rattle.gw_num.specs.Table.{at}
 use Rattle.gw_transactions.specs.declared.Transaction.{Transaction}
 use Rattle.gw_transactions.specs.Transactions.{attributes_at}

@@ -10,8 +10,8 @@ use Rattle.gw_blocks.specs.declared.parts.Generate.{Generate}
 use Rattle.gw_blocks.specs.declared.parts.Block.{Block}
 use Rattle.gw_blocks.specs.declared.parts.Block.TheVariants as blocks
 use Rattle.gw_object.specs.declared.parts.Parts.{Parts}
-use Rattle.gw_kinds.specs.Kinds.{block_at}
-use Rattle.gw_flow.specs.Rows.{Row}
+use Rattle.gw_rules.specs.Kinds.{block_at}
+use Rattle.gw_rules.specs.Rows.{Row}
 use Rattle.gw_num.specs.Table.{at, put}
 use Rattle.gw_num.proofs.Tables.{at_some, by_entry, count_by-put}
 use Rattle.gw_transactions.specs.declared.Transaction.{Transaction}

@@ -7,12 +7,12 @@ use Rattle.gw_blocks.specs.declared.parts.Block.{Block}
 use Rattle.gw_blocks.specs.declared.parts.Block.TheVariants as blocks
 use Rattle.gw_object.specs.declared.parts.Parts.{Parts}
 use Rattle.gw_object.specs.declared.parts.Kind.TheVariants as kinds
-use Rattle.gw_kinds.specs.declared.entities.EntityKind.TheVariants as needed
-use Rattle.gw_kinds.specs.Kinds.{block_at}
-use Rattle.gw_kinds.specs.Laws.{BlockHolds}
-use Rattle.gw_flow.specs.Rows.{Row, units_of, with_facility, with_units}
-use Rattle.gw_flow.specs.Flow.{own_table, own_row}
-use Rattle.gw_flow.specs.Laws.{FlowHolds}
+use Rattle.gw_rules.specs.declared.entities.EntityKind.TheVariants as needed
+use Rattle.gw_rules.specs.Kinds.{block_at}
+use Rattle.gw_rules.specs.KindsLaws.{BlockHolds}
+use Rattle.gw_rules.specs.Rows.{Row, units_of, with_facility, with_units}
+use Rattle.gw_rules.specs.Flow.{own_table, own_row}
+use Rattle.gw_rules.specs.FlowLaws.{FlowHolds}
 use Rattle.gw_num.specs.Table.{at}
 use Rattle.gw_num.proofs.Tables.{at-put}
 use Rattle.gw_transactions.specs.declared.Transaction.{Transaction}
@@ -32,7 +32,7 @@ use Rattle.gw_step.proofs.AtBlock.{first_may_be_entered, is_storage, kind_below}
 use Rattle.gw_step.proofs.Operands.{good_units}
 use Rattle.gw_step.proofs.Moving.{at_first, unchanged}
 use Rattle.gw_step.proofs.Paying.{first_paid}
-use Rattle.gw_kinds.specs.declared.ways.Way.TheVariants.{Falls}
+use Rattle.gw_rules.specs.declared.ways.Way.TheVariants.{Falls}
 use Rattle.gw_transactions.specs.Transactions.{attributes_at, chain_of}
 use Rattle.gw_step.proofs.Attributes.{bearer_at}
 use Rattle.gw_step.proofs.PlainBlocks.{by_block}

@@ -10,14 +10,14 @@ use Rattle.gw_blocks.specs.declared.parts.Split.{Split}
 use Rattle.gw_blocks.specs.declared.parts.Block.{Block}
 use Rattle.gw_blocks.specs.declared.parts.Block.TheVariants as blocks
 use Rattle.gw_object.specs.declared.parts.Parts.{Parts}
-use Rattle.gw_kinds.specs.Exits.{leads_to, for_copies, goes_or_falls}
-use Rattle.gw_kinds.specs.Kinds.{block_at}
-use Rattle.gw_kinds.specs.Laws.{MayBeEntered}
-use Rattle.gw_flow.specs.Codes as codes
-use Rattle.gw_flow.specs.declared.edges.FlowEdge.{FlowEdge}
-use Rattle.gw_flow.specs.Rows.{Row, parameters_alone}
-use Rattle.gw_flow.specs.Blocks.{move, edges}
-use Rattle.gw_flow.specs.Flow.{own_table, own_row}
+use Rattle.gw_rules.specs.Exits.{leads_to, for_copies, goes_or_falls}
+use Rattle.gw_rules.specs.Kinds.{block_at}
+use Rattle.gw_rules.specs.KindsLaws.{MayBeEntered}
+use Rattle.gw_rules.specs.FlowCodes as codes
+use Rattle.gw_rules.specs.Blocks.{FlowEdge}
+use Rattle.gw_rules.specs.Rows.{Row, parameters_alone}
+use Rattle.gw_rules.specs.Blocks.{move, edges}
+use Rattle.gw_rules.specs.Flow.{own_table, own_row}
 use Rattle.gw_num.proofs.Tables.{at-put_other}
 use Rattle.gw_transactions.specs.declared.Transaction.{Transaction}
 use Rattle.gw_transactions.specs.Parameters.{no_parameters}
@@ -40,9 +40,9 @@ use Rattle.gw_step.proofs.Bounds.{entered-live, written-live}
 use Rattle.gw_step.proofs.Paying.{exits_paid}
 use Rattle.gw_step.proofs.Within.{sum-raised}
 use Rattle.gw_step.proofs.Calm.{trace-grows}
-use Rattle.gw_weights.specs.Weights.{weight_at}
-use Rattle.gw_weights.specs.Laws.{PaysExit}
-use Rattle.gw_kinds.specs.declared.ways.Way.TheVariants.{Falls}
+use Rattle.gw_rules.specs.Weights.{weight_at}
+use Rattle.gw_rules.specs.WeightsLaws.{PaysExit}
+use Rattle.gw_rules.specs.declared.ways.Way.TheVariants.{Falls}
 use Rattle.gw_step.proofs.Unstopped.{Safe, safe_test, safe_if}
 use Rattle.gw_step.proofs.AtBlock.{first_may_be_entered, second_may_be_entered}
 use Rattle.gw_step.proofs.Moving.{Acts, has_entered, unchanged, Enters, safe_leads, at_first, at_second, the_rule, goes, owner_as, falls_paid, last_paid}

@@ -23,22 +23,22 @@ use Rattle.gw_object.specs.declared.parts.Kind.TheVariants as kinds
 use Rattle.gw_blocks.specs.declared.parts.Block.{Block}
 use Rattle.gw_blocks.specs.declared.parts.Block.TheVariants as blocks
 use Rattle.gw_object.specs.declared.parts.Parts.{Parts}
-use Rattle.gw_kinds.specs.declared.entities.EntityKind.TheVariants as needed
-use Rattle.gw_kinds.specs.declared.ways.Way.TheVariants.{Falls, Goes}
-use Rattle.gw_kinds.specs.declared.ways.Exit.{Exit}
-use Rattle.gw_kinds.specs.Exits.{takes_time, leads_to, at_once, goes_or_falls, falls_or_goes, exits, returns_to, exits_with}
+use Rattle.gw_rules.specs.declared.entities.EntityKind.TheVariants as needed
+use Rattle.gw_rules.specs.declared.ways.Way.TheVariants.{Falls, Goes}
+use Rattle.gw_rules.specs.declared.ways.Exit.{Exit}
+use Rattle.gw_rules.specs.Exits.{takes_time, leads_to, at_once, goes_or_falls, falls_or_goes, exits, returns_to, exits_with}
 use Rattle.gw_operands.specs.Sources.{kind_at}
-use Rattle.gw_kinds.specs.Kinds.{block_at, needs}
-use Rattle.gw_kinds.specs.Laws.{MayBeEntered, ReturnsHold, BlockHolds}
-use Rattle.gw_flow.specs.Codes as codes
-use Rattle.gw_flow.specs.Entries.{lists}
-use Rattle.gw_flow.specs.Rows.{ParamKind, Num, Ret, Row, kind_of, return_blocks, owns, units_of, with_parameter, with_facility, without_facility, with_units}
+use Rattle.gw_rules.specs.Kinds.{block_at, needs}
+use Rattle.gw_rules.specs.KindsLaws.{MayBeEntered, ReturnsHold, BlockHolds}
+use Rattle.gw_rules.specs.FlowCodes as codes
+use Rattle.gw_rules.specs.Entries.{lists}
+use Rattle.gw_rules.specs.Rows.{ParamKind, Num, Ret, Row, kind_of, return_blocks, owns, units_of, with_parameter, with_facility, without_facility, with_units}
 use Rattle.gw_operands.specs.Values.{answered}
-use Rattle.gw_flow.proofs.Parameters.{loop_is_number, return_is, kind_of_set, kind_of_other}
+use Rattle.gw_rules.proofs.Parameters.{loop_is_number, return_is, kind_of_set, kind_of_other}
 use Rattle.gw_num.specs.Arithmetic.{fits_i64, difference_of}
-use Rattle.gw_flow.specs.Blocks.{capacity_at, move, edges, edges_from, chain_edges, edges_along, returns_read, after}
-use Rattle.gw_flow.specs.Flow.{own_table}
-use Rattle.gw_flow.specs.Laws.{FlowHolds}
+use Rattle.gw_rules.specs.Blocks.{capacity_at, move, edges, edges_from, chain_edges, edges_along, returns_read, after}
+use Rattle.gw_rules.specs.Flow.{own_table}
+use Rattle.gw_rules.specs.FlowLaws.{FlowHolds}
 use Rattle.gw_num.specs.Table.{at}
 use Rattle.gw_transactions.specs.declared.Transaction.{Transaction}
 use Rattle.gw_entities.specs.declared.facilities.Facility.{Facility}
@@ -76,8 +76,8 @@ use Rattle.gw_step.proofs.Paying.{exits_paid, return_paid}
 use Rattle.gw_step.proofs.Timed.{after_clock}
 use Rattle.gw_step.proofs.Within.{sum-raised}
 use Rattle.gw_step.proofs.Calm.{trace-grows}
-use Rattle.gw_weights.specs.Weights.{weight_at}
-use Rattle.gw_weights.specs.Laws.{PaysExit}
+use Rattle.gw_rules.specs.Weights.{weight_at}
+use Rattle.gw_rules.specs.WeightsLaws.{PaysExit}
 use Rattle.gw_step.proofs.Calling.{some_of, handed_over, admits}
 use Rattle.gw_step.proofs.Attributes.{bearer_at}
 use Rattle.gw_transactions.specs.Parameters.{no_parameters}

@@ -6,18 +6,18 @@ use Rattle.gw_blocks.specs.declared.parts.Link.{Link}
 use Rattle.gw_blocks.specs.declared.parts.Unlink.{Unlink}
 use Rattle.gw_blocks.specs.declared.parts.Block.TheVariants as blocks
 use Rattle.gw_object.specs.declared.parts.Parts.{Parts}
-use Rattle.gw_kinds.specs.declared.entities.EntityKind.TheVariants as needed
-use Rattle.gw_kinds.specs.declared.ways.Way.{Way}
-use Rattle.gw_kinds.specs.declared.ways.Way.TheVariants.{Falls, Goes as GoesTo}
-use Rattle.gw_kinds.specs.Exits.{leads_to}
-use Rattle.gw_kinds.specs.Kinds.{needs}
-use Rattle.gw_kinds.specs.Laws.{MayBeEntered}
-use Rattle.gw_flow.specs.Rows.{Row, Fits}
-use Rattle.gw_flow.specs.declared.edges.Target.TheVariants as targets
-use Rattle.gw_flow.specs.declared.edges.FlowEdge.{FlowEdge}
-use Rattle.gw_flow.specs.Blocks.{move, join, members_move}
-use Rattle.gw_flow.specs.Flow.{own_table}
-use Rattle.gw_flow.specs.Laws.{FlowHolds}
+use Rattle.gw_rules.specs.declared.entities.EntityKind.TheVariants as needed
+use Rattle.gw_rules.specs.declared.ways.Way.{Way}
+use Rattle.gw_rules.specs.declared.ways.Way.TheVariants.{Falls, Goes as GoesTo}
+use Rattle.gw_rules.specs.Exits.{leads_to}
+use Rattle.gw_rules.specs.Kinds.{needs}
+use Rattle.gw_rules.specs.KindsLaws.{MayBeEntered}
+use Rattle.gw_rules.specs.Rows.{Row, Fits}
+use Rattle.gw_rules.specs.declared.edges.Target.TheVariants as targets
+use Rattle.gw_rules.specs.Blocks.{FlowEdge}
+use Rattle.gw_rules.specs.Blocks.{move, join, members_move}
+use Rattle.gw_rules.specs.Flow.{own_table}
+use Rattle.gw_rules.specs.FlowLaws.{FlowHolds}
 use Rattle.gw_transactions.specs.declared.Transaction.{Transaction}
 use Rattle.gw_transactions.specs.Transactions.{attributes_at}
 use Rattle.gw_step.specs.Numbers.{made_in}
@@ -33,8 +33,8 @@ use Rattle.gw_step.proofs.Traces.{the_row, member_at, present, EntersLast, Unlin
 use Rattle.gw_step.proofs.Unstopped.{Safe}
 use Rattle.gw_step.proofs.AtBlock.{first_may_be_entered, named_below}
 use Rattle.gw_step.proofs.Moving.{Acts, has_entered, unchanged, Enters, entered_once, safe_leads, at_first, goes, weighs_next, falls_paid}
-use Rattle.gw_weights.specs.Weights.{weight_at, chain_weight}
-use Rattle.gw_weights.specs.Laws.{Weighted}
+use Rattle.gw_rules.specs.Weights.{weight_at, chain_weight}
+use Rattle.gw_rules.specs.WeightsLaws.{Weighted}
 use Rattle.gw_step.proofs.Attributes.{bearer_at}
 use Rattle.gw_step.proofs.Calling.{some_of}
 use Rattle.gw_step.proofs.Within.{sum-raised}

@@ -4,13 +4,13 @@ use Rattle.std.specs.Prelude.{sum, IsSomeAnd, Contains, All}
 use Rattle.std.proofs.lemmas.List.Elements.{All-head}
 use Rattle.gw_blocks.specs.declared.parts.Block.{Block}
 use Rattle.gw_object.specs.declared.parts.Parts.{Parts}
-use Rattle.gw_kinds.specs.Kinds.{block_at, is_generate}
-use Rattle.gw_kinds.specs.Laws.{MayBeEntered, BlockHolds}
-use Rattle.gw_flow.specs.Rows.{Row, kind_of, owns}
-use Rattle.gw_flow.specs.Blocks.{Rule, own_rules, move, edges}
-use Rattle.gw_flow.proofs.Parameters.{own_rules_hold}
-use Rattle.gw_flow.specs.Flow.{own_table}
-use Rattle.gw_flow.specs.Laws.{MayPass}
+use Rattle.gw_rules.specs.Kinds.{block_at, is_generate}
+use Rattle.gw_rules.specs.KindsLaws.{MayBeEntered, BlockHolds}
+use Rattle.gw_rules.specs.Rows.{Row, kind_of, owns}
+use Rattle.gw_rules.specs.Blocks.{Rule, own_rules, move, edges}
+use Rattle.gw_rules.proofs.Parameters.{own_rules_hold}
+use Rattle.gw_rules.specs.Flow.{own_table}
+use Rattle.gw_rules.specs.FlowLaws.{MayPass}
 use Rattle.gw_num.specs.Table.{at}
 use Rattle.gw_num.proofs.Tables.{by_entry}
 use Rattle.gw_transactions.specs.declared.Transaction.{Transaction}
@@ -35,12 +35,12 @@ use Rattle.gw_step.proofs.Calm.{Moves, MakesEntry, Calms, Refuses, refused_calms
 use Rattle.gw_step.proofs.Unstopped.{Safe, safe_bind, safe_test}
 use Rattle.gw_step.proofs.Paying.{weight_there, first_paid, second_paid}
 use Rattle.gw_step.specs.Weight.{weight_in}
-use Rattle.gw_weights.specs.Weights.{weight_at}
-use Rattle.gw_kinds.specs.declared.ways.Way.{Way}
-use Rattle.gw_kinds.specs.declared.ways.Exit.{Exit}
-use Rattle.gw_kinds.specs.Exits.{leads_to, at_once, exits_with}
-use Rattle.gw_flow.specs.Blocks.{returns_read}
-use Rattle.gw_flow.specs.declared.edges.Target.TheVariants as targets
+use Rattle.gw_rules.specs.Weights.{weight_at}
+use Rattle.gw_rules.specs.declared.ways.Way.{Way}
+use Rattle.gw_rules.specs.declared.ways.Exit.{Exit}
+use Rattle.gw_rules.specs.Exits.{leads_to, at_once, exits_with}
+use Rattle.gw_rules.specs.Blocks.{returns_read}
+use Rattle.gw_rules.specs.declared.edges.Target.TheVariants as targets
 
 -- the active transaction of a well-typed state is at a block, in a row, and what kinds and flow say of the two
 pub record Acts (p : Parts) (s : State) (n : ℕ) (t : Transaction) (block : Block) (row : Row) : Type 0 where

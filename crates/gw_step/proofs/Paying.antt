@@ -4,17 +4,17 @@ use Rattle.std.specs.Prelude.{All, Contains}
 use Rattle.std.proofs.lemmas.List.Elements.{All-head, All-tail, All-contains}
 use Rattle.gw_blocks.specs.declared.parts.Block.{Block}
 use Rattle.gw_object.specs.declared.parts.Parts.{Parts}
-use Rattle.gw_kinds.specs.declared.ways.Way.{Way}
-use Rattle.gw_kinds.specs.declared.ways.Way.TheVariants.{Goes}
-use Rattle.gw_kinds.specs.declared.ways.Exit.{Exit}
-use Rattle.gw_kinds.specs.Exits.{leads_to, at_once, returns_to, exits_with}
-use Rattle.gw_kinds.specs.Kinds.{block_at}
-use Rattle.gw_flow.specs.declared.edges.Target.TheVariants as targets
-use Rattle.gw_flow.specs.Rows.{Row}
-use Rattle.gw_flow.specs.Blocks.{returns_read}
-use Rattle.gw_flow.specs.Flow.{own_row}
-use Rattle.gw_weights.specs.Weights.{weight_at, weight_of}
-use Rattle.gw_weights.specs.Laws.{PaysExit, Weighted}
+use Rattle.gw_rules.specs.declared.ways.Way.{Way}
+use Rattle.gw_rules.specs.declared.ways.Way.TheVariants.{Goes}
+use Rattle.gw_rules.specs.declared.ways.Exit.{Exit}
+use Rattle.gw_rules.specs.Exits.{leads_to, at_once, returns_to, exits_with}
+use Rattle.gw_rules.specs.Kinds.{block_at}
+use Rattle.gw_rules.specs.declared.edges.Target.TheVariants as targets
+use Rattle.gw_rules.specs.Rows.{Row}
+use Rattle.gw_rules.specs.Blocks.{returns_read}
+use Rattle.gw_rules.specs.Flow.{own_row}
+use Rattle.gw_rules.specs.Weights.{weight_at, weight_of}
+use Rattle.gw_rules.specs.WeightsLaws.{PaysExit, Weighted}
 use Rattle.gw_num.specs.Table.{at}
 use Rattle.gw_transactions.specs.Transactions.{LiveTransaction}
 use Rattle.gw_step.specs.Places.{place}

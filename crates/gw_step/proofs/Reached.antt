@@ -1,5 +1,5 @@
 -- A job's state through its start and through a step.
-use Rattle.gw_kinds.specs.Kinds.{block_at, is_none_or, has_good_constants}
+use Rattle.gw_rules.specs.Kinds.{block_at, is_none_or, has_good_constants}
 use Rattle.gw_operands.specs.Environment.{Environment}
 use Rattle.gw_transactions.specs.Transactions.{LiveTransaction, live_count}
 use Rattle.std.proofs.Common.{false, ◌≡◌, ℕ, zero, suc, ◌+◌, ◌≤◌, ℤ, pos, ◌≤ℤ◌, ◌<ℤ◌, List, [], ◌∷◌, map, length, replicate, Option, Some, None, IfSome, refl, sym, ap, ◌∙◌, subst, arith, ◌<◌}

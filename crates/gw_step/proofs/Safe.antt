@@ -4,17 +4,17 @@ use Rattle.std.specs.Prelude.{All, IfSome, IsSome}
 use Rattle.gw_blocks.specs.declared.parts.Block.{Block}
 use Rattle.gw_blocks.specs.declared.parts.Block.TheVariants as blocks
 use Rattle.gw_object.specs.declared.parts.Parts.{Parts}
-use Rattle.gw_kinds.specs.declared.ways.Way.TheVariants.{Falls}
-use Rattle.gw_kinds.specs.Kinds.{block_at}
-use Rattle.gw_kinds.specs.Laws.{ReturnsHold, BlockHolds}
-use Rattle.gw_code_flow.proofs.Theorems.{comes_to}
-use Rattle.gw_kinds.proofs.KindsHold.{kinds_pass_at_each_place}
-use Rattle.gw_flow.specs.Rows.{Row}
-use Rattle.gw_flow.specs.Flow.{own_table}
-use Rattle.gw_flow.specs.Laws.{FlowHolds}
-use Rattle.gw_flow.proofs.Passing.{flow_passes_at_each_block}
-use Rattle.gw_verify.specs.Checks.{Checked}
-use Rattle.gw_verify.proofs.AllPass.{kinds_pass, plus_passes, flow_passes}
+use Rattle.gw_rules.specs.declared.ways.Way.TheVariants.{Falls}
+use Rattle.gw_rules.specs.Kinds.{block_at}
+use Rattle.gw_rules.specs.KindsLaws.{ReturnsHold, BlockHolds}
+use Rattle.gw_rules.proofs.PlusTheorems.{comes_to}
+use Rattle.gw_rules.proofs.KindsHold.{kinds_pass_at_each_place}
+use Rattle.gw_rules.specs.Rows.{Row}
+use Rattle.gw_rules.specs.Flow.{own_table}
+use Rattle.gw_rules.specs.FlowLaws.{FlowHolds}
+use Rattle.gw_rules.proofs.Passing.{flow_passes_at_each_block}
+use Rattle.gw_rules.specs.Accepted.{Checked}
+use Rattle.gw_rules.proofs.AllPass.{kinds_pass, plus_passes, flow_passes}
 use Rattle.gw_num.specs.Table.{at}
 use Rattle.gw_transactions.specs.declared.Transaction.{Transaction}
 use Rattle.gw_transactions.specs.Transactions.{LiveTransaction, attributes_at}

@@ -12,18 +12,18 @@ use Rattle.gw_blocks.specs.declared.parts.Block.TheVariants as blocks
 use Rattle.gw_object.specs.declared.parts.Kind.{Kind}
 use Rattle.gw_object.specs.declared.parts.Kind.TheVariants as kinds
 use Rattle.gw_object.specs.declared.parts.Parts.{Parts}
-use Rattle.gw_kinds.specs.declared.ways.Exit.{Exit}
-use Rattle.gw_kinds.specs.declared.ways.Way.{Way}
-use Rattle.gw_kinds.specs.Exits.{leads_to, exits, ways}
+use Rattle.gw_rules.specs.declared.ways.Exit.{Exit}
+use Rattle.gw_rules.specs.declared.ways.Way.{Way}
+use Rattle.gw_rules.specs.Exits.{leads_to, exits, ways}
 use Rattle.gw_operands.specs.Sources.{kind_at}
-use Rattle.gw_kinds.specs.Kinds.{block_at}
-use Rattle.gw_kinds.specs.Laws.{MayBeEntered, ReturnsHold, BlockHolds}
-use Rattle.gw_flow.specs.Codes as codes
-use Rattle.gw_flow.specs.Entries.{lists}
-use Rattle.gw_flow.specs.Rows.{ParamKind, Num, Ret, Row, kind_of, owns, units_of}
-use Rattle.gw_flow.proofs.Parameters.{loop_is_number, return_is}
-use Rattle.gw_flow.specs.Blocks.{capacity_at}
-use Rattle.gw_flow.specs.Flow.{own_table}
+use Rattle.gw_rules.specs.Kinds.{block_at}
+use Rattle.gw_rules.specs.KindsLaws.{MayBeEntered, ReturnsHold, BlockHolds}
+use Rattle.gw_rules.specs.FlowCodes as codes
+use Rattle.gw_rules.specs.Entries.{lists}
+use Rattle.gw_rules.specs.Rows.{ParamKind, Num, Ret, Row, kind_of, owns, units_of}
+use Rattle.gw_rules.proofs.Parameters.{loop_is_number, return_is}
+use Rattle.gw_rules.specs.Blocks.{capacity_at}
+use Rattle.gw_rules.specs.Flow.{own_table}
 use Rattle.gw_num.specs.Table.{at}
 use Rattle.gw_transactions.specs.declared.Transaction.{Transaction}
 use Rattle.gw_transactions.specs.Parameters.{no_parameters}

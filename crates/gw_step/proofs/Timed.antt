@@ -13,7 +13,7 @@ use Rattle.gw_num.specs.declared.arithmetic.NumFault.{NumFault}
 use Rattle.gw_num.specs.Arithmetic.{fits_i64, sum_of}
 use Rattle.gw_num.specs.Generator as generator
 use Rattle.gw_num.proofs.Draws.{times_lie_within}
-use Rattle.gw_kinds.specs.Exits.{takes_time}
+use Rattle.gw_rules.specs.Exits.{takes_time}
 use Rattle.gw_operands.specs.Environment.{Environment}
 use Rattle.gw_operands.specs.Values.{Evaluation, Value, Fails, Unset, ◌>>=◌, answered, first_stream, with_first, drawn_time, single_value, operands as operand_values}
 use Rattle.gw_step.specs.declared.ends.End.TheVariants.{NegativeTime}

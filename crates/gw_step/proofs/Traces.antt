@@ -1,8 +1,8 @@
 -- A step is a list of elementary changes, and each keeps a state well-typed.
 use Rattle.gw_step.specs.Blocks.{is_owed}
-use Rattle.gw_kinds.specs.Exits.{takes_time}
-use Rattle.gw_weights.specs.Weights.{weight_at, chain_weight}
-use Rattle.gw_weights.specs.Laws.{Weighted}
+use Rattle.gw_rules.specs.Exits.{takes_time}
+use Rattle.gw_rules.specs.Weights.{weight_at, chain_weight}
+use Rattle.gw_rules.specs.WeightsLaws.{Weighted}
 use Rattle.gw_step.specs.Weight.{weight_in}
 use Rattle.gw_transactions.specs.Transactions.{LiveTransaction, made_with, with_attributes, with_parameter, with_chain, chain_of, attributes_at, put_attributes, put_parameter, put_chain, live_count}
 use Rattle.std.proofs.Common.{◌≡◌, ℕ, suc, ◌+◌, ◌<◌, ◌≤◌, ◌≤ℤ◌, ℤ, pos, ◌-ℤ◌, List, [], ◌∷◌, length, map, Option, Some, None, Bool, true, false, is_some, if◌then◌else◌, ◌==◌, refl, sym, ap, ◌∙◌, subst, arith, inl, inr, IsSome, option_map}
@@ -19,19 +19,19 @@ use Rattle.gw_blocks.specs.declared.parts.Block.{Block}
 use Rattle.gw_blocks.specs.declared.parts.Block.TheVariants as blocks
 use Rattle.gw_object.specs.declared.parts.Parts.{Parts}
 use Rattle.gw_operands.specs.Sources.{kind_at}
-use Rattle.gw_kinds.specs.Kinds.{block_at, is_generate}
-use Rattle.gw_kinds.specs.Laws.{MayBeEntered}
-use Rattle.gw_flow.specs.Entries.{entry}
-use Rattle.gw_flow.specs.Rows.{ParamKind, Num, Ret, Row, is_empty, kind_of, kind_fits, Fits}
-use Rattle.gw_flow.specs.Blocks.{move, edges}
-use Rattle.gw_flow.specs.Flow.{own_table, own_row}
-use Rattle.gw_flow.specs.Laws.{MayPass, FlowHolds}
-use Rattle.gw_flow.proofs.Fitting.{included}
+use Rattle.gw_rules.specs.Kinds.{block_at, is_generate}
+use Rattle.gw_rules.specs.KindsLaws.{MayBeEntered}
+use Rattle.gw_rules.specs.Entries.{entry}
+use Rattle.gw_rules.specs.Rows.{ParamKind, Num, Ret, Row, is_empty, kind_of, kind_fits, Fits}
+use Rattle.gw_rules.specs.Blocks.{move, edges}
+use Rattle.gw_rules.specs.Flow.{own_table, own_row}
+use Rattle.gw_rules.specs.FlowLaws.{MayPass, FlowHolds}
+use Rattle.gw_rules.proofs.Fitting.{included}
 use Rattle.gw_num.specs.Table.{at, put}
 use Rattle.gw_num.proofs.Tables.{at-map, at-put, at-put_other, put-put, by_entry, at_past}
 use Rattle.gw_chains.specs.Chain.{behind, rest}
 use Rattle.gw_blocks.specs.declared.parts.Link.{Link}
-use Rattle.gw_flow.specs.declared.edges.Target.TheVariants as targets
+use Rattle.gw_rules.specs.declared.edges.Target.TheVariants as targets
 use Rattle.gw_transactions.specs.declared.Transaction.{Transaction}
 use Rattle.gw_entities.specs.declared.facilities.Facility.{Facility}
 use Rattle.gw_entities.specs.declared.storages.Storage.{Storage}

@@ -10,13 +10,13 @@ use Rattle.gw_blocks.specs.declared.parts.Link.{Link}
 use Rattle.gw_blocks.specs.declared.parts.Block.{Block}
 use Rattle.gw_blocks.specs.declared.parts.Block.TheVariants as blocks
 use Rattle.gw_object.specs.declared.parts.Parts.{Parts}
-use Rattle.gw_kinds.specs.Exits.{takes_time}
-use Rattle.gw_kinds.specs.Kinds.{block_at}
-use Rattle.gw_flow.specs.Rows.{Row}
-use Rattle.gw_flow.specs.Flow.{own_table}
-use Rattle.gw_flow.specs.Laws.{FlowHolds}
-use Rattle.gw_weights.specs.Weights.{weight_at, weight_of, chain_weight}
-use Rattle.gw_weights.specs.Laws.{Weighted}
+use Rattle.gw_rules.specs.Exits.{takes_time}
+use Rattle.gw_rules.specs.Kinds.{block_at}
+use Rattle.gw_rules.specs.Rows.{Row}
+use Rattle.gw_rules.specs.Flow.{own_table}
+use Rattle.gw_rules.specs.FlowLaws.{FlowHolds}
+use Rattle.gw_rules.specs.Weights.{weight_at, weight_of, chain_weight}
+use Rattle.gw_rules.specs.WeightsLaws.{Weighted}
 use Rattle.gw_num.specs.Table.{at, put, tabulate}
 use Rattle.gw_num.proofs.Tables.{at-put, at-put_other, at_some, length-put, length-put_next}
 use Rattle.gw_chains.specs.Chain.{in_time, later}

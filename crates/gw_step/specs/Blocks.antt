@@ -26,8 +26,8 @@ use Rattle.gw_blocks.specs.declared.parts.Unlink.{Unlink}
 use Rattle.gw_blocks.specs.declared.parts.Block.{Block}
 use Rattle.gw_blocks.specs.declared.parts.Block.TheVariants as blocks
 use Rattle.gw_object.specs.declared.parts.Parts.{Parts}
-use Rattle.gw_kinds.specs.Kinds.{block_at}
-use Rattle.gw_kinds.specs.Exits.{leads_to, goes_or_falls}
+use Rattle.gw_rules.specs.Kinds.{block_at}
+use Rattle.gw_rules.specs.Exits.{leads_to, goes_or_falls}
 use Rattle.gw_operands.specs.Values.{answered, operands}
 use Rattle.gw_num.specs.declared.arithmetic.NumFault.{NumFault}
 use Rattle.gw_num.specs.Arithmetic.{sum_of, difference_of}

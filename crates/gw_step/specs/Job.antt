@@ -3,8 +3,8 @@ use Rattle.std.specs.Prelude.{◌≡◌, ℕ, zero, suc, ◌+◌, ◌^◌, ◌�
 use Rattle.std.specs.List.{All, range_with_len}
 use Rattle.gw_object.specs.declared.parts.Parts.{Parts}
 use Rattle.gw_object.specs.Grammar.{HasSpelling}
-use Rattle.gw_verify.specs.Checks.{Checked}
-use Rattle.gw_weights.specs.Laws.{Weighted}
+use Rattle.gw_rules.specs.Accepted.{Checked}
+use Rattle.gw_rules.specs.WeightsLaws.{Weighted}
 use Rattle.gw_step.specs.State.{State}
 use Rattle.gw_step.specs.Step.{step}
 use Rattle.gw_step.specs.Typing.{WellTyped, AreConserved, IsWoken}

@@ -4,11 +4,11 @@ use Rattle.gw_blocks.specs.declared.parts.Generate.{Generate}
 use Rattle.gw_blocks.specs.declared.parts.Block.TheVariants as blocks
 use Rattle.gw_object.specs.declared.parts.Parts.{Parts}
 use Rattle.gw_object.specs.Grammar.{HasSpelling}
-use Rattle.gw_kinds.specs.Kinds.{block_at}
+use Rattle.gw_rules.specs.Kinds.{block_at}
 use Rattle.gw_operands.specs.Environment.{Environment}
 use Rattle.gw_step.specs.Operands.{MayDraw, MayStep}
 use Rattle.gw_step.specs.Asks.{IsServed}
-use Rattle.gw_verify.specs.Checks.{Checked}
+use Rattle.gw_rules.specs.Accepted.{Checked}
 use Rattle.gw_step.specs.State.{State}
 use Rattle.gw_step.specs.Job.{Job, JobFits, Step, IsFinal, IsStuck, Alone, start_of}
 use Rattle.gw_step.specs.Residence.{occurrences, occurrences_in}

@@ -1,7 +1,7 @@
 -- One step of a job.
 use Rattle.std.specs.Prelude.{ℕ, ◌+◌, List, [], ◌∷◌, Option, Some, None, ◌==◌, ◌&&◌, is_none, if◌then◌else◌}
 use Rattle.gw_object.specs.declared.parts.Parts.{Parts}
-use Rattle.gw_kinds.specs.Kinds.{block_at}
+use Rattle.gw_rules.specs.Kinds.{block_at}
 use Rattle.gw_transactions.specs.Transactions.{attributes_at}
 use Rattle.gw_step.specs.declared.ends.End.TheVariants.{NoMoreEvents, Budget}
 use Rattle.gw_step.specs.Outcome.{Outcome, Gives, EndsBy, HasNoCase, ◌>>=◌, case_of}

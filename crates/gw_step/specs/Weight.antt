@@ -7,9 +7,9 @@ use Rattle.gw_blocks.specs.declared.parts.Block.{Block}
 use Rattle.gw_blocks.specs.declared.parts.Block.TheVariants as blocks
 use Rattle.gw_object.specs.Limits.{most_blocks, greatest_weight}
 use Rattle.gw_object.specs.declared.parts.Parts.{Parts}
-use Rattle.gw_kinds.specs.Exits.{takes_time}
-use Rattle.gw_kinds.specs.Kinds.{block_at}
-use Rattle.gw_weights.specs.Weights.{weight_at, weight_of}
+use Rattle.gw_rules.specs.Exits.{takes_time}
+use Rattle.gw_rules.specs.Kinds.{block_at}
+use Rattle.gw_rules.specs.Weights.{weight_at, weight_of}
 use Rattle.gw_num.specs.Table.{at, tabulate}
 use Rattle.gw_transactions.specs.Transactions.{LiveTransaction}
 use Rattle.gw_step.specs.State.{FutureEvent, State}

@@ -1,7 +1,7 @@
 -- What holds of each of a list with its number.
 use Rattle.std.proofs.Common.{◌≡◌, ℕ, ◌+◌, List, [], ◌∷◌, ◌++◌, length, subst, arith}
 use Rattle.gw_service.specs.Calls.{Pass}
-use Rattle.gw_answers.specs.Answer.{Ends}
+use Rattle.gw_report.specs.Report.{Ends}
 use Rattle.gw_study.specs.Runs.{Numbered, IsReport, ArePassesFrom, AreReports}
 
 -- one more

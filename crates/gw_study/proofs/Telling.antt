@@ -1,7 +1,7 @@
 -- What is told of a column of numbers.
 use Rattle.std.proofs.Common.{◌≡◌, ℕ, List, ◌++◌, map, Option, Some, None, Contains, inl, inr, refl}
 use Rattle.std.specs.Prelude.{ℤ, Result, Ok, Err, OnOk}
-use Rattle.gw_statistics.specs.declared.summary.Summary.{Summary}
+use Rattle.gw_figures.specs.declared.summary.Summary.{Summary}
 use Rattle.gw_study.specs.Rows.{column, Tells, AddsRow}
 use Rattle.gw_study.specs.Text.{row_line, missing_line}
 

@@ -3,9 +3,9 @@
 use Rattle.std.specs.Prelude.{◌≡◌, ◌⊎◌, ℕ, ◌-◌, ◌*◌, nat_lt, nat_eq, List, [], ◌∷◌, ◌++◌, length, map, codes, Bool, ℤ, Option, None, Some, Contains, if◌then◌else◌}
 use Rattle.std.specs.Fmt.{decimal}
 use Rattle.std.specs.List.{AllZip, slice_get, concat, count_by, starts_with}
-use Rattle.gw_statistics.specs.Quantiles.{first_enough}
-use Rattle.gw_statistics.specs.Summaries.{mean_of, least_of, greatest_of, ConfidesIn}
-use Rattle.gw_statistics.specs.declared.summary.Summary.{Summary}
+use Rattle.gw_figures.specs.Quantiles.{first_enough}
+use Rattle.gw_figures.specs.Summaries.{mean_of, least_of, greatest_of, ConfidesIn}
+use Rattle.gw_figures.specs.declared.summary.Summary.{Summary}
 use Rattle.gw_figures.specs.Numbers.{words_in, values_in}
 use Rattle.gw_figures.specs.Figures.{figures_in}
 use Rattle.gw_study.specs.Text.{row_line, missing_line, head_line}

@@ -8,8 +8,9 @@ use Rattle.gw_step.specs.Job.{Job}
 use Rattle.gw_service.specs.Calls.{Pass}
 use Rattle.gw_scan.specs.Making.{spec_fault, job_from}
 use Rattle.gw_answers.specs.Status.{run_budget}
-use Rattle.gw_answers.specs.Answer.{◌>>=◌, unless, object_of, Ends}
-use Rattle.gw_verdicts.specs.Refusal.{start_refusal}
+use Rattle.gw_answers.specs.Answer.{◌>>=◌, unless, object_of}
+use Rattle.gw_report.specs.Report.{Ends}
+use Rattle.gw_answers.specs.Refusal.{start_refusal}
 use Rattle.gw_study.specs.declared.job.Setup.{Setup}
 use Rattle.gw_study.specs.Seeds.{seeds_of_run}
 

@@ -3,7 +3,7 @@ use Rattle.std.specs.Prelude.{◌≡◌, ◌≢◌, ◌⊎◌, ℕ, List, length
 use Rattle.gw_object.specs.declared.fault.Fault.{Fault}
 use Rattle.gw_answers.specs.Status.{ended, refused}
 use Rattle.gw_answers.specs.Assembly.{IsAssembly}
-use Rattle.gw_verdicts.specs.Refusal.{refusal_line}
+use Rattle.gw_answers.specs.Refusal.{refusal_line}
 use Rattle.gw_study.specs.Runs.{AreReports}
 use Rattle.gw_study.specs.Rows.{IsTable}
 

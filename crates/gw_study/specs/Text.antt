@@ -1,7 +1,7 @@
 -- The lines of a study.
 use Rattle.std.specs.Prelude.{ℕ, ◌-◌, ◌^◌, ◌/◌, ◌%◌, nat_lt, List, [], ◌∷◌, ◌++◌, length, replicate, codes, ℤ, pos, negsuc, unsigned_abs, Option, None, Some, if◌then◌else◌}
 use Rattle.std.specs.Fmt.{decimal}
-use Rattle.gw_statistics.specs.declared.summary.Summary.{Summary}
+use Rattle.gw_figures.specs.declared.summary.Summary.{Summary}
 
 -- blanks behind a text, up to a width
 unfoldable pub left : ℕ → List ℕ → List ℕ

@@ -5,10 +5,9 @@ ghost use Rattle.gw_answers.specs.Finding.{FindsJob};
 ghost use Rattle.gw_study.specs.Runs.{run_job, job_seeded};
 
 use crate::seeds::seeds_of;
-use gw_answers::{BUDGET, NoJob, accepted_in};
+use gw_answers::{BUDGET, NoJob, Refusal, accepted_in};
+use gw_rules::Verified;
 use gw_scan::{Spec, StartFault};
-use gw_verdicts::Refusal;
-use gw_verify::Verified;
 use std::alloc::Global;
 
 /// What the runs of a study have in common.

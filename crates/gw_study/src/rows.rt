@@ -7,9 +7,8 @@ ghost use Rattle.gw_figures.specs.Figures.{place_and_name, labels};
 ghost use Rattle.gw_study.specs.Rows.{value_at, is_done, AddsRow, AddsRowsOf, AddsRows, IsTable};
 
 use crate::text::{put_head, put_missing, put_more, put_row};
-use gw_figures::{Figure, figures, values};
+use gw_figures::{Figure, figures, summarize, values};
 use gw_object::Memory;
-use gw_statistics::summarize;
 use std::alloc::Global;
 
 /// The number at a place of a report's words, if there is one.

@@ -2,14 +2,13 @@
 
 ghost use Rattle.std.specs.Prelude.{◌≡◌, ◌<◌, ◌≤◌, ◌+◌, length, vec_len, IfOk, OnOk};
 ghost use Rattle.gw_pool.specs.Shares.{AreWhole};
-ghost use Rattle.gw_answers.specs.Answer.{Ends};
+ghost use Rattle.gw_report.specs.Report.{Ends};
 ghost use Rattle.gw_study.specs.Runs.{IsPassOf, ArePassesOf, AddsReportsTo, AreReportsOf};
 
 use crate::job::{Setup, job_of_run};
-use gw_answers::NoJob;
-use gw_batch::{refusal_of_job, reply_to};
+use gw_answers::{NoJob, refusal_of_job};
 use gw_jobs::{JobFault, Pass};
-use gw_pool::{Crew, OpenGate, PoolFault, Service, Shared};
+use gw_pool::{Crew, OpenGate, PoolFault, Service, Shared, reply_to};
 use gw_scan::Spec;
 use std::alloc::Global;
 use std::collections::VecDeque;

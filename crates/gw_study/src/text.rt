@@ -4,8 +4,8 @@ ghost use Rattle.std.specs.Prelude.{◌≡◌, ◌≤◌, ◌++◌, OnOk, Some, 
 ghost use Rattle.gw_study.specs.Text.{thousandths_text, amount_column, right, left, half_width_column, values_text, row_line, missing_line, head_line};
 ghost use Rattle.gw_study.specs.Rows.{more_line};
 
+use gw_figures::{Summary, runs_to_halve};
 use gw_object::Memory;
-use gw_statistics::{Summary, runs_to_halve};
 use std::alloc::Global;
 use std::fmt;
 

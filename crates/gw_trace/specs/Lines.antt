@@ -7,7 +7,7 @@ use Rattle.gw_blocks.specs.declared.parts.Block.TheVariants as blocks
 use Rattle.gw_blocks.specs.Grammar.{block_word}
 use Rattle.gw_object.specs.declared.parts.Entity.{Entity}
 use Rattle.gw_object.specs.declared.parts.Parts.{Parts}
-use Rattle.gw_kinds.specs.Kinds.{block_at}
+use Rattle.gw_rules.specs.Kinds.{block_at}
 use Rattle.gw_transactions.specs.Transactions.{live_count}
 use Rattle.gw_step.specs.declared.ends.End.{End}
 use Rattle.gw_step.specs.State.{State}

@@ -3,7 +3,7 @@
 ghost use Rattle.std.specs.Prelude.{◌≡◌};
 ghost use Rattle.gw_uses.specs.Roles as model;
 
-use gw_kinds::EntityKind;
+use gw_rules::EntityKind;
 use gw_text::{Gate, Modifier, Operand, Word};
 
 /// What an operand stands for.

@@ -11,7 +11,7 @@ use crate::roles::{
     roles_of_two,
 };
 use crate::uses::{Use, put};
-use gw_kinds::EntityKind;
+use gw_rules::EntityKind;
 use gw_text::{Body, Modifier, Operand, Statement, Word};
 use std::alloc::AllocError;
 

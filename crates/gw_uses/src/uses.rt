@@ -2,7 +2,7 @@
 
 ghost use Rattle.std.specs.Prelude.{◌≡◌, ◌++◌, ◌∷◌, [], OnOk};
 
-use gw_kinds::EntityKind;
+use gw_rules::EntityKind;
 use std::alloc::AllocError;
 
 /// What a statement uses by name.

@@ -2,9 +2,9 @@
 use Rattle.std.proofs.Common.{◌≡◌, ◌⊎◌, inl, inr, List, ◌++◌, None, Some, Result, Ok, Err}
 use Rattle.gw_object.specs.declared.fault.Fault.{Fault}
 use Rattle.gw_object.specs.Reading.{out_of_memory}
-use Rattle.gw_kinds.specs.Checks.{Check, first_broken, Finds}
-use Rattle.gw_kinds.proofs.Broken.{stops_first, joined}
-use Rattle.gw_flow.specs.Flow.{MayFind}
+use Rattle.gw_rules.specs.Checks.{Check, first_broken, Finds}
+use Rattle.gw_rules.proofs.Broken.{stops_first, joined}
+use Rattle.gw_rules.specs.Flow.{MayFind}
 
 -- a fault of the first checks, or want of memory, is that of the first and further checks
 pub found_first : (cs ds : List Check) (fault : Fault) → (first_broken cs ≡ Some fault) ⊎ (fault ≡ out_of_memory) → (first_broken (cs ++ ds) ≡ Some fault) ⊎ (fault ≡ out_of_memory)

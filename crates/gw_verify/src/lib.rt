@@ -1,7 +1,6 @@
 //! The verifier: it accepts, before any run, only objects that every check holds of.
 #![tactic(auto)]
 
-pub mod laws;
 mod verified;
 
-pub use verified::{Verified, check_first, verify};
+pub use verified::{check_first, verify};

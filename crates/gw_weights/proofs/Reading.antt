@@ -7,10 +7,10 @@ use Rattle.std.proofs.lemmas.Option.{slice_get-map}
 use Rattle.gw_object.specs.declared.parts.TableParameter.{TableParameter}
 use Rattle.gw_object.specs.declared.parts.TableState.{TableState}
 use Rattle.gw_object.specs.declared.parts.ReturnRow.{ReturnRow}
-use Rattle.gw_flow.specs.Rows.{Row, kind_of}
-use Rattle.gw_flow.specs.Seen.{row_meaning, kind_said}
-use Rattle.gw_flow.specs.Flow.{row_at}
-use Rattle.gw_flow.proofs.Entries.{entry-of_key}
+use Rattle.gw_rules.specs.Rows.{Row, kind_of}
+use Rattle.gw_rules.specs.Seen.{row_meaning, kind_said}
+use Rattle.gw_rules.specs.Flow.{row_at}
+use Rattle.gw_rules.proofs.Entries.{entry-of_key}
 
 -- what a row says of a parameter is what the first of its parameters of that number says
 pub kind_read : (rows : List ReturnRow) (row : TableState) (q : ℕ) → kind_of (row_meaning rows row) q ≡ option_map (λ (set : TableParameter). kind_said rows set.kind) (find (λ (set : TableParameter). set.number == q) row.parameters)

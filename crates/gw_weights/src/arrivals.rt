@@ -1,13 +1,13 @@
 //! What arrivals need: that only so many come in one clock moment.
 
 ghost use Rattle.std.specs.Prelude.{◌≡◌};
-ghost use Rattle.gw_kinds.specs.Checks.{Finds};
-ghost use Rattle.gw_weights.specs.Weights as model;
+ghost use Rattle.gw_rules.specs.Checks.{Finds};
+ghost use Rattle.gw_rules.specs.Weights as model;
 
-use crate::codes::ARRIVAL_WEIGHT;
 use gw_blocks::{Block, Generate};
-use gw_kinds::{check, takes_time};
 use gw_object::{Fault, Place};
+use gw_rules::weights_codes::ARRIVAL_WEIGHT;
+use gw_rules::{check, takes_time};
 
 /// Whether only so many arrivals of a GENERATE may come in one clock moment: time passes in its interval, or it has a limit.
 fn is_bounded(generate: &Generate) -> bool

@@ -1,15 +1,13 @@
 //! What user chains need: that a LINK pays for its chain, and a chain for where an UNLINK sends its members.
 
-ghost use Rattle.std.specs.Prelude.{◌≡◌};
 ghost use Rattle.gw_blocks.specs.declared.parts.Block.TheVariants as blocks;
-ghost use Rattle.gw_kinds.specs.Checks.{Finds};
-ghost use Rattle.gw_weights.specs.Weights as model;
+ghost use Rattle.gw_rules.specs.Checks.{Finds};
+ghost use Rattle.gw_rules.specs.Weights as model;
 
-use crate::codes::CHAIN_WEIGHT;
-use crate::weights::{chain_weight, weight_at};
 use gw_blocks::{Block, Link, Unlink};
-use gw_kinds::{chain_row, check};
 use gw_object::{Fault, Parts, Place};
+use gw_rules::weights_codes::CHAIN_WEIGHT;
+use gw_rules::{chain_row, chain_weight, check, weight_at};
 
 /// The fault of a LINK, which is the block of this number, that doesn't pay for the entry and for its user chain.
 fn check_link(parts: &Parts, number: u16, link: &Link) -> Result<(), Fault>

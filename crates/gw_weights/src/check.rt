@@ -1,19 +1,19 @@
 //! The checks of a weight certificate, in order.
 
 ghost use Rattle.std.specs.Prelude.{◌≡◌, ◌≤◌, length};
-ghost use Rattle.gw_kinds.specs.Checks.{Finds};
-ghost use Rattle.gw_kinds.specs.Pass.{KindsPass};
-ghost use Rattle.gw_flow.specs.Flow.{own_row as row_of};
-ghost use Rattle.gw_flow.specs.Seen.{HaveNext};
-ghost use Rattle.gw_weights.specs.Weights as model;
+ghost use Rattle.gw_rules.specs.Checks.{Finds};
+ghost use Rattle.gw_rules.specs.Pass.{KindsPass};
+ghost use Rattle.gw_rules.specs.Flow.{own_row as row_of};
+ghost use Rattle.gw_rules.specs.Seen.{HaveNext};
+ghost use Rattle.gw_rules.specs.Weights as model;
 
 use crate::arrivals::check_arrivals;
 use crate::chains::check_chain;
 use crate::exits::{check_exits, check_returns};
 use crate::returns::blocks_read;
 use gw_blocks::Block;
-use gw_kinds::exits;
 use gw_object::{Fault, Object, Parts, TableState};
+use gw_rules::exits;
 
 /// The row of the state table of the block of this number, from 1, if it has one (ours: docs/object-format.md).
 pub fn own_row(parts: &Parts, number: u16) -> Option<&TableState>
@@ -74,7 +74,7 @@ fn check_block(parts: &Parts, number: u16, block: &Block) -> Result<(), Fault>
 }
 
 /// The first fault of the blocks, if there is one.
-#[tactic(auto, unfolding(crate::specs::Weights::weight_checks))]
+#[tactic(auto, unfolding(gw_rules::specs::Weights::weight_checks))]
 fn check_blocks(parts: &Parts) -> Result<(), Fault>
     requires few { length parts.now.blocks ≤ 4096 }
     requires next { HaveNext parts.now.returns }

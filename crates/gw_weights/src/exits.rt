@@ -1,15 +1,13 @@
 //! What the exits of a block need: that it pays for the entry, and for where they lead at once.
 
 ghost use Rattle.std.specs.Prelude.{◌≡◌, ◌<◌, ◌≤◌, All, map};
-ghost use Rattle.gw_kinds.specs.Checks.{Finds};
-ghost use Rattle.gw_kinds.specs.Exits.{returns_to as exit_after};
-ghost use Rattle.gw_weights.specs.Weights as model;
+ghost use Rattle.gw_rules.specs.Checks.{Finds};
+ghost use Rattle.gw_rules.specs.Exits.{returns_to as exit_after};
+ghost use Rattle.gw_rules.specs.Weights as model;
 
-use crate::codes::WEIGHT_EDGE;
-use crate::weights::{need, weight_at};
-use gw_flow::is_used;
-use gw_kinds::{Exit, check, leads_to, returns_to};
 use gw_object::{Fault, Parts, Place};
+use gw_rules::weights_codes::WEIGHT_EDGE;
+use gw_rules::{Exit, check, is_used, leads_to, need, returns_to, weight_at};
 
 /// Whether somebody may go along an exit in the clock moment of the entry (ours: docs/weights.md).
 pub fn goes_at_once(exit: Exit) -> bool

@@ -2,8 +2,8 @@
 
 ghost use Rattle.std.specs.Prelude.{◌≡◌, ◌==◌, Some};
 ghost use Rattle.std.specs.List.{find};
-ghost use Rattle.gw_flow.specs.Rows.{kind_of, return_blocks};
-ghost use Rattle.gw_flow.specs.Seen.{row_meaning, kind_said, row_blocks};
+ghost use Rattle.gw_rules.specs.Rows.{kind_of, return_blocks};
+ghost use Rattle.gw_rules.specs.Seen.{row_meaning, kind_said, row_blocks};
 
 use gw_object::{ReturnRow, TableKind, TableParameter, TableState};
 

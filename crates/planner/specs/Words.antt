@@ -1,7 +1,7 @@
 -- The words of the command line.
 use Rattle.std.specs.Prelude.{ℕ, ◌^◌, nat_lt, nat_le, List, [], ◌∷◌, codes, ℤ, pos, Option, Some, None, Bool, ◌&&◌, ◌||◌, if◌then◌else◌}
 use Rattle.std.specs.Str.{bytes_eq}
-use Rattle.gw_numerals.specs.Numerals.{number_below}
+use Rattle.gw_num.specs.Numerals.{number_below}
 use Rattle.gw_explain.specs.Codes.{is_code}
 use Rattle.planner.specs.declared.words.Command.{Command}
 use Rattle.planner.specs.declared.words.Command.TheVariants.{Ask, Code, Help, Version}

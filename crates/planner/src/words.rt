@@ -2,13 +2,13 @@
 
 ghost use Rattle.std.specs.Prelude.{◌≡◌, ◌^◌, ◌<◌, ◌≤◌, map, IfSome};
 ghost use Rattle.std.specs.String.{string_bytes};
-ghost use Rattle.gw_numerals.specs.Numerals.{number_below};
+ghost use Rattle.gw_num.specs.Numerals.{number_below};
 ghost use Rattle.planner.specs.Words.{clock_in, runs_in, command_named as named_by, command_in};
 ghost use Rattle.planner.specs.Asking.{MayBeCarriedOut};
 ghost use Rattle.planner.specs.Words as words;
 
 use gw_explain::advice::advice_on;
-use gw_numerals::{count_in, number_in};
+use gw_num::{count_in, number_in};
 use gw_study::MOST_RUNS;
 
 /// What is asked of a model.

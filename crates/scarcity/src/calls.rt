@@ -5,9 +5,10 @@ use gw_assemble::assemble;
 use gw_object::{Fault, Memory, Object, codes};
 use gw_object_bytes::{read, write};
 use gw_report::report;
+use gw_rules::Verified;
 use gw_scan::{Sim, Spec, StartFault, Status};
 use gw_text::{Model, parse};
-use gw_verify::{Verified, verify};
+use gw_verify::verify;
 use std::alloc::Global;
 
 /// At most how many steps a job makes here.

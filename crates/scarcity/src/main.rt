@@ -8,8 +8,8 @@ mod refusals;
 
 use calls::{assembled, bytes_of, ended, job_of, model_of, object_of, reported, started, verified};
 use gw_object::Memory;
+use gw_rules::Verified;
 use gw_scan::Sim;
-use gw_verify::Verified;
 use refusals::Refusals;
 use std::alloc::Global;
 use std::process::ExitCode;

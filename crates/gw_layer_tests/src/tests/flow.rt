@@ -2,13 +2,14 @@
 
 ghost use Rattle.std.specs.Prelude.{◌≡◌, ◌≤◌, ◌^◌, List, is_some, IsTrue, All};
 ghost use Rattle.gw_object.specs.declared.parts.ReturnRow.{ReturnRow};
-ghost use Rattle.gw_flow.specs.Rows.{HasRoom};
-ghost use Rattle.gw_flow.specs.Seen.{known};
-ghost use Rattle.gw_kinds.specs.Kinds.{block_at};
+ghost use Rattle.gw_rules.specs.Rows.{HasRoom};
+ghost use Rattle.gw_flow.specs.Known.{known};
+ghost use Rattle.gw_rules.specs.Kinds.{block_at};
 
-use gw_flow::{AbsState, Amount, Edge, StateParts, Target, out_edges};
+use gw_flow::{AbsState, Amount, Edge, StateParts, out_edges};
 use gw_object::{Items, Object};
 use gw_object_bytes::read;
+use gw_rules::Target;
 use gw_samples::QUEUEING;
 use std::alloc::Global;
 use std::test::Fail;

@@ -1,7 +1,7 @@
 //! Kinds: what blocks lead to, and which take time.
 
 use gw_blocks::{Block, Fraction, Generate, Operand, Spread};
-use gw_kinds::{Way, exits, leads_to, takes_time};
+use gw_rules::{Way, exits, leads_to, takes_time};
 use gw_samples::first_wrong;
 
 /// A time of this mean and half range, both numbers.

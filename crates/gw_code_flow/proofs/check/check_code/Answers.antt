@@ -1,7 +1,7 @@
 use Rattle.std.proofs.Common.{refl, ap, ◌∙◌, List, Some, [], ◌∷◌}
 use Rattle.gw_code.specs.declared.parts.Instruction.{Instruction}
-use Rattle.gw_kinds.specs.Checks.{first_broken}
-use Rattle.gw_code_flow.specs.PlusChecks.{code_checks}
+use Rattle.gw_rules.specs.Checks.{first_broken}
+use Rattle.gw_rules.specs.PlusChecks.{code_checks}
 use Rattle.gw_code_flow.proofs.KnownHeights.{from_table}
 use Rattle.gw_code_flow.proofs.check.check_code.Goals as goal
 

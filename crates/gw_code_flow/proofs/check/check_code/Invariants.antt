@@ -1,6 +1,6 @@
 use Rattle.std.proofs.Common.{◌≡◌, drop}
-use Rattle.gw_kinds.specs.Checks.{first_broken}
-use Rattle.gw_code_flow.specs.PlusChecks.{code_checks, body_checks}
+use Rattle.gw_rules.specs.Checks.{first_broken}
+use Rattle.gw_rules.specs.PlusChecks.{code_checks, body_checks}
 use Rattle.gw_code_flow.proofs.check.check_code.Given as goal
 
 -- the first fault of the instructions that are left is that of all

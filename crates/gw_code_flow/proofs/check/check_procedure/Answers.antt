@@ -1,6 +1,6 @@
 use Rattle.std.proofs.lemmas.Result.{err_from_is_err_and}
-use Rattle.gw_kinds.proofs.Broken.{stops_first, joined}
-use Rattle.gw_code_flow.specs.PlusChecks.{body_checks}
+use Rattle.gw_rules.proofs.Broken.{stops_first, joined}
+use Rattle.gw_rules.specs.PlusChecks.{body_checks}
 use Rattle.gw_code_flow.proofs.check.check_procedure.Goals as goal
 
 pub returns-in_err-check_code-clause-checks : goal.returns-in_err-check_code-clause-checks

@@ -1,6 +1,6 @@
 use Rattle.std.proofs.Common.{◌∙◌, sym, ap, arith, [], ◌∷◌, length, length-append}
 use Rattle.std.proofs.lemmas.Result.{err_from_is_err_and}
-use Rattle.gw_code_flow.specs.PlusChecks.{plus_checks}
+use Rattle.gw_rules.specs.PlusChecks.{plus_checks}
 use Rattle.gw_code_flow.proofs.EachProcedure.{goes_on, stops, is_done}
 use Rattle.gw_code_flow.proofs.check.check_procedures.Goals as goal
 

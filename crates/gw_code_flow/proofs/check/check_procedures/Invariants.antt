@@ -1,6 +1,6 @@
 use Rattle.std.proofs.Common.{◌≡◌, drop, [], length}
-use Rattle.gw_kinds.specs.Checks.{first_broken}
-use Rattle.gw_code_flow.specs.PlusChecks.{checks_from}
+use Rattle.gw_rules.specs.Checks.{first_broken}
+use Rattle.gw_rules.specs.PlusChecks.{checks_from}
 use Rattle.gw_code_flow.proofs.check.check_procedures.Given as goal
 
 -- there is the cost of each procedure so far; the first fault of the procedures that are left is that of all

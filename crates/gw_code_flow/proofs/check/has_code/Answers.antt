@@ -1,7 +1,7 @@
 use Rattle.std.proofs.Common.{◌≡◌, suc, false, List, [], ◌∷◌, length, not, refl, ◌==◌, ap, ◌∙◌, arith}
 use Rattle.std.proofs.lemmas.Bool.Decides.{nat_tests}
 use Rattle.gw_code.specs.declared.parts.Instruction.{Instruction}
-use Rattle.gw_code_flow.specs.PlusChecks.{has_code}
+use Rattle.gw_rules.specs.PlusChecks.{has_code}
 use Rattle.gw_code_flow.proofs.check.has_code.Goals as goal
 
 not_empty : (code : List Instruction) → not (length code == 0) ≡ has_code code

@@ -1,5 +1,5 @@
 use Rattle.std.proofs.Common.{rules, ◌↔◌, IsTrue, true≢false, sym, ◌∙◌}
-use Rattle.gw_flow.specs.Seen.{ParametersAscend, NumbersAscend, AmountsAscend, AreSome}
+use Rattle.gw_flow.specs.Known.{ParametersAscend, NumbersAscend, AmountsAscend, AreSome}
 use Rattle.gw_flow.proofs.abstract_state.is_ordered.Goals as goal
 
 pub returns-then-numbers_ascend : goal.returns-then-numbers_ascend

@@ -1,6 +1,6 @@
 use Rattle.std.proofs.Common.{rules, of_calls, nat_lt}
 use Rattle.std.proofs.lemmas.Fn.{always_returns_same}
-use Rattle.gw_flow.specs.declared.abstract_state.Parameter.{Parameter}
+use Rattle.gw_rules.specs.declared.set_parameters.Parameter.{Parameter}
 use Rattle.gw_flow.proofs.Ascending.{ascends_by_answer}
 use Rattle.gw_flow.proofs.abstract_state.parameters_ascend.Goals as goal
 

@@ -1,7 +1,7 @@
 use Rattle.std.proofs.Common.{rules}
 use Rattle.std.proofs.lemmas.Iterator.{items_from_collect, YieldsList-from_slice, YieldsList-from_map_by}
-use Rattle.gw_flow.specs.declared.abstract_state.Parameter.{Parameter}
-use Rattle.gw_flow.specs.Seen.{parameter_carried}
+use Rattle.gw_rules.specs.declared.set_parameters.Parameter.{Parameter}
+use Rattle.gw_flow.specs.Known.{parameter_carried}
 use Rattle.gw_flow.proofs.abstract_state.parameters_of_row.Goals as goal
 
 pub returns : goal.returns

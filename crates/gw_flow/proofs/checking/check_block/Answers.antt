@@ -1,5 +1,5 @@
 use Rattle.std.proofs.Common.{sym}
-use Rattle.gw_flow.specs.Seen.{known}
+use Rattle.gw_flow.specs.Known.{known}
 use Rattle.gw_flow.proofs.checking.check_block.Goals as goal
 
 pub check_with_row-requires-clause-room : goal.check_with_row-requires-clause-room

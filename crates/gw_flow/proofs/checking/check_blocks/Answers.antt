@@ -1,7 +1,7 @@
 use Rattle.std.proofs.Common.{◌+◌, refl}
 use Rattle.std.proofs.lemmas.Result.{err_from_is_err_and}
-use Rattle.gw_kinds.proofs.Broken.{goes_on}
-use Rattle.gw_flow.specs.Flow.{flow_checks, checks_at}
+use Rattle.gw_rules.proofs.Broken.{goes_on}
+use Rattle.gw_rules.specs.Flow.{flow_checks, checks_at}
 use Rattle.gw_flow.specs.ViewedTable.{table_viewed}
 use Rattle.gw_flow.proofs.Found.{found_here}
 use Rattle.gw_flow.proofs.checking.check_blocks.Goals as goal

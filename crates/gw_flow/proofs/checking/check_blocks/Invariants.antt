@@ -1,7 +1,7 @@
 use Rattle.std.proofs.Common.{◌≡◌, ◌+◌, drop}
 use Rattle.std.specs.Prelude.{All}
-use Rattle.gw_kinds.specs.Checks.{first_broken, numbered}
-use Rattle.gw_flow.specs.Flow.{checks_at}
+use Rattle.gw_rules.specs.Checks.{first_broken, numbered}
+use Rattle.gw_rules.specs.Flow.{checks_at}
 use Rattle.gw_flow.specs.ViewedTable.{table_viewed}
 use Rattle.gw_flow.specs.ReturnEdges.{PassesBy}
 use Rattle.gw_flow.proofs.checking.check_blocks.Given as goal

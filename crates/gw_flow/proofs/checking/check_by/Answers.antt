@@ -1,10 +1,11 @@
 use Rattle.std.proofs.Common.{◌≡◌, map, option_map, refl, sym, subst, ap, ◌∙◌}
 use Rattle.std.specs.Prelude.{All}
 use Rattle.gw_object.specs.Grammar.{AreAscending}
-use Rattle.gw_flow.specs.Seen.{row_meaning, known}
-use Rattle.gw_flow.specs.Blocks.{Table}
-use Rattle.gw_flow.specs.Flow.{table_of, own_table, flow_checks, MayFind}
-use Rattle.gw_flow.proofs.Rooms.{rows_have_room}
+use Rattle.gw_rules.specs.Seen.{row_meaning}
+use Rattle.gw_flow.specs.Known.{known}
+use Rattle.gw_rules.specs.Blocks.{Table}
+use Rattle.gw_rules.specs.Flow.{table_of, own_table, flow_checks, MayFind}
+use Rattle.gw_rules.proofs.Rooms.{rows_have_room}
 use Rattle.gw_flow.proofs.checking.check_by.Goals as goal
 
 pub check_blocks-requires-clause-few : goal.check_blocks-requires-clause-few

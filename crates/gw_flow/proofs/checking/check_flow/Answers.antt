@@ -1,10 +1,11 @@
 use Rattle.std.proofs.Common.{subst}
 use Rattle.std.specs.Prelude.{All}
 use Rattle.gw_object.specs.declared.parts.Parts.{Parts}
-use Rattle.gw_kinds.specs.Laws.{ReturnsHold}
-use Rattle.gw_kinds.proofs.KindsHold.{kinds_pass_at_each_place}
-use Rattle.gw_flow.specs.Flow.{own_table, flow_checks, MayFind}
-use Rattle.gw_flow.proofs.Rooms.{calls_have_next, calls_are_below}
+use Rattle.gw_rules.specs.KindsLaws.{ReturnsHold}
+use Rattle.gw_rules.proofs.KindsHold.{kinds_pass_at_each_place}
+use Rattle.gw_rules.specs.Flow.{own_table, flow_checks, MayFind}
+use Rattle.gw_rules.proofs.Rooms.{calls_have_next}
+use Rattle.gw_flow.proofs.OwnRooms.{calls_are_below}
 use Rattle.gw_flow.proofs.checking.check_flow.Goals as goal
 
 pub of-requires-clause-blocks : goal.of-requires-clause-blocks

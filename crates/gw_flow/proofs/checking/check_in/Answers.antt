@@ -1,8 +1,8 @@
 use Rattle.std.proofs.Common.{inl}
 use Rattle.std.proofs.lemmas.Result.{err_from_is_err_and}
-use Rattle.gw_kinds.proofs.Broken.{stops_first}
-use Rattle.gw_flow.specs.Flow.{rule_checks, edge_checks}
-use Rattle.gw_flow.specs.Seen.{known}
+use Rattle.gw_rules.proofs.Broken.{stops_first}
+use Rattle.gw_rules.specs.Flow.{rule_checks, edge_checks}
+use Rattle.gw_flow.specs.Known.{known}
 use Rattle.gw_flow.specs.ViewedTable.{table_viewed}
 use Rattle.gw_flow.proofs.Found.{found_later}
 use Rattle.gw_flow.proofs.checking.check_in.Goals as goal

@@ -1,7 +1,8 @@
 use Rattle.std.proofs.Common.{sym, subst}
 use Rattle.std.specs.Prelude.{All}
 use Rattle.std.proofs.lemmas.List.Elements.{All-push}
-use Rattle.gw_flow.specs.Seen.{known, kind_seen}
+use Rattle.gw_rules.specs.Seen.{kind_seen}
+use Rattle.gw_flow.specs.Known.{known}
 use Rattle.gw_flow.specs.ViewedTable.{table_viewed}
 use Rattle.gw_flow.specs.ReturnEdges.{PassesBy}
 use Rattle.gw_flow.proofs.ReturnEdges.{return_holds, return_passes}

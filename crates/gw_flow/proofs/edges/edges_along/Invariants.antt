@@ -1,5 +1,5 @@
 use Rattle.std.proofs.Common.{◌≡◌, take}
-use Rattle.gw_flow.specs.Blocks.{edges_along}
+use Rattle.gw_rules.specs.Blocks.{edges_along}
 use Rattle.gw_flow.proofs.edges.edges_along.Given as goal
 
 -- the edges so far are those along the exits so far

@@ -1,5 +1,5 @@
 use Rattle.std.proofs.Common.{◌≡◌, map, take}
-use Rattle.gw_kinds.specs.Exits.{returns_to}
+use Rattle.gw_rules.specs.Exits.{returns_to}
 use Rattle.gw_flow.proofs.edges.exits_after.Given as goal
 
 -- the exits so far are those to the blocks after the blocks so far

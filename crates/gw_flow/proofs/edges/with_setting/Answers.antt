@@ -1,7 +1,7 @@
 use Rattle.std.proofs.Common.{[], sym, subst}
 use Rattle.std.proofs.lemmas.List.Elements.{All-nil}
 use Rattle.gw_object.specs.Grammar.{AreAscending}
-use Rattle.gw_flow.specs.Rows.{KindAscends}
+use Rattle.gw_rules.specs.Rows.{KindAscends}
 use Rattle.gw_flow.proofs.Ordered.{seen_ascends}
 use Rattle.gw_flow.proofs.edges.with_setting.Goals as goal
 

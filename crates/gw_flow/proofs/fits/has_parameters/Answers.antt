@@ -1,10 +1,10 @@
 use Rattle.std.proofs.Common.{◌≡◌, ◌∙◌, false, Some, None, List, get_or, refl}
 use Rattle.gw_object.specs.declared.parts.ReturnRow.{ReturnRow}
-use Rattle.gw_flow.specs.declared.abstract_state.ParameterKind.{ParameterKind}
-use Rattle.gw_flow.specs.declared.abstract_state.ParameterKind.TheVariants as held
-use Rattle.gw_flow.specs.declared.abstract_state.Parameter.{Parameter}
-use Rattle.gw_flow.specs.Rows.{kind_fits}
-use Rattle.gw_flow.specs.Seen.{kind_seen}
+use Rattle.gw_rules.specs.declared.set_parameters.ParameterKind.{ParameterKind}
+use Rattle.gw_rules.specs.declared.set_parameters.ParameterKind.TheVariants as held
+use Rattle.gw_rules.specs.declared.set_parameters.Parameter.{Parameter}
+use Rattle.gw_rules.specs.Rows.{kind_fits}
+use Rattle.gw_rules.specs.Seen.{kind_seen}
 use Rattle.gw_flow.proofs.Holding.{each_by_entry}
 use Rattle.gw_flow.proofs.fits.has_parameters.Goals as goal
 

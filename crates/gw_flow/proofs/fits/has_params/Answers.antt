@@ -2,7 +2,7 @@ use Rattle.std.proofs.Common.{◌≡◌, ◌∙◌, false, Some, None, get_or, r
 use Rattle.gw_flow.specs.declared.state.ParamKind.{ParamKind as Working}
 use Rattle.gw_flow.specs.declared.state.ParamKind.TheVariants as held
 use Rattle.gw_flow.specs.declared.state.Param.{Param}
-use Rattle.gw_flow.specs.Rows.{kind_fits}
+use Rattle.gw_rules.specs.Rows.{kind_fits}
 use Rattle.gw_flow.specs.Viewed.{kind_viewed}
 use Rattle.gw_flow.proofs.Holding.{each_by_entry}
 use Rattle.gw_flow.proofs.fits.has_params.Goals as goal

@@ -1,9 +1,11 @@
 use Rattle.std.proofs.Common.{rules, ◌++◌}
 use Rattle.std.specs.Prelude.{option_to_list}
 use Rattle.std.proofs.lemmas.Result.{IfOk-weaker}
-use Rattle.gw_flow.specs.Seen.{known}
-use Rattle.gw_flow.specs.Flow.{own_table, HaveOwn}
-use Rattle.gw_flow.proofs.Chains.{chain_use, all_have_own}
+use Rattle.gw_flow.specs.Known.{known}
+use Rattle.gw_rules.specs.Flow.{own_table}
+use Rattle.gw_flow.specs.Answered.{HaveOwn}
+use Rattle.gw_rules.proofs.Chains.{chain_use}
+use Rattle.gw_flow.proofs.OwnEdges.{all_have_own}
 use Rattle.gw_flow.proofs.flow.all_edges.Goals as goal
 
 pub returns-clause-own : goal.returns-clause-own

@@ -1,7 +1,7 @@
 use Rattle.std.proofs.Common.{subst}
-use Rattle.gw_kinds.specs.Checks.{Finds}
-use Rattle.gw_flow.specs.Flow.{rule_checks}
-use Rattle.gw_flow.specs.Seen.{known}
+use Rattle.gw_rules.specs.Checks.{Finds}
+use Rattle.gw_rules.specs.Flow.{rule_checks}
+use Rattle.gw_flow.specs.Known.{known}
 use Rattle.gw_flow.proofs.flow.check_rules_in.Goals as goal
 
 pub returns : goal.returns

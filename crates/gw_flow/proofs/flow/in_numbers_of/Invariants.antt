@@ -2,9 +2,9 @@ use Rattle.std.proofs.Common.{◌≡◌, List, take}
 use Rattle.std.specs.Prelude.{All}
 use Rattle.gw_object.specs.declared.parts.ReturnRow.{ReturnRow}
 use Rattle.gw_flow.specs.declared.edges.Edge.{Edge}
-use Rattle.gw_flow.specs.declared.edges.FlowEdge.{FlowEdge}
-use Rattle.gw_flow.specs.Seen.{params_of}
-use Rattle.gw_flow.specs.Flow.{SayTheSame}
+use Rattle.gw_rules.specs.Blocks.{FlowEdge}
+use Rattle.gw_flow.specs.Known.{params_of}
+use Rattle.gw_flow.specs.Answered.{SayTheSame}
 use Rattle.gw_flow.proofs.flow.in_numbers_of.Given as goal
 
 -- so far each edge is the same, with these parameters

@@ -2,8 +2,8 @@ use Rattle.std.proofs.Common.{◌≡◌, ◌-◌, ℕ, zero, suc, List, [], ◌�
 use Rattle.std.specs.Prelude.{slice_get}
 use Rattle.gw_blocks.specs.declared.parts.Block.{Block}
 use Rattle.gw_object.specs.declared.parts.Parts.{Parts}
-use Rattle.gw_kinds.specs.Kinds.{block_at}
-use Rattle.gw_flow.specs.Flow.{AnswersEdges, KeepOwn}
+use Rattle.gw_rules.specs.Kinds.{block_at}
+use Rattle.gw_flow.specs.Answered.{AnswersEdges, KeepOwn}
 use Rattle.gw_flow.proofs.flow.out_edges.Goals as goal
 
 at_place : (bs : List Block) (i : ℕ) (k d : Block) → slice_get bs i ≡ Some k → get_or bs i d ≡ k

@@ -1,11 +1,11 @@
 use Rattle.std.proofs.Common.{rules, ◌≡◌, ◌<◌, sym, subst, ◌∙◌, ap}
 use Rattle.std.specs.Prelude.{AllPairs}
 use Rattle.std.proofs.lemmas.Result.{IfOk-weaker}
-use Rattle.gw_flow.specs.declared.abstract_state.Parameter.{Parameter}
-use Rattle.gw_flow.specs.Rows.{Row}
-use Rattle.gw_flow.specs.Seen.{params_of, known}
-use Rattle.gw_flow.specs.Flow.{parameters_with}
-use Rattle.gw_flow.specs.Blocks.{parameter_set, after}
+use Rattle.gw_rules.specs.declared.set_parameters.Parameter.{Parameter}
+use Rattle.gw_rules.specs.Rows.{Row}
+use Rattle.gw_flow.specs.Known.{params_of, known}
+use Rattle.gw_flow.specs.Answered.{parameters_with}
+use Rattle.gw_rules.specs.Blocks.{parameter_set, after}
 use Rattle.gw_flow.proofs.Own.{own_after, with_ascends}
 use Rattle.gw_flow.proofs.flow.passed.Goals as goal
 

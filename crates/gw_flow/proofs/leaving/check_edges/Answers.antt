@@ -1,9 +1,9 @@
 use Rattle.std.proofs.Common.{map}
 use Rattle.std.proofs.lemmas.List.{map-append}
 use Rattle.std.proofs.lemmas.Result.{err_from_is_err_and}
-use Rattle.gw_flow.specs.Blocks.{edges_from, chain_edges}
-use Rattle.gw_flow.specs.Flow.{edge_check}
-use Rattle.gw_flow.specs.Seen.{known}
+use Rattle.gw_rules.specs.Blocks.{edges_from, chain_edges}
+use Rattle.gw_rules.specs.Flow.{edge_check}
+use Rattle.gw_flow.specs.Known.{known}
 use Rattle.gw_flow.specs.ViewedTable.{table_viewed}
 use Rattle.gw_flow.proofs.Found.{found_first, found_after}
 use Rattle.gw_flow.proofs.leaving.check_edges.Goals as goal

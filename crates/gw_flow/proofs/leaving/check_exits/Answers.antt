@@ -1,6 +1,6 @@
 use Rattle.std.proofs.lemmas.Result.{err_from_is_err_and}
-use Rattle.gw_flow.specs.Flow.{edge_check}
-use Rattle.gw_flow.specs.Seen.{known}
+use Rattle.gw_rules.specs.Flow.{edge_check}
+use Rattle.gw_flow.specs.Known.{known}
 use Rattle.gw_flow.specs.ViewedTable.{table_viewed}
 use Rattle.gw_flow.proofs.Exits.{goes_along, stops_along, all_along}
 use Rattle.gw_flow.proofs.leaving.check_exits.Goals as goal

@@ -1,7 +1,7 @@
 use Rattle.std.proofs.Common.{◌≡◌, drop}
-use Rattle.gw_kinds.specs.Checks.{first_broken}
-use Rattle.gw_flow.specs.Flow.{edge_check}
-use Rattle.gw_flow.specs.Seen.{known}
+use Rattle.gw_rules.specs.Checks.{first_broken}
+use Rattle.gw_rules.specs.Flow.{edge_check}
+use Rattle.gw_flow.specs.Known.{known}
 use Rattle.gw_flow.specs.ViewedTable.{table_viewed}
 use Rattle.gw_flow.proofs.Exits.{along}
 use Rattle.gw_flow.proofs.leaving.check_exits.Given as goal

@@ -1,7 +1,7 @@
 use Rattle.std.proofs.Common.{rules, of_calls, ◌≡◌, ◌∙◌, ap}
 use Rattle.std.specs.Prelude.{option_map, unwrap_or}
 use Rattle.gw_flow.specs.declared.abstract_state.Amount.{Amount}
-use Rattle.gw_flow.proofs.Entries.{entry-of_key}
+use Rattle.gw_rules.proofs.Entries.{entry-of_key}
 use Rattle.gw_flow.proofs.lists.amount_in.Goals as goal
 
 pub returns : goal.returns

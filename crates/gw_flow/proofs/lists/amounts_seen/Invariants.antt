@@ -1,5 +1,6 @@
 use Rattle.std.proofs.Common.{◌≡◌, take}
-use Rattle.gw_flow.specs.Seen.{amounts_of, units_seen}
+use Rattle.gw_rules.specs.Seen.{units_seen}
+use Rattle.gw_flow.specs.Known.{amounts_of}
 use Rattle.gw_flow.proofs.lists.amounts_seen.Given as goal
 
 -- the amounts so far are those of the units so far

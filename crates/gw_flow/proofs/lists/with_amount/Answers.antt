@@ -3,7 +3,7 @@ use Rattle.std.specs.Prelude.{filter}
 use Rattle.std.proofs.lemmas.Iterator.{items_from_collect, YieldsList-from_slice}
 use Rattle.std.proofs.lemmas.Iterator.Consumers.{YieldsList-at, YieldsList-from_copied, YieldsList-from_filter}
 use Rattle.std.proofs.lemmas.Result.{IfOk-at_ok}
-use Rattle.gw_flow.specs.Seen.{amounts_of}
+use Rattle.gw_flow.specs.Known.{amounts_of}
 use Rattle.gw_flow.specs.declared.abstract_state.Amount.{Amount}
 use Rattle.gw_flow.proofs.Amounts.{entered, amounts-none, amounts-one, written}
 use Rattle.gw_flow.proofs.lists.with_amount.Goals.{then-number-ne0+in_ok-push, else-number-ne0}

@@ -1,7 +1,8 @@
 use Rattle.std.proofs.Common.{sym, ◌∙◌}
-use Rattle.gw_flow.specs.Seen.{known, kind_seen}
+use Rattle.gw_rules.specs.Seen.{kind_seen}
+use Rattle.gw_flow.specs.Known.{known}
 use Rattle.gw_flow.specs.ViewedTable.{table_viewed}
-use Rattle.gw_flow.proofs.Fitting.{fits_is_decided}
+use Rattle.gw_rules.proofs.Fitting.{fits_is_decided}
 use Rattle.gw_flow.proofs.ReturnEdges.{returns_like}
 use Rattle.gw_flow.proofs.return_edges.is_like.Goals as goal
 

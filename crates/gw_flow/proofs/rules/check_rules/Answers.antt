@@ -1,9 +1,9 @@
 use Rattle.std.proofs.Common.{map}
 use Rattle.std.proofs.lemmas.Result.{err_from_is_err_and}
 use Rattle.std.proofs.lemmas.List.{map-append}
-use Rattle.gw_kinds.proofs.Broken.{stops_first, joined}
-use Rattle.gw_flow.specs.Blocks.{value_rules, own_rules}
-use Rattle.gw_flow.specs.Flow.{rule_check}
+use Rattle.gw_rules.proofs.Broken.{stops_first, joined}
+use Rattle.gw_rules.specs.Blocks.{value_rules, own_rules}
+use Rattle.gw_rules.specs.Flow.{rule_check}
 use Rattle.gw_flow.proofs.rules.check_rules.Goals as goal
 
 pub returns-in_err-check_values : goal.returns-in_err-check_values

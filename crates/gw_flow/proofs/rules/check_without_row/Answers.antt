@@ -3,12 +3,12 @@ use Rattle.std.proofs.lemmas.Result.{err_from_is_err_and}
 use Rattle.std.proofs.lemmas.List.{map-append}
 use Rattle.gw_blocks.specs.declared.parts.Block.{Block}
 use Rattle.gw_object.specs.declared.parts.Parts.{Parts}
-use Rattle.gw_kinds.specs.Kinds.{is_generate}
-use Rattle.gw_kinds.proofs.Broken.{stops_first, joined}
-use Rattle.gw_flow.specs.Codes as codes
-use Rattle.gw_flow.specs.Rows.{nothing_known}
-use Rattle.gw_flow.specs.Blocks.{rule, value_rules, rules_without_row}
-use Rattle.gw_flow.specs.Flow.{rule_check}
+use Rattle.gw_rules.specs.Kinds.{is_generate}
+use Rattle.gw_rules.proofs.Broken.{stops_first, joined}
+use Rattle.gw_rules.specs.FlowCodes as codes
+use Rattle.gw_rules.specs.Rows.{nothing_known}
+use Rattle.gw_rules.specs.Blocks.{rule, value_rules, rules_without_row}
+use Rattle.gw_rules.specs.Flow.{rule_check}
 use Rattle.gw_flow.proofs.rules.check_without_row.Goals as goal
 
 -- the checks of a GENERATE without a row: of its values, and that it has none

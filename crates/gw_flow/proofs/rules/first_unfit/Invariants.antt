@@ -1,6 +1,6 @@
 use Rattle.std.proofs.Common.{◌≡◌, take}
 use Rattle.std.specs.List.{find}
-use Rattle.gw_flow.specs.Blocks.{parameters_read}
+use Rattle.gw_rules.specs.Blocks.{parameters_read}
 use Rattle.gw_flow.specs.Unfit.{is_unfit}
 use Rattle.gw_flow.proofs.rules.first_unfit.Given as goal
 

@@ -1,9 +1,9 @@
 use Rattle.std.proofs.Common.{rules}
 use Rattle.std.proofs.lemmas.Iterator.{YieldsList-from_slice, YieldsList-from_map_by}
 use Rattle.std.proofs.lemmas.Iterator.Consumers.{map_from_collect}
-use Rattle.gw_flow.specs.declared.abstract_state.Parameter.{Parameter}
+use Rattle.gw_rules.specs.declared.set_parameters.Parameter.{Parameter}
 use Rattle.gw_flow.specs.declared.state.Param.{Param}
-use Rattle.gw_flow.specs.Seen.{kind_seen}
+use Rattle.gw_rules.specs.Seen.{kind_seen}
 use Rattle.gw_flow.specs.Viewed.{kind_viewed}
 use Rattle.gw_flow.proofs.state.params_seen.Goals as goal
 

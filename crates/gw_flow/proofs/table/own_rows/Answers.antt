@@ -1,6 +1,7 @@
 use Rattle.std.proofs.Common.{◌++◌, ◌∷◌, [], ◌≤◌, ◌∙◌, length, sym, ap, map, take, option_map, arith}
 use Rattle.std.proofs.lemmas.List.{map-append, take_more, take_all}
-use Rattle.gw_flow.specs.Seen.{row_meaning, known}
+use Rattle.gw_rules.specs.Seen.{row_meaning}
+use Rattle.gw_flow.specs.Known.{known}
 use Rattle.gw_flow.proofs.table.own_rows.Goals as goal
 
 pub loop-state-preserved : goal.loop-state-preserved

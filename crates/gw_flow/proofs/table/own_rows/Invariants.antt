@@ -1,6 +1,7 @@
 use Rattle.std.proofs.Common.{◌≡◌, List, map, take, option_map}
 use Rattle.gw_object.specs.declared.parts.ReturnRow.{ReturnRow}
-use Rattle.gw_flow.specs.Seen.{row_meaning, known}
+use Rattle.gw_rules.specs.Seen.{row_meaning}
+use Rattle.gw_flow.specs.Known.{known}
 use Rattle.gw_flow.proofs.table.own_rows.Given as goal
 
 -- the rows so far say what those of the states so far say

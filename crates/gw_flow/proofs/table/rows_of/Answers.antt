@@ -1,5 +1,5 @@
 use Rattle.std.proofs.Common.{ap, map, option_map, ◌∙◌}
-use Rattle.gw_flow.specs.Seen.{row_meaning}
+use Rattle.gw_rules.specs.Seen.{row_meaning}
 use Rattle.gw_flow.proofs.table.rows_of.Goals as goal
 
 pub returns-clause-blocks : goal.returns-clause-blocks

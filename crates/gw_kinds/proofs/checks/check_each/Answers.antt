@@ -1,7 +1,7 @@
 use Rattle.std.proofs.Common.{◌∙◌, ◌+◌, ap, sym, arith}
 use Rattle.std.proofs.lemmas.Result.{err_from_is_err_and}
-use Rattle.gw_kinds.specs.Checks.{first_broken}
-use Rattle.gw_kinds.proofs.Broken.{goes_on, stops, is_done}
+use Rattle.gw_rules.specs.Checks.{first_broken}
+use Rattle.gw_rules.proofs.Broken.{goes_on, stops, is_done}
 use Rattle.gw_kinds.proofs.checks.check_each.Goals as goal
 
 pub loop-i-preserved : goal.loop-i-preserved

@@ -1,5 +1,5 @@
 use Rattle.std.proofs.Common.{◌≡◌, ◌+◌, drop}
-use Rattle.gw_kinds.specs.Checks.{first_broken, numbered}
+use Rattle.gw_rules.specs.Checks.{first_broken, numbered}
 use Rattle.gw_kinds.proofs.checks.check_each.Given as goal
 
 -- the first fault of the elements that are left is that of all

@@ -3,11 +3,11 @@ use Rattle.std.proofs.lemmas.Result.{err_from_is_err_and}
 use Rattle.gw_object.specs.declared.fault.Fault.{Fault}
 use Rattle.gw_object.specs.declared.fault.Place.TheVariants as places
 use Rattle.gw_object.specs.declared.parts.Parts.{Parts}
-use Rattle.gw_kinds.specs.Checks.{Check, Finds, first_broken, numbered}
-use Rattle.gw_kinds.specs.Kinds.{entity_checks, return_checks, row_checks, chain_checks, block_checks}
-use Rattle.gw_kinds.specs.Procedures.{procedure_checks}
-use Rattle.gw_kinds.specs.Pass.{chain_and_block_checks, row_and_later_checks, return_and_later_checks, procedure_and_later_checks, kinds_checks}
-use Rattle.gw_kinds.proofs.Broken.{stops_first, joined}
+use Rattle.gw_rules.specs.Checks.{Check, Finds, first_broken, numbered}
+use Rattle.gw_rules.specs.Kinds.{entity_checks, return_checks, row_checks, chain_checks, block_checks}
+use Rattle.gw_rules.specs.Procedures.{procedure_checks}
+use Rattle.gw_rules.specs.Pass.{chain_and_block_checks, row_and_later_checks, return_and_later_checks, procedure_and_later_checks, kinds_checks}
+use Rattle.gw_rules.proofs.Broken.{stops_first, joined}
 use Rattle.gw_kinds.proofs.pass.check_parts.Goals as goal
 
 -- none of these checks is broken

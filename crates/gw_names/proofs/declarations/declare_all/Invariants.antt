@@ -1,6 +1,6 @@
 use Rattle.std.proofs.Common.{◌≡◌, ℕ, List, drop}
 use Rattle.std.specs.Option.{option_or}
-use Rattle.gw_kinds.specs.declared.entities.EntityKind.{EntityKind}
+use Rattle.gw_rules.specs.declared.entities.EntityKind.{EntityKind}
 use Rattle.gw_names.specs.Known.{key, is_same, entity_of}
 use Rattle.gw_names.specs.Places.{last_by, places_from, declared_entity}
 use Rattle.gw_names.proofs.declarations.declare_all.Given as goal

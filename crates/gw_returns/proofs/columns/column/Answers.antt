@@ -2,7 +2,7 @@ use Rattle.std.proofs.Common.{◌≡◌, ◌≤◌, map, length, ap, ◌∙◌, 
 use Rattle.std.specs.Int.{bit_at}
 use Rattle.std.proofs.lemmas.List.{take_all, length-map}
 use Rattle.gw_object.specs.declared.parts.ReturnRow.{ReturnRow}
-use Rattle.gw_returns.specs.Returns.{row_blocks}
+use Rattle.gw_object.specs.Returns.{row_blocks}
 use Rattle.gw_returns.specs.Words.{word_at, common}
 use Rattle.gw_returns.proofs.Telling.{word_tells, row_word}
 use Rattle.gw_returns.proofs.columns.column.Goals as goal

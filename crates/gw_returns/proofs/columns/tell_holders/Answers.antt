@@ -1,6 +1,6 @@
 use Rattle.std.proofs.Common.{rules, ◌≡◌, ◌<◌, ◌+◌, length, ◌∙◌}
 use Rattle.std.specs.Prelude.{All}
-use Rattle.gw_returns.specs.Returns.{row_blocks}
+use Rattle.gw_object.specs.Returns.{row_blocks}
 use Rattle.gw_returns.specs.Words.{with_bits}
 use Rattle.gw_returns.proofs.Bits.{length_with}
 use Rattle.gw_returns.proofs.Telling.{blocks_below, more_holders}

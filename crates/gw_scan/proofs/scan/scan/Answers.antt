@@ -1,7 +1,7 @@
 use Rattle.std.proofs.Common.{rules, Bor, ◌≡◌, ◌∙◌, ap, Option, Some, None, refl, sym, subst, arith}
 use Rattle.std.specs.Prelude.{IsSome, IsSomeAnd, option_copied}
 use Rattle.gw_blocks.specs.declared.parts.Block.{Block}
-use Rattle.gw_kinds.specs.Kinds.{block_at}
+use Rattle.gw_rules.specs.Kinds.{block_at}
 use Rattle.gw_transactions.specs.Transactions.{attributes_at, Holds}
 use Rattle.gw_step.specs.Asks.{Asks, Leads}
 use Rattle.gw_step.proofs.Follows.{block_below}

@@ -1,9 +1,9 @@
 use Rattle.std.proofs.Common.{◌*◌, ◌+◌, ◌≡◌, ◌∙◌, ℕ, add-one, ap, arith}
 use Rattle.std.specs.Prelude.{sum}
 use Rattle.gw_num.specs.Table.{tabulate}
-use Rattle.gw_kinds.specs.Kinds.{block_at}
+use Rattle.gw_rules.specs.Kinds.{block_at}
 use Rattle.gw_num.proofs.Tables.{at-get_or}
-use Rattle.gw_weights.specs.Weights.{weight_at}
+use Rattle.gw_rules.specs.Weights.{weight_at}
 use Rattle.gw_step.specs.Weight.{owed_by}
 use Rattle.gw_scan.specs.Weighing.{owed_weight}
 use Rattle.gw_step.proofs.Sums.{sum-more}

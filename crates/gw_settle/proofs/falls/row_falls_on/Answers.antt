@@ -1,5 +1,5 @@
 use Rattle.std.proofs.Common.{rules, ◌≡◌}
-use Rattle.gw_flow.specs.Seen.{amounts_of}
+use Rattle.gw_flow.specs.Known.{amounts_of}
 use Rattle.gw_settle.specs.Drafts.{AgreeButUnits}
 use Rattle.gw_settle.proofs.Placing.{amounts_fall_on}
 use Rattle.gw_settle.proofs.falls.row_falls_on.Goals as goal

@@ -1,5 +1,5 @@
 use Rattle.std.proofs.Common.{◌≡◌, take}
-use Rattle.gw_flow.specs.Seen.{amounts_of}
+use Rattle.gw_flow.specs.Known.{amounts_of}
 use Rattle.gw_settle.proofs.returns.are_same_units.Given as goal
 
 abbrev pub invariant-loop-i : goal.invariant-loop-i

@@ -2,9 +2,9 @@ use Rattle.std.proofs.Common.{rules, ◌≡◌, refl, sym, subst, ◌∙◌}
 use Rattle.std.proofs.lemmas.Result.{IfOk-weaker, IfErr-weaker}
 use Rattle.gw_object.specs.Grammar.{HasSpelling}
 use Rattle.gw_object.specs.declared.parts.Parts.{Parts}
-use Rattle.gw_kinds.specs.Pass.{KindsPass}
-use Rattle.gw_code_flow.specs.PlusChecks.{PlusPasses}
-use Rattle.gw_flow.specs.Flow.{own_table, FlowPasses}
+use Rattle.gw_rules.specs.Pass.{KindsPass}
+use Rattle.gw_rules.specs.PlusChecks.{PlusPasses}
+use Rattle.gw_rules.specs.Flow.{own_table, FlowPasses}
 use Rattle.gw_settle.specs.Keeps.{IsWell}
 use Rattle.gw_settle.specs.Settles.{with_written, IsFlowFault, Passes, HasAssemblersTable, IsGreatest}
 use Rattle.gw_settle.proofs.Tabled.{plus_same}

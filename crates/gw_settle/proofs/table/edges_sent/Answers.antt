@@ -1,7 +1,7 @@
 use Rattle.std.proofs.Common.{rules, ◌≡◌, ◌++◌, [], true, false, map, ◌∙◌}
 use Rattle.std.specs.Prelude.{is_err}
-use Rattle.gw_flow.specs.Blocks.{rules as rules_of, edges_from, joins}
-use Rattle.gw_flow.specs.Flow.{rule_check}
+use Rattle.gw_rules.specs.Blocks.{rules as rules_of, edges_from, joins}
+use Rattle.gw_rules.specs.Flow.{rule_check}
 use Rattle.gw_settle.specs.Rounds.{members_from}
 use Rattle.gw_settle.proofs.Sent.{rules_hold, rules_broken, broken_found, none_found, edges_are, edges_none}
 use Rattle.gw_settle.proofs.table.edges_sent.Goals as goal

@@ -1,5 +1,5 @@
 use Rattle.std.proofs.Common.{rules, subst}
-use Rattle.gw_flow.specs.declared.edges.Target.TheVariants as targets
+use Rattle.gw_rules.specs.declared.edges.Target.TheVariants as targets
 use Rattle.gw_settle.specs.Keeps.{MayEnter}
 use Rattle.gw_settle.proofs.Drafting.{is_sent_at, block_sent, block_noted, chain_sent, chain_noted}
 use Rattle.gw_settle.proofs.table.send.Goals as goal

@@ -1,5 +1,5 @@
 use Rattle.std.proofs.Common.{◌≡◌, length, take}
-use Rattle.gw_flow.specs.Seen.{params_said}
+use Rattle.gw_rules.specs.Seen.{params_said}
 use Rattle.gw_settle.specs.Known.{params_known}
 use Rattle.gw_settle.specs.Written.{ParamsName}
 use Rattle.gw_settle.proofs.written.params_written.Given as goal

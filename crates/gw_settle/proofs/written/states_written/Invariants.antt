@@ -1,5 +1,5 @@
 use Rattle.std.proofs.Common.{◌≡◌, length, take}
-use Rattle.gw_flow.specs.Seen.{seen_rows}
+use Rattle.gw_rules.specs.Seen.{seen_rows}
 use Rattle.gw_settle.specs.Written.{StatesName}
 use Rattle.gw_settle.proofs.written.states_written.Given as goal
 

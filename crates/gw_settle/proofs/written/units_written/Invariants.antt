@@ -1,5 +1,6 @@
 use Rattle.std.proofs.Common.{◌≡◌, take}
-use Rattle.gw_flow.specs.Seen.{units_seen, amounts_of}
+use Rattle.gw_rules.specs.Seen.{units_seen}
+use Rattle.gw_flow.specs.Known.{amounts_of}
 use Rattle.gw_settle.proofs.written.units_written.Given as goal
 
 abbrev pub invariant-loop-amount : goal.invariant-loop-amount

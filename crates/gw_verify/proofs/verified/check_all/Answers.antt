@@ -1,7 +1,7 @@
 use Rattle.std.proofs.lemmas.Result.{err_from_is_err_and}
-use Rattle.gw_weights.specs.Weights.{weight_checks}
-use Rattle.gw_verify.specs.Checks.{checks}
-use Rattle.gw_verify.proofs.AllPass.{first_pass}
+use Rattle.gw_rules.specs.Weights.{weight_checks}
+use Rattle.gw_rules.specs.Accepted.{checks}
+use Rattle.gw_rules.proofs.AllPass.{first_pass}
 use Rattle.gw_verify.proofs.Found.{found_first, found_last}
 use Rattle.gw_verify.proofs.verified.check_all.Goals as goal
 

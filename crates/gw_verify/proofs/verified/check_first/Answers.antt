@@ -1,7 +1,7 @@
 use Rattle.std.proofs.lemmas.Result.{err_from_is_err_and}
-use Rattle.gw_kinds.specs.Pass.{kinds_checks}
-use Rattle.gw_kinds.proofs.Broken.{stops_first, joined}
-use Rattle.gw_code_flow.specs.PlusChecks.{plus_checks}
+use Rattle.gw_rules.specs.Pass.{kinds_checks}
+use Rattle.gw_rules.proofs.Broken.{stops_first, joined}
+use Rattle.gw_rules.specs.PlusChecks.{plus_checks}
 use Rattle.gw_verify.proofs.verified.check_first.Goals as goal
 
 pub returns-in_err-check_kinds-clause-found : goal.returns-in_err-check_kinds-clause-found

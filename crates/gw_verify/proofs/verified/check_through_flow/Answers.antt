@@ -1,9 +1,9 @@
 use Rattle.std.proofs.Common.{inl}
 use Rattle.std.proofs.lemmas.Result.{err_from_is_err_and}
-use Rattle.gw_kinds.proofs.Broken.{stops_first}
-use Rattle.gw_flow.specs.Flow.{own_table, flow_checks}
+use Rattle.gw_rules.proofs.Broken.{stops_first}
+use Rattle.gw_rules.specs.Flow.{own_table, flow_checks}
 use Rattle.gw_flow.proofs.Found.{found_later}
-use Rattle.gw_verify.specs.Checks.{first_checks, checks}
+use Rattle.gw_rules.specs.Accepted.{first_checks, checks}
 use Rattle.gw_verify.proofs.verified.check_through_flow.Goals as goal
 
 pub returns-in_err-check_first-clause-found : goal.returns-in_err-check_first-clause-found

@@ -1,4 +1,4 @@
-use Rattle.gw_flow.proofs.Rooms.{returns_have_room}
+use Rattle.gw_rules.proofs.Rooms.{returns_have_room}
 use Rattle.gw_weights.proofs.check.check_exits_in.Goals as goal
 
 pub check_returns-requires-clause-next : goal.check_returns-requires-clause-next

@@ -1,7 +1,7 @@
 use Rattle.std.specs.Prelude.{All}
-use Rattle.gw_kinds.specs.Laws.{ReturnsHold}
-use Rattle.gw_kinds.proofs.KindsHold.{kinds_pass_at_each_place}
-use Rattle.gw_flow.proofs.Rooms.{calls_have_next}
+use Rattle.gw_rules.specs.KindsLaws.{ReturnsHold}
+use Rattle.gw_rules.proofs.KindsHold.{kinds_pass_at_each_place}
+use Rattle.gw_rules.proofs.Rooms.{calls_have_next}
 use Rattle.gw_weights.proofs.check.check_weights.Goals as goal
 
 pub check_blocks-requires-clause-next : goal.check_blocks-requires-clause-next

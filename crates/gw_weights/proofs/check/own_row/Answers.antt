@@ -3,7 +3,7 @@ use Rattle.std.specs.Prelude.{option_map, slice_get}
 use Rattle.std.specs.Option.{option_flatten}
 use Rattle.std.proofs.lemmas.Bool.{ltb-true}
 use Rattle.std.proofs.lemmas.Option.{slice_get_read}
-use Rattle.gw_flow.specs.Seen.{row_meaning}
+use Rattle.gw_rules.specs.Seen.{row_meaning}
 use Rattle.gw_weights.proofs.Reading.{row_seen, seen_behind}
 use Rattle.gw_weights.proofs.check.own_row.Goals as goal
 

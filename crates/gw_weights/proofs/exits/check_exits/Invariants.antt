@@ -1,7 +1,7 @@
 use Rattle.std.proofs.Common.{◌≡◌, drop}
 use Rattle.std.specs.List.{flat_map}
-use Rattle.gw_kinds.specs.Checks.{first_broken}
-use Rattle.gw_weights.specs.Weights.{exit_checks}
+use Rattle.gw_rules.specs.Checks.{first_broken}
+use Rattle.gw_rules.specs.Weights.{exit_checks}
 use Rattle.gw_weights.proofs.exits.check_exits.Given as goal
 
 -- the first fault of the exits that are left is that of all

@@ -1,8 +1,8 @@
 use Rattle.std.proofs.Common.{◌≡◌, map, drop}
 use Rattle.std.specs.List.{flat_map}
-use Rattle.gw_kinds.specs.Checks.{first_broken}
-use Rattle.gw_kinds.specs.Exits.{returns_to}
-use Rattle.gw_weights.specs.Weights.{exit_checks}
+use Rattle.gw_rules.specs.Checks.{first_broken}
+use Rattle.gw_rules.specs.Exits.{returns_to}
+use Rattle.gw_rules.specs.Weights.{exit_checks}
 use Rattle.gw_weights.proofs.exits.check_returns.Given as goal
 
 -- the first fault of the exits that are left is that of all

@@ -3,7 +3,8 @@ use Rattle.std.specs.Prelude.{All, AllPairs}
 use Rattle.std.proofs.lemmas.List.Elements.{All-nil}
 use Rattle.gw_object.specs.Grammar.{AreAscending}
 use Rattle.gw_flow.specs.declared.abstract_state.Amount.{Amount}
-use Rattle.gw_flow.specs.Seen.{parameter_carried, amounts_of, units_seen, params_of, params_said}
+use Rattle.gw_rules.specs.Seen.{units_seen, params_said}
+use Rattle.gw_flow.specs.Known.{parameter_carried, amounts_of, params_of}
 use Rattle.gw_flow.proofs.Ascending.{AllPairs-from_map, All-from_map}
 use Rattle.gw_flow.proofs.Ordered.{row_ordered}
 use Rattle.gw_flow.proofs.Carried.{carried_ascends, carried_says}

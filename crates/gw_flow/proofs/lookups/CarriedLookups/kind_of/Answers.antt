@@ -1,10 +1,11 @@
 use Rattle.std.proofs.Common.{rules, of_calls, ◌≡◌, ◌∙◌, ap}
 use Rattle.std.specs.Prelude.{option_map}
-use Rattle.gw_flow.specs.declared.abstract_state.Parameter.{Parameter}
-use Rattle.gw_flow.specs.Entries.{entry}
-use Rattle.gw_flow.specs.Seen.{kind_seen, params_of}
+use Rattle.gw_rules.specs.declared.set_parameters.Parameter.{Parameter}
+use Rattle.gw_rules.specs.Entries.{entry}
+use Rattle.gw_rules.specs.Seen.{kind_seen}
+use Rattle.gw_flow.specs.Known.{params_of}
 use Rattle.gw_flow.specs.Viewed.{kind_viewed}
-use Rattle.gw_flow.proofs.Entries.{entry-of_key}
+use Rattle.gw_rules.proofs.Entries.{entry-of_key}
 use Rattle.gw_flow.proofs.lookups.CarriedLookups.kind_of.Goals as goal
 
 pub returns : goal.returns

@@ -1,6 +1,6 @@
 use Rattle.std.proofs.Common.{rules, ◌≡◌, sym, subst}
-use Rattle.gw_flow.specs.Rows.{IsOrdered}
-use Rattle.gw_flow.specs.Seen.{known}
+use Rattle.gw_rules.specs.Rows.{IsOrdered}
+use Rattle.gw_flow.specs.Known.{known}
 use Rattle.gw_flow.specs.Viewed.{viewed}
 use Rattle.gw_flow.proofs.Ordered.{parts_ordered}
 use Rattle.gw_flow.proofs.state.State.of.Goals as goal

@@ -1,5 +1,5 @@
 use Rattle.std.proofs.Common.{rules, ◌≡◌, sym, subst}
-use Rattle.gw_flow.specs.Rows.{IsOrdered, with_facilities, with_facility}
+use Rattle.gw_rules.specs.Rows.{IsOrdered, with_facilities, with_facility}
 use Rattle.gw_flow.proofs.Ordered.{with_facility_ordered}
 use Rattle.gw_flow.proofs.state.State.with_facility.Goals as goal
 

@@ -1,9 +1,9 @@
 use Rattle.std.proofs.Common.{rules, ◌≡◌, Some, sym, ap, subst, ◌∙◌}
 use Rattle.gw_flow.specs.declared.state.Param.{Param}
-use Rattle.gw_flow.specs.Entries.{in_place, with_entry}
-use Rattle.gw_flow.specs.Rows.{IsOrdered, with_parameter}
+use Rattle.gw_rules.specs.Entries.{in_place, with_entry}
+use Rattle.gw_rules.specs.Rows.{IsOrdered, with_parameter}
 use Rattle.gw_flow.specs.Viewed.{kind_viewed, params_viewed, viewed}
-use Rattle.gw_flow.proofs.Entries.{entries-in_place}
+use Rattle.gw_rules.proofs.Entries.{entries-in_place}
 use Rattle.gw_flow.proofs.Ordered.{with_parameter_ordered}
 use Rattle.gw_flow.proofs.state.State.with_parameter.Goals as goal
 

@@ -1,5 +1,5 @@
 use Rattle.std.proofs.Common.{rules, ◌≡◌, sym, subst}
-use Rattle.gw_flow.specs.Rows.{IsOrdered, with_units}
+use Rattle.gw_rules.specs.Rows.{IsOrdered, with_units}
 use Rattle.gw_flow.specs.Viewed.{viewed}
 use Rattle.gw_flow.proofs.Ordered.{with_units_ordered}
 use Rattle.gw_flow.proofs.state.State.with_units.Goals as goal

@@ -1,10 +1,10 @@
 use Rattle.std.proofs.Common.{rules, of_calls, ◌≡◌, ◌∙◌, ap}
 use Rattle.std.specs.Prelude.{option_map}
 use Rattle.gw_flow.specs.declared.state.Param.{Param}
-use Rattle.gw_flow.specs.Rows.{Row, kind_of}
-use Rattle.gw_flow.specs.Entries.{entry}
+use Rattle.gw_rules.specs.Rows.{Row, kind_of}
+use Rattle.gw_rules.specs.Entries.{entry}
 use Rattle.gw_flow.specs.Viewed.{kind_viewed, params_viewed}
-use Rattle.gw_flow.proofs.Entries.{entry-of_key}
+use Rattle.gw_rules.proofs.Entries.{entry-of_key}
 use Rattle.gw_flow.proofs.state.StateLookups.kind_of.Goals as goal
 
 pub returns : goal.returns

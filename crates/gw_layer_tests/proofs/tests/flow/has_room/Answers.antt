@@ -3,11 +3,11 @@ use Rattle.std.specs.Prelude.{All}
 use Rattle.std.proofs.lemmas.List.{nil_from_length}
 use Rattle.std.proofs.lemmas.List.Elements.{All-nil}
 use Rattle.gw_object.specs.declared.parts.ReturnRow.{ReturnRow}
-use Rattle.gw_flow.specs.declared.abstract_state.Parameter.{Parameter}
-use Rattle.gw_flow.specs.Entries.{entry}
-use Rattle.gw_flow.specs.Rows.{return_blocks}
-use Rattle.gw_flow.specs.Seen.{params_of}
-use Rattle.gw_flow.proofs.Rooms.{amounts_have_room}
+use Rattle.gw_rules.specs.declared.set_parameters.Parameter.{Parameter}
+use Rattle.gw_rules.specs.Entries.{entry}
+use Rattle.gw_rules.specs.Rows.{return_blocks}
+use Rattle.gw_flow.specs.Known.{params_of}
+use Rattle.gw_flow.proofs.OwnRooms.{amounts_have_room}
 use Rattle.gw_layer_tests.proofs.tests.flow.has_room.Goals as goal
 
 -- where no parameter is known, none returns

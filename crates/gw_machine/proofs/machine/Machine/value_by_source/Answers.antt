@@ -1,13 +1,13 @@
 use Rattle.std.proofs.Common.{◌≡◌, ◌∙◌, subst, sym}
 use Rattle.gw_blocks.specs.Grammar.{OperandFits}
 use Rattle.gw_object.specs.Grammar.{HasSpelling}
-use Rattle.gw_kinds.proofs.Sources.{source_holds}
+use Rattle.gw_rules.proofs.Sources.{source_holds}
 use Rattle.gw_operands.specs.Sources.{source_of}
-use Rattle.gw_kinds.specs.Laws.{OperandHolds}
-use Rattle.gw_code_flow.proofs.Theorems.{code_holds}
+use Rattle.gw_rules.specs.KindsLaws.{OperandHolds}
+use Rattle.gw_rules.proofs.PlusTheorems.{code_holds}
 use Rattle.gw_operands.specs.Code.{asked_by_source}
-use Rattle.gw_code_flow.specs.Laws.{HasSet}
-use Rattle.gw_verify.proofs.AllPass.{kinds_pass}
+use Rattle.gw_rules.specs.PlusLaws.{HasSet}
+use Rattle.gw_rules.proofs.AllPass.{kinds_pass}
 use Rattle.gw_machine.specs.View.{state_of}
 use Rattle.gw_machine.specs.Evaluating.{environment_for}
 use Rattle.gw_machine.proofs.Evaluating.{source_fits}

@@ -7,7 +7,7 @@ use Rattle.gw_operands.specs.Sources.{source_of, as_operand}
 use Rattle.gw_operands.specs.Environment.{kept_value}
 use Rattle.gw_operands.specs.Results.{value_by_operand}
 use Rattle.gw_operands.specs.Meaning.{on, pushed}
-use Rattle.gw_code_flow.proofs.Reading.{source_is_good}
+use Rattle.gw_rules.proofs.PlusReading.{source_is_good}
 use Rattle.gw_plus.specs.Activation.{frame_of, Did}
 use Rattle.gw_plus.specs.Reading.{environment_of, MayReadKept}
 use Rattle.gw_plus.proofs.Reading.{may_read_kept, kept_read}

@@ -1,6 +1,6 @@
 use Rattle.std.proofs.Common.{◌≡◌, List, length, ◌==◌, sym, ap, subst, ◌∙◌}
 use Rattle.gw_object.specs.declared.parts.ReturnRow.{ReturnRow}
-use Rattle.gw_returns.specs.Returns.{are_among, row_blocks}
+use Rattle.gw_object.specs.Returns.{are_among, row_blocks}
 use Rattle.gw_returns.proofs.Telling.{no_row, among_none}
 use Rattle.gw_returns.proofs.inclusions.Inclusions.is_within.Goals.{else-at-self-via-then-at-self+else-place-self, else-at-self-via-else-at-self}
 use Rattle.gw_returns.proofs.inclusions.Inclusions.is_within.Goals as goal

@@ -2,7 +2,7 @@ use Rattle.std.proofs.Common.{rules, ◌≡◌, ◌∙◌, ℕ, ◌≤◌, ◌<�
 use Rattle.std.specs.List.{All}
 use Rattle.gw_object.specs.declared.parts.Parts.{Parts}
 use Rattle.gw_object.specs.Grammar.{HasSpelling}
-use Rattle.gw_weights.proofs.Passing.{weights_pass_where_weighted}
+use Rattle.gw_rules.proofs.WeightsPassing.{weights_pass_where_weighted}
 use Rattle.gw_scan.specs.Making.{spec_fault, seeds_or, count_or}
 use Rattle.gw_step.specs.Job.{JobFits, streams_of}
 use Rattle.gw_scan.proofs.Fits.{in_range, seeds-within, length-streams, streams_fit, count-within}

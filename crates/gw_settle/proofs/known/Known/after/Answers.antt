@@ -1,5 +1,5 @@
 use Rattle.std.proofs.Common.{rules, ◌≡◌, sym, subst}
-use Rattle.gw_flow.specs.Rows.{IsOrdered}
+use Rattle.gw_rules.specs.Rows.{IsOrdered}
 use Rattle.gw_flow.specs.Viewed.{viewed}
 use Rattle.gw_settle.specs.Jumps.{row_after}
 use Rattle.gw_settle.proofs.Keeping.{amounts_ascend}

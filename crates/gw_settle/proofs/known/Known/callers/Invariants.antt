@@ -1,5 +1,5 @@
 use Rattle.std.proofs.Common.{◌≡◌, drop}
-use Rattle.gw_flow.specs.Entries.{entry}
+use Rattle.gw_rules.specs.Entries.{entry}
 use Rattle.gw_settle.specs.Known.{params_known}
 use Rattle.gw_settle.proofs.known.Known.callers.Given as goal
 

@@ -1,6 +1,6 @@
 use Rattle.std.proofs.Common.{rules, ◌≡◌, ◌<◌, ℕ, sym, subst}
 use Rattle.std.specs.Prelude.{All, AllPairs}
-use Rattle.gw_flow.specs.Rows.{ParamKind, KindAscends, IsOrdered}
+use Rattle.gw_rules.specs.Rows.{ParamKind, KindAscends, IsOrdered}
 use Rattle.gw_flow.proofs.Ascending.{All-from_map, AllPairs-from_map}
 use Rattle.gw_settle.specs.declared.known.KnownParam.{KnownParam}
 use Rattle.gw_settle.specs.Joins.{joined}

@@ -1,6 +1,6 @@
 use Rattle.std.proofs.Common.{◌≡◌, drop}
-use Rattle.gw_flow.specs.Entries.{amount_of}
-use Rattle.gw_flow.specs.Seen.{amounts_of}
+use Rattle.gw_rules.specs.Entries.{amount_of}
+use Rattle.gw_flow.specs.Known.{amounts_of}
 use Rattle.gw_settle.proofs.known.Known.units_of.Given as goal
 
 -- none so far is of this entity

@@ -1,0 +1,14 @@
+use Rattle.std.proofs.Common.{rules, tests, ◌≡◌, ◌≤◌, ◌<◌, ◌-◌, ℕ, length, Bool, true, false, nat_le, arith, refl}
+use Rattle.std.proofs.Math.ListN.{get_or}
+use Rattle.std.proofs.lemmas.List.Folds.{list_all_at}
+use Rattle.std.specs.List.{list_all}
+use Rattle.gw_figures.specs.declared.quantiles.TheConstants.{QUANTILES}
+use Rattle.gw_figures.proofs.quantiles.quantile.Goals as goal
+
+-- none of the table is greater
+within : (i : ℕ) → i < 30 → (b : Bool) → nat_le (get_or QUANTILES i 0) 12706 ≡ b → nat_le (get_or QUANTILES i 0) 12706 ≡ true
+within i below true is = is
+within i below false is = absurd (cc (list_all_at (λ q. nat_le q 12706) QUANTILES i 0 below is))
+
+pub returns-in-0-to-30-clause-range : goal.returns-in-0-to-30-clause-range
+returns-in-0-to-30-clause-range c = search (tests, rules, within (c.args.degrees - 1) (omega arith) _ refl)

@@ -1,5 +1,0 @@
-use Rattle.gw_flow.proofs.Fitting.{fits_is_decided}
-use Rattle.gw_flow.proofs.laws.fits_is_decided.Goals as goal
-
-pub returns : goal.returns
-returns c = fits_is_decided

@@ -1,5 +1,0 @@
-use Rattle.gw_flow.proofs.Monotone.{fitting_states_pass}
-use Rattle.gw_flow.proofs.laws.fitting_states_pass.Goals as goal
-
-pub returns : goal.returns
-returns c = fitting_states_pass

@@ -1,2 +1,0 @@
-pub mod Quantiles
-pub mod Summaries

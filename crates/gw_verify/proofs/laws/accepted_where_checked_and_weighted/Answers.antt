@@ -1,5 +1,0 @@
-use Rattle.gw_verify.proofs.AllPass.{accepted_where_checked_and_weighted}
-use Rattle.gw_verify.proofs.laws.accepted_where_checked_and_weighted.Goals as goal
-
-pub returns : goal.returns
-returns c = accepted_where_checked_and_weighted

@@ -1,5 +1,0 @@
-use Rattle.gw_verify.proofs.AllPass.{checked_where_all_pass}
-use Rattle.gw_verify.proofs.laws.checked_where_all_pass.Goals as goal
-
-pub returns : goal.returns
-returns c = checked_where_all_pass

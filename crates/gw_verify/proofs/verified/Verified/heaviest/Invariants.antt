@@ -1,8 +1,0 @@
-use Rattle.std.proofs.Common.{◌≡◌, drop}
-use Rattle.std.specs.Prelude.{max}
-use Rattle.gw_verify.specs.Checks.{heaviest}
-use Rattle.gw_verify.proofs.verified.Verified.heaviest.Given as goal
-
--- the greatest so far, and that of the weights that are left
-abbrev pub invariant-loop-weight : goal.invariant-loop-weight
-invariant-loop-weight l = max l.heaviest (heaviest (drop l.weight-index l.weight-items)) ≡ heaviest l.weight-items
