@@ -45,9 +45,15 @@ fn weighed(alloc: Global, settled: Object) -> Result<Verified, Fault>
     match weigh(alloc, settled) {
         Ok(object) => match verify(alloc, object) {
             Ok(verified) => Ok(verified),
-            Err((_, fault)) => Err(fault),
+            Err((object, fault)) => {
+                drop(object);
+                Err(fault)
+            }
         },
-        Err(_) => Err(OUT_OF_MEMORY),
+        Err((object, _)) => {
+            drop(object);
+            Err(OUT_OF_MEMORY)
+        }
     }
 }
 
@@ -61,7 +67,10 @@ fn settled(alloc: Global, object: Object) -> Result<Verified, Fault>
 {
     match settle(alloc, object) {
         Ok(object) => weighed(alloc, object),
-        Err((_, fault)) => Err(fault),
+        Err((object, fault)) => {
+            drop(object);
+            Err(fault)
+        }
     }
 }
 
@@ -71,8 +80,13 @@ fn completed(alloc: Global, object: Object) -> Result<Verified, Fault>
     ensures verified { IfOk result IsAccepted }
     ensures refused { IfErr result (HasNoCompletion object) }
 {
-    check_first(&object)?;
-    settled(alloc, object)
+    match check_first(&object) {
+        Ok(()) => settled(alloc, object),
+        Err(fault) => {
+            drop(object);
+            Err(fault)
+        }
+    }
 }
 
 /// The object of these parts with the assembler's state table and weights, if it is accepted.
@@ -83,6 +97,9 @@ pub(crate) fn finish(alloc: Global, parts: Parts) -> Result<Verified, Fault>
 {
     match build(parts) {
         Ok(object) => completed(alloc, object),
-        Err(_) => Err(PAST_LIMIT),
+        Err((parts, _)) => {
+            drop(parts);
+            Err(PAST_LIMIT)
+        }
     }
 }

@@ -102,7 +102,11 @@ fn explain_model(alloc: Global, text: &[u8], model: &Model) -> Result<Answer, Me
         IsExplainedModel text.now model.now.statements.items a.text.items a.status) }
 {
     match assemble(alloc, model) {
-        Ok(verified) => acceptance_of(alloc, model, &verified),
+        Ok(verified) => {
+            let answer = acceptance_of(alloc, model, &verified);
+            drop(verified);
+            answer
+        }
         Err(fault) => refusal_in(alloc, text, model, fault),
     }
 }
@@ -120,7 +124,11 @@ fn explain_text(alloc: Global, text: &[u8]) -> Result<Answer, Memory>
     ensures { IfOk result (λ a. IsExplainedText text.now a.text.items a.status) }
 {
     match parse(alloc, text) {
-        Ok(model) => explain_model(alloc, text, &model),
+        Ok(model) => {
+            let answer = explain_model(alloc, text, &model);
+            drop(model);
+            answer
+        }
         Err(fault) => explain_unread(alloc, text, fault),
     }
 }

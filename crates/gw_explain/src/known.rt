@@ -15,6 +15,7 @@ use gw_settle::table_of;
 use gw_text::Model;
 use indexmap::IndexMap;
 use std::alloc::Global;
+use std::mem;
 
 /// The first code of flow.
 const FIRST: u16 = 20;
@@ -343,7 +344,9 @@ fn put_of_object(
                 chain_states: table.chain_states.as_slice(),
                 names,
             };
-            put_at(alloc, out, flow, fault)
+            let put = put_at(alloc, out, flow, fault);
+            drop(table);
+            put
         }
         Err(refusal) => unless_memory(refusal),
     }
@@ -358,10 +361,17 @@ fn unless_memory(fault: Fault) -> Result<(), Memory> {
     }
 }
 
+/// The parameters of what is known of names; the rest is let go.
+fn taken_parameters(alloc: Global, mut known: Known) -> IndexMap<String, u8> {
+    let parameters = mem::replace(&mut known.parameters, IndexMap::new(alloc));
+    drop(known);
+    parameters
+}
+
 /// The numbers of the parameters that have names.
 fn parameter_names(alloc: Global, model: &Model) -> Result<IndexMap<String, u8>, Memory> {
     match known_names(alloc, model.statements.as_slice(), &mut Ledger::new()) {
-        Ok(Known { parameters, .. }) => Ok(parameters),
+        Ok(known) => Ok(taken_parameters(alloc, known)),
         Err(_) => Err(Memory),
     }
 }
@@ -374,9 +384,13 @@ fn put_of_parts(
     names: &IndexMap<String, u8>,
     fault: Fault,
 ) -> Result<(), Memory> {
-    match build(parts) {
-        Ok(object) => put_of_object(alloc, out, &object, names, fault),
-        Err(_) => Ok(()),
+    match build(parts).ok() {
+        Some(object) => {
+            let put = put_of_object(alloc, out, &object, names, fault);
+            drop(object);
+            put
+        }
+        None => Ok(()),
     }
 }
 
@@ -408,7 +422,9 @@ pub(crate) fn known_in_model(
     let mut out = Vec::new(alloc);
     if is_of_flow(fault) {
         let names = parameter_names(alloc, model)?;
-        put_named(alloc, &mut out, model, &names, fault)?;
+        let put = put_named(alloc, &mut out, model, &names, fault);
+        drop(names);
+        put?;
     }
     Ok(out)
 }
@@ -428,7 +444,9 @@ fn put_by_object(
         chain_states: parts.chain_states.as_slice(),
         names: &names,
     };
-    put_at(alloc, out, flow, fault)
+    let put = put_at(alloc, out, flow, fault);
+    drop(names);
+    put
 }
 
 /// What is known at the place of a fault of flow in the object that bytes spell, in a line; parameters have no names there.
@@ -442,7 +460,11 @@ pub(crate) fn known_in_object(
         return Ok(out);
     }
     match read(alloc, input) {
-        Ok(object) => put_by_object(alloc, &mut out, &object, fault)?,
+        Ok(object) => {
+            let put = put_by_object(alloc, &mut out, &object, fault);
+            drop(object);
+            put?
+        }
         Err(refusal) => unless_memory(refusal)?,
     }
     Ok(out)

@@ -52,7 +52,11 @@ pub(crate) fn explain_object(alloc: Global, input: &[u8]) -> Result<Answer, Memo
     ensures { IfOk result (λ a. IsExplainedObject input.now a.text.items a.status) }
 {
     match accepted_in(alloc, input) {
-        Ok(verified) => acceptance_of(alloc, &verified),
+        Ok(verified) => {
+            let answer = acceptance_of(alloc, &verified);
+            drop(verified);
+            answer
+        }
         Err(NoJob::Refused(refusal)) => refusal_of(alloc, input, refusal.0),
         Err(NoJob::OutOfMemory) => Err(Memory),
     }

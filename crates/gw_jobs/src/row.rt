@@ -58,6 +58,14 @@ fn standing_with(sim: Sim) -> Standing
     }
 }
 
+/// How a job stands that was cancelled, now that its state is back, which is dropped.
+fn cancelled(sim: Sim) -> Standing
+    ensures { result ≡ Standing.Cancelled }
+{
+    drop(sim);
+    Standing::Cancelled
+}
+
 /// How a job stands that was out, now that its state is back; that of a cancelled one is dropped.
 fn standing_back(standing: &Standing, sim: Sim) -> Standing
     requires { rows.is_out (standing_of standing.now) ≡ true }
@@ -65,7 +73,7 @@ fn standing_back(standing: &Standing, sim: Sim) -> Standing
     ensures standing { standing_of result ≡ standing_after sim standing.now }
 {
     match standing {
-        Standing::CancelledOut => Standing::Cancelled,
+        Standing::CancelledOut => cancelled(sim),
         _ => standing_with(sim),
     }
 }
@@ -214,7 +222,7 @@ impl Row {
         let steps = sim.steps();
         let standing = standing_back(&self.standing, sim);
         self.steps = steps;
-        self.standing = standing;
+        drop(mem::replace(&mut self.standing, standing));
     }
 
     /// Cancels it: where it is ready its state is dropped, where it is out it is marked.
@@ -222,7 +230,7 @@ impl Row {
         ensures { self.new ≡ rows.cancelled_row self.old }
     {
         if let Some(standing) = standing_off(&self.standing) {
-            self.standing = standing;
+            drop(mem::replace(&mut self.standing, standing));
         }
     }
 }

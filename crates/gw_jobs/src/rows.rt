@@ -133,7 +133,10 @@ pub fn reply_of(alloc: Global, row: &Row) -> Result<Reply, JobFault>
     };
     let report = match report(alloc, sim) {
         Ok(report) => report,
-        Err(_) => return Err(JobFault::Memory),
+        Err(_) => {
+            drop(spec);
+            return Err(JobFault::Memory);
+        }
     };
     Ok(Reply {
         spec,

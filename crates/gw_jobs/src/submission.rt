@@ -34,7 +34,10 @@ pub fn start_job(alloc: Global, spec: Spec) -> Result<NewJob, Spec>
     };
     let pass_spec = match spec.share() {
         Ok(shared) => shared,
-        Err(_) => return Err(spec),
+        Err(_) => {
+            drop(row_spec);
+            return Err(spec);
+        }
     };
     match Sim::start(alloc, spec) {
         Ok(sim) => Ok(NewJob {
@@ -42,8 +45,26 @@ pub fn start_job(alloc: Global, spec: Spec) -> Result<NewJob, Spec>
             pass_spec,
             sim,
         }),
-        Err((spec, _)) => Err(spec),
+        Err((spec, _)) => {
+            drop(row_spec);
+            drop(pass_spec);
+            Err(spec)
+        }
     }
+}
+
+/// The spec of a job for which there is no room; what else it has is let go.
+pub fn spec_again(job: NewJob) -> Spec
+    ensures { result ≡ job.pass_spec }
+{
+    let NewJob {
+        row_spec,
+        pass_spec,
+        sim,
+    } = job;
+    drop(sim);
+    drop(row_spec);
+    pass_spec
 }
 
 /// How many rows there is room for at once.

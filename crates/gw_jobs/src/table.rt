@@ -17,7 +17,7 @@ use crate::rows::{
     MOST_JOBS, admitted_row, cancel_row, put_back_row, receipt, refusal_of_cancel,
     refusal_of_submit, reply_of, steps_at_take, take_row,
 };
-use crate::submission::{NewJob, add_row, make_room, start_job};
+use crate::submission::{NewJob, add_row, make_room, spec_again, start_job};
 use crate::task::Task;
 use gw_object::Memory;
 use gw_scan::Spec;
@@ -89,17 +89,18 @@ impl Table {
         if let Some(fault) = refusal_of_submit(&self.rows, user, full) {
             return Err((spec, fault));
         }
-        let NewJob {
-            row_spec,
-            pass_spec,
-            sim,
-        } = match start_job(alloc, spec) {
+        let job = match start_job(alloc, spec) {
             Ok(job) => job,
             Err(spec) => return Err((spec, JobFault::Memory)),
         };
         if make_room(&mut self.rows, &mut self.ready, &mut self.journal, self.out).is_err() {
-            return Err((pass_spec, JobFault::Memory));
+            return Err((spec_again(job), JobFault::Memory));
         }
+        let NewJob {
+            row_spec,
+            pass_spec,
+            sim,
+        } = job;
         let slot = self.rows.len() as u32;
         add_row(&mut self.rows, user, row_spec, sim);
         self.journal.push_reserved(StoredEvent::Submit);

@@ -108,6 +108,9 @@ pub fn known_names(
             *ledger = after;
             Ok(known)
         }
-        Err(error) => Err(error),
+        Err(error) => {
+            drop(known);
+            Err(error)
+        }
     }
 }

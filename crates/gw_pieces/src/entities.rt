@@ -142,7 +142,7 @@ pub(crate) fn entities_of(
     let initials = Initials::of(alloc, text.statements.as_slice())?;
     let mut entities = Vec::new(alloc);
     for number in 0..sighted.len() {
-        put_entity(
+        match put_entity(
             alloc,
             names,
             text,
@@ -151,7 +151,15 @@ pub(crate) fn entities_of(
             &mut entities,
             &sighted[number],
             ledger,
-        )?;
+        ) {
+            Ok(()) => {}
+            Err(error) => {
+                drop(entities);
+                drop(initials);
+                return Err(error);
+            }
+        }
     }
+    drop(initials);
     Ok(entities)
 }

@@ -81,7 +81,13 @@ fn initials_in(
 {
     let mut initials = IndexMap::new(alloc);
     for statement in statements {
-        set_initial(&mut initials, sort, statement)?;
+        match set_initial(&mut initials, sort, statement) {
+            Ok(()) => {}
+            Err(error) => {
+                drop(initials);
+                return Err(error);
+            }
+        }
     }
     Ok(initials)
 }
@@ -94,10 +100,17 @@ impl Initials {
         ensures switches { IfOk result (λ i. (name : List ℕ)
             → found_in i.switches name ≡ last_of (model.switches_in statements.now) name) }
     {
-        Ok(Initials {
-            savevalues: initials_in(alloc, Initial::Savevalue, statements)?,
-            switches: initials_in(alloc, Initial::Switch, statements)?,
-        })
+        let savevalues = initials_in(alloc, Initial::Savevalue, statements)?;
+        match initials_in(alloc, Initial::Switch, statements) {
+            Ok(switches) => Ok(Initials {
+                savevalues,
+                switches,
+            }),
+            Err(error) => {
+                drop(savevalues);
+                Err(error)
+            }
+        }
     }
 
     /// The initial value of a savevalue.

@@ -177,7 +177,18 @@ pub(crate) fn meanings_of(
         procedures: IndexMap::new(alloc),
         equs: IndexMap::new(alloc),
     };
-    put_meanings(&mut meanings, text, order)?;
-    put_numbers(&mut meanings.equs, known, text.statements.as_slice())?;
-    Ok(meanings)
+    match put_meanings(&mut meanings, text, order) {
+        Ok(()) => {}
+        Err(error) => {
+            drop(meanings);
+            return Err(error);
+        }
+    }
+    match put_numbers(&mut meanings.equs, known, text.statements.as_slice()) {
+        Ok(()) => Ok(meanings),
+        Err(error) => {
+            drop(meanings);
+            Err(error)
+        }
+    }
 }

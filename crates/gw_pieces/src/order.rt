@@ -313,6 +313,7 @@ pub(crate) fn ordered(
         done: Vec::with_capacity(alloc, origins.len())?,
     };
     visit_each(alloc, &text, &mut order)?;
-    let Order { done, .. } = order;
+    let Order { visited, done } = order;
+    drop(visited);
     Ok(done)
 }

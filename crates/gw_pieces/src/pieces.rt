@@ -138,7 +138,7 @@ fn code_with(
         (reasons.CodeOrBlockMissing (numbers_of names.old) order.now text.now.statements.items)
         ledger.old.least ledger.new.least) }
 {
-    names.list = entities;
+    drop(mem::replace(&mut names.list, entities));
     code_of(alloc, text, names, order, ledger)
 }
 
@@ -208,10 +208,17 @@ fn names_with(known: Known, meanings: Meanings, none: Vec<Entity>) -> (Names, Ve
     let Known {
         entities,
         sighted,
+        declarations,
         blocks,
         parameters,
-        ..
+        procedures: procedures_by_name,
+        equs: equs_by_name,
+        equ_numbers,
     } = known;
+    drop(declarations);
+    drop(procedures_by_name);
+    drop(equs_by_name);
+    drop(equ_numbers);
     let Meanings { procedures, equs } = meanings;
     let names = Names {
         entities,
@@ -271,7 +278,11 @@ fn pieces_with(
 {
     let Ordered { order, meanings } = ordered;
     let (mut names, sighted) = names_with(known, meanings, Vec::new(alloc));
-    pieces_by(alloc, text, &mut names, &order, &sighted, ledger)
+    let pieces = pieces_by(alloc, text, &mut names, &order, &sighted, ledger);
+    drop(names);
+    drop(order);
+    drop(sighted);
+    pieces
 }
 
 /// What is made of a model text whose names are known. What can't be made is noted.
@@ -290,7 +301,10 @@ fn pieces_known(
 {
     match judged(alloc, text, &known, ledger) {
         Ok(ordered) => pieces_with(alloc, text, known, ordered, ledger),
-        Err(AllocError) => Err(AllocError),
+        Err(AllocError) => {
+            drop(known);
+            Err(AllocError)
+        }
     }
 }
 
@@ -373,7 +387,10 @@ fn completed(alloc: Global, text: &Model, pieces: Pieces) -> Result<Parts, Fault
     let count = count_of(text.statements.as_slice());
     match rest_of(alloc, text, blocks, chains) {
         Ok(rest) => Ok(parts_with(alloc, count, pieces, rest)),
-        Err(AllocError) => Err(OUT_OF_MEMORY),
+        Err(AllocError) => {
+            drop(pieces);
+            Err(OUT_OF_MEMORY)
+        }
     }
 }
 
@@ -387,7 +404,10 @@ pub fn parts_of(alloc: Global, text: &Model) -> Result<Parts, Fault>
     let mut ledger = Ledger::new();
     match pieces_of(alloc, text, &mut ledger) {
         Ok(pieces) => match ledger.first() {
-            Some(fault) => Err(fault),
+            Some(fault) => {
+                drop(pieces);
+                Err(fault)
+            }
             None => completed(alloc, text, pieces),
         },
         Err(AllocError) => Err(OUT_OF_MEMORY),

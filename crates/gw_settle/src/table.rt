@@ -1,6 +1,6 @@
 //! The rows of a state table in the making, and what visits of blocks make of them.
 
-ghost use Rattle.std.specs.Prelude.{◌≡◌, ◌≤◌, ◌<◌, ◌-◌, Some, IfOk, IsSome, All, length};
+ghost use Rattle.std.specs.Prelude.{◌≡◌, ◌≤◌, ◌<◌, ◌-◌, Some, IfOk, IsSome, All, length, slice_set};
 ghost use Rattle.gw_rules.specs.Kinds.{block_at};
 ghost use Rattle.gw_rules.specs.declared.edges.Target.TheVariants as targets;
 ghost use Rattle.gw_rules.specs.Blocks.{FlowEdge as DeclaredEdge};
@@ -22,6 +22,7 @@ use gw_object::{Memory, Parts};
 use gw_rules::flow_codes::CHAIN_STATE;
 use gw_rules::{FlowEdge, Target, chain_place};
 use std::alloc::Global;
+use std::mem;
 
 /// What a state that is sent makes of the rows.
 #[derive(Clone, Copy, Debug, PartialEq, Eq)]
@@ -48,6 +49,14 @@ pub(crate) fn followed_by(first: Change, second: Change) -> Change
     }
 }
 
+/// Puts a row at a place, from 0; the one that stood there is let go.
+fn put_row(rows: &mut Vec<Option<Known>>, place: usize, row: Known)
+    requires { place < length rows.old.items }
+    ensures { rows.new.items ≡ slice_set rows.old.items place (Some row) }
+{
+    drop(mem::replace(&mut rows[place], Some(row)));
+}
+
 /// Sends a state to the row at a place, from 0.
 pub(crate) fn send_at(
     alloc: Global,
@@ -61,7 +70,7 @@ pub(crate) fn send_at(
 {
     match &rows[place] {
         None => {
-            rows[place] = Some(Known::of(alloc, state)?);
+            put_row(rows, place, Known::of(alloc, state)?);
             Ok(Change::More)
         }
         Some(row) => {
@@ -69,7 +78,7 @@ pub(crate) fn send_at(
                 return Ok(Change::Same);
             }
             let joined = row.joined(alloc, state)?;
-            rows[place] = Some(joined);
+            put_row(rows, place, joined);
             Ok(Change::Less)
         }
     }

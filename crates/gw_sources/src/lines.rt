@@ -180,7 +180,9 @@ fn sources_with(alloc: Global, text: &Model, known: Known) -> Result<Sources, Me
     requires { Knows text.now.statements.items known }
     ensures { IfOk result (model.AreSources text.now.statements.items) }
 {
-    sources_known(alloc, text, &known)
+    let sources = sources_known(alloc, text, &known);
+    drop(known);
+    sources
 }
 
 /// Where the blocks, the entities and the procedures of the object that a model text becomes stand in the text, also where no

@@ -9,7 +9,7 @@ use Rattle.gw_pieces.proofs.entities.entities_of.Goals as goal
 pub loop-number-preserved : goal.loop-number-preserved
 loop-number-preserved c =
     let h = c.loop-number.invariant in
-    let grown = c.in_ok-put_entity.ensures.grown in
+    let grown = c.in-Ok.ensures.grown in
     let sighted = c.args.sighted.now in
     let i = c.loop-number.number in
     let s = c.index-sighted-number.result in
@@ -19,7 +19,7 @@ loop-number-preserved c =
       switches = h.switches;
       clear = λ none. h.clear (grown none).0;
       entities = λ none. one_more_sighted (numbers_of c.args.names.now) c.args.order.now c.args.text.now.statements.items sighted i s at c.loop-number.entities.items c.put_entity.new.entities.items (grown none).1 (h.entities (grown none).0);
-      notes = further _ _ _ h.notes (at_sight (numbers_of c.args.names.now) c.args.order.now c.args.text.now.statements.items sighted i s at _ _ c.in_ok-put_entity.ensures.notes);
+      notes = further _ _ _ h.notes (at_sight (numbers_of c.args.names.now) c.args.order.now c.args.text.now.statements.items sighted i s at _ _ c.in-Ok.ensures.notes);
     }
 
 pub returns-clause-sighted : goal.returns-clause-sighted
