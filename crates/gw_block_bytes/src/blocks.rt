@@ -10,8 +10,9 @@ use gw_blocks::{
     Assign, Block, Call, Fraction, Gate, Generate, Link, Logic, Loop, Operand, Plus, Priority,
     Save, Split, Spread, Test, Units, Unlink,
 };
+use gw_field_bytes::{Receiver, Spelled, put_behind};
 use gw_fields::codes::TAG;
-use gw_fields::{ReadError, Receiver, Spelled, fault, put_behind};
+use gw_fields::{ReadError, fault};
 use std::alloc::Global;
 
 impl Spelled<BlockFormat> for Block {

@@ -7,7 +7,7 @@ ghost use Rattle.gw_blocks.specs.Grammar.{action_byte, actions, order_byte, orde
 
 use crate::BlockFormat;
 use gw_blocks::{Attribute, Comparison, Condition, EntityAttribute, LinkOrder, Mode, SwitchAction};
-use gw_fields::OneByte;
+use gw_field_bytes::OneByte;
 
 impl OneByte<BlockFormat> for Attribute {
     ghost byte_of = { attribute_byte };

@@ -7,8 +7,9 @@ ghost use Rattle.gw_fields.specs.Answers.{Gives};
 
 use crate::BlockFormat;
 use gw_blocks::{Attribute, MOST_PARAMETERS, MOST_STREAMS, Numbered, Operand, Spread, Units};
+use gw_field_bytes::{Receiver, Spelled, put_behind, read_ranged_u8};
 use gw_fields::codes::{NOT_CANONICAL, TAG};
-use gw_fields::{ReadError, Receiver, Spelled, fault, put_behind, read_ranged_u8};
+use gw_fields::{ReadError, fault};
 use std::alloc::Global;
 
 /// Whether this is the number of a parameter.

@@ -18,9 +18,9 @@ use Rattle.gw_fields.specs.Codes as codes
 use Rattle.gw_fields.specs.declared.error.Bad.{Bad}
 use Rattle.gw_fields.specs.Fields.{bad, byte, number, signed, nothing, form_read, by_tag, ElementsFit}
 use Rattle.gw_code.specs.Grammar.{SnaFits, sna_spelling, sna_forms, sna_read, sna, BackFits, jump_back, InstructionFits, instruction_spelling, instruction_forms, instruction_read, instruction, is_back, backs, begins_with_back, next_instruction, need, counts, ProcedureFits, NeedsAscend, procedure}
-use Rattle.gw_fields.proofs.AboveLast.{above_last_exact, above_last_fit, above_last_ascends}
+use Rattle.gw_field_bytes.proofs.AboveLast.{above_last_exact, above_last_fit, above_last_ascends}
 use Rattle.gw_code.proofs.Backs.{backs_within, code_fits, begins_as_it_is, front_of_back}
-use Rattle.gw_fields.proofs.Exact.{IsBytes, Takes, CutsFronts, chosen, err_is, not_both, ReadsBack, ◌also◌, tag_reads_back, IsExactForm, AreExactForms, behind_exact, by_tag_exact, IsExact, IsExactElement, byte_exact, wide16, wide32, wide64, number_exact, signed_exact, nothing_exact, made_exact, both_exact, and_then_exact, fitting_exact, ranged_exact, listed_exact, All-from_fit}
+use Rattle.gw_field_bytes.proofs.Exact.{IsBytes, Takes, CutsFronts, chosen, err_is, not_both, ReadsBack, ◌also◌, tag_reads_back, IsExactForm, AreExactForms, behind_exact, by_tag_exact, IsExact, IsExactElement, byte_exact, wide16, wide32, wide64, number_exact, signed_exact, nothing_exact, made_exact, both_exact, and_then_exact, fitting_exact, ranged_exact, listed_exact, All-from_fit}
 
 -- ---- attributes
 

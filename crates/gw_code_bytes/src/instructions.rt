@@ -9,8 +9,9 @@ use crate::CodeFormat;
 use gw_block_bytes::read_parameter_number;
 use gw_blocks::{Attribute, Numbered};
 use gw_code::{Back, Instruction, MOST_BACKS, Sna};
+use gw_field_bytes::{Elements, Front, Reading, Receiver, Spelled, put_behind};
 use gw_fields::codes::{LIMIT, TAG};
-use gw_fields::{Elements, Front, ReadError, Reading, Receiver, Spelled, fault, put_behind};
+use gw_fields::{ReadError, fault};
 use gw_num::{Binary, Unary};
 use std::alloc::Global;
 

@@ -9,10 +9,11 @@ use crate::instructions::*;
 use gw_block_bytes::{is_parameter, read_parameter_above};
 use gw_blocks::MOST_PARAMETERS;
 use gw_code::{Instruction, MOST_BACKS, MOST_INSTRUCTIONS, MOST_LOCALS, Procedure, Sna};
-use gw_fields::{
-    Elements, Front, Items, ReadError, Reading, Receiver, Spelled, keys_ascend, put_listed,
-    read_listed, read_ranged_u8,
+use gw_field_bytes::{
+    Elements, Front, Reading, Receiver, Spelled, keys_ascend, put_listed, read_listed,
+    read_ranged_u8,
 };
+use gw_fields::{Items, ReadError};
 use std::alloc::Global;
 
 /// The parameters that a procedure needs, ascending.
@@ -33,7 +34,7 @@ impl Spelled<CodeFormat> for Procedure {
 
     ghost reading = { procedure.read };
 
-    #[tactic(auto, using(gw_fields::proofs::Receiving::joining), unfolding(gw_code::specs::Grammar::procedure))]
+    #[tactic(auto, using(gw_field_bytes::proofs::Receiving::joining), unfolding(gw_code::specs::Grammar::procedure))]
     fn put<R: Receiver>(&self, to: &mut R) -> Result<(), R::Refusal> {
         (self.arguments, self.locals).put(to)?;
         put_listed(to, self.needs.as_slice())?;

@@ -1,4 +1,3 @@
 pub mod Answers
 pub mod Codes
 pub mod Fields
-pub mod Receivers

@@ -1,7 +1,6 @@
-//! Elements that ascend by a key.
+//! Elements that have a key.
 
-ghost use Rattle.std.specs.Prelude.{◌≡◌, ◌↔◌, ◌<◌, ℕ, IsTrue};
-ghost use Rattle.std.specs.List.{AllPairs};
+ghost use Rattle.std.specs.Prelude.{◌≡◌, ℕ};
 
 /// An element with a key.
 pub trait Keyed {
@@ -27,16 +26,4 @@ impl Keyed for u16 {
     fn key(&self) -> u16 {
         *self
     }
-}
-
-/// Whether the keys of elements ascend: each is above the one before it.
-pub fn keys_ascend<T: Keyed>(elements: &[T]) -> bool
-    ensures { IsTrue result ↔ AllPairs (λ a b. T.key_of a < T.key_of b) elements.now }
-{
-    for i in 1..elements.len() {
-        if elements[i].key() <= elements[i - 1].key() {
-            return false;
-        }
-    }
-    true
 }

@@ -19,8 +19,8 @@ use Rattle.gw_blocks.specs.Grammar.{procedure_number}
 use Rattle.gw_object.specs.Entities.{is_letter, letter, name, kind_tag, capacity, initial_value, table, function, kind_fields, KindFits, KindAscends, IsLettered, EntityFits, EntityAscends, IsNamed, AreNamesakes, is_named, new_name, kind_form, kind_forms, entity_spelling, entity_read, FitsBehind, entity}
 use Rattle.gw_object_bytes.proofs.KindLaws.{capacity_exact, initial_value_exact, table_exact, function_exact}
 use Rattle.gw_block_bytes.proofs.BlockLaws.{procedure_number_exact}
-use Rattle.gw_fields.proofs.OneOf.{flag_exact}
-use Rattle.gw_fields.proofs.Exact.{ReadsBack, ◌also◌, IsExact, IsExactForm, AreExactForms, IsExactElement, behind_exact, by_tag_takes, by_tag_within, tag_reads_back, byte_exact, tested_exact, both_exact, fitting_exact, nothing_exact, plain_exact, listed_exact, All-from_fit, fit-from_All}
+use Rattle.gw_field_bytes.proofs.OneOf.{flag_exact}
+use Rattle.gw_field_bytes.proofs.Exact.{ReadsBack, ◌also◌, IsExact, IsExactForm, AreExactForms, IsExactElement, behind_exact, by_tag_takes, by_tag_within, tag_reads_back, byte_exact, tested_exact, both_exact, fitting_exact, nothing_exact, plain_exact, listed_exact, All-from_fit, fit-from_All}
 
 -- ---- names
 

@@ -9,8 +9,8 @@ use Rattle.gw_fields.specs.Fields.{number, signed, ElementsFit}
 use Rattle.gw_blocks.specs.Grammar.{OperandFits}
 use Rattle.gw_object.specs.Entities.{capacity, initial_value, TableFits, table, PointFits, point, FunctionFits, PointsAscend, function}
 use Rattle.gw_block_bytes.proofs.BlockLaws.{operand_exact}
-use Rattle.gw_fields.proofs.Ascending.{int_order, ascending_exact, ascends, ascending_fit}
-use Rattle.gw_fields.proofs.Exact.{IsExact, IsExactElement, wide16, wide32, wide64, number_exact, signed_exact, made_exact, both_exact, fitting_exact, ranged_exact, listed_exact, All-from_fit}
+use Rattle.gw_field_bytes.proofs.Ascending.{int_order, ascending_exact, ascends, ascending_fit}
+use Rattle.gw_field_bytes.proofs.Exact.{IsExact, IsExactElement, wide16, wide32, wide64, number_exact, signed_exact, made_exact, both_exact, fitting_exact, ranged_exact, listed_exact, All-from_fit}
 
 pub capacity_exact : IsExact capacity
 capacity_exact = ranged_exact 1 greatest_capacity (number w32) (λ n h. omega arith) (number_exact w32 wide32)

@@ -15,9 +15,9 @@ use Rattle.gw_fields.specs.Fields.{Field, number, ranged, nothing, optional, pla
 use Rattle.gw_object.specs.Grammar.{row_number, returned, ReturnRowFits, AreAscending, return_row, TableKindFits, table_kind_spelling, table_kind_forms, table_kind_read, table_kind, ParameterFits, parameter, owned, held, HeldFits, StateFits, IsAscending, state}
 use Rattle.gw_blocks.specs.Grammar.{entity_number, block_number, parameter_number}
 use Rattle.gw_block_bytes.proofs.BlockLaws.{entity_number_exact, block_number_exact, parameter_number_exact}
-use Rattle.gw_fields.proofs.AboveLast.{above_last_exact, above_last_fit, above_last_ascends}
-use Rattle.gw_fields.proofs.Ascending.{ascending_exact, nat_order, ascends, ascending_fit}
-use Rattle.gw_fields.proofs.Exact.{ReadsBack, ◌also◌, tag_reads_back, AreExactForms, behind_exact, by_tag_exact, IsExact, IsExactElement, plain_exact, wide16, wide32, number_exact, made_exact, both_exact, fitting_exact, ranged_exact, nothing_exact, listed_exact, All-from_fit, fit-from_All}
+use Rattle.gw_field_bytes.proofs.AboveLast.{above_last_exact, above_last_fit, above_last_ascends}
+use Rattle.gw_field_bytes.proofs.Ascending.{ascending_exact, nat_order, ascends, ascending_fit}
+use Rattle.gw_field_bytes.proofs.Exact.{ReadsBack, ◌also◌, tag_reads_back, AreExactForms, behind_exact, by_tag_exact, IsExact, IsExactElement, plain_exact, wide16, wide32, number_exact, made_exact, both_exact, fitting_exact, ranged_exact, nothing_exact, listed_exact, All-from_fit, fit-from_All}
 
 -- ---- states
 

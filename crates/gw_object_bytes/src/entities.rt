@@ -8,10 +8,10 @@ ghost use Rattle.gw_fields.specs.Answers.{Gives};
 
 use crate::ObjectFormat;
 use crate::kinds::{kind_ascends, kind_fits, put_fields, tag_of};
-use gw_fields::{
-    Elements, Front, Items, Put, ReadError, Reading, Receiver, Spelled, fault, put_listed,
-    read_listed, read_ranged_u32,
+use gw_field_bytes::{
+    Elements, Front, Put, Reading, Receiver, Spelled, put_listed, read_listed, read_ranged_u32,
 };
+use gw_fields::{Items, ReadError, fault};
 use gw_object::codes::{NOT_CANONICAL, TAG};
 use gw_object::{Entity, Function, GREATEST_CAPACITY, Kind, MOST_LETTERS, Table};
 use std::alloc::Global;
@@ -73,7 +73,7 @@ fn read_new_name<'a>(
 impl Put<ObjectFormat> for Entity {
     ghost spelling = { entity.spell };
 
-    #[tactic(auto, using(gw_fields::proofs::Receiving::joining))]
+    #[tactic(auto, using(gw_field_bytes::proofs::Receiving::joining))]
     fn put_into<R: Receiver>(&self, to: &mut R) -> Result<(), R::Refusal> {
         tag_of(&self.kind).put(to)?;
         put_listed(to, self.name.as_slice())?;

@@ -2,7 +2,7 @@
 
 ghost use Rattle.std.specs.Prelude.{◌≡◌, ◌↔◌, IsTrue, int_lt};
 ghost use Rattle.std.specs.List.{All};
-ghost use Rattle.gw_fields.specs.Receivers.{Puts};
+ghost use Rattle.gw_field_bytes.specs.Receivers.{Puts};
 ghost use Rattle.gw_object.specs.Entities.{table, TableFits, point, PointFits, function, FunctionFits, PointsAscend};
 ghost use Rattle.gw_object.specs.Entities.{kind_tag, kind_fields, KindFits, KindAscends};
 ghost use Rattle.gw_fields.specs.Answers.{Gives};
@@ -11,10 +11,11 @@ ghost use Rattle.gw_object_bytes.specs.Keys.{argument_above};
 use crate::ObjectFormat;
 use gw_block_bytes::operand_fits;
 use gw_blocks::Operand;
-use gw_fields::{
-    Elements, Front, Items, Put, ReadError, Reading, Receiver, Spelled, fault, put_listed,
-    read_listed, read_ranged_u16, read_ranged_u32,
+use gw_field_bytes::{
+    Elements, Front, Put, Reading, Receiver, Spelled, put_listed, read_listed, read_ranged_u16,
+    read_ranged_u32,
 };
+use gw_fields::{Items, ReadError, fault};
 use gw_object::codes::NOT_CANONICAL;
 use gw_object::{
     Function, GREATEST_CAPACITY, GREATEST_WIDTH, Kind, LEAST_CLASSES, MOST_CLASSES, MOST_POINTS,
@@ -106,7 +107,7 @@ impl Spelled<ObjectFormat> for Function {
 
     ghost reading = { function.read };
 
-    #[tactic(auto, using(gw_fields::proofs::Receiving::joining), unfolding(gw_object::specs::Entities::function))]
+    #[tactic(auto, using(gw_field_bytes::proofs::Receiving::joining), unfolding(gw_object::specs::Entities::function))]
     fn put<R: Receiver>(&self, to: &mut R) -> Result<(), R::Refusal> {
         self.argument.put(to)?;
         put_listed(to, self.points.as_slice())
@@ -122,7 +123,7 @@ impl Spelled<ObjectFormat> for Function {
 }
 
 /// Puts the fields of a kind into a receiver.
-#[tactic(auto, using(gw_fields::proofs::Receiving::joining))]
+#[tactic(auto, using(gw_field_bytes::proofs::Receiving::joining))]
 pub fn put_fields<R: Receiver>(to: &mut R, kind: &Kind) -> Result<(), R::Refusal>
     ensures { Puts R.content to.old to.new (kind_fields kind.now) result }
 {

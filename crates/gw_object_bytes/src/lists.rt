@@ -3,7 +3,8 @@
 ghost use Rattle.gw_fields.specs.Fields.{plain};
 ghost use Rattle.gw_object.specs.Grammar.{seed, weight};
 
-use gw_fields::{Elements, Front, Reading, fault, read_ranged_u32};
+use gw_field_bytes::{Elements, Front, Reading, read_ranged_u32};
+use gw_fields::fault;
 use gw_object::codes::NOT_CANONICAL;
 use gw_object::{GREATEST_SEED, GREATEST_WEIGHT};
 use std::alloc::Global;

@@ -15,10 +15,8 @@ use gw_block_bytes::BlockFormat;
 use gw_blocks::Block;
 use gw_code::Procedure;
 use gw_code_bytes::CodeFormat;
-use gw_fields::{
-    Bad, IfAny, Items, Plain, ReadError, Spelled, fault, read_elements, read_listed,
-    read_ranged_u64,
-};
+use gw_field_bytes::{IfAny, Plain, Spelled, read_elements, read_listed, read_ranged_u64};
+use gw_fields::{Bad, Items, ReadError, fault};
 use gw_object::codes::{LIMIT, MAGIC, MEMORY, TRAILING, VERSION};
 use gw_object::{
     Fault, GREATEST_COUNT, MOST_BLOCKS, MOST_BYTES, MOST_ENTITIES, MOST_PROCEDURES,

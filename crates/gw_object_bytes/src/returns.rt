@@ -6,7 +6,8 @@ ghost use Rattle.gw_object.specs.Grammar.{return_row, ReturnRowFits, AreAscendin
 
 use crate::ObjectFormat;
 use crate::states::AscendingNumbers;
-use gw_fields::{Items, ReadError, Receiver, Spelled, keys_ascend, put_listed, read_listed};
+use gw_field_bytes::{Receiver, Spelled, keys_ascend, put_listed, read_listed};
+use gw_fields::{Items, ReadError};
 use gw_object::{MOST_BLOCKS, ReturnRow};
 use std::alloc::Global;
 

@@ -12,10 +12,11 @@ ghost use Rattle.gw_object.specs.declared.parts.TableParameter.{TableParameter};
 use crate::ObjectFormat;
 use gw_block_bytes::{is_parameter, read_parameter_above};
 use gw_blocks::{MOST_PARAMETERS, Units};
-use gw_fields::{
-    Elements, Front, Items, Put, ReadError, Reading, Receiver, Spelled, fault, keys_ascend,
-    put_behind, put_listed, read_listed, read_ranged_u32,
+use gw_field_bytes::{
+    Elements, Front, Put, Reading, Receiver, Spelled, keys_ascend, put_behind, put_listed,
+    read_listed, read_ranged_u32,
 };
+use gw_fields::{Items, ReadError, fault};
 use gw_object::codes::{NOT_CANONICAL, TAG};
 use gw_object::{GREATEST_UNITS, MOST_ENTITIES, TableKind, TableParameter, TableState};
 use std::alloc::Global;
@@ -115,7 +116,7 @@ impl Spelled<ObjectFormat> for TableState {
 
     ghost reading = { state.read };
 
-    #[tactic(auto, using(gw_fields::proofs::Receiving::joining), unfolding(gw_object::specs::Grammar::state))]
+    #[tactic(auto, using(gw_field_bytes::proofs::Receiving::joining), unfolding(gw_object::specs::Grammar::state))]
     fn put<R: Receiver>(&self, to: &mut R) -> Result<(), R::Refusal> {
         put_listed(to, self.parameters.as_slice())?;
         put_listed(to, self.facilities.as_slice())?;

@@ -2,12 +2,12 @@
 
 ghost use Rattle.std.specs.Prelude.{◌≡◌, IfOk};
 ghost use Rattle.gw_fields.specs.Fields.{Leaves};
-ghost use Rattle.gw_fields.specs.Receivers.{Puts};
+ghost use Rattle.gw_field_bytes.specs.Receivers.{Puts};
 ghost use Rattle.gw_object.specs.Grammar.{head, spelling};
 ghost use Rattle.gw_object_bytes.specs.Tables.{lists_spelling, tables_spelling};
 
 use crate::Memory;
-use gw_fields::{Receiver, Room, Spelled, put_elements, put_listed};
+use gw_field_bytes::{Receiver, Room, Spelled, put_elements, put_listed};
 use gw_object::{Object, Parts};
 use std::alloc::Global;
 
@@ -20,7 +20,7 @@ fn put_head<R: Receiver>(to: &mut R) -> Result<(), R::Refusal>
 }
 
 /// The return rows, and what stands for each block and each user chain: its row of the state table, and its weight.
-#[tactic(auto, using(gw_fields::proofs::Receiving::joining), unfolding(gw_object::specs::Grammar::tables))]
+#[tactic(auto, using(gw_field_bytes::proofs::Receiving::joining), unfolding(gw_object::specs::Grammar::tables))]
 fn put_tables<R: Receiver>(to: &mut R, parts: &Parts) -> Result<(), R::Refusal>
     ensures { Puts R.content to.old to.new (tables_spelling parts.now) result }
 {
@@ -32,7 +32,7 @@ fn put_tables<R: Receiver>(to: &mut R, parts: &Parts) -> Result<(), R::Refusal>
 }
 
 /// The entities, procedures and blocks, and what stands behind them.
-#[tactic(auto, using(gw_fields::proofs::Receiving::joining))]
+#[tactic(auto, using(gw_field_bytes::proofs::Receiving::joining))]
 fn put_lists<R: Receiver>(to: &mut R, parts: &Parts) -> Result<(), R::Refusal>
     ensures { Puts R.content to.old to.new (lists_spelling parts.now) result }
 {
@@ -43,7 +43,7 @@ fn put_lists<R: Receiver>(to: &mut R, parts: &Parts) -> Result<(), R::Refusal>
 }
 
 /// The bytes that spell parts.
-#[tactic(auto, using(gw_fields::proofs::Receiving::joining), unfolding(gw_object::specs::Grammar::spelling, gw_object::specs::Grammar::object))]
+#[tactic(auto, using(gw_field_bytes::proofs::Receiving::joining), unfolding(gw_object::specs::Grammar::spelling, gw_object::specs::Grammar::object))]
 fn put_parts<R: Receiver>(to: &mut R, parts: &Parts) -> Result<(), R::Refusal>
     ensures { Puts R.content to.old to.new (spelling parts.now) result }
 {
@@ -54,7 +54,7 @@ fn put_parts<R: Receiver>(to: &mut R, parts: &Parts) -> Result<(), R::Refusal>
 }
 
 /// How many bytes of a room are left behind those that spell parts; `None` where they don't fit into it.
-#[tactic(auto, using(gw_fields::proofs::Receiving::leaves))]
+#[tactic(auto, using(gw_field_bytes::proofs::Receiving::leaves))]
 pub fn room_after_parts(parts: &Parts, room: usize) -> Option<usize>
     ensures { Leaves (spelling parts.now) room result }
 {
@@ -66,7 +66,7 @@ pub fn room_after_parts(parts: &Parts, room: usize) -> Option<usize>
 }
 
 /// The one spelling of an object.
-#[tactic(auto, using(gw_fields::proofs::Receiving::keeps))]
+#[tactic(auto, using(gw_field_bytes::proofs::Receiving::keeps))]
 pub fn write(alloc: Global, object: &Object) -> Result<Vec<u8>, Memory>
     ensures { IfOk result (λ bytes. bytes.items ≡ spelling object.now) }
 {

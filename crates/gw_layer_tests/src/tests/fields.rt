@@ -1,9 +1,10 @@
 //! Fields of a format, spelled by hand.
 
-use gw_fields::codes::TAG;
-use gw_fields::{
-    Memory, NumberFormat, Plain, ReadError, Room, Spelled, put_count, put_listed, read_listed,
+use gw_field_bytes::{
+    Memory, NumberFormat, Plain, Room, Spelled, put_count, put_listed, read_listed,
 };
+use gw_fields::ReadError;
+use gw_fields::codes::TAG;
 use std::alloc::Global;
 use std::test::Fail;
 

@@ -1,7 +1,7 @@
 use Rattle.std.proofs.Common.{◌-◌, pos, ◌<ℤ◌, get_or, sym, ◌∙◌, arith}
 use Rattle.std.proofs.lemmas.List.{get_or_default}
 use Rattle.gw_object.specs.declared.parts.Point.{Point}
-use Rattle.gw_fields.proofs.Ascending.{ascend_more, int_order}
+use Rattle.gw_field_bytes.proofs.Ascending.{ascend_more, int_order}
 use Rattle.gw_object_bytes.proofs.kinds.points_ascend.Goals as goal
 
 pub loop-i-preserved : goal.loop-i-preserved

@@ -1,5 +1,5 @@
 use Rattle.std.proofs.Common.{sym}
-use Rattle.gw_fields.proofs.Exact.{IsBytes-from_All}
+use Rattle.gw_field_bytes.proofs.Exact.{IsBytes-from_All}
 use Rattle.gw_object_bytes.proofs.ObjectLaws.{found}
 use Rattle.gw_object_bytes.proofs.laws.read_is_written.Goals as goal
 

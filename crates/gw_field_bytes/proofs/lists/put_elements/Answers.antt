@@ -1,5 +1,5 @@
-use Rattle.gw_fields.proofs.Receiving.{one_more_put}
-use Rattle.gw_fields.proofs.lists.put_elements.Goals as goal
+use Rattle.gw_field_bytes.proofs.Receiving.{one_more_put}
+use Rattle.gw_field_bytes.proofs.lists.put_elements.Goals as goal
 
 pub loop-element-preserved : goal.loop-element-preserved
 loop-element-preserved g c =

@@ -1,6 +1,6 @@
 use Rattle.std.proofs.Common.{◌≡◌, ◌-◌, []}
 use Rattle.gw_fields.specs.Fields.{elements_read}
-use Rattle.gw_fields.proofs.lists.read_elements.Given as goal
+use Rattle.gw_field_bytes.proofs.lists.read_elements.Given as goal
 
 abbrev pub invariant-loop-i : goal.invariant-loop-i
 invariant-loop-i g l =

@@ -13,7 +13,7 @@ use Rattle.std.proofs.lemmas.List.Quantifiers.{all_pairs_push}
 use Rattle.std.proofs.lemmas.Option.{slice_get-get_or}
 use Rattle.gw_fields.specs.Codes as codes
 use Rattle.gw_fields.specs.Fields.{Field, tested, both, is_above, ascending, ElementsFit}
-use Rattle.gw_fields.proofs.Exact.{IsExact, IsExactElement, made_exact, tested_exact, both_exact}
+use Rattle.gw_field_bytes.proofs.Exact.{IsExact, IsExactElement, made_exact, tested_exact, both_exact}
 
 -- ---- orders of keys
 

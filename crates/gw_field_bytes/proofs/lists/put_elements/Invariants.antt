@@ -1,7 +1,7 @@
 use Rattle.std.proofs.Common.{◌≡◌, take}
 use Rattle.std.specs.List.{flat_map}
-use Rattle.gw_fields.specs.Receivers.{with_bytes}
-use Rattle.gw_fields.proofs.lists.put_elements.Given as goal
+use Rattle.gw_field_bytes.specs.Receivers.{with_bytes}
+use Rattle.gw_field_bytes.proofs.lists.put_elements.Given as goal
 
 abbrev pub invariant-loop-element : goal.invariant-loop-element
 invariant-loop-element g l =

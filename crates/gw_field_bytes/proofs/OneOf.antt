@@ -4,7 +4,7 @@ use Rattle.std.proofs.lemmas.Bool.{eqb-true}
 use Rattle.gw_fields.specs.Codes as codes
 use Rattle.gw_fields.specs.declared.error.Bad.{Bad}
 use Rattle.gw_fields.specs.Fields.{bad, value_of, value_read, one_of, flag_byte, flag}
-use Rattle.gw_fields.proofs.Exact.{IsBytes, IsBytes-rest, Takes, IsExact, CutsFronts, chosen, ok_is, err_is, not_both, byte_exact, no_front, front_tail}
+use Rattle.gw_field_bytes.proofs.Exact.{IsBytes, IsBytes-rest, Takes, IsExact, CutsFronts, chosen, ok_is, err_is, not_both, byte_exact, no_front, front_tail}
 
 -- each value is found again by its byte
 abbrev pub AreFound : {A : Type 0} → (A → ℕ) → List A → Type 0

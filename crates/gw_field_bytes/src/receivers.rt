@@ -1,7 +1,7 @@
 //! Where bytes are put: at the end of a vector, or into a room, which only counts them.
 
 ghost use Rattle.std.specs.Prelude.{◌≡◌};
-ghost use Rattle.gw_fields.specs.Receivers.{Content, of_bytes, of_room, room_behind, Puts};
+ghost use Rattle.gw_field_bytes.specs.Receivers.{Content, of_bytes, of_room, room_behind, Puts};
 
 use crate::Memory;
 use std::convert::Infallible;

@@ -3,13 +3,13 @@
 ghost use Rattle.std.specs.Prelude.{◌≡◌, ◌∷◌};
 ghost use Rattle.std.specs.Int.{w16, w32, w64, to_be_bytes};
 ghost use Rattle.gw_fields.specs.Fields.{byte, number, signed, flag, ranged, count, count_spelling, optional_spelling, optional_read};
-ghost use Rattle.gw_fields.specs.Receivers.{Puts};
+ghost use Rattle.gw_field_bytes.specs.Receivers.{Puts};
 ghost use Rattle.gw_fields.specs.Answers.{Gives};
 
-use crate::codes::*;
-use crate::error::*;
 use crate::receivers::Receiver;
 use crate::spelled::{NumberFormat, Spelled, put_behind};
+use gw_fields::codes::{LIMIT, NOT_CANONICAL, TAG, TRUNCATED};
+use gw_fields::{ReadError, fault};
 use std::alloc::Global;
 use std::marker::PhantomData;
 

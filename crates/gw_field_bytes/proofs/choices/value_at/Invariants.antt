@@ -1,6 +1,6 @@
 use Rattle.std.proofs.Common.{◌≡◌, drop}
 use Rattle.gw_fields.specs.Fields.{value_of}
-use Rattle.gw_fields.proofs.choices.value_at.Given as goal
+use Rattle.gw_field_bytes.proofs.choices.value_at.Given as goal
 
 abbrev pub invariant-loop-i : goal.invariant-loop-i
 invariant-loop-i g l =

@@ -1,7 +1,7 @@
 use Rattle.std.proofs.Common.{◌≡◌, ◌-◌, sym, ◌∙◌, get_or, arith}
 use Rattle.std.proofs.lemmas.List.{get_or_default}
-use Rattle.gw_fields.proofs.Ascending.{ascend_more, nat_order}
-use Rattle.gw_fields.proofs.keys.keys_ascend.Goals as goal
+use Rattle.gw_field_bytes.proofs.Ascending.{ascend_more, nat_order}
+use Rattle.gw_field_bytes.proofs.keys.keys_ascend.Goals as goal
 
 pub loop-i-preserved : goal.loop-i-preserved
 loop-i-preserved g c =

@@ -1,8 +1,8 @@
 use Rattle.std.proofs.Common.{[]}
 use Rattle.std.proofs.lemmas.Result.{err_from_is_err_and}
 use Rattle.gw_fields.specs.Fields.{elements_read}
-use Rattle.gw_fields.proofs.Loop.{goes_on, ends, is_done}
-use Rattle.gw_fields.proofs.lists.read_elements.Goals as goal
+use Rattle.gw_field_bytes.proofs.Loop.{goes_on, ends, is_done}
+use Rattle.gw_field_bytes.proofs.lists.read_elements.Goals as goal
 
 pub returns-in_err-item : goal.returns-in_err-item
 returns-in_err-item g c =

@@ -3,10 +3,10 @@
 ghost use Rattle.std.specs.Prelude.{◌≡◌, ℕ, List, [], ◌∷◌};
 ghost use Rattle.gw_fields.specs.Fields.{value_of, one_of};
 
-use crate::codes::*;
-use crate::error::*;
 use crate::receivers::Receiver;
 use crate::spelled::Spelled;
+use gw_fields::codes::TAG;
+use gw_fields::{ReadError, fault};
 use std::alloc::Global;
 use std::marker::PhantomData;
 

@@ -3,13 +3,13 @@
 ghost use Rattle.std.specs.Prelude.{ℕ, List, []};
 ghost use Rattle.std.specs.List.{flat_map};
 ghost use Rattle.gw_fields.specs.Fields.{Read, plain, elements_read, list_spelling, list_read};
-ghost use Rattle.gw_fields.specs.Receivers.{Puts};
+ghost use Rattle.gw_field_bytes.specs.Receivers.{Puts};
 ghost use Rattle.gw_fields.specs.Answers.{Gives};
 
-use crate::error::*;
 use crate::numbers::*;
 use crate::receivers::Receiver;
 use crate::spelled::Spelled;
+use gw_fields::ReadError;
 use std::alloc::Global;
 use std::marker::PhantomData;
 

@@ -2,11 +2,11 @@
 
 ghost use Rattle.std.specs.Prelude.{ℕ, List, ◌∷◌, ◌++◌};
 ghost use Rattle.gw_fields.specs.Fields.{Read, both_read};
-ghost use Rattle.gw_fields.specs.Receivers.{Puts};
+ghost use Rattle.gw_field_bytes.specs.Receivers.{Puts};
 ghost use Rattle.gw_fields.specs.Answers.{Gives};
 
-use crate::error::ReadError;
 use crate::receivers::Receiver;
+use gw_fields::ReadError;
 use std::alloc::Global;
 
 /// The format of numbers and truth values.

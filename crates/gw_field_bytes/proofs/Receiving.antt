@@ -6,7 +6,7 @@ use Rattle.std.proofs.Math.Seq.{take-suc}
 use Rattle.std.proofs.lemmas.Bool.{cases_lt, lt-leb, le-leb}
 use Rattle.std.proofs.lemmas.List.{append-nil, length-append}
 use Rattle.std.proofs.lemmas.List.Concat.{flat_map-append}
-use Rattle.gw_fields.specs.Receivers.{Content, of_bytes, of_room, room_behind, with_bytes}
+use Rattle.gw_field_bytes.specs.Receivers.{Content, of_bytes, of_room, room_behind, with_bytes}
 use Rattle.gw_fields.specs.Fields.{Leaves}
 
 -- a room behind m bytes, and then behind n
