@@ -32,16 +32,29 @@ pub enum Outcome {
 fn runs(alloc: Global, verified: Verified) -> Result<bool, Memory> {
     match Spec::new(alloc, verified, &[], 0, BUDGET) {
         Ok(spec) => ends(alloc, spec),
-        Err((_, StartFault::Memory)) => Err(Memory),
-        Err(_) => Ok(false),
+        Err((verified, StartFault::Memory)) => {
+            drop(verified);
+            Err(Memory)
+        }
+        Err((verified, _)) => {
+            drop(verified);
+            Ok(false)
+        }
     }
 }
 
 /// Starts a job, and makes steps until a named end stands.
 fn ends(alloc: Global, spec: Spec) -> Result<bool, Memory> {
     match Sim::start(alloc, spec) {
-        Ok(mut sim) => reports(alloc, &mut sim),
-        Err(_) => Err(Memory),
+        Ok(mut sim) => {
+            let is_right = reports(alloc, &mut sim);
+            drop(sim);
+            is_right
+        }
+        Err((spec, _)) => {
+            drop(spec);
+            Err(Memory)
+        }
     }
 }
 
@@ -68,14 +81,25 @@ fn is_spelling(alloc: Global, object: &Object, bytes: &[u8]) -> Result<bool, Mem
 fn outcome_of_object(alloc: Global, object: Object, bytes: &[u8]) -> Result<Outcome, Memory>
     ensures { IfOk result (IsVerdict object) }
 {
-    let is_spelled = is_spelling(alloc, &object, bytes)?;
+    let is_spelled = match is_spelling(alloc, &object, bytes) {
+        Ok(is_spelled) => is_spelled,
+        Err(memory) => {
+            drop(object);
+            return Err(memory);
+        }
+    };
     match verify(alloc, object) {
         Ok(verified) => {
             let is_right = runs(alloc, verified)? && is_spelled;
             Ok(Outcome::Accepted { is_right })
         }
-        Err((_, fault)) if fault.code == codes::MEMORY => Err(Memory),
-        Err((_, fault)) => Ok(Outcome::Refused(fault)),
+        Err((object, fault)) => {
+            drop(object);
+            if fault.code == codes::MEMORY {
+                return Err(Memory);
+            }
+            Ok(Outcome::Refused(fault))
+        }
     }
 }
 

@@ -72,8 +72,15 @@ fn answer_of_job(alloc: Global, spec: Spec) -> Result<Answer, Memory>
     ensures { IfOk result (λ a. Concludes spec a.text.items a.status) }
 {
     match Sim::start(alloc, spec) {
-        Ok(mut sim) => run_and_report(alloc, &mut sim),
-        Err(_) => Err(Memory),
+        Ok(mut sim) => {
+            let answer = run_and_report(alloc, &mut sim);
+            drop(sim);
+            answer
+        }
+        Err((spec, _)) => {
+            drop(spec);
+            Err(Memory)
+        }
     }
 }
 
@@ -114,8 +121,14 @@ fn verified_object(alloc: Global, object: Object) -> Result<Verified, NoJob>
 {
     match verify(alloc, object) {
         Ok(verified) => Ok(verified),
-        Err((_, fault)) if fault.code == codes::MEMORY => Err(NoJob::OutOfMemory),
-        Err((_, fault)) => Err(NoJob::Refused(Refusal(fault))),
+        Err((object, fault)) => {
+            drop(object);
+            if fault.code == codes::MEMORY {
+                Err(NoJob::OutOfMemory)
+            } else {
+                Err(NoJob::Refused(Refusal(fault)))
+            }
+        }
     }
 }
 
@@ -128,8 +141,14 @@ fn spec_with(alloc: Global, verified: Verified, seed: u32, count: u64) -> Result
     let seeds: &[u32] = if seed == 0 { &[] } else { &given };
     match Spec::new(alloc, verified, seeds, count, BUDGET) {
         Ok(spec) => Ok(spec),
-        Err((_, StartFault::Memory)) => Err(NoJob::OutOfMemory),
-        Err((_, fault)) => Err(NoJob::Refused(Refusal::from(fault))),
+        Err((verified, StartFault::Memory)) => {
+            drop(verified);
+            Err(NoJob::OutOfMemory)
+        }
+        Err((verified, fault)) => {
+            drop(verified);
+            Err(NoJob::Refused(Refusal::from(fault)))
+        }
     }
 }
 
@@ -185,7 +204,11 @@ fn check_of(alloc: Global, input: &[u8]) -> Result<Answer, Memory>
     ensures { IfOk result (λ a. IsCheck input.now a.text.items a.status) }
 {
     match accepted_in(alloc, input) {
-        Ok(verified) => accepted(alloc, &verified),
+        Ok(verified) => {
+            let answer = accepted(alloc, &verified);
+            drop(verified);
+            answer
+        }
         Err(NoJob::Refused(refusal)) => refused(alloc, refusal),
         Err(NoJob::OutOfMemory) => Err(Memory),
     }
@@ -217,7 +240,11 @@ fn work_of(alloc: Global, model: &Model) -> Result<Answer, Memory>
     ensures { IfOk result (λ a. IsWorkOf model.now.statements.items a.text.items a.status) }
 {
     match assemble(alloc, model) {
-        Ok(verified) => spelled(alloc, &verified),
+        Ok(verified) => {
+            let answer = spelled(alloc, &verified);
+            drop(verified);
+            answer
+        }
         Err(fault) => refused_text(alloc, fault),
     }
 }
@@ -227,7 +254,11 @@ fn assembly_of(alloc: Global, input: &[u8]) -> Result<Answer, Memory>
     ensures { IfOk result (λ a. IsAssembly input.now a.text.items a.status) }
 {
     match parse(alloc, input) {
-        Ok(model) => work_of(alloc, &model),
+        Ok(model) => {
+            let answer = work_of(alloc, &model);
+            drop(model);
+            answer
+        }
         Err(fault) => refused_text(alloc, fault),
     }
 }

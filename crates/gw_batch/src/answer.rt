@@ -46,6 +46,28 @@ fn status_of(refused: bool) -> u8
     if refused { REFUSED } else { ENDED }
 }
 
+/// The text and the status of a batch, by a service and what its workers need.
+fn answer_over<R: Ledger + Send + Sync, S: Ledger + Send + Sync, W: Threads + Wait + Sync>(
+    rt: &W,
+    alloc: Global,
+    service: &Service<R, S>,
+    crew: &mut Crew<R, S>,
+    workers: u32,
+    slice: u32,
+    entries: VecDeque<Entry>,
+) -> Result<Answer, Memory>
+    requires { crew.old.board ≡ service.now }
+    ensures { IfOk result (λ a. IsBatchTold (map entry_of entries.items) a.text.items a.status) }
+{
+    let tickets = submit_all(rt, alloc, service.table(), entries)?;
+    run(rt, alloc, service, crew, workers, slice)?;
+    let Told { text, refused } = tell_all(rt, alloc, service.table(), tickets)?;
+    Ok(Answer {
+        text,
+        status: status_of(refused),
+    })
+}
+
 /// The text and the status of a batch, by a service whose ledgers the type parameters name.
 fn answer_by<R: Ledger + Send + Sync, S: Ledger + Send + Sync, W: Threads + Wait + Sync>(
     rt: &W,
@@ -61,14 +83,12 @@ fn answer_by<R: Ledger + Send + Sync, S: Ledger + Send + Sync, W: Threads + Wait
     requires whole { AreWhole rows.parts steps.parts }
     ensures { IfOk result (λ a. IsBatchTold (map entry_of entries.items) a.text.items a.status) }
 {
-    let (service, mut crew, _seat) = Service::<R, S>::new(alloc, rows, steps)?;
-    let tickets = submit_all(rt, alloc, service.table(), entries)?;
-    run(rt, alloc, &service, &mut crew, workers, slice)?;
-    let Told { text, refused } = tell_all(rt, alloc, service.table(), tickets)?;
-    Ok(Answer {
-        text,
-        status: status_of(refused),
-    })
+    let (service, mut crew, seat) = Service::<R, S>::new(alloc, rows, steps)?;
+    let answer = answer_over(rt, alloc, &service, &mut crew, workers, slice, entries);
+    drop(service);
+    drop(crew);
+    drop(seat);
+    answer
 }
 
 /// The text and the status of a batch: its jobs are submitted to a new service, so many workers run them in slices of so many

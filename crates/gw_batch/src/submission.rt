@@ -38,7 +38,10 @@ fn submitted<R: Ledger, S: Ledger, W: Wait>(
 {
     match table.lock(rt).submit(alloc, user(number), spec) {
         Ok(pass) => Ticket::Submitted(pass),
-        Err((_, fault)) => Ticket::Refused(refusal_of_job(fault)),
+        Err((spec, fault)) => {
+            drop(spec);
+            Ticket::Refused(refusal_of_job(fault))
+        }
     }
 }
 

@@ -14,21 +14,31 @@ use std::alloc::{AllocError, Global};
 /// More steps than any job makes.
 const ALL: u64 = 1 << 41;
 
+/// How many statements a text has.
+fn statements_in(alloc: Global, source: &Source) -> Result<u64, Stop> {
+    let model = model_of(alloc, source)?;
+    let statements = model.statements.len() as u64;
+    drop(model);
+    Ok(statements)
+}
+
+/// The spelling of the object.
+fn spelling_of(alloc: Global, source: &Source) -> Result<Vec<u8>, Stop> {
+    let object = object_of(alloc, source)?;
+    let bytes = write(alloc, &object);
+    drop(object);
+    Ok(bytes?)
+}
+
 /// Reads a text or an object: how many statements, or bytes, it has.
 fn read_source(alloc: Global, out: &mut Vec<u8>, source: &Source) -> Result<(), Stop> {
     match source.kind {
         Kind::Text if source.splices.is_empty() && source.patches.is_empty() => {
-            let model = model_of(alloc, source)?;
-            put_number(
-                alloc,
-                out,
-                b"read, statements ",
-                model.statements.len() as u64,
-            )?;
+            let statements = statements_in(alloc, source)?;
+            put_number(alloc, out, b"read, statements ", statements)?;
         }
         _ => {
-            let object = object_of(alloc, source)?;
-            let bytes = write(alloc, &object)?;
+            let bytes = spelling_of(alloc, source)?;
             put_number(alloc, out, b"read, bytes ", bytes.len() as u64)?;
         }
     }
@@ -38,7 +48,7 @@ fn read_source(alloc: Global, out: &mut Vec<u8>, source: &Source) -> Result<(), 
 
 /// Assembles a text.
 fn assemble_source(alloc: Global, out: &mut Vec<u8>, source: &Source) -> Result<(), Stop> {
-    let _object = assembled(alloc, source)?;
+    drop(assembled(alloc, source)?);
     out.extend_from_slice(b"assembled\n")?;
     Ok(())
 }
@@ -51,6 +61,7 @@ fn check_source(alloc: Global, out: &mut Vec<u8>, source: &Source) -> Result<(),
         procedures: verified.procedures(),
         weight: verified.heaviest(),
     };
+    drop(verified);
     let line = format!(in alloc; "{acceptance}\n")?;
     out.extend_from_slice(line.as_bytes())?;
     Ok(())
@@ -64,8 +75,7 @@ fn show_bytes(
     from: usize,
     to: usize,
 ) -> Result<(), Stop> {
-    let object = object_of(alloc, source)?;
-    let bytes = write(alloc, &object)?;
+    let bytes = spelling_of(alloc, source)?;
     match bytes.as_slice().get(from..to) {
         Some(part) => {
             put_hex(out, part)?;
@@ -79,14 +89,17 @@ fn show_bytes(
 /// The weights of an object.
 fn show_weights(alloc: Global, out: &mut Vec<u8>, source: &Source) -> Result<(), Stop> {
     let object = object_of(alloc, source)?;
-    put_weights(alloc, out, object.parts())?;
-    Ok(())
+    let shown = put_weights(alloc, out, object.parts());
+    drop(object);
+    Ok(shown?)
 }
 
 /// The row of a block or of a user chain.
 fn show_row(alloc: Global, out: &mut Vec<u8>, source: &Source, name: &[u8]) -> Result<(), Stop> {
     let object = object_of(alloc, source)?;
-    put_row_at(alloc, out, &object, name)
+    let shown = put_row_at(alloc, out, &object, name);
+    drop(object);
+    shown
 }
 
 /// Runs a job to its end, and reports it.
@@ -163,8 +176,9 @@ fn with_job(
     act: &JobAct,
 ) -> Result<(), Stop> {
     let mut sim = job_of(alloc, source, making)?;
-    act_on_job(alloc, out, &mut sim, act)?;
-    Ok(())
+    let done = act_on_job(alloc, out, &mut sim, act);
+    drop(sim);
+    Ok(done?)
 }
 
 /// Acts on the job of an object's own seeds and count.

@@ -26,8 +26,14 @@ fn spec_of(alloc: Global, verified: Verified, making: Making) -> Result<Spec, St
     let seeds: &[u32] = if making.seed == 0 { &[] } else { &given };
     match Spec::new(alloc, verified, seeds, making.count, making.budget) {
         Ok(spec) => Ok(spec),
-        Err((_, StartFault::Memory)) => Err(Stop::Memory),
-        Err((_, fault)) => Err(stop_of(fault)),
+        Err((verified, StartFault::Memory)) => {
+            drop(verified);
+            Err(Stop::Memory)
+        }
+        Err((verified, fault)) => {
+            drop(verified);
+            Err(stop_of(fault))
+        }
     }
 }
 
@@ -43,7 +49,10 @@ pub fn job_of(alloc: Global, source: &Source, making: Making) -> Result<Sim, Sto
     let spec = spec_of(alloc, verified, making)?;
     match Sim::start(alloc, spec) {
         Ok(sim) => Ok(sim),
-        Err(_) => Err(Stop::Memory),
+        Err((spec, _)) => {
+            drop(spec);
+            Err(Stop::Memory)
+        }
     }
 }
 

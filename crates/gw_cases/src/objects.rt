@@ -44,8 +44,9 @@ pub fn model_of(alloc: Global, source: &Source) -> Result<Model, Stop> {
 /// The object that a text becomes.
 pub fn assembled(alloc: Global, source: &Source) -> Result<Object, Stop> {
     let model = model_of(alloc, source)?;
-    let verified = assemble(alloc, &model)?;
-    Ok(verified.into_object())
+    let verified = assemble(alloc, &model);
+    drop(model);
+    Ok(verified?.into_object())
 }
 
 /// The object as the source gives it, without patches.
@@ -69,7 +70,10 @@ fn patch(alloc: Global, parts: &mut Parts, patches: &[&[u8]]) -> Result<(), Stop
 fn built(parts: Parts) -> Result<Object, Stop> {
     match build(parts) {
         Ok(object) => Ok(object),
-        Err((_, fault)) => Err(Stop::from(fault)),
+        Err((parts, fault)) => {
+            drop(parts);
+            Err(Stop::from(fault))
+        }
     }
 }
 
@@ -78,7 +82,10 @@ fn patched(alloc: Global, object: Object, patches: &[&[u8]]) -> Result<Object, S
     let mut parts = object.into_parts();
     match patch(alloc, &mut parts, patches) {
         Ok(()) => built(parts),
-        Err(stop) => Err(stop),
+        Err(stop) => {
+            drop(parts);
+            Err(stop)
+        }
     }
 }
 
@@ -114,7 +121,9 @@ pub fn object_of(alloc: Global, source: &Source) -> Result<Object, Stop> {
     if source.splices.is_empty() {
         Ok(object)
     } else {
-        spliced(alloc, &object, source.splices.as_slice())
+        let spliced = spliced(alloc, &object, source.splices.as_slice());
+        drop(object);
+        spliced
     }
 }
 
@@ -123,6 +132,9 @@ pub fn verified_of(alloc: Global, source: &Source) -> Result<Verified, Stop> {
     let object = object_of(alloc, source)?;
     match verify(alloc, object) {
         Ok(verified) => Ok(verified),
-        Err((_, fault)) => Err(Stop::from(fault)),
+        Err((object, fault)) => {
+            drop(object);
+            Err(Stop::from(fault))
+        }
     }
 }

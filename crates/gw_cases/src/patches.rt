@@ -8,7 +8,7 @@ use gw_block_bytes::BlockFormat;
 use gw_blocks::{Block, Units};
 use gw_code::Procedure;
 use gw_code_bytes::CodeFormat;
-use gw_fields::Spelled;
+use gw_field_bytes::Spelled;
 use gw_object::{Entity, Items, Parts, ReturnRow, TableKind, TableParameter, TableState};
 use std::alloc::{AllocError, Global};
 use std::mem;
@@ -22,7 +22,7 @@ fn put_at<T: Drop>(
 ) -> Result<(), Stop> {
     let mut list = mem::replace(items, Items::from_vec(Vec::new(alloc))).into_vec();
     let found = put_in(&mut list, place, value);
-    *items = Items::from_vec(list);
+    drop(mem::replace(items, Items::from_vec(list)));
     found
 }
 
@@ -30,7 +30,7 @@ fn put_at<T: Drop>(
 fn put_in<T: Drop>(list: &mut Vec<T>, place: usize, value: T) -> Result<(), Stop> {
     match list.get_mut(place) {
         Some(slot) => {
-            *slot = value;
+            drop(mem::replace(slot, value));
             Ok(())
         }
         None => Err(Stop::Unknown),
@@ -41,7 +41,7 @@ fn put_in<T: Drop>(list: &mut Vec<T>, place: usize, value: T) -> Result<(), Stop
 fn push<T: Drop>(alloc: Global, items: &mut Items<T>, value: T) -> Result<(), AllocError> {
     let mut list = mem::replace(items, Items::from_vec(Vec::new(alloc))).into_vec();
     let found = list.push(value).map_err(AllocError::from);
-    *items = Items::from_vec(list);
+    drop(mem::replace(items, Items::from_vec(list)));
     found
 }
 
@@ -148,11 +148,11 @@ fn changed_row(
 ) -> Result<(), Stop> {
     match words {
         [b"none"] => {
-            *slot = None;
+            drop(mem::replace(slot, None));
             Ok(())
         }
         [b"empty"] => {
-            *slot = Some(empty_row(alloc));
+            drop(mem::replace(slot, Some(empty_row(alloc))));
             Ok(())
         }
         _ => match slot {
@@ -175,7 +175,7 @@ fn patch_row(
         Some(slot) => changed_row(alloc, slot, entities, words),
         None => Err(Stop::Unknown),
     };
-    *rows = Items::from_vec(list);
+    drop(mem::replace(rows, Items::from_vec(list)));
     found
 }
 
@@ -243,7 +243,8 @@ pub fn apply(alloc: Global, parts: &mut Parts, words: &[&[u8]]) -> Result<(), St
             Ok(())
         }
         [b"seeds", seeds @ ..] => {
-            parts.seeds = Items::from_vec(numbers_u32(alloc, seeds)?);
+            let seeds = Items::from_vec(numbers_u32(alloc, seeds)?);
+            drop(mem::replace(&mut parts.seeds, seeds));
             Ok(())
         }
         [b"block", block, rest @ ..] => { patch_block(alloc, parts, block_place(block)?, rest) }

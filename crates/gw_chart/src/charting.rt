@@ -31,8 +31,15 @@ fn end_of(alloc: Global, spec: Spec) -> Result<Time, Memory>
     ensures { IfOk result (λ end. EndsAt spec end.0) }
 {
     match Sim::start(alloc, spec) {
-        Ok(mut sim) => end_of_run(&mut sim),
-        Err(_) => Err(Memory),
+        Ok(mut sim) => {
+            let end = end_of_run(&mut sim);
+            drop(sim);
+            end
+        }
+        Err((spec, _)) => {
+            drop(spec);
+            Err(Memory)
+        }
     }
 }
 
@@ -70,8 +77,15 @@ fn chart_to(alloc: Global, spec: Spec, end: Time) -> Result<Answer, Memory>
     ensures { IfOk result (λ a. (a.status ≡ ended_status) × IsChart spec a.text.items) }
 {
     match Sim::start(alloc, spec) {
-        Ok(mut sim) => chart_of_run(alloc, &mut sim, end),
-        Err(_) => Err(Memory),
+        Ok(mut sim) => {
+            let answer = chart_of_run(alloc, &mut sim, end);
+            drop(sim);
+            answer
+        }
+        Err((spec, _)) => {
+            drop(spec);
+            Err(Memory)
+        }
     }
 }
 
@@ -80,8 +94,17 @@ fn chart_of_job(alloc: Global, spec: Spec) -> Result<Answer, Memory>
     requires { spec.budget ≡ BUDGET }
     ensures { IfOk result (λ a. (a.status ≡ ended_status) × IsChart spec a.text.items) }
 {
-    let end = end_of(alloc, spec.share()?)?;
-    chart_to(alloc, spec, end)
+    let end = match spec.share() {
+        Ok(shared) => end_of(alloc, shared),
+        Err(memory) => Err(memory),
+    };
+    match end {
+        Ok(end) => chart_to(alloc, spec, end),
+        Err(memory) => {
+            drop(spec);
+            Err(memory)
+        }
+    }
 }
 
 /// The charts of a model text: an SVG document with what was in each facility, storage and queue over a whole run, and with

@@ -47,7 +47,11 @@ fn list_object(alloc: Global, object: &[u8]) -> Result<Answer, Memory>
     ensures { IfOk result (λ a. IsListedObject object.now a.text.items a.status) }
 {
     match accepted_in(alloc, object) {
-        Ok(verified) => listed(alloc, &verified, &[], &Sources::none(alloc)),
+        Ok(verified) => {
+            let answer = listed(alloc, &verified, &[], &Sources::none(alloc));
+            drop(verified);
+            answer
+        }
         Err(NoJob::Refused(refusal)) => refused(alloc, refusal),
         Err(NoJob::OutOfMemory) => Err(Memory),
     }
@@ -73,7 +77,11 @@ fn list_model(alloc: Global, text: &[u8], model: &Model) -> Result<Answer, Memor
     ensures { IfOk result (λ a. IsListedModel model.now.statements.items a.text.items a.status) }
 {
     match assemble(alloc, model) {
-        Ok(verified) => listed_with_lines(alloc, &verified, text, model),
+        Ok(verified) => {
+            let answer = listed_with_lines(alloc, &verified, text, model);
+            drop(verified);
+            answer
+        }
         Err(fault) => refused_text(alloc, fault),
     }
 }
@@ -83,7 +91,11 @@ fn list_text(alloc: Global, text: &[u8]) -> Result<Answer, Memory>
     ensures { IfOk result (λ a. IsListedText text.now a.text.items a.status) }
 {
     match parse(alloc, text) {
-        Ok(model) => list_model(alloc, text, &model),
+        Ok(model) => {
+            let answer = list_model(alloc, text, &model);
+            drop(model);
+            answer
+        }
         Err(fault) => refused_text(alloc, fault),
     }
 }

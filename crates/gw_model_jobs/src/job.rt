@@ -31,7 +31,10 @@ fn spec_of_object(alloc: Global, verified: Verified) -> Result<Spec, NoJob>
 {
     match Spec::new(alloc, verified, &[], 0, BUDGET) {
         Ok(spec) => Ok(spec),
-        Err(_) => Err(NoJob::OutOfMemory),
+        Err((verified, _)) => {
+            drop(verified);
+            Err(NoJob::OutOfMemory)
+        }
     }
 }
 
@@ -54,7 +57,11 @@ pub fn spec_of_text(alloc: Global, text: &[u8]) -> Result<Spec, NoJob>
     ensures budget { IfOk result (λ spec. spec.budget ≡ BUDGET) }
 {
     match parse(alloc, text) {
-        Ok(model) => spec_of_model(alloc, &model),
+        Ok(model) => {
+            let spec = spec_of_model(alloc, &model);
+            drop(model);
+            spec
+        }
         Err(fault) => Err(no_job(fault)),
     }
 }

@@ -27,8 +27,14 @@ fn seeded(alloc: Global, verified: Verified, run: u32, count: u64) -> Result<Spe
     let seeds = seeds_of(run);
     match Spec::new(alloc, verified, &seeds, count, BUDGET) {
         Ok(spec) => Ok(spec),
-        Err((_, StartFault::Memory)) => Err(NoJob::OutOfMemory),
-        Err((_, fault)) => Err(NoJob::Refused(Refusal::from(fault))),
+        Err((verified, StartFault::Memory)) => {
+            drop(verified);
+            Err(NoJob::OutOfMemory)
+        }
+        Err((verified, fault)) => {
+            drop(verified);
+            Err(NoJob::Refused(Refusal::from(fault)))
+        }
     }
 }
 

@@ -56,7 +56,10 @@ fn submit_run<R: Ledger, S: Ledger, W: Wait>(
     let user = u64::from(run / RUNS_OF_A_USER);
     match table.lock(rt).submit(alloc, user, spec) {
         Ok(pass) => Ok(pass),
-        Err((_, fault)) => Err(refused_by(fault)),
+        Err((spec, fault)) => {
+            drop(spec);
+            Err(refused_by(fault))
+        }
     }
 }
 
@@ -185,7 +188,13 @@ fn runs_by<R: Ledger + Send + Sync, S: Ledger + Send + Sync, W: Threads + Wait +
     ensures all { IfOk result (λ reports. vec_len reports ≡ runs) }
 {
     match Service::<R, S>::new(alloc, rows, steps) {
-        Ok((service, mut crew, _seat)) => all_runs(rt, alloc, &service, &mut crew, setup, runs),
+        Ok((service, mut crew, seat)) => {
+            let reports = all_runs(rt, alloc, &service, &mut crew, setup, runs);
+            drop(service);
+            drop(crew);
+            drop(seat);
+            reports
+        }
         Err(_) => Err(NoJob::OutOfMemory),
     }
 }

@@ -104,8 +104,15 @@ fn trace_of_job(alloc: Global, spec: Spec, window: Window) -> Result<Answer, Mem
         × IsTrace window.from.0 window.to.0 spec a.text.items) }
 {
     match Sim::start(alloc, spec) {
-        Ok(mut sim) => trace_of_run(alloc, &mut sim, window),
-        Err(_) => Err(Memory),
+        Ok(mut sim) => {
+            let answer = trace_of_run(alloc, &mut sim, window);
+            drop(sim);
+            answer
+        }
+        Err((spec, _)) => {
+            drop(spec);
+            Err(Memory)
+        }
     }
 }
 

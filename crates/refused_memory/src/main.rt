@@ -85,7 +85,25 @@ fn are_done<R: Ledger + Send + Sync, S: Ledger + Send + Sync, W: Threads + Wait 
         && is_reported(rt, alloc, service, &passes[1])
 }
 
-/// How two workers did, and whether all was kept: no row is out then, and both jobs are done later.
+/// How two workers of a service did, and whether all was kept: no row is out then, and both jobs are done later.
+fn keeps_both<R: Ledger + Send + Sync, S: Ledger + Send + Sync, W: Threads + Wait + Sync>(
+    rt: &W,
+    alloc: Global,
+    service: &Service<R, S>,
+    crew: &mut Crew<R, S>,
+) -> Result<(Outcome, bool), Memory>
+    requires { crew.old.board ≡ service.now }
+{
+    let first = new_pass(rt, alloc, service)?;
+    let second = new_pass(rt, alloc, service)?;
+    let passes = [first, second];
+    let outcome = outcome_of(rt, alloc, service, crew);
+    let between = is_whole(rt, service, crew);
+    let kept = between && are_done(rt, alloc, service, crew, &passes);
+    Ok((outcome, kept))
+}
+
+/// The same of a service whose ledgers the type parameters name.
 fn keeps_all<R: Ledger + Send + Sync, S: Ledger + Send + Sync, W: Threads + Wait + Sync>(
     rt: &W,
     alloc: Global,
@@ -96,14 +114,12 @@ fn keeps_all<R: Ledger + Send + Sync, S: Ledger + Send + Sync, W: Threads + Wait
     requires parts { (rows.parts ≡ R.parts) × (steps.parts ≡ S.parts) }
     requires whole { AreWhole rows.parts steps.parts }
 {
-    let (service, mut crew, _seat) = Service::<R, S>::new(alloc, rows, steps)?;
-    let first = new_pass(rt, alloc, &service)?;
-    let second = new_pass(rt, alloc, &service)?;
-    let passes = [first, second];
-    let outcome = outcome_of(rt, alloc, &service, &mut crew);
-    let between = is_whole(rt, &service, &mut crew);
-    let kept = between && are_done(rt, alloc, &service, &mut crew, &passes);
-    Ok((outcome, kept))
+    let (service, mut crew, seat) = Service::<R, S>::new(alloc, rows, steps)?;
+    let outcome = keeps_both(rt, alloc, &service, &mut crew);
+    drop(service);
+    drop(crew);
+    drop(seat);
+    outcome
 }
 
 /// The same of ledgers of its own.

@@ -25,6 +25,7 @@ pub fn model_of(alloc: Global, text: &[u8], refusals: &mut Refusals) -> Result<M
     if !lacks_memory(&first) {
         return first;
     }
+    drop(first);
     count(&mut refusals.parse);
     parse(alloc, text)
 }
@@ -35,6 +36,7 @@ pub fn assembled(alloc: Global, model: &Model, refusals: &mut Refusals) -> Resul
     if !lacks_memory(&first) {
         return first;
     }
+    drop(first);
     count(&mut refusals.assemble);
     assemble(alloc, model)
 }
@@ -60,6 +62,7 @@ pub fn object_of(alloc: Global, bytes: &[u8], refusals: &mut Refusals) -> Result
     if !lacks_memory(&first) {
         return first;
     }
+    drop(first);
     count(&mut refusals.read);
     read(alloc, bytes)
 }
@@ -70,12 +73,16 @@ pub fn verified(alloc: Global, object: Object, refusals: &mut Refusals) -> Resul
         Ok(verified) => Ok(verified),
         Err((object, fault)) => {
             if fault.code != codes::MEMORY {
+                drop(object);
                 return Err(fault);
             }
             count(&mut refusals.verify);
             match verify(alloc, object) {
                 Ok(verified) => Ok(verified),
-                Err((_, fault)) => Err(fault),
+                Err((object, fault)) => {
+                    drop(object);
+                    Err(fault)
+                }
             }
         }
     }
@@ -89,10 +96,16 @@ pub fn job_of(alloc: Global, verified: Verified, refusals: &mut Refusals) -> Res
             count(&mut refusals.spec);
             match Spec::new(alloc, verified, &[], 0, BUDGET) {
                 Ok(spec) => Ok(spec),
-                Err(_) => Err(Memory),
+                Err((verified, _)) => {
+                    drop(verified);
+                    Err(Memory)
+                }
             }
         }
-        Err(_) => Err(Memory),
+        Err((verified, _)) => {
+            drop(verified);
+            Err(Memory)
+        }
     }
 }
 
@@ -104,7 +117,10 @@ pub fn started(alloc: Global, spec: Spec, refusals: &mut Refusals) -> Result<Sim
             count(&mut refusals.start);
             match Sim::start(alloc, spec) {
                 Ok(sim) => Ok(sim),
-                Err(_) => Err(Memory),
+                Err((spec, _)) => {
+                    drop(spec);
+                    Err(Memory)
+                }
             }
         }
     }

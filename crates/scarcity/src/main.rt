@@ -30,7 +30,9 @@ fn report_of_verified(
 ) -> Result<Vec<u8>, Memory> {
     let spec = job_of(alloc, verified, refusals)?;
     let mut sim = started(alloc, spec, refusals)?;
-    report_of_sim(alloc, &mut sim, refusals)
+    let report = report_of_sim(alloc, &mut sim, refusals);
+    drop(sim);
+    report
 }
 
 /// The report of the object that these bytes spell. One that is refused has none.
@@ -47,8 +49,12 @@ fn report_of_bytes(
 /// The spelling of the object that a text becomes. A text that is refused has none.
 fn bytes_of_text(alloc: Global, text: &[u8], refusals: &mut Refusals) -> Result<Vec<u8>, Memory> {
     let model = model_of(alloc, text, refusals).ok().ok_or(Memory)?;
-    let verified = assembled(alloc, &model, refusals).ok().ok_or(Memory)?;
-    bytes_of(alloc, verified.object(), refusals)
+    let assembled = assembled(alloc, &model, refusals);
+    drop(model);
+    let verified = assembled.ok().ok_or(Memory)?;
+    let bytes = bytes_of(alloc, verified.object(), refusals);
+    drop(verified);
+    bytes
 }
 
 /// The report of a text, by way of the bytes of its object.

@@ -1,5 +1,5 @@
 use Rattle.gw_batch.proofs.Told.{parts_of}
-use Rattle.gw_batch.proofs.answer.answer_by.Goals as goal
+use Rattle.gw_batch.proofs.answer.answer_over.Goals as goal
 
 pub returns : goal.returns
 returns g c =
