@@ -249,7 +249,7 @@ fn put_long_count<R: Receiver>(to: &mut R, count: usize) -> Result<(), R::Refusa
 }
 
 /// A count within two limits.
-#[tactic(auto, unfolding(crate::specs::Fields::count_read))]
+#[tactic(auto, unfolding(gw_fields::specs::Fields::count_read))]
 pub fn read_count(
     alloc: Global,
     bytes: &[u8],
