@@ -1,5 +1,5 @@
 -- How a model's statements stand on the lines of its text, and where a text is refused.
-use Rattle.std.specs.Prelude.{◌≡◌, ℕ, ◌+◌, ◌<◌, ◌≤◌, List, [], ◌∷◌, ◌++◌, length, slice_index_or, Bool, true, false, ◌&&◌, nat_le, ◌⊎◌, Option, Some, None, Result, MatchResult}
+use Rattle.std.specs.Prelude.{◌≡◌, ℕ, ◌+◌, ◌-◌, ◌<◌, ◌≤◌, List, [], ◌∷◌, ◌++◌, length, slice_index_or, Bool, true, false, ◌&&◌, nat_le, ◌⊎◌, Option, Some, None, Result, MatchResult, AllPairs, count_by, option_map, string_bytes, bytes_eq}
 use Rattle.std.specs.List.{All, list_any}
 use Rattle.gw_object.specs.declared.fault.Fault.{Fault}
 use Rattle.gw_object.specs.declared.fault.Place.{Place}
@@ -7,7 +7,9 @@ use Rattle.gw_object.specs.declared.fault.Place.TheVariants.{Byte, Entity, Code,
 use Rattle.gw_text_tokens.specs.declared.words.Word.{Word}
 use Rattle.gw_text_tokens.specs.declared.words.Word.TheVariants as words
 use Rattle.gw_text_tokens.specs.Codes as codes
-use Rattle.gw_text_tokens.specs.Lines.{is_skipped}
+use Rattle.gw_text_tokens.specs.Heads.{head_word}
+use Rattle.gw_text_tokens.specs.Lines.{is_skipped, IsShort, AreShort}
+use Rattle.gw_text_tokens.specs.Words.{is_block, is_start}
 use Rattle.gw_text.specs.declared.model.Statement.{Statement}
 use Rattle.gw_text.specs.declared.reader.Read.{Read}
 
@@ -25,10 +27,23 @@ IsSingle word line last = (last ≡ line) ⊎ (word ≡ words.Function) ⊎ (wor
 abbrev pub GoesOnAsItMay : Statement → Type 0
 GoesOnAsItMay s = IsSingle s.word s.line s.last_line
 
+-- its word is the one that the head of its first line spells
+abbrev pub HasItsWord : List (List ℕ) → Statement → Type 0
+HasItsWord lines s = head_word (slice_index_or lines (s.line - 1) []) ≡ Some s.word
+
+-- a statement begins on the line of this number, from 0
+pub record BeginsAt (lines : List (List ℕ)) (i : ℕ) (s : Statement) : Type 0 where
+  pub line : s.line ≡ i + 1
+  pub order : s.line ≤ s.last_line
+  pub within : s.last_line ≤ length lines
+  pub single : GoesOnAsItMay s
+  pub word : HasItsWord lines s
+  pub short : AreShort lines i (s.last_line - 1)
+
 -- what is found on the line of this number, from 0: nothing where it is skipped, or a statement that begins there
 abbrev pub IsFoundAt : List (List ℕ) → ℕ → Option Statement → Type 0
-IsFoundAt lines i None = is_skipped (slice_index_or lines i []) ≡ true
-IsFoundAt lines i (Some s) = (s.line ≡ i + 1) × (s.line ≤ s.last_line) × (s.last_line ≤ length lines) × GoesOnAsItMay s
+IsFoundAt lines i None = (is_skipped (slice_index_or lines i []) ≡ true) × IsShort (slice_index_or lines i [])
+IsFoundAt lines i (Some s) = BeginsAt lines i s
 
 -- the statements with the one that was found, if there is one
 abbrev pub with_found : Option Statement → List Statement → List Statement
@@ -53,14 +68,52 @@ abbrev pub IsInOrder : ℕ → List Statement → Type 0
 IsInOrder before [] = Unit {0}
 IsInOrder before (s ∷ statements) = (before < s.line) × (s.line ≤ s.last_line) × IsInOrder s.last_line statements
 
+-- LABELS, BLOCKS, START
+
+-- the label of a statement, if it has one
+abbrev pub label_of : Statement → Option (List ℕ)
+label_of s = option_map string_bytes s.label
+
+-- whether a label is this one
+abbrev pub is_label : List ℕ → Option (List ℕ) → Bool
+is_label label None = false
+is_label label (Some other) = bytes_eq other label
+
+abbrev pub has_label : List ℕ → Statement → Bool
+has_label label s = is_label label (label_of s)
+
+-- two statements don't have one label
+abbrev pub LabelsDiffer : Statement → Statement → Type 0
+LabelsDiffer s t = (label : List ℕ) → label_of t ≡ Some label → has_label label s ≡ false
+
+abbrev pub is_block_statement : Statement → Bool
+is_block_statement s = is_block s.word
+
+abbrev pub is_start_statement : Statement → Bool
+is_start_statement s = is_start s.word
+
+-- a statement of this word may stand behind a START: it is neither a block nor another START
+abbrev pub MayFollowStart : Word → Type 0
+MayFollowStart word = (is_block word ≡ false) × (is_start word ≡ false)
+
+-- a statement may stand behind another
+abbrev pub MayFollow : Statement → Statement → Type 0
+MayFollow s t = is_start_statement s ≡ true → MayFollowStart t.word
+
 -- how the statements of a model stand on the lines of its text: in order, on lines of the text, on one line each but for
--- FUNCTION and PROCEDURE; and on each line that holds a statement there is one
+-- FUNCTION and PROCEDURE, each of the word that its line spells; on each line that holds a statement there is one; lines are short,
+-- labels differ, there are at most 4,096 blocks, and no block and no other START stands behind a START
 pub record StandOn (lines : List (List ℕ)) (statements : List Statement) : Type 0 where
   pub order : IsInOrder 0 statements
   pub within : All (λ (s : Statement). s.last_line ≤ length lines) statements
   pub single : All GoesOnAsItMay statements
   pub none_skipped : (i : ℕ) → i < length lines → is_skipped (slice_index_or lines i []) ≡ false
       → list_any (stands_on (i + 1)) statements ≡ true
+  pub words : All (HasItsWord lines) statements
+  pub short : All IsShort lines
+  pub labels : AllPairs LabelsDiffer statements
+  pub few : count_by is_block_statement statements ≤ 4096
+  pub started : AllPairs MayFollow statements
 
 -- REFUSALS
 

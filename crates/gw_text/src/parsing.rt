@@ -1,7 +1,8 @@
 //! A text, statement by statement.
 
-ghost use Rattle.std.specs.Prelude.{◌≡◌, ◌<◌, ◌+◌, ◌^◌, ◌∷◌, ◌++◌, ℕ, [], map, length, IfOk, IfErr, OnOk};
+ghost use Rattle.std.specs.Prelude.{◌≡◌, ◌<◌, ◌≤◌, ◌+◌, ◌^◌, ◌∷◌, ◌++◌, ℕ, [], map, length, IfOk, IfErr, OnOk};
 ghost use Rattle.std.specs.Str.Lines.{lines as lines_of_text};
+ghost use Rattle.gw_text.specs.Knowing.{Knows, KnowsMore};
 ghost use Rattle.gw_text.specs.Reading.{IsFoundAt, with_found, last_with_found, StandOn, IsRefused, too_long};
 
 use crate::model::{Model, Statement};
@@ -11,7 +12,6 @@ use gw_text_statements::statements::head_of;
 use gw_text_tokens::codes;
 use gw_text_tokens::faults::{Stop, Where};
 use gw_text_tokens::lines::{check_length, is_skipped, line_at, lines_of};
-use gw_text_tokens::tokens::tokens_of;
 use gw_text_tokens::words::Word;
 use std::alloc::{AllocError, Global};
 
@@ -22,7 +22,9 @@ const MOST_BYTES: usize = 1048576;
 fn statement_at(reader: &mut Reader, lines: &[&[u8]], i: usize) -> Result<Option<Statement>, Where>
     requires within { i < length lines.now }
     requires few { length lines.now < 2 ^ 32 }
+    requires blocks { reader.old.blocks ≤ 4096 }
     ensures found { IfOk result (λ found. IsFoundAt (map (λ l. l.now) lines.now) i found) }
+    ensures known { IfOk result (KnowsMore reader.old reader.new) }
     ensures refused { IfErr result (λ place. place.0 < length lines.now) }
 {
     let line = line_at(lines, i);
@@ -32,10 +34,7 @@ fn statement_at(reader: &mut Reader, lines: &[&[u8]], i: usize) -> Result<Option
     if is_skipped(line) {
         return Ok(None);
     }
-    let Ok(tokens) = tokens_of(reader.alloc, line) else {
-        return Err((i, Stop::Memory));
-    };
-    match head_of(tokens.as_slice()) {
+    match head_of(line) {
         Ok(head) => {
             let read = reader.statement(&head, lines, i)?;
             Ok(Some(made(i, head.word, read)))
@@ -51,6 +50,7 @@ fn made(line: usize, word: Word, read: Read) -> Statement
     ensures line { result.line ≡ line + 1 }
     ensures last { result.last_line ≡ read.last + 1 }
     ensures word { result.word ≡ word }
+    ensures label { result.label ≡ read.first.label }
 {
     Statement {
         line: (line + 1) as u32,
@@ -87,7 +87,9 @@ const OUT_OF_MEMORY: Fault = Fault {
 fn found_at(reader: &mut Reader, lines: &[&[u8]], i: usize) -> Result<Option<Statement>, Fault>
     requires within { i < length lines.now }
     requires few { length lines.now < 2 ^ 32 }
+    requires blocks { reader.old.blocks ≤ 4096 }
     ensures found { IfOk result (λ found. IsFoundAt (map (λ l. l.now) lines.now) i found) }
+    ensures known { IfOk result (KnowsMore reader.old reader.new) }
     ensures refused { IfErr result (IsRefused (length lines.now)) }
 {
     match statement_at(reader, lines, i) {
@@ -131,6 +133,29 @@ fn add(
     }
 }
 
+/// Reads the statements on these lines, behind none.
+fn read_lines(
+    reader: &mut Reader,
+    lines: &[&[u8]],
+    statements: &mut Vec<Statement>,
+) -> Result<(), Fault>
+    requires few { length lines.now < 2 ^ 32 }
+    requires known { Knows reader.old [] }
+    requires none { statements.old.items ≡ [] }
+    ensures read { OnOk result (StandOn (map (λ l. l.now) lines.now) statements.new.items) }
+    ensures refused { IfErr result (IsRefused (length lines.now)) }
+{
+    let mut next: usize = 0;
+    for i in 0..lines.len() {
+        if i < next {
+            continue;
+        }
+        let found = found_at(reader, lines, i)?;
+        add(statements, &mut next, found)?;
+    }
+    Ok(())
+}
+
 /// The statements on these lines.
 fn read_all(alloc: Global, lines: &[&[u8]]) -> Result<Vec<Statement>, Fault>
     requires { length lines.now < 2 ^ 32 }
@@ -139,15 +164,15 @@ fn read_all(alloc: Global, lines: &[&[u8]]) -> Result<Vec<Statement>, Fault>
 {
     let mut reader = Reader::new(alloc);
     let mut statements = Vec::new(alloc);
-    let mut next: usize = 0;
-    for i in 0..lines.len() {
-        if i < next {
-            continue;
+    let read = read_lines(&mut reader, lines, &mut statements);
+    drop(reader);
+    match read {
+        Ok(()) => Ok(statements),
+        Err(fault) => {
+            drop(statements);
+            Err(fault)
         }
-        let found = found_at(&mut reader, lines, i)?;
-        add(&mut statements, &mut next, found)?;
     }
-    Ok(statements)
 }
 
 /// Reads a model text of at most 1 MiB. It is refused with the first line at fault, and with the lowest code there: 70 Length,

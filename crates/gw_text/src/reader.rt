@@ -1,6 +1,8 @@
 //! Statements, by their heads.
 
-ghost use Rattle.std.specs.Prelude.{◌≡◌, ◌<◌, length, MatchResult};
+ghost use Rattle.std.specs.Prelude.{◌≡◌, ◌<◌, ◌≤◌, [], length, map, option_map, slice_index_or, string_bytes, true, None, Some, Ok, IfOk, MatchResult};
+ghost use Rattle.gw_text_tokens.specs.Lines.{IsShort, AreShort};
+ghost use Rattle.gw_text.specs.Knowing.{Labelled, Counts, Admits, Knows};
 ghost use Rattle.gw_text.specs.Reading.{StaysWithin, StaysSingle};
 
 use crate::model::Body;
@@ -11,6 +13,7 @@ use gw_text_statements::functions::{function_of, read_points};
 use gw_text_statements::statements::{Head, label_of, modifier_of, operands_by_word};
 use gw_text_statements::{Modifier, Operand};
 use gw_text_tokens::faults::{Lowest, Refusal, Stop, Where};
+use gw_text_tokens::tokens::tokens_of;
 use gw_text_tokens::words::Word;
 use std::alloc::{AllocError, Global};
 use std::collections::BTreeSet;
@@ -50,7 +53,9 @@ pub(crate) struct Read {
 
 impl Reader {
     /// Before the first line.
-    pub(crate) fn new(alloc: Global) -> Reader {
+    pub(crate) fn new(alloc: Global) -> Reader
+        ensures { Knows result [] }
+    {
         Reader {
             alloc,
             expressions: Expressions::new(alloc),
@@ -61,11 +66,12 @@ impl Reader {
     }
 
     /// The label of a statement. Refusals are noted.
-    fn label(
-        &mut self,
-        lowest: &mut Lowest,
-        head: &Head<'_, '_>,
-    ) -> Result<Option<String>, AllocError> {
+    fn label(&mut self, lowest: &mut Lowest, head: &Head<'_>) -> Result<Option<String>, AllocError>
+        ensures label { IfOk result (λ label. lowest.new.found ≡ None
+            → Labelled self.old.labels self.new.labels (option_map string_bytes label)) }
+        ensures blocks { self.new.blocks ≡ self.old.blocks }
+        ensures started { self.new.is_started ≡ self.old.is_started }
+    {
         let Some(token) = head.label else {
             if head.word.is_named() {
                 lowest.note(Refusal::Operand);
@@ -74,15 +80,19 @@ impl Reader {
         };
         let label = label_of(self.alloc, token);
         let label = lowest.keep(label, String::new(self.alloc))?;
-        if !self.labels.insert(label.clone()?)? {
+        if !add_label(&mut self.labels, label.clone()?)? {
             lowest.note(Refusal::Label);
         }
         Ok(Some(label))
     }
 
     /// Counts a block, and remembers START. Refusals are noted.
-    fn count(&mut self, lowest: &mut Lowest, word: Word) {
-        let is_start = word == Word::Start;
+    fn count(&mut self, lowest: &mut Lowest, word: Word)
+        requires { self.old.blocks ≤ 4096 }
+        ensures counted { lowest.new.found ≡ None → Counts self.old self.new word }
+        ensures clear { lowest.new.found ≡ None → lowest.old.found ≡ None }
+    {
+        let is_start = matches!(word, Word::Start);
         if word.is_block() {
             if self.blocks >= MOST_BLOCKS {
                 lowest.note(Refusal::Limit);
@@ -97,13 +107,19 @@ impl Reader {
     }
 
     /// The first line of a statement, but of FUNCTION and PROCEDURE.
-    fn first(&mut self, head: &Head<'_, '_>) -> Result<First, Stop> {
+    fn first(&mut self, head: &Head<'_>) -> Result<First, Stop>
+        requires { self.old.blocks ≤ 4096 }
+        ensures { IfOk result (λ first. Admits self.old self.new head.now.word
+            (option_map string_bytes first.label)) }
+    {
+        let tokens = tokens_of(self.alloc, head.rest)?;
+        let mut known = Lowest::NONE;
+        let label = self.label(&mut known, head)?;
+        self.count(&mut known, head.word);
         let mut lowest = Lowest::NONE;
-        let label = self.label(&mut lowest, head)?;
-        self.count(&mut lowest, head.word);
-        let (modifier, tokens) = modifier_of(&mut lowest, head.word, head.operands);
+        let (modifier, tokens) = modifier_of(&mut lowest, head.word, tokens.as_slice());
         let operands = operands_by_word(&mut self.expressions, &mut lowest, head.word, tokens)?;
-        lowest.check()?;
+        lowest.and(known).check()?;
         Ok(First {
             label,
             modifier,
@@ -112,11 +128,18 @@ impl Reader {
     }
 
     /// The first line of a FUNCTION, and how many points follow.
-    fn first_of_function(&mut self, head: &Head<'_, '_>) -> Result<(First, usize), Stop> {
+    fn first_of_function(&mut self, head: &Head<'_>) -> Result<(First, usize), Stop>
+        ensures label { IfOk result (λ x.
+            Labelled self.old.labels self.new.labels (option_map string_bytes x.0.label)) }
+        ensures blocks { self.new.blocks ≡ self.old.blocks }
+        ensures started { self.new.is_started ≡ self.old.is_started }
+    {
+        let tokens = tokens_of(self.alloc, head.rest)?;
+        let mut known = Lowest::NONE;
+        let label = self.label(&mut known, head)?;
         let mut lowest = Lowest::NONE;
-        let label = self.label(&mut lowest, head)?;
-        let (argument, count) = function_of(&mut self.expressions, &mut lowest, head.operands)?;
-        lowest.check()?;
+        let (argument, count) = function_of(&mut self.expressions, &mut lowest, tokens.as_slice())?;
+        lowest.and(known).check()?;
         let mut operands = Vec::new(self.alloc);
         operands.push(argument)?;
         let first = First {
@@ -128,9 +151,15 @@ impl Reader {
     }
 
     /// A FUNCTION on line `i` and its points on those behind it. Lines count from 0 here.
-    fn function(&mut self, head: &Head<'_, '_>, lines: &[&[u8]], i: usize) -> Result<Read, Where>
-        requires { i < length lines.now }
-        ensures { StaysWithin i (length lines.now) result }
+    fn function(&mut self, head: &Head<'_>, lines: &[&[u8]], i: usize) -> Result<Read, Where>
+        requires within { i < length lines.now }
+        requires short { IsShort (slice_index_or (map (λ l. l.now) lines.now) i []) }
+        ensures lines { StaysWithin i (length lines.now) result }
+        ensures short { IfOk result (λ read. AreShort (map (λ l. l.now) lines.now) i read.last) }
+        ensures label { IfOk result (λ read.
+            Labelled self.old.labels self.new.labels (option_map string_bytes read.first.label)) }
+        ensures blocks { self.new.blocks ≡ self.old.blocks }
+        ensures started { self.new.is_started ≡ self.old.is_started }
     {
         let (first, count) = match self.first_of_function(head) {
             Ok(first) => first,
@@ -143,9 +172,14 @@ impl Reader {
     }
 
     /// A PROCEDURE that begins on line `i`. Lines count from 0 here.
-    fn procedure(&mut self, head: &Head<'_, '_>, lines: &[&[u8]], i: usize) -> Result<Read, Where>
+    fn procedure(&mut self, head: &Head<'_>, lines: &[&[u8]], i: usize) -> Result<Read, Where>
         requires { i < length lines.now }
-        ensures { StaysWithin i (length lines.now) result }
+        ensures lines { StaysWithin i (length lines.now) result }
+        ensures short { IfOk result (λ read. AreShort (map (λ l. l.now) lines.now) i read.last) }
+        ensures label { IfOk result (λ read.
+            Labelled self.old.labels self.new.labels (option_map string_bytes read.first.label)) }
+        ensures blocks { self.new.blocks ≡ self.old.blocks }
+        ensures started { self.new.is_started ≡ self.old.is_started }
     {
         if head.label.is_some() {
             return Err((i, Stop::Refused(Refusal::Operand)));
@@ -163,13 +197,18 @@ impl Reader {
     /// The statement with this head, which begins on line `i`. Lines count from 0 here.
     pub(crate) fn statement(
         &mut self,
-        head: &Head<'_, '_>,
+        head: &Head<'_>,
         lines: &[&[u8]],
         i: usize,
     ) -> Result<Read, Where>
-        requires { i < length lines.now }
+        requires within { i < length lines.now }
+        requires short { IsShort (slice_index_or (map (λ l. l.now) lines.now) i []) }
+        requires few { self.old.blocks ≤ 4096 }
         ensures lines { StaysWithin i (length lines.now) result }
         ensures single { StaysSingle head.now.word i result }
+        ensures short { IfOk result (λ read. AreShort (map (λ l. l.now) lines.now) i read.last) }
+        ensures admits { IfOk result (λ read. Admits self.old self.new head.now.word
+            (option_map string_bytes read.first.label)) }
     {
         match head.word {
             Word::Function => self.function(head, lines, i),
@@ -179,9 +218,18 @@ impl Reader {
     }
 }
 
+/// Adds a label to those of a text, and answers whether it is new.
+fn add_label(labels: &mut BTreeSet<String>, label: String) -> Result<bool, AllocError>
+    ensures { IfOk result (λ is_new. is_new ≡ true
+        → Labelled labels.old labels.new (Some (string_bytes label))) }
+{
+    Ok(labels.insert(label)?)
+}
+
 /// A statement on this line alone, or its fault. Lines count from 0 here.
 fn on_line(line: usize, first: Result<First, Stop>) -> Result<Read, Where>
-    ensures { MatchResult result (λ x. x.last ≡ line) (λ place. place.0 ≡ line) }
+    ensures last { MatchResult result (λ x. x.last ≡ line) (λ place. place.0 ≡ line) }
+    ensures first { IfOk result (λ x. first ≡ Ok x.first) }
 {
     match first {
         Ok(first) => Ok(Read {

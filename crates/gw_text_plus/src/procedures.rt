@@ -1,6 +1,7 @@
 //! The lines of a PROCEDURE.
 
-ghost use Rattle.std.specs.Prelude.{◌≡◌, ◌<◌, length, MatchResult};
+ghost use Rattle.std.specs.Prelude.{◌≡◌, ◌<◌, length, map, IfOk, OnOk, MatchResult};
+ghost use Rattle.gw_text_tokens.specs.Lines.{IsShort, AreShort};
 ghost use Rattle.gw_text_expressions.specs.Stops.{EndsWithin};
 
 use crate::model::Procedure;
@@ -57,7 +58,8 @@ pub fn read_procedure(
     first: usize,
 ) -> Result<(Procedure, usize), Where>
     requires { first < length lines.now }
-    ensures { EndsWithin first (length lines.now) result }
+    ensures within { EndsWithin first (length lines.now) result }
+    ensures short { IfOk result (λ x. AreShort (map (λ l. l.now) lines.now) first x.1) }
 {
     expressions.begin_procedure();
     let mut reader = Reader {
@@ -95,7 +97,9 @@ fn read_line(
     reader: &mut Reader,
     expressions: &mut Expressions,
     line: &[u8],
-) -> Result<Progress, Stop> {
+) -> Result<Progress, Stop>
+    ensures { OnOk result (IsShort line.now) }
+{
     check_length(line)?;
     reader.has_token = false;
     if !reader.in_comment && matches!(line, [b'*', ..]) {

@@ -2,7 +2,8 @@
 
 ghost use Rattle.gw_text_expressions.specs.Reading.{KeepsNames};
 ghost use Rattle.gw_text_expressions.specs.Stops.{EndsWithin};
-ghost use Rattle.std.specs.Prelude.{◌<◌, ◌≤◌, length, IfOk};
+ghost use Rattle.gw_text_tokens.specs.Lines.{IsShort, AreShort};
+ghost use Rattle.std.specs.Prelude.{◌<◌, ◌≤◌, ◌+◌, length, map, IfOk, OnOk};
 
 use crate::model::{Operand, Point};
 use crate::operands::{computed, cut, cut_next, signed, value_of};
@@ -79,7 +80,8 @@ pub fn read_points(
     count: usize,
 ) -> Result<(Vec<Point>, usize), Where>
     requires { first < length lines.now }
-    ensures { EndsWithin first (length lines.now) result }
+    ensures within { EndsWithin first (length lines.now) result }
+    ensures short { IfOk result (λ x. AreShort (map (λ l. l.now) lines.now) (first + 1) x.1) }
 {
     let mut points = Points {
         points: Vec::new(alloc),
@@ -99,7 +101,9 @@ pub fn read_points(
 }
 
 /// The points of a line.
-fn read_line(alloc: Global, points: &mut Points, line: &[u8]) -> Result<(), Stop> {
+fn read_line(alloc: Global, points: &mut Points, line: &[u8]) -> Result<(), Stop>
+    ensures { OnOk result (IsShort line.now) }
+{
     check_length(line)?;
     if is_skipped(line) {
         return Ok(());

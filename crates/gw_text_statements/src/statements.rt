@@ -2,7 +2,9 @@
 
 ghost use Rattle.gw_text_expressions.specs.Reading.{KeepsNames};
 ghost use Rattle.gw_text_expressions.specs.Stops.{StopsLabel};
-ghost use Rattle.std.specs.Prelude.{◌≡◌, ◌⊎◌, IfErr};
+ghost use Rattle.gw_text_tokens.specs.Heads.{head_word, word_behind};
+ghost use Rattle.gw_text_tokens.specs.Tokens.{name_in};
+ghost use Rattle.std.specs.Prelude.{◌≡◌, ◌⊎◌, IfErr, MatchResult, Some, None};
 ghost use Rattle.gw_text_tokens.specs.declared.faults.Refusal.TheVariants as refusals;
 
 use crate::fields::{Number, fields_of};
@@ -15,55 +17,59 @@ use gw_text_expressions::{EntityValue, Sna};
 use gw_text_tokens::faults::{Lowest, Refusal, Stop};
 use gw_text_tokens::is_spelled;
 use gw_text_tokens::names::{name_of, numeral};
-use gw_text_tokens::tokens::Token;
+use gw_text_tokens::tokens::{Token, next_token};
 use gw_text_tokens::words::{Known, Word, known_word};
 use std::alloc::{AllocError, Global};
 
-/// What stands at the head of a line: the word, the token before it, and the tokens from the word on.
+/// What stands at the head of a line: the word, the token before it, and the line from the word on.
 #[derive(Clone, Copy)]
-pub struct Head<'t, 'a> {
+pub struct Head<'a> {
     /// The token before the word: a name or a whole number.
     pub label: Option<Token<'a>>,
     /// The word.
     pub word: Word,
-    /// The tokens from the word on.
-    pub operands: &'t [Token<'a>],
+    /// The line from the word on.
+    pub rest: &'a [u8],
 }
 
 /// The head of a line; 71 Word, or 75 LeftOut where the word is one of GPSS World that is left out.
-pub fn head_of<'t, 'a>(tokens: &'t [Token<'a>]) -> Result<Head<'t, 'a>, Refusal>
-    ensures { IfErr result (λ refusal. (refusal ≡ refusals.Word) ⊎ (refusal ≡ refusals.LeftOut)) }
+pub fn head_of(line: &[u8]) -> Result<Head<'_>, Refusal>
+    ensures word { MatchResult result (λ head. head_word line.now ≡ Some head.word)
+        (λ _. head_word line.now ≡ None) }
+    ensures refused { IfErr result (λ found. (found ≡ refusals.Word) ⊎ (found ≡ refusals.LeftOut)) }
 {
-    match tokens {
-        [Token::Name(first), ..] => match known_word(first) {
+    match next_token(line) {
+        Some((Token::Name(first), rest)) => match known_word(first) {
             Known::Word(word) => Ok(Head {
                 label: None,
                 word,
-                operands: tokens,
+                rest: line,
             }),
-            Known::LeftOut => labelled(tokens, Refusal::LeftOut),
-            Known::Other => labelled(tokens, Refusal::Word),
+            Known::LeftOut => labelled(Token::Name(first), rest, Refusal::LeftOut),
+            Known::Other => labelled(Token::Name(first), rest, Refusal::Word),
         },
-        [Token::Whole(_), ..] => labelled(tokens, Refusal::Word),
+        Some((Token::Whole(number), rest)) => {
+            labelled(Token::Whole(number), rest, Refusal::Word)
+        }
         _ => Err(Refusal::Word),
     }
 }
 
-/// The head of a line that begins with a label; `refusal` where no word follows.
-fn labelled<'t, 'a>(tokens: &'t [Token<'a>], refusal: Refusal) -> Result<Head<'t, 'a>, Refusal>
-    ensures { IfErr result (λ found. (found ≡ refusal) ⊎ (found ≡ refusals.LeftOut)) }
+/// The head of a line that begins with a label, which this follows; `refusal` where no word follows.
+fn labelled<'a>(label: Token<'a>, line: &'a [u8], refusal: Refusal) -> Result<Head<'a>, Refusal>
+    ensures word { MatchResult result
+        (λ head. word_behind (name_in label.entry) line.now ≡ Some head.word)
+        (λ _. word_behind (name_in label.entry) line.now ≡ None) }
+    ensures refused { IfErr result (λ found. (found ≡ refusal) ⊎ (found ≡ refusals.LeftOut)) }
 {
-    let [label, operands @ ..] = tokens else {
-        return Err(refusal);
-    };
-    let [Token::Name(second), ..] = operands else {
+    let Some((Token::Name(second), _)) = next_token(line) else {
         return Err(refusal);
     };
     match known_word(second) {
         Known::Word(word) if word.names_entity() || matches!(label, Token::Name(_)) => Ok(Head {
-            label: Some(*label),
+            label: Some(label),
             word,
-            operands,
+            rest: line,
         }),
         Known::LeftOut => Err(Refusal::LeftOut),
         _ => Err(refusal),

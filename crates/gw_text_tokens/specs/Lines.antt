@@ -1,5 +1,5 @@
 -- Which lines of a text hold a statement.
-use Rattle.std.specs.Prelude.{ℕ, List, [], ◌∷◌, Bool, true, ◌==◌, ◌||◌, if◌then◌else◌}
+use Rattle.std.specs.Prelude.{ℕ, ◌≤◌, List, [], ◌∷◌, length, slice_index_or, Bool, true, ◌==◌, ◌||◌, if◌then◌else◌}
 
 -- a space or a tab
 abbrev pub is_blank : ℕ → Bool
@@ -23,3 +23,11 @@ holds_nothing line = is_comment (after_blanks line)
 abbrev pub is_skipped : List ℕ → Bool
 is_skipped [] = true
 is_skipped (byte ∷ line) = byte == 42 || holds_nothing (byte ∷ line)
+
+-- a line is at most as long as it may be: 1,000 bytes, without what ends it
+abbrev pub IsShort : List ℕ → Type 0
+IsShort line = length line ≤ 1000
+
+-- the lines from one number to another, both from 0 and included, are short
+abbrev pub AreShort : List (List ℕ) → ℕ → ℕ → Type 0
+AreShort lines first last = (i : ℕ) → first ≤ i → i ≤ last → IsShort (slice_index_or lines i [])

@@ -1,5 +1,7 @@
 -- What kinds of statements there are, by their words.
-use Rattle.std.specs.Prelude.{Bool, true, false}
+use Rattle.std.specs.Prelude.{Bool, true, false, Option, Some, None}
+use Rattle.gw_text_tokens.specs.declared.words.Known.{Known}
+use Rattle.gw_text_tokens.specs.declared.words.Known.TheVariants as known
 use Rattle.gw_text_tokens.specs.declared.words.Word.{Word}
 use Rattle.gw_text_tokens.specs.declared.words.Word.TheVariants as words
 
@@ -17,3 +19,23 @@ is_block words.Start = false
 is_block words.Simulate = false
 is_block words.Procedure = false
 is_block word = true
+
+-- whether it is START
+abbrev pub is_start : Word → Bool
+is_start words.Start = true
+is_start word = false
+
+-- whether a statement of this word declares an entity, whose name may be a whole number
+abbrev pub names_entity : Word → Bool
+names_entity words.Storage = true
+names_entity words.Variable = true
+names_entity words.BVariable = true
+names_entity words.Function = true
+names_entity words.Table = true
+names_entity word = false
+
+-- the word of a statement, if that is what is known of a spelling
+abbrev pub word_if_known : Known → Option Word
+word_if_known (known.Word word) = Some word
+word_if_known known.LeftOut = None
+word_if_known known.Other = None

@@ -2,6 +2,7 @@
 
 ghost use Rattle.std.specs.Prelude.{◌≡◌};
 ghost use Rattle.std.specs.Str.{str_eq_ignore_ascii_case};
+ghost use Rattle.gw_text_tokens.specs.Heads.{is_in_name};
 ghost use Rattle.gw_text_tokens.specs.Lines.{after_blanks, is_blank};
 
 /// Whether it is a space or a tab.
@@ -25,7 +26,9 @@ pub(crate) fn after_blanks(line: &[u8]) -> &[u8]
 }
 
 /// Whether a name may go on with it.
-pub(crate) fn is_in_name(byte: u8) -> bool {
+pub(crate) fn is_in_name(byte: u8) -> bool
+    ensures { result ≡ is_in_name byte }
+{
     byte.is_ascii_alphanumeric() || byte == b'_'
 }
 

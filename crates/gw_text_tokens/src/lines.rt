@@ -1,10 +1,10 @@
 //! The lines of a text.
 
-ghost use Rattle.std.specs.Prelude.{◌≡◌, ◌<◌, ◌==◌, ◌∷◌, [], map, length, slice_index_or, IfOk, IfSome, MatchOption, Ok, Err, if◌then◌else◌, nat_le};
+ghost use Rattle.std.specs.Prelude.{◌≡◌, ◌<◌, ◌==◌, ◌∷◌, [], map, length, slice_index_or, IfOk, IfSome, OnOk, MatchOption, Ok, Err, if◌then◌else◌, nat_le};
 ghost use Rattle.std.specs.List.{position_or_len};
 ghost use Rattle.std.specs.Str.Lines.{lines, strip_carriage_return};
 ghost use Rattle.gw_text_tokens.specs.declared.faults.Refusal.TheVariants.{Length};
-ghost use Rattle.gw_text_tokens.specs.Lines.{holds_nothing, is_skipped};
+ghost use Rattle.gw_text_tokens.specs.Lines.{IsShort, holds_nothing, is_skipped};
 
 use crate::characters::after_blanks;
 use crate::faults::Refusal;
@@ -78,7 +78,8 @@ pub fn line_at<'a>(lines: &[&'a [u8]], i: usize) -> &'a [u8]
 
 /// 70 Length where a line has more than 1,000 bytes.
 pub fn check_length(line: &[u8]) -> Result<(), Refusal>
-    ensures { result ≡ (if nat_le (length line.now) 1000 then Ok tt else Err Length) }
+    ensures checked { result ≡ (if nat_le (length line.now) 1000 then Ok tt else Err Length) }
+    ensures short { OnOk result (IsShort line.now) }
 {
     if line.len() > LONGEST {
         Err(Refusal::Length)

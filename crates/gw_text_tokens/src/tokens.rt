@@ -1,6 +1,8 @@
 //! The tokens of a line.
 
-ghost use Rattle.std.specs.Prelude.{◌≡◌, ◌≢◌, ◌≤◌, ◌-◌, ◌^◌, [], length, min, IfOk, MatchOption};
+ghost use Rattle.std.specs.Prelude.{◌≡◌, ◌≢◌, ◌≤◌, ◌-◌, ◌^◌, ◌∷◌, [], length, take, drop, min, IfOk, IfSome, MatchOption};
+ghost use Rattle.gw_text_tokens.specs.Heads.{name_length, digits_length};
+ghost use Rattle.gw_text_tokens.specs.Tokens.{IsNoLabel, IsNumberAt, IsTokenAt};
 ghost use Rattle.gw_text_tokens.specs.Lines.{after_blanks};
 ghost use Rattle.gw_text_tokens.specs.Numbers.{spelled};
 
@@ -60,7 +62,8 @@ pub struct Decimal {
 
 /// What a line has at its front: a token and what follows it, or nothing where it is blank.
 pub fn next_token(line: &[u8]) -> Option<(Token<'_>, &[u8])>
-    ensures { MatchOption result (after_blanks line.now ≡ []) (λ x. after_blanks line.now ≢ []) }
+    ensures blank { MatchOption result (after_blanks line.now ≡ []) (λ x. after_blanks line.now ≢ []) }
+    ensures token { IfSome result (λ x. IsTokenAt (after_blanks line.now) x.0 x.1.now) }
 {
     let left = after_blanks(line);
     match left {
@@ -70,7 +73,10 @@ pub fn next_token(line: &[u8]) -> Option<(Token<'_>, &[u8])>
 }
 
 /// The token that begins with this byte, of what is left of the line; `rest` is what follows the byte.
-fn token_at<'a>(byte: u8, left: &'a [u8], rest: &'a [u8]) -> (Token<'a>, &'a [u8]) {
+fn token_at<'a>(byte: u8, left: &'a [u8], rest: &'a [u8]) -> (Token<'a>, &'a [u8])
+    requires { left.now ≡ byte ∷ rest.now }
+    ensures { IsTokenAt left.now result.0 result.1.now }
+{
     if byte.is_ascii_alphabetic() {
         let (name, rest) = split_name(left);
         (Token::Name(name), rest)
@@ -88,7 +94,9 @@ fn token_at<'a>(byte: u8, left: &'a [u8], rest: &'a [u8]) -> (Token<'a>, &'a [u8
 }
 
 /// The token that is this byte alone.
-fn symbol(byte: u8) -> Token<'static> {
+fn symbol(byte: u8) -> Token<'static>
+    ensures { IsNoLabel result }
+{
     match byte {
         b'+' => Token::Plus,
         b'-' => Token::Minus,
@@ -111,7 +119,9 @@ fn symbol(byte: u8) -> Token<'static> {
 }
 
 /// A comparison that begins with `>`, `<` or `!`.
-fn comparison(byte: u8, rest: &[u8]) -> (Token<'_>, &[u8]) {
+fn comparison(byte: u8, rest: &[u8]) -> (Token<'_>, &[u8])
+    ensures { IsNoLabel result.0 }
+{
     match (byte, rest) {
         (b'>', [b'=', rest @ ..]) => (Token::Operator(Binary::GreaterOrEqual), rest),
         (b'<', [b'=', rest @ ..]) => (Token::Operator(Binary::LessOrEqual), rest),
@@ -123,7 +133,9 @@ fn comparison(byte: u8, rest: &[u8]) -> (Token<'_>, &[u8]) {
 }
 
 /// An operator in single quotes, of what follows the first quote.
-fn quoted(rest: &[u8]) -> (Token<'_>, &[u8]) {
+fn quoted(rest: &[u8]) -> (Token<'_>, &[u8])
+    ensures { IsNoLabel result.0 }
+{
     let (word, after) = split_name(rest);
     match (quoted_operator(word), after) {
         (Some(token), [b'\'', after @ ..]) => (token, after),
@@ -131,30 +143,36 @@ fn quoted(rest: &[u8]) -> (Token<'_>, &[u8]) {
     }
 }
 
-const QUOTED: [(&[u8], Token<'static>); 9] = [
-    (b"NOT", Token::Not),
-    (b"AND", Token::Operator(Binary::And)),
-    (b"OR", Token::Operator(Binary::Or)),
-    (b"E", Token::Operator(Binary::Equal)),
-    (b"NE", Token::Operator(Binary::NotEqual)),
-    (b"G", Token::Operator(Binary::Greater)),
-    (b"GE", Token::Operator(Binary::GreaterOrEqual)),
-    (b"L", Token::Operator(Binary::Less)),
-    (b"LE", Token::Operator(Binary::LessOrEqual)),
+const QUOTED: [(&[u8], Binary); 8] = [
+    (b"AND", Binary::And),
+    (b"OR", Binary::Or),
+    (b"E", Binary::Equal),
+    (b"NE", Binary::NotEqual),
+    (b"G", Binary::Greater),
+    (b"GE", Binary::GreaterOrEqual),
+    (b"L", Binary::Less),
+    (b"LE", Binary::LessOrEqual),
 ];
 
 /// The operator that is this word in quotes.
-fn quoted_operator(word: &[u8]) -> Option<Token<'static>> {
+fn quoted_operator(word: &[u8]) -> Option<Token<'static>>
+    ensures { IfSome result IsNoLabel }
+{
+    if is_spelled(word, b"NOT") {
+        return Some(Token::Not);
+    }
     for entry in &QUOTED {
         if is_spelled(word, entry.0) {
-            return Some(entry.1);
+            return Some(Token::Operator(entry.1));
         }
     }
     None
 }
 
 /// A whole number, or a number with a point behind one.
-fn number(left: &[u8]) -> (Token<'_>, &[u8]) {
+fn number(left: &[u8]) -> (Token<'_>, &[u8])
+    ensures { IsNumberAt (drop (digits_length left.now) left.now) result.0 result.1.now }
+{
     let (digits, after) = split_digits(left);
     match after {
         [b'.', rest @ ..] => decimal_after(Some(value_of(digits)), after, rest),
@@ -163,7 +181,9 @@ fn number(left: &[u8]) -> (Token<'_>, &[u8]) {
 }
 
 /// A number with a point, from its point on; `rest` is what follows the point.
-fn decimal_after<'a>(whole: Option<u64>, left: &'a [u8], rest: &'a [u8]) -> (Token<'a>, &'a [u8]) {
+fn decimal_after<'a>(whole: Option<u64>, left: &'a [u8], rest: &'a [u8]) -> (Token<'a>, &'a [u8])
+    ensures { IsNoLabel result.0 }
+{
     let (digits, after) = split_digits(rest);
     if digits.is_empty() {
         match left {
@@ -206,23 +226,45 @@ fn millionths_of(digits: &[u8]) -> u32 {
 }
 
 /// The name at the front, and what follows it.
-fn split_name(bytes: &[u8]) -> (&[u8], &[u8]) {
-    for (i, byte) in bytes.iter().enumerate() {
-        if !is_in_name(*byte) {
-            return bytes.split_at(i);
+fn split_name(bytes: &[u8]) -> (&[u8], &[u8])
+    ensures name { result.0.now ≡ take (name_length bytes.now) bytes.now }
+    ensures rest { result.1.now ≡ drop (name_length bytes.now) bytes.now }
+{
+    bytes.split_at(name_length(bytes))
+}
+
+/// How many bytes at the front may be of a name.
+fn name_length(bytes: &[u8]) -> usize
+    ensures length { result ≡ name_length bytes.now }
+    ensures within { result ≤ length bytes.now }
+{
+    for length in 0..bytes.len() {
+        if !is_in_name(bytes[length]) {
+            return length;
         }
     }
-    (bytes, &[])
+    bytes.len()
 }
 
 /// The digits at the front, and what follows them.
-fn split_digits(bytes: &[u8]) -> (&[u8], &[u8]) {
-    for (i, byte) in bytes.iter().enumerate() {
-        if !byte.is_ascii_digit() {
-            return bytes.split_at(i);
+fn split_digits(bytes: &[u8]) -> (&[u8], &[u8])
+    ensures digits { result.0.now ≡ take (digits_length bytes.now) bytes.now }
+    ensures rest { result.1.now ≡ drop (digits_length bytes.now) bytes.now }
+{
+    bytes.split_at(digits_length(bytes))
+}
+
+/// How many digits stand at the front.
+fn digits_length(bytes: &[u8]) -> usize
+    ensures length { result ≡ digits_length bytes.now }
+    ensures within { result ≤ length bytes.now }
+{
+    for length in 0..bytes.len() {
+        if !bytes[length].is_ascii_digit() {
+            return length;
         }
     }
-    (bytes, &[])
+    bytes.len()
 }
 
 /// What follows a string, of what follows its first quote.

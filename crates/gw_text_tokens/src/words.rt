@@ -1,7 +1,8 @@
 //! The words of statements, and the names that GPSS World has and this text leaves out.
 
-ghost use Rattle.std.specs.Prelude.{◌≡◌};
-ghost use Rattle.gw_text_tokens.specs.Words.{is_block};
+ghost use Rattle.std.specs.Prelude.{◌≡◌, map};
+ghost use Rattle.gw_text_tokens.specs.Heads.{word_spelled, word_in};
+ghost use Rattle.gw_text_tokens.specs.Words.{is_block, names_entity, word_if_known};
 
 use crate::characters::is_spelled;
 
@@ -93,7 +94,9 @@ impl Word {
     }
 
     /// Whether it declares an entity, whose name may be a whole number.
-    pub fn names_entity(self) -> bool {
+    pub fn names_entity(self) -> bool
+        ensures { result ≡ names_entity self }
+    {
         matches!(
             self,
             Word::Storage | Word::Variable | Word::BVariable | Word::Function | Word::Table
@@ -243,17 +246,27 @@ const LIBRARY: [&[u8]; 60] = [
 ];
 
 /// The statement's word of this spelling, in upper or lower case.
-fn word_of(spelling: &[u8]) -> Option<Word> {
-    for entry in &WORDS {
-        if is_spelled(spelling, entry.0) {
-            return Some(entry.1);
-        }
+fn word_of(spelling: &[u8]) -> Option<Word>
+    ensures { result ≡ word_spelled spelling.now }
+{
+    word_among(&WORDS, spelling)
+}
+
+/// The word of the first of these rows that has this spelling, in upper or lower case.
+fn word_among(rows: &[(&[u8], Word)], spelling: &[u8]) -> Option<Word>
+    ensures { result ≡ word_in (map (λ row. (row.0.now, row.1)) rows.now) spelling.now }
+{
+    match rows {
+        [] => None,
+        [row, ..] if is_spelled(spelling, row.0) => Some(row.1),
+        [_, others @ ..] => word_among(others, spelling),
     }
-    None
 }
 
 /// What a word at the head of a line is.
-pub fn known_word(spelling: &[u8]) -> Known {
+pub fn known_word(spelling: &[u8]) -> Known
+    ensures { word_if_known result ≡ word_spelled spelling.now }
+{
     match word_of(spelling) {
         Some(word) => Known::Word(word),
         None if is_among(spelling, &LEFT_OUT) => Known::LeftOut,
