@@ -39,6 +39,10 @@ pub(crate) enum Field {
 pub(crate) enum Number {
     /// Any whole number.
     Any,
+    /// The time of the first arrival, in clock units.
+    FirstTime,
+    /// At most how many arrive.
+    Arrivals,
     /// How many there are of something, in 32 bits.
     Count,
     /// A priority.
@@ -67,8 +71,8 @@ impl Number {
     /// The least and the greatest of its numbers. It may be missing where 0 is one of them.
     pub(crate) fn range(self) -> (i64, i64) {
         match self {
-            Number::Any => (i64::MIN, i64::MAX),
-            Number::Count | Number::Units => (0, 4294967295),
+            Number::Any | Number::FirstTime => (i64::MIN, i64::MAX),
+            Number::Count | Number::Arrivals | Number::Units => (0, 4294967295),
             Number::Priority => (-2147483648, 2147483647),
             Number::Copies | Number::Partners => (0, 65535),
             Number::Capacity => (1, 2147483647),
@@ -87,13 +91,25 @@ impl Number {
             _ => Refusal::Operand,
         }
     }
+
+    /// Whether an attribute in its place is refused alike, be its class one that is left out or not.
+    pub(crate) fn is_plain(self) -> bool {
+        matches!(
+            self,
+            Number::FirstTime
+                | Number::Arrivals
+                | Number::Priority
+                | Number::Capacity
+                | Number::Terminations
+        )
+    }
 }
 
 const GENERATE: [Field; 5] = [
     Field::Value,
     Field::Spread,
-    Field::Number(Number::Any),
-    Field::Number(Number::Count),
+    Field::Number(Number::FirstTime),
+    Field::Number(Number::Arrivals),
     Field::Number(Number::Priority),
 ];
 

@@ -242,6 +242,9 @@ pub(crate) fn number_of(
             Some(_) => Err(Stop::Refused(number.computed())),
             None => Err(Stop::Refused(Refusal::Operand)),
         },
+        [Token::Name(_), Token::Dollar, Token::Name(_)] if number.is_plain() => {
+            Err(Stop::Refused(number.computed()))
+        }
         _ => Err(computed(reader, number.computed(), tokens)),
     }
 }
@@ -283,12 +286,16 @@ fn count_of(reader: &mut Expressions, tokens: &[Token<'_>]) -> Result<Operand, S
     }
 }
 
-/// How an operand is refused where something is asked that can't be computed: attributes and expressions by this refusal.
+/// How an operand is refused where something is asked that can't be computed: attributes and expressions by this refusal, but
+/// 75 LeftOut where the class of an attribute is one that is left out.
 pub(crate) fn computed(reader: &mut Expressions, refusal: Refusal, tokens: &[Token<'_>]) -> Stop
     ensures { KeepsNames reader.old reader.new }
 {
     match tokens {
-        [Token::Name(_), Token::Dollar, Token::Name(_)] => Stop::Refused(refusal),
+        [Token::Name(class), Token::Dollar, Token::Name(_)] => match class_of(class) {
+            Some(_) => Stop::Refused(refusal),
+            None => Stop::Refused(Refusal::LeftOut),
+        },
         [Token::Open, ..] | [Token::Name(_), Token::Open, ..] => match group_of(reader, tokens) {
             Ok(_) => Stop::Refused(refusal),
             Err(stop) => stop,
