@@ -52,7 +52,7 @@ refused_whole bytes fault long h = record { long = λ _. h.long (front_too_long 
 
 assembly_of_long : (bytes text : List ℕ) (status : ℕ) → MOST_BYTES < length bytes → IsAssembly (take (MOST_BYTES + 1) bytes) text status → IsAssembly bytes text status
 assembly_of_long bytes text status long (inl h) = let front = front_too_long bytes long in let within = h.1.within in absurd (omega (arith, front, within))
-assembly_of_long bytes text status long (inr h) = inr (h.0, (h.1.0, refused_whole bytes h.1.0 long h.1.1, h.1.2))
+assembly_of_long bytes text status long (inr h) = inr (h.0, (h.1.0, refused_whole bytes h.1.0 long h.1.1, h.1.2, h.1.3))
 
 assembly_of_front : (bytes text : List ℕ) (status : ℕ) → IsAssembly (take (MOST_BYTES + 1) bytes) text status → IsAssembly bytes text status
 assembly_of_front bytes text status answer = cases (nat_lt MOST_BYTES (length bytes))

@@ -1,5 +1,5 @@
 -- What assembling a model text comes to: a text and a status.
-use Rattle.std.specs.Prelude.{◌≡◌, ◌≤◌, ◌⊎◌, ◌^◌, ◌<◌, ℕ, List, length}
+use Rattle.std.specs.Prelude.{◌≡◌, ◌≢◌, ◌≤◌, ◌⊎◌, ◌^◌, ◌<◌, ℕ, List, length}
 use Rattle.gw_object.specs.declared.fault.Fault.{Fault}
 use Rattle.gw_object.specs.declared.fault.Place.TheVariants.{Line}
 use Rattle.gw_object.specs.declared.parts.Parts.{Parts}
@@ -18,6 +18,10 @@ pub record HasStatements (bytes : List ℕ) (statements : List Statement) : Type
   pub within : length bytes ≤ 2 ^ 20
   pub lines : StandOn (lines_of_text bytes) statements
 
+-- what is printed as a refusal: want of memory is none, and ends with a status of its own
+abbrev pub IsPrinted : Fault → Type 0
+IsPrinted fault = fault.code ≢ 8
+
 -- a text that is too long is refused at its first line, and another at one of its lines
 pub record IsRefusedText (bytes : List ℕ) (fault : Fault) : Type 0 where
   pub long : 2 ^ 20 < length bytes → fault ≡ record { code = length_fault; place = Line 1 }
@@ -34,10 +38,10 @@ pub record IsSpelling (statements : List Statement) (text : List ℕ) : Type 0 w
 abbrev pub IsWorkOf : List Statement → List ℕ → ℕ → Type 0
 IsWorkOf statements text status =
     ((status ≡ ended) × IsSpelling statements text)
-    ⊎ ((status ≡ refused) × ((fault : Fault) × IsRefusal statements fault × (text ≡ refusal_line fault)))
+    ⊎ ((status ≡ refused) × ((fault : Fault) × IsRefusal statements fault × IsPrinted fault × (text ≡ refusal_line fault)))
 
 -- the text and the status for these bytes where they are assembled: those of a model that reading them may answer, or the line of the text's refusal
 abbrev pub IsAssembly : List ℕ → List ℕ → ℕ → Type 0
 IsAssembly bytes text status =
     ((statements : List Statement) × HasStatements bytes statements × IsWorkOf statements text status)
-    ⊎ ((status ≡ refused) × ((fault : Fault) × IsRefusedText bytes fault × (text ≡ refusal_line fault)))
+    ⊎ ((status ≡ refused) × ((fault : Fault) × IsRefusedText bytes fault × IsPrinted fault × (text ≡ refusal_line fault)))

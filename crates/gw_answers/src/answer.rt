@@ -7,7 +7,7 @@ ghost use Rattle.gw_answers.specs.Status.{ended as ended_status, refused as refu
 ghost use Rattle.gw_answers.specs.Refusal.{refusal_line};
 ghost use Rattle.gw_object.specs.Reading.{first_fault};
 ghost use Rattle.gw_answers.specs.Answer.{verified, job_made, job_of, object_of, accepted_line, Concludes, IsAnswer, IsCheck};
-ghost use Rattle.gw_answers.specs.Assembly.{IsAssembly, IsWorkOf};
+ghost use Rattle.gw_answers.specs.Assembly.{IsAssembly, IsPrinted, IsWorkOf};
 ghost use Rattle.gw_answers.specs.Requests.{answering};
 ghost use Rattle.gw_answers.specs.Finding.{FindsJob};
 
@@ -216,12 +216,12 @@ fn check_of(alloc: Global, input: &[u8]) -> Result<Answer, Memory>
 
 /// The line of a refusal of a model text, or of its assembly; or that memory ran out.
 fn refused_text(alloc: Global, fault: Fault) -> Result<Answer, Memory>
-    ensures { IfOk result (λ a. (a.status ≡ refused_status) × (a.text.items ≡ refusal_line fault)) }
+    ensures line { IfOk result (λ a. (a.status ≡ refused_status) × (a.text.items ≡ refusal_line fault)) }
+    ensures printed { OnOk result (IsPrinted fault) }
 {
-    if fault.code == codes::MEMORY {
-        Err(Memory)
-    } else {
-        refused(alloc, Refusal(fault))
+    match fault.code {
+        codes::MEMORY => Err(Memory),
+        _ => refused(alloc, Refusal(fault)),
     }
 }
 
