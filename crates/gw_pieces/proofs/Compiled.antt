@@ -27,6 +27,16 @@ last : {A : Type 0} (xs : List A) (x : A) → slice_get (xs ++ x ∷ []) (length
 last [] x = refl
 last (z ∷ xs) x = last xs x
 
+-- what stands before a place stays, and what stands before one more is all
+take_still : {A : Type 0} (xs : List A) (x y : A) (i : ℕ) → slice_get xs i ≡ Some y → take i (xs ++ x ∷ []) ≡ take i xs
+take_still [] x y i h = absurd cc
+take_still (z ∷ xs) x y zero h = refl
+take_still (z ∷ xs) x y (suc i) h = ap (λ zs. z ∷ zs) (take_still xs x y i h)
+
+take_all_before : {A : Type 0} (xs : List A) (x : A) → take (length xs) (xs ++ x ∷ []) ≡ xs
+take_all_before [] x = refl
+take_all_before (z ∷ xs) x = ap (λ zs. z ∷ zs) (take_all_before xs x)
+
 -- those up to a place, and what stands there
 pub one_further : {A : Type 0} (xs : List A) (i : ℕ) (x : A) → slice_get xs i ≡ Some x → take (suc i) xs ≡ take i xs ++ x ∷ []
 one_further [] i x h = absurd cc
@@ -37,24 +47,30 @@ module _ (n : Numbers) (ss : List Statement) where
   pub none_yet : AreCompiled n ss [] []
   none_yet = record { all = refl; each = λ q origin h. absurd cc }
 
-  pub one_more : (order : List Origin) (procedures : List Procedure) (origin : Origin) (pr : Procedure) → AreCompiled n ss order procedures → ComesFrom n ss origin pr → AreCompiled n ss (order ++ origin ∷ []) (procedures ++ pr ∷ [])
+  pub one_more : (order : List Origin) (procedures : List Procedure) (origin : Origin) (pr : Procedure) → AreCompiled n ss order procedures → ComesFrom n ss procedures origin pr → AreCompiled n ss (order ++ origin ∷ []) (procedures ++ pr ∷ [])
   one_more order procedures origin pr before here = record {
     all = length-append procedures (pr ∷ []) ∙ ap (λ k. k + 1) before.all ∙ sym (length-append order (origin ∷ []));
     each = λ q o h. at q o (grown order origin o q h);
   }
     where
-      at : (q : ℕ) (o : Origin) → (slice_get order q ≡ Some o) ⊎ ((q ≡ length order) × (origin ≡ o)) → (x : Procedure) × (slice_get (procedures ++ pr ∷ []) q ≡ Some x) × ComesFrom n ss o x
-      at q o (inl h) = let c = before.each q o h in (c.0, still procedures pr c.0 q c.1, c.2)
+      at : (q : ℕ) (o : Origin) → (slice_get order q ≡ Some o) ⊎ ((q ≡ length order) × (origin ≡ o)) → (x : Procedure) × (slice_get (procedures ++ pr ∷ []) q ≡ Some x) × ComesFrom n ss (take q (procedures ++ pr ∷ [])) o x
+      at q o (inl h) =
+          let c = before.each q o h in
+          (c.0, still procedures pr c.0 q c.1, subst (λ ps. ComesFrom n ss ps o c.0) (sym (take_still procedures pr c.0 q c.1)) c.2)
       at q o (inr h) =
-          let place : length procedures ≡ q = before.all ∙ sym h.0 in
-          (pr, subst (λ k. slice_get (procedures ++ pr ∷ []) k ≡ Some pr) place (last procedures pr), subst (λ x. ComesFrom n ss x pr) h.1 here)
+          let place : length procedures ≡ q = before.all ∙ sym h.0 in (
+            pr,
+            subst (λ k. slice_get (procedures ++ pr ∷ []) k ≡ Some pr) place (last procedures pr),
+            subst (λ k. ComesFrom n ss (take k (procedures ++ pr ∷ [])) o pr) place
+                (subst (λ ps. ComesFrom n ss ps o pr) (sym (take_all_before procedures pr)) (subst (λ x. ComesFrom n ss procedures x pr) h.1 here)),
+          )
 
   -- what comes from a position of the statement of an origin comes from the origin
-  pub comes_from : (origin : Origin) (s : Statement) → slice_get ss origin.statement ≡ Some s → (old new : List Procedure) → Grows (IsProcedureOf n old s origin.operand) old new → Grows (ComesFrom n ss origin) old new
-  comes_from origin s there old new g = (g.0, record { before = old; statement = s; there = there; compiled = g.1 }, g.2)
+  pub comes_from : (origin : Origin) (s : Statement) → slice_get ss origin.statement ≡ Some s → (old new : List Procedure) → Grows (IsProcedureOf n old s origin.operand) old new → Grows (ComesFrom n ss old origin) old new
+  comes_from origin s there old new g = (g.0, record { statement = s; there = there; compiled = g.1 }, g.2)
 
   -- the procedures of the origins up to a place, and of the next one
-  pub one_further_compiled : (order : List Origin) (i : ℕ) (origin : Origin) → slice_get order i ≡ Some origin → (old new : List Procedure) → AreCompiled n ss (take i order) old → Grows (ComesFrom n ss origin) old new → AreCompiled n ss (take (i + 1) order) new
+  pub one_further_compiled : (order : List Origin) (i : ℕ) (origin : Origin) → slice_get order i ≡ Some origin → (old new : List Procedure) → AreCompiled n ss (take i order) old → Grows (ComesFrom n ss old origin) old new → AreCompiled n ss (take (i + 1) order) new
   one_further_compiled order i origin there old new before g =
       let next : suc i ≡ i + 1 = omega arith in
       let is : take (i + 1) order ≡ take i order ++ origin ∷ [] = ap (λ k. take k order) (sym next) ∙ one_further order i origin there in

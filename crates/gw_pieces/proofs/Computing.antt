@@ -1,5 +1,5 @@
 -- In an object that passes, the operands of statements that are expressions are computed by their procedures.
-use Rattle.std.proofs.Common.{◌≡◌, ◌≤◌, ◌+◌, ℕ, ℤ, suc, List, [], ◌∷◌, Option, Some, None, Bool, true, false, slice_get, Ok, String, Global, arith, refl, sym, ap, subst, ◌∙◌}
+use Rattle.std.proofs.Common.{◌≡◌, ◌≤◌, ◌+◌, ℕ, ℤ, suc, List, [], ◌∷◌, Option, Some, None, Bool, true, false, slice_get, take, Ok, String, Global, arith, refl, sym, ap, subst, ◌∙◌}
 use Rattle.std.specs.Prelude.{pos, option_map, option_and_then, string_bytes, ◌==◌, ◌&&◌, nat_le}
 use Rattle.std.proofs.lemmas.Option.{slice_get_within}
 use Rattle.std.proofs.lemmas.Bool.Decides.{nat_tests}
@@ -105,7 +105,7 @@ module _ (n : Numbers) (order : List Origin) (ss : List Statement) (p : Parts) (
   comes place origin s at statement =
       let c = pieces.code.compiled.each place origin at in
       let is = same (slice_get ss origin.statement) c.2.statement s c.2.there statement in
-      record { procedure = c.0; there = c.1; origin = origin; at = at; statement = statement; before = c.2.before; compiled = subst (λ x. IsProcedureOf n c.2.before x origin.operand c.0) is c.2.compiled }
+      record { procedure = c.0; there = c.1; origin = origin; at = at; statement = statement; before = take place p.procedures; compiled = subst (λ x. IsProcedureOf n (take place p.procedures) x origin.operand c.0) is c.2.compiled }
 
   -- there are at most as many as 16 bits number
   within : (place : ℕ) (origin : Origin) → slice_get order place ≡ Some origin → number_at place ≡ place

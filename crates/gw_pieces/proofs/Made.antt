@@ -1,5 +1,5 @@
 -- What is made by names that are known is what the statements become.
-use Rattle.std.proofs.Common.{◌≡◌, ◌∙◌, ℕ, List, [], ◌∷◌, map, Option, ap, subst, string_bytes}
+use Rattle.std.proofs.Common.{◌≡◌, ◌∙◌, ℕ, List, [], ◌∷◌, map, Option, refl, ap, subst, string_bytes}
 use Rattle.gw_blocks.specs.declared.parts.Block.{Block}
 use Rattle.gw_code.specs.declared.parts.Procedure.{Procedure}
 use Rattle.gw_object.specs.declared.parts.Entity.{Entity}
@@ -16,7 +16,7 @@ use Rattle.gw_names.specs.Sights.{entities_of}
 use Rattle.gw_pieces.specs.declared.naming.Meanings.{Meanings}
 use Rattle.gw_pieces.specs.declared.origins.Origin.{Origin}
 use Rattle.gw_names.specs.Numbers.{numbers_of}
-use Rattle.gw_pieces.specs.Numbers.{with_source}
+use Rattle.gw_pieces.specs.Numbers.{with_source, source_in}
 use Rattle.gw_pieces.specs.Order.{order_in}
 use Rattle.gw_pieces.specs.Entities.{IsKindBy, AreSightedAs, AreEntitiesOf}
 use Rattle.gw_pieces.specs.Pieces.{NumbersText}
@@ -60,11 +60,12 @@ module _ (ss : List Statement) (order : List Origin) (known : Known) (meanings :
 
   pub are_made : (es : List Entity) (procedures : List Procedure) (blocks : List Block) → HasAllBy (numbers_of names) order ss known.sighted.items es procedures blocks → AreMade ss es procedures blocks
   are_made es procedures blocks h =
-      let n = with_source (numbers_of names) h.0 in
+      let n = with_source (numbers_of names) (source_in es) in
       record {
         numbers = n;
         order = order;
         names = record { ordered = is; entities = names_are.entities; labels = names_are.labels; parameters = names_are.parameters; callees = names_are.callees; equs = names_are.equs };
-        each_entity = sighted_are n order ss known.sighted.items (entities_of ss) es knows.uses.sighted knows.uses.declared h.1.sights;
-        code = h.1.code;
+        sources = λ of. refl;
+        each_entity = sighted_are n order ss known.sighted.items (entities_of ss) es knows.uses.sighted knows.uses.declared h.sights;
+        code = h.code;
       }

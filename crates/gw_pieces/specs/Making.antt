@@ -15,12 +15,11 @@ use Rattle.gw_text.specs.declared.model.Model.{Model}
 use Rattle.gw_text.specs.declared.model.Statement.{Statement}
 use Rattle.gw_compile.specs.Numbers.{Numbers}
 use Rattle.gw_blocks.specs.declared.parts.Numbered.{Numbered}
-use Rattle.gw_blocks.specs.declared.parts.Operand.{Operand}
 use Rattle.gw_names.specs.declared.known.Known.{Known}
 use Rattle.gw_names.specs.declared.names.Names.{Names}
 use Rattle.gw_names.specs.declared.sights.Sighted.{Sighted}
 use Rattle.gw_pieces.specs.declared.naming.Meanings.{Meanings}
-use Rattle.gw_pieces.specs.Numbers.{with_source}
+use Rattle.gw_pieces.specs.Numbers.{with_source, source_in}
 use Rattle.gw_pieces.specs.declared.origins.Origin.{Origin}
 use Rattle.gw_names.specs.Sights.{entities_of, limits_in}
 use Rattle.gw_pieces.specs.declared.pieces.Ordered.{Ordered}
@@ -39,9 +38,9 @@ pub record HasAll (n : Numbers) (order : List Origin) (ss : List Statement) (sig
   pub sights : AreSightedAs n order ss sighted entities
   pub code : HasCode n order ss procedures blocks
 
--- the same, whatever is evaluated for attributes in the end, as long as the names stay the same
+-- the same, where what is evaluated for attributes is what these entities say, as long as the names stay the same
 abbrev pub HasAllBy : Numbers → List Origin → List Statement → List Sighted → List Entity → List Procedure → List Block → Type 0
-HasAllBy n order ss sighted entities procedures blocks = (source : Numbered → Operand) × HasAll (with_source n source) order ss sighted entities procedures blocks
+HasAllBy n order ss sighted entities procedures blocks = HasAll (with_source n (source_in entities)) order ss sighted entities procedures blocks
 
 -- names are those that are known, with these meanings
 pub record NamesOf (known : Known) (meanings : Meanings) (names : Names) : Type 0 where
@@ -56,6 +55,7 @@ pub record AreMade (ss : List Statement) (entities : List Entity) (procedures : 
   pub numbers : Numbers
   pub order : List Origin
   pub names : NumbersText numbers order ss
+  pub sources : (of : Numbered) → numbers.source of ≡ source_in entities of
   pub each_entity : AreEntitiesOf numbers order ss (entities_of ss) entities
   pub code : HasCode numbers order ss procedures blocks
 

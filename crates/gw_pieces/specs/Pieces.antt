@@ -1,5 +1,5 @@
 -- What a model text becomes, piece by piece.
-use Rattle.std.specs.Prelude.{◌≡◌, ℕ, List, [], Some, slice_get}
+use Rattle.std.specs.Prelude.{◌≡◌, ℕ, List, [], Some, None, length, replicate, slice_get}
 use Rattle.gw_blocks.specs.declared.parts.Block.{Block}
 use Rattle.gw_blocks.specs.declared.parts.Numbered.{Numbered}
 use Rattle.gw_blocks.specs.declared.parts.Operand.{Operand}
@@ -10,6 +10,7 @@ use Rattle.gw_object.specs.declared.parts.Kind.{Kind}
 use Rattle.gw_object.specs.declared.parts.Kind.TheVariants as kinds
 use Rattle.gw_object.specs.declared.parts.Table.{Table}
 use Rattle.gw_object.specs.declared.parts.Parts.{Parts}
+use Rattle.gw_object.specs.Entities.{chains_in}
 use Rattle.gw_object.specs.Grammar.{HasSpelling}
 use Rattle.gw_rules.specs.declared.entities.EntityKind.{EntityKind}
 use Rattle.gw_rules.specs.Pass.{KindsPass}
@@ -24,7 +25,7 @@ use Rattle.gw_text_tokens.specs.declared.words.Word.TheVariants as words
 use Rattle.gw_text.specs.declared.model.Statement.{Statement}
 use Rattle.gw_compile.specs.declared.numbering.Equ.TheVariants as equs
 use Rattle.gw_records.specs.Entities.{entity_kind}
-use Rattle.gw_pieces.specs.Numbers.{with_source}
+use Rattle.gw_pieces.specs.Numbers.{with_source, source_in}
 use Rattle.gw_compile.specs.Numbers.{Numbers}
 use Rattle.gw_compile.specs.Value.{value_of}
 use Rattle.gw_names.specs.Judgement.{refusals_in}
@@ -64,6 +65,8 @@ pub record HasCode (n : Numbers) (order : List Origin) (ss : List Statement) (pr
 -- the parts of an object are those that statements become, where names have these numbers and the procedures have these origins, in order
 pub record HasPieces (n : Numbers) (order : List Origin) (ss : List Statement) (p : Parts) : Type 0 where
   pub names : NumbersText n order ss
+  -- what is evaluated for an attribute is what the object's entities say
+  pub sources : (of : Numbered) → n.source of ≡ source_in p.entities of
   pub entities : AreEntitiesOf n order ss (entities_of ss) p.entities
   pub code : HasCode n order ss p.procedures p.blocks
   pub count : p.count ≡ count_in ss
@@ -74,8 +77,17 @@ pub record IsNamed (ss : List Statement) : Type 0 where
   pub limits : limits_in ss ≡ []
   pub refusals : refusals_in ss ≡ []
 
+-- nothing of an object is settled yet: it has no state table and no return rows, and each weight is the least
+pub record IsDraft (p : Parts) : Type 0 where
+  pub returns : p.returns ≡ []
+  pub states : p.states ≡ replicate (length p.blocks) None
+  pub chain_states : p.chain_states ≡ replicate (chains_in p.entities) None
+  pub weights : p.weights ≡ replicate (length p.blocks) 1
+  pub chain_weights : p.chain_weights ≡ replicate (chains_in p.entities) 1
+
 -- an object is made of statements
 pub record IsMadeOf (ss : List Statement) (p : Parts) : Type 0 where
+  pub draft : IsDraft p
   pub named : IsNamed ss
   pub numbers : Numbers
   pub order : List Origin

@@ -1,5 +1,5 @@
 -- What the procedures of a model text are compiled from.
-use Rattle.std.specs.Prelude.{◌≡◌, ℕ, List, length, Some, Result, IfOk, slice_get, [], ◌∷◌, ◌++◌}
+use Rattle.std.specs.Prelude.{◌≡◌, ℕ, List, length, take, Some, Result, IfOk, slice_get, [], ◌∷◌, ◌++◌}
 use Rattle.gw_code.specs.declared.parts.Procedure.{Procedure}
 use Rattle.gw_text_expressions.specs.declared.model.Expression.{Expression}
 use Rattle.gw_text_plus.specs.declared.model.Procedure.{Procedure as TextProcedure}
@@ -26,18 +26,17 @@ IsProcedureOfBody n before (bodies.Points points) s k pr = IsFromExpression n be
 abbrev pub IsProcedureOf : Numbers → List Procedure → Statement → ℕ → Procedure → Type 0
 IsProcedureOf n before s k pr = IsProcedureOfBody n before s.body s k pr
 
--- the procedure of an origin
-pub record ComesFrom (n : Numbers) (ss : List Statement) (origin : Origin) (pr : Procedure) : Type 0 where
-  pub before : List Procedure
+-- the procedure of an origin, where these procedures are compiled before
+pub record ComesFrom (n : Numbers) (ss : List Statement) (before : List Procedure) (origin : Origin) (pr : Procedure) : Type 0 where
   pub statement : Statement
   pub there : slice_get ss origin.statement ≡ Some statement
   pub compiled : IsProcedureOf n before statement origin.operand pr
 
--- the procedures of these origins, in order
+-- the procedures of these origins, in order, each compiled where those before it are
 pub record AreCompiled (n : Numbers) (ss : List Statement) (order : List Origin) (procedures : List Procedure) : Type 0 where
   pub all : length procedures ≡ length order
   pub each : (q : ℕ) (origin : Origin) → slice_get order q ≡ Some origin
-      → (pr : Procedure) × (slice_get procedures q ≡ Some pr) × ComesFrom n ss origin pr
+      → (pr : Procedure) × (slice_get procedures q ≡ Some pr) × ComesFrom n ss (take q procedures) origin pr
 
 -- one more procedure, of which this is so, stands behind others
 abbrev pub Grows : (Procedure → Type 0) → List Procedure → List Procedure → Type 0

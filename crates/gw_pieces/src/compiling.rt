@@ -158,7 +158,8 @@ fn put_procedure_from(
     ledger: &mut Ledger,
 ) -> Result<(), AllocError>
     ensures grown { OnOk result (StaysClear ledger.old ledger.new
-        (Grows (ComesFrom (numbers_of names.now) text.now.statements.items origin)
+        (Grows (ComesFrom (numbers_of names.now) text.now.statements.items procedures.old.items
+        origin)
         procedures.old.items procedures.new.items)) }
     ensures notes { OnOk result (NotesMore
         (OriginLimit (numbers_of names.now) text.now.statements.items origin)

@@ -1,6 +1,6 @@
 //! The parts of the object that a model text becomes.
 
-ghost use Rattle.std.specs.Prelude.{◌≡◌, ◌≤◌, [], length, slice_get, IfOk, IfErr, OnOk};
+ghost use Rattle.std.specs.Prelude.{◌≡◌, ◌≤◌, [], length, replicate, slice_get, None, IfOk, IfErr, OnOk};
 ghost use Rattle.gw_object.specs.Reading.{out_of_memory};
 ghost use Rattle.gw_object.specs.declared.limits.TheConstants.{MOST_PROCEDURES};
 ghost use Rattle.gw_names.specs.Ledger.{with_notes};
@@ -322,7 +322,9 @@ fn pieces_of(alloc: Global, text: &Model, ledger: &mut Ledger) -> Result<Pieces,
 }
 
 /// So many rows of a state table, none of which is there.
-fn no_rows(alloc: Global, count: usize) -> Result<Vec<Option<TableState>>, AllocError> {
+fn no_rows(alloc: Global, count: usize) -> Result<Vec<Option<TableState>>, AllocError>
+    ensures { IfOk result (λ rows. rows.items ≡ replicate count None) }
+{
     let mut rows = Vec::with_capacity(alloc, count)?;
     for _ in 0..count {
         rows.push(None).map_err(|_| AllocError)?;
@@ -343,7 +345,11 @@ struct Rest {
 
 /// What an object of so many blocks and user chains has beside its pieces.
 fn rest_of(alloc: Global, text: &Model, blocks: usize, chains: usize) -> Result<Rest, AllocError>
-    ensures { IfOk result (λ rest. rest.seeds.items ≡ seeds_in text.now.statements.items) }
+    ensures seeds { IfOk result (λ rest. rest.seeds.items ≡ seeds_in text.now.statements.items) }
+    ensures states { IfOk result (λ rest. rest.states.items ≡ replicate blocks None) }
+    ensures chain_states { IfOk result (λ rest. rest.chain_states.items ≡ replicate chains None) }
+    ensures weights { IfOk result (λ rest. rest.weights.items ≡ replicate blocks 1) }
+    ensures chain_weights { IfOk result (λ rest. rest.chain_weights.items ≡ replicate chains 1) }
 {
     Ok(Rest {
         seeds: seeds_of(alloc, text.statements.as_slice())?,
@@ -361,6 +367,11 @@ fn parts_with(alloc: Global, count: u64, pieces: Pieces, rest: Rest) -> Parts
     ensures entities { result.entities ≡ pieces.entities.items }
     ensures procedures { result.procedures ≡ pieces.procedures.items }
     ensures blocks { result.blocks ≡ pieces.blocks.items }
+    ensures returns { result.returns ≡ [] }
+    ensures states { result.states ≡ rest.states.items }
+    ensures chain_states { result.chain_states ≡ rest.chain_states.items }
+    ensures weights { result.weights ≡ rest.weights.items }
+    ensures chain_weights { result.chain_weights ≡ rest.chain_weights.items }
 {
     Parts {
         seeds: Items::from_vec(rest.seeds),

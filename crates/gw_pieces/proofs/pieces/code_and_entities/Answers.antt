@@ -1,7 +1,8 @@
 use Rattle.std.proofs.Common.{ap, sym, subst}
 use Rattle.gw_names.specs.declared.names.Names.{Names}
 use Rattle.gw_names.specs.Numbers.{numbers_of}
-use Rattle.gw_pieces.specs.Entities.{AreSightedAs}
+use Rattle.gw_pieces.specs.Making.{HasAll}
+use Rattle.gw_pieces.specs.Numbers.{with_source, source_in}
 use Rattle.gw_pieces.proofs.Reasoning.{all_pieces}
 use Rattle.gw_pieces.proofs.Succeeding.{on_ok, on_every_ok}
 use Rattle.gw_pieces.proofs.Sighting.{resourced}
@@ -18,8 +19,11 @@ returns-clause-made c =
     on_every_ok c.code_with.result (λ code h none.
     let g = h none in
     let e = c.in_ok-entities.ensures.sighted g.0 in
-    let sights = subst (AreSightedAs after order ss sighted) (sym same) (resourced n after.source order ss sighted c.in_ok-entities.entities.items e.1) in
-    (e.0, λ few. (after.source, record { sights = sights; code = g.1 few }))) c.code_with.ensures.made
+    let seen = resourced n after.source order ss sighted c.in_ok-entities.entities.items e.1 in (
+      e.0,
+      λ few. subst (λ es. HasAll (with_source n (source_in es)) order ss sighted es code.procedures.items code.blocks.items) (sym same)
+          (record { sights = seen; code = g.1 few }),
+    )) c.code_with.ensures.made
 
 pub returns-clause-notes : goal.returns-clause-notes
 returns-clause-notes c =
