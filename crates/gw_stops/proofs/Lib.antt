@@ -1,0 +1,2 @@
+pub mod Activations
+pub mod Stops
