@@ -1,18 +1,19 @@
 -- Each row of a service is of a job that was submitted, and its steps are those of the job's lone run.
-use Rattle.std.proofs.Common.{◌≡◌, ℕ, zero, suc, List, [], ◌∷◌, ◌++◌, Option, Some, None, refl, subst}
+use Rattle.std.proofs.Common.{◌≡◌, ℕ, zero, suc, List, [], ◌∷◌, ◌++◌, Option, Some, refl, subst, ap, ◌∙◌}
 use Rattle.std.specs.List.{slice_get}
-use Rattle.gw_step.specs.State.{State}
-use Rattle.gw_step.specs.Job.{Job, JobFits}
+use Rattle.gw_step.specs.Job.{JobFits, after}
 use Rattle.gw_step.proofs.Slices.{one_state}
-use Rattle.gw_step.proofs.Safe.{reached_states_are_well_typed, well_typed_states_step, no_job_is_stuck}
+use Rattle.gw_step.proofs.Safe.{checked_objects_start, reached_states_are_well_typed, well_typed_states_step, no_job_is_stuck}
 use Rattle.gw_step.proofs.Moment.{entries_are_within_weight}
 use Rattle.gw_service.specs.Rows.{Row, Jobs, change_row, new_row, taken_row, returned_row, cancelled_row}
-use Rattle.gw_service.specs.Journal.{Event, Submit, Take, Return, Cancel, OfRow, HasState, MayReturn, MayCome, EachMayCome, apply, no_jobs, replay_from}
-use Rattle.gw_headline.specs.Headline.{SubmitsAccepted, AllSubmitAccepted, RunsSafely, IsVerifiedRow, VerifiedObjectsRunSafely}
+use Rattle.gw_service.specs.Journal.{Event, Submit, Take, Return, Cancel, OfRow, HasState, MayReturn, MayCome, EachMayCome, SubmitsAccepted, AllSubmitAccepted, apply, no_jobs, replay_from}
+use Rattle.gw_headline.specs.Headline.{AcceptedJobsRunSafely, VerifiedObjectsRunSafely, ServicesRunSafely}
 
 -- a job of an accepted object runs safely
-safely : (j : Job) → JobFits j → RunsSafely j
+pub safely : AcceptedJobsRunSafely
+unfolding after
 safely j fits = record {
+  starts = let first = checked_objects_start j fits.checked in record { state = first.0; alone = first.1 };
   never = λ n s alone. no_job_is_stuck j n s fits.checked alone;
   goes_on = λ n s alone runs. well_typed_states_step j s fits.checked (reached_states_are_well_typed j n s fits.checked alone) runs;
   determined = λ n s t. one_state j n s t;
@@ -60,3 +61,7 @@ pub verified_objects_run_safely : VerifiedObjectsRunSafely
 verified_objects_run_safely events slot r history fits here =
     let row = row_of slot (replay_from no_jobs events).rows r (after_events events no_jobs fits history tt) here in
     record { state = row.state; safe = safely r.job row.fits }
+
+pub services_run_safely : ServicesRunSafely
+services_run_safely s slot r kept fits here =
+    verified_objects_run_safely s.journal slot r kept.history fits (ap (λ (now : Jobs). slice_get now.rows slot) kept.replayed ∙ here)

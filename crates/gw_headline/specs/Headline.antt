@@ -1,26 +1,13 @@
 -- The headline: verified objects run without an error stop, alone and under every schedule.
-use Rattle.std.specs.Prelude.{◌≡◌, ℕ, ◌+◌, ◌≤◌, List, [], ◌∷◌, sum, Some, None}
+use Rattle.std.specs.Prelude.{◌≡◌, ℕ, ◌+◌, ◌≤◌, List, sum, Some, None}
 use Rattle.std.specs.List.{slice_get}
 use Rattle.gw_step.specs.State.{State}
 use Rattle.gw_step.specs.Weight.{weight}
 use Rattle.gw_step.specs.Job.{Job, JobFits, Step, IsStuck, Alone}
 use Rattle.gw_step.specs.Moments.{SameMoment}
 use Rattle.gw_service.specs.Rows.{Row}
-use Rattle.gw_service.specs.Journal.{Event, Submit, Take, Return, Cancel, HasState, IsHistory, replay}
-
--- SCHEDULES
-
--- an event submits no other job than one of an accepted object, with seeds, a count and a budget in their ranges
-abbrev pub SubmitsAccepted : Event → Type 0
-SubmitsAccepted (Submit user job) = JobFits job
-SubmitsAccepted (Take slot) = Unit {0}
-SubmitsAccepted (Return slot steps) = Unit {0}
-SubmitsAccepted (Cancel slot) = Unit {0}
-
--- so it is of each event of a list
-abbrev pub AllSubmitAccepted : List Event → Type 0
-AllSubmitAccepted [] = Unit {0}
-AllSubmitAccepted (e ∷ es) = SubmitsAccepted e × AllSubmitAccepted es
+use Rattle.gw_service.specs.Journal.{Event, Service, HasState, IsHistory, AllSubmitAccepted, replay}
+use Rattle.gw_service.specs.Keeping.{IsKept}
 
 -- JOBS
 
@@ -42,10 +29,16 @@ EntersWithinWeight j = (s t : State) → SameMoment j s t → sum t.entries ≤ 
 
 -- a job that runs safely, whoever runs it, and in whatever slices
 pub record RunsSafely (j : Job) : Type 0 where
+  -- it has a start
+  pub starts : HasState j 0
   pub never : MeetsNoErrorStop j
   pub goes_on : GoesOn j
   pub determined : IsDetermined j
   pub within : EntersWithinWeight j
+
+-- each job of an accepted object, with seeds, a count and a budget in their ranges, runs safely, whether it was submitted or not
+abbrev pub AcceptedJobsRunSafely : Type 0
+AcceptedJobsRunSafely = (j : Job) → JobFits j → RunsSafely j
 
 -- ROWS
 
@@ -58,3 +51,7 @@ pub record IsVerifiedRow (r : Row) : Type 0 where
 abbrev pub VerifiedObjectsRunSafely : Type 0
 VerifiedObjectsRunSafely =
     (events : List Event) (slot : ℕ) (r : Row) → IsHistory events → AllSubmitAccepted events → slice_get (replay events).rows slot ≡ Some r → IsVerifiedRow r
+
+-- so it is of each row of a service in hand whose journal tells such events: a table has in its type that it is one
+abbrev pub ServicesRunSafely : Type 0
+ServicesRunSafely = (s : Service) (slot : ℕ) (r : Row) → IsKept s → AllSubmitAccepted s.journal → slice_get s.now.rows slot ≡ Some r → IsVerifiedRow r

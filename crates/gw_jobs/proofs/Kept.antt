@@ -6,7 +6,7 @@ use Rattle.std.proofs.lemmas.List.Sums.{sum_by-cons}
 use Rattle.std.proofs.lemmas.List.{length_push}
 use Rattle.std.proofs.lemmas.Option.{get_or_from_slice_get}
 use Rattle.gw_step.specs.State.{State}
-use Rattle.gw_step.specs.Job.{Job, Progress, IsReached, after, start_of}
+use Rattle.gw_step.specs.Job.{Job, JobFits, Progress, IsReached, after, start_of}
 use Rattle.gw_step.proofs.Rests.{start_steps}
 use Rattle.gw_same.specs.Jobs.{same_job}
 use Rattle.gw_same.proofs.Jobs.{job_apart}
@@ -20,7 +20,7 @@ use Rattle.gw_jobs.proofs.Stored.{tells_take, tells_return, tells_cancel, no-sub
 use Rattle.gw_service.specs.declared.faults.JobFault.{JobFault}
 use Rattle.gw_service.specs.declared.faults.JobFault.TheVariants as faults
 use Rattle.gw_service.specs.Rows.{Row, change_row, new_row, taken_row, returned_row, cancelled_row, is_ready, is_out, is_running, out_of, steps_of, own_row, rows_of, running_in, standing_at}
-use Rattle.gw_service.specs.Journal.{Service, Take, Return, Cancel, HasState, slot_if_ready, ready_without, with_event}
+use Rattle.gw_service.specs.Journal.{Service, Event, Submit, Take, Return, Cancel, HasState, SubmitsAccepted, AllSubmitAccepted, slot_if_ready, ready_without, with_event}
 use Rattle.gw_service.specs.Calls.{Pass, Receipt, admit, row_in, most_events, is_journal_full, submit_refusal, submit_fault, cancel_refusal, cancel_fault, take_from, take_reply, fits_row, receipt_of, receipt_for, give_back_reply, Refuses, RefusesTake}
 use Rattle.gw_service.specs.Machine.{Submits, Cancels, Takes, GivesBack, take_event, return_event, event_unless}
 use Rattle.gw_service.specs.Keeping.{counts_ready, IsKept, AreReached, IsSound, steps_in}
@@ -29,6 +29,7 @@ use Rattle.gw_service.proofs.Changing.{length-changed, sum-changed}
 use Rattle.gw_service.proofs.Grounds.{TakeGrounds, ReturnGrounds, CancelGrounds, grounds}
 use Rattle.gw_service.proofs.Listing.{ReadyRow, one_ready, taken_ready}
 use Rattle.gw_service.proofs.Totals.{counts_out, steps_by, submit_out, take_out, return_out, cancel_out, submit_steps, take_steps, return_steps, cancel_steps}
+use Rattle.gw_service.proofs.History.{accepted-added}
 use Rattle.gw_service.proofs.Kept.{next_kept}
 use Rattle.gw_service.proofs.Nexts.{next_submit, next_cancel, next_take, next_give_back}
 
@@ -100,6 +101,12 @@ full_is rows ready journal out steps need kept =
     let same : length journal + out + need ≡ length (service rows ready journal).journal + out_of rows + need = omega (arith, kept.out_is, length-events rows journal most) in
     ap (nat_lt most_events) same
 
+-- ACCEPTED OBJECTS
+
+-- each job of a service is one of an accepted object, also after an event that submits no other
+accepted_after : (e : Event) (s t : Service) → t ≡ with_event e s → AllSubmitAccepted s.journal → SubmitsAccepted e → AllSubmitAccepted t.journal
+accepted_after e s t is all one = subst (λ (x : Service). AllSubmitAccepted x.journal) (sym is) (accepted-added s.journal e all one)
+
 -- TAKE
 
 pub take_reply_is : (rows : List Row) (ready : List ℕ) (journal : List StoredEvent) (out steps : ℕ) (full : Bool) → AreKept rows ready journal out steps → full ≡ nat_lt most_events (length journal + out + 2) → take_from ready full ≡ take_reply (service rows ready journal)
@@ -128,6 +135,7 @@ take_kept rows ready journal out steps k kept told =
     let r = taken_ready k s kept.kept.listed (take_grounds s k told) in
     record {
       kept = subst IsKept (next_take k s told ∙ sym (take_service rows ready journal k)) (next_kept Takes s tt kept.kept);
+      accepted = accepted_after (Take k) s _ (take_service rows ready journal k) kept.accepted tt;
       submits = no-submit (stored.Take k) (Take k) (tells_take k) journal ∙ kept.submits ∙ sym (length-changed k taken_row rows);
       out_is = omega (arith, kept.out_is, take_out k s r);
       steps_is = kept.steps_is ∙ sym (take_steps k rows);
@@ -225,6 +233,7 @@ return_kept rows ready journal out left steps total k before p kept f reached le
     let next = next_give_back k j n s (receipt_of k (returned_row n f.row)) (reply_is rows ready journal k j n before f) in
     record {
       kept = subst IsKept (next ∙ sym (return_service rows ready journal k n)) (next_kept (GivesBack k j n) s (task_sound p k reached) kept.kept);
+      accepted = accepted_after (Return k n) s _ (return_service rows ready journal k n) kept.accepted tt;
       submits = no-submit (stored.Return k n) (Return k n) (tells_return k n) journal ∙ kept.submits ∙ sym (length-changed k (returned_row n) rows);
       out_is = omega (arith, less, kept.out_is, return_out k n s g);
       steps_is = omega (arith, more, kept.steps_is, f.before_is, sum-changed steps_by k (returned_row n) rows f.row f.here);
@@ -274,6 +283,7 @@ cancel_kept rows ready journal out steps p kept told =
     let s = service rows ready journal in
     record {
       kept = subst IsKept (next_cancel p s told ∙ sym (cancel_service rows ready journal p.slot)) (next_kept (Cancels p) s tt kept.kept);
+      accepted = accepted_after (Cancel p.slot) s _ (cancel_service rows ready journal p.slot) kept.accepted tt;
       submits = no-submit (stored.Cancel p.slot) (Cancel p.slot) (tells_cancel p.slot) journal ∙ kept.submits ∙ sym (length-changed p.slot cancelled_row rows);
       out_is = kept.out_is ∙ sym (cancel_out p.slot rows);
       steps_is = kept.steps_is ∙ sym (cancel_steps p.slot rows);
@@ -297,12 +307,13 @@ is_new r u j s user job steps standing start =
     let stands = standing ∙ ap (standing_at j) none in
     λ i. record { user = user i; job = job i; steps = all i; standing = stands i }
 
-pub submit_kept : (rows : List Row) (ready : List ℕ) (journal : List StoredEvent) (out steps u : ℕ) (j : Job) → AreKept rows ready journal out steps → submit_fault u (service rows ready journal) ≡ None → HasState j 0
+pub submit_kept : (rows : List Row) (ready : List ℕ) (journal : List StoredEvent) (out steps u : ℕ) (j : Job) → AreKept rows ready journal out steps → submit_fault u (service rows ready journal) ≡ None → HasState j 0 → JobFits j
     → AreKept (rows ++ new_row u j ∷ []) (ready ++ slot_if_ready (length rows) (Some (new_row u j))) (journal ++ stored.Submit ∷ []) out steps
-submit_kept rows ready journal out steps u j kept told start =
+submit_kept rows ready journal out steps u j kept told start fits =
     let s = service rows ready journal in
     record {
       kept = subst IsKept (next_submit u j s told ∙ sym (submit_service rows ready journal u j kept.submits)) (next_kept (Submits u j) s start kept.kept);
+      accepted = accepted_after (Submit u j) s _ (submit_service rows ready journal u j kept.submits) kept.accepted fits;
       submits = omega (arith, one-submit journal, kept.submits, length_push rows (new_row u j));
       out_is = kept.out_is ∙ sym (submit_out u j rows);
       steps_is = kept.steps_is ∙ sym (submit_steps u j rows);

@@ -1,3 +1,4 @@
 pub mod Stored
 pub mod Kept
 pub mod Holding
+pub mod Alike

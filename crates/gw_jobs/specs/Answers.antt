@@ -7,7 +7,7 @@ use Rattle.gw_report.specs.Report.{report_of}
 use Rattle.gw_service.specs.declared.faults.JobFault.{JobFault}
 use Rattle.gw_service.specs.Rows.{Row, is_out, out_of, steps_of, change_row, returned_row}
 use Rattle.gw_service.specs.Journal.{Service, Take, Return, with_event}
-use Rattle.gw_service.specs.Calls.{take_reply, Receipt, receipt_of, fits_row, receipt_for, give_back_reply}
+use Rattle.gw_service.specs.Calls.{Pass, collect_reply, take_reply, Receipt, receipt_of, fits_row, receipt_for, give_back_reply}
 use Rattle.gw_service.specs.Keeping.{steps_in}
 use Rattle.gw_jobs.specs.declared.replies.Reply.{Reply}
 use Rattle.gw_jobs.specs.Passes.{Task, steps_made}
@@ -27,6 +27,18 @@ pub record IsReplyOf (j : Job) (n : ℕ) (r : Reply) : Type 0 where
 abbrev pub IsCollected : Job → Result Row JobFault → Reply → Type 0
 IsCollected j (Err fault) reply = ⊥
 IsCollected j (Ok r) reply = IsReplyOf j r.steps reply
+
+-- two replies tell the same: the job, its steps, its end, and the report byte for byte
+pub record TellTheSame (a b : Reply) : Type 0 where
+  pub spec : a.spec ≡ b.spec
+  pub steps : a.steps ≡ b.steps
+  pub end : a.end ≡ b.end
+  pub report : a.report.items ≡ b.report.items
+
+-- whatever services two replies come from, and for whichever passes: where the rows that are collected are equal, they tell the same
+abbrev pub EqualRowsAreToldAlike : Type 0
+EqualRowsAreToldAlike =
+    (p q : Pass) (s t : Service) (r : Row) (a b : Reply) → collect_reply p s ≡ Ok r → collect_reply q t ≡ Ok r → IsCollected p.job (collect_reply p s) a → IsCollected q.job (collect_reply q t) b → TellTheSame a b
 
 -- TAKE
 

@@ -2,6 +2,7 @@
 #![tactic(auto)]
 
 mod journal;
+mod laws;
 mod pass;
 mod ready;
 mod replies;
@@ -13,6 +14,7 @@ mod task;
 
 pub use gw_scan::Slice;
 pub use gw_service::{JobFault, Progress, State};
+pub use laws::equal_rows_are_told_alike;
 pub use pass::Pass;
 pub use replies::{Reply, Returned};
 pub use table::Table;

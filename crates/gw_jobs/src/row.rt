@@ -1,7 +1,7 @@
 //! A row of the table.
 
 ghost use Rattle.std.specs.Prelude.{◌≡◌, ℕ, ◌≤◌, ◌^◌, true, Some, IfSome, IfNone};
-ghost use Rattle.gw_step.specs.Job.{Job, Alone};
+ghost use Rattle.gw_step.specs.Job.{Job, JobFits, Alone};
 ghost use Rattle.gw_service.specs.Rows as rows;
 ghost use Rattle.gw_service.specs.Calls.{state_for};
 ghost use Rattle.gw_jobs.specs.Holding.{standing_of, standing_after, HoldsFor};
@@ -51,6 +51,7 @@ impl Model for Row {
 fn standing_with(sim: Sim) -> Standing
     ensures holds { HoldsFor sim.job sim.state.steps result }
     ensures standing { standing_of result ≡ rows.standing_at sim.job sim.state.steps }
+    ensures fits { JobFits sim.job }
 {
     match sim.status() {
         Status::Ended(_) => Standing::Ended(sim),
@@ -99,6 +100,7 @@ impl Row {
         ensures job { result.job ≡ spec }
         ensures steps { result.steps ≡ sim.state.steps }
         ensures standing { result.standing ≡ rows.standing_at spec sim.state.steps }
+        ensures fits { JobFits spec }
     {
         let steps = sim.steps();
         let standing = standing_with(sim);

@@ -1,7 +1,7 @@
 //! What a submit needs: the job at its start, and room for its row.
 
 ghost use Rattle.std.specs.Prelude.{◌≡◌, ◌+◌, ◌≤◌, ◌<◌, ◌∷◌, ◌++◌, [], vec_len, vec_capacity, IfOk, IfErr, Some};
-ghost use Rattle.gw_step.specs.Job.{start_of};
+ghost use Rattle.gw_step.specs.Job.{JobFits, start_of};
 ghost use Rattle.gw_service.specs.Rows.{new_row};
 
 use crate::journal::{StoredEvent, reserve_more};
@@ -111,12 +111,13 @@ pub fn make_room(
     reserve_row(rows)
 }
 
-/// Puts a new row at the end.
+/// Puts a new row at the end, whose job is one of an accepted object.
 pub fn add_row(rows: &mut Vec<Row>, user: u64, spec: Spec, sim: Sim)
     requires room { vec_len rows.old < vec_capacity rows.old }
     requires job { sim.job ≡ spec }
     requires start { start_of spec ≡ Some sim.state }
     ensures rows { rows.new.items ≡ rows.old.items ++ (new_row user spec ∷ []) }
+    ensures fits { JobFits spec }
     ensures len { vec_len rows.new ≡ vec_len rows.old + 1 }
 {
     rows.push_reserved(Row::new(user, spec, sim));

@@ -2,7 +2,7 @@
 
 ghost use Rattle.std.specs.Prelude.{◌≡◌, ◌+◌, ◌≤◌, ◌<◌, ◌^◌, None, Some, Ok, IfOk, IfErr, OnErr};
 ghost use Rattle.gw_service.specs.Rows.{out_of, steps_of};
-ghost use Rattle.gw_service.specs.Journal.{new_service, with_event, Submit, Cancel};
+ghost use Rattle.gw_service.specs.Journal.{new_service, with_event, Submit, Cancel, AllSubmitAccepted};
 ghost use Rattle.gw_service.specs.Calls.{new_pass, submit_fault, take_reply, RefusesTake, poll_reply, collect_reply, cancel_fault, fault_in, Refuses};
 ghost use Rattle.gw_service.specs.Keeping.{IsKept};
 ghost use Rattle.gw_jobs.specs.Passes.{steps_made};
@@ -26,8 +26,8 @@ use std::alloc::Global;
 use std::marker::Model;
 
 /// The jobs of many users: their rows, the ready list and the journal, as a service (docs/service.md). Its journal replays
-/// to the rows and the ready list, and each row that is ready or ended has the state that its job's lone run has after the
-/// row's steps.
+/// to the rows and the ready list, has no event that could not come, and submits no jobs but those of accepted objects; and each
+/// row that is ready or ended has the state that its job's lone run has after the row's steps.
 #[derive(Drop)]
 pub struct Table {
     rows: Vec<Row>,
@@ -225,8 +225,10 @@ impl Table {
     /// The steps that were given back, of all rows together. They never fall.
     pub fn steps(&self) -> u128
         ensures value { result ≡ steps_of self.now.now.rows }
-        // So it is of every table: whatever calls made it, all that sound calls keep is so.
+        // So it is of every table: whatever calls made it, all that sound calls keep is so, and each job is one of an
+        // accepted object. So the headline's law speaks of each row.
         ensures kept { IsKept self.now }
+        ensures accepted { AllSubmitAccepted self.now.journal }
     {
         self.steps
     }

@@ -2,7 +2,7 @@
 
 ghost use Rattle.std.specs.Prelude.{◌≡◌, ◌+◌, ◌≤◌, ◌<◌, ◌^◌, None, Some, Ok, IfOk, IfErr, OnErr};
 ghost use Rattle.gw_service.specs.Rows.{out_of, steps_of};
-ghost use Rattle.gw_service.specs.Journal.{new_service, with_event, Submit, Cancel};
+ghost use Rattle.gw_service.specs.Journal.{new_service, with_event, Submit, Cancel, AllSubmitAccepted};
 ghost use Rattle.gw_service.specs.Calls.{most_jobs, new_pass, submit_fault, take_reply, RefusesTake, poll_reply, collect_reply, cancel_fault, fault_in, Refuses};
 ghost use Rattle.gw_service.specs.Keeping.{IsKept};
 ghost use Rattle.gw_jobs.specs.Passes.{steps_made};
@@ -174,8 +174,10 @@ impl<R: Ledger, S: Ledger> Shared<R, S> {
     /// The steps that were given back, of all rows together. They never fall.
     pub fn steps(&self) -> u128
         ensures value { result ≡ steps_of self.now.now.rows }
-        // So it is of every table: whatever calls made it, all that sound calls keep is so.
+        // So it is of every table: whatever calls made it, all that sound calls keep is so, and each job is one of an
+        // accepted object. So the headline's law speaks of each row.
         ensures kept { IsKept self.now }
+        ensures accepted { AllSubmitAccepted self.now.journal }
     {
         self.table.steps()
     }

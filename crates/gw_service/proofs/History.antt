@@ -5,7 +5,7 @@ use Rattle.std.specs.List.{slice_get}
 use Rattle.gw_step.specs.Job.{Job}
 use Rattle.gw_service.specs.declared.faults.JobFault.{JobFault}
 use Rattle.gw_service.specs.Rows.{Row, Jobs, is_cancellable}
-use Rattle.gw_service.specs.Journal.{Service, Event, Submit, Take, Cancel, OfRow, HasState, MayReturn, MayCome, EachMayCome, IsHistory, IsReplayed, apply, no_jobs, replay_from, new_service}
+use Rattle.gw_service.specs.Journal.{Service, Event, Submit, Take, Cancel, OfRow, HasState, MayReturn, MayCome, EachMayCome, IsHistory, IsReplayed, SubmitsAccepted, AllSubmitAccepted, apply, no_jobs, replay_from, new_service}
 use Rattle.gw_service.specs.Calls.{submit_fault, cancel_fault, take_reply}
 use Rattle.gw_service.specs.Machine.{Call, Submits, Polls, Collects, Cancels, Takes, GivesBack, event_of, after_event, next, all_next, event_unless, take_event}
 use Rattle.gw_service.specs.Keeping.{IsSound, AllSound, EventsMayCome, EveryJournalIsHistory}
@@ -56,10 +56,21 @@ after_history : (o : Option Event) (s : Service) → IsReplayed s → IsHistory 
 after_history None s r h m = h
 after_history (Some e) s r h m = each-added s.journal e no_jobs h (subst (λ (l : Jobs). MayCome e l) (sym r) (m e refl))
 
+-- a sound call keeps it
+pub next_history : (c : Call) (s : Service) → IsSound c → IsReplayed s → IsHistory s.journal → IsHistory (next c s).journal
+next_history c s sound r h = after_history (event_of c s) s r h (λ e is. events_may_come c s e sound is)
+
 from_history : (cs : List Call) (s : Service) → AllSound cs → IsReplayed s → IsHistory s.journal → IsHistory (all_next cs s).journal
 from_history [] s sound r h = h
 from_history (c ∷ cs) s sound r h =
-    from_history cs (next c s) sound.1 (next_replays c s r) (after_history (event_of c s) s r h (λ e is. events_may_come c s e sound.0 is))
+    from_history cs (next c s) sound.1 (next_replays c s r) (next_history c s sound.0 r h)
 
 pub all_history : EveryJournalIsHistory
 all_history cs sound = from_history cs new_service sound refl tt
+
+-- ACCEPTED OBJECTS
+
+-- one event more that submits no other job
+pub accepted-added : (es : List Event) (e : Event) → AllSubmitAccepted es → SubmitsAccepted e → AllSubmitAccepted (es ++ e ∷ [])
+accepted-added [] e h more = (more, tt)
+accepted-added (x ∷ es) e h more = (h.0, accepted-added es e h.1 more)

@@ -6,9 +6,9 @@ use Rattle.gw_step.specs.Job.{Job}
 use Rattle.gw_service.specs.declared.faults.JobFault.{JobFault}
 use Rattle.gw_service.specs.declared.faults.JobFault.TheVariants as faults
 use Rattle.gw_service.specs.Rows.{Row, change_row, new_row, taken_row, returned_row, cancelled_row, rows_of, user_place, own_row}
-use Rattle.gw_service.specs.Journal.{Service, Submit, Cancel}
-use Rattle.gw_service.specs.Calls.{Pass, Receipt, admit, row_for, progress_of, ended_row, own_cancel_fault, journal_limit, first_fault, is_user_full, is_journal_full, most_jobs, submit_limit, submit_fault, take_reply, give_back_reply}
-use Rattle.gw_service.specs.Machine.{Call, Submits, Polls, Collects, Cancels, Takes, GivesBack, Reply, Refusal, SlotReply, Assent, tell_progress, tell_row, unless, event_unless, take_event, return_event, after_event, reply}
+use Rattle.gw_service.specs.Journal.{Service, Event, Submit, Cancel}
+use Rattle.gw_service.specs.Calls.{Pass, Receipt, admit, row_for, progress_of, ended_row, own_cancel_fault, journal_limit, first_fault, is_user_full, is_journal_full, most_jobs, submit_limit, submit_fault, cancel_fault, take_reply, give_back_reply}
+use Rattle.gw_service.specs.Machine.{Call, Submits, Polls, Collects, Cancels, Takes, GivesBack, Reply, Refusal, SlotReply, Assent, tell_progress, tell_row, unless, event_unless, take_event, return_event, after_event, reply, next}
 use Rattle.gw_service.specs.Isolation.{Concern, OwnSubmit, OwnPoll, OwnCollect, OwnCancel, NoConcern, Notice, NoNotice, NewJob, Answer, IsPrivate, OneCallIsPrivate, OthersLeaveMyRows, row_at, change_at, take_at, return_at, take_concern, return_concern, concern, notice_of, notice, is_limited, own_notice, own_next, rows_unless}
 use Rattle.gw_service.proofs.Rows.{self_equal, are_equal, own-place, rows-changed, other-place, rows-added, rows-others}
 
@@ -156,7 +156,7 @@ free : (b : Bool) (x : Concern) (t : Notice) → (if b then x else NoConcern) �
 free true x t h f = f h
 free false x t h f = refl
 
-unlimited : (u : ℕ) (c : Call) (s : Service) → concern u c s ≡ NoConcern → is_limited (notice u c s) ≡ false
+pub unlimited : (u : ℕ) (c : Call) (s : Service) → concern u c s ≡ NoConcern → is_limited (notice u c s) ≡ false
 unlimited u (Submits v j) s h = free (v == u) (OwnSubmit j) (notice_of (reply (Submits v j) s)) h (λ e. absurd cc)
 unlimited u (Polls p) s h = free (p.user == u) (OwnPoll (user_place u p.slot s.now.rows) p.job) (notice_of (reply (Polls p) s)) h (λ e. absurd cc)
 unlimited u (Collects p) s h = free (p.user == u) (OwnCollect (user_place u p.slot s.now.rows) p.job) (notice_of (reply (Collects p) s)) h (λ e. absurd cc)
@@ -166,3 +166,19 @@ unlimited u (GivesBack k j n) s h = refl
 
 pub others : OthersLeaveMyRows
 others u c s h = (private u c s (unlimited u c s h)).rows ∙ ap (λ (x : Concern). own_next u x (rows_of u s.now.rows)) h
+
+-- REFUSED BY WHAT ALL SHARE
+
+unless_stays : (b : Bool) (fault : Option JobFault) (r : Reply) (e : Event) (s : Service) → is_limited (notice_of r) ≡ false → is_limited (if b then notice_of (unless fault r) else NoNotice) ≡ true → after_event (event_unless fault e) s ≡ s
+unless_stays false fault r e s assents limited = absurd cc
+unless_stays true None r e s assents limited = let never : true ≡ false = sym limited ∙ assents in absurd cc
+unless_stays true (Some fault) r e s assents limited = refl
+
+-- a call that is refused so leaves the service as it was
+pub limited_stays : (u : ℕ) (c : Call) (s : Service) → is_limited (notice u c s) ≡ true → next c s ≡ s
+limited_stays u (Submits v j) s limited = unless_stays (v == u) (submit_fault v s) (SlotReply (length s.now.rows)) (Submit v j) s refl limited
+limited_stays u (Polls p) s limited = refl
+limited_stays u (Collects p) s limited = refl
+limited_stays u (Cancels p) s limited = unless_stays (p.user == u) (cancel_fault p s) Assent (Cancel p.slot) s refl limited
+limited_stays u Takes s limited = absurd cc
+limited_stays u (GivesBack k j n) s limited = absurd cc

@@ -107,6 +107,10 @@ abbrev pub is_limited : Notice → Bool
 is_limited (Answer r) = is_shared_reply r
 is_limited other = false
 
+-- the refusal by what all users share that a user is told, if it is one
+abbrev pub limit_in : Notice → Option Notice
+limit_in told = if is_limited told then Some told else None
+
 -- A USER ALONE: what the user is told, and what becomes of the user's rows
 
 -- the row at a place, if there is one
@@ -164,11 +168,9 @@ pub record StaysAlike (u : ℕ) (c d : Call) (s t : Service) : Type 0 where
   pub notice : notice u c s ≡ notice u d t
   pub agree : AgreeFor u (next c s) (next d t)
 
--- where two services agree for a user, the same call gets the same reply and leaves them agreeing
+-- where two services agree for a user, the same call gets the same reply and leaves them agreeing, unless what all users share refuses it of one of them alone
 abbrev pub SameCallSameReply : Type 0
-SameCallSameReply =
-    (u : ℕ) (c d : Call) (s t : Service) → AgreeFor u s t → concern u c s ≡ concern u d t → is_limited (notice u c s) ≡ false → is_limited (notice u d t) ≡ false
-    → StaysAlike u c d s t
+SameCallSameReply = (u : ℕ) (c d : Call) (s t : Service) → AgreeFor u s t → concern u c s ≡ concern u d t → limit_in (notice u c s) ≡ limit_in (notice u d t) → StaysAlike u c d s t
 
 -- LISTS OF CALLS
 
@@ -198,18 +200,30 @@ abbrev pub notices : ℕ → List Call → Service → List Notice
 notices u [] s = []
 notices u (c ∷ cs) s = with_notice (notice u c s) (notices u cs (next c s))
 
--- the user is never refused by what all share
-abbrev pub NeverLimited : ℕ → List Call → Service → Type 0
-NeverLimited u [] s = Unit {0}
-NeverLimited u (c ∷ cs) s = (is_limited (notice u c s) ≡ false) × NeverLimited u cs (next c s)
+-- which refusal by what all share a call that concerns a user meets, if one, and those after it
+abbrev pub with_limit : Concern → Option Notice → List (Option Notice) → List (Option Notice)
+with_limit (OwnSubmit j) limit xs = limit ∷ xs
+with_limit (OwnPoll p j) limit xs = limit ∷ xs
+with_limit (OwnCollect p j) limit xs = limit ∷ xs
+with_limit (OwnCancel p j) limit xs = limit ∷ xs
+with_limit (OwnTake i) limit xs = limit ∷ xs
+with_limit (OwnReturn i n) limit xs = limit ∷ xs
+with_limit NoConcern limit xs = xs
+
+-- for each call that concerns a user the refusal by what all share that it meets, if it meets one
+abbrev pub limits : ℕ → List Call → Service → List (Option Notice)
+limits u [] s = []
+limits u (c ∷ cs) s = with_limit (concern u c s) (limit_in (notice u c s)) (limits u cs (next c s))
 
 -- two lists of calls tell a user the same, and leave two services agreeing
 pub record AllAlike (u : ℕ) (cs ds : List Call) (s t : Service) : Type 0 where
   pub notices : notices u cs s ≡ notices u ds t
   pub agree : AgreeFor u (all_next cs s) (all_next ds t)
 
--- the same of lists of calls, whatever calls of others come between, where the user's rows are taken and returned alike
+-- the same of lists of calls, whatever calls of others come between, where the user's rows are taken and returned alike, and what all share refuses the same calls. Where it refuses another one, the law speaks of the lists up to there
 abbrev pub SameCallsSameReplies : Type 0
-SameCallsSameReplies =
-    (u : ℕ) (cs ds : List Call) (s t : Service) → AgreeFor u s t → concerns u cs s ≡ concerns u ds t → NeverLimited u cs s → NeverLimited u ds t
-    → AllAlike u cs ds s t
+SameCallsSameReplies = (u : ℕ) (cs ds : List Call) (s t : Service) → AgreeFor u s t → concerns u cs s ≡ concerns u ds t → limits u cs s ≡ limits u ds t → AllAlike u cs ds s t
+
+-- what a user is told of a list of calls begins with what is told of its front: so the law speaks of all that comes before a refusal that only one side meets, whatever comes behind it
+abbrev pub FrontsAreToldFirst : Type 0
+FrontsAreToldFirst = (u : ℕ) (cs more : List Call) (s : Service) → notices u (cs ++ more) s ≡ notices u cs s ++ notices u more (all_next cs s)

@@ -2,7 +2,7 @@
 use Rattle.std.specs.Prelude.{◌≡◌, ℕ, ◌≤◌, ◌^◌, List, [], ◌∷◌, ◌++◌, length, drop, Option, Some, None, true, ◌==◌, not, if◌then◌else◌}
 use Rattle.std.specs.List.{filter, slice_get}
 use Rattle.gw_step.specs.State.{State}
-use Rattle.gw_step.specs.Job.{Job, Alone}
+use Rattle.gw_step.specs.Job.{Job, JobFits, Alone}
 use Rattle.gw_service.specs.Rows.{Row, Jobs, is_ready, is_out, is_cancellable, change_row, new_row, taken_row, returned_row, cancelled_row}
 
 -- EVENTS
@@ -106,3 +106,17 @@ EachMayCome (e ∷ es) s = MayCome e s × EachMayCome es (apply e s)
 -- a journal has no event that may not come
 abbrev pub IsHistory : List Event → Type 0
 IsHistory journal = EachMayCome journal no_jobs
+
+-- ACCEPTED OBJECTS
+
+-- an event submits no other job than one of an accepted object, with seeds, a count and a budget in their ranges
+abbrev pub SubmitsAccepted : Event → Type 0
+SubmitsAccepted (Submit user job) = JobFits job
+SubmitsAccepted (Take slot) = Unit {0}
+SubmitsAccepted (Return slot steps) = Unit {0}
+SubmitsAccepted (Cancel slot) = Unit {0}
+
+-- so it is of each event of a list
+abbrev pub AllSubmitAccepted : List Event → Type 0
+AllSubmitAccepted [] = Unit {0}
+AllSubmitAccepted (e ∷ es) = SubmitsAccepted e × AllSubmitAccepted es

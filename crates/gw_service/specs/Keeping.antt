@@ -145,6 +145,7 @@ EveryServiceIsReached = (cs : List Call) → AllSound cs → AreReached (all_nex
 -- a service as sound calls keep it
 pub record IsKept (s : Service) : Type 0 where
   pub replayed : IsReplayed s
+  pub history : IsHistory s.journal
   pub listed : ListsReady s.now
   pub within : IsWithinLimits s
   pub reached : AreReached s.now.rows

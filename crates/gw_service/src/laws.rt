@@ -1,6 +1,6 @@
 //! The laws of the service machine, each as the contract of a function that does nothing.
 
-ghost use Rattle.gw_service.specs.Isolation.{OneCallIsPrivate, OthersLeaveMyRows, SameCallSameReply, SameCallsSameReplies};
+ghost use Rattle.gw_service.specs.Isolation.{FrontsAreToldFirst, OneCallIsPrivate, OthersLeaveMyRows, SameCallSameReply, SameCallsSameReplies};
 ghost use Rattle.gw_service.specs.Keeping.{
   NextIsReplayed,
   EveryJournalReplays,
@@ -25,13 +25,15 @@ ghost use Rattle.gw_service.specs.Keeping.{
 /// User isolation: what a user is told, and what becomes of the user's rows, follows from those rows and from what each call is
 /// to the user. So where two services agree for a user, the same calls get the same replies and leave them agreeing, and calls of
 /// others leave the user's rows as they are. Excepted are a refusal by what all users share (61, 62, 63) and the slot of a new
-/// pass (ours: docs/service.md).
-#[tactic(auto, using(crate::proofs::Private::private, crate::proofs::Private::others, crate::proofs::Alike::alike, crate::proofs::Alike::all_alike))]
+/// pass. Where both services refuse a call of the user so, and alike, the two laws of agreeing services speak of it and of what
+/// follows; where only one of them does, they speak of the calls before it (ours: docs/service.md).
+#[tactic(auto, using(crate::proofs::Private::private, crate::proofs::Private::others, crate::proofs::Alike::alike))]
 pub fn users_are_isolated()
     ensures one { OneCallIsPrivate }
     ensures others { OthersLeaveMyRows }
     ensures same { SameCallSameReply }
     ensures all { SameCallsSameReplies }
+    ensures fronts { FrontsAreToldFirst }
 {}
 
 /// After any list of calls the journal replays to the rows and the ready list, and each call keeps that.
@@ -73,8 +75,8 @@ pub fn rows_are_reached()
     ensures all { EveryServiceIsReached }
 {}
 
-/// After any list of sound calls all of this is so at once: the journal replays, the ready list has what is ready, the limits are
-/// kept, and the rows are reached. Each sound call keeps it.
+/// After any list of sound calls all of this is so at once: the journal replays, and has no event that could not come, the ready
+/// list has what is ready, the limits are kept, and the rows are reached. Each sound call keeps it.
 pub fn services_are_kept()
     ensures one { NextIsKept }
     ensures all { EveryServiceIsKept }

@@ -12,3 +12,9 @@ returns-in-Running-clause-holds c = (stands_ready c.args.sim c.status.ensures.re
 
 pub returns-in-Running-clause-standing : goal.returns-in-Running-clause-standing
 returns-in-Running-clause-standing c = (stands_ready c.args.sim c.status.ensures.reached c.in-Running.ensures.value).standing
+
+pub returns-in-Ended-clause-fits : goal.returns-in-Ended-clause-fits
+returns-in-Ended-clause-fits c = c.status.ensures.reached.fits
+
+pub returns-in-Running-clause-fits : goal.returns-in-Running-clause-fits
+returns-in-Running-clause-fits c = c.status.ensures.reached.fits

@@ -1,7 +1,7 @@
-use Rattle.std.proofs.Common.{rules, ◌≡◌, ◌+◌, ◌∷◌, ◌++◌, [], length, sym, ap, ◌∙◌, refl, arith, List, ℕ, None, Some}
+use Rattle.std.proofs.Common.{rules, ◌≡◌, ◌+◌, ◌∷◌, ◌++◌, [], length, sym, ap, ◌∙◌, refl, arith, subst, List, ℕ, None, Some}
 use Rattle.std.specs.Prelude.{nat_lt}
 use Rattle.std.specs.List.{slice_get}
-use Rattle.gw_step.specs.Job.{Job, start_of}
+use Rattle.gw_step.specs.Job.{Job, JobFits, start_of}
 use Rattle.gw_service.specs.Rows.{Row, new_row}
 use Rattle.gw_service.specs.Journal.{with_event, Submit, slot_if_ready}
 use Rattle.gw_service.specs.Calls.{most_events, submit_fault, submit_refusal, Pass, new_pass}
@@ -99,10 +99,11 @@ invariant_of-self-2 c =
     let is = asked (goal.at.invariant_of-self-2 c).After-is_full-full in
     let told : submit_refusal u t.rows.items c.is_full-full.result ≡ None = search rules in
     let start : start_of j ≡ Some c.in-Ok.job.sim.state = search rules in
+    let job : c.in-Ok.job.row_spec ≡ j = search rules in
     let after = submitted (goal.at.invariant_of-self-2 c).After-list_if_ready in
     let ok = c.if-is_err.ensures.value in
     record {
-      kept = rw (after.rows, after.queue, after.log) (submit_kept t.rows.items t.ready.items t.journal.items t.out t.steps u j c.self.invariant.kept (is ∙ told) (start_state j c.in-Ok.job.sim.state start));
+      kept = rw (after.rows, after.queue, after.log) (submit_kept t.rows.items t.ready.items t.journal.items t.out t.steps u j c.self.invariant.kept (is ∙ told) (start_state j c.in-Ok.job.sim.state start) (subst JobFits job c.add_row.ensures.fits));
       journal_room = omega (arith, from_ok c.make_room.result ok c.make_room.ensures.journal_room, c.push_reserved.ensures.len, c.push_reserved.ensures.capacity);
       ready_room = omega (arith, from_ok c.make_room.result ok c.make_room.ensures.ready_room, c.list_if_ready.ensures.len, c.list_if_ready.ensures.capacity);
     }
