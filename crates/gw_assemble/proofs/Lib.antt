@@ -1,3 +1,4 @@
 pub mod Completed
-pub mod Spelled
-pub mod Calls
+pub mod Reweighed
+pub mod Failing
+pub mod Tables

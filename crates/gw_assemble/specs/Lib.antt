@@ -1,4 +1,3 @@
 pub mod Completion
 pub mod Assembly
-pub mod Counts
-pub mod Raising
+pub mod Laws

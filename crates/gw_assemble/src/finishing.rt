@@ -1,23 +1,21 @@
 //! From the parts of an object to one that the verifier accepts.
 
-ghost use Rattle.std.specs.Prelude.{◌≡◌, ◌⊎◌, IfOk, IfErr, Some};
-ghost use Rattle.gw_object.specs.Grammar.{HasSpelling};
+ghost use Rattle.std.specs.Prelude.{◌≡◌, ◌⊎◌, IfOk, IfErr};
 ghost use Rattle.gw_object.specs.Reading.{out_of_memory};
 ghost use Rattle.gw_rules.specs.Pass.{KindsPass};
 ghost use Rattle.gw_rules.specs.PlusChecks.{PlusPasses};
-ghost use Rattle.gw_settle.specs.Settles.{Passes, HasAssemblersTable};
 ghost use Rattle.gw_object.specs.declared.parts.Parts.{Parts};
-ghost use Rattle.gw_rules.specs.Accepted.{fault_of};
-ghost use Rattle.gw_assemble.specs.Raising.{DifferInWeights};
-ghost use Rattle.gw_assemble.specs.Completion.{IsAccepted, IsCompletion, HasNoCompletion};
+ghost use Rattle.gw_rules.specs.Flow.{own_table, FlowPasses};
+ghost use Rattle.gw_weighing.specs.Certificates.{DifferInWeights};
+ghost use Rattle.gw_assemble.specs.Completion.{IsAccepted, IsCompletion, FailsByWeights, HasNoCompletion};
 
-use crate::weigh;
 use gw_object::codes::MEMORY;
 use gw_object::{Fault, Object, Parts, Place};
 use gw_object_bytes::build;
 use gw_rules::Verified;
 use gw_settle::settle;
 use gw_verify::{check_first, verify};
+use gw_weighing::weigh;
 use std::alloc::Global;
 
 /// What the assembler makes passes a limit of the object format.
@@ -35,12 +33,14 @@ const PAST_LIMIT: Fault = Fault {
     place: Place::Nowhere,
 };
 
-/// A settled object with the weights that it gets, if it is accepted.
+/// A settled object with the weights that it gets, if it is accepted; else no weights pass in it.
 fn weighed(alloc: Global, settled: Object) -> Result<Verified, Fault>
-    requires { KindsPass settled }
+    requires kinds { KindsPass settled }
+    requires code { PlusPasses settled }
+    requires flow { FlowPasses settled (own_table settled) }
     ensures accepted { IfOk result (λ v. DifferInWeights settled v) }
     ensures verified { IfOk result IsAccepted }
-    ensures refused { IfErr result (λ fault. ((q : Parts) × DifferInWeights settled q × (fault_of q ≡ Some fault)) ⊎ (fault ≡ out_of_memory)) }
+    ensures refused { IfErr result (λ fault. ((q : Parts) × DifferInWeights settled q × FailsByWeights q fault) ⊎ (fault ≡ out_of_memory)) }
 {
     match weigh(alloc, settled) {
         Ok(object) => match verify(alloc, object) {

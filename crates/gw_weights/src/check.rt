@@ -16,7 +16,7 @@ use gw_object::{Fault, Object, Parts, TableState};
 use gw_rules::exits;
 
 /// The row of the state table of the block of this number, from 1, if it has one (ours: docs/object-format.md).
-pub fn own_row(parts: &Parts, number: u16) -> Option<&TableState>
+fn own_row(parts: &Parts, number: u16) -> Option<&TableState>
     ensures { model.meaning_of parts.now result ≡ row_of parts.now number }
 {
     if number == 0 {

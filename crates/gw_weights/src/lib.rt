@@ -7,6 +7,6 @@ mod check;
 mod exits;
 mod returns;
 
-pub use check::{check_weights, own_row};
+pub use check::check_weights;
 pub use exits::goes_at_once;
-pub use returns::blocks_read;
+pub use returns::parameter_of;

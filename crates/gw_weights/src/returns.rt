@@ -27,8 +27,8 @@ fn blocks_of_kind(returns: &[ReturnRow], kind: TableKind) -> &[u16]
     }
 }
 
-/// The parameter of this number among those that are set, if it is.
-fn parameter_of(parameters: &[TableParameter], number: u8) -> Option<TableParameter>
+/// The parameter of this number among those that are set, if it is (ours: docs/object-format.md).
+pub fn parameter_of(parameters: &[TableParameter], number: u8) -> Option<TableParameter>
     ensures { result ≡ find (λ set. set.number == number) parameters.now }
 {
     for parameter in parameters {
@@ -41,7 +41,11 @@ fn parameter_of(parameters: &[TableParameter], number: u8) -> Option<TableParame
 
 /// The blocks to one of which this parameter returns by a row of the state table, if that says that it holds a return
 /// (ours: docs/object-format.md).
-pub fn blocks_read<'a>(returns: &'a [ReturnRow], row: &TableState, parameter: u8) -> &'a [u16]
+pub(crate) fn blocks_read<'a>(
+    returns: &'a [ReturnRow],
+    row: &TableState,
+    parameter: u8,
+) -> &'a [u16]
     ensures { result.now ≡ return_blocks (kind_of (row_meaning returns.now row.now) parameter) }
 {
     match parameter_of(row.parameters.as_slice(), parameter) {

@@ -1,6 +1,0 @@
-use Rattle.gw_assemble.specs.Counts.{KeepsCounts}
-use Rattle.gw_assemble.proofs.descent.raise_by_descent.Given as goal
-
--- there are as many weights as at first
-abbrev pub invariant-loop : goal.invariant-loop
-invariant-loop l = KeepsCounts l.fn.certificate l.certificate

@@ -1,0 +1,6 @@
+pub mod Below
+pub mod Lowered
+pub mod Raised
+pub mod Gathered
+pub mod Reached
+pub mod Sorted

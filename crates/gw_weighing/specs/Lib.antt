@@ -1,0 +1,4 @@
+pub mod Layout
+pub mod Sums
+pub mod Rules
+pub mod Certificates
