@@ -8,7 +8,7 @@ use Rattle.gw_rules.specs.Accepted.{Accepted}
 use Rattle.gw_rules.proofs.AllPass.{is_checked, kinds_pass, plus_passes}
 use Rattle.gw_settle.specs.Settles.{with_table}
 use Rattle.gw_text.specs.declared.model.Statement.{Statement}
-use Rattle.gw_pieces.specs.Pieces.{IsMadeOf}
+use Rattle.gw_pieces.specs.Pieces.{IsDraft, IsMadeOf}
 use Rattle.gw_pieces.proofs.Computing.{all_compute}
 use Rattle.gw_assemble.specs.Completion.{IsCompletion}
 use Rattle.gw_assemble.specs.Assembly.{Assembles}
@@ -25,7 +25,7 @@ module _ (ss : List Statement) (before p : Parts) where
     named = made.named;
     numbers = made.numbers;
     order = made.order;
-    pieces = record { names = made.pieces.names; entities = made.pieces.entities; code = made.pieces.code; count = made.pieces.count; seeds = made.pieces.seeds };
+    pieces = record { names = made.pieces.names; sources = made.pieces.sources; entities = made.pieces.entities; code = made.pieces.code; count = made.pieces.count; seeds = made.pieces.seeds };
   }
 
   -- and with other weights
@@ -34,7 +34,7 @@ module _ (ss : List Statement) (before p : Parts) where
     named = made.named;
     numbers = made.numbers;
     order = made.order;
-    pieces = record { names = made.pieces.names; entities = made.pieces.entities; code = made.pieces.code; count = made.pieces.count; seeds = made.pieces.seeds };
+    pieces = record { names = made.pieces.names; sources = made.pieces.sources; entities = made.pieces.entities; code = made.pieces.code; count = made.pieces.count; seeds = made.pieces.seeds };
   }
 
   made_still : IsMadeOf ss before → IsCompletion before p → IsMadeOf ss p
@@ -43,8 +43,8 @@ module _ (ss : List Statement) (before p : Parts) where
       let with_rows = subst (IsMadeOf ss) (sym completion.passes.same) (tabled settled.returns settled.states settled.chain_states made) in
       subst (IsMadeOf ss) completion.weights (weighed settled p.weights p.chain_weights with_rows)
 
-  pub assembles : IsMadeOf ss before → IsCompletion before p → HasSpelling p → Accepted p → Assembles ss p
-  assembles made completion fits accepted =
+  pub assembles : IsMadeOf ss before → IsDraft before → IsCompletion before p → HasSpelling p → Accepted p → Assembles ss p
+  assembles made draft completion fits accepted =
       let still = made_still made completion in
       let checked = is_checked p accepted in
       record {
@@ -52,5 +52,6 @@ module _ (ss : List Statement) (before p : Parts) where
         computes = all_compute still.numbers still.order ss p fits (kinds_pass p checked) (plus_passes p checked) still.pieces;
         before = before;
         made_before = made;
+        draft = draft;
         completion = completion;
       }

@@ -29,12 +29,14 @@ pub record IsCompletion (p q : Parts) : Type 0 where
 abbrev pub PassesLimit : Parts → Fault → Type 0
 PassesLimit p fault = (fault ≡ past_limit) × ¬ HasSpelling p
 
--- kinds or PLUS code refuse
-abbrev pub BreaksFirst : Parts → Fault → Type 0
-BreaksFirst p fault = first_broken (first_checks p) ≡ Some fault
+-- an object has a spelling, and kinds or PLUS code refuse it
+pub record BreaksFirst (p : Parts) (fault : Fault) : Type 0 where
+  pub spelled : HasSpelling p
+  pub refused : first_broken (first_checks p) ≡ Some fault
 
--- there is no state table: the refusal is that of settling, so where flow passes with any table it is none of flow's
+-- an object has a spelling, and there is no state table: the refusal is that of settling, so where flow passes with any table it is none of flow's
 pub record HasNoTable (p : Parts) (fault : Fault) : Type 0 where
+  pub spelled : HasSpelling p
   pub kinds : KindsPass p
   pub code : PlusPasses p
   pub settling : IsRefused p fault

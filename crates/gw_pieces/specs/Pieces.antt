@@ -87,7 +87,6 @@ pub record IsDraft (p : Parts) : Type 0 where
 
 -- an object is made of statements
 pub record IsMadeOf (ss : List Statement) (p : Parts) : Type 0 where
-  pub draft : IsDraft p
   pub named : IsNamed ss
   pub numbers : Numbers
   pub order : List Origin

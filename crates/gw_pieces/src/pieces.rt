@@ -10,7 +10,7 @@ ghost use Rattle.gw_pieces.specs.Making as making;
 ghost use Rattle.gw_pieces.specs.Notes.{NotesMore};
 ghost use Rattle.gw_names.specs.Numbers.{numbers_of};
 ghost use Rattle.gw_pieces.specs.Order.{lookup_by, order_by, order_in};
-ghost use Rattle.gw_pieces.specs.Pieces.{HasCode, IsMadeOf};
+ghost use Rattle.gw_pieces.specs.Pieces.{HasCode, IsDraft, IsMadeOf};
 ghost use Rattle.gw_pieces.specs.Reasons as reasons;
 ghost use Rattle.gw_pieces.specs.Settings.{seeds_in};
 
@@ -391,6 +391,7 @@ fn parts_with(alloc: Global, count: u64, pieces: Pieces, rest: Rest) -> Parts
 fn completed(alloc: Global, text: &Model, pieces: Pieces) -> Result<Parts, Fault>
     requires { making.AreNamedPieces text.now pieces }
     ensures made { IfOk result (IsMadeOf text.now.statements.items) }
+    ensures draft { IfOk result IsDraft }
     ensures refused { IfErr result (λ fault. fault ≡ out_of_memory) }
 {
     let blocks = pieces.blocks.len();
@@ -410,6 +411,7 @@ fn completed(alloc: Global, text: &Model, pieces: Pieces) -> Result<Parts, Fault
 /// code there: 80 Name, 81 Storage, 82 Limit (ours: docs/refusals.md); or with 8 Memory, at Nowhere.
 pub fn parts_of(alloc: Global, text: &Model) -> Result<Parts, Fault>
     ensures made { IfOk result (IsMadeOf text.now.statements.items) }
+    ensures draft { IfOk result IsDraft }
     ensures refused { IfErr result (making.IsNotMade text.now.statements.items) }
 {
     let mut ledger = Ledger::new();
