@@ -4,12 +4,12 @@ use Rattle.gw_object.specs.declared.fault.Fault.{Fault}
 use Rattle.gw_object.specs.declared.fault.Place.TheVariants.{Line}
 use Rattle.gw_object.specs.declared.parts.Parts.{Parts}
 use Rattle.gw_object.specs.Grammar.{spelling}
-use Rattle.gw_rules.specs.Accepted.{Accepted}
 use Rattle.gw_text_tokens.specs.Codes.{length_fault}
 use Rattle.std.specs.Str.Lines.{lines as lines_of_text}
 use Rattle.gw_text.specs.Reading.{StandOn, IsRefusedAt}
 use Rattle.gw_text.specs.declared.model.Statement.{Statement}
 use Rattle.gw_assemble.specs.Assembly.{Assembles, IsRefusal}
+use Rattle.gw_assemble.specs.Completion.{IsAccepted}
 use Rattle.gw_answers.specs.Status.{ended, refused}
 use Rattle.gw_answers.specs.Refusal.{refusal_line}
 
@@ -31,7 +31,7 @@ pub record IsRefusedText (bytes : List ℕ) (fault : Fault) : Type 0 where
 pub record IsSpelling (statements : List Statement) (text : List ℕ) : Type 0 where
   pub object : Parts
   pub assembled : Assembles statements object
-  pub accepted : Accepted object
+  pub accepted : IsAccepted object
   pub spelled : text ≡ spelling object
 
 -- what statements come to: the spelling of the object, or the line of the assembler's refusal

@@ -1,8 +1,8 @@
 -- Places on a picture, in tenths of pixels, and round numbers.
-use Rattle.std.specs.Prelude.{ℕ, zero, suc, ◌+◌, ◌*◌, ◌/◌, max, List, [], ◌∷◌, Option, Some, None, nat_le, if◌then◌else◌}
+use Rattle.std.specs.Prelude.{ℕ, zero, suc, ◌+◌, ◌*◌, ◌/◌, ◌^◌, max, List, [], ◌∷◌, map, Option, Some, None, nat_le, if◌then◌else◌}
 use Rattle.std.specs.Int.{div_ceil}
+use Rattle.std.specs.List.{range_with_len}
 use Rattle.std.specs.Option.{unwrap_or}
-use Rattle.gw_chart.specs.declared.numbers.TheConstants.{POWERS}
 use Rattle.gw_chart.specs.Steps.{Steps}
 
 -- what a part of a whole is of a length
@@ -32,9 +32,13 @@ unfoldable pub round_in : List ℕ → ℕ → ℕ
 round_in [] least = least
 round_in (power ∷ powers) least = unwrap_or (round_by power least) (round_in powers least)
 
+-- the powers of 10 below 2 ^ 63, from 1 on
+abbrev pub powers : List ℕ
+powers = map (λ n. 10 ^ n) (range_with_len 0 19)
+
 -- the first round number of which five reach so far
 abbrev pub round_step : ℕ → ℕ
-round_step most = round_in POWERS (div_ceil most 5)
+round_step most = round_in powers (div_ceil most 5)
 
 -- the scale of an upright axis that reaches so far: as many round steps as are needed
 abbrev pub scale_to : ℕ → Steps

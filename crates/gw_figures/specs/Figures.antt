@@ -6,7 +6,6 @@ use Rattle.std.specs.Option.{option_map_or}
 use Rattle.std.specs.Str.{bytes_eq}
 use Rattle.gw_figures.specs.declared.labels.Figure.{Figure}
 use Rattle.gw_figures.specs.declared.lines.Line.{Line}
-use Rattle.gw_figures.specs.declared.lines.TheConstants.{LINES}
 
 -- LINES
 
@@ -23,9 +22,25 @@ abbrev pub form_by : List ℕ → ℕ → ℕ → List (ℕ × List ℕ) → For
 form_by word words names figures =
     record { word = word; words = words; names = names; figures = figures }
 
--- the forms that the table of lines has
+-- the forms that the lines of a report have; an owner and a capacity are no figures
 abbrev pub forms : List Form
-forms = map (λ row. form_by row.0.now row.1 row.2 (map (λ f. (f.0, f.1.now)) row.3.now)) LINES
+forms =
+    form_by (codes "END") 10 0
+    ((3, codes "CLOCK") ∷ (5, codes "STEPS") ∷ (7, codes "ENTRIES") ∷ (9, codes "COUNT") ∷ [])
+    ∷ form_by (codes "BLOCK") 5 3 ((3, codes "ENTRIES") ∷ (4, codes "HERE") ∷ [])
+    ∷ form_by (codes "FACILITY") 10 2
+    ((3, codes "ENTRIES") ∷ (7, codes "WAIT") ∷ (9, codes "UTIL") ∷ [])
+    ∷ form_by (codes "STORAGE") 14 2
+    ((5, codes "CONTENT") ∷ (7, codes "MAX") ∷ (9, codes "ENTRIES") ∷ (11, codes "WAIT")
+    ∷ (13, codes "AVG") ∷ [])
+    ∷ form_by (codes "QUEUE") 10 2
+    ((3, codes "CONTENT") ∷ (5, codes "MAX") ∷ (7, codes "ENTRIES") ∷ (9, codes "AVG") ∷ [])
+    ∷ form_by (codes "SWITCH") 3 2 ((2, codes "SET") ∷ [])
+    ∷ form_by (codes "SAVEVALUE") 3 2 ((2, codes "VALUE") ∷ [])
+    ∷ form_by (codes "TABLE") 6 2 ((3, codes "COUNT") ∷ (5, codes "SUM") ∷ [])
+    ∷ form_by (codes "CLASS") 3 2 ((2, codes "VALUES") ∷ [])
+    ∷ form_by (codes "CHAIN") 4 2 ((3, codes "CONTENT") ∷ [])
+    ∷ []
 
 -- the form of the lines that begin with a word, if there are any
 unfoldable pub form_of : List ℕ → Option Form

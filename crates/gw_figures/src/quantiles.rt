@@ -4,25 +4,26 @@ ghost use Rattle.std.specs.Prelude.{◌≡◌, ◌≤◌, ◌<◌, ◌+◌, ◌*
 ghost use Rattle.gw_figures.specs.Quantiles as model;
 ghost use Rattle.gw_figures.specs.Quantiles.{is_enough, first_enough};
 
-/// The quantiles of Student's distribution between whose negative and itself 95 % lies, in thousandths, with 1, 2, .. 30 degrees of
-/// freedom.
+/// The quantiles of Student's distribution between whose negative and itself 95 % lies, in
+/// thousandths, rounded up, with 1, 2, .. 30 degrees of freedom.
 pub const QUANTILES: [u32; 30] = [
-    12706, 4303, 3182, 2776, 2571, 2447, 2365, 2306, 2262, 2228, 2201, 2179, 2160, 2145, 2131,
-    2120, 2110, 2101, 2093, 2086, 2080, 2074, 2069, 2064, 2060, 2056, 2052, 2048, 2045, 2042,
+    12707, 4303, 3183, 2777, 2571, 2447, 2365, 2307, 2263, 2229, 2201, 2179, 2161, 2145, 2132,
+    2120, 2110, 2101, 2094, 2086, 2080, 2074, 2069, 2064, 2060, 2056, 2052, 2049, 2046, 2043,
 ];
 
-/// The quantile with so many degrees of freedom, at least 1, in thousandths: of the table, or of the next fewer degrees that it
-/// has, of which those above 30 are 40, 60 and 120. So it is never too small.
+/// The quantile with so many degrees of freedom, at least 1, in thousandths, rounded up: of the
+/// table, or of the next fewer degrees that it has, of which those above 30 are 40, 60 and 120. So
+/// it is never below the true one.
 pub fn quantile(degrees: u32) -> u32
     requires { 0 < degrees }
     ensures value { result ≡ model.quantile degrees }
-    ensures range { result ≤ 12706 }
+    ensures range { result ≤ 12707 }
 {
     match degrees {
         0..=30 => QUANTILES[degrees as usize - 1],
-        31..=39 => 2042,
-        40..=59 => 2021,
-        60..=119 => 2000,
+        31..=39 => 2043,
+        40..=59 => 2022,
+        60..=119 => 2001,
         _ => 1980,
     }
 }

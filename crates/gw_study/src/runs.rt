@@ -1,14 +1,16 @@
 //! The runs of a study, by a service and its workers.
 
-ghost use Rattle.std.specs.Prelude.{◌≡◌, ◌<◌, ◌≤◌, ◌+◌, length, vec_len, IfOk, OnOk};
+ghost use Rattle.std.specs.Prelude.{◌≡◌, ◌<◌, ◌≤◌, ◌+◌, length, vec_len, IfOk, IfErr, OnOk};
 ghost use Rattle.gw_pool.specs.Shares.{AreWhole};
 ghost use Rattle.gw_report.specs.Report.{Ends};
+ghost use Rattle.gw_study.specs.Refusals.{RefusesBy, IsServiceRefusal};
+ghost use Rattle.gw_study.specs.Refusals.{TellsFault, TellsRun, TellsStudy};
 ghost use Rattle.gw_study.specs.Runs.{IsPassOf, ArePassesOf, AddsReportsTo, AreReportsOf};
 
 use crate::job::{Setup, job_of_run};
 use gw_answers::{NoJob, refusal_of_job};
 use gw_jobs::{JobFault, Pass};
-use gw_pool::{Crew, OpenGate, PoolFault, Service, Shared, reply_to};
+use gw_pool::{Crew, OpenGate, PoolFault, Service, Shared};
 use gw_scan::Spec;
 use std::alloc::Global;
 use std::collections::VecDeque;
@@ -34,7 +36,9 @@ const WORKERS: u32 = 8;
 const SLICE: u32 = 1 << 20;
 
 /// A refusal by the service.
-fn refused_by(fault: JobFault) -> NoJob {
+fn refused_by(fault: JobFault) -> NoJob
+    ensures { TellsFault fault result }
+{
     match fault {
         JobFault::Memory => NoJob::OutOfMemory,
         _ => NoJob::Refused(refusal_of_job(fault)),
@@ -50,7 +54,8 @@ fn submit_run<R: Ledger, S: Ledger, W: Wait>(
     run: u32,
 ) -> Result<Pass, NoJob>
     requires { run < 1024 }
-    ensures { IfOk result (IsPassOf setup.now.count setup.now.object.now run) }
+    ensures pass { IfOk result (IsPassOf setup.now.count setup.now.object.now run) }
+    ensures refused { IfErr result (TellsRun setup.now run) }
 {
     let spec = job_of_run(alloc, setup.object, run, setup.count)?;
     let user = u64::from(run / RUNS_OF_A_USER);
@@ -75,6 +80,7 @@ fn submit_runs<R: Ledger, S: Ledger, W: Wait>(
     requires { (first ≤ end) × (end ≤ 1024) }
     ensures passes { IfOk result (λ passes. ArePassesOf setup.now first passes.items) }
     ensures all { IfOk result (λ passes. first + length passes.items ≡ end) }
+    ensures refused { IfErr result (TellsStudy setup.now end) }
 {
     let mut passes = VecDeque::new(alloc);
     for run in first..end {
@@ -93,9 +99,10 @@ fn report_to<R: Ledger, S: Ledger, W: Wait>(
     table: &Mutex<Shared<R, S>>,
     pass: &Pass,
 ) -> Result<Vec<u8>, NoJob>
-    ensures { IfOk result (λ report. Ends pass.now.job report.items) }
+    ensures report { IfOk result (λ report. Ends pass.now.job report.items) }
+    ensures refused { IfErr result (RefusesBy IsServiceRefusal) }
 {
-    match reply_to(rt, alloc, table, pass) {
+    match table.lock(rt).collect(alloc, pass) {
         Ok(reply) => Ok(reply.report),
         Err(fault) => Err(refused_by(fault)),
     }
@@ -111,6 +118,8 @@ fn collect_runs<R: Ledger, S: Ledger, W: Wait>(
 ) -> Result<(), NoJob>
     ensures len { OnOk result (vec_len reports.new ≡ vec_len reports.old + length passes.items) }
     ensures added { OnOk result (AddsReportsTo passes.items reports.old.items reports.new.items) }
+    ensures some { IfErr result (λ _. 0 < length passes.items) }
+    ensures refused { IfErr result (RefusesBy IsServiceRefusal) }
 {
     while let Some(pass) = passes.pop_front() {
         let report = report_to(rt, alloc, table, &pass)?;
@@ -138,6 +147,7 @@ fn make_runs<R: Ledger + Send + Sync, S: Ledger + Send + Sync, W: Threads + Wait
     ensures crew { crew.new.board ≡ crew.old.board }
     ensures reports { OnOk result (AreReportsOf setup.now reports.new.items) }
     ensures all { OnOk result (vec_len reports.new ≡ end) }
+    ensures refused { IfErr result (TellsStudy setup.now end) }
 {
     let first = reports.len() as u32;
     let passes = submit_runs(rt, alloc, service.table(), setup, first, end)?;
@@ -160,6 +170,7 @@ fn all_runs<R: Ledger + Send + Sync, S: Ledger + Send + Sync, W: Threads + Wait 
     requires runs { runs ≤ 1024 }
     ensures reports { IfOk result (λ r. AreReportsOf setup.now r.items) }
     ensures all { IfOk result (λ reports. vec_len reports ≡ runs) }
+    ensures refused { IfErr result (TellsStudy setup.now runs) }
 {
     let mut reports = Vec::new(alloc);
     let mut end = 0;
@@ -186,6 +197,7 @@ fn runs_by<R: Ledger + Send + Sync, S: Ledger + Send + Sync, W: Threads + Wait +
     requires runs { runs ≤ 1024 }
     ensures reports { IfOk result (λ r. AreReportsOf setup.now r.items) }
     ensures all { IfOk result (λ reports. vec_len reports ≡ runs) }
+    ensures refused { IfErr result (TellsStudy setup.now runs) }
 {
     match Service::<R, S>::new(alloc, rows, steps) {
         Ok((service, mut crew, seat)) => {
@@ -210,6 +222,7 @@ pub(crate) fn reports_of<W: Threads + Wait + Sync + Eprint>(
     requires { runs ≤ 1024 }
     ensures reports { IfOk result (λ r. AreReportsOf setup.now r.items) }
     ensures all { IfOk result (λ reports. vec_len reports ≡ runs) }
+    ensures refused { IfErr result (TellsStudy setup.now runs) }
 {
     runs_by::<Brand, Brand, W>(rt, alloc, Blank::new(PARTS), Blank::new(PARTS), setup, runs)
 }

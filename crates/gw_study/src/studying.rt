@@ -4,7 +4,7 @@ ghost use Rattle.std.specs.Prelude.{◌≡◌, ◌<◌, ◌≤◌, length, IfOk}
 ghost use Rattle.gw_answers.specs.Status.{ended};
 ghost use Rattle.gw_study.specs.Rows.{IsTable};
 ghost use Rattle.gw_study.specs.Runs.{texts};
-ghost use Rattle.gw_study.specs.Study.{IsStudy, IsStudied};
+ghost use Rattle.gw_study.specs.Study.{IsStudy, IsToldOfRuns};
 
 use crate::job::Setup;
 use crate::rows::table;
@@ -39,7 +39,7 @@ fn study_of_runs<W: Threads + Wait + Sync + Eprint>(
     runs: u32,
 ) -> Result<Answer, Memory>
     requires { (0 < runs) × (runs ≤ MOST_RUNS) }
-    ensures { IfOk result (λ a. IsStudied setup.now.object.now runs setup.now.count
+    ensures { IfOk result (λ a. IsToldOfRuns setup.now.object.now runs setup.now.count
         a.text.items a.status) }
 {
     match reports_of(rt, alloc, setup, runs) {

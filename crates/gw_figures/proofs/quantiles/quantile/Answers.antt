@@ -6,9 +6,9 @@ use Rattle.gw_figures.specs.declared.quantiles.TheConstants.{QUANTILES}
 use Rattle.gw_figures.proofs.quantiles.quantile.Goals as goal
 
 -- none of the table is greater
-within : (i : ℕ) → i < 30 → (b : Bool) → nat_le (get_or QUANTILES i 0) 12706 ≡ b → nat_le (get_or QUANTILES i 0) 12706 ≡ true
+within : (i : ℕ) → i < 30 → (b : Bool) → nat_le (get_or QUANTILES i 0) 12707 ≡ b → nat_le (get_or QUANTILES i 0) 12707 ≡ true
 within i below true is = is
-within i below false is = absurd (cc (list_all_at (λ q. nat_le q 12706) QUANTILES i 0 below is))
+within i below false is = absurd (cc (list_all_at (λ q. nat_le q 12707) QUANTILES i 0 below is))
 
 pub returns-in-0-to-30-clause-range : goal.returns-in-0-to-30-clause-range
 returns-in-0-to-30-clause-range c = search (tests, rules, within (c.args.degrees - 1) (omega arith) _ refl)

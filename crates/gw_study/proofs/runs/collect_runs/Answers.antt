@@ -20,8 +20,9 @@ loop-pass-preserved g c =
     record {
       count = omega (arith, long, shorter, c.loop-pass.invariant.count);
       len = omega (arith, longer, shorter, c.loop-pass.invariant.len);
+      few = omega (arith, shorter, c.loop-pass.invariant.few);
       left = λ count object own before.
           let now = c.loop-pass.invariant.left count object own before in
-          let both = collected count object old text c.in-Some.pass c.loop-pass.passes.items rest split now.0 now.1 c.in_ok-report.ensures in
+          let both = collected count object old text c.in-Some.pass c.loop-pass.passes.items rest split now.0 now.1 c.in_ok-report.ensures.report in
           (subst (λ n. ArePassesFrom count object n rest) (sym long) both.0, subst (λ xs. AreReports count object xs) (sym mapped) both.1);
     }
