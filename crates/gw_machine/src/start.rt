@@ -212,9 +212,16 @@ impl Machine {
         ensures slots { IfOk result (λ m. m.last ≡ greatest_set verified.now.blocks) }
     {
         let mut machine = Machine::nothing(alloc, verified.object(), count, streams, None)?;
-        match machine.first_arrivals(verified)? {
-            None => Ok(machine),
-            Some(end) => Machine::nothing(alloc, verified.object(), count, streams, Some(end)),
+        match machine.first_arrivals(verified) {
+            Ok(None) => Ok(machine),
+            Ok(Some(end)) => {
+                drop(machine);
+                Machine::nothing(alloc, verified.object(), count, streams, Some(end))
+            }
+            Err(memory) => {
+                drop(machine);
+                Err(memory)
+            }
         }
     }
 }
