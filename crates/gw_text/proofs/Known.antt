@@ -1,5 +1,5 @@
 -- What is known of statements with one more.
-use Rattle.std.proofs.Common.{◌≡◌, ℕ, ◌+◌, ◌<◌, ◌≤◌, List, [], ◌∷◌, ◌++◌, length, get_or, Bool, true, false, ◌||◌, cond, if◌then◌else◌, arith, refl, sym, ap, ◌∙◌, count_by, sum_by, bytes_eq, Option, Some, None, AllPairs, inl, inr}
+use Rattle.std.proofs.Common.{◌≡◌, ℕ, ◌+◌, ◌<◌, List, [], ◌∷◌, ◌++◌, length, get_or, Bool, true, false, ◌||◌, cond, if◌then◌else◌, arith, refl, sym, ap, ◌∙◌, count_by, bytes_eq, Option, Some, None, AllPairs, inl, inr}
 use Rattle.std.specs.List.{list_any}
 use Rattle.std.specs.BTreeSet.{contains_text}
 use Rattle.std.proofs.lemmas.Bool.{cases_Bool, false≢true}
@@ -12,6 +12,10 @@ use Rattle.gw_text.specs.declared.reader.Reader.{Reader}
 use Rattle.gw_text.specs.Knowing.{Labelled, Admits, Knows, KnowsMore}
 use Rattle.gw_text.specs.Reading.{label_of, is_label, has_label, LabelsDiffer, is_block_statement, is_start_statement, MayFollow, with_found}
 
+pub or_false : (b : Bool) → (b || false) ≡ b
+or_false true = refl
+or_false false = refl
+
 -- what none of some passes, each of them doesn't pass
 none_passes : {X : Type 0} (p : X → Bool) (xs : List X) → list_any p xs ≡ false → (k : ℕ) (d : X) → k < length xs → p (get_or xs k d) ≡ false
 none_passes p xs none k d below = elim (cases_Bool (p (get_or xs k d))) [
@@ -22,20 +26,12 @@ none_passes p xs none k d below = elim (cases_Bool (p (get_or xs k d))) [
 -- whether one of some with another at their end passes
 any_push : {X : Type 0} (p : X → Bool) (xs : List X) (y : X) → list_any p (xs ++ y ∷ []) ≡ (list_any p xs || p y)
 any_push p xs y = list_any-append p xs (y ∷ []) ∙ ap (λ b. list_any p xs || b) (or_false (p y))
-  where
-    or_false : (b : Bool) → (b || false) ≡ b
-    or_false true = refl
-    or_false false = refl
 
 -- the labels of statements, with that of one more
 labels_push : (reader after : Reader) (label : Option (List ℕ)) (others : List ℕ → Bool) (other : List ℕ)
     → contains_text reader.labels other ≡ others other → Labelled reader.labels after.labels label
     → contains_text after.labels other ≡ (others other || is_label other label)
 labels_push reader after None others other known h = h other ∙ known ∙ sym (or_false (others other))
-  where
-    or_false : (b : Bool) → (b || false) ≡ b
-    or_false true = refl
-    or_false false = refl
 labels_push reader after (Some label) others other known h = h.1 other ∙ ap (cond (bytes_eq label other) true) known ∙ turned (bytes_eq label other) (others other)
   where
     turned : (a b : Bool) → cond a true b ≡ (b || a)

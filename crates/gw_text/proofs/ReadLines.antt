@@ -5,7 +5,7 @@ use Rattle.std.proofs.lemmas.List.Folds.{list_any-append}
 use Rattle.std.proofs.lemmas.List.Elements.{All-append}
 use Rattle.std.proofs.lemmas.List.{get_or_default}
 use Rattle.gw_text.specs.declared.model.Statement.{Statement}
-use Rattle.gw_text_tokens.specs.Lines.{is_skipped, IsShort, AreShort}
+use Rattle.gw_text_tokens.specs.Lines.{is_skipped, IsShort}
 use Rattle.gw_text.specs.declared.reader.Reader.{Reader}
 use Rattle.gw_text.specs.Knowing.{Admits, Knows, KnowsMore}
 use Rattle.gw_text.specs.Reading.{stands_on, GoesOnAsItMay, HasItsWord, BeginsAt, IsFoundAt, with_found, last_with_found, IsInOrder, label_of, LabelsDiffer, MayFollow, StandOn}

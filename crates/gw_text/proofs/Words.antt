@@ -1,5 +1,5 @@
 -- FUNCTION and PROCEDURE, of which each may stand anywhere, and statements on one line.
-use Rattle.std.proofs.Common.{◌≡◌, ℕ, ◌+◌, ◌≤◌, ◌<◌, List, [], Bool, true, false, ◌||◌, if◌then◌else◌, slice_index_or, Option, Result, Ok, Err, IfOk, MatchResult, option_map, string_bytes, inl, arith, refl, sym, subst, ◌∙◌}
+use Rattle.std.proofs.Common.{◌≡◌, ℕ, ◌≤◌, ◌<◌, List, [], false, slice_index_or, Option, Result, Ok, Err, IfOk, MatchResult, option_map, string_bytes, inl, arith, refl, sym, subst, ◌∙◌}
 use Rattle.gw_text_tokens.specs.declared.words.Word.{Word}
 use Rattle.gw_text_tokens.specs.declared.words.Word.TheVariants as words
 use Rattle.gw_text_tokens.specs.declared.faults.Stop.{Stop}
@@ -10,6 +10,7 @@ use Rattle.gw_text.specs.declared.reader.Read.{Read}
 use Rattle.gw_text.specs.declared.reader.Reader.{Reader}
 use Rattle.gw_text.specs.Knowing.{Labelled, Admits}
 use Rattle.gw_text.specs.Reading.{StaysWithin, StaysSingle}
+use Rattle.gw_text.proofs.Known.{or_false}
 
 -- neither is a block
 function_is_no_block : is_block words.Function ≡ false
@@ -30,10 +31,6 @@ admits_other old new word label no_block no_start labels blocks started few = re
   order = λ _. (no_block, no_start);
   started = rw no_start (started ∙ sym (or_false old.is_started));
 }
-  where
-    or_false : (b : Bool) → (b || false) ≡ b
-    or_false true = refl
-    or_false false = refl
 
 pub admits_function : (old new : Reader) (word : Word) → word ≡ words.Function → new.blocks ≡ old.blocks → new.is_started ≡ old.is_started
     → old.blocks ≤ 4096 → {E : Type 0} (r : Result Read E) → IfOk r (λ read. Labelled old.labels new.labels (option_map string_bytes read.first.label))

@@ -1,5 +1,5 @@
 -- What is known of a text while it is read: its labels, how many blocks it has, and whether there was a START.
-use Rattle.std.specs.Prelude.{◌≡◌, ℕ, ◌+◌, ◌≤◌, ◌<◌, List, Bool, true, false, ◌||◌, if◌then◌else◌, cond, Option, Some, None, count_by, bytes_eq}
+use Rattle.std.specs.Prelude.{◌≡◌, ℕ, ◌+◌, ◌≤◌, List, true, false, ◌||◌, if◌then◌else◌, cond, Option, Some, None, count_by, bytes_eq}
 use Rattle.std.specs.declared.string.String.{String}
 use Rattle.std.specs.List.{list_any}
 use Rattle.std.specs.BTreeSet.{BTreeSet, contains_text}
