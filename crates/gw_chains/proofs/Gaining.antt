@@ -3,7 +3,7 @@ use Rattle.std.proofs.Common.{◌≡◌, ◌≢◌, ◌∙◌, ℕ, ℤ, ◌+◌
 use Rattle.std.proofs.lemmas.Bool.{cases_eq}
 use Rattle.std.specs.Prelude.{AllPairs}
 use Rattle.std.specs.List.{AllByRecursion}
-use Rattle.gw_chains.specs.Chain.{placed_behind}
+use Rattle.gw_members.specs.Chain.{placed_behind}
 use Rattle.gw_chains.specs.Chunks.{begins_in}
 use Rattle.gw_chains.specs.Buckets.{once, times, Links, run, links_of, member_at, members_at, members_of, total, bucket_of_one, one_if_there, Before, IsBucket, AreBuckets, GainMember}
 use Rattle.gw_chains.specs.declared.bucket.Bucket.{Bucket}

@@ -6,7 +6,7 @@ use Rattle.std.proofs.lemmas.Int.{ints}
 use Rattle.std.specs.Prelude.{All, IfSome, AllPairs, int_le, ◌<ℤ◌, ◌==◌}
 use Rattle.std.specs.List.{AllByRecursion}
 use Rattle.std.specs.List.Sorted.{IsPartitionedBy}
-use Rattle.gw_chains.specs.Chain.{placed_behind}
+use Rattle.gw_members.specs.Chain.{placed_behind}
 use Rattle.gw_chains.specs.Chunks.{begins_in}
 use Rattle.gw_chains.specs.Newcomers.{host, with_newcomer, IsHostLast}
 use Rattle.gw_chains.specs.Buckets.{times, last_or, Links, run, links_of, member_at, members_at, members_of, total, upto, bucket_of_one, one_if_there, linked_to, linked_behind, Before, IsBucket, AreBuckets, GainMember}

@@ -4,7 +4,7 @@ use Rattle.std.proofs.lemmas.Bool.{cases_eq}
 use Rattle.std.proofs.lemmas.Grind.{common_steps}
 use Rattle.std.specs.Prelude.{AllPairs, nat_le, option_map, option_to_list}
 use Rattle.std.specs.List.{AllByRecursion}
-use Rattle.gw_chains.specs.Chain.{first, rest}
+use Rattle.gw_members.specs.Chain.{first, rest}
 use Rattle.gw_chains.specs.Buckets.{times, last_or, Links, run, links_of, member_at, members_at, members_of, total, one_if_there, without_first_link, Before, IsBucket, AreBuckets, LoseFirst}
 use Rattle.gw_chains.specs.declared.bucket.Bucket.{Bucket}
 use Rattle.gw_chains.specs.declared.bucket.Link.{Link}

@@ -1,10 +1,5 @@
-pub mod Calling
-pub mod Each
 pub mod Waiting
 pub mod Places
-pub mod Turning
-pub mod Finding
-mod Merging
 pub mod Newcoming
 pub mod Slices
 pub mod Chunking
@@ -15,7 +10,6 @@ pub mod Leaving
 pub mod Heading
 pub mod Ranking
 pub mod Counting
-pub mod Filing
 pub mod Unlinking
 pub mod Spotting
 pub mod Taking

@@ -4,7 +4,7 @@ use Rattle.std.proofs.lemmas.Grind.{common_steps}
 use Rattle.std.proofs.lemmas.Int.{ints}
 use Rattle.std.specs.Prelude.{All, int_le, ◌<ℤ◌}
 use Rattle.std.specs.List.{AllByRecursion}
-use Rattle.gw_chains.specs.Chain.{placed_behind}
+use Rattle.gw_members.specs.Chain.{placed_behind}
 use Rattle.gw_chains.specs.Chunks.{begins_in}
 use Rattle.gw_chains.specs.Newcomers.{host}
 use Rattle.gw_chains.specs.Buckets.{once, times, last_or, Links, links_behind, run, links_of, member_at, members_at, members_of, linked_to, one_if_there, upto, bucket_of_one, IsBucket}

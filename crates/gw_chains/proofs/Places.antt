@@ -7,7 +7,7 @@ use Rattle.std.proofs.lemmas.Int.{ints}
 use Rattle.std.proofs.lemmas.Bool.{cases_order}
 use Rattle.std.proofs.lemmas.List.{get_or_default}
 use Rattle.std.proofs.lemmas.List.Edits.{get_or-insert_below, get_or-insert_at, get_or-insert_above, length-insert}
-use Rattle.gw_chains.specs.Chain.{placed_behind, first, rest}
+use Rattle.gw_members.specs.Chain.{placed_behind, first, rest}
 
 module _ {A : Type 0} where
   -- the place behind the longest front that passes

@@ -2,8 +2,8 @@
 use Rattle.std.proofs.Common.{◌≡◌, ℤ, List, [], ◌∷◌, Bool, if◌then◌else◌, refl, ap, arith, neg_ℤ}
 use Rattle.std.proofs.lemmas.Int.{ints}
 use Rattle.std.specs.Prelude.{int_le, int_lt}
-use Rattle.gw_chains.specs.Chain.{placed_behind, behind, ahead, in_time}
-use Rattle.gw_chains.specs.declared.tx.Member.{Member}
+use Rattle.gw_members.specs.Chain.{placed_behind, behind, ahead, in_time}
+use Rattle.gw_members.specs.declared.tx.Member.{Member}
 
 module _ {A : Type 0} where
   placed-same : (p q : A → Bool) (x : A) → ((y : A) → p y ≡ q y) → (xs : List A) → placed_behind p x xs ≡ placed_behind q x xs

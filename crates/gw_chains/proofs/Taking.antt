@@ -11,11 +11,15 @@ use Rattle.gw_chains.specs.declared.bucket.Bucket.{Bucket}
 use Rattle.gw_chains.specs.declared.bucket.Link.{Link}
 use Rattle.gw_chains.specs.declared.spot.Spot.{Spot}
 use Rattle.gw_chains.proofs.Places.{pairs_cons, pairs_first, pairs_rest}
-use Rattle.gw_chains.proofs.Turning.{remove-middle}
 use Rattle.gw_chains.proofs.Linking.{once-same, once-other, times-append, some_of, Alike, run-same, links-same, members-same, members-append, bucket-same, buckets-same, member_kept, there_kept, AreLed, led_back, led_front}
 use Rattle.gw_chains.proofs.Joining.{led_of}
 use Rattle.gw_chains.proofs.Spotting.{filled, place_first, link-first, link_within}
 use Rattle.gw_chains.proofs.Unlinking.{middle, all_without, run_length, led_upto, parted, Passed, left_run, left_before, left_last}
+
+-- a list of two parts without the one between them
+pub remove-middle : {T : Type 0} (xs : List T) (x : T) (ys : List T) → remove (xs ++ x ∷ ys) (length xs) ≡ xs ++ ys
+remove-middle [] x ys = refl
+remove-middle (z ∷ zs) x ys = ap (λ ws. z ∷ ws) (remove-middle zs x ys)
 
 members_length : {X : Type 0} (S : Links X) (ks : List ℕ) → AreThere S ks → length (members_at S ks) ≡ length ks
 members_length S [] there = refl

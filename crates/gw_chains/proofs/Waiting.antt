@@ -1,24 +1,10 @@
--- The delay lists of all entities, and the user chains: what a call on one of them makes of all that are shown.
-use Rattle.std.proofs.Common.{◌≡◌, ◌∙◌, ℕ, ◌+◌, ◌<◌, ◌≤◌, List, [], map, length, get_or, set, sum_by, ap, sym, subst, arith, Global}
-use Rattle.std.specs.VecDeque.{deque_items}
-use Rattle.std.specs.declared.collections.VecDeque.{VecDeque}
+-- The delay lists of all entities: what a call on one of them makes of all that are shown.
+use Rattle.std.proofs.Common.{◌≡◌, ◌∙◌, ℕ, ◌+◌, ◌<◌, ◌≤◌, List, [], map, length, get_or, set, sum_by, ap, sym, subst, arith}
 use Rattle.gw_num.specs.Table.{at}
-use Rattle.gw_chains.specs.Lists.{Walked, LosesRoom, changed, room_of}
-use Rattle.gw_chains.specs.declared.tx.Member.{Member}
-use Rattle.gw_chains.specs.declared.tx.Tx.{Tx}
-use Rattle.gw_chains.proofs.Each.{Stands, stands, here as read, after, unchanged, changes, total, at_most_total, loses}
-
-module _ {X T : Type 0} (f : X → List T) (xs : List X) (shown : List (List T)) (e : ℕ) (x v : X) (is : map f xs ≡ shown) (within : e < length shown) (here : x ≡ get_or xs e x) where
-  -- it leaves the members as they were
-  all_kept : f v ≡ f x → map f (set xs e v) ≡ shown
-  all_kept same = unchanged f [] xs e x v (stands f [] xs shown e x is within here) same ∙ is
-
-  many_kept : f v ≡ f x → (n : ℕ) → n ≡ sum_by length (map f xs) → n ≡ sum_by length (map f (set xs e v))
-  many_kept same n many = many ∙ ap (sum_by length) (is ∙ sym (all_kept same))
-
-  -- it changes the members of that one
-  one_changed : (g : List T → List T) → f v ≡ g (f x) → map f (set xs e v) ≡ changed e g shown
-  one_changed g same = changes f xs e x v g (stands f [] xs shown e x is within here) same ∙ ap (changed e g) is
+use Rattle.gw_members.specs.Lists.{LosesRoom, changed, room_of}
+use Rattle.gw_chains.specs.Waiting.{Walked}
+use Rattle.gw_members.specs.declared.tx.Member.{Member}
+use Rattle.gw_members.proofs.Each.{Stands, stands, here as read, after, total, at_most_total, all_kept, many_kept, one_changed, loses}
 
 -- the list to which the call goes
 pub list_of : (lists : List Walked) (shown : List (List Member)) (e : ℕ) (l : Walked) → map (λ (l : Walked). l.members) lists ≡ shown → e < length shown → l ≡ get_or lists e l → Stands lists e l
@@ -50,17 +36,3 @@ module _ (lists : List Walked) (shown : List (List Member)) (e : ℕ) (l v : Wal
   rooms_kept n rooms same more =
       subst (λ rs. LosesRoom 0 rs (map (λ (l : Walked). room_of n l.room) (set lists e v))) same
       (loses (λ (l : Walked). room_of n l.room) (λ (l : Walked). room_of n l.room) 0 (λ y. omega arith) lists e l v (list_of lists shown e l is within here) (omega (arith, more)))
-
--- the chain to which the call goes
-pub chain_of : (chains : List (VecDeque Tx Global)) (shown : List (List Tx)) (e : ℕ) (q : VecDeque Tx Global) → map deque_items chains ≡ shown → e < length shown → q ≡ get_or chains e q → Stands chains e q
-chain_of = stands deque_items []
-
-module _ (chains : List (VecDeque Tx Global)) (shown : List (List Tx)) (e : ℕ) (q v : VecDeque Tx Global) (is : map deque_items chains ≡ shown) (within : e < length shown) (here : q ≡ get_or chains e q) where
-  pub chains_kept : v.items ≡ q.items → map deque_items (set chains e v) ≡ shown
-  chains_kept = all_kept deque_items chains shown e q v is within here
-
-  pub linked_kept : v.items ≡ q.items → (n : ℕ) → n ≡ sum_by length (map (deque_items {X = Tx} {Z = Global}) chains) → n ≡ sum_by length (map deque_items (set chains e v))
-  linked_kept = many_kept deque_items chains shown e q v is within here
-
-  pub chain_changed : (g : List Tx → List Tx) → v.items ≡ g q.items → map deque_items (set chains e v) ≡ changed e g shown
-  chain_changed = one_changed deque_items chains shown e q v is within here

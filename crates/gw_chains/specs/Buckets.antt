@@ -3,7 +3,7 @@
 use Rattle.std.specs.Prelude.{◌≡◌, ◌<◌, ◌≤◌, ◌<ℤ◌, ℕ, ℤ, zero, suc, ◌+◌, ◌-◌, ◌==◌, ◌^◌, min, nat_le, int_le, int_lt, is_some, Bool, true, false, List, [], ◌∷◌, ◌++◌, length, AllPairs, Option, Some, None, if◌then◌else◌}
 use Rattle.std.specs.List.{AllByRecursion}
 use Rattle.std.specs.List.Sorted.{IsPartitionPoint}
-use Rattle.gw_chains.specs.Chain.{placed_behind, first, rest}
+use Rattle.gw_members.specs.Chain.{placed_behind, first, rest}
 use Rattle.gw_chains.specs.declared.bucket.Bucket.{Bucket}
 use Rattle.gw_chains.specs.declared.bucket.Link.{Link}
 

@@ -1,16 +1,7 @@
-pub mod Chain
-pub mod Lists
-pub mod Ends
+pub mod Waiting
 pub mod Queues
 pub mod Slots
-pub mod Runs
 pub mod Chunks
 pub mod Newcomers
 pub mod Buckets
 pub mod Spots
-pub mod Calling
-pub mod Calls
-pub mod PriorityCalls
-pub mod DelayCalls
-pub mod Assembling
-pub mod Register

@@ -2,7 +2,7 @@
 use Rattle.std.specs.Prelude.{◌≡◌, ◌≤◌, ◌+◌, ◌-◌, ℕ, min}
 use Rattle.std.specs.declared.collections.VecDeque.{VecDeque}
 use Rattle.slab.specs.Slab.{Slab, slab_len}
-use Rattle.gw_chains.specs.Lists.{room_of}
+use Rattle.gw_members.specs.Lists.{room_of}
 use Rattle.gw_chains.specs.Queues.{space_in}
 
 module _ {T : Type 0} where

@@ -3,7 +3,7 @@
 ghost use Rattle.std.specs.Prelude.{ℤ, ◌≡◌, neg_ℤ};
 
 use crate::chunks::Placed;
-use crate::{Event, Member};
+use gw_members::{Event, Member};
 
 /// What is kept in buckets: all of one rank in one, in the order in which they came.
 pub(crate) trait Ranked: Copy + Drop {

@@ -5,15 +5,15 @@ ghost use Rattle.std.specs.Prelude.{◌≡◌, ◌≤◌, ◌<◌, ◌+◌, ◌-
 ghost use Rattle.std.specs.VecDeque.{deque_len, deque_capacity};
 ghost use Rattle.std.specs.VecDeque.Iter.{deque_iter_rest};
 ghost use Rattle.slab.specs.Slab.{get, slab_len, ContainsKey, HasRoomFor};
-ghost use Rattle.gw_chains.specs.Chain.{first};
+ghost use Rattle.gw_members.specs.Chain.{first};
 ghost use Rattle.gw_chains.specs.Chunks.{all_of, rest_of, IsChunk, IsSpare};
 ghost use Rattle.gw_chains.specs.Queues.{space_in};
 ghost use Rattle.gw_chains.specs.Slots.{TakesOneSlot, TakesNoSlot, KeepsSlots};
 ghost use Rattle.gw_chains.specs.Buckets.{run, members_at, total, upto, bucket_of_one, linked_behind, without_first_link, AreBuckets, GainMember, LoseFirst};
 
-use crate::Memory;
 use crate::bucket::{Bucket, Link, Ranked};
 use crate::chunks::{front, insert, pop_first, set_front};
+use gw_members::Memory;
 use slab::Slab;
 use std::collections::{VecDeque, vec_deque};
 

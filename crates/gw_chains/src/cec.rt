@@ -1,12 +1,12 @@
 //! The current events chain.
 
 ghost use Rattle.std.specs.Prelude.{◌≡◌, ◌≤◌, ◌<◌, ◌+◌, [], length, ◌==◌, option_map, OnOk, OnErr};
-ghost use Rattle.gw_chains.specs.Chain.{behind, ahead, first, rest};
-ghost use Rattle.gw_chains.specs.declared.tx.Member.{Member};
+ghost use Rattle.gw_members.specs.Chain.{behind, ahead, first, rest};
+ghost use Rattle.gw_members.specs.declared.tx.Member.{Member};
 
 use crate::bucket::{Bucket, Link};
 use crate::row::{insert_ahead, insert_behind, pop_member, reserve};
-use crate::{Member, Memory, Tx};
+use gw_members::{Member, Memory, Tx};
 use slab::Slab;
 use std::alloc::Global;
 use std::collections::VecDeque;
@@ -28,10 +28,10 @@ pub struct Cec {
 impl Model for Cec {
     ghost use Rattle.std.specs.Prelude.{neg_ℤ};
     ghost use Rattle.slab.specs.Slab.{get};
-    ghost use Rattle.gw_chains.specs.Chain.{Chain};
+    ghost use Rattle.gw_members.specs.Chain.{Chain};
     ghost use Rattle.gw_chains.specs.Slots.{row_room};
     ghost use Rattle.gw_chains.specs.Buckets.{members_of, AreCounted};
-    ghost use Rattle.gw_chains.specs.declared.tx.Member.{Member};
+    ghost use Rattle.gw_members.specs.declared.tx.Member.{Member};
 
     ghost Value = { Chain Member };
 

@@ -3,13 +3,13 @@
 ghost use Rattle.std.specs.Prelude.{◌≡◌, ◌≤◌, ◌<◌, ◌+◌, ◌-◌, ◌^◌, [], ◌∷◌, ◌++◌, Bool, true, false, All, length, take, drop, slice_index_or, option_to_list, option_copied, ◌⊎◌, IfSome, OnSome, OnOk, OnErr};
 ghost use Rattle.std.specs.VecDeque.{deque_len, deque_capacity};
 ghost use Rattle.std.specs.declared.collections.VecDeque.{VecDeque as DeclaredQueue};
-ghost use Rattle.gw_chains.specs.Chain.{first, rest};
+ghost use Rattle.gw_members.specs.Chain.{first, rest};
 ghost use Rattle.gw_chains.specs.Newcomers.{host, with_newcomer, IsHostLast, GoFirst, IsPlaceOf};
 ghost use Rattle.gw_chains.specs.Chunks.{most_in_chunk, all_of, items_of, begins_in, HoldsInChunk, IsChunk, IsSpare};
 ghost use Rattle.gw_chains.specs.Queues.{space_in, IsAsLarge, GainsOneAtMost};
 
-use crate::Memory;
 use crate::queue::insert_reserved;
+use gw_members::Memory;
 use std::alloc::Global;
 use std::collections::VecDeque;
 

@@ -1,14 +1,14 @@
 //! The delay list of one entity.
 
 ghost use Rattle.std.specs.Prelude.{◌≡◌, ◌≤◌, ◌<◌, ◌+◌, ◌↔◌, [], length, option_map, slice_get, remove, IsSome, OnOk, OnErr};
-ghost use Rattle.gw_chains.specs.Chain.{behind};
-ghost use Rattle.gw_chains.specs.declared.tx.Member.{Member};
+ghost use Rattle.gw_members.specs.Chain.{behind};
+ghost use Rattle.gw_members.specs.declared.tx.Member.{Member};
 
 use crate::bucket::{Bucket, Link};
 use crate::row::{insert_behind, remove_member, reserve, unlink};
 use crate::spot::member_at;
 use crate::walk::{Walk, advance, walk_at, walk_from};
-use crate::{Member, Memory, Tx};
+use gw_members::{Member, Memory, Tx};
 use slab::Slab;
 use std::alloc::Global;
 use std::collections::VecDeque;
@@ -31,11 +31,11 @@ pub struct DelayList {
 impl Model for DelayList {
     ghost use Rattle.std.specs.Prelude.{neg_ℤ};
     ghost use Rattle.slab.specs.Slab.{get};
-    ghost use Rattle.gw_chains.specs.Lists.{Walked};
+    ghost use Rattle.gw_chains.specs.Waiting.{Walked};
     ghost use Rattle.gw_chains.specs.Slots.{row_room};
     ghost use Rattle.gw_chains.specs.Buckets.{members_of, AreCounted};
     ghost use Rattle.gw_chains.specs.Spots.{place_at, IsWalk};
-    ghost use Rattle.gw_chains.specs.declared.tx.Member.{Member};
+    ghost use Rattle.gw_members.specs.declared.tx.Member.{Member};
 
     ghost Value = { Walked };
 

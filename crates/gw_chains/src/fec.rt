@@ -2,16 +2,15 @@
 
 ghost use Rattle.std.specs.Prelude.{◌≡◌, ◌≤◌, ◌<◌, ◌+◌, [], length, if◌then◌else◌, option_map, is_some, OnOk, OnErr, IsPermutation};
 ghost use Rattle.std.specs.Iterator.{YieldsFirstRef, item_count};
-ghost use Rattle.gw_chains.specs.Chain.{in_time, due, first, rest};
-ghost use Rattle.gw_chains.specs.declared.tx.Event.{Event};
+ghost use Rattle.gw_members.specs.Chain.{in_time, due, first, rest};
+ghost use Rattle.gw_members.specs.declared.tx.Event.{Event};
 
 use crate::bucket::{Bucket, Link};
 use crate::buckets::{
     first_rank, insert_member, next_bucket, next_member, pop_member, reserve_links,
 };
 use crate::chunks::reserve;
-use crate::tx::MOST;
-use crate::{Event, Memory, Tx};
+use gw_members::{Event, MOST, Memory, Tx};
 use slab::Slab;
 use std::alloc::Global;
 use std::collections::{VecDeque, vec_deque};
@@ -37,10 +36,10 @@ impl Model for Fec {
     ghost use Rattle.std.specs.Prelude.{◌-◌, All, length};
     ghost use Rattle.std.specs.VecDeque.{deque_len, deque_capacity};
     ghost use Rattle.slab.specs.Slab.{get, slab_len};
-    ghost use Rattle.gw_chains.specs.Chain.{Chain};
+    ghost use Rattle.gw_members.specs.Chain.{Chain};
     ghost use Rattle.gw_chains.specs.Chunks.{all_of, room_beside, IsChunk, IsSpare};
     ghost use Rattle.gw_chains.specs.Buckets.{members_of, AreCounted};
-    ghost use Rattle.gw_chains.specs.declared.tx.Event.{Event};
+    ghost use Rattle.gw_members.specs.declared.tx.Event.{Event};
 
     ghost Value = { Chain Event };
 
@@ -156,7 +155,7 @@ impl<'a> Model for Events<'a> {
     ghost use Rattle.slab.specs.Slab.{get};
     ghost use Rattle.gw_chains.specs.Chunks.{all_of, rest_of};
     ghost use Rattle.gw_chains.specs.Buckets.{run, members_at, members_of};
-    ghost use Rattle.gw_chains.specs.declared.tx.Event.{Event};
+    ghost use Rattle.gw_members.specs.declared.tx.Event.{Event};
 
     ghost Value = { List Event };
 

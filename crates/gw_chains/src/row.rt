@@ -3,19 +3,18 @@
 ghost use Rattle.std.specs.Prelude.{◌≡◌, ◌≤◌, ◌<◌, ◌+◌, ◌-◌, ◌^◌, ℕ, AllPairs, Some, IfSome, length, option_to_list, slice_get, remove, OnOk, OnErr};
 ghost use Rattle.std.specs.VecDeque.{deque_len, deque_capacity};
 ghost use Rattle.slab.specs.Slab.{get, ContainsKey, HasRoomFor};
-ghost use Rattle.gw_chains.specs.Chain.{first};
+ghost use Rattle.gw_members.specs.Chain.{first};
 ghost use Rattle.gw_chains.specs.Buckets.{members_of, total, upto, lower, bucket_of_one, without_first_link, below, IsHead, head_host, headed_by, with_head, Before, AreBuckets, GainMember, LoseFirst};
 ghost use Rattle.gw_chains.specs.Queues.{GrowsByOneAtMost, DoesNotGrow};
 ghost use Rattle.gw_chains.specs.Slots.{TakesOneSlot, TakesNoSlot, KeepsSlots, row_room};
 ghost use Rattle.gw_chains.specs.Spots.{count_at, place_at, link_at, IsSpot, led_past, without_one, without_link};
 
-use crate::Memory;
 use crate::bucket::{Bucket, Link, Ranked};
 use crate::buckets::{bucket_of_one, link_behind, reserve_links, shorter};
 use crate::chunks::{join, replace_front};
 use crate::queue::insert_reserved;
 use crate::spot::{Spot, link_at, spot_of};
-use crate::tx::MOST;
+use gw_members::{MOST, Memory};
 use slab::Slab;
 use std::collections::VecDeque;
 

@@ -3,13 +3,13 @@
 ghost use Rattle.std.specs.Prelude.{◌≡◌, ◌≤◌, ◌<◌, ◌+◌, ◌⊎◌, ◌↔◌, [], ◌∷◌, ◌++◌, length, option_map, slice_get, remove, replicate, sum_by, EachIndex, SomeIndex, IfOk, IsSome, OnOk, OnErr};
 ghost use Rattle.std.specs.VecDeque.{deque_capacity};
 ghost use Rattle.gw_num.specs.Table.{at};
-ghost use Rattle.gw_chains.specs.Chain.{behind, all_behind};
-ghost use Rattle.gw_chains.specs.Lists.{changed, LosesRoom};
-ghost use Rattle.gw_chains.specs.declared.tx.Member.{Member};
+ghost use Rattle.gw_members.specs.Chain.{behind, all_behind};
+ghost use Rattle.gw_members.specs.Lists.{changed, LosesRoom};
+ghost use Rattle.gw_members.specs.declared.tx.Member.{Member};
 
+use crate::Cec;
 use crate::delay_list::DelayList;
-use crate::tx::MOST;
-use crate::{Cec, Member, Memory, Tx};
+use gw_members::{MOST, Member, Memory, Tx};
 use std::alloc::Global;
 use std::collections::VecDeque;
 use std::marker::Model;
@@ -33,7 +33,8 @@ pub struct Waits {
 impl Model for Waits {
     ghost use Rattle.std.specs.Prelude.{◌≡◌, ◌≤◌, ◌-◌, ◌^◌, map, length, sum_by};
     ghost use Rattle.std.specs.VecDeque.{deque_len, deque_capacity};
-    ghost use Rattle.gw_chains.specs.Lists.{Waiting, Walked, room_of};
+    ghost use Rattle.gw_chains.specs.Waiting.{Waiting, Walked};
+    ghost use Rattle.gw_members.specs.Lists.{room_of};
 
     ghost Value = { Waiting };
 

@@ -1,8 +1,9 @@
 //! Both bodies of the future events chain, of the current events chain and of a delay list.
 
-use gw_chains::{
-    CallTarget, Cec, ChainCall, DelayCall, DelayList, Event, EventCall, Fec, Member, PriorityCall,
-    Tx, make_calls, plain,
+use gw_chains::{Cec, DelayList, Fec};
+use gw_members::{Event, Member, Tx};
+use gw_plain_chains::{
+    CallTarget, ChainCall, DelayCall, EventCall, PriorityCall, make_calls, plain,
 };
 use std::alloc::Global;
 

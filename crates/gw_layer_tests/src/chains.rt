@@ -2,7 +2,10 @@
 
 ghost use Rattle.std.specs.Prelude.{◌≡◌, ◌<◌, length, IfOk};
 
-use gw_chains::{Assemblies, Assembly, Cec, Memory, Tx, UserChains, Waits};
+use gw_assemblies::{Assemblies, Assembly};
+use gw_chains::{Cec, Waits};
+use gw_members::{Memory, Tx};
+use gw_user_chains::UserChains;
 use std::alloc::Global;
 use std::test::Fail;
 use std::time::{Duration, Instant};

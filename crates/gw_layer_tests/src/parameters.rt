@@ -4,7 +4,7 @@ ghost use Rattle.std.specs.Prelude.{◌≡◌, ◌≤◌, length, None, [], ◌�
 ghost use Rattle.gw_transactions.specs.Transactions.{Holds};
 
 use crate::transactions::add;
-use gw_chains::{Memory, Tx};
+use gw_members::{Memory, Tx};
 use gw_transactions::{Transaction, Transactions};
 use std::test::Fail;
 

@@ -4,7 +4,7 @@ ghost use Rattle.std.specs.Prelude.{◌≡◌, ◌≤◌, ◌<◌, ◌+◌, ◌^
 ghost use Rattle.gw_num.specs.Table.{put};
 ghost use Rattle.gw_transactions.specs.Transactions.{as_made, Holds, KeepsHandles};
 
-use gw_chains::{Memory, Tx};
+use gw_members::{Memory, Tx};
 use gw_transactions::{Transaction, Transactions};
 use std::test::Fail;
 

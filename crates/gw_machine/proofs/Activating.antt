@@ -1,8 +1,8 @@
 -- The first of the current events chain becomes active.
 use Rattle.std.proofs.Common.{◌≡◌, List, [], ◌∷◌, map, Some, option_map, ap}
-use Rattle.gw_chains.specs.Chain.{first, rest}
-use Rattle.gw_chains.specs.declared.tx.Tx.{Tx}
-use Rattle.gw_chains.specs.declared.tx.Member.{Member}
+use Rattle.gw_members.specs.Chain.{first, rest}
+use Rattle.gw_members.specs.declared.tx.Tx.{Tx}
+use Rattle.gw_members.specs.declared.tx.Member.{Member}
 use Rattle.gw_machine.specs.View.{member_number}
 
 -- the number of the first, and those of the rest

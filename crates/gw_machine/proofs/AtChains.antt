@@ -6,13 +6,13 @@ use Rattle.std.specs.Option.{option_map_or}
 use Rattle.gw_blocks.specs.declared.parts.LinkOrder.{LinkOrder}
 use Rattle.gw_blocks.specs.declared.parts.LinkOrder.TheVariants.{Fifo, Lifo}
 use Rattle.gw_blocks.specs.declared.parts.Link.{Link}
-use Rattle.gw_chains.specs.Chain.{Chain, behind, first, rest}
-use Rattle.gw_chains.specs.Lists as chain_lists
-use Rattle.gw_chains.specs.Lists.{changed}
-use Rattle.gw_chains.specs.declared.tx.Tx.{Tx}
-use Rattle.gw_chains.specs.declared.tx.Member.{Member}
-use Rattle.gw_chains.specs.declared.tx.Event.{Event}
-use Rattle.gw_chains.specs.declared.assemblies.Assembly.{Assembly as HeldAssembly}
+use Rattle.gw_members.specs.Chain.{Chain, behind, first, rest}
+use Rattle.gw_user_chains.specs.Linked as chain_lists
+use Rattle.gw_members.specs.Lists.{changed}
+use Rattle.gw_members.specs.declared.tx.Tx.{Tx}
+use Rattle.gw_members.specs.declared.tx.Member.{Member}
+use Rattle.gw_members.specs.declared.tx.Event.{Event}
+use Rattle.gw_assemblies.specs.declared.assemblies.Assembly.{Assembly as HeldAssembly}
 use Rattle.gw_num.specs.Table.{at, put}
 use Rattle.gw_num.proofs.Tables.{put-at}
 use Rattle.gw_transactions.specs.declared.Transaction.{Transaction}

@@ -6,11 +6,11 @@ use Rattle.std.proofs.lemmas.Bool.{cases_eq, eq-eqb, ne_eqb}
 use Rattle.std.proofs.lemmas.List.{length-map}
 use Rattle.gw_num.specs.Table.{at}
 use Rattle.gw_num.proofs.Tables.{at_past}
-use Rattle.gw_chains.specs.Chain.{placed_behind}
-use Rattle.gw_chains.specs.declared.tx.Tx.{Tx}
-use Rattle.gw_chains.specs.declared.tx.Member.{Member}
-use Rattle.gw_chains.specs.declared.assemblies.Assembly.{Assembly as HeldAssembly}
-use Rattle.gw_chains.specs.Lists.{Waiting}
+use Rattle.gw_members.specs.Chain.{placed_behind}
+use Rattle.gw_members.specs.declared.tx.Tx.{Tx}
+use Rattle.gw_members.specs.declared.tx.Member.{Member}
+use Rattle.gw_assemblies.specs.declared.assemblies.Assembly.{Assembly as HeldAssembly}
+use Rattle.gw_chains.specs.Waiting.{Waiting}
 use Rattle.gw_machine.specs.Configuration.{Configuration}
 use Rattle.gw_step.specs.declared.placement.Assembling.{Assembling}
 use Rattle.gw_step.specs.State.{State, Assembly, FutureEvent, priority_of, without}

@@ -3,10 +3,11 @@ use Rattle.std.proofs.Common.{◌≡◌, ◌==◌, ℕ, ◌-◌, ◌<◌, ℤ, L
 use Rattle.std.specs.Prelude.{int_le, IsSome}
 use Rattle.std.specs.List.{AllByRecursion, find}
 use Rattle.std.proofs.lemmas.Bool.{lt-leb, eqb-true, and_parts}
-use Rattle.gw_chains.specs.Chain.{behind}
-use Rattle.gw_chains.specs.Assembling.{is_of as is_held_of, without_first, with_first_changed}
-use Rattle.gw_chains.specs.declared.tx.Member.{Member}
-use Rattle.gw_chains.specs.declared.assemblies.Assembly.{Assembly as HeldAssembly}
+use Rattle.gw_members.specs.Chain.{behind}
+use Rattle.gw_assemblies.specs.Assembling.{is_of as is_held_of}
+use Rattle.gw_members.specs.Firsts.{without_first, with_first_changed}
+use Rattle.gw_members.specs.declared.tx.Member.{Member}
+use Rattle.gw_assemblies.specs.declared.assemblies.Assembly.{Assembly as HeldAssembly}
 use Rattle.gw_transactions.specs.declared.Transaction.{Transaction}
 use Rattle.gw_transactions.specs.Transactions.{LiveTransaction, Holds, attributes_at}
 use Rattle.gw_machine.specs.Configuration.{Configuration}

@@ -2,12 +2,12 @@
 use Rattle.std.proofs.Common.{◌≡◌, ℕ, ◌+◌, ◌≤◌, ◌<◌, ℤ, List, [], map, length, Option, Some, None, IfSome, option_map, refl, sym, ap, ◌∙◌, subst, get_or}
 use Rattle.std.specs.Prelude.{int_le, slice_set}
 use Rattle.std.specs.List.{AllByRecursion}
-use Rattle.gw_chains.specs.Chain.{Chain, in_time}
+use Rattle.gw_members.specs.Chain.{Chain, in_time}
 use Rattle.gw_num.specs.Table.{at, put}
-use Rattle.gw_chains.specs.declared.tx.Tx.{Tx}
-use Rattle.gw_chains.specs.declared.tx.Member.{Member}
-use Rattle.gw_chains.specs.declared.tx.Event.{Event}
-use Rattle.gw_chains.specs.declared.assemblies.Assembly.{Assembly as HeldAssembly}
+use Rattle.gw_members.specs.declared.tx.Tx.{Tx}
+use Rattle.gw_members.specs.declared.tx.Member.{Member}
+use Rattle.gw_members.specs.declared.tx.Event.{Event}
+use Rattle.gw_assemblies.specs.declared.assemblies.Assembly.{Assembly as HeldAssembly}
 use Rattle.gw_transactions.specs.declared.Transaction.{Transaction}
 use Rattle.gw_transactions.specs.Transactions.{LiveTransaction, Population, put_attributes, put_parameter, Holds, IsSound}
 use Rattle.gw_num.proofs.Tables.{at-put, set-put, at-get_or_any, at-map}

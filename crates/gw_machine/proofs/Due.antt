@@ -2,9 +2,9 @@
 use Rattle.std.proofs.Common.{◌≡◌, ℕ, ℤ, ◌-ℤ◌, List, [], ◌∷◌, map, length, refl, sym, ap, ◌∙◌, subst}
 use Rattle.std.specs.Prelude.{unsigned_abs}
 use Rattle.std.specs.List.{AllByRecursion}
-use Rattle.gw_chains.specs.Chain.{all_behind, due, later}
-use Rattle.gw_chains.specs.declared.tx.Member.{Member}
-use Rattle.gw_chains.specs.declared.tx.Event.{Event}
+use Rattle.gw_members.specs.Chain.{all_behind, due, later}
+use Rattle.gw_members.specs.declared.tx.Member.{Member}
+use Rattle.gw_members.specs.declared.tx.Event.{Event}
 use Rattle.std.proofs.lemmas.List.{length-map}
 use Rattle.gw_entities.specs.Contents.{contents_after}
 use Rattle.gw_entities.specs.Facility.{facility_after}

@@ -2,10 +2,10 @@
 use Rattle.std.proofs.Common.{◌≡◌, ℕ, ◌≤◌, ℤ, List, [], ◌∷◌, ◌++◌, map, length, Option, Some, None, IfSome, option_map, refl, sym, ap, ◌∙◌, subst, arith, inl, inr}
 use Rattle.std.specs.List.{AllByRecursion}
 use Rattle.std.proofs.lemmas.Bool.{cases_eq}
-use Rattle.gw_chains.specs.declared.tx.Tx.{Tx}
-use Rattle.gw_chains.specs.declared.tx.Member.{Member}
-use Rattle.gw_chains.specs.declared.tx.Event.{Event}
-use Rattle.gw_chains.specs.declared.assemblies.Assembly.{Assembly}
+use Rattle.gw_members.specs.declared.tx.Tx.{Tx}
+use Rattle.gw_members.specs.declared.tx.Member.{Member}
+use Rattle.gw_members.specs.declared.tx.Event.{Event}
+use Rattle.gw_assemblies.specs.declared.assemblies.Assembly.{Assembly}
 use Rattle.gw_transactions.specs.declared.Transaction.{Transaction}
 use Rattle.gw_num.specs.Table.{at, put}
 use Rattle.gw_transactions.specs.Transactions.{LiveTransaction, Population, put_attributes, put_parameter, put_chain, with_attributes, with_parameter, with_chain, Holds, IsSound}

@@ -16,7 +16,7 @@ use Rattle.gw_entities.specs.declared.storages.Storage.{Storage}
 use Rattle.gw_entities.specs.declared.contents.Contents.{Contents}
 use Rattle.gw_entities.specs.Numbered.{ByNumber}
 use Rattle.gw_operands.specs.Environment.{kept_value, ReadTheSame}
-use Rattle.gw_chains.specs.Lists as chain_lists
+use Rattle.gw_user_chains.specs.Linked as chain_lists
 use Rattle.gw_transactions.specs.Transactions.{LiveTransaction, here_count}
 use Rattle.gw_plus.specs.declared.env.Env.{Env}
 use Rattle.gw_plus.specs.Reading as lent

@@ -1,9 +1,9 @@
 -- What resting on the retry list, and waking it, make of a machine.
 use Rattle.std.proofs.Common.{◌≡◌, ℕ, ℤ, List, [], ◌∷◌, ◌++◌, map, None, false, option_map, sym, ap, ◌∙◌, subst}
-use Rattle.gw_chains.specs.Chain.{all_behind}
-use Rattle.gw_chains.specs.Lists.{Waiting}
-use Rattle.gw_chains.specs.declared.tx.Tx.{Tx}
-use Rattle.gw_chains.specs.declared.tx.Member.{Member}
+use Rattle.gw_members.specs.Chain.{all_behind}
+use Rattle.gw_chains.specs.Waiting.{Waiting}
+use Rattle.gw_members.specs.declared.tx.Tx.{Tx}
+use Rattle.gw_members.specs.declared.tx.Member.{Member}
 use Rattle.gw_machine.specs.Configuration.{Configuration}
 use Rattle.gw_step.specs.State.{priority_of}
 use Rattle.gw_step.specs.Residence.{ResidesOnce}

@@ -2,7 +2,7 @@
 use Rattle.std.proofs.Common.{◌≡◌, ℕ, suc, ◌+◌, ◌^◌, ◌≤◌, ◌<◌, List, length, Some, sym, ap, ◌∙◌, subst, arith}
 use Rattle.gw_blocks.specs.declared.parts.Units.{Units}
 use Rattle.gw_blocks.specs.declared.parts.Block.{Block}
-use Rattle.gw_chains.specs.declared.tx.Tx.{Tx}
+use Rattle.gw_members.specs.declared.tx.Tx.{Tx}
 use Rattle.gw_transactions.specs.declared.Transaction.{Transaction}
 use Rattle.gw_transactions.specs.Transactions.{attributes_at}
 use Rattle.gw_entities.specs.Facility.{released}

@@ -6,8 +6,8 @@ use Rattle.std.proofs.lemmas.List.Sums.{sum_by-cons}
 use Rattle.std.specs.Option.{option_map_or}
 use Rattle.gw_blocks.specs.declared.parts.Block.{Block}
 use Rattle.gw_num.specs.Table.{at}
-use Rattle.gw_chains.specs.declared.tx.Tx.{Tx}
-use Rattle.gw_chains.specs.declared.tx.Member.{Member}
+use Rattle.gw_members.specs.declared.tx.Tx.{Tx}
+use Rattle.gw_members.specs.declared.tx.Member.{Member}
 use Rattle.gw_transactions.specs.Transactions.{attributes_at}
 use Rattle.gw_entities.specs.declared.facilities.Facility.{Facility}
 use Rattle.gw_entities.specs.Numbered.{ByNumber}

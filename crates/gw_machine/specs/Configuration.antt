@@ -1,11 +1,12 @@
 -- What a contract sees of a machine: what it keeps, and how much more fits with no allocation.
 use Rattle.std.specs.Prelude.{ℕ, ℤ, List, Option, Bool}
-use Rattle.gw_chains.specs.Chain.{Chain}
-use Rattle.gw_chains.specs.Assembling.{Assembling}
-use Rattle.gw_chains.specs.Lists.{Waiting, Linked as UserChains}
-use Rattle.gw_chains.specs.declared.tx.Tx.{Tx}
-use Rattle.gw_chains.specs.declared.tx.Member.{Member}
-use Rattle.gw_chains.specs.declared.tx.Event.{Event}
+use Rattle.gw_members.specs.Chain.{Chain}
+use Rattle.gw_assemblies.specs.Assembling.{Assembling}
+use Rattle.gw_chains.specs.Waiting.{Waiting}
+use Rattle.gw_user_chains.specs.Linked.{Linked as UserChains}
+use Rattle.gw_members.specs.declared.tx.Tx.{Tx}
+use Rattle.gw_members.specs.declared.tx.Member.{Member}
+use Rattle.gw_members.specs.declared.tx.Event.{Event}
 use Rattle.gw_entities.specs.declared.facilities.Facility.{Facility}
 use Rattle.gw_entities.specs.declared.storages.Storage.{Storage}
 use Rattle.gw_entities.specs.declared.contents.Contents.{Contents}

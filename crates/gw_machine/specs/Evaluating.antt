@@ -1,6 +1,6 @@
 -- Evaluating operands: for whom, what may be read of a machine, and what is answered.
 use Rattle.std.specs.Prelude.{◌≡◌, ℕ, ◌≤◌, ◌^◌, ℤ, pos, ◌≤ℤ◌, sum, List, length, Option, Some, None, IfSome, Result, Ok, Err}
-use Rattle.gw_chains.specs.declared.tx.Tx.{Tx}
+use Rattle.gw_members.specs.declared.tx.Tx.{Tx}
 use Rattle.gw_operands.specs.declared.ends.PlusEnd.{PlusEnd}
 use Rattle.gw_operands.specs.Environment.{Environment}
 use Rattle.gw_step.specs.declared.ends.End.{End}

@@ -1,6 +1,6 @@
 -- What a call on a machine changes: all else stays.
 use Rattle.std.specs.Prelude.{◌≡◌, ℕ, ◌+◌, ◌≤◌, length}
-use Rattle.gw_chains.specs.Lists.{LosesRoom}
+use Rattle.gw_members.specs.Lists.{LosesRoom}
 use Rattle.gw_machine.specs.Configuration.{Configuration}
 
 -- who may move now, and who waits for a later time

@@ -1,8 +1,8 @@
 -- What a call on a machine leaves.
 use Rattle.std.specs.Prelude.{[], ◌∷◌, List, ◌≡◌, ℕ, ◌+◌, ◌≤◌, ◌<◌, sum, length, remove, slice_get, option_map, Option, Some, None, Result, Ok, Err, Bool, true, false}
-use Rattle.gw_chains.specs.declared.assemblies.Assembly.{Assembly as HeldAssembly}
-use Rattle.gw_chains.specs.declared.tx.Member.{Member}
-use Rattle.gw_chains.specs.declared.tx.Tx.{Tx}
+use Rattle.gw_assemblies.specs.declared.assemblies.Assembly.{Assembly as HeldAssembly}
+use Rattle.gw_members.specs.declared.tx.Member.{Member}
+use Rattle.gw_members.specs.declared.tx.Tx.{Tx}
 use Rattle.gw_entities.specs.Tabulation.{Tabulation}
 use Rattle.gw_num.specs.declared.arithmetic.NumFault.{NumFault}
 use Rattle.gw_num.specs.Table.{at}

@@ -1,9 +1,9 @@
 -- The simulation state that a machine is in: it holds handles, and the state has their numbers.
 use Rattle.std.specs.Prelude.{ℕ, map, option_map}
-use Rattle.gw_chains.specs.declared.tx.Tx.{Tx}
-use Rattle.gw_chains.specs.declared.tx.Member.{Member}
-use Rattle.gw_chains.specs.declared.tx.Event.{Event}
-use Rattle.gw_chains.specs.declared.assemblies.Assembly.{Assembly as HeldAssembly}
+use Rattle.gw_members.specs.declared.tx.Tx.{Tx}
+use Rattle.gw_members.specs.declared.tx.Member.{Member}
+use Rattle.gw_members.specs.declared.tx.Event.{Event}
+use Rattle.gw_assemblies.specs.declared.assemblies.Assembly.{Assembly as HeldAssembly}
 use Rattle.gw_machine.specs.Configuration.{Configuration}
 use Rattle.gw_step.specs.State.{FutureEvent, Assembly, Lists, EntityStates, State}
 

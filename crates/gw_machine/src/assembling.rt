@@ -8,7 +8,8 @@ ghost use Rattle.gw_machine.specs.Leaving.{HasBegun, BecomesBy};
 ghost use Rattle.gw_machine.specs.Frames.{OnlyAssembliesMove, LosesRoomToMove};
 
 use crate::machine::Machine;
-use gw_chains::{Assembly, Memory};
+use gw_assemblies::Assembly;
+use gw_members::Memory;
 
 impl Machine {
     /// The assembly of a set at a block, if it has begun.

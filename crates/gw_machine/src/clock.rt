@@ -2,7 +2,7 @@
 
 ghost use Rattle.std.specs.Prelude.{◌≡◌, ◌≤◌, ◌<◌, ◌+◌, [], None, Some, pos, ◌≤ℤ◌, length, IsTrue, false};
 ghost use Rattle.std.specs.List.{AllByRecursion};
-ghost use Rattle.gw_chains.specs.Chain.{all_behind, due, later};
+ghost use Rattle.gw_members.specs.Chain.{all_behind, due, later};
 ghost use Rattle.gw_step.specs.Changes as change;
 ghost use Rattle.gw_machine.specs.View.{state_of, lists_of};
 ghost use Rattle.gw_machine.specs.Coherence.{IsHeld, ranked};
@@ -10,7 +10,8 @@ ghost use Rattle.gw_machine.specs.Leaving.{BecomesBy, BecomesOnOk, BecomesActive
 ghost use Rattle.gw_machine.specs.Frames.{LosesRoomToMove};
 
 use crate::machine::Machine;
-use gw_chains::{Cec, Fec, Memory};
+use gw_chains::{Cec, Fec};
+use gw_members::Memory;
 use gw_transactions::Transactions;
 
 /// All that are due join the current events chain, each behind its peers. There is room.

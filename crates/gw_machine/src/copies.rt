@@ -9,7 +9,7 @@ ghost use Rattle.gw_machine.specs.Leaving.{HasRoomForCopies};
 ghost use Rattle.gw_machine.specs.Frames.{OnlyCopiesCome};
 
 use crate::machine::Machine;
-use gw_chains::{Memory, Tx};
+use gw_members::{Memory, Tx};
 use gw_transactions::{Parameters, Transaction};
 
 impl Machine {

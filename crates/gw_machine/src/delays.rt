@@ -9,7 +9,7 @@ ghost use Rattle.gw_machine.specs.Leaving.{waiter_at, waiter_come_to, LosesWaite
 ghost use Rattle.gw_machine.specs.Frames.{OnlyWaitersMove};
 
 use crate::machine::Machine;
-use gw_chains::{Memory, Tx};
+use gw_members::{Memory, Tx};
 
 impl Machine {
     /// How many wait on the delay list of an entity.

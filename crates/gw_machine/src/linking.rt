@@ -8,7 +8,7 @@ ghost use Rattle.gw_machine.specs.View.{state_of};
 ghost use Rattle.gw_machine.specs.Frames.{OnlyMembersLeave};
 
 use crate::machine::Machine;
-use gw_chains::Memory;
+use gw_members::Memory;
 
 impl Machine {
     /// Makes room for one more member of a user chain.

@@ -14,11 +14,14 @@ ghost use Rattle.gw_transactions.specs.Parameters.{none_of};
 ghost use Rattle.gw_machine.specs.Coherence.{Carries, Every, HasSlot};
 ghost use Rattle.gw_machine.specs.Frames.{OnlyArrivalFits, OnlyArrivalComes, OnlyEntryIsMade};
 
-use gw_chains::{Assemblies, Cec, Fec, Memory, Tx, UserChains, Waits};
+use gw_assemblies::Assemblies;
+use gw_chains::{Cec, Fec, Waits};
 use gw_entities::{Facilities, Queues, Savevalues, Storages, Switches, Tables};
+use gw_members::{Memory, Tx};
 use gw_num::Stream;
 use gw_step::End;
 use gw_transactions::{Parameters, Transaction, Transactions};
+use gw_user_chains::UserChains;
 use std::marker::Model;
 
 /// The most live transactions, scheduled arrivals included (ours: docs/machine.md).

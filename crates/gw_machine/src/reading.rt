@@ -4,16 +4,17 @@ ghost use Rattle.std.specs.Prelude.{◌≡◌, ◌≤◌, ◌<◌, ◌^◌, Some
 ghost use Rattle.std.specs.List.{AllByRecursion};
 ghost use Rattle.std.specs.Option.{IsSome};
 ghost use Rattle.gw_num.specs.Table.{at};
-ghost use Rattle.gw_chains.specs.Chain.{first};
-ghost use Rattle.gw_chains.specs.declared.tx.Event.{Event};
+ghost use Rattle.gw_members.specs.Chain.{first};
+ghost use Rattle.gw_members.specs.declared.tx.Event.{Event};
 ghost use Rattle.gw_step.specs.Residence.{ResidesOnce};
 ghost use Rattle.gw_transactions.specs.Transactions.{Holds, attributes_at, here_count, parameter_at};
 ghost use Rattle.gw_machine.specs.View.{state_of};
 ghost use Rattle.gw_machine.specs.Coherence.{IsHeld, HasSlot};
 
 use crate::machine::Machine;
-use gw_chains::{Cec, Fec, Tx, Waits};
+use gw_chains::{Cec, Fec, Waits};
 use gw_entities::{Facilities, Queues, Savevalues, Storages, Switches, Tables};
+use gw_members::Tx;
 use gw_num::Stream;
 use gw_step::End;
 use gw_transactions::{Transaction, Transactions};

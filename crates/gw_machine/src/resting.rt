@@ -11,8 +11,9 @@ ghost use Rattle.gw_machine.specs.Coherence.{HasRoom, CanRest, CanBePlaced};
 ghost use Rattle.gw_machine.specs.Frames.{OnlyEventsChange, OnlyWaking, KeepsRoomToWait, LosesRoomToMove};
 
 use crate::machine::Machine;
+use gw_assemblies::Assembly;
 use gw_blocks::{Link, LinkOrder};
-use gw_chains::{Assembly, Memory, Tx};
+use gw_members::{Memory, Tx};
 use gw_step::{Assembling, Placement};
 
 impl Machine {

@@ -16,14 +16,17 @@ ghost use Rattle.gw_machine.specs.Slots.{greatest_set};
 
 use crate::machine::Machine;
 use crate::slots::greatest_set;
+use gw_assemblies::Assemblies;
 use gw_blocks::{Block, Generate};
-use gw_chains::{Assemblies, Cec, Fec, Memory, UserChains, Waits};
+use gw_chains::{Cec, Fec, Waits};
 use gw_entities::{Facilities, Queues, Savevalues, Storages, Switches, Tables};
+use gw_members::Memory;
 use gw_num::Stream;
 use gw_object::Object;
 use gw_rules::Verified;
 use gw_step::End;
 use gw_transactions::Transactions;
+use gw_user_chains::UserChains;
 use std::alloc::Global;
 
 /// A table of so many counts, each 0.

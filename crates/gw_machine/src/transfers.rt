@@ -19,7 +19,7 @@ ghost use Rattle.gw_machine.specs.Frames.{KeepsFacilities};
 
 use crate::machine::Machine;
 use gw_blocks::{Block, Units};
-use gw_chains::Tx;
+use gw_members::Tx;
 use gw_transactions::Transaction;
 
 /// The block of a number, from 1, if there is one.

@@ -21,7 +21,7 @@ ghost use Rattle.gw_machine.specs.Evaluating.{subject_of, parameters_for, IsRead
 
 use crate::machine::Machine;
 use gw_blocks::{EntityAttribute, Numbered, Operand};
-use gw_chains::Tx;
+use gw_members::Tx;
 use gw_num::Stream;
 use gw_operands::{PlusEnd, made, source_of};
 use gw_plus::{Env, eval};

@@ -9,10 +9,10 @@ ghost use Rattle.gw_operands.specs.Environment.{attribute_value, kept_value};
 ghost use Rattle.gw_plus.specs.Reading.{readings_of, environment_of, AttributesFit, MayRead, MayReadKept};
 
 use gw_blocks::{Attribute, EntityAttribute, Operand};
-use gw_chains::UserChains;
 use gw_entities::{Facilities, Facility, Queues, Savevalues, Storage, Storages, Switches, Tables};
 use gw_num::truth_value;
 use gw_transactions::Parameters;
+use gw_user_chains::UserChains;
 
 /// What procedures read: it lends what is to be read of the job and of one transaction.
 #[derive(Clone, Copy)]

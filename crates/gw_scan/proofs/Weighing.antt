@@ -11,7 +11,7 @@ use Rattle.gw_num.proofs.Tables.{sum_by-replicate, tabulate-replicate, at_past}
 use Rattle.gw_transactions.specs.declared.Transaction.{Transaction}
 use Rattle.gw_transactions.specs.Transactions.{LiveTransaction, listed}
 use Rattle.gw_rules.specs.Weights.{weight_of}
-use Rattle.gw_chains.specs.declared.tx.Event.{Event}
+use Rattle.gw_members.specs.declared.tx.Event.{Event}
 use Rattle.gw_machine.specs.Configuration.{Configuration}
 use Rattle.gw_machine.specs.View.{state_of, event_of}
 use Rattle.gw_step.specs.State.{FutureEvent, State}

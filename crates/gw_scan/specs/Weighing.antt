@@ -3,7 +3,7 @@ use Rattle.std.specs.Prelude.{ℕ, ◌*◌, ℤ, List, Option, None, int_lt, if�
 use Rattle.gw_object.specs.declared.parts.Parts.{Parts}
 use Rattle.gw_rules.specs.Kinds.{block_at}
 use Rattle.gw_num.specs.Table.{at}
-use Rattle.gw_chains.specs.declared.tx.Event.{Event}
+use Rattle.gw_members.specs.declared.tx.Event.{Event}
 use Rattle.gw_transactions.specs.Transactions.{LiveTransaction}
 use Rattle.gw_rules.specs.Weights.{weight_at}
 use Rattle.gw_step.specs.Weight.{weight_in, owed_by}

@@ -14,8 +14,8 @@ ghost use Rattle.gw_scan.specs.Visiting.{Acts, ActsOnOk, IsEntering, IsVisit, Me
 
 use crate::visit::{Visit, blocks_of};
 use gw_blocks::{Block, Fraction, Generate, Operand, Spread, Units};
-use gw_chains::Memory;
 use gw_machine::{Machine, Made, active_subject, drawn_thousandths, end_by};
+use gw_members::Memory;
 use gw_num::Stream;
 use gw_step::{End, Placement};
 

@@ -11,8 +11,8 @@ ghost use Rattle.gw_scan.specs.Visiting.{ActsOnOk, IsVisit, MayFall, MayGo, Meet
 
 use crate::visit::Visit;
 use gw_blocks::{Block, Comparison, Gate, Test};
-use gw_chains::Memory;
 use gw_machine::{Machine, Made, end_by};
+use gw_members::Memory;
 use gw_num::Stream;
 use gw_step::Placement;
 

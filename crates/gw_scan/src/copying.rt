@@ -13,9 +13,10 @@ ghost use Rattle.gw_scan.specs.Makes.{MakesOnOk};
 ghost use Rattle.gw_scan.specs.Visiting.{ActsOnOk, IsVisit, MayFall, Meets, after_entry, after_fall, assembly_met, entry};
 
 use crate::visit::Visit;
+use gw_assemblies::Assembly;
 use gw_blocks::{Block, Split};
-use gw_chains::{Assembly, Memory};
 use gw_machine::{Machine, Made};
+use gw_members::Memory;
 use gw_step::{Assembling, End, Placement};
 
 /// The block to which the copies go that a SPLIT, the block of this number, makes.

@@ -9,8 +9,8 @@ ghost use Rattle.gw_scan.specs.Visiting.{ActsOnOk, IsVisit, Meets, after_fall};
 
 use crate::visit::Visit;
 use gw_blocks::{Block, Link, Unlink};
-use gw_chains::Memory;
 use gw_machine::{Machine, Made};
+use gw_members::Memory;
 use gw_step::Placement;
 
 /// How many members an UNLINK takes from its user chain: as many as it asks for at most, or all.

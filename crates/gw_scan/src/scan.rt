@@ -9,8 +9,8 @@ ghost use Rattle.gw_scan.specs.Visiting.{IsReady};
 
 use crate::visit::{Visit, blocks_of};
 use gw_blocks::Block;
-use gw_chains::Memory;
 use gw_machine::{Machine, Made, block_of};
+use gw_members::Memory;
 use gw_rules::Verified;
 use gw_step::End;
 

@@ -5,7 +5,7 @@ ghost use Rattle.gw_step.specs.Job.{IsReached};
 ghost use Rattle.gw_scan.specs.Answers.{Advances, IsSlice, MakesSlice, StaysPaid, status_at};
 
 use crate::sim::{Sim, Status};
-use gw_chains::Memory;
+use gw_members::Memory;
 
 /// What a slice came to.
 #[derive(Clone, Copy, Debug, PartialEq, Eq)]

@@ -5,7 +5,7 @@ ghost use Rattle.std.specs.List.{All, list_all};
 ghost use Rattle.gw_step.specs.Job as job;
 ghost use Rattle.gw_scan.specs.Making as model;
 
-use gw_chains::Memory;
+use gw_members::Memory;
 use gw_num::Stream;
 use gw_object::{GREATEST_SEED, MOST_SEEDS, Parts};
 use gw_rules::Verified;

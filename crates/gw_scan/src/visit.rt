@@ -11,8 +11,8 @@ ghost use Rattle.gw_machine.specs.Leaving.{BecomesBy};
 ghost use Rattle.gw_scan.specs.Visiting.{IsVisit, PassesOnOk, environment_in, with_priority};
 
 use gw_blocks::{Block, Operand};
-use gw_chains::{Memory, Tx};
 use gw_machine::{Machine, active_subject};
+use gw_members::{Memory, Tx};
 use gw_num::Stream;
 use gw_operands::PlusEnd;
 use gw_rules::Verified;

@@ -14,8 +14,8 @@ ghost use Rattle.gw_machine.specs.Coherence.{IsHeld};
 ghost use Rattle.gw_scan.specs.Weighing.{later_weight, owed_weight};
 
 use gw_blocks::{Block, Generate};
-use gw_chains::{Event, Tx};
 use gw_machine::{Machine, block_of};
+use gw_members::{Event, Tx};
 use gw_object::Parts;
 use gw_rules::{chain_weight, takes_time, weight_at};
 use gw_transactions::Transactions;

@@ -7,7 +7,7 @@ use Rattle.std.proofs.lemmas.List.{length-append}
 use Rattle.gw_object.specs.declared.parts.Parts.{Parts}
 use Rattle.gw_num.specs.Table.{at, put}
 use Rattle.gw_num.proofs.Tables.{at-put_other}
-use Rattle.gw_chains.specs.Chain.{placed_behind, all_behind, later}
+use Rattle.gw_members.specs.Chain.{placed_behind, all_behind, later}
 use Rattle.gw_transactions.specs.Transactions.{LiveTransaction, live_count}
 use Rattle.gw_step.specs.declared.placement.Placement.{Placement}
 use Rattle.gw_step.specs.declared.placement.Placement.TheVariants.{JoinsDelayList, JoinsRetryList}

@@ -8,7 +8,7 @@ use Rattle.gw_transactions.specs.Transactions.{LiveTransaction, made_with, with_
 use Rattle.std.proofs.Common.{◌≡◌, ℕ, suc, ◌+◌, ◌<◌, ◌≤◌, ◌≤ℤ◌, ℤ, pos, ◌-ℤ◌, List, [], ◌∷◌, length, map, Option, Some, None, Bool, true, false, is_some, if◌then◌else◌, ◌==◌, refl, sym, ap, ◌∙◌, subst, arith, inl, inr, IsSome, option_map}
 use Rattle.std.specs.Prelude.{◌<ℤ◌, IsSomeAnd, Contains, unsigned_abs, sum_by, IfSome, IsTrue, nat_le, ◌&&◌, ◌-◌, ◌++◌, All}
 use Rattle.std.specs.List.{find}
-use Rattle.gw_chains.specs.Assembling.{without_first, with_first_changed}
+use Rattle.gw_members.specs.Firsts.{without_first, with_first_changed}
 use Rattle.std.specs.Option.{option_map_or}
 use Rattle.std.proofs.lemmas.Bool.{cases_eq, eqb-true, false≢true, and_parts}
 use Rattle.std.proofs.lemmas.List.Elements.{All-contains, All-head, All-tail, All-cons, All-nil}
@@ -29,7 +29,7 @@ use Rattle.gw_rules.specs.FlowLaws.{MayPass, FlowHolds}
 use Rattle.gw_rules.proofs.Fitting.{included}
 use Rattle.gw_num.specs.Table.{at, put}
 use Rattle.gw_num.proofs.Tables.{at-map, at-put, at-put_other, put-put, by_entry, at_past}
-use Rattle.gw_chains.specs.Chain.{behind, rest}
+use Rattle.gw_members.specs.Chain.{behind, rest}
 use Rattle.gw_blocks.specs.declared.parts.Link.{Link}
 use Rattle.gw_rules.specs.declared.edges.Target.TheVariants as targets
 use Rattle.gw_transactions.specs.declared.Transaction.{Transaction}

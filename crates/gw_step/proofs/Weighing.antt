@@ -19,7 +19,7 @@ use Rattle.gw_rules.specs.Weights.{weight_at, weight_of, chain_weight}
 use Rattle.gw_rules.specs.WeightsLaws.{Weighted}
 use Rattle.gw_num.specs.Table.{at, put, tabulate}
 use Rattle.gw_num.proofs.Tables.{at-put, at-put_other, at_some, length-put, length-put_next}
-use Rattle.gw_chains.specs.Chain.{in_time, later}
+use Rattle.gw_members.specs.Chain.{in_time, later}
 use Rattle.gw_transactions.specs.declared.Transaction.{Transaction}
 use Rattle.gw_transactions.specs.Transactions.{LiveTransaction, made_with, with_attributes, with_parameter, with_chain, attributes_at, put_parameter}
 use Rattle.gw_step.specs.declared.placement.Placement.{Placement}

@@ -2,7 +2,7 @@
 use Rattle.std.proofs.Common.{◌≡◌, ◌≢◌, ℕ, zero, suc, ◌+◌, ◌^◌, ◌<◌, ◌≤◌, List, [], ◌∷◌, get_or, inl, inr, length, set, Option, Some, None, option_map, is_some, cond, refl, sym, ap, ◌∙◌, subst, arith}
 use Rattle.std.proofs.lemmas.Bool.{cases_eq}
 use Rattle.slab.specs.Slab.{Slab, get, Updates, slab_len, with_value}
-use Rattle.gw_chains.specs.declared.tx.Tx.{Tx}
+use Rattle.gw_members.specs.declared.tx.Tx.{Tx}
 use Rattle.gw_transactions.specs.declared.Kept.{Kept}
 use Rattle.gw_transactions.specs.declared.Transactions.TheInside.{Inside}
 use Rattle.gw_num.specs.Table.{at, put}

@@ -3,7 +3,7 @@
 ghost use Rattle.std.specs.Prelude.{◌≡◌, ◌≤◌, ◌<◌, ◌+◌, ◌^◌, ◌==◌, if◌then◌else◌, ℕ, IfOk, replicate};
 ghost use Rattle.gw_num.specs.Table.{at};
 
-use gw_chains::Memory;
+use gw_members::Memory;
 use std::alloc::Global;
 use std::marker::Model;
 

@@ -13,7 +13,7 @@ mod parameters;
 use crate::block_counts::BlockCounts;
 pub use crate::iter::Iter;
 pub use crate::parameters::Parameters;
-use gw_chains::{Memory, Tx};
+use gw_members::{Memory, Tx};
 use slab::Slab;
 use std::alloc::Global;
 use std::marker::Model;

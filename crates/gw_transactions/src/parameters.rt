@@ -5,7 +5,7 @@ ghost use Rattle.std.specs.Option.{IsSome};
 ghost use Rattle.gw_num.specs.Table.{at, put};
 ghost use Rattle.gw_transactions.specs.Parameters.{none_of};
 
-use gw_chains::Memory;
+use gw_members::Memory;
 use std::alloc::Global;
 use std::marker::Model;
 

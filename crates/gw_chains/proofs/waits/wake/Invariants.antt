@@ -1,7 +1,7 @@
 use Rattle.std.proofs.Common.{◌≡◌, ◌≤◌, ◌+◌, length}
 use Rattle.std.specs.VecDeque.{deque_capacity}
-use Rattle.gw_chains.specs.Chain.{all_behind}
-use Rattle.gw_chains.specs.declared.tx.Member.{Member}
+use Rattle.gw_members.specs.Chain.{all_behind}
+use Rattle.gw_members.specs.declared.tx.Member.{Member}
 use Rattle.gw_chains.proofs.waits.wake.Given as goal
 
 abbrev pub invariant-loop-member : goal.invariant-loop-member

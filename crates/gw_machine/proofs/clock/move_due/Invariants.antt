@@ -1,8 +1,8 @@
 use Rattle.std.proofs.Common.{◌≡◌, ◌+◌, ◌≤◌, length}
 use Rattle.std.specs.List.{AllByRecursion}
-use Rattle.gw_chains.specs.Chain.{all_behind, due, later}
-use Rattle.gw_chains.specs.declared.tx.Member.{Member}
-use Rattle.gw_chains.specs.declared.tx.Event.{Event}
+use Rattle.gw_members.specs.Chain.{all_behind, due, later}
+use Rattle.gw_members.specs.declared.tx.Member.{Member}
+use Rattle.gw_members.specs.declared.tx.Event.{Event}
 use Rattle.gw_machine.specs.Coherence.{IsHeld, ranked}
 use Rattle.gw_machine.proofs.clock.move_due.Given as goal
 

@@ -3,8 +3,8 @@ use Rattle.std.specs.Prelude.{sum_by}
 use Rattle.std.specs.List.{AllByRecursion}
 use Rattle.std.proofs.lemmas.List.Sorted.{sum_by-IsPermutation, All-permutation, length_permutation}
 use Rattle.std.proofs.lemmas.List.Elements.{recursion_from_All, All-from_recursion}
-use Rattle.gw_chains.specs.Chain.{Chain}
-use Rattle.gw_chains.specs.declared.tx.Event.{Event}
+use Rattle.gw_members.specs.Chain.{Chain}
+use Rattle.gw_members.specs.declared.tx.Event.{Event}
 use Rattle.gw_machine.specs.Coherence.{IsHeld}
 use Rattle.gw_scan.specs.Weighing.{later_weight}
 use Rattle.gw_scan.proofs.weight.weight_of_later.Goals as goal

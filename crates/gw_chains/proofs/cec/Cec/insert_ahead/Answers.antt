@@ -1,6 +1,6 @@
 use Rattle.std.proofs.Common.{ap, arith, neg_ℤ}
-use Rattle.gw_chains.specs.Chain.{Chain}
-use Rattle.gw_chains.specs.declared.tx.Member.{Member}
+use Rattle.gw_members.specs.Chain.{Chain}
+use Rattle.gw_members.specs.declared.tx.Member.{Member}
 use Rattle.gw_chains.proofs.Counting.{counted_more}
 use Rattle.gw_chains.proofs.cec.Cec.insert_ahead.Goals as goal
 

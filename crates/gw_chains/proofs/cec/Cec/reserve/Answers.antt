@@ -1,6 +1,6 @@
 use Rattle.std.proofs.Common.{neg_ℤ}
 use Rattle.gw_chains.specs.Buckets.{AreCounted}
-use Rattle.gw_chains.specs.declared.tx.Member.{Member}
+use Rattle.gw_members.specs.declared.tx.Member.{Member}
 use Rattle.gw_chains.proofs.Counting.{in_slots}
 use Rattle.gw_chains.proofs.cec.Cec.reserve.Goals as goal
 

@@ -4,7 +4,7 @@ use Rattle.std.proofs.lemmas.Option.{slice_get_past}
 use Rattle.slab.specs.Slab.{get}
 use Rattle.gw_chains.specs.Buckets.{members_of}
 use Rattle.gw_chains.specs.Spots.{place_at}
-use Rattle.gw_chains.specs.declared.tx.Member.{Member}
+use Rattle.gw_members.specs.declared.tx.Member.{Member}
 use Rattle.gw_chains.proofs.Spotting.{place_inside, link_there}
 use Rattle.gw_chains.proofs.Taking.{stands_there}
 use Rattle.gw_chains.proofs.Walking.{walk_ended}

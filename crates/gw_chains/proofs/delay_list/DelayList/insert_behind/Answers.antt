@@ -1,8 +1,8 @@
 use Rattle.std.proofs.Common.{◌+◌, length, ap, arith, neg_ℤ}
 use Rattle.slab.specs.Slab.{get}
-use Rattle.gw_chains.specs.Lists.{Walked}
+use Rattle.gw_chains.specs.Waiting.{Walked}
 use Rattle.gw_chains.specs.Buckets.{AreCounted}
-use Rattle.gw_chains.specs.declared.tx.Member.{Member}
+use Rattle.gw_members.specs.declared.tx.Member.{Member}
 use Rattle.gw_chains.proofs.Spotting.{filled, place_start}
 use Rattle.gw_chains.proofs.Walking.{walk_begun}
 use Rattle.gw_chains.proofs.Counting.{counted_more}

@@ -1,6 +1,6 @@
 use Rattle.std.proofs.Common.{neg_ℤ}
 use Rattle.slab.specs.Slab.{get}
-use Rattle.gw_chains.specs.declared.tx.Member.{Member}
+use Rattle.gw_members.specs.declared.tx.Member.{Member}
 use Rattle.gw_chains.proofs.Spotting.{filled, place_start}
 use Rattle.gw_chains.proofs.Walking.{walk_begun}
 use Rattle.gw_chains.proofs.delay_list.DelayList.start_walk.Goals as goal

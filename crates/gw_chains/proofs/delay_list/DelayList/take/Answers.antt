@@ -2,9 +2,9 @@ use Rattle.std.proofs.Common.{length, ap, arith, neg_ℤ}
 use Rattle.std.proofs.lemmas.List.Edits.{length-remove}
 use Rattle.slab.specs.Slab.{get}
 use Rattle.gw_chains.specs.Buckets.{members_of}
-use Rattle.gw_chains.specs.Lists.{Walked}
+use Rattle.gw_chains.specs.Waiting.{Walked}
 use Rattle.gw_chains.specs.Spots.{place_at}
-use Rattle.gw_chains.specs.declared.tx.Member.{Member}
+use Rattle.gw_members.specs.declared.tx.Member.{Member}
 use Rattle.gw_chains.proofs.Spotting.{is_inside}
 use Rattle.gw_chains.proofs.Counting.{counted_fewer}
 use Rattle.gw_chains.proofs.delay_list.DelayList.take.Goals as goal

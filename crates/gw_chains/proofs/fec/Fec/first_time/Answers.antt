@@ -1,9 +1,9 @@
 use Rattle.std.proofs.Common.{◌∙◌, ap}
 use Rattle.std.specs.Prelude.{option_map}
 use Rattle.slab.specs.Slab.{get}
-use Rattle.gw_chains.specs.Chain.{Chain, first}
+use Rattle.gw_members.specs.Chain.{Chain, first}
 use Rattle.gw_chains.specs.Chunks.{all_of}
-use Rattle.gw_chains.specs.declared.tx.Event.{Event}
+use Rattle.gw_members.specs.declared.tx.Event.{Event}
 use Rattle.gw_chains.proofs.Leaving.{first_rank_of}
 use Rattle.gw_chains.proofs.fec.Fec.first_time.Goals as goal
 

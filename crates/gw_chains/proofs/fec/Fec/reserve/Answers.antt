@@ -1,9 +1,9 @@
 use Rattle.std.proofs.Common.{ap, arith, refl}
-use Rattle.gw_chains.specs.Chain.{Chain}
+use Rattle.gw_members.specs.Chain.{Chain}
 use Rattle.gw_chains.specs.Chunks.{all_of}
 use Rattle.gw_chains.specs.Buckets.{AreCounted}
-use Rattle.gw_chains.specs.declared.tx.Event.{Event}
-use Rattle.gw_chains.proofs.Each.{err_with}
+use Rattle.gw_members.specs.declared.tx.Event.{Event}
+use Rattle.gw_members.proofs.Each.{err_with}
 use Rattle.gw_chains.proofs.Counting.{in_slots}
 use Rattle.gw_chains.proofs.fec.Fec.reserve.Goals as goal
 

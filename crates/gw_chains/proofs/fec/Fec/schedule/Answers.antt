@@ -1,6 +1,6 @@
 use Rattle.std.proofs.Common.{ap, arith}
-use Rattle.gw_chains.specs.Chain.{Chain}
-use Rattle.gw_chains.specs.declared.tx.Event.{Event}
+use Rattle.gw_members.specs.Chain.{Chain}
+use Rattle.gw_members.specs.declared.tx.Event.{Event}
 use Rattle.gw_chains.proofs.Counting.{counted_more}
 use Rattle.gw_chains.proofs.fec.Fec.schedule.Goals as goal
 

@@ -1,9 +1,9 @@
 use Rattle.std.proofs.Common.{[], map, ap, sym, ◌∙◌}
 use Rattle.std.specs.Prelude.{slice_get, option_map}
 use Rattle.gw_num.specs.Table.{at}
-use Rattle.gw_chains.specs.Lists.{Walked}
-use Rattle.gw_chains.specs.declared.tx.Member.{Member}
-use Rattle.gw_chains.proofs.Each.{here}
+use Rattle.gw_chains.specs.Waiting.{Walked}
+use Rattle.gw_members.specs.declared.tx.Member.{Member}
+use Rattle.gw_members.proofs.Each.{here}
 use Rattle.gw_chains.proofs.Waiting.{list_of}
 use Rattle.gw_chains.proofs.waits.Waits.current.Goals as goal
 

@@ -1,8 +1,8 @@
 use Rattle.std.proofs.Common.{◌∙◌, [], length, map, replicate, ap, sym, refl, arith}
 use Rattle.std.specs.Prelude.{sum_by}
 use Rattle.gw_num.proofs.Tables.{sum_by-replicate}
-use Rattle.gw_chains.specs.Lists.{Walked}
-use Rattle.gw_chains.proofs.Each.{one_more}
+use Rattle.gw_chains.specs.Waiting.{Walked}
+use Rattle.gw_members.proofs.Each.{one_more}
 use Rattle.gw_chains.proofs.waits.Waits.new.Goals as goal
 
 pub loop-init : goal.loop-init

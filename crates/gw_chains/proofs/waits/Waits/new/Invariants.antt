@@ -1,5 +1,5 @@
 use Rattle.std.proofs.Common.{◌≡◌, [], map, replicate}
-use Rattle.gw_chains.specs.Lists.{Walked}
+use Rattle.gw_chains.specs.Waiting.{Walked}
 use Rattle.gw_chains.proofs.waits.Waits.new.Given as goal
 
 abbrev pub invariant-loop : goal.invariant-loop

@@ -1,6 +1,6 @@
 use Rattle.std.proofs.Common.{◌+◌, [], length, arith, ap, sym, ◌∙◌}
-use Rattle.gw_chains.specs.Lists.{Walked}
-use Rattle.gw_chains.proofs.Each.{here}
+use Rattle.gw_chains.specs.Waiting.{Walked}
+use Rattle.gw_members.proofs.Each.{here}
 use Rattle.gw_chains.proofs.Waiting.{list_of, lists_kept, waiting_kept, place_shown, place_after, rooms_kept}
 use Rattle.gw_chains.proofs.waits.Waits.pass.Goals as goal
 

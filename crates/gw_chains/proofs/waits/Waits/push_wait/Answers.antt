@@ -1,9 +1,10 @@
 use Rattle.std.proofs.Common.{◌+◌, arith, ap}
 use Rattle.std.proofs.lemmas.Int.{to_z-of_z}
-use Rattle.gw_chains.specs.Chain.{behind}
-use Rattle.gw_chains.specs.Lists.{Walked, room_of}
-use Rattle.gw_chains.specs.declared.tx.Member.{Member}
-use Rattle.gw_chains.proofs.Each.{here, total, loses}
+use Rattle.gw_members.specs.Chain.{behind}
+use Rattle.gw_chains.specs.Waiting.{Walked}
+use Rattle.gw_members.specs.Lists.{room_of}
+use Rattle.gw_members.specs.declared.tx.Member.{Member}
+use Rattle.gw_members.proofs.Each.{here, total, loses}
 use Rattle.gw_chains.proofs.Waiting.{list_of, list_changed}
 use Rattle.gw_chains.proofs.waits.Waits.push_wait.Goals as goal
 

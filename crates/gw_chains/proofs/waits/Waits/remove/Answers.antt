@@ -1,7 +1,8 @@
 use Rattle.std.proofs.Common.{◌-◌, [], length, arith, ap}
 use Rattle.std.specs.Prelude.{remove}
-use Rattle.gw_chains.specs.Lists.{Walked, room_of}
-use Rattle.gw_chains.proofs.Each.{here, loses}
+use Rattle.gw_chains.specs.Waiting.{Walked}
+use Rattle.gw_members.specs.Lists.{room_of}
+use Rattle.gw_members.proofs.Each.{here, loses}
 use Rattle.gw_chains.proofs.Waiting.{list_of, list_changed, list_fits, waiting_changed}
 use Rattle.gw_chains.proofs.waits.Waits.remove.Goals as goal
 

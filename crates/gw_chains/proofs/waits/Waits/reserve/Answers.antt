@@ -1,7 +1,7 @@
 use Rattle.std.proofs.Common.{◌<◌, ◌∙◌, length, [], ap, inr, arith}
 use Rattle.gw_num.specs.Table.{at}
-use Rattle.gw_chains.specs.Lists.{Walked}
-use Rattle.gw_chains.proofs.Each.{many, err_with, each_more}
+use Rattle.gw_chains.specs.Waiting.{Walked}
+use Rattle.gw_members.proofs.Each.{many, err_with, each_more}
 use Rattle.gw_chains.proofs.waits.Waits.reserve.Goals as goal
 
 pub loop-e-init : goal.loop-e-init

@@ -1,6 +1,6 @@
 use Rattle.std.proofs.Common.{◌≡◌, ◌≤◌, ◌<◌, ℕ}
 use Rattle.gw_num.specs.Table.{at}
-use Rattle.gw_chains.specs.Lists.{LosesRoom}
+use Rattle.gw_members.specs.Lists.{LosesRoom}
 use Rattle.gw_chains.proofs.waits.Waits.reserve.Given as goal
 
 abbrev pub invariant-loop-e : goal.invariant-loop-e

@@ -1,6 +1,7 @@
 use Rattle.std.proofs.Common.{[], length, arith, ap}
-use Rattle.gw_chains.specs.Lists.{Walked, room_of}
-use Rattle.gw_chains.proofs.Each.{here, after, many, at_most, on_ok, on_err}
+use Rattle.gw_chains.specs.Waiting.{Walked}
+use Rattle.gw_members.specs.Lists.{room_of}
+use Rattle.gw_members.proofs.Each.{here, after, many, at_most, on_ok, on_err}
 use Rattle.gw_chains.proofs.Waiting.{list_of, lists_kept, waiting_kept, rooms_kept}
 use Rattle.gw_chains.proofs.waits.Waits.reserve_at.Goals as goal
 

@@ -1,8 +1,9 @@
 use Rattle.std.proofs.Common.{◌-◌, [], length, arith, ap, sym, ◌∙◌}
 use Rattle.std.specs.Prelude.{remove}
 use Rattle.gw_num.specs.Table.{at}
-use Rattle.gw_chains.specs.Lists.{Walked, room_of}
-use Rattle.gw_chains.proofs.Each.{here, loses}
+use Rattle.gw_chains.specs.Waiting.{Walked}
+use Rattle.gw_members.specs.Lists.{room_of}
+use Rattle.gw_members.proofs.Each.{here, loses}
 use Rattle.gw_chains.proofs.Waiting.{list_of, list_changed, list_fits, waiting_changed, place_shown, place_after}
 use Rattle.gw_chains.proofs.waits.Waits.take.Goals as goal
 

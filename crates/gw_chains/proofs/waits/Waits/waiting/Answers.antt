@@ -1,6 +1,6 @@
 use Rattle.std.proofs.Common.{[], length, ap, sym, ◌∙◌}
-use Rattle.gw_chains.specs.Lists.{Walked}
-use Rattle.gw_chains.proofs.Each.{here}
+use Rattle.gw_chains.specs.Waiting.{Walked}
+use Rattle.gw_members.proofs.Each.{here}
 use Rattle.gw_chains.proofs.Waiting.{list_of}
 use Rattle.gw_chains.proofs.waits.Waits.waiting.Goals as goal
 

@@ -1,6 +1,6 @@
 use Rattle.std.proofs.Common.{List, Some, map, sym, ap}
-use Rattle.gw_chains.specs.Chain.{rest}
-use Rattle.gw_chains.specs.declared.tx.Member.{Member}
+use Rattle.gw_members.specs.Chain.{rest}
+use Rattle.gw_members.specs.declared.tx.Member.{Member}
 use Rattle.gw_machine.specs.Shown.{shown}
 use Rattle.gw_machine.specs.View.{state_of, lists_of, member_number}
 use Rattle.gw_machine.proofs.Activating.{first-number}

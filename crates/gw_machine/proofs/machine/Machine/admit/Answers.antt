@@ -1,6 +1,6 @@
 use Rattle.std.proofs.Common.{◌+◌, ◌∙◌, sym, ap, subst, List, [], length, true, false, arith}
 use Rattle.gw_num.specs.Table.{at}
-use Rattle.gw_chains.specs.declared.tx.Member.{Member}
+use Rattle.gw_members.specs.declared.tx.Member.{Member}
 use Rattle.gw_step.specs.State.{delay_list}
 use Rattle.gw_step.specs.Blocks.{admission}
 use Rattle.gw_machine.specs.Coherence.{IsSteady}

@@ -1,7 +1,7 @@
 use Rattle.std.proofs.Common.{refl, ap, ◌∙◌, List, map, None, Some, length, Option, ℕ, ◌≡◌, rules, arith}
 use Rattle.std.proofs.lemmas.Int.{to_z-of_z}
-use Rattle.gw_chains.specs.Chain.{in_time}
-use Rattle.gw_chains.specs.declared.tx.Event.{Event}
+use Rattle.gw_members.specs.Chain.{in_time}
+use Rattle.gw_members.specs.declared.tx.Event.{Event}
 use Rattle.gw_transactions.specs.Transactions.{LiveTransaction}
 use Rattle.gw_num.specs.Table.{put}
 use Rattle.gw_step.specs.State.{FutureEvent, raised}

@@ -1,7 +1,7 @@
 use Rattle.std.proofs.Common.{◌≡◌, refl, rules}
 use Rattle.std.proofs.lemmas.Int.{to_z-of_z}
-use Rattle.gw_chains.specs.Chain.{behind}
-use Rattle.gw_chains.specs.declared.tx.Member.{Member}
+use Rattle.gw_members.specs.Chain.{behind}
+use Rattle.gw_members.specs.declared.tx.Member.{Member}
 use Rattle.gw_step.specs.State.{priority_of}
 use Rattle.gw_machine.proofs.AtSets.{has_begun, waiter-held, priority-found, state-assembled, linked-assembled}
 use Rattle.gw_machine.specs.Shown.{shown}

@@ -1,9 +1,9 @@
 use Rattle.std.proofs.Common.{[], ◌≡◌, refl}
 use Rattle.std.specs.Prelude.{remove}
 use Rattle.std.proofs.lemmas.Int.{to_z-of_z}
-use Rattle.gw_chains.specs.Chain.{behind}
+use Rattle.gw_members.specs.Chain.{behind}
 use Rattle.gw_num.specs.Table.{at}
-use Rattle.gw_chains.specs.declared.tx.Member.{Member}
+use Rattle.gw_members.specs.declared.tx.Member.{Member}
 use Rattle.gw_machine.proofs.Waiters.{ranked-at, changed-here, state-called, linked-called}
 use Rattle.gw_machine.specs.Shown.{shown}
 use Rattle.gw_machine.proofs.machine.Machine.call_current.Goals as goal

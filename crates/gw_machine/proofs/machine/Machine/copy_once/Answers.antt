@@ -1,8 +1,8 @@
 use Rattle.std.proofs.Common.{◌≡◌, refl, ap, ◌∙◌, rules, List, Option, ℕ, ℤ}
 use Rattle.gw_transactions.specs.Parameters.{Numbered}
 use Rattle.std.proofs.lemmas.Int.{to_z-of_z}
-use Rattle.gw_chains.specs.Chain.{behind}
-use Rattle.gw_chains.specs.declared.tx.Member.{Member}
+use Rattle.gw_members.specs.Chain.{behind}
+use Rattle.gw_members.specs.declared.tx.Member.{Member}
 use Rattle.gw_transactions.proofs.Populations.{transaction_of}
 use Rattle.gw_step.specs.Times.{parameters_of}
 use Rattle.gw_step.specs.Changes.{with_copy}

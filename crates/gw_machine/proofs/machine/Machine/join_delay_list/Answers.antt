@@ -1,8 +1,8 @@
 use Rattle.std.proofs.Common.{refl, ◌≡◌}
 use Rattle.std.proofs.lemmas.Int.{to_z-of_z}
-use Rattle.gw_chains.specs.Chain.{behind}
-use Rattle.gw_chains.specs.Lists.{changed}
-use Rattle.gw_chains.specs.declared.tx.Member.{Member}
+use Rattle.gw_members.specs.Chain.{behind}
+use Rattle.gw_members.specs.Lists.{changed}
+use Rattle.gw_members.specs.declared.tx.Member.{Member}
 use Rattle.gw_machine.proofs.Waiters.{state-waits, linked-waits}
 use Rattle.gw_machine.specs.Shown.{shown}
 use Rattle.gw_machine.proofs.machine.Machine.join_delay_list.Goals as goal

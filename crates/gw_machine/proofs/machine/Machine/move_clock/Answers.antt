@@ -1,9 +1,9 @@
 use Rattle.std.proofs.Common.{◌≡◌, ◌-ℤ◌, pos, refl, ap, ◌∙◌, arith, rules}
 use Rattle.std.specs.Prelude.{unsigned_abs}
 use Rattle.std.proofs.lemmas.Int.{to_z-of_z, ints}
-use Rattle.gw_chains.specs.Chain.{all_behind, due, later}
-use Rattle.gw_chains.specs.declared.tx.Member.{Member}
-use Rattle.gw_chains.specs.declared.tx.Event.{Event}
+use Rattle.gw_members.specs.Chain.{all_behind, due, later}
+use Rattle.gw_members.specs.declared.tx.Member.{Member}
+use Rattle.gw_members.specs.declared.tx.Event.{Event}
 use Rattle.gw_step.specs.Changes.{time_passes}
 use Rattle.gw_machine.specs.View.{entities_of}
 use Rattle.gw_machine.specs.Coherence.{ranked}

@@ -1,5 +1,5 @@
 use Rattle.std.proofs.Common.{refl, ap, ◌∙◌, List, map, Option}
-use Rattle.gw_chains.specs.declared.tx.Event.{Event}
+use Rattle.gw_members.specs.declared.tx.Event.{Event}
 use Rattle.gw_transactions.specs.Transactions.{LiveTransaction}
 use Rattle.gw_machine.specs.View.{state_of, lists_of, event_of}
 use Rattle.gw_machine.proofs.Changes.{linked-same}

@@ -1,7 +1,7 @@
 use Rattle.std.proofs.Common.{refl, ap, ◌∙◌, ◌≡◌, List, None, map}
 use Rattle.std.proofs.lemmas.Int.{to_z-of_z}
-use Rattle.gw_chains.specs.Chain.{in_time}
-use Rattle.gw_chains.specs.declared.tx.Event.{Event}
+use Rattle.gw_members.specs.Chain.{in_time}
+use Rattle.gw_members.specs.declared.tx.Event.{Event}
 use Rattle.gw_step.specs.State.{FutureEvent}
 use Rattle.gw_machine.specs.View.{state_of, lists_of, event_of}
 use Rattle.gw_machine.proofs.Changes.{events-in_time, linked-rested}

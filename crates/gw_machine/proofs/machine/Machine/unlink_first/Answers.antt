@@ -1,7 +1,7 @@
 use Rattle.std.proofs.Common.{◌≡◌, sym, rules}
 use Rattle.std.proofs.lemmas.Int.{to_z-of_z}
-use Rattle.gw_chains.specs.Chain.{behind}
-use Rattle.gw_chains.specs.declared.tx.Member.{Member}
+use Rattle.gw_members.specs.Chain.{behind}
+use Rattle.gw_members.specs.declared.tx.Member.{Member}
 use Rattle.gw_transactions.specs.Transactions.{put_attributes}
 use Rattle.gw_machine.proofs.AtChains.{first-held, first-block, lists-empty, state-empty, linked-roomed, state-unlinks, linked-unlinks}
 use Rattle.gw_machine.specs.Shown.{shown}
