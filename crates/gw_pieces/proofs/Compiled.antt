@@ -5,7 +5,15 @@ use Rattle.gw_code.specs.declared.parts.Procedure.{Procedure}
 use Rattle.gw_text.specs.declared.model.Statement.{Statement}
 use Rattle.gw_compile.specs.Numbers.{Numbers}
 use Rattle.gw_pieces.specs.declared.origins.Origin.{Origin}
-use Rattle.gw_pieces.specs.Sources.{IsProcedureOf, ComesFrom, AreCompiled, Grows}
+use Rattle.gw_code.specs.Grammar.{backs}
+use Rattle.gw_text_plus.specs.declared.model.Procedure.{Procedure as TextProcedure}
+use Rattle.gw_text.specs.declared.model.Body.{Body}
+use Rattle.gw_text.specs.declared.model.Body.TheVariants as bodies
+use Rattle.gw_compile.specs.Code.{procedure_code}
+use Rattle.gw_compile.specs.Keeps.{IsCompiledProcedure, ExceedsLimits}
+use Rattle.gw_compile.specs.Statements.{body_of}
+use Rattle.gw_pieces.specs.Reasons.{IsTooLong, ExceedsByBody, Exceeds}
+use Rattle.gw_pieces.specs.Sources.{IsFromExpression, IsProcedureOfBody, IsProcedureOf, ComesFrom, AreCompiled, Grows}
 
 -- what stands in a list with one more: what stood there, or the one more
 grown : {A : Type 0} (xs : List A) (x y : A) (i : ℕ) → slice_get (xs ++ x ∷ []) i ≡ Some y → (slice_get xs i ≡ Some y) ⊎ ((i ≡ length xs) × (x ≡ y))
@@ -75,3 +83,26 @@ module _ (n : Numbers) (ss : List Statement) where
       let next : suc i ≡ i + 1 = omega arith in
       let is : take (i + 1) order ≡ take i order ++ origin ∷ [] = ap (λ k. take k order) (sym next) ∙ one_further order i origin there in
       subst (λ o. AreCompiled n ss o new) (sym is) (subst (λ ps. AreCompiled n ss (take i order ++ origin ∷ []) ps) (sym g.2) (one_more (take i order) old origin g.0 before g.1))
+
+-- LIMITS
+
+module _ (n : Numbers) (before : List Procedure) where
+  of_body : (procedure : TextProcedure) (pr : Procedure) → IsCompiledProcedure n before procedure pr → ExceedsLimits (body_of n procedure) → ⊥
+  of_body procedure pr h (inl over) = omega (arith, over, h.locals, h.limits.locals)
+  of_body procedure pr h (inr (inl over)) = omega (arith, over, ap length h.code, h.limits.instructions)
+  of_body procedure pr h (inr (inr over)) = omega (arith, over, ap backs h.code, h.limits.backs)
+
+  of_expression : (s : Statement) (k : ℕ) (pr : Procedure) → IsFromExpression n before s k pr → IsTooLong n s k → ⊥
+  of_expression s k pr h x =
+      let both : Some x.0 ≡ Some h.0 = sym x.1 ∙ h.1 in
+      let same : x.0 ≡ h.0 = cc in
+      omega (arith, x.2, ap (λ e. length (procedure_code n e)) same, ap length h.2.code, h.2.limits.instructions)
+
+  of_any : (b : Body) (s : Statement) (k : ℕ) (pr : Procedure) → IsProcedureOfBody n before b s k pr → ExceedsByBody n b s k → ⊥
+  of_any (bodies.Procedure procedure) s k pr h x = of_body procedure pr h x
+  of_any bodies.Nothing s k pr h x = of_expression s k pr h x
+  of_any (bodies.Points points) s k pr h x = of_expression s k pr h x
+
+  -- what is compiled isn't too long
+  pub keeps_limits : (s : Statement) (k : ℕ) (pr : Procedure) → IsProcedureOf n before s k pr → Exceeds n s k → ⊥
+  keeps_limits s k pr h x = of_any s.body s k pr h x

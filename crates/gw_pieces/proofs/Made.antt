@@ -1,14 +1,17 @@
 -- What is made by names that are known is what the statements become.
-use Rattle.std.proofs.Common.{◌≡◌, ◌∙◌, ℕ, List, [], ◌∷◌, map, Option, refl, ap, subst, string_bytes}
+use Rattle.std.proofs.Common.{◌≡◌, ◌∙◌, ℕ, List, [], ◌∷◌, map, Option, Vec, Global, refl, sym, ap, subst, string_bytes}
+use Rattle.gw_blocks.specs.declared.parts.Numbered.{Numbered}
+use Rattle.gw_blocks.specs.declared.parts.Operand.{Operand}
 use Rattle.gw_blocks.specs.declared.parts.Block.{Block}
 use Rattle.gw_code.specs.declared.parts.Procedure.{Procedure}
 use Rattle.gw_object.specs.declared.parts.Entity.{Entity}
 use Rattle.gw_text.specs.declared.model.Statement.{Statement}
 use Rattle.gw_compile.specs.Numbers.{Numbers}
 use Rattle.gw_names.specs.declared.known.Known.{Known}
+use Rattle.gw_names.specs.declared.ledger.Noted.{Noted}
 use Rattle.gw_names.specs.declared.names.Names.{Names}
 use Rattle.gw_names.specs.declared.sights.Sighted.{Sighted}
-use Rattle.gw_names.specs.Known.{Key, found_in, entity_of}
+use Rattle.gw_names.specs.Known.{Key}
 use Rattle.gw_names.specs.Sighting.{key_of, keys_of}
 use Rattle.gw_names.specs.Naming.{Knows}
 use Rattle.gw_names.specs.Places.{declaration_of}
@@ -18,9 +21,27 @@ use Rattle.gw_pieces.specs.declared.origins.Origin.{Origin}
 use Rattle.gw_names.specs.Numbers.{numbers_of}
 use Rattle.gw_pieces.specs.Numbers.{with_source, source_in}
 use Rattle.gw_pieces.specs.Order.{order_in}
+use Rattle.gw_pieces.specs.declared.plan.Plan.{Plan}
 use Rattle.gw_pieces.specs.Entities.{IsKindBy, AreSightedAs, AreEntitiesOf}
-use Rattle.gw_pieces.specs.Pieces.{NumbersText}
-use Rattle.gw_pieces.specs.Making.{HasAllBy, NamesOf, AreMeanings, AreMade}
+use Rattle.gw_pieces.specs.Making.{IsPlan, AreMeanings, AreMade, NotesPieces}
+use Rattle.gw_pieces.specs.Notes.{NotesMissing}
+use Rattle.gw_pieces.specs.Pieces.{NumbersText, HasCode}
+use Rattle.gw_pieces.specs.Plans.{names_planned, order_planned, text_planned}
+use Rattle.gw_pieces.specs.Reasons.{AllThere, NotesCode, EntityMissing, CodeOrBlockMissing, PieceMissing}
+use Rattle.gw_pieces.proofs.Reasoning.{all_pieces, pieces_missing}
+use Rattle.gw_pieces.proofs.Searching.{all_there}
+use Rattle.gw_pieces.proofs.Sighting.{resourced}
+
+-- names that are known, with these meanings and entities
+abbrev names_by : Known → Meanings → Vec Entity Global → Names
+names_by known meanings list = record {
+  entities = known.entities;
+  list = list;
+  blocks = known.blocks;
+  parameters = known.parameters;
+  procedures = meanings.procedures;
+  equs = meanings.equs;
+}
 
 abbrev declaration : Sighted → Option ℕ
 declaration s = s.declaration
@@ -45,27 +66,63 @@ sighted_are n order ss (s ∷ sighted) (k ∷ ks) (e ∷ es) keys declared h =
     let of_name = subst (λ x. IsKindBy n order ss (declaration_of ss k) k.kind x e.kind) name of_kind in
     (record { name = h.0.name ∙ name; kind = of_name }, sighted_are n order ss sighted ks es others rest h.1)
 
-module _ (ss : List Statement) (order : List Origin) (known : Known) (meanings : Meanings) (names : Names) (named : NamesOf known meanings names) (knows : Knows ss known)
-    (is : order ≡ order_in ss) (meant : AreMeanings ss order meanings) where
-  -- names have the numbers that the text gives them
-  pub names_are : NumbersText (numbers_of names) order ss
-  names_are = record {
-    ordered = is;
-    entities = λ kind name. ap (λ x. entity_of x kind name) named.entities ∙ knows.uses.entity kind name;
-    labels = λ label. ap (λ x. found_in x label) named.blocks ∙ knows.places.block label;
-    parameters = λ name. ap (λ x. found_in x name) named.parameters ∙ knows.uses.parameter name;
-    callees = λ name. ap (λ x. found_in x name) named.procedures ∙ meant.procedures name;
-    equs = λ name. ap (λ x. found_in x name) named.equs ∙ meant.equs name;
+-- names have the numbers that the text gives them
+pub names_are : (ss : List Statement) (order : List Origin) (known : Known) (meanings : Meanings) (list : Vec Entity Global) → Knows ss known → order ≡ order_in ss → AreMeanings ss order meanings
+    → NumbersText (numbers_of (names_by known meanings list)) order ss
+names_are ss order known meanings list knows is meant = record {
+  ordered = is;
+  entities = knows.uses.entity;
+  labels = knows.places.block;
+  parameters = knows.uses.parameter;
+  callees = meant.procedures;
+  equs = meant.equs;
+}
+
+module _ (plan : Plan) (planned : IsPlan plan) (made : Vec Entity Global) where
+  -- what is evaluated for attributes, where these are the entities
+  abbrev pub sources : Numbered → Operand
+  sources = source_in made.items
+
+  names_still : NumbersText (with_source (names_planned plan) sources) (order_planned plan) (text_planned plan)
+  names_still = record {
+    ordered = planned.names.ordered;
+    entities = planned.names.entities;
+    labels = planned.names.labels;
+    parameters = planned.names.parameters;
+    callees = planned.names.callees;
+    equs = planned.names.equs;
   }
 
-  pub are_made : (es : List Entity) (procedures : List Procedure) (blocks : List Block) → HasAllBy (numbers_of names) order ss known.sighted.items es procedures blocks → AreMade ss es procedures blocks
-  are_made es procedures blocks h =
-      let n = with_source (numbers_of names) (source_in es) in
+  -- what is made by a plan that gets its entities is what the statements become
+  pub are_made : (procedures : List Procedure) (blocks : List Block) → AreSightedAs (names_planned plan) (order_planned plan) (text_planned plan) plan.sighted.items made.items
+      → HasCode (with_source (names_planned plan) sources) (order_planned plan) (text_planned plan) procedures blocks → AreMade (text_planned plan) made.items procedures blocks
+  are_made procedures blocks sighted code =
+      let n = with_source (names_planned plan) sources in
+      let order = order_planned plan in
+      let ss = text_planned plan in
       record {
         numbers = n;
         order = order;
-        names = record { ordered = is; entities = names_are.entities; labels = names_are.labels; parameters = names_are.parameters; callees = names_are.callees; equs = names_are.equs };
+        names = names_still;
         sources = λ of. refl;
-        each_entity = sighted_are n order ss known.sighted.items (entities_of ss) es knows.uses.sighted knows.uses.declared h.sights;
-        code = h.code;
+        each_entity = sighted_are n order ss plan.sighted.items (entities_of ss) made.items planned.sighted planned.declared (resourced (names_planned plan) sources order ss plan.sighted.items made.items sighted);
+        code = code;
+      }
+
+  -- and what is noted is what they lack
+  pub notes_are : (a b c : Option Noted) → NotesMissing (EntityMissing (names_planned plan) (order_planned plan) (text_planned plan) plan.sighted.items) a b
+      → NotesCode (with_source (names_planned plan) sources) (order_planned plan) (text_planned plan) (CodeOrBlockMissing (with_source (names_planned plan) sources) (order_planned plan) (text_planned plan)) b c
+      → NotesPieces (text_planned plan) a c
+  notes_are a b c entities code =
+      let n = with_source (names_planned plan) sources in
+      let ss = text_planned plan in
+      let order = order_planned plan in
+      let is = planned.names.ordered in
+      let there = subst (AllThere ss) (sym is) (all_there ss) in
+      let all = all_pieces (names_planned plan) order ss plan.sighted.items planned.declared there sources a b c entities code in
+      let pieces = pieces_missing n order ss plan.sighted.items planned.declared there a c all in
+      record {
+        numbers = n;
+        names = subst (λ o. NumbersText n o ss) is names_still;
+        notes = subst (λ o. NotesCode n o ss (PieceMissing n o ss) a c) is pieces;
       }

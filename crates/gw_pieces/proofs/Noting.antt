@@ -1,6 +1,7 @@
 -- Refusals that are noted, each with its reason.
-use Rattle.std.proofs.Common.{◌≡◌, ◌∙◌, ℕ, List, [], ◌∷◌, ◌++◌, Option, Some, None, Bool, true, false, Err, inl, inr, refl, sym, ap, subst, slice_get}
-use Rattle.std.proofs.lemmas.List.Elements.{All-nil, All-cons, All-append}
+use Rattle.std.proofs.Common.{◌≡◌, ◌∙◌, ◌⊎◌, ℕ, List, [], ◌∷◌, ◌++◌, Option, Some, None, Bool, true, false, Err, inl, inr, refl, sym, ap, subst, slice_get, arith}
+use Rattle.std.specs.List.{Contains}
+use Rattle.std.proofs.lemmas.List.Elements.{All-nil, All-cons, All-append, Contains-append_left, Contains-append_right}
 use Rattle.gw_text.specs.declared.model.Statement.{Statement}
 use Rattle.gw_compile.specs.declared.faults.CompileFault.{CompileFault}
 use Rattle.gw_compile.specs.declared.faults.CompileFault.TheVariants as faults
@@ -14,8 +15,8 @@ use Rattle.gw_pieces.specs.declared.compiling.Blamed.{Blamed}
 use Rattle.gw_pieces.specs.declared.compiling.Blamed.TheVariants as blamed
 use Rattle.gw_pieces.specs.declared.origins.Origin.{Origin}
 use Rattle.gw_pieces.specs.Blocks.{record_at}
-use Rattle.gw_pieces.specs.Notes.{or_missing, unless_piece, IsFor, Never, HasReason, NotesMore}
-use Rattle.gw_pieces.specs.Reasons.{IsBlamed, blamed_by, least_after, Explains, least_after_block, BlockMissing}
+use Rattle.gw_pieces.specs.Notes.{or_missing, unless_piece, IsFor, HasReason, NotesMore, NotesMissing}
+use Rattle.gw_pieces.specs.Reasons.{IsBlamed, blamed_by, NotesBlamed, Explains, least_after_block, BlockMissing}
 use Rattle.gw_pieces.proofs.Noted.{none_noted}
 
 -- refusals behind others
@@ -23,43 +24,66 @@ pub behind : (least : Option Noted) (xs ys : List Noted) → with_notes least (x
 behind least [] ys = refl
 behind least (x ∷ xs) ys = behind (with_note least x) xs ys
 
-module _ {L M : Noted → Type 0} where
-  pub nothing_more : (least : Option Noted) → NotesMore L M least least
-  nothing_more least = record { more = []; first = refl; reasons = All-nil (HasReason L M least) }
+module _ {L D M : Noted → Type 0} where
+  pub nothing_more : (least : Option Noted) → ((note : Noted) → D note → ⊥) → NotesMore L D M least least
+  nothing_more least none = record { more = []; first = refl; reasons = All-nil (HasReason L M least); all = λ note d. absurd (none note d) }
 
-  pub one_limit : (least : Option Noted) (note : Noted) → L note → NotesMore L M least (with_note least note)
-  one_limit least note h = record { more = note ∷ []; first = refl; reasons = All-cons (HasReason L M least) note [] (inl h) (All-nil (HasReason L M least)) }
+  -- where this refusal alone is due
+  pub one_limit : (least : Option Noted) (note : Noted) → L note → ((x : Noted) → D x → note ≡ x) → NotesMore L D M least (with_note least note)
+  one_limit least note h is = record {
+    more = note ∷ [];
+    first = refl;
+    reasons = All-cons (HasReason L M least) note [] (inl h) (All-nil (HasReason L M least));
+    all = λ x d. (0, omega arith, is x d);
+  }
 
-  pub one_missing : (least : Option Noted) (line : ℕ) → M (noted_at line name_fault) → NotesMore L M least (or_missing least line)
-  one_missing None line h = record { more = noted_at line name_fault ∷ []; first = refl; reasons = All-cons (HasReason L M None) (noted_at line name_fault) [] (inr (refl, h)) (All-nil (HasReason L M None)) }
-  one_missing (Some x) line h = nothing_more (Some x)
+  pub one_missing : (least : Option Noted) (line : ℕ) → M (noted_at line name_fault) → ((note : Noted) → D note → ⊥) → NotesMore L D M least (or_missing least line)
+  one_missing None line h none = record {
+    more = noted_at line name_fault ∷ [];
+    first = refl;
+    reasons = All-cons (HasReason L M None) (noted_at line name_fault) [] (inr (refl, h)) (All-nil (HasReason L M None));
+    all = λ note d. absurd (none note d);
+  }
+  one_missing (Some x) line h none = nothing_more (Some x) none
 
-  pub unless : {A : Type 0} (piece : Option A) (least : Option Noted) (line : ℕ) → (piece ≡ None → M (noted_at line name_fault)) → NotesMore L M least (unless_piece piece least line)
-  unless None least line h = one_missing least line (h refl)
-  unless (Some x) least line h = nothing_more least
+  -- where the first refusal is this one
+  pub ends_with : (a b c : Option Noted) → c ≡ b → NotesMore L D M a b → NotesMore L D M a c
+  ends_with a b c is h = subst (NotesMore L D M a) (sym is) h
 
-  -- of one pass and the next
-  pub further : (a b c : Option Noted) → NotesMore L M a b → NotesMore L M b c → NotesMore L M a c
-  further a b c one next = record {
+  -- of one pass and the next, of which each tells what is due of it
+  pub further : {D1 D2 : Noted → Type 0} (a b c : Option Noted) → ((note : Noted) → D note → D1 note ⊎ D2 note) → NotesMore L D1 M a b → NotesMore L D2 M b c → NotesMore L D M a c
+  further {D1} {D2} a b c split one next = record {
     more = one.more ++ next.more;
     first = next.first ∙ ap (λ x. with_notes x next.more) one.first ∙ sym (behind a one.more next.more);
     reasons = All-append (HasReason L M a) one.more next.more one.reasons (λ k d lt. earlier _ (next.reasons k d lt));
+    all = λ note d. in_either note (split note d);
   }
     where
       earlier : (note : Noted) → HasReason L M b note → HasReason L M a note
       earlier note (inl h) = inl h
       earlier note (inr h) = inr ((none_noted a one.more (sym one.first ∙ h.0)).0, h.1)
 
-  -- where the first refusal is this one
-  pub ends_with : (a b c : Option Noted) → c ≡ b → NotesMore L M a b → NotesMore L M a c
-  ends_with a b c is h = subst (NotesMore L M a) (sym is) h
+      in_either : (note : Noted) → D1 note ⊎ D2 note → Contains (one.more ++ next.more) note
+      in_either note (inl d) = Contains-append_left one.more next.more note (one.all note d)
+      in_either note (inr d) = Contains-append_right one.more next.more note (next.all note d)
 
-  pub begins_with : (a b c : Option Noted) → a ≡ b → NotesMore L M a c → NotesMore L M b c
-  begins_with a b c is h = subst (λ x. NotesMore L M x c) is h
+-- what may be missing
+module _ {M : Noted → Type 0} where
+  pub unless : {A : Type 0} (piece : Option A) (least : Option Noted) (line : ℕ) → (piece ≡ None → M (noted_at line name_fault)) → NotesMissing M least (unless_piece piece least line)
+  unless None least line h = one_missing least line (h refl) (λ note d. d)
+  unless (Some x) least line h = nothing_more least (λ note d. d)
 
--- by wider reasons
-pub widen : {L M L2 M2 : Noted → Type 0} (a b : Option Noted) → ((note : Noted) → L note → L2 note) → ((note : Noted) → M note → M2 note) → NotesMore L M a b → NotesMore L2 M2 a b
-widen {L} {M} {L2} {M2} a b limit missing h = record { more = h.more; first = h.first; reasons = λ k d lt. wide _ (h.reasons k d lt) }
+  pub further_missing : (a b c : Option Noted) → NotesMissing M a b → NotesMissing M b c → NotesMissing M a c
+  further_missing a b c one next = further a b c (λ note d. absurd d) one next
+
+-- by wider reasons, where less is due
+pub widen : {L D M L2 D2 M2 : Noted → Type 0} (a b : Option Noted) → ((note : Noted) → L note → L2 note) → ((note : Noted) → D2 note → D note) → ((note : Noted) → M note → M2 note) → NotesMore L D M a b → NotesMore L2 D2 M2 a b
+widen {L} {D} {M} {L2} {D2} {M2} a b limit due missing h = record {
+  more = h.more;
+  first = h.first;
+  reasons = λ k d lt. wide _ (h.reasons k d lt);
+  all = λ note d. h.all note (due note d);
+}
   where
     wide : (note : Noted) → HasReason L M a note → HasReason L2 M2 a note
     wide note (inl x) = inl (limit note x)
@@ -82,10 +106,11 @@ explains_by blamed.Name f g h = g h
 explains_by blamed.Memory f g h = tt
 
 -- what is noted of it
-pub explained : (b : Blamed) (Over Missing : Type 0) (least : Option Noted) (line : ℕ) → Explains b Over Missing → NotesMore (IsFor Over line limit_fault) (IsFor Missing line name_fault) least (least_after b least line)
-explained blamed.Limit Over Missing least line h = one_limit least (noted_at line limit_fault) (h, refl)
-explained blamed.Name Over Missing least line h = one_missing least line (h, refl)
-explained blamed.Memory Over Missing least line h = nothing_more least
+pub explained : (b : Blamed) (Over Missing : Type 0) (before after : Option Noted) (line : ℕ) → NotesBlamed b line before after → Explains b Over Missing
+    → NotesMore (IsFor Over line limit_fault) (IsFor (Over × (Missing → ⊥)) line limit_fault) (IsFor Missing line name_fault) before after
+explained blamed.Limit Over Missing before after line is h = ends_with before _ after is (one_limit before (noted_at line limit_fault) (h, refl) (λ note d. sym d.1))
+explained blamed.Name Over Missing before after line is h = ends_with before _ after is (one_missing before line (h, refl) (λ note d. d.0.1 h))
+explained blamed.Memory Over Missing before after line is h = absurd is
 
 -- BLOCKS
 
@@ -95,9 +120,9 @@ cases false f g = g refl
 
 module _ (n : Numbers) (order : List Origin) (ss : List Statement) (i : ℕ) (s : Statement) (at : slice_get ss i ≡ Some s) where
   lacks : is_block s.word ≡ true → record_at n order s i ≡ None → BlockMissing n order ss (noted_at s.line name_fault)
-  lacks block none = (i, record { statement = s; there = at; reason = (block, (n.source, none)); noted = refl })
+  lacks block none = (i, record { statement = s; there = at; reason = (block, none); noted = refl })
 
-  pub after_block : (least : Option Noted) → NotesMore Never (BlockMissing n order ss) least (least_after_block n order s i least)
+  pub after_block : (least : Option Noted) → NotesMissing (BlockMissing n order ss) least (least_after_block n order s i least)
   after_block least = cases (is_block s.word)
       (λ yes. ends_with least (unless_piece (record_at n order s i) least s.line) (least_after_block n order s i least) (rw yes refl) (unless (record_at n order s i) least s.line (lacks yes)))
-      (λ no. ends_with least least (least_after_block n order s i least) (rw no refl) (nothing_more least))
+      (λ no. ends_with least least (least_after_block n order s i least) (rw no refl) (nothing_more least (λ note d. d)))

@@ -1,6 +1,7 @@
 -- The reasons of refusals, from pass to pass.
 use Rattle.std.proofs.Common.{◌≡◌, ◌∙◌, ◌<◌, ◌+◌, ℕ, zero, suc, List, [], ◌∷◌, length, map, Option, Some, None, Bool, true, false, inl, inr, slice_get, refl, sym, ap, subst, arith}
-use Rattle.std.specs.Prelude.{if◌then◌else◌}
+use Rattle.std.specs.Prelude.{if◌then◌else◌, ◌⊎◌, ◌≤◌, min}
+use Rattle.gw_object.specs.declared.limits.TheConstants.{MOST_PROCEDURES}
 use Rattle.std.specs.Option.{option_or}
 use Rattle.std.proofs.lemmas.Option.{slice_get_within, get_or_from_slice_get}
 use Rattle.gw_text.specs.declared.model.Statement.{Statement}
@@ -13,42 +14,99 @@ use Rattle.gw_names.specs.Ledger.{noted_at}
 use Rattle.gw_names.specs.Places.{last_by, named, places_from, declared_entity, declaration_of}
 use Rattle.gw_names.specs.Sights.{entities_of}
 use Rattle.gw_names.proofs.Declaring.{last_append}
+use Rattle.gw_blocks.specs.declared.parts.Numbered.{Numbered}
+use Rattle.gw_blocks.specs.declared.parts.Operand.{Operand}
+use Rattle.gw_pieces.specs.Numbers.{with_source}
 use Rattle.gw_pieces.specs.declared.origins.Origin.{Origin}
-use Rattle.gw_pieces.specs.Notes.{Never, IsFor, NotesMore}
-use Rattle.gw_pieces.specs.Reasons.{AllThere, IsOrigin, IsSightedAt, IsDeclaration, Exceeds, LacksCode, OriginLimit, OriginMissing, BlockMissing, CodeLimit, ProcedureMissing, CodeOrBlockMissing, DeclarationMissing, EntityMissing, AnyMissing, PieceMissing}
+use Rattle.gw_pieces.specs.Notes.{Never, IsFor, NotesMore, NotesMissing}
+use Rattle.gw_pieces.specs.Reasons.{AllThere, IsOrigin, IsSightedAt, IsDeclaration, ExceedsKnown, OriginDue, OriginMissing, BlockMissing, CodeLimit, CodeDue, ProcedureMissing, CodeOrBlockMissing, DeclarationMissing, EntityMissing, AnyMissing, PieceMissing}
+use Rattle.gw_pieces.specs.Reasons.{NotesStatement, NotesOrigin, NotesCode}
 use Rattle.gw_pieces.proofs.Noting.{further, widen}
 
 module _ (n : Numbers) (ss : List Statement) where
   -- what comes from a position of a statement is of its line
-  pub at_statement : (o : Origin) (s : Statement) → slice_get ss o.statement ≡ Some s → (a b : Option Noted)
-      → NotesMore (IsFor (Exceeds n s o.operand) s.line limit_fault) (IsFor (LacksCode n s o.operand) s.line name_fault) a b → NotesMore (OriginLimit n ss o) (OriginMissing n ss o) a b
+  pub at_statement : (o : Origin) (s : Statement) → slice_get ss o.statement ≡ Some s → (a b : Option Noted) → NotesStatement n s o.operand a b → NotesOrigin n ss o a b
   at_statement o s there a b h = widen a b
-      (λ note x. record { statement = s; there = there; reason = (n.source, x.0); noted = x.1 })
-      (λ note x. inl (record { statement = s; there = there; reason = (n.source, x.0); noted = x.1 }))
+      (λ note x. record { statement = s; there = there; reason = x.0; noted = x.1 })
+      due
+      (λ note x. inl (record { statement = s; there = there; reason = x.0; noted = x.1 }))
       h
+    where
+      due : (note : Noted) → OriginDue n ss o note → IsFor (ExceedsKnown n s o.operand) s.line limit_fault note
+      due note d =
+          let same_there : Some d.statement ≡ Some s = sym d.there ∙ there in
+          let same : d.statement ≡ s = cc in
+          (subst (λ x. ExceedsKnown n x o.operand) same d.reason, d.noted ∙ ap (λ (x : Statement). noted_at x.line limit_fault) same)
+
+  -- nothing is due of an origin without a statement
+  pub none_due : (o : Origin) → slice_get ss o.statement ≡ None → (note : Noted) → OriginDue n ss o note → ⊥
+  none_due o none note d = let e : None ≡ Some d.statement = sym none ∙ d.there in absurd cc
+
+-- what is below one more is below or the same
+below_or_same : (k i : ℕ) → k < i + 1 → (k < i) ⊎ (k ≡ i)
+below_or_same zero zero below = inr refl
+below_or_same zero (suc i) below = inl (omega arith)
+below_or_same (suc k) zero below = absurd (omega (arith, below))
+below_or_same (suc k) (suc i) below = later (below_or_same k i (omega (arith, below)))
+  where
+    later : (k < i) ⊎ (k ≡ i) → (suc k < suc i) ⊎ (suc k ≡ suc i)
+    later (inl less) = inl (omega (arith, less))
+    later (inr same) = inr (ap suc same)
 
 module _ (n : Numbers) (order : List Origin) (ss : List Statement) where
+  -- what is due of the origins before a place, and of the one there
+  abbrev pub DueBefore : ℕ → Noted → Type 0
+  DueBefore i note = (d : CodeDue n order ss note) × (d.place < i)
+
+  abbrev pub DueAt : ℕ → Noted → Type 0
+  DueAt i note = (d : CodeDue n order ss note) × (d.place ≡ i)
+
+  pub none_before : (note : Noted) → DueBefore 0 note → ⊥
+  none_before note d = omega (arith, d.1)
+
+  pub before_or_at : (i : ℕ) (note : Noted) → DueBefore (i + 1) note → DueBefore i note ⊎ DueAt i note
+  before_or_at i note d = of_two (below_or_same d.0.place i d.1)
+    where
+      of_two : (d.0.place < i) ⊎ (d.0.place ≡ i) → DueBefore i note ⊎ DueAt i note
+      of_two (inl less) = inl (d.0, less)
+      of_two (inr same) = inr (d.0, same)
+
+  -- of all for which an object has room
+  pub all_due : (i : ℕ) → min (length order) MOST_PROCEDURES ≤ i → (note : Noted) → CodeDue n order ss note → DueBefore i note
+  all_due i past note d = let within = slice_get_within order d.place d.origin d.among in (d, omega (arith, past, within, d.room))
+
   -- what is so of the origin at a place
-  pub at_origin : (place : ℕ) (o : Origin) → slice_get order place ≡ Some o → (a b : Option Noted) → NotesMore (OriginLimit n ss o) (OriginMissing n ss o) a b → NotesMore (CodeLimit n order ss) (ProcedureMissing n order ss) a b
-  at_origin place o at a b h = widen a b (λ note x. record { place = place; origin = o; among = at; line = x }) missing h
+  pub at_origin : (place : ℕ) (o : Origin) → slice_get order place ≡ Some o → place < MOST_PROCEDURES → (a b : Option Noted)
+      → NotesOrigin n ss o a b → NotesMore (CodeLimit n order ss) (DueAt place) (ProcedureMissing n order ss) a b
+  at_origin place o at room a b h = widen a b (λ note x. record { place = place; origin = o; among = at; room = room; line = x }) due missing h
     where
       missing : (note : Noted) → OriginMissing n ss o note → ProcedureMissing n order ss note
-      missing note (inl x) = inl (record { place = place; origin = o; among = at; line = x })
+      missing note (inl x) = inl (record { place = place; origin = o; among = at; room = room; line = x })
       missing note (inr x) = inr (record { place = x.place; needed = record { place = place; origin = o; among = at; statement = x.needed }; missing = x.missing; noted = x.noted })
 
+      due : (note : Noted) → DueAt place note → OriginDue n ss o note
+      due note d =
+          let same_there : Some d.0.origin ≡ Some o = sym d.0.among ∙ ap (slice_get order) d.1 ∙ at in
+          let same : d.0.origin ≡ o = cc in
+          subst (λ x. OriginDue n ss x note) same d.0.line
+
   -- and of the entity at a place
-  pub at_sight : (sighted : List Sighted) (place : ℕ) (e : Sighted) → slice_get sighted place ≡ Some e → (a b : Option Noted) → NotesMore Never (DeclarationMissing n order ss e.declaration) a b → NotesMore Never (EntityMissing n order ss sighted) a b
-  at_sight sighted place e at a b h = widen a b (λ note x. x) missing h
+  pub at_sight : (sighted : List Sighted) (place : ℕ) (e : Sighted) → slice_get sighted place ≡ Some e → (a b : Option Noted) → NotesMissing (DeclarationMissing n order ss e.declaration) a b → NotesMissing (EntityMissing n order ss sighted) a b
+  at_sight sighted place e at a b h = widen a b (λ note x. x) (λ note d. d) missing h
     where
       missing : (note : Noted) → DeclarationMissing n order ss e.declaration note → EntityMissing n order ss sighted note
       missing note (inl x) = inl (x.0, record { place = place; entity = e; among = at; declaration = x.1 }, x.2)
       missing note (inr x) = inr (record { place = x.place; needed = record { place = place; entity = e; among = at; declaration = x.needed }; missing = x.missing; noted = x.noted })
 
-  pub code_and_blocks : (a b c : Option Noted) → NotesMore (CodeLimit n order ss) (ProcedureMissing n order ss) a b → NotesMore Never (BlockMissing n order ss) b c → NotesMore (CodeLimit n order ss) (CodeOrBlockMissing n order ss) a c
-  code_and_blocks a b c h k = further a b c (widen a b (λ note x. x) (λ note x. inl x) h) (widen b c (λ note x. absurd x) (λ note x. inr x) k)
+  -- where this may be missing of code, and that of what else is made
+  with_code : {M1 M2 : Noted → Type 0} (a b : Option Noted) → ((note : Noted) → M1 note → M2 note) → NotesCode n order ss M1 a b → NotesCode n order ss M2 a b
+  with_code a b missing h = widen a b (λ note x. x) (λ note d. d) missing h
 
-  pub all_pieces : (sighted : List Sighted) (a b c : Option Noted) → NotesMore Never (EntityMissing n order ss sighted) a b → NotesMore (CodeLimit n order ss) (CodeOrBlockMissing n order ss) b c → NotesMore (CodeLimit n order ss) (AnyMissing n order ss sighted) a c
-  all_pieces sighted a b c h k = further a b c (widen a b (λ note x. absurd x) (λ note x. inl x) h) (widen b c (λ note x. x) (λ note x. inr x) k)
+  with_missing : {L M1 M2 : Noted → Type 0} (a b : Option Noted) → ((note : Noted) → M1 note → M2 note) → NotesMissing M1 a b → NotesMore L Never M2 a b
+  with_missing a b missing h = widen a b (λ note x. absurd x) (λ note d. d) missing h
+
+  pub code_and_blocks : (a b c : Option Noted) → NotesCode n order ss (ProcedureMissing n order ss) a b → NotesMissing (BlockMissing n order ss) b c → NotesCode n order ss (CodeOrBlockMissing n order ss) a c
+  code_and_blocks a b c h k = further a b c (λ note d. inl d) (with_code a b (λ note x. inl x) h) (with_missing b c (λ note x. inr x) k)
 
 -- an origin without a statement
 pub astray_origin : (n : Numbers) (ss : List Statement) (o : Origin) → slice_get ss o.statement ≡ None → OriginMissing n ss o (noted_at 0 name_fault)
@@ -127,5 +185,13 @@ module _ (n : Numbers) (order : List Origin) (ss : List Statement) (sighted : Li
   missing_piece note (inr (inl x)) = missing_code note x
   missing_piece note (inr (inr x)) = inl x
 
-  pub pieces_missing : (a b : Option Noted) → NotesMore (CodeLimit n order ss) (AnyMissing n order ss sighted) a b → NotesMore (CodeLimit n order ss) (PieceMissing n order ss) a b
-  pieces_missing a b h = widen a b (λ note x. x) missing_piece h
+  pub pieces_missing : (a b : Option Noted) → NotesCode n order ss (AnyMissing n order ss sighted) a b → NotesCode n order ss (PieceMissing n order ss) a b
+  pieces_missing a b h = widen a b (λ note x. x) (λ note d. d) missing_piece h
+
+  -- entities are made before what is evaluated for attributes is known
+  pub all_pieces : (source : Numbered → Operand) (a b c : Option Noted)
+      → NotesMissing (EntityMissing n order ss sighted) a b → NotesCode (with_source n source) order ss (CodeOrBlockMissing (with_source n source) order ss) b c
+      → NotesCode (with_source n source) order ss (AnyMissing (with_source n source) order ss sighted) a c
+  all_pieces source a b c h k =
+      let m = with_source n source in
+      further a b c (λ note d. inr d) (with_missing n order ss a b (λ note x. inl x) h) (with_code m order ss b c (λ note x. inr x) k)

@@ -20,3 +20,8 @@ any_ok (Err e) f h = tt
 pub on_both_ok : {A E : Type 0} {P Q : A → Type 0} {R : Type 0} (r : Result A E) → ((x : A) → P x → R → Q x) → IfOk r P → OnOk r R → IfOk r Q
 on_both_ok (Ok x) f h k = f x h k
 on_both_ok (Err e) f h k = tt
+
+-- and what is so anyway
+pub always : {A E P : Type 0} (r : Result A E) → P → OnOk r P
+always (Ok x) h = h
+always (Err e) h = tt

@@ -19,9 +19,10 @@ use Rattle.gw_text_tokens.specs.declared.words.Word.TheVariants as words
 use Rattle.gw_text.specs.declared.model.Statement.{Statement}
 use Rattle.gw_compile.specs.Numbers.{Numbers}
 use Rattle.gw_records.specs.Entities.{entity_kind}
-use Rattle.gw_names.specs.Known.{Key}
+use Rattle.gw_names.specs.Known.{Key, found_in}
 use Rattle.gw_names.specs.declared.sights.Sighted.{Sighted}
 use Rattle.gw_names.specs.Places.{last_of, declaration_of}
+use Rattle.gw_pieces.specs.declared.initials.Initials.{Initials}
 use Rattle.gw_pieces.specs.declared.initials.Initial.{Initial}
 use Rattle.gw_pieces.specs.declared.initials.Initial.TheVariants as initials
 use Rattle.gw_pieces.specs.declared.origins.Origin.{Origin}
@@ -75,6 +76,14 @@ is_set_in found name = not (is_zero (initial_in found name))
 abbrev pub initial_of : List (List ℕ × ℤ) → List ℕ → ℤ
 initial_of set name = unwrap_or (last_of set name) (pos 0)
 
+-- these are the initial values of savevalues
+abbrev pub AreSavevalues : List Statement → Initials → Type 0
+AreSavevalues ss initials = (name : List ℕ) → found_in initials.savevalues name ≡ last_of (savevalues_in ss) name
+
+-- and of switches
+abbrev pub AreSwitches : List Statement → Initials → Type 0
+AreSwitches ss initials = (name : List ℕ) → found_in initials.switches name ≡ last_of (switches_in ss) name
+
 -- KINDS
 
 -- what an entity is that needs no declaration
@@ -84,6 +93,10 @@ undeclared_kind ss needed.Switch name = kinds.Switch (not (is_zero (initial_of (
 undeclared_kind ss needed.Savevalue name = kinds.Savevalue (initial_of (savevalues_in ss) name)
 undeclared_kind ss needed.Chain name = kinds.Chain
 undeclared_kind ss kind name = kinds.Facility
+
+-- an entity is this where no declaration is needed, by the INITIALs of a text
+abbrev pub IsUndeclared : Initials → EntityKind → List ℕ → Kind → Type 0
+IsUndeclared initials needed name kind = (ss : List Statement) → AreSavevalues ss initials → AreSwitches ss initials → kind ≡ undeclared_kind ss needed name
 
 -- one more entity, of which this is so, stands behind others
 abbrev pub GrowsBy : (Entity → Type 0) → List Entity → List Entity → Type 0

@@ -11,4 +11,5 @@ pub mod Order
 pub mod Notes
 pub mod Reasons
 pub mod Lines
+pub mod Plans
 pub mod Making

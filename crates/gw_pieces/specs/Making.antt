@@ -1,54 +1,39 @@
 -- What is made of a model text, before it is an object.
-use Rattle.std.specs.Prelude.{◌≡◌, ◌≤◌, ◌⊎◌, ℕ, List, [], length, Vec, Option, Some, None}
+use Rattle.std.specs.Prelude.{◌≡◌, ◌≤◌, ◌⊎◌, ℕ, List, [], length, map, Vec, Option, Some, None}
 use Rattle.std.specs.Global.{Global}
 use Rattle.gw_blocks.specs.declared.parts.Block.{Block}
+use Rattle.gw_blocks.specs.declared.parts.Numbered.{Numbered}
 use Rattle.gw_code.specs.declared.parts.Procedure.{Procedure}
 use Rattle.gw_object.specs.declared.parts.Entity.{Entity}
 use Rattle.gw_object.specs.declared.fault.Fault.{Fault}
 use Rattle.gw_object.specs.declared.limits.TheConstants.{MOST_PROCEDURES}
 use Rattle.gw_object.specs.Reading.{out_of_memory}
-use Rattle.gw_names.specs.declared.ledger.Ledger.{Ledger}
-use Rattle.gw_names.specs.declared.ledger.Noted.{Noted}
-use Rattle.gw_names.specs.Ledger.{as_fault, with_notes}
-use Rattle.gw_names.specs.Judgement.{refusals_in}
 use Rattle.gw_text.specs.declared.model.Model.{Model}
 use Rattle.gw_text.specs.declared.model.Statement.{Statement}
 use Rattle.gw_compile.specs.Numbers.{Numbers}
-use Rattle.gw_blocks.specs.declared.parts.Numbered.{Numbered}
-use Rattle.gw_names.specs.declared.known.Known.{Known}
-use Rattle.gw_names.specs.declared.names.Names.{Names}
+use Rattle.gw_names.specs.declared.ledger.Ledger.{Ledger}
+use Rattle.gw_names.specs.declared.ledger.Noted.{Noted}
 use Rattle.gw_names.specs.declared.sights.Sighted.{Sighted}
-use Rattle.gw_pieces.specs.declared.naming.Meanings.{Meanings}
-use Rattle.gw_pieces.specs.Numbers.{with_source, source_in}
-use Rattle.gw_pieces.specs.declared.origins.Origin.{Origin}
-use Rattle.gw_names.specs.Sights.{entities_of, limits_in}
-use Rattle.gw_pieces.specs.declared.pieces.Ordered.{Ordered}
-use Rattle.gw_pieces.specs.declared.pieces.Pieces.{Pieces}
-use Rattle.gw_pieces.specs.Clear.{StaysClear}
-use Rattle.gw_pieces.specs.Notes.{NotesMore}
-use Rattle.gw_pieces.specs.Order.{order_in}
-use Rattle.gw_pieces.specs.Naming.{callee_of, equ_meant}
-use Rattle.gw_pieces.specs.Reasons.{CodeLimit, PieceMissing, surplus_in}
+use Rattle.gw_names.specs.Judgement.{refusals_in}
 use Rattle.gw_names.specs.Known.{found_in}
-use Rattle.gw_pieces.specs.Entities.{AreSightedAs, AreEntitiesOf}
+use Rattle.gw_names.specs.Ledger.{as_fault, with_notes}
+use Rattle.gw_names.specs.Places.{declaration_of}
+use Rattle.gw_names.specs.Sighting.{keys_of}
+use Rattle.gw_names.specs.Sights.{entities_of, limits_in}
+use Rattle.gw_pieces.specs.declared.naming.Meanings.{Meanings}
+use Rattle.gw_pieces.specs.declared.origins.Origin.{Origin}
+use Rattle.gw_pieces.specs.declared.pieces.Code.{Code}
+use Rattle.gw_pieces.specs.declared.pieces.Pieces.{Pieces}
+use Rattle.gw_pieces.specs.declared.plan.Ordered.{Ordered}
+use Rattle.gw_pieces.specs.declared.plan.Plan.{Plan}
+use Rattle.gw_pieces.specs.Clear.{StaysClear}
+use Rattle.gw_pieces.specs.Entities.{AreEntitiesOf}
+use Rattle.gw_pieces.specs.Naming.{callee_of, equ_meant}
+use Rattle.gw_pieces.specs.Numbers.{source_in}
+use Rattle.gw_pieces.specs.Order.{order_in}
 use Rattle.gw_pieces.specs.Pieces.{NumbersText, HasCode, IsNamed}
-
--- entities, procedures and blocks are those that statements become, where these entities were sighted
-pub record HasAll (n : Numbers) (order : List Origin) (ss : List Statement) (sighted : List Sighted) (entities : List Entity) (procedures : List Procedure) (blocks : List Block) : Type 0 where
-  pub sights : AreSightedAs n order ss sighted entities
-  pub code : HasCode n order ss procedures blocks
-
--- the same, where what is evaluated for attributes is what these entities say, as long as the names stay the same
-abbrev pub HasAllBy : Numbers → List Origin → List Statement → List Sighted → List Entity → List Procedure → List Block → Type 0
-HasAllBy n order ss sighted entities procedures blocks = HasAll (with_source n (source_in entities)) order ss sighted entities procedures blocks
-
--- names are those that are known, with these meanings
-pub record NamesOf (known : Known) (meanings : Meanings) (names : Names) : Type 0 where
-  pub entities : names.entities ≡ known.entities
-  pub blocks : names.blocks ≡ known.blocks
-  pub parameters : names.parameters ≡ known.parameters
-  pub procedures : names.procedures ≡ meanings.procedures
-  pub equs : names.equs ≡ meanings.equs
+use Rattle.gw_pieces.specs.Plans.{names_planned, order_planned, text_planned, AreFew}
+use Rattle.gw_pieces.specs.Reasons.{NotesCode, PieceMissing, surplus_in}
 
 -- entities, procedures and blocks are those that statements become
 pub record AreMade (ss : List Statement) (entities : List Entity) (procedures : List Procedure) (blocks : List Block) : Type 0 where
@@ -69,11 +54,11 @@ pub record AreMeanings (ss : List Statement) (order : List Origin) (meanings : M
   pub procedures : (name : List ℕ) → found_in meanings.procedures name ≡ callee_of ss order name
   pub equs : (name : List ℕ) → found_in meanings.equs name ≡ equ_meant ss order name
 
--- what was noted goes on with what the pieces of a text lack
+-- what was noted goes on with all code of a text that is too long, and with what its pieces lack
 pub record NotesPieces (ss : List Statement) (before after : Option Noted) : Type 0 where
   pub numbers : Numbers
   pub names : NumbersText numbers (order_in ss) ss
-  pub notes : NotesMore (CodeLimit numbers (order_in ss) ss) (PieceMissing numbers (order_in ss) ss) before after
+  pub notes : NotesCode numbers (order_in ss) ss (PieceMissing numbers (order_in ss) ss) before after
 
 -- the first refusal behind those of names and of a procedure too many
 abbrev pub noted_of_names : List Statement → Option Noted → Option Noted
@@ -92,32 +77,82 @@ pub record IsRefusedAtLine (ss : List Statement) (fault : Fault) : Type 0 where
 abbrev pub IsNotMade : List Statement → Fault → Type 0
 IsNotMade ss fault = IsRefusedAtLine ss fault ⊎ (fault ≡ out_of_memory)
 
--- WHAT IS SO ON THE WAY
+-- PLANS
+
+-- a plan has the numbers that its text gives to names, and the entities of which the text speaks, each with what declares it
+pub record IsPlan (plan : Plan) : Type 0 where
+  pub names : NumbersText (names_planned plan) (order_planned plan) (text_planned plan)
+  pub sighted : keys_of plan.sighted.items ≡ entities_of (text_planned plan)
+  pub declared : map (λ (s : Sighted). s.declaration) plan.sighted.items ≡ map (declaration_of (text_planned plan)) (entities_of (text_planned plan))
+
+-- and is that of a text
+pub record IsPlanOf (text : Model) (plan : Plan) : Type 0 where
+  pub text_is : plan.text.now ≡ text
+  pub plan_is : IsPlan plan
+
+-- a plan whose names have these entities
+abbrev pub with_entities : Plan → Vec Entity Global → Plan
+with_entities plan made = record plan { names = record plan.names { list = made } }
 
 -- where nothing is noted, there are no more origins than an object has procedures
-abbrev pub AreFew : Ledger → Ledger → Vec Origin Global → Type 0
-AreFew old new order = StaysClear old new (length order.items ≤ MOST_PROCEDURES)
+abbrev pub HasRoom : Ledger → Ledger → Vec Origin Global → Type 0
+HasRoom old new order = StaysClear old new (length order.items ≤ MOST_PROCEDURES)
 
 -- the meanings of a text's names are those of its procedures' order
 abbrev pub HasMeanings : Model → Ordered → Type 0
 HasMeanings text ordered = AreMeanings text.statements.items ordered.order.items ordered.meanings
 
--- no use of a name in a text is refused
-abbrev pub RefusesNone : Model → Type 0
-RefusesNone text = refusals_in text.statements.items ≡ []
+-- the first of these origins for which an object has no room is noted
+abbrev pub NotesSurplus : Model → List Origin → Ledger → Ledger → Type 0
+NotesSurplus text order old new = new.least ≡ with_notes old.least (surplus_in text.statements.items order)
 
--- a ledger takes note of the first refusal of a text's names and of a procedure too many
-abbrev pub NotesNames : Model → Ledger → Ledger → Type 0
-NotesNames text old new = new.least ≡ noted_of_names text.statements.items old.least
+module _ (text : Model) where
+  -- the statements become no more procedures than an object has
+  abbrev pub HasFew : Type 0
+  HasFew = length (order_in text.statements.items) ≤ MOST_PROCEDURES
 
--- what was noted goes on with what the pieces of a text lack
-abbrev pub NotesPiecesOf : Model → Option Noted → Option Noted → Type 0
-NotesPiecesOf text before after = NotesPieces text.statements.items before after
+  -- no use of a name is refused
+  abbrev pub RefusesNone : Type 0
+  RefusesNone = refusals_in text.statements.items ≡ []
 
--- pieces are those that the statements of a text become
-abbrev pub ArePieces : Model → Pieces → Type 0
-ArePieces text pieces = AreMade text.statements.items pieces.entities.items pieces.procedures.items pieces.blocks.items
+  -- and neither is any name
+  abbrev pub IsNamedText : Type 0
+  IsNamedText = IsNamed text.statements.items
 
--- and no name of the text is refused
-abbrev pub AreNamedPieces : Model → Pieces → Type 0
-AreNamedPieces text pieces = AreMadeNamed text.statements.items pieces.entities.items pieces.procedures.items pieces.blocks.items
+  -- a procedure too many is noted
+  abbrev pub NotesOrder : Ledger → Ledger → Type 0
+  NotesOrder old new = NotesSurplus text (order_in text.statements.items) old new
+
+  -- uses of names that are refused, and a procedure too many, are
+  abbrev pub NotesNames : Ledger → Ledger → Type 0
+  NotesNames old new = new.least ≡ noted_of_names text.statements.items old.least
+
+  -- and all names that are
+  abbrev pub NotesText : Ledger → Ledger → Type 0
+  NotesText old new = new.least ≡ noted_of_text text.statements.items old.least
+
+  -- pieces are those that the statements become, and no name of them is refused
+  abbrev pub AreNamedPieces : Pieces → Type 0
+  AreNamedPieces pieces = AreMadeNamed text.statements.items pieces.entities.items pieces.procedures.items pieces.blocks.items
+
+  -- so it is where nothing is noted
+  abbrev pub Makes : Ledger → Ledger → Pieces → Type 0
+  Makes old new pieces = StaysClear old new (AreNamedPieces pieces)
+
+  -- all that is refused is noted
+  abbrev pub NotesAll : Ledger → Ledger → Type 0
+  NotesAll old new = NotesPieces text.statements.items (noted_of_text text.statements.items old.least) new.least
+
+module _ (plan : Plan) where
+  -- where nothing is noted, procedures and blocks are those that the statements become
+  abbrev pub MakesCode : Ledger → Ledger → Code → Type 0
+  MakesCode old new code =
+      StaysClear old new (AreFew plan → HasCode (names_planned plan) (order_planned plan) (text_planned plan) code.procedures.items code.blocks.items)
+
+  -- and so are all pieces
+  abbrev pub MakesPieces : Ledger → Ledger → Pieces → Type 0
+  MakesPieces old new pieces = StaysClear old new (AreFew plan → AreMade (text_planned plan) pieces.entities.items pieces.procedures.items pieces.blocks.items)
+
+  -- what the pieces lack is noted
+  abbrev pub NotesPlan : Ledger → Ledger → Type 0
+  NotesPlan old new = NotesPieces (text_planned plan) old.least new.least

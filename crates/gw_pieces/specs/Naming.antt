@@ -1,5 +1,5 @@
 -- What the names of PROCEDUREs and EQUs stand for, where the procedures have these origins, in order.
-use Rattle.std.specs.Prelude.{◌≡◌, ℕ, ◌+◌, ℤ, min, length, List, [], ◌∷◌, ◌++◌, Option, Some, None, slice_get, option_and_then, string_bytes, true, if◌then◌else◌}
+use Rattle.std.specs.Prelude.{◌≡◌, ℕ, ◌+◌, ℤ, Result, min, length, List, [], ◌∷◌, ◌++◌, Option, Some, None, slice_get, option_and_then, string_bytes, true, if◌then◌else◌}
 use Rattle.std.specs.Option.{option_or}
 use Rattle.gw_text_plus.specs.declared.model.Procedure.{Procedure as TextProcedure}
 use Rattle.gw_text.specs.declared.model.Model.{Model}
@@ -11,7 +11,8 @@ use Rattle.gw_compile.specs.declared.numbering.Equ.{Equ}
 use Rattle.gw_compile.specs.declared.numbering.Equ.TheVariants.{Number, Procedure}
 use Rattle.gw_names.specs.declared.known.Known.{Known}
 use Rattle.gw_names.specs.Known.{found_in}
-use Rattle.gw_names.specs.Places.{is_equ, label_of, named, last_of, equ_number_of}
+use Rattle.gw_names.specs.Places.{Sets, is_equ, label_of, named, last_of, equ_number_of}
+use Rattle.gw_pieces.specs.declared.naming.Meanings.{Meanings}
 use Rattle.gw_pieces.specs.declared.origins.Origin.{Origin}
 
 -- a number of a procedure, as 16 bits hold it
@@ -35,6 +36,11 @@ callee_of_body (bodies.Procedure pr) place = own_callee pr place
 callee_of_body bodies.Nothing place = []
 callee_of_body (bodies.Points points) place = []
 
+-- the same, by its statement
+abbrev pub callee_at : Statement → ℕ → List (List ℕ × Callee)
+callee_at s place = callee_of_body s.body place
+
+-- if there is one
 abbrev pub callee_of_statement : Option Statement → ℕ → List (List ℕ × Callee)
 callee_of_statement None place = []
 callee_of_statement (Some s) place = callee_of_body s.body place
@@ -85,9 +91,29 @@ equ_meant ss order name = equ_by (equ_number_of ss) ss order name
 
 -- WHAT IS PUT INTO MAPS
 
--- what the origins of a text give names, by their places
-abbrev pub entries_of : {X : Type 0} → (List Statement → Origin → ℕ → List (List ℕ × X)) → Model → List Origin → List (List ℕ × X)
-entries_of entry text order = entries_from (entry text.statements.items) 0 order
+-- where there is memory, the names of PROCEDUREs stand for this from now on
+abbrev pub SetsCallees : {A E : Type 0} → Result A E → Meanings → Meanings → List (List ℕ × Callee) → Type 0
+SetsCallees result old new more = Sets result old.procedures new.procedures more
+
+-- and those of EQUs for this
+abbrev pub SetsEqus : {A E : Type 0} → Result A E → Meanings → Meanings → List (List ℕ × Equ) → Type 0
+SetsEqus result old new more = Sets result old.equs new.equs more
+
+-- what an origin of a text gives the name of a PROCEDURE, by its place
+abbrev pub callee_in : Model → Origin → ℕ → List (List ℕ × Callee)
+callee_in text o place = callee_of_origin text.statements.items o place
+
+-- and what it gives that of an EQU
+abbrev pub equ_in : Model → Origin → ℕ → List (List ℕ × Equ)
+equ_in text o place = equ_of_origin text.statements.items o place
+
+-- what the origins of a text give the names of PROCEDUREs, by their places
+abbrev pub callees_in : Model → List Origin → List (List ℕ × Callee)
+callees_in text order = entries_from (callee_in text) 0 order
+
+-- and those of EQUs
+abbrev pub equs_in : Model → List Origin → List (List ℕ × Equ)
+equs_in text order = entries_from (equ_in text) 0 order
 
 -- the number that a name is known to be
 abbrev pub known_number : Known → List ℕ → List (List ℕ × Equ)
@@ -100,6 +126,14 @@ known_equ known s place = equ_of_number (found_in known.equ_numbers) s place
 -- and those that several are
 abbrev pub known_equs : Known → List Statement → List (List ℕ × Equ)
 known_equs known ss = entries_from (equ_of_number (found_in known.equ_numbers)) 0 ss
+
+-- the names of PROCEDUREs stand for what they do in a text, where the procedures have these origins, in order
+abbrev pub MeansCallees : Model → List Origin → Meanings → Type 0
+MeansCallees text order m = (name : List ℕ) → found_in m.procedures name ≡ callee_of text.statements.items order name
+
+-- and so do those of EQUs, where these are known to be numbers
+abbrev pub MeansEqus : Known → Model → List Origin → Meanings → Type 0
+MeansEqus known text order m = (name : List ℕ) → found_in m.equs name ≡ equ_by (found_in known.equ_numbers) text.statements.items order name
 
 -- WHAT THEY ARE
 

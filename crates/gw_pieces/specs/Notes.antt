@@ -1,6 +1,6 @@
 -- What a pass over a text adds to the ledger.
 use Rattle.std.specs.Prelude.{◌≡◌, ◌⊎◌, ℕ, List, Option, Some, None}
-use Rattle.std.specs.List.{All}
+use Rattle.std.specs.List.{All, Contains}
 use Rattle.gw_names.specs.declared.ledger.Ledger.{Ledger}
 use Rattle.gw_names.specs.declared.ledger.Noted.{Noted}
 use Rattle.gw_names.specs.Codes.{name_fault}
@@ -28,11 +28,16 @@ Never note = ⊥
 abbrev pub HasReason : (Noted → Type 0) → (Noted → Type 0) → Option Noted → Noted → Type 0
 HasReason Limit Missing before note = Limit note ⊎ ((before ≡ None) × Missing note)
 
--- refusals are added, each with a reason
-pub record NotesMore (Limit Missing : Noted → Type 0) (before after : Option Noted) : Type 0 where
+-- refusals are added: each with a reason, and among them each that is due
+pub record NotesMore (Limit Due Missing : Noted → Type 0) (before after : Option Noted) : Type 0 where
   pub more : List Noted
   pub first : after ≡ with_notes before more
   pub reasons : All (HasReason Limit Missing before) more
+  pub all : (note : Noted) → Due note → Contains more note
+
+-- refusals of what may be missing are added
+abbrev pub NotesMissing : (Noted → Type 0) → Option Noted → Option Noted → Type 0
+NotesMissing Missing before after = NotesMore Never Never Missing before after
 
 -- a ledger takes note of a line where there is no piece
 abbrev pub NotesUnless : {A : Type 0} → Option A → ℕ → Ledger → Ledger → Type 0

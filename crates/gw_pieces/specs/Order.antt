@@ -14,6 +14,7 @@ use Rattle.gw_text_statements.specs.declared.model.Operand.{Operand}
 use Rattle.gw_text_statements.specs.declared.model.Operand.TheVariants as texts
 use Rattle.gw_text.specs.declared.model.Body.{Body}
 use Rattle.gw_text.specs.declared.model.Body.TheVariants as bodies
+use Rattle.gw_text.specs.declared.model.Model.{Model}
 use Rattle.gw_text.specs.declared.model.Statement.{Statement}
 use Rattle.gw_uses.specs.Mentions.{Mention, Entity, Parameter, ParameterNumber, Label, Equ, Call, Target, in_expression, in_procedure}
 use Rattle.gw_names.specs.declared.known.Known.{Known}
@@ -78,6 +79,20 @@ abbrev pub origins_from : (List ℕ → Option ℤ) → ℕ → List Statement �
 origins_from numbers i [] = []
 origins_from numbers i (s ∷ ss) = origins_of numbers s i ++ origins_from numbers (i + 1) ss
 
+-- THE ORIGINS OF A TEXT
+
+-- the origin at a position of a statement comes behind others, if it is one
+abbrev pub AddsOrigin : Known → Statement → ℕ → ℕ → Vec Origin Global → Vec Origin Global → Type 0
+AddsOrigin known s i k old new = new.items ≡ old.items ++ origin_if (found_in known.equ_numbers) s i k
+
+-- and those in a statement do
+abbrev pub AddsOrigins : Known → Statement → ℕ → Vec Origin Global → Vec Origin Global → Type 0
+AddsOrigins known s i old new = new.items ≡ old.items ++ origins_of (found_in known.equ_numbers) s i
+
+-- these are all of a text
+abbrev pub AreOrigins : Known → Model → Vec Origin Global → Type 0
+AreOrigins known text made = made.items ≡ origins_from (found_in known.equ_numbers) 0 text.statements.items
+
 -- CALLS
 
 -- what is looked up to find the order
@@ -105,6 +120,11 @@ mentions_by (bodies.Procedure procedure) s k = in_procedure procedure
 mentions_by bodies.Nothing s k = in_operand (expression_at s k)
 mentions_by (bodies.Points points) s k = in_operand (expression_at s k)
 
+-- the same of a statement
+abbrev pub mentions_at : Statement → ℕ → List Mention
+mentions_at s k = mentions_by s.body s k
+
+-- if there is one
 abbrev pub mentions_of : Option Statement → ℕ → List Mention
 mentions_of None k = []
 mentions_of (Some s) k = mentions_by s.body s k
@@ -163,8 +183,11 @@ module _ (l : Lookup) where
   origin_called (Target name) = None
 
   -- its place among the origins
+  abbrev pub place_of_called : Mention → Option ℕ
+  place_of_called m = option_and_then (place_in l.origins) (origin_called m)
+
   abbrev pub place_called : Mention → List ℕ
-  place_called m = option_to_list (option_and_then (place_in l.origins) (origin_called m))
+  place_called m = option_to_list (place_of_called m)
 
   -- the places of what an origin calls, in order of first sight
   abbrev pub places_called : Origin → List ℕ
@@ -254,6 +277,27 @@ order_in ss = order_by (lookup_in ss)
 abbrev pub AreCallees : Text → Origin → Vec ℕ Global → Type 0
 AreCallees text origin callees = callees.items ≡ places_called (lookup_of text) origin
 
--- the order goes on until all origins of a text were come to
-abbrev pub SearchesAll : Text → Order → Order → Type 0
-SearchesAll text old new = search_of new ≡ search_all (lookup_of text) (search_of old)
+module _ (text : Text) where
+  -- the place of what is called comes behind others
+  abbrev pub AddsCallee : Mention → Vec ℕ Global → Vec ℕ Global → Type 0
+  AddsCallee m old new = new.items ≡ old.items ++ place_called (lookup_of text) m
+
+  -- and those of all that is
+  abbrev pub AddsCallees : List Mention → Vec ℕ Global → Vec ℕ Global → Type 0
+  AddsCallees ms old new = new.items ≡ old.items ++ flat_map (place_called (lookup_of text)) ms
+
+  -- the order goes on by the origin at a place, at most so deep
+  abbrev pub Visits : ℕ → ℕ → Order → Order → Type 0
+  Visits place depth old new = search_of new ≡ visit_with (lookup_of text) (search_to (lookup_of text) depth) (search_of old) place
+
+  -- by those that an origin calls
+  abbrev pub VisitsCallees : Origin → ℕ → Order → Order → Type 0
+  VisitsCallees o depth old new = search_of new ≡ search_to (lookup_of text) depth (search_of old) (places_called (lookup_of text) o)
+
+  -- by those at these places
+  abbrev pub VisitsPlaces : List ℕ → ℕ → Order → Order → Type 0
+  VisitsPlaces places depth old new = search_of new ≡ visit_each (lookup_of text) (search_to (lookup_of text) depth) (search_of old) places
+
+  -- and until all origins were come to
+  abbrev pub SearchesAll : Order → Order → Type 0
+  SearchesAll old new = search_of new ≡ search_all (lookup_of text) (search_of old)

@@ -105,7 +105,3 @@ numbers_for n order s i = number_for n order s i 0 ∷ number_for n order s i 1 
 -- the number of the procedure of an expression, where names stand for these numbers
 abbrev pub number_of_tree : Names → Option ℕ → Bool → Expression → Option ℕ
 number_of_tree names own variable e = number_by (numbers_of names) own variable (whole_call e)
-
--- and of the operand at a position of a statement
-abbrev pub number_among : Names → List Origin → Statement → ℕ → ℕ → Option ℕ
-number_among names order s i k = number_for (numbers_of names) order s i k

@@ -6,6 +6,7 @@ use Rattle.gw_blocks.specs.declared.parts.Operand.{Operand}
 use Rattle.gw_code.specs.Limits.{most_instructions}
 use Rattle.gw_object.specs.declared.limits.TheConstants.{MOST_PROCEDURES}
 use Rattle.gw_text_expressions.specs.declared.model.Expression.{Expression}
+use Rattle.gw_text_plus.specs.declared.model.Procedure.{Procedure as TextProcedure}
 use Rattle.gw_text.specs.declared.model.Body.{Body}
 use Rattle.gw_text.specs.declared.model.Body.TheVariants as bodies
 use Rattle.gw_text.specs.declared.model.Statement.{Statement}
@@ -17,10 +18,12 @@ use Rattle.gw_compile.specs.Numbers.{Numbers}
 use Rattle.gw_compile.specs.Statements.{body_of}
 use Rattle.gw_compile.specs.Unknown.{Blame, first_blame}
 use Rattle.gw_names.specs.declared.ledger.Noted.{Noted}
+use Rattle.gw_names.specs.declared.names.Names.{Names}
 use Rattle.gw_names.specs.declared.sights.Sighted.{Sighted}
 use Rattle.gw_names.specs.Codes.{name_fault, limit_fault}
 use Rattle.gw_names.specs.Known.{Key}
 use Rattle.gw_names.specs.Ledger.{noted_at, with_note}
+use Rattle.gw_names.specs.Numbers.{numbers_of}
 use Rattle.gw_text_tokens.specs.Words.{is_block}
 use Rattle.gw_names.specs.Places.{declaration_of}
 use Rattle.gw_records.specs.Entities.{entity_kind}
@@ -28,7 +31,7 @@ use Rattle.gw_pieces.specs.declared.compiling.Blamed.{Blamed}
 use Rattle.gw_pieces.specs.declared.compiling.Blamed.TheVariants as blamed
 use Rattle.gw_pieces.specs.declared.origins.Origin.{Origin}
 use Rattle.gw_pieces.specs.Blocks.{record_at}
-use Rattle.gw_pieces.specs.Notes.{or_missing, unless_piece}
+use Rattle.gw_pieces.specs.Notes.{or_missing, unless_piece, IsFor, NotesMore}
 use Rattle.gw_pieces.specs.Numbers.{with_source}
 use Rattle.gw_pieces.specs.Origins.{expression_at, numbers_for}
 
@@ -69,6 +72,10 @@ module _ (n : Numbers) where
   abbrev pub LacksCode : Statement → ℕ → Type 0
   LacksCode s k = LacksByBody s.body s k
 
+  -- there is code, and it is too long
+  abbrev pub ExceedsKnown : Statement → ℕ → Type 0
+  ExceedsKnown s k = Exceeds s k × (LacksCode s k → ⊥)
+
 -- what is to blame, as one word
 abbrev pub blamed_by : CompileFault → Blamed
 blamed_by (faults.Unknown operand) = blamed.Name
@@ -77,17 +84,29 @@ blamed_by (faults.Target name) = blamed.Name
 blamed_by faults.Limit = blamed.Limit
 blamed_by faults.Memory = blamed.Memory
 
--- the first refusal once what is to blame is noted at a line
-abbrev pub least_after : Blamed → Option Noted → ℕ → Option Noted
-least_after blamed.Limit least line = with_note least (noted_at line limit_fault)
-least_after blamed.Name least line = or_missing least line
-least_after blamed.Memory least line = least
+-- what is to blame is noted at a line; want of memory isn't
+abbrev pub NotesBlamed : Blamed → ℕ → Option Noted → Option Noted → Type 0
+NotesBlamed blamed.Limit line before after = after ≡ with_note before (noted_at line limit_fault)
+NotesBlamed blamed.Name line before after = after ≡ or_missing before line
+NotesBlamed blamed.Memory line before after = ⊥
 
 -- what is to blame has its reason
 abbrev pub Explains : Blamed → Type 0 → Type 0 → Type 0
 Explains blamed.Limit Over Missing = Over
 Explains blamed.Name Over Missing = Missing
 Explains blamed.Memory Over Missing = Unit {0}
+
+-- what is to blame where a PROCEDURE isn't compiled
+abbrev pub BlamesBody : Names → TextProcedure → Blamed → Type 0
+BlamesBody names procedure b = let body = body_of (numbers_of names) procedure in Explains b (ExceedsLimits body) (IsBlamed body.blame)
+
+-- where the expression at a position of a statement isn't
+abbrev pub BlamesOperand : Names → Statement → ℕ → Blamed → Type 0
+BlamesOperand names s k b = let n = numbers_of names in Explains b (IsTooLong n s k) (LacksExpression s k ⊎ NamesUnknown n s k)
+
+-- and where what stands there isn't
+abbrev pub BlamesPosition : Names → Statement → ℕ → Blamed → Type 0
+BlamesPosition names s k b = Explains b (Exceeds (numbers_of names) s k) (LacksCode (numbers_of names) s k)
 
 -- ORIGINS
 
@@ -122,11 +141,12 @@ pub record IsAtLine (ss : List Statement) (i : ℕ) (Reason : Statement → Type
   pub reason : Reason statement
   pub noted : note ≡ noted_at statement.line code
 
--- of the line where one of these origins stands
+-- of the line where one of these origins stands, for whose procedure an object has room
 pub record IsAtOrigin (order : List Origin) (ss : List Statement) (Reason : Statement → ℕ → Type 0) (code : ℕ) (note : Noted) : Type 0 where
   pub place : ℕ
   pub origin : Origin
   pub among : slice_get order place ≡ Some origin
+  pub room : place < MOST_PROCEDURES
   pub line : IsAtLine ss origin.statement (λ s. Reason s origin.operand) code note
 
 -- a statement that is to be there isn't
@@ -156,14 +176,14 @@ IsDeclaration ss i = (entity : Key) × (declaration_of ss entity ≡ Some i)
 
 -- PIECES
 
--- whatever is evaluated for attributes in the end
+-- it is so where something is evaluated for attributes in the end: entities are made before that is known
 abbrev pub BySome : Numbers → (Numbers → Type 0) → Type 0
 BySome n P = (source : Numbered → Operand) × P (with_source n source)
 
 module _ (n : Numbers) (order : List Origin) where
   -- a block statement has no record
   abbrev pub LacksRecord : ℕ → Statement → Type 0
-  LacksRecord i s = (is_block s.word ≡ true) × BySome n (λ m. record_at m order s i ≡ None)
+  LacksRecord i s = (is_block s.word ≡ true) × (record_at n order s i ≡ None)
 
   -- a declaration makes no entity
   abbrev pub LacksKind : ℕ → Statement → Type 0
@@ -176,12 +196,16 @@ module _ (n : Numbers) (order : List Origin) where
 module _ (n : Numbers) (ss : List Statement) where
   -- the code of an origin is too long
   abbrev pub OriginLimit : Origin → Noted → Type 0
-  OriginLimit o = IsAtLine ss o.statement (λ s. BySome n (λ m. Exceeds m s o.operand)) limit_fault
+  OriginLimit o = IsAtLine ss o.statement (λ s. Exceeds n s o.operand) limit_fault
+
+  -- there is code, and it is too long
+  abbrev pub OriginDue : Origin → Noted → Type 0
+  OriginDue o = IsAtLine ss o.statement (λ s. ExceedsKnown n s o.operand) limit_fault
 
   -- or there is none
   abbrev pub OriginMissing : Origin → Noted → Type 0
   OriginMissing o note =
-      IsAtLine ss o.statement (λ s. BySome n (λ m. LacksCode m s o.operand)) name_fault note
+      IsAtLine ss o.statement (λ s. LacksCode n s o.operand) name_fault note
       ⊎ IsAstray ss (λ i. o.statement ≡ i) note
 
 module _ (n : Numbers) (order : List Origin) (ss : List Statement) where
@@ -195,11 +219,15 @@ module _ (n : Numbers) (order : List Origin) (ss : List Statement) where
 
   -- one of these origins lacks its code
   abbrev pub CodeMissing : Noted → Type 0
-  CodeMissing = IsAtOrigin order ss (λ s k. BySome n (λ m. LacksCode m s k)) name_fault
+  CodeMissing = IsAtOrigin order ss (LacksCode n) name_fault
 
   -- or its code is too long
   abbrev pub CodeLimit : Noted → Type 0
-  CodeLimit = IsAtOrigin order ss (λ s k. BySome n (λ m. Exceeds m s k)) limit_fault
+  CodeLimit = IsAtOrigin order ss (Exceeds n) limit_fault
+
+  -- one of these origins has its code, and that is too long
+  abbrev pub CodeDue : Noted → Type 0
+  CodeDue = IsAtOrigin order ss (ExceedsKnown n) limit_fault
 
   -- what may be missing while code is made
   abbrev pub ProcedureMissing : Noted → Type 0
@@ -224,3 +252,18 @@ module _ (n : Numbers) (order : List Origin) (ss : List Statement) where
   -- a piece that a text needs is missing: the record of a block, what a declaration makes, or code
   abbrev pub PieceMissing : Noted → Type 0
   PieceMissing note = BlockMissing note ⊎ (KindMissing (IsDeclaration ss) note ⊎ CodeMissing note)
+
+-- WHAT IS NOTED
+
+-- what is to be told of the code at a position of a statement is noted at its line
+abbrev pub NotesStatement : Numbers → Statement → ℕ → Option Noted → Option Noted → Type 0
+NotesStatement n s k before after =
+    NotesMore (IsFor (Exceeds n s k) s.line limit_fault) (IsFor (ExceedsKnown n s k) s.line limit_fault) (IsFor (LacksCode n s k) s.line name_fault) before after
+
+-- and of that of an origin
+abbrev pub NotesOrigin : Numbers → List Statement → Origin → Option Noted → Option Noted → Type 0
+NotesOrigin n ss o before after = NotesMore (OriginLimit n ss o) (OriginDue n ss o) (OriginMissing n ss o) before after
+
+-- all code of these origins that is too long is noted, and this may be missing
+abbrev pub NotesCode : Numbers → List Origin → List Statement → (Noted → Type 0) → Option Noted → Option Noted → Type 0
+NotesCode n order ss Missing before after = NotesMore (CodeLimit n order ss) (CodeDue n order ss) Missing before after

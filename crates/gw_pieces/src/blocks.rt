@@ -1,23 +1,24 @@
 //! The blocks of a model text.
 
-ghost use Rattle.std.specs.Prelude.{◌≡◌, ◌++◌, ◌∷◌, [], OnOk, IfOk, IsSome, option_to_list, string_bytes};
-ghost use Rattle.gw_pieces.specs.Blocks as model;
-ghost use Rattle.gw_pieces.specs.Clear.{StaysClear};
-ghost use Rattle.gw_pieces.specs.Origins as numbers;
-ghost use Rattle.gw_pieces.specs.Notes.{NotesMore, NotesUnless, Never, or_missing};
+ghost use Rattle.std.specs.Prelude.{◌≡◌, ◌++◌, ◌∷◌, [], OnOk, IfOk, IsSome};
+ghost use Rattle.std.specs.Prelude.{option_to_list, string_bytes};
 ghost use Rattle.gw_names.specs.Numbers.{numbers_of};
-ghost use Rattle.gw_pieces.specs.Reasons.{BlockMissing, least_after_block};
+ghost use Rattle.gw_pieces.specs.Clear.{StaysClear};
+ghost use Rattle.gw_pieces.specs.Notes.{NotesUnless, or_missing};
+ghost use Rattle.gw_pieces.specs.Origins as numbers;
+ghost use Rattle.gw_pieces.specs.Plans as plans;
 
 use crate::origins::{Origin, expression_at, is_variable, place_of, whole_call};
+use crate::plan::Plan;
 use gw_blocks::Block;
 use gw_compile::{Callee, Numbering};
 use gw_names::{Ledger, Names, codes};
 use gw_records::record_of;
-use gw_text::{Body, Expression, Model, Statement};
+use gw_text::{Body, Expression, Statement};
 use std::alloc::{AllocError, Global};
 
-/// The numbers of the procedures that the operands of a statement become which are expressions: those stand at the first two
-/// positions.
+/// The numbers of the procedures that the operands of a statement become which are expressions: those stand at the first
+/// two positions.
 #[derive(Clone, Copy)]
 pub(crate) struct Numbers {
     /// Of the first operand.
@@ -83,53 +84,41 @@ fn number_by(
 }
 
 /// The number of the procedure that the operand at a position of a statement becomes.
-fn number_for(
-    names: &Names,
-    order: &[Origin],
-    statement: &Statement,
-    number: usize,
-    position: usize,
-) -> Option<u16>
-    ensures { result ≡ numbers.number_among names.now order.now statement.now number position }
+fn number_for(plan: &Plan<'_>, statement: &Statement, number: usize, position: usize) -> Option<u16>
+    ensures { result ≡ plans.number_for plan.now statement.now number position }
 {
-    let own = own_number(order, number, position);
+    let own = own_number(&plan.order, number, position);
     let is_variable = is_variable(statement.word);
     match &statement.body {
         Body::Procedure(_) => None,
         _ => match expression_at(statement, position) {
-            Some(expression) => number_by(names, own, is_variable, expression),
+            Some(expression) => number_by(&plan.names, own, is_variable, expression),
             None => None,
         },
     }
 }
 
 /// The numbers of the procedures that the operands of a statement become.
-pub(crate) fn numbers_for(
-    names: &Names,
-    order: &[Origin],
-    statement: &Statement,
-    number: usize,
-) -> Numbers
-    ensures { result.first ∷ result.second ∷ []
-        ≡ numbers.numbers_for (numbers_of names.now) order.now statement.now number }
+pub(crate) fn numbers_for(plan: &Plan<'_>, statement: &Statement, number: usize) -> Numbers
+    ensures { result.first ∷ result.second ∷ [] ≡ plans.numbers_for plan.now statement.now number }
 {
     Numbers {
-        first: number_for(names, order, statement, number, 0),
-        second: number_for(names, order, statement, number, 1),
+        first: number_for(plan, statement, number, 0),
+        second: number_for(plan, statement, number, 1),
     }
 }
 
 /// The record of a block statement.
-fn record_at(names: &Names, order: &[Origin], statement: &Statement, number: usize) -> Option<Block>
-    ensures { result ≡ model.record_at (numbers_of names.now) order.now statement.now number }
+fn record_at(plan: &Plan<'_>, statement: &Statement, number: usize) -> Option<Block>
+    ensures { result ≡ plans.record_at plan.now statement.now number }
 {
-    let Numbers { first, second } = numbers_for(names, order, statement, number);
+    let Numbers { first, second } = numbers_for(plan, statement, number);
     let procedures = [first, second];
-    record_of(names, &procedures, statement)
+    record_of(&plan.names, &procedures, statement)
 }
 
-/// Takes note that nothing can be made of the statement on a line. (Where a name isn't known, that was noted when the names were looked
-/// at.)
+/// Takes note that nothing can be made of the statement on a line. (Where a name isn't known, that was noted when the names
+/// were looked at.)
 pub(crate) fn note_none(ledger: &mut Ledger, line: u32)
     ensures clear { StaysClear ledger.old ledger.new ⊥ }
     ensures notes { ledger.new.least ≡ or_missing ledger.old.least line }
@@ -162,23 +151,19 @@ fn put_record(
 /// A statement's record, if it is a block, behind others; one of which there is none is noted.
 fn put_block(
     blocks: &mut Vec<Block>,
-    names: &Names,
-    order: &[Origin],
+    plan: &Plan<'_>,
     statement: &Statement,
     number: usize,
     ledger: &mut Ledger,
 ) -> Result<(), AllocError>
-    ensures blocks { OnOk result (blocks.new.items
-        ≡ blocks.old.items ++ model.block_at (numbers_of names.now) order.now statement.now number) }
-    ensures ledger { OnOk result (StaysClear ledger.old ledger.new
-        (model.IsRecorded (numbers_of names.now) order.now statement.now number)) }
-    ensures notes { OnOk result (ledger.new.least
-        ≡ least_after_block (numbers_of names.now) order.now statement.now number ledger.old.least) }
+    ensures blocks { OnOk result (plans.AddsBlock plan.now statement.now number blocks.old blocks.new) }
+    ensures ledger { OnOk result (plans.Records plan.now statement.now number ledger.old ledger.new) }
+    ensures notes { OnOk result (plans.NotesBlock plan.now statement.now number ledger.old ledger.new) }
 {
     if statement.word.is_block() {
         put_record(
             blocks,
-            record_at(names, order, statement, number),
+            record_at(plan, statement, number),
             statement,
             ledger,
         )
@@ -190,26 +175,19 @@ fn put_block(
 /// The records of the block statements, in order; those of which there is none are noted.
 pub(crate) fn blocks_of(
     alloc: Global,
-    names: &Names,
-    text: &Model,
-    order: &[Origin],
+    plan: &Plan<'_>,
     ledger: &mut Ledger,
 ) -> Result<Vec<Block>, AllocError>
-    ensures blocks { IfOk result (λ blocks. blocks.items
-        ≡ model.blocks_from (numbers_of names.now) order.now 0 text.now.statements.items) }
-    ensures ledger { OnOk result (StaysClear ledger.old ledger.new
-        (model.AllRecorded (numbers_of names.now) order.now 0 text.now.statements.items)) }
-    ensures notes { OnOk result (NotesMore Never
-        (BlockMissing (numbers_of names.now) order.now text.now.statements.items)
-        ledger.old.least ledger.new.least) }
+    ensures blocks { IfOk result (plans.AreBlocks plan.now) }
+    ensures ledger { OnOk result (plans.RecordsAll plan.now ledger.old ledger.new) }
+    ensures notes { OnOk result (plans.NotesBlocks plan.now ledger.old ledger.new) }
 {
     let mut blocks = Vec::new(alloc);
-    for number in 0..text.statements.len() {
+    for number in 0..plan.text.statements.len() {
         put_block(
             &mut blocks,
-            names,
-            order,
-            &text.statements[number],
+            plan,
+            &plan.text.statements[number],
             number,
             ledger,
         )?;

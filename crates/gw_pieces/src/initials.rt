@@ -95,10 +95,8 @@ fn initials_in(
 impl Initials {
     /// What the INITIALs among these statements set.
     pub(crate) fn of(alloc: Global, statements: &[Statement]) -> Result<Initials, AllocError>
-        ensures savevalues { IfOk result (λ i. (name : List ℕ)
-            → found_in i.savevalues name ≡ last_of (model.savevalues_in statements.now) name) }
-        ensures switches { IfOk result (λ i. (name : List ℕ)
-            → found_in i.switches name ≡ last_of (model.switches_in statements.now) name) }
+        ensures savevalues { IfOk result (model.AreSavevalues statements.now) }
+        ensures switches { IfOk result (model.AreSwitches statements.now) }
     {
         let savevalues = initials_in(alloc, Initial::Savevalue, statements)?;
         match initials_in(alloc, Initial::Switch, statements) {

@@ -11,6 +11,7 @@ mod naming;
 mod order;
 mod origins;
 mod pieces;
+mod plan;
 mod settings;
 
 pub use lines::procedure_lines;

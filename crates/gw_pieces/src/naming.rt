@@ -1,7 +1,6 @@
 //! What the names of PROCEDUREs and EQUs stand for, once their procedures have numbers.
 
-ghost use Rattle.std.specs.Prelude.{◌≡◌, IfOk, ℕ, List, min, length, string_bytes};
-ghost use Rattle.gw_names.specs.Known.{found_in};
+ghost use Rattle.std.specs.Prelude.{◌≡◌, IfOk, min, length, string_bytes};
 ghost use Rattle.gw_names.specs.Places.{Sets};
 ghost use Rattle.gw_pieces.specs.Naming as model;
 
@@ -69,9 +68,9 @@ fn put_meaning(
     statement: &Statement,
     place: usize,
 ) -> Result<(), AllocError>
-    ensures procedures { Sets result meanings.old.procedures meanings.new.procedures
-        (model.callee_of_body statement.now.body place) }
-    ensures equs { Sets result meanings.old.equs meanings.new.equs
+    ensures procedures { model.SetsCallees result meanings.old meanings.new
+        (model.callee_at statement.now place) }
+    ensures equs { model.SetsEqus result meanings.old meanings.new
         (model.equ_by_statement statement.now place) }
 {
     match &statement.body {
@@ -88,10 +87,10 @@ fn put_meaning_of(
     origin: Origin,
     place: usize,
 ) -> Result<(), AllocError>
-    ensures procedures { Sets result meanings.old.procedures meanings.new.procedures
-        (model.callee_of_origin text.now.statements.items origin place) }
-    ensures equs { Sets result meanings.old.equs meanings.new.equs
-        (model.equ_of_origin text.now.statements.items origin place) }
+    ensures procedures { model.SetsCallees result meanings.old meanings.new
+        (model.callee_in text.now origin place) }
+    ensures equs { model.SetsEqus result meanings.old meanings.new
+        (model.equ_in text.now origin place) }
 {
     match text.statements.get(origin.statement) {
         Some(statement) => put_meaning(meanings, statement, place),
@@ -101,10 +100,10 @@ fn put_meaning_of(
 
 /// The PROCEDUREs and EQUs of these origins, by their places.
 fn put_meanings(meanings: &mut Meanings, text: &Model, order: &[Origin]) -> Result<(), AllocError>
-    ensures procedures { Sets result meanings.old.procedures meanings.new.procedures
-        (model.entries_of model.callee_of_origin text.now order.now) }
-    ensures equs { Sets result meanings.old.equs meanings.new.equs
-        (model.entries_of model.equ_of_origin text.now order.now) }
+    ensures procedures { model.SetsCallees result meanings.old meanings.new
+        (model.callees_in text.now order.now) }
+    ensures equs { model.SetsEqus result meanings.old meanings.new
+        (model.equs_in text.now order.now) }
 {
     for i in 0..order.len() {
         put_meaning_of(meanings, text, order[i], i)?;
@@ -168,10 +167,8 @@ pub(crate) fn meanings_of(
     known: &Known,
     order: &[Origin],
 ) -> Result<Meanings, AllocError>
-    ensures procedures { IfOk result (λ m. (name : List ℕ)
-        → found_in m.procedures name ≡ model.callee_of text.now.statements.items order.now name) }
-    ensures equs { IfOk result (λ m. (name : List ℕ) → found_in m.equs name
-        ≡ model.equ_by (found_in known.now.equ_numbers) text.now.statements.items order.now name) }
+    ensures procedures { IfOk result (model.MeansCallees text.now order.now) }
+    ensures equs { IfOk result (model.MeansEqus known.now text.now order.now) }
 {
     let mut meanings = Meanings {
         procedures: IndexMap::new(alloc),

@@ -1,11 +1,9 @@
 //! The order of the procedures: that of the text, but what one calls comes before it.
 
-ghost use Rattle.std.specs.Prelude.{◌≡◌, ◌++◌, ◌∷◌, [], OnOk, IfOk, slice_get, set, true, option_and_then, option_to_list, string_bytes};
-ghost use Rattle.std.specs.List.{flat_map};
+ghost use Rattle.std.specs.Prelude.{◌≡◌, ◌++◌, ◌∷◌, [], OnOk, IfOk, Some, slice_get, set, true, string_bytes};
 ghost use Rattle.gw_uses.specs.Mentions.{mention, mentions};
 ghost use Rattle.gw_pieces.specs.Order as model;
-ghost use Rattle.gw_pieces.specs.Order.{lookup_by, lookup_of, ordered_by, search_of, search_to};
-ghost use Rattle.gw_pieces.specs.Origins.{place_in};
+ghost use Rattle.gw_pieces.specs.Order.{lookup_by, lookup_of, ordered_by};
 
 use crate::origins::{Origin, expression_at, place_of, whole_call};
 use gw_names::{Known, found};
@@ -126,8 +124,7 @@ fn called_by(text: &Text<'_>, used: Use<'_>) -> Option<Origin>
 
 /// Its place among the origins.
 fn place_called(text: &Text<'_>, used: Use<'_>) -> Option<usize>
-    ensures { result ≡ option_and_then (place_in text.now.origins.now)
-        (model.origin_called (lookup_of text.now) (mention used.entry)) }
+    ensures { result ≡ model.place_of_called (lookup_of text.now) (mention used.entry) }
 {
     match called_by(text, used) {
         Some(origin) => place_of(text.origins, origin),
@@ -137,8 +134,7 @@ fn place_called(text: &Text<'_>, used: Use<'_>) -> Option<usize>
 
 /// The place of what is called by a use, behind others.
 fn put_callee(callees: &mut Vec<usize>, text: &Text<'_>, used: Use<'_>) -> Result<(), AllocError>
-    ensures { OnOk result (callees.new.items
-        ≡ callees.old.items ++ model.place_called (lookup_of text.now) (mention used.entry)) }
+    ensures { OnOk result (model.AddsCallee text.now (mention used.entry) callees.old callees.new) }
 {
     match place_called(text, used) {
         Some(place) => callees.push(place).map_err(|_| AllocError),
@@ -152,8 +148,7 @@ fn put_callees(
     text: &Text<'_>,
     uses: &[Use<'_>],
 ) -> Result<(), AllocError>
-    ensures { OnOk result (callees.new.items
-        ≡ callees.old.items ++ flat_map (model.place_called (lookup_of text.now)) (mentions uses.now)) }
+    ensures { OnOk result (model.AddsCallees text.now (mentions uses.now) callees.old callees.new) }
 {
     for i in 0..uses.len() {
         put_callee(callees, text, uses[i])?;
@@ -168,7 +163,7 @@ fn put_uses_at<'a>(
     operand: usize,
 ) -> Result<(), AllocError>
     ensures { OnOk result (mentions uses.new.items
-        ≡ mentions uses.old.items ++ model.mentions_by statement.now.body statement.now operand) }
+        ≡ mentions uses.old.items ++ model.mentions_at statement.now operand) }
 {
     match &statement.body {
         Body::Procedure(procedure) => put_uses_of_procedure(uses, procedure),
@@ -222,8 +217,8 @@ fn put_origin(done: &mut Vec<Origin>, origin: Origin) -> Result<(), AllocError>
     done.push(origin).map_err(|_| AllocError)
 }
 
-/// Gives the procedure of the origin at a place its number, after those that it calls, unless it was come to before. It goes at
-/// most so deep.
+/// Gives the procedure of the origin at a place its number, after those that it calls, unless it was come to before. It goes
+/// at most so deep.
 #[cycle(order)]
 fn visit(
     alloc: Global,
@@ -232,8 +227,7 @@ fn visit(
     place: usize,
     depth: usize,
 ) -> Result<(), AllocError>
-    ensures { OnOk result (search_of order.new ≡ model.visit_with (lookup_of text.now)
-        (search_to (lookup_of text.now) depth) (search_of order.old) place) }
+    ensures { OnOk result (model.Visits text.now place depth order.old order.new) }
 {
     match unvisited(&order.visited, text.origins, place) {
         Some(origin) => {
@@ -254,8 +248,7 @@ fn visit_callees(
     origin: Origin,
     depth: usize,
 ) -> Result<(), AllocError>
-    ensures { OnOk result (search_of order.new ≡ search_to (lookup_of text.now) depth
-        (search_of order.old) (model.places_called (lookup_of text.now) origin)) }
+    ensures { OnOk result (model.VisitsCallees text.now origin depth order.old order.new) }
 {
     if depth == 0 {
         return Ok(());
@@ -273,8 +266,7 @@ fn visit_all(
     places: &[usize],
     depth: usize,
 ) -> Result<(), AllocError>
-    ensures { OnOk result (search_of order.new ≡ model.visit_each (lookup_of text.now)
-        (search_to (lookup_of text.now) depth) (search_of order.old) places.now) }
+    ensures { OnOk result (model.VisitsPlaces text.now places.now depth order.old order.new) }
 {
     for i in 0..places.len() {
         visit(alloc, text, order, places[i], depth)?;
@@ -292,8 +284,8 @@ fn visit_each(alloc: Global, text: &Text<'_>, order: &mut Order) -> Result<(), A
     Ok(())
 }
 
-/// The origins in the order of their procedures: that of the text, except that what one calls comes before it, in order of first
-/// sight. (Where procedures call each other in a cycle, the one that is come to first is the last of them.)
+/// The origins in the order of their procedures: that of the text, except that what one calls comes before it, in order of
+/// first sight. (Where procedures call each other in a cycle, the one that is come to first is the last of them.)
 pub(crate) fn ordered(
     alloc: Global,
     model: &Model,

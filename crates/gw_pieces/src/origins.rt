@@ -1,6 +1,6 @@
 //! What of a model text becomes procedures.
 
-ghost use Rattle.std.specs.Prelude.{◌≡◌, ◌++◌, OnOk, IfOk, option_map, string_bytes};
+ghost use Rattle.std.specs.Prelude.{◌≡◌, OnOk, IfOk, option_map, string_bytes};
 ghost use Rattle.std.specs.Option.{option_copied};
 ghost use Rattle.gw_names.specs.Known.{found_in};
 ghost use Rattle.gw_names.specs.Places.{label_of};
@@ -104,8 +104,7 @@ fn put_origin(
     number: usize,
     operand: usize,
 ) -> Result<(), AllocError>
-    ensures { OnOk result (origins.new.items ≡ origins.old.items
-        ++ order.origin_if (found_in known.now.equ_numbers) statement.now number operand) }
+    ensures { OnOk result (order.AddsOrigin known.now statement.now number operand origins.old origins.new) }
 {
     if is_origin(known, statement, operand) {
         let origin = Origin {
@@ -125,8 +124,7 @@ fn put_origins(
     statement: &Statement,
     number: usize,
 ) -> Result<(), AllocError>
-    ensures { OnOk result (origins.new.items ≡ origins.old.items
-        ++ order.origins_of (found_in known.now.equ_numbers) statement.now number) }
+    ensures { OnOk result (order.AddsOrigins known.now statement.now number origins.old origins.new) }
 {
     put_origin(origins, known, statement, number, 0)?;
     put_origin(origins, known, statement, number, 1)
@@ -138,8 +136,7 @@ pub(crate) fn origins_of(
     known: &Known,
     model: &Model,
 ) -> Result<Vec<Origin>, AllocError>
-    ensures { IfOk result (λ origins. origins.items
-        ≡ order.origins_from (found_in known.now.equ_numbers) 0 model.now.statements.items) }
+    ensures { IfOk result (order.AreOrigins known.now model.now) }
 {
     let mut origins = Vec::new(alloc);
     for number in 0..model.statements.len() {

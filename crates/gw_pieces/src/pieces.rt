@@ -1,31 +1,22 @@
 //! The parts of the object that a model text becomes.
 
-ghost use Rattle.std.specs.Prelude.{◌≡◌, ◌≤◌, [], length, replicate, slice_get, None, IfOk, IfErr, OnOk};
+ghost use Rattle.std.specs.Prelude.{◌≡◌, [], replicate, None, IfOk, IfErr, OnOk};
 ghost use Rattle.gw_object.specs.Reading.{out_of_memory};
-ghost use Rattle.gw_object.specs.declared.limits.TheConstants.{MOST_PROCEDURES};
-ghost use Rattle.gw_names.specs.Ledger.{with_notes};
-ghost use Rattle.gw_names.specs.Naming.{Knows};
-ghost use Rattle.gw_pieces.specs.Clear.{StaysClear};
 ghost use Rattle.gw_pieces.specs.Making as making;
-ghost use Rattle.gw_pieces.specs.Notes.{NotesMore};
-ghost use Rattle.gw_names.specs.Numbers.{numbers_of};
-ghost use Rattle.gw_pieces.specs.Order.{lookup_by, order_by, order_in};
-ghost use Rattle.gw_pieces.specs.Pieces.{HasCode, IsDraft, IsMadeOf};
-ghost use Rattle.gw_pieces.specs.Reasons as reasons;
+ghost use Rattle.gw_pieces.specs.Pieces.{IsDraft, IsMadeOf};
+ghost use Rattle.gw_pieces.specs.Plans as plans;
 ghost use Rattle.gw_pieces.specs.Settings.{seeds_in};
 
 use crate::blocks::blocks_of;
 use crate::compiling::procedures_of;
 use crate::entities::entities_of;
-use crate::naming::{Meanings, meanings_of};
-use crate::order::ordered;
-use crate::origins::{Origin, origins_of};
+use crate::plan::{Plan, plan_of};
 use crate::settings::{count_of, seeds_of};
 use gw_blocks::Block;
 use gw_code::Procedure;
-use gw_names::{Known, Ledger, Names, Sighted, check_uses, codes, known_names};
+use gw_names::Ledger;
 use gw_object::codes::MEMORY;
-use gw_object::{Entity, Fault, Items, MOST_PROCEDURES, Parts, Place, TableState, chains_in};
+use gw_object::{Entity, Fault, Items, Parts, Place, TableState, chains_in};
 use gw_text::Model;
 use std::alloc::{AllocError, Global};
 use std::mem;
@@ -36,63 +27,6 @@ const OUT_OF_MEMORY: Fault = Fault {
     place: Place::Nowhere,
 };
 
-/// The line of the statement of an origin.
-pub(crate) fn line_of(text: &Model, origin: Origin) -> u32
-    ensures { result ≡ reasons.line_of (slice_get text.now.statements.items origin.statement) }
-{
-    match text.statements.get(origin.statement) {
-        Some(statement) => statement.line,
-        None => 0,
-    }
-}
-
-/// Notes the first origin that is one too many.
-fn note_surplus(text: &Model, origins: &[Origin], ledger: &mut Ledger)
-    ensures few { StaysClear ledger.old ledger.new (length origins.now ≤ MOST_PROCEDURES) }
-    ensures notes { ledger.new.least
-        ≡ with_notes ledger.old.least (reasons.surplus_in text.now.statements.items origins.now) }
-{
-    if origins.len() > MOST_PROCEDURES {
-        ledger.note(line_of(text, origins[MOST_PROCEDURES]), codes::LIMIT);
-    }
-}
-
-/// The origins in the order of their procedures, or, where there are too many, in that of the text.
-fn placed(
-    alloc: Global,
-    text: &Model,
-    known: &Known,
-    origins: Vec<Origin>,
-) -> Result<Vec<Origin>, AllocError>
-    ensures { IfOk result (λ order. order.items
-        ≡ order_by (lookup_by known.now text.now.statements.items origins.items)) }
-{
-    if origins.len() > MOST_PROCEDURES {
-        Ok(origins)
-    } else {
-        ordered(alloc, text, known, &origins)
-    }
-}
-
-/// The origins in the order of their procedures. One that is too many is noted.
-pub(crate) fn order_of(
-    alloc: Global,
-    text: &Model,
-    known: &Known,
-    ledger: &mut Ledger,
-) -> Result<Vec<Origin>, AllocError>
-    requires { Knows text.now.statements.items known.now }
-    ensures few { IfOk result (making.AreFew ledger.old ledger.new) }
-    ensures notes { OnOk result (ledger.new.least
-        ≡ with_notes ledger.old.least (reasons.surplus_in text.now.statements.items (order_in text.now.statements.items))) }
-    ensures order { IfOk result (λ order. order.items ≡ order_in text.now.statements.items) }
-{
-    let origins = origins_of(alloc, known, text)?;
-    let order = placed(alloc, text, known, origins)?;
-    note_surplus(text, &order, ledger);
-    Ok(order)
-}
-
 /// The procedures and the blocks that are made of a model text.
 #[derive(Drop)]
 struct Code {
@@ -100,67 +34,14 @@ struct Code {
     blocks: Vec<Block>,
 }
 
-/// The procedures and the blocks of a model text. What can't be made is noted.
-fn code_of(
-    alloc: Global,
-    text: &Model,
-    names: &Names,
-    order: &[Origin],
-    ledger: &mut Ledger,
-) -> Result<Code, AllocError>
-    ensures made { IfOk result (λ code. StaysClear ledger.old ledger.new
-        (length order.now ≤ MOST_PROCEDURES → HasCode (numbers_of names.now) order.now text.now.statements.items code.procedures.items code.blocks.items)) }
-    ensures notes { OnOk result (NotesMore
-        (reasons.CodeLimit (numbers_of names.now) order.now text.now.statements.items)
-        (reasons.CodeOrBlockMissing (numbers_of names.now) order.now text.now.statements.items)
-        ledger.old.least ledger.new.least) }
+/// The procedures and the blocks by a plan that has its entities. What can't be made is noted.
+fn code_by(alloc: Global, plan: &Plan<'_>, ledger: &mut Ledger) -> Result<Code, AllocError>
+    ensures made { IfOk result (making.MakesCode plan.now ledger.old ledger.new) }
+    ensures notes { OnOk result (plans.NotesCodeAndBlocks plan.now ledger.old ledger.new) }
 {
-    let procedures = procedures_of(alloc, names, text, order, ledger)?;
-    let blocks = blocks_of(alloc, names, text, order, ledger)?;
+    let procedures = procedures_of(alloc, plan, ledger)?;
+    let blocks = blocks_of(alloc, plan, ledger)?;
     Ok(Code { procedures, blocks })
-}
-
-/// The same, where the names get these entities.
-fn code_with(
-    alloc: Global,
-    text: &Model,
-    names: &mut Names,
-    entities: Vec<Entity>,
-    order: &[Origin],
-    ledger: &mut Ledger,
-) -> Result<Code, AllocError>
-    ensures names { names.new ≡ record names.old { list = entities } }
-    ensures made { IfOk result (λ code. StaysClear ledger.old ledger.new
-        (length order.now ≤ MOST_PROCEDURES → HasCode (numbers_of (record names.old { list = entities })) order.now text.now.statements.items
-        code.procedures.items code.blocks.items)) }
-    ensures notes { OnOk result (NotesMore
-        (reasons.CodeLimit (numbers_of names.old) order.now text.now.statements.items)
-        (reasons.CodeOrBlockMissing (numbers_of names.old) order.now text.now.statements.items)
-        ledger.old.least ledger.new.least) }
-{
-    drop(mem::replace(&mut names.list, entities));
-    code_of(alloc, text, names, order, ledger)
-}
-
-/// The same, and first the entities, which the names get. What can't be made is noted.
-fn code_and_entities(
-    alloc: Global,
-    text: &Model,
-    names: &mut Names,
-    order: &[Origin],
-    sighted: &[Sighted],
-    ledger: &mut Ledger,
-) -> Result<Code, AllocError>
-    ensures made { IfOk result (λ code. StaysClear ledger.old ledger.new
-        (length order.now ≤ MOST_PROCEDURES → making.HasAllBy (numbers_of names.old) order.now text.now.statements.items sighted.now
-        names.new.list.items code.procedures.items code.blocks.items)) }
-    ensures notes { OnOk result (NotesMore
-        (reasons.CodeLimit (numbers_of names.old) order.now text.now.statements.items)
-        (reasons.AnyMissing (numbers_of names.old) order.now text.now.statements.items sighted.now)
-        ledger.old.least ledger.new.least) }
-{
-    let entities = entities_of(alloc, names, text, order, sighted, ledger)?;
-    code_with(alloc, text, names, entities, order, ledger)
 }
 
 /// What is made of a model text.
@@ -171,27 +52,30 @@ struct Pieces {
     blocks: Vec<Block>,
 }
 
-/// What is made where names are known; the list of entities is taken from them.
-fn pieces_by(
-    alloc: Global,
-    text: &Model,
-    names: &mut Names,
-    order: &[Origin],
-    sighted: &[Sighted],
-    ledger: &mut Ledger,
-) -> Result<Pieces, AllocError>
-    ensures made { IfOk result (λ pieces. StaysClear ledger.old ledger.new
-        (length order.now ≤ MOST_PROCEDURES → making.HasAllBy (numbers_of names.old) order.now text.now.statements.items sighted.now
-        pieces.entities.items pieces.procedures.items pieces.blocks.items)) }
-    ensures notes { OnOk result (NotesMore
-        (reasons.CodeLimit (numbers_of names.old) order.now text.now.statements.items)
-        (reasons.AnyMissing (numbers_of names.old) order.now text.now.statements.items sighted.now)
-        ledger.old.least ledger.new.least) }
+/// The names of a plan get their entities.
+fn give_entities(plan: &mut Plan<'_>, entities: Vec<Entity>)
+    ensures { plan.new ≡ making.with_entities plan.old entities }
 {
-    let Code { procedures, blocks } = code_and_entities(
-        alloc, text, names, order, sighted, ledger,
-    )?;
-    let entities = mem::replace(&mut names.list, Vec::new(alloc));
+    drop(mem::replace(&mut plan.names.list, entities));
+}
+
+/// The entities of a plan's names, which are taken from them.
+fn take_entities(alloc: Global, plan: &mut Plan<'_>) -> Vec<Entity>
+    ensures { result ≡ plan.old.names.list }
+{
+    mem::replace(&mut plan.names.list, Vec::new(alloc))
+}
+
+/// What is made by a plan, which gets its entities first; they are taken from it in the end. What can't be made is noted.
+fn pieces_by(alloc: Global, plan: &mut Plan<'_>, ledger: &mut Ledger) -> Result<Pieces, AllocError>
+    requires { making.IsPlan plan.old }
+    ensures made { IfOk result (making.MakesPieces plan.old ledger.old ledger.new) }
+    ensures notes { OnOk result (making.NotesPlan plan.old ledger.old ledger.new) }
+{
+    let entities = entities_of(alloc, plan, ledger)?;
+    give_entities(plan, entities);
+    let Code { procedures, blocks } = code_by(alloc, plan, ledger)?;
+    let entities = take_entities(alloc, plan);
     Ok(Pieces {
         entities,
         procedures,
@@ -199,124 +83,17 @@ fn pieces_by(
     })
 }
 
-/// The numbers of all names but entities' lists, and the entities that were sighted.
-fn names_with(known: Known, meanings: Meanings, none: Vec<Entity>) -> (Names, Vec<Sighted>)
-    requires { none.items ≡ [] }
-    ensures names { making.NamesOf known meanings result.0 }
-    ensures sighted { result.1 ≡ known.sighted }
-{
-    let Known {
-        entities,
-        sighted,
-        declarations,
-        blocks,
-        parameters,
-        procedures: procedures_by_name,
-        equs: equs_by_name,
-        equ_numbers,
-    } = known;
-    drop(declarations);
-    drop(procedures_by_name);
-    drop(equs_by_name);
-    drop(equ_numbers);
-    let Meanings { procedures, equs } = meanings;
-    let names = Names {
-        entities,
-        list: none,
-        blocks,
-        parameters,
-        procedures,
-        equs,
-    };
-    (names, sighted)
-}
-
-/// The origins of the procedures, in order, and what the names of PROCEDUREs and EQUs stand for.
-#[derive(Drop)]
-struct Ordered {
-    order: Vec<Origin>,
-    meanings: Meanings,
-}
-
-/// The origins of the procedures of a model text whose names are known, in order, once all uses of names are judged. A use
-/// that is refused and an origin that is too many are noted.
-fn judged(
-    alloc: Global,
-    text: &Model,
-    known: &Known,
-    ledger: &mut Ledger,
-) -> Result<Ordered, AllocError>
-    requires { Knows text.now.statements.items known.now }
-    ensures few { IfOk result (λ o. making.AreFew ledger.old ledger.new o.order) }
-    ensures named { OnOk result (StaysClear ledger.old ledger.new (making.RefusesNone text.now)) }
-    ensures notes { OnOk result (making.NotesNames text.now ledger.old ledger.new) }
-    ensures order { IfOk result (λ o. o.order.items ≡ order_in text.now.statements.items) }
-    ensures meanings { IfOk result (making.HasMeanings text.now) }
-{
-    check_uses(alloc, known, text.statements.as_slice(), ledger)?;
-    let order = order_of(alloc, text, known, ledger)?;
-    let meanings = meanings_of(alloc, text, known, &order)?;
-    Ok(Ordered { order, meanings })
-}
-
-/// What is made of a model text whose names are known, where its procedures have these origins, in order. What can't be made is
-/// noted.
-fn pieces_with(
-    alloc: Global,
-    text: &Model,
-    known: Known,
-    ordered: Ordered,
-    ledger: &mut Ledger,
-) -> Result<Pieces, AllocError>
-    requires known { Knows text.now.statements.items known }
-    requires meanings { making.HasMeanings text.now ordered }
-    requires order { ordered.order.items ≡ order_in text.now.statements.items }
-    ensures made { IfOk result (λ pieces. StaysClear ledger.old ledger.new
-        (length ordered.order.items ≤ MOST_PROCEDURES → making.AreMade text.now.statements.items
-        pieces.entities.items pieces.procedures.items pieces.blocks.items)) }
-    ensures notes { OnOk result (making.NotesPiecesOf text.now ledger.old.least ledger.new.least) }
-{
-    let Ordered { order, meanings } = ordered;
-    let (mut names, sighted) = names_with(known, meanings, Vec::new(alloc));
-    let pieces = pieces_by(alloc, text, &mut names, &order, &sighted, ledger);
-    drop(names);
-    drop(order);
-    drop(sighted);
-    pieces
-}
-
-/// What is made of a model text whose names are known. What can't be made is noted.
-fn pieces_known(
-    alloc: Global,
-    text: &Model,
-    known: Known,
-    ledger: &mut Ledger,
-) -> Result<Pieces, AllocError>
-    requires { Knows text.now.statements.items known }
-    ensures made { IfOk result (λ pieces.
-        StaysClear ledger.old ledger.new (making.ArePieces text.now pieces)) }
-    ensures named { OnOk result (StaysClear ledger.old ledger.new (making.RefusesNone text.now)) }
-    ensures notes { OnOk result (making.NotesPieces text.now.statements.items
-        (making.noted_of_names text.now.statements.items ledger.old.least) ledger.new.least) }
-{
-    match judged(alloc, text, &known, ledger) {
-        Ok(ordered) => pieces_with(alloc, text, known, ordered, ledger),
-        Err(AllocError) => {
-            drop(known);
-            Err(AllocError)
-        }
-    }
-}
-
 /// What is made of a model text. What can't be made is noted.
 fn pieces_of(alloc: Global, text: &Model, ledger: &mut Ledger) -> Result<Pieces, AllocError>
-    ensures made { IfOk result (λ pieces.
-        StaysClear ledger.old ledger.new (making.AreNamedPieces text.now pieces)) }
-    ensures notes { OnOk result (making.NotesPieces text.now.statements.items
-        (making.noted_of_text text.now.statements.items ledger.old.least) ledger.new.least) }
+    ensures made { IfOk result (making.Makes text.now ledger.old ledger.new) }
+    ensures notes { OnOk result (making.NotesAll text.now ledger.old ledger.new) }
 {
-    match known_names(alloc, text.statements.as_slice(), ledger) {
-        Ok(known) => pieces_known(alloc, text, known, ledger),
+    match plan_of(alloc, text, ledger) {
+        Ok(mut plan) => {
+            let pieces = pieces_by(alloc, &mut plan, ledger);
+            drop(plan);
+            pieces
+        }
         Err(AllocError) => Err(AllocError),
     }
 }

@@ -1,21 +1,29 @@
-use Rattle.std.proofs.Common.{◌∙◌, sym, ap, subst}
-use Rattle.gw_names.specs.Sights.{limits_in}
-use Rattle.gw_names.specs.Ledger.{with_notes}
-use Rattle.gw_pieces.specs.Making.{noted_of_names, NotesPieces}
-use Rattle.gw_pieces.proofs.Succeeding.{on_ok, on_both_ok}
-use Rattle.gw_pieces.proofs.Noted.{none_noted}
+use Rattle.std.proofs.Common.{◌≡◌, ◌∙◌, ◌≤◌, length, sym, ap, subst}
+use Rattle.gw_text.specs.declared.model.Model.{Model}
+use Rattle.gw_pieces.specs.Making.{AreMade, NotesPieces}
+use Rattle.gw_pieces.specs.Order.{order_in}
+use Rattle.gw_pieces.specs.Plans.{text_planned}
+use Rattle.gw_pieces.proofs.Succeeding.{on_ok, on_every_ok}
 use Rattle.gw_pieces.proofs.pieces.pieces_of.Goals as goal
 
 pub returns-in-Ok-clause-made : goal.returns-in-Ok-clause-made
 returns-in-Ok-clause-made c =
-    let same = ap limits_in c.as_slice.ensures.value in
-    on_both_ok c.pieces_known.result (λ pieces h r none.
+    let plan = c.in-Ok.ensures.plan in
+    let same : text_planned c.in-Ok.plan ≡ c.args.text.now.statements.items = ap (λ (m : Model). m.statements.items) plan.text_is in
+    on_every_ok c.pieces_by-pieces.result (λ pieces h none.
     let g = h none in
-    let l = none_noted c.args.ledger.now.least (limits_in c.as_slice.result.now) (sym c.in-Ok.ensures.ledger ∙ g.0) in
-    (l.0, record { made = g.1; named = record { limits = sym same ∙ l.1; refusals = (r none).1 } })) c.pieces_known.ensures.made c.pieces_known.ensures.named
+    let few = c.in-Ok.ensures.few g.0 in
+    let named = c.in-Ok.ensures.named g.0 in
+    let enough = subst (λ l. length l ≤ 256) (sym (plan.plan_is.names.ordered ∙ ap order_in same)) few.1 in
+    let made = subst (λ ss. AreMade ss pieces.entities.items pieces.procedures.items pieces.blocks.items) same (g.1 enough) in
+    (few.0, record { made = made; named = named.1 })) c.pieces_by-pieces.ensures.made
 
 pub returns-in-Ok-clause-notes : goal.returns-in-Ok-clause-notes
 returns-in-Ok-clause-notes c =
     let ss = c.args.text.now.statements.items in
-    let limits = c.in-Ok.ensures.ledger ∙ ap (λ xs. with_notes c.args.ledger.now.least (limits_in xs)) c.as_slice.ensures.value in
-    on_ok c.pieces_known.result (subst (λ least. NotesPieces ss (noted_of_names ss least) c.pieces_known.new.ledger.least) limits) c.pieces_known.ensures.notes
+    let plan = c.in-Ok.ensures.plan in
+    let same : text_planned c.in-Ok.plan ≡ ss = ap (λ (m : Model). m.statements.items) plan.text_is in
+    let after = c.pieces_by-pieces.new.ledger.least in
+    on_ok c.pieces_by-pieces.result (λ h.
+    let of_text = subst (λ xs. NotesPieces xs c.plan_of.new.ledger.least after) same h in
+    subst (λ least. NotesPieces ss least after) c.in-Ok.ensures.notes of_text) c.pieces_by-pieces.ensures.notes
