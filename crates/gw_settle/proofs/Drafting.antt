@@ -1,29 +1,33 @@
 -- What is sent to the rows of a draft.
-use Rattle.std.proofs.Common.{◌≡◌, ◌≢◌, ℕ, zero, suc, ◌+◌, ◌-◌, ◌<◌, ◌&&◌, List, [], ◌∷◌, length, get_or, set, slice_set, Option, Some, None, Bool, true, refl, sym, ap, ap₂, subst, ◌∙◌, arith}
-use Rattle.std.specs.Prelude.{IsSome, slice_get}
+use Rattle.std.proofs.Common.{◌≡◌, ◌≢◌, ℕ, zero, suc, ◌+◌, ◌-◌, ◌<◌, ◌&&◌, List, [], ◌∷◌, length, get_or, set, slice_set, Option, Some, None, Bool, true, false, refl, sym, ap, ap₂, subst, ◌∙◌, arith}
+use Rattle.std.specs.Prelude.{IsSome, slice_get, Result, is_err, not}
+use Rattle.std.specs.Option.{option_flatten}
 use Rattle.std.proofs.lemmas.Bool.{false≢true, and_parts}
 use Rattle.std.proofs.lemmas.Option.{slice_get_within}
 use Rattle.gw_blocks.specs.declared.parts.Block.{Block}
-use Rattle.gw_blocks.specs.declared.parts.Block.TheVariants as blocks
+use Rattle.gw_object.specs.declared.fault.Fault.{Fault}
 use Rattle.gw_object.specs.declared.parts.Parts.{Parts}
 use Rattle.gw_rules.specs.Kinds.{block_at, chain_place}
 use Rattle.gw_rules.specs.declared.edges.Target.TheVariants as targets
 use Rattle.gw_rules.specs.Blocks.{FlowEdge}
+use Rattle.gw_rules.specs.Checks.{Finds}
+use Rattle.gw_rules.specs.Flow.{rule_checks}
+use Rattle.gw_rules.specs.Blocks.{rules}
 use Rattle.gw_rules.specs.Rows.{Row}
 use Rattle.gw_settle.specs.declared.draft.Draft.{Draft}
-use Rattle.gw_settle.specs.declared.returns.Like.{Like}
-use Rattle.gw_settle.specs.declared.returns.Sent.{Sent}
+use Rattle.gw_settle.specs.declared.passing.Like.{Like}
+use Rattle.gw_settle.specs.declared.passing.Sent.{Sent}
 use Rattle.gw_settle.specs.declared.table.Change.{Change}
 use Rattle.gw_settle.specs.declared.table.Change.TheVariants.{Same, Less}
-use Rattle.gw_settle.specs.Drafts.{rows_held, table_in, members_at, Sends, HasBlocks, IsWhole, Steps, IsVisit, IsSending, AreSendings, IsSentAt, IsSentBehind, IsReturn, IsRowSent, MarksGoOn, NotesGoOn, AreShared, IsMarkedAt}
+use Rattle.gw_settle.specs.Drafts.{rows_held, table_in, members_at, Sends, HasBlocks, IsWhole, Steps, IsVisit, IsSending, AreSendings, IsSentAt, IsSentBehind, IsRowSent, MarksGoOn, NotesGoOn, AreShared, IsMarkedAt, AreNoted}
 use Rattle.gw_settle.specs.Jumps.{row_in}
-use Rattle.gw_settle.specs.Keeps.{MayEnter, HasShape, sets_return}
+use Rattle.gw_settle.specs.Keeps.{MayEnter, HasShape, IsIdleAt, sets_return}
 use Rattle.gw_settle.specs.Marks.{MarksFollow, UnlinksFollow}
 use Rattle.gw_settle.specs.Rounds.{TableRows, rows_of, as_table, with_blocks, sent_at, sent, all_sent, sent_to, sends, sends_in, visited, visited_to, change_of, changes_of, change_at, change_to, followed_by}
-use Rattle.gw_settle.specs.Versions.{without_version, sent_behind, change_behind}
-use Rattle.gw_settle.proofs.Marking.{follow_itself, follow_on, follow_change, follow_chain}
-use Rattle.gw_settle.proofs.Sent.{followed_by_assoc, same_after, sends_are, Sending, sending_more}
-use Rattle.gw_settle.proofs.Sharing.{length_sent, versions_sent, entered_within, return_visited, like_same, like_less, like_set, like_shared, like_changes, quiet_follows}
+use Rattle.gw_settle.specs.Versions.{IsOneVersion, IsReturnAt, rules_hold, SendsBehind, IsSharing, without_version, sent_behind, change_behind}
+use Rattle.gw_settle.proofs.Marking.{follow_itself, follow_on, follow_change, follow_chain, idle_changes_none, idle_unmarked}
+use Rattle.gw_settle.proofs.Sent.{rules_hold as rules_are_held, rules_broken, broken_found, none_found, followed_by_assoc, same_after, sends_are, Sending, sending_more}
+use Rattle.gw_settle.proofs.Sharing.{length_sent, versions_sent, entered_within, passed_visited, passed_none, idle_like, like_same, like_less, like_set, like_shared, like_changes, quiet_follows}
 
 -- NOTES
 
@@ -68,11 +72,11 @@ module _ (p : Parts) (edge : FlowEdge) (old new : Draft) (c : Change) where
       }
 
   pub block_noted : (b : ℕ) → MayEnter p (targets.Block b) → IsWhole p old → IsSentAt edge.state (b - 1) old new c → IsMarkedAt (b - 1) old new c →
-      new.versions.items ≡ without_version c (b - 1) old.versions.items → NotesGoOn p old new
-  block_noted b enters whole h marked without = record {
+      new.versions.items ≡ without_version c (b - 1) old.versions.items → new.newest ≡ old.newest → new.latest ≡ old.latest → NotesGoOn p old new
+  block_noted b enters whole h marked without newest latest = record {
     marks = at_marks p edge.state (b - 1) old new c (entered_within p b enters) (whole_blocks p old whole) h marked;
-    versions = versions_sent old.versions.items new.versions.items old.rows.blocks.items new.rows.blocks.items edge.state (b - 1) c
-        (omega (arith, entered_within p b enters, whole.versions.length, whole.shape.blocks)) h.is without (ap (λ (r : TableRows). r.blocks) h.rows) whole.versions;
+    versions = rw (newest, latest) (versions_sent old.newest old.latest old.versions.items new.versions.items old.rows.blocks.items new.rows.blocks.items edge.state (b - 1) c
+        (omega (arith, entered_within p b enters, whole.versions.length, whole.shape.blocks)) h.is without (ap (λ (r : TableRows). r.blocks) h.rows) whole.versions);
   }
 
   module _ (e : ℕ) (to : edge.target ≡ targets.Chain e) (blocks : new.rows.blocks.items ≡ old.rows.blocks.items) (chains : new.rows.chains.items ≡ sent_at edge.state (chain_place p.entities e) old.rows.chains.items)
@@ -83,10 +87,10 @@ module _ (p : Parts) (edge : FlowEdge) (old new : Draft) (c : Change) where
       is = is ∙ ap (λ x. change_of edge.state (table_in p old x)) (sym to);
     }
 
-    pub chain_noted : IsWhole p old → UnlinksFollow p.blocks old.marks.items new.marks.items c → new.versions.items ≡ old.versions.items → NotesGoOn p old new
-    chain_noted whole unlinks same = record {
+    pub chain_noted : IsWhole p old → UnlinksFollow p.blocks old.marks.items new.marks.items c → new.versions.items ≡ old.versions.items → new.newest ≡ old.newest → new.latest ≡ old.latest → NotesGoOn p old new
+    chain_noted whole unlinks same newest latest = record {
       marks = follow_chain p edge.state e old.marks.items new.marks.items (rows_held old.rows) (rows_held new.rows) c is unlinks (ap₂ rows_of blocks chains);
-      versions = rw (same, blocks) whole.versions;
+      versions = rw (newest, latest, same, blocks) whole.versions;
     }
 
 -- one edge more was sent
@@ -121,11 +125,49 @@ sent_is_visit p b es old new c are h = record {
   is = h.is ∙ ap (λ xs. changes_of p xs (rows_held old.rows)) are;
 }
 
-pub return_is_visit : (p : Parts) (b q : ℕ) (row : Row) (old new : Draft) (c : Change) → block_at p.blocks b ≡ Some (blocks.TransferByParameter q) → table_in p old (targets.Block b) ≡ Some row →
-    IsReturn p q row old new c → IsVisit p b old new c
-return_is_visit p b q row old new c is has h =
-    let both = return_visited p b q row old.rows.blocks.items old.rows.chains.items is has in
-    record { rows = h.rows ∙ sym both.0; is = h.is ∙ sym both.1 }
+-- the rules of a block hold where none is found broken
+pub hold_where_found : (p : Parts) (b : ℕ) (block : Block) (row : Row) (result : Result (Unit {0}) Fault) (is : Bool) → is_err result ≡ is → Finds result (rule_checks p b block row) → not is ≡ rules_hold p block row
+hold_where_found p b block row result true is found = let broken = broken_found result (rule_checks p b block row) is found in sym (rules_broken b (rules p block row) broken.0 broken.1)
+hold_where_found p b block row result false is found = sym (rules_are_held b (rules p block row) (none_found result (rule_checks p b block row) is found))
+
+-- the row of a block that has one
+pub row_there : (p : Parts) (draft : Draft) (b : ℕ) (row : Row) → table_in p draft (targets.Block b) ≡ Some row → row_in draft.rows.blocks.items (b - 1) ≡ Some row
+row_there p draft zero row is = absurd (cc)
+row_there p draft (suc k) row is = let place : suc k - 1 ≡ k = omega arith in rw place is
+
+row_within : (o : Option (Option Row)) (rows : List (Option Row)) (k : ℕ) (row : Row) → slice_get rows k ≡ o → option_flatten o ≡ Some row → k < length rows
+row_within None rows k row is has = absurd (cc)
+row_within (Some o) rows k row is has = slice_get_within rows k o is
+
+pub place_within : (p : Parts) (draft : Draft) (b : ℕ) (row : Row) → IsWhole p draft → table_in p draft (targets.Block b) ≡ Some row → b - 1 < length draft.versions.items
+place_within p draft b row whole is =
+    let rows = draft.rows.blocks.items in
+    omega (arith, whole.versions.length, row_within (slice_get rows (b - 1)) rows (b - 1) row refl (row_there p draft b row is))
+
+-- a visit of a block that sends its row as it is
+module _ (p : Parts) (b : ℕ) (block : Block) (row : Row) (bs : List ℕ) (old new : Draft) (c : Change) (is : block_at p.blocks b ≡ Some block) (has : table_in p old (targets.Block b) ≡ Some row) (behind : SendsBehind p b block row bs) where
+  pub passed_is_visit : rules_hold p block row ≡ true → IsSentBehind row bs old new c → IsVisit p b old new c
+  passed_is_visit holds h =
+      let both = passed_visited p b block row bs old.rows.blocks.items old.rows.chains.items is has behind holds in
+      record { rows = h.rows ∙ sym both.0; is = h.is ∙ sym both.1 }
+
+pub none_is_visit : (p : Parts) (b : ℕ) (block : Block) (row : Row) (bs : List ℕ) (old : Draft) → block_at p.blocks b ≡ Some block → table_in p old (targets.Block b) ≡ Some row → SendsBehind p b block row bs →
+    rules_hold p block row ≡ false → IsVisit p b old old Same
+none_is_visit p b block row bs old is has behind holds =
+    let both = passed_none p b block row bs old.rows.blocks.items old.rows.chains.items is has behind holds in
+    record { rows = sym both.0; is = sym both.1 }
+
+-- a visit of a block that would change nothing
+pub idle_is_visit : (p : Parts) (b : ℕ) (old new : Draft) → rows_held new.rows ≡ rows_held old.rows → IsIdleAt p (table_in p old) b → IsVisit p b old new Same
+idle_is_visit p b old new same idle =
+    let none = idle_changes_none p (sends p (table_in p old) b) (rows_held old.rows) idle in
+    record { rows = same ∙ sym none.0; is = sym none.1 }
+
+-- a block whose row was sent already by another one
+pub already_idle : (p : Parts) (draft : Draft) (k j q : ℕ) → AreNoted p draft → IsReturnAt p.blocks q k → IsReturnAt p.blocks q j → get_or draft.marks.items j false ≡ false → IsOneVersion draft.versions.items k j → IsIdleAt p (table_in p draft) (k + 1)
+already_idle p draft k j q noted here other unmarked one =
+    idle_like p draft.rows.blocks.items draft.rows.chains.items draft.newest draft.latest draft.versions.items k j q noted.versions here other one
+    (idle_unmarked p draft.marks.items (rows_held draft.rows) (suc j) noted.marks unmarked)
 
 pub visits_on : (p : Parts) (i : ℕ) (start now new : Draft) (c d : Change) → Steps (visited_to p i) (change_to p i) start now c → IsVisit p (i + 1) now new d →
     Steps (visited_to p (i + 1)) (change_to p (i + 1)) start new (followed_by c d)
@@ -172,30 +214,32 @@ module _ (p : Parts) (old : Draft) (sent : Sent) (like : Like) (k : ℕ) (lt : k
   within = omega (arith, lt, all.rows, shared.length)
 
   changes : like.change ≡ change_of sent.row.now (row_in old.rows.blocks.items k)
-  changes = sym (like_changes sent.parameter sent.row.now sent.version like old.versions.items old.rows.blocks.items k within is known shared)
+  changes = sym (like_changes sent.parameter sent.row.now sent.version old.newest like old.versions.items old.rows.blocks.items k within is known shared)
 
   pub like_stays : like.change ≡ Same → IsRowSent p sent k like old old Same
   like_stays same = record {
-    at = is_sent_at sent.row.now k old old Same (sym (like_same sent.parameter sent.row.now sent.version like old.versions.items old.rows.blocks.items k within is known shared same)) refl (sym same ∙ changes);
+    at = is_sent_at sent.row.now k old old Same (sym (like_same sent.parameter sent.row.now sent.version old.newest like old.versions.items old.rows.blocks.items k within is known shared same)) refl (sym same ∙ changes);
     marks = follow_itself p old.marks.items (table_in p old);
     versions = shared;
   }
 
-  module _ (new : Draft) (other : like.change ≢ Same) (rows : new.rows.blocks.items ≡ slice_set old.rows.blocks.items k (Some sent.row.now)) (chains : new.rows.chains.items ≡ old.rows.chains.items) (versions : new.versions.items ≡ set old.versions.items k sent.version) where
+  module _ (new : Draft) (other : like.change ≢ Same) (rows : new.rows.blocks.items ≡ slice_set old.rows.blocks.items k (Some sent.row.now)) (chains : new.rows.chains.items ≡ old.rows.chains.items) (versions : new.versions.items ≡ set old.versions.items k sent.version) (newest : new.newest ≡ old.newest) where
     there : IsSentAt sent.row.now k old new like.change
-    there = is_sent_at sent.row.now k old new like.change (rows ∙ like_set sent.parameter sent.row.now sent.version like old.versions.items old.rows.blocks.items k within is known shared other) chains changes
+    there = is_sent_at sent.row.now k old new like.change (rows ∙ like_set sent.parameter sent.row.now sent.version old.newest like old.versions.items old.rows.blocks.items k within is known shared other) chains changes
 
     shared_then : AreShared sent like new
-    shared_then = like_shared sent.parameter sent.row.now sent.version like old.versions.items old.rows.blocks.items k within is known shared new.versions.items new.rows.blocks.items other rows versions
+    shared_then =
+        subst (λ n. IsSharing sent.parameter sent.row.now sent.version n like new.versions.items new.rows.blocks.items) (sym newest)
+        (like_shared sent.parameter sent.row.now sent.version old.newest like old.versions.items old.rows.blocks.items k within is known shared new.versions.items new.rows.blocks.items other rows versions)
 
     pub like_marked : new.marks.items ≡ set old.marks.items k true → IsRowSent p sent k like old new like.change
     like_marked marks =
-        let less : like.change ≡ Less = like_less sent.parameter sent.row.now sent.version like old.versions.items old.rows.blocks.items k within is known shared other in
+        let less : like.change ≡ Less = like_less sent.parameter sent.row.now sent.version old.newest like old.versions.items old.rows.blocks.items k within is known shared other in
         let marked : IsMarkedAt k old new like.change = rw less marks in
         record { at = there; marks = at_marks p sent.row.now k old new like.change lt all there marked; versions = shared_then }
 
     pub like_quiet : new.marks.items ≡ old.marks.items → (like.alone && sets_return (slice_get p.blocks k) sent.parameter) ≡ true → IsRowSent p sent k like old new like.change
     like_quiet marks quiet =
         let both = and_parts like.alone (sets_return (slice_get p.blocks k) sent.parameter) quiet in
-        let same = quiet_follows sent.parameter sent.row.now sent.version like old.versions.items old.rows.blocks.items k within is known shared p old.marks.items new.rows.blocks.items other both.0 both.1 rows old.rows.chains.items in
+        let same = quiet_follows sent.parameter sent.row.now sent.version old.newest like old.versions.items old.rows.blocks.items k within is known shared p old.marks.items new.rows.blocks.items other both.0 both.1 rows old.rows.chains.items in
         record { at = there; marks = rw (marks, chains) same; versions = shared_then }

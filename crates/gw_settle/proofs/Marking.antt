@@ -304,7 +304,7 @@ module _ (p : Parts) where
           (λ (le : length p.blocks ≤ i). inr (none_sent p (as_table p rows) (suc i) (slice_get_past p.blocks i le)))
           (cases_lt i (length p.blocks))
 
-  idle_unmarked : (marks : List Bool) (rows : TableRows) (b : ℕ) → MarksSuffice p marks rows → is_marked marks b ≡ false → IsIdleAt p (as_table p rows) b
+  pub idle_unmarked : (marks : List Bool) (rows : TableRows) (b : ℕ) → MarksSuffice p marks rows → is_marked marks b ≡ false → IsIdleAt p (as_table p rows) b
   idle_unmarked marks rows b h is = ⊎_elim
       (λ (q : is_marked marks b ≡ true). absurd (false≢true (sym is ∙ q)))
       (λ (idle : IsIdleAt p (as_table p rows) b). idle)
@@ -313,6 +313,17 @@ module _ (p : Parts) where
   -- a block that isn't marked changes nothing
   pub unmarked_changes_none : (marks : List Bool) (rows : TableRows) (b : ℕ) → MarksSuffice p marks rows → is_marked marks b ≡ false → (visited p b rows ≡ rows) × (change_at p b rows ≡ Same)
   unmarked_changes_none marks rows b h is = idle_changes_none p (sends p (as_table p rows) b) rows (idle_unmarked marks rows b h is)
+
+  -- a block that would change nothing needs no mark
+  pub suffice_without : (marks : List Bool) (k : ℕ) (rows : TableRows) → MarksSuffice p marks rows → IsIdleAt p (as_table p rows) (suc k) → MarksSuffice p (set marks k false) rows
+  suffice_without marks k rows h idle = record { length = length-set marks k false ∙ h.length; each = at }
+    where
+      at : (b : ℕ) → (is_marked (set marks k false) b ≡ true) ⊎ IsIdleAt p (as_table p rows) b
+      at zero = inr (none_sent p (as_table p rows) zero refl)
+      at (suc j) = ⊎_elim
+          (λ (q : j ≡ k). inr (subst (λ n. IsIdleAt p (as_table p rows) (suc n)) (sym q) idle))
+          (λ (ne : j ≢ k). subst (λ m. (m ≡ true) ⊎ IsIdleAt p (as_table p rows) (suc j)) (sym (get_or-set_other marks k j false false ne)) (h.each (suc j)))
+          (cases_eq j k)
 
   module _ (marks after : List Bool) (k : ℕ) (rows : TableRows) (well : IsWell p) (sound : AreSound p rows) (h : MarksSuffice p marks rows) where
     abbrev before : Table

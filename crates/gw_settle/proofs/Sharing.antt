@@ -1,10 +1,9 @@
 -- Rows of one version, and what a block sends that sets the parameter in which its row has changed.
-use Rattle.std.proofs.Common.{◌≡◌, ◌≢◌, ⊎_elim, ℕ, zero, suc, ◌+◌, ◌-◌, ◌<◌, ◌≤◌, List, [], ◌∷◌, map, filter, length, get_or, set, slice_set, replicate, Option, Some, None, Bool, true, false, not, ◌==◌, nat_lt, if◌then◌else◌, refl, sym, ap, subst, ◌∙◌, arith}
-use Rattle.std.specs.Prelude.{All, IsSomeAnd, slice_get}
-use Rattle.std.specs.List.{list_all}
+use Rattle.std.proofs.Common.{◌≡◌, ◌≢◌, ◌⊎◌, inl, inr, ⊎_elim, ℕ, zero, suc, ◌+◌, ◌-◌, ◌<◌, ◌≤◌, List, [], ◌∷◌, map, filter, length, get_or, set, slice_set, replicate, Option, Some, None, Bool, true, false, not, ◌==◌, nat_lt, if◌then◌else◌, refl, sym, ap, subst, ◌∙◌, arith}
+use Rattle.std.specs.Prelude.{All, IsSomeAnd, slice_get, option_to_list}
 use Rattle.std.specs.Option.{option_flatten}
-use Rattle.std.proofs.lemmas.Bool.{cases_eq, cases_lt, false≢true, eqb-true, eq-eqb, ltb-true, ne_eqb}
-use Rattle.std.proofs.lemmas.List.{append-nil, get_or-set_same, get_or-set_other, get_or_past, length-set}
+use Rattle.std.proofs.lemmas.Bool.{cases_eq, false≢true, eqb-true, eq-eqb, ltb-true, ne_eqb}
+use Rattle.std.proofs.lemmas.List.{append-nil, get_or-set_same, get_or-set_other, length-set}
 use Rattle.std.proofs.lemmas.List.Elements.{All-nil, All-cons, All-head, All-tail}
 use Rattle.gw_blocks.specs.declared.parts.Block.{Block}
 use Rattle.gw_blocks.specs.declared.parts.Block.TheVariants as blocks
@@ -16,15 +15,17 @@ use Rattle.gw_rules.specs.declared.edges.Target.TheVariants as targets
 use Rattle.gw_rules.specs.Blocks.{FlowEdge}
 use Rattle.gw_rules.specs.Entries.{with_entry}
 use Rattle.gw_rules.specs.Rows.{Row, ParamKind, kind_of, return_blocks}
-use Rattle.gw_rules.specs.Blocks.{Table, Rule, rules, after, move, edges_along}
+use Rattle.gw_rules.specs.Blocks.{Table, after, move, edges_along}
 use Rattle.gw_settle.specs.declared.table.Change.{Change}
 use Rattle.gw_settle.specs.declared.table.Change.TheVariants.{Same, Less, More}
-use Rattle.gw_settle.specs.declared.returns.Like.{Like}
+use Rattle.gw_settle.specs.declared.passing.Behind.{Behind}
+use Rattle.gw_settle.specs.declared.passing.Latest.{Latest}
+use Rattle.gw_settle.specs.declared.passing.Like.{Like}
 use Rattle.gw_settle.specs.Joins.{is_within, with_state}
-use Rattle.gw_settle.specs.Keeps.{MayEnter, sets_return}
+use Rattle.gw_settle.specs.Keeps.{MayEnter, sets_return, IsIdle, IsIdleAt}
 use Rattle.gw_settle.specs.Marks.{MarksFollow}
 use Rattle.gw_settle.specs.Rounds.{rows_of, as_table, sent_at, all_sent, sends_in, sends, visited, change_of, followed_by, changes_of, change_at}
-use Rattle.gw_settle.specs.Versions.{IsUnused, AreOf, AreVersions, without_version, SaySameBut, Makes, IsSharing, moves_behind, sent_behind, change_behind, returned, change_returned}
+use Rattle.gw_settle.specs.Versions.{AreOf, AreAtMost, IsFound, AreVersions, HaveVersion, IsOneVersion, IsReturnAt, IsGiven, without_version, SaySameBut, Makes, IsSharing, moves_behind, sent_behind, change_behind, goes_on_to, blocks_behind, numbers_behind, rules_hold, SendsBehind}
 use Rattle.gw_settle.proofs.Rows.{length-changed, at_place, at_other, block_within}
 use Rattle.gw_settle.proofs.Falling.{same_rows}
 use Rattle.gw_settle.proofs.Sent.{set_is, sends_are}
@@ -139,59 +140,137 @@ length_without More k versions = length-set versions k 0
 pub length_sent : (state : Row) (k : ℕ) (rows : List (Option Row)) → length (sent_at state k rows) ≡ length rows
 length_sent state k rows = length-changed (λ row. Some (with_state state row)) k rows
 
+-- at most the newest also where one is set
+at_most : (versions : List ℕ) (k i v newest : ℕ) → v ≤ newest → get_or versions i 0 ≤ newest → get_or (set versions k v) i 0 ≤ newest
+at_most [] k i v newest le h = h
+at_most (x ∷ versions) zero zero v newest le h = le
+at_most (x ∷ versions) zero (suc i) v newest le h = h
+at_most (x ∷ versions) (suc k) zero v newest le h = h
+at_most (x ∷ versions) (suc k) (suc i) v newest le h = at_most versions k i v newest le h
+
+most_set : (newest v k : ℕ) (versions : List ℕ) → v ≤ newest → AreAtMost newest versions → AreAtMost newest (set versions k v)
+most_set newest v k versions le h = λ i. at_most versions k i v newest le (h i)
+
+most_without : (newest : ℕ) (c : Change) (k : ℕ) (versions : List ℕ) → AreAtMost newest versions → AreAtMost newest (without_version c k versions)
+most_without newest Same k versions h = h
+most_without newest Less k versions h = most_set newest 0 k versions (omega arith) h
+most_without newest More k versions h = most_set newest 0 k versions (omega arith) h
+
 -- a row to which a state was sent has no version, if it has changed
-pub versions_sent : (versions after : List ℕ) (rows next : List (Option Row)) (state : Row) (k : ℕ) (c : Change) → k < length versions → c ≡ change_of state (option_flatten (slice_get rows k)) → after ≡ without_version c k versions → next ≡ sent_at state k rows → AreVersions versions rows → AreVersions after next
-versions_sent versions after rows next state k c lt is without new h = record {
+pub versions_sent : (newest : ℕ) (latest : Latest) (versions after : List ℕ) (rows next : List (Option Row)) (state : Row) (k : ℕ) (c : Change) → k < length versions → c ≡ change_of state (option_flatten (slice_get rows k)) → after ≡ without_version c k versions → next ≡ sent_at state k rows →
+    AreVersions newest latest versions rows → AreVersions newest latest after next
+versions_sent newest latest versions after rows next state k c lt is without new h = record {
   length = ap length without ∙ length_without c k versions ∙ h.length ∙ sym (ap length new ∙ length_sent state k rows);
   row = h.row;
   are = rw (without, new) (are_sent h.row versions rows state k c lt is h.are);
+  most = rw without (most_without newest c k versions h.most);
+  found = h.found;
 }
 
-pub no_versions_are : (n : ℕ) (versions : List ℕ) (rows : List (Option Row)) → versions ≡ replicate n 0 → length versions ≡ length rows → AreVersions versions rows
-no_versions_are n versions rows is all = record {
+zero_at : (m i : ℕ) → ◌≡◌ {A = ℕ} (get_or (replicate m 0) i 0) 0
+zero_at zero i = refl
+zero_at (suc m) zero = refl
+zero_at (suc m) (suc i) = zero_at m i
+
+pub no_versions_are : (latest : Latest) (n : ℕ) (versions : List ℕ) (rows : List (Option Row)) → latest.like.version ≡ 0 → versions ≡ replicate n 0 → length versions ≡ length rows → AreVersions 0 latest versions rows
+no_versions_are latest n versions rows none is all = record {
   length = all;
   row = λ _. record { params = []; facilities = []; units = [] };
   are = λ i has. absurd (has (rw is (zero_at n i)));
+  most = λ i. let zeros : get_or versions i 0 ≡ 0 = rw is (zero_at n i) in omega (arith, zeros);
+  found = λ has. absurd (has none);
 }
-  where
-    zero_at : (m i : ℕ) → ◌≡◌ {A = ℕ} (get_or (replicate m 0) i 0) 0
-    zero_at zero i = refl
-    zero_at (suc m) zero = refl
-    zero_at (suc m) (suc i) = zero_at m i
 
--- the versions up to a place are at most the newest
-abbrev pub AtMost : ℕ → List ℕ → ℕ → Type 0
-AtMost newest versions i = (k : ℕ) → k < i → get_or versions k 0 ≤ newest
+-- a version that was given to the row at a place is one of rows that say what it says
+module _ (latest : Latest) (versions : List ℕ) (rows : List (Option Row)) (newest : ℕ) (h : AreVersions newest latest versions rows) (state : Row) where
+  there_says : (k : ℕ) → option_flatten (slice_get rows k) ≡ Some state → get_or versions k 0 ≢ 0 → h.row (get_or versions k 0) ≡ state
+  there_says k is has = let both : Some (h.row (get_or versions k 0)) ≡ Some state = sym (ap option_flatten (h.are k has)) ∙ is in cc
 
-pub at_most_more : (newest next : ℕ) (versions : List ℕ) (i : ℕ) → newest ≤ next → get_or versions i 0 ≤ next → AtMost newest versions i → AtMost next versions (i + 1)
-at_most_more newest next versions i le here h k lt = ⊎_elim
-    (λ (q : k ≡ i). subst (λ n. get_or versions n 0 ≤ next) (sym q) here)
-    (λ (ne : k ≢ i). let before = h k (omega (arith, lt, ne)) in omega (arith, before, le))
-    (cases_eq k i)
+  abbrev also : ℕ → Row
+  also n = if n == newest + 1 then state else h.row n
 
-pub next_is_unused : (newest : ℕ) (versions : List ℕ) (i : ℕ) → length versions ≤ i → AtMost newest versions i → IsUnused versions (newest + 1)
-next_is_unused newest versions i le h has k = ⊎_elim
-    (λ (lt : k < length versions). let most = h k (omega (arith, lt, le)) in omega (arith, most))
-    (λ (past : length versions ≤ k). let none = get_or_past versions k 0 past in omega (arith, none))
-    (cases_lt k (length versions))
+  also_old : (n : ℕ) → n ≤ newest → also n ≡ h.row n
+  also_old n le = rw (ne_eqb n (newest + 1) (λ e. omega (arith, e, le))) refl
+
+  found_also : IsFound newest h.row latest → IsFound (newest + 1) also latest
+  found_also f = record {
+    sent = omega (arith, f.sent);
+    like = omega (arith, f.like);
+    makes = rw (also_old latest.version f.sent, also_old latest.like.version f.like) f.makes;
+  }
+
+  next_given : HaveVersion (newest + 1) state (newest + 1) latest versions rows
+  next_given = record {
+    all = record {
+      length = h.length;
+      row = also;
+      are = λ i has. rw (also_old (get_or versions i 0) (h.most i)) (h.are i has);
+      most = λ i. let most = h.most i in omega (arith, most);
+      found = λ has. found_also (h.found has);
+    };
+    own = λ _. rw (eq-eqb (newest + 1) (newest + 1) refl) refl;
+    within = omega arith;
+  }
+
+  pub version_given : (k version next : ℕ) → option_flatten (slice_get rows k) ≡ Some state → IsGiven (get_or versions k 0) newest version next → HaveVersion version state next latest versions rows
+  version_given k version next is (inl own) = rw (own.0, own.1) (record { all = h; own = there_says k is; within = h.most k })
+  version_given k version next is (inr new) = rw (new.0, new.1) next_given
 
 -- SHARING
 
-module _ (q : ℕ) (state : Row) (version : ℕ) where
-  below_unused : (versions : List ℕ) (i : ℕ) → IsUnused versions version → get_or versions i 0 ≢ 0 → get_or versions i 0 ≢ version
-  below_unused versions i unused has is = let below = unused (λ (z : version ≡ 0). has (is ∙ z)) i in omega (arith, below, is)
-
-  pub sharing_start : (like : Like) (versions : List ℕ) (rows : List (Option Row)) → like.version ≡ 0 → IsUnused versions version → AreVersions versions rows → IsSharing q state version like versions rows
-  sharing_start like versions rows none unused h = record {
-    length = h.length;
-    row = λ n. if n == version then state else h.row n;
-    are = λ i has. rw (ne_eqb (get_or versions i 0) version (below_unused versions i unused has)) (h.are i has);
-    own = λ has. rw (eq-eqb version version refl) refl;
+module _ (q : ℕ) (state : Row) (version newest : ℕ) where
+  -- what was found out last is known of a row of the same version
+  pub sharing_known : (latest : Latest) (like : Like) (versions : List ℕ) (rows : List (Option Row)) → (like.version ≡ 0) ⊎ ((version ≢ 0) × (version ≡ latest.version) × (q ≡ latest.parameter) × (like ≡ latest.like)) →
+      HaveVersion version state newest latest versions rows → IsSharing q state version newest like versions rows
+  sharing_known latest like versions rows (inl none) h = record {
+    length = h.all.length;
+    row = h.all.row;
+    are = h.all.are;
+    own = h.own;
     makes = λ has. absurd (has none);
+    most = h.all.most;
+    within = h.within;
+    like_within = omega (arith, none);
+  }
+  sharing_known latest like versions rows (inr (has, same, by, is)) h =
+      let also : like.version ≡ latest.like.version = ap (λ (l : Like). l.version) is in
+      let found : like.version ≢ 0 → IsFound newest h.all.row latest = λ some. h.all.found (λ z. some (also ∙ z)) in
+      let says : h.all.row latest.version ≡ state = ap h.all.row (sym same) ∙ h.own has in
+      record {
+        length = h.all.length;
+        row = h.all.row;
+        are = h.all.are;
+        own = h.own;
+        makes = λ some. rw (by, is) (subst (λ s. Makes latest.parameter s latest.like (h.all.row latest.like.version)) says (found some).makes);
+        most = h.all.most;
+        within = h.within;
+        like_within = ⊎_elim
+            (λ (z : like.version ≡ 0). omega (arith, z))
+            (λ (some : like.version ≢ 0). let le = (found some).like in omega (arith, le, also))
+            (cases_eq like.version 0);
+      }
+
+  -- and what is known then was found out last
+  pub sharing_ends : (latest : Latest) (like : Like) (versions : List ℕ) (rows : List (Option Row)) → (latest.like.version ≡ 0) ⊎ ((version ≢ 0) × (latest.version ≡ version) × (latest.parameter ≡ q) × (latest.like ≡ like)) →
+      IsSharing q state version newest like versions rows → AreVersions newest latest versions rows
+  sharing_ends latest like versions rows (inl none) h = record { length = h.length; row = h.row; are = h.are; most = h.most; found = λ has. absurd (has none) }
+  sharing_ends latest like versions rows (inr (has, same, by, is)) h = record {
+    length = h.length;
+    row = h.row;
+    are = h.are;
+    most = h.most;
+    found = λ some.
+        let known : like.version ≢ 0 = λ z. some (ap (λ (l : Like). l.version) is ∙ z) in
+        record {
+          sent = rw same h.within;
+          like = rw is h.like_within;
+          makes = rw (by, same, is) (subst (λ s. Makes q s like (h.row like.version)) (sym (h.own has)) (h.makes known));
+        };
   }
 
-  pub sharing_ends : (like : Like) (versions : List ℕ) (rows : List (Option Row)) → IsSharing q state version like versions rows → AreVersions versions rows
-  sharing_ends like versions rows h = record { length = h.length; row = h.row; are = h.are }
+  most_if : (itself : Bool) (versions : List ℕ) (k : ℕ) → version ≤ newest → AreAtMost newest versions → AreAtMost newest (if itself then set versions k version else versions)
+  most_if true versions k le h = most_set newest version k versions le h
+  most_if false versions k le h = h
 
   shared_if : (row : ℕ → Row) (itself : Bool) (versions : List ℕ) (rows : List (Option Row)) (k : ℕ) → k < length versions → AreOf row versions rows → (version ≢ 0 → row version ≡ state) → (itself ≡ true → option_flatten (slice_get rows k) ≡ Some state) → AreOf row (if itself then set versions k version else versions) rows
   shared_if row true versions rows k lt are own same = are_set row versions rows rows k version lt are (λ i ne. refl) (λ has. full_in (slice_get rows k) state (same refl) ∙ ap (λ r. Some (Some r)) (sym (own has)))
@@ -207,7 +286,7 @@ module _ (q : ℕ) (state : Row) (version : ℕ) where
   -- a state was sent to a row of which it wasn't known what becomes of it
   pub sharing_first : (old like : Like) (versions given after : List ℕ) (rows next : List (Option Row)) (k : ℕ) (c : Change) (itself : Bool) → k < length versions →
       c ≡ change_of state (option_flatten (slice_get rows k)) → next ≡ sent_at state k rows → given ≡ without_version c k versions → after ≡ (if itself then set given k version else given) → (itself ≡ true → option_flatten (slice_get next k) ≡ Some state) →
-      (like.version ≢ 0 → (like.version ≡ get_or versions k 0) × IsSomeAnd (option_flatten (slice_get rows k)) (Makes q state like)) → IsSharing q state version old versions rows → IsSharing q state version like after next
+      (like.version ≢ 0 → (like.version ≡ get_or versions k 0) × IsSomeAnd (option_flatten (slice_get rows k)) (Makes q state like)) → IsSharing q state version newest old versions rows → IsSharing q state version newest like after next
   sharing_first old like versions given after rows next k c itself lt is new without shared same known h =
       let within : k < length given = omega (arith, lt, ap length without, length_without c k versions) in
       let are : AreOf h.row given next = rw (without, new) (are_sent h.row versions rows state k c lt is h.are) in
@@ -221,9 +300,15 @@ module _ (q : ℕ) (state : Row) (version : ℕ) where
             let was : get_or versions k 0 ≢ 0 = λ (z : get_or versions k 0 ≡ 0). has (it.0 ∙ z) in
             let there : option_flatten (slice_get rows k) ≡ Some (h.row (get_or versions k 0)) = ap option_flatten (h.are k was) in
             subst (λ n. Makes q state like (h.row n)) (sym it.0) (like_in like (option_flatten (slice_get rows k)) (h.row (get_or versions k 0)) there it.1);
+        most = rw shared (most_if itself given k h.within (rw without (most_without newest c k versions h.most)));
+        within = h.within;
+        like_within = ⊎_elim
+            (λ (z : like.version ≡ 0). omega (arith, z))
+            (λ (has : like.version ≢ 0). let le = h.most k in let at = (known has).0 in omega (arith, le, at))
+            (cases_eq like.version 0);
       }
 
-  module _ (like : Like) (versions : List ℕ) (rows : List (Option Row)) (k : ℕ) (lt : k < length versions) (is : get_or versions k 0 ≡ like.version) (known : like.version ≢ 0) (h : IsSharing q state version like versions rows) where
+  module _ (like : Like) (versions : List ℕ) (rows : List (Option Row)) (k : ℕ) (lt : k < length versions) (is : get_or versions k 0 ≡ like.version) (known : like.version ≢ 0) (h : IsSharing q state version newest like versions rows) where
     pub like_there : slice_get rows k ≡ Some (Some (h.row like.version))
     like_there = subst (λ n. slice_get rows k ≡ Some (Some (h.row n))) is (h.are k (λ (z : get_or versions k 0 ≡ 0). known (sym is ∙ z)))
 
@@ -244,7 +329,7 @@ module _ (q : ℕ) (state : Row) (version : ℕ) where
     pub like_set : like.change ≢ Same → slice_set rows k (Some state) ≡ sent_at state k rows
     like_set ne = ap (λ r. slice_set rows k (Some r)) (sym ((h.makes known).itself (like_less ne))) ∙ set_is state k rows (Some (h.row like.version)) like_there
 
-    pub like_shared : (after : List ℕ) (next : List (Option Row)) → like.change ≢ Same → next ≡ slice_set rows k (Some state) → after ≡ set versions k version → IsSharing q state version like after next
+    pub like_shared : (after : List ℕ) (next : List (Option Row)) → like.change ≢ Same → next ≡ slice_set rows k (Some state) → after ≡ set versions k version → IsSharing q state version newest like after next
     like_shared after next ne new shared =
         let sent_there : next ≡ sent_at state k rows = new ∙ like_set ne in
         let itself : option_flatten (slice_get (sent_at state k rows) k) ≡ Some state = at_place state k rows (omega (arith, lt, h.length)) ∙ ap (λ o. Some (with_state state (option_flatten o))) like_there ∙ ap Some ((h.makes known).itself (like_less ne)) in
@@ -254,6 +339,9 @@ module _ (q : ℕ) (state : Row) (version : ℕ) where
           are = rw (shared, sent_there) (are_set h.row versions rows (sent_at state k rows) k version lt h.are (λ i other. at_other state k i rows other) (λ has. full_in (slice_get (sent_at state k rows) k) state itself ∙ ap (λ r. Some (Some r)) (sym (h.own has))));
           own = h.own;
           makes = h.makes;
+          most = rw shared (most_set newest version k versions h.within h.most);
+          within = h.within;
+          like_within = h.like_within;
         }
 
     -- and a block that sets the parameter in which alone its row has changed sends what it sent
@@ -291,24 +379,58 @@ behind_sent p state (b ∷ bs) rows chains = rw (next_number b) (
   ap (followed_by (change_of state (option_flatten (slice_get rows b)))) (behind_sent p state bs (sent_at state b rows) chains).1,
 )
 
--- what a TRANSFER in parameter mode sends in its row
-return_is : (p : Parts) (table : Table) (b q : ℕ) (row : Row) → sends_in p table b (Some (blocks.TransferByParameter q)) (Some row) ≡ (if list_all (λ (rule : Rule). rule.holds) (rules p (blocks.TransferByParameter q) row) then moves_behind row (return_blocks (kind_of row q)) else [])
-return_is p table b q row =
-    ap (λ (es : List FlowEdge). if list_all (λ (rule : Rule). rule.holds) (rules p (blocks.TransferByParameter q) row) then es else [])
+-- a TRANSFER in parameter mode sends its row as it is behind those to which the parameter may return
+pub return_is : (p : Parts) (b q : ℕ) (row : Row) → SendsBehind p b (blocks.TransferByParameter q) row (return_blocks (kind_of row q))
+return_is p b q row table =
+    ap (λ (es : List FlowEdge). if rules_hold p (blocks.TransferByParameter q) row then es else [])
     (append-nil (edges_along b (map returns_to (return_blocks (kind_of row q))) row) ∙ along_returns b row (return_blocks (kind_of row q)))
 
-sent_if : (holds : Bool) (p : Parts) (row : Row) (bs : List ℕ) (rows chains : List (Option Row)) →
-    (all_sent p (if holds then moves_behind row bs else []) (rows_of rows chains) ≡ rows_of (if holds then sent_behind row bs rows else rows) chains) × (changes_of p (if holds then moves_behind row bs else []) (rows_of rows chains) ≡ (if holds then change_behind row bs rows else Same))
-sent_if true p row bs rows chains = behind_sent p row bs rows chains
-sent_if false p row bs rows chains = (refl, refl)
+-- what a block sends that goes on with its row to some blocks
+abbrev pub moves_to : Row → List ℕ → List FlowEdge
+moves_to row ns = map (λ n. move n row) ns
 
-pub return_visited : (p : Parts) (b q : ℕ) (row : Row) (rows chains : List (Option Row)) → block_at p.blocks b ≡ Some (blocks.TransferByParameter q) → as_table p (rows_of rows chains) (targets.Block b) ≡ Some row →
-    (visited p b (rows_of rows chains) ≡ rows_of (returned p q row rows) chains) × (change_at p b (rows_of rows chains) ≡ change_returned p q row rows)
-return_visited p b q row rows chains is has =
-    let table = as_table p (rows_of rows chains) in
-    let sent_then = sym (sends_are p table b (blocks.TransferByParameter q) row is has) ∙ return_is p table b q row in
-    let both = sent_if (list_all (λ (rule : Rule). rule.holds) (rules p (blocks.TransferByParameter q) row)) p row (return_blocks (kind_of row q)) rows chains in
-    (ap (λ es. all_sent p es (rows_of rows chains)) sent_then ∙ both.0, ap (λ es. changes_of p es (rows_of rows chains)) sent_then ∙ both.1)
+moves_are : (row : Row) (bs : List ℕ) → moves_to row (map (λ b. b + 1) bs) ≡ moves_behind row bs
+moves_are row [] = refl
+moves_are row (b ∷ bs) = ap (λ es. move (b + 1) row ∷ es) (moves_are row bs)
+
+goes_to : (p : Parts) (b : ℕ) (block : Block) (row : Row) (n : ℕ) (ns : List ℕ) → goes_on_to b block ≡ n ∷ ns → (table : Table) →
+    sends_in p table b (Some block) (Some row) ≡ (if rules_hold p block row then moves_to row (goes_on_to b block) else [])
+goes_to p b (blocks.Advance time) row n ns is table = refl
+goes_to p b (blocks.Savevalue save) row n ns is table = refl
+goes_to p b (blocks.Tabulate entity) row n ns is table = refl
+goes_to p b (blocks.Logic logic) row n ns is table = refl
+goes_to p b (blocks.Priority priority) row n ns is table = refl
+goes_to p b blocks.Buffer row n ns is table = refl
+goes_to p b (blocks.Transfer target) row n ns is table = refl
+goes_to p b (blocks.TransferByFraction f) row n ns is table = refl
+goes_to p b block row n ns is table = absurd (cc)
+
+-- and one that is known to go on behind these sends its row as it is behind them
+pub goes_behind : (p : Parts) (b : ℕ) (block : Block) (row : Row) (behind : Behind) → numbers_behind behind ≡ goes_on_to b block → SendsBehind p b block row (blocks_behind behind)
+goes_behind p b block row behind is table =
+    goes_to p b block row (behind.first + 1) (map (λ b. b + 1) (option_to_list behind.second)) (sym is) table
+    ∙ ap (λ ns. if rules_hold p block row then moves_to row ns else []) (sym is)
+    ∙ ap (λ (es : List FlowEdge). if rules_hold p block row then es else []) (moves_are row (blocks_behind behind))
+
+-- what a block sends that sends its row as it is
+module _ (p : Parts) (b : ℕ) (block : Block) (row : Row) (bs : List ℕ) (rows chains : List (Option Row)) (is : block_at p.blocks b ≡ Some block) (has : as_table p (rows_of rows chains) (targets.Block b) ≡ Some row) (behind : SendsBehind p b block row bs) where
+  abbrev held : Table
+  held = as_table p (rows_of rows chains)
+
+  sent_if : (holds : Bool) → rules_hold p block row ≡ holds → sends p held b ≡ (if holds then moves_behind row bs else [])
+  sent_if holds h = sym (sends_are p held b block row is has) ∙ behind held ∙ ap (λ x. if x then moves_behind row bs else []) h
+
+  pub passed_visited : rules_hold p block row ≡ true →
+      (visited p b (rows_of rows chains) ≡ rows_of (sent_behind row bs rows) chains) × (change_at p b (rows_of rows chains) ≡ change_behind row bs rows)
+  passed_visited holds =
+      let sent_then = sent_if true holds in
+      let both = behind_sent p row bs rows chains in
+      (ap (λ es. all_sent p es (rows_of rows chains)) sent_then ∙ both.0, ap (λ es. changes_of p es (rows_of rows chains)) sent_then ∙ both.1)
+
+  pub passed_none : rules_hold p block row ≡ false → (visited p b (rows_of rows chains) ≡ rows_of rows chains) × (change_at p b (rows_of rows chains) ≡ Same)
+  passed_none holds =
+      let sent_then = sent_if false holds in
+      (ap (λ es. all_sent p es (rows_of rows chains)) sent_then, ap (λ es. changes_of p es (rows_of rows chains)) sent_then)
 
 -- a block that may be entered has a place
 pub entered_within : (p : Parts) (b : ℕ) → MayEnter p (targets.Block b) → b - 1 < length p.blocks
@@ -322,9 +444,26 @@ behind_within p row (b ∷ bs) h =
     let enters : MayEnter p (targets.Block (suc b)) = subst (λ n. MayEnter p (targets.Block n)) (next_number b) (All-head (λ (e : FlowEdge). MayEnter p e.target) (move (b + 1) row) (moves_behind row bs) h) in
     All-cons (λ n. n < length p.blocks) b bs (block_within p b enters) (behind_within p row bs (All-tail (λ (e : FlowEdge). MayEnter p e.target) (move (b + 1) row) (moves_behind row bs) h))
 
-pub returns_within : (p : Parts) (b q : ℕ) (row : Row) (rows chains : List (Option Row)) → block_at p.blocks b ≡ Some (blocks.TransferByParameter q) → as_table p (rows_of rows chains) (targets.Block b) ≡ Some row →
-    All (λ (e : FlowEdge). MayEnter p e.target) (sends p (as_table p (rows_of rows chains)) b) → list_all (λ (rule : Rule). rule.holds) (rules p (blocks.TransferByParameter q) row) ≡ true → All (λ c. c < length p.blocks) (return_blocks (kind_of row q))
-returns_within p b q row rows chains is has enters holds =
-    let table = as_table p (rows_of rows chains) in
-    let sent_then : sends p table b ≡ moves_behind row (return_blocks (kind_of row q)) = sym (sends_are p table b (blocks.TransferByParameter q) row is has) ∙ return_is p table b q row ∙ rw holds refl in
-    behind_within p row (return_blocks (kind_of row q)) (subst (All (λ (e : FlowEdge). MayEnter p e.target)) sent_then enters)
+pub passed_within : (p : Parts) (b : ℕ) (block : Block) (row : Row) (bs : List ℕ) (rows chains : List (Option Row)) → block_at p.blocks b ≡ Some block → as_table p (rows_of rows chains) (targets.Block b) ≡ Some row → SendsBehind p b block row bs →
+    All (λ (e : FlowEdge). MayEnter p e.target) (sends p (as_table p (rows_of rows chains)) b) → rules_hold p block row ≡ true → All (λ c. c < length p.blocks) bs
+passed_within p b block row bs rows chains is has behind enters holds =
+    behind_within p row bs (subst (All (λ (e : FlowEdge). MayEnter p e.target)) (sent_if p b block row bs rows chains is has behind true holds) enters)
+
+-- A ROW THAT WAS SENT ALREADY
+
+module _ (p : Parts) (rows chains : List (Option Row)) where
+  abbrev table : Table
+  table = as_table p (rows_of rows chains)
+
+  return_sent : (k q : ℕ) (row : Row) → slice_get p.blocks k ≡ Some (blocks.TransferByParameter q) → slice_get rows k ≡ Some (Some row) →
+      sends p table (suc k) ≡ (if rules_hold p (blocks.TransferByParameter q) row then moves_behind row (return_blocks (kind_of row q)) else [])
+  return_sent k q row is has = sym (sends_are p table (suc k) (blocks.TransferByParameter q) row is (ap option_flatten has)) ∙ return_is p (suc k) q row table
+
+  -- of two TRANSFERs by one parameter in rows of one version both are idle, if one is
+  pub idle_like : (newest : ℕ) (latest : Latest) (versions : List ℕ) (k j q : ℕ) → AreVersions newest latest versions rows → IsReturnAt p.blocks q k → IsReturnAt p.blocks q j → IsOneVersion versions k j → IsIdleAt p table (suc j) → IsIdleAt p table (k + 1)
+  idle_like newest latest versions k j q h is other one idle =
+      let row = h.row (get_or versions k 0) in
+      let here : slice_get rows k ≡ Some (Some row) = h.are k one.0 in
+      let there : slice_get rows j ≡ Some (Some row) = h.are j (λ z. one.0 (one.1 ∙ z)) ∙ ap (λ v. Some (Some (h.row v))) (sym one.1) in
+      let next : suc k ≡ k + 1 = omega arith in
+      subst (IsIdleAt p table) next (subst (All (IsIdle table)) (return_sent j q row other there ∙ sym (return_sent k q row is here)) idle)

@@ -1,33 +1,36 @@
 -- A state table in the making, as the code has it.
-use Rattle.std.specs.Prelude.{◌≡◌, ℕ, ◌<◌, List, ◌++◌, length, All, Option, Some, IsSomeAnd, true}
-use Rattle.std.specs.List.{list_all}
+use Rattle.std.specs.Prelude.{◌≡◌, ◌≢◌, ◌⊎◌, ℕ, List, ◌++◌, length, Option, Some, IsSomeAnd}
 use Rattle.gw_blocks.specs.declared.parts.Block.{Block}
-use Rattle.gw_blocks.specs.declared.parts.Block.TheVariants as blocks
 use Rattle.gw_object.specs.declared.parts.Parts.{Parts}
 use Rattle.gw_flow.specs.declared.abstract_state.Amount.{Amount}
 use Rattle.gw_rules.specs.Blocks.{FlowEdge}
-use Rattle.gw_rules.specs.Blocks.{Table, Rule, rules}
-use Rattle.gw_rules.specs.Rows.{Row, units_of, kind_of, return_blocks}
+use Rattle.gw_rules.specs.Blocks.{Table}
+use Rattle.gw_rules.specs.Rows.{Row, units_of}
 use Rattle.gw_flow.specs.Known.{amounts_of}
 use Rattle.gw_settle.specs.declared.draft.Draft.{Draft}
 use Rattle.gw_settle.specs.declared.draft.TableRows.{TableRows as Held}
 use Rattle.gw_settle.specs.declared.table.Change.{Change}
-use Rattle.gw_settle.specs.declared.returns.Like.{Like}
-use Rattle.gw_settle.specs.declared.returns.Sent.{Sent}
+use Rattle.gw_settle.specs.declared.passing.Latest.{Latest}
+use Rattle.gw_settle.specs.declared.passing.Like.{Like}
+use Rattle.gw_settle.specs.declared.passing.Sent.{Sent}
 use Rattle.gw_settle.specs.Rounds.{TableRows, rows_of, with_blocks, as_table, sent_at, sent, all_sent, members_in, members_from, sends_in, visited, round, change_of, changes_of, change_at, change_in, AreReached}
 use Rattle.gw_settle.specs.Keeps.{IsWell, HasShape, AreSound}
 use Rattle.gw_settle.specs.Marks.{with_mark, MarksSuffice, MarksFollow}
-use Rattle.gw_settle.specs.Versions.{AreVersions, IsSharing, Makes, sent_behind, change_behind, returned, change_returned}
+use Rattle.gw_settle.specs.Versions.{AreVersions, HaveVersion, IsSharing, Makes, sent_behind, change_behind}
 use Rattle.gw_settle.specs.Jumps.{row_in, units_after, rows_after, FallsAlike, MayJump, HasJumped, Advances}
 
 -- the rows that are held
 abbrev pub rows_held : Held → TableRows
 rows_held held = rows_of held.blocks.items held.chains.items
 
+-- rows of one version say the same
+abbrev pub HasVersions : Draft → Type 0
+HasVersions draft = AreVersions draft.newest draft.latest draft.versions.items draft.rows.blocks.items
+
 -- what is noted of a draft: each block is marked, or sends nothing that changes its rows; and rows of one version say the same
 pub record AreNoted (p : Parts) (draft : Draft) : Type 0 where
   pub marks : MarksSuffice p draft.marks.items (rows_held draft.rows)
-  pub versions : AreVersions draft.versions.items draft.rows.blocks.items
+  pub versions : HasVersions draft
 
 -- the table of a draft
 abbrev pub table_in : Parts → Draft → Table
@@ -42,7 +45,7 @@ pub record HasBlocks (p : Parts) (draft : Draft) : Type 0 where
 pub record IsWhole (p : Parts) (draft : Draft) : Type 0 where
   pub shape : HasShape p (rows_held draft.rows)
   pub marks : length draft.marks.items ≡ length p.blocks
-  pub versions : AreVersions draft.versions.items draft.rows.blocks.items
+  pub versions : HasVersions draft
 
 -- a draft whose blocks may be visited
 pub record MayVisit (p : Parts) (draft : Draft) : Type 0 where
@@ -81,10 +84,6 @@ IsSentAt state k = Steps (with_blocks (sent_at state k)) (λ rows. change_of sta
 abbrev pub IsSentBehind : Row → List ℕ → Draft → Draft → Change → Type 0
 IsSentBehind state bs = Steps (with_blocks (sent_behind state bs)) (λ rows. change_behind state bs rows.blocks)
 
--- a step that visits a TRANSFER in parameter mode, by this parameter, in a row
-abbrev pub IsReturn : Parts → ℕ → Row → Draft → Draft → Change → Type 0
-IsReturn p q row = Steps (with_blocks (returned p q row)) (λ rows. change_returned p q row rows.blocks)
-
 -- the marks of a draft follow where it becomes another one
 abbrev pub MarksGoOn : Parts → Draft → Draft → Type 0
 MarksGoOn p old new = MarksFollow p old.marks.items new.marks.items (table_in p old) (table_in p new)
@@ -92,7 +91,7 @@ MarksGoOn p old new = MarksFollow p old.marks.items new.marks.items (table_in p 
 -- the marks of a draft follow, and rows of one version still say the same
 pub record NotesGoOn (p : Parts) (old new : Draft) : Type 0 where
   pub marks : MarksGoOn p old new
-  pub versions : AreVersions new.versions.items new.rows.blocks.items
+  pub versions : HasVersions new
 
 -- WHAT IS SENT
 
@@ -108,13 +107,21 @@ with_members edges block members = edges ++ members_from block members
 abbrev pub Sends : Parts → ℕ → Block → Row → Option Row → List FlowEdge → Type 0
 Sends p b block state members edges = (table : Table) → members ≡ members_in table block → edges ≡ sends_in p table b (Some block) (Some state)
 
--- where the rules of a TRANSFER by this parameter hold in a row, the blocks behind which it goes on are there
-abbrev pub CallersAreThere : Parts → ℕ → Row → Type 0
-CallersAreThere p q row = list_all (λ (rule : Rule). rule.holds) (rules p (blocks.TransferByParameter q) row) ≡ true → All (λ c. c < length p.blocks) (return_blocks (kind_of row q))
+-- rows of the version of a row that is sent say what it says
+abbrev pub IsOfVersion : Sent → Draft → Type 0
+IsOfVersion sent draft = HaveVersion sent.version sent.row.now draft.newest draft.latest draft.versions.items draft.rows.blocks.items
+
+-- what a row that is sent makes of the rows of one version isn't known, or was found out last
+abbrev pub IsLikeKnown : Sent → Latest → Like → Type 0
+IsLikeKnown sent latest like = (like.version ≡ 0) ⊎ ((sent.version ≢ 0) × (sent.version ≡ latest.version) × (sent.parameter ≡ latest.parameter) × (like ≡ latest.like))
+
+-- nothing was found out, or it is what a row that was sent makes of the rows of one version
+abbrev pub IsLatestOf : Sent → Like → Latest → Type 0
+IsLatestOf sent like latest = (latest.like.version ≡ 0) ⊎ ((sent.version ≢ 0) × (latest.version ≡ sent.version) × (latest.parameter ≡ sent.parameter) × (latest.like ≡ like))
 
 -- while a row is sent, the rows of one version say the same, and it is known what it makes of them
 abbrev pub AreShared : Sent → Like → Draft → Type 0
-AreShared sent like draft = IsSharing sent.parameter sent.row.now sent.version like draft.versions.items draft.rows.blocks.items
+AreShared sent like draft = IsSharing sent.parameter sent.row.now sent.version draft.newest like draft.versions.items draft.rows.blocks.items
 
 -- a row that is sent came to the block at a place, from 0; and what is known then of the rows of one version
 pub record IsRowSent (p : Parts) (sent : Sent) (k : ℕ) (like : Like) (old new : Draft) (change : Change) : Type 0 where

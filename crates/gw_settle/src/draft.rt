@@ -4,6 +4,7 @@ ghost use Rattle.std.specs.Prelude.{◌≡◌, IfOk, length, replicate, true};
 ghost use Rattle.gw_settle.specs.Drafts.{rows_held, AreNoted};
 
 use crate::known::Known;
+use crate::passing::{Latest, NO_LATEST};
 use gw_object::{Memory, Parts};
 use std::alloc::Global;
 
@@ -25,6 +26,12 @@ pub(crate) struct Draft {
     pub marks: Vec<bool>,
     /// The versions of the blocks' rows, in order.
     pub versions: Vec<u64>,
+    /// The newest version that was given.
+    pub newest: u64,
+    /// What was found out last of two versions.
+    pub latest: Latest,
+    /// The place, from 0, of the TRANSFER in parameter mode that was visited last.
+    pub returned: usize,
 }
 
 /// So many marks, each set.
@@ -62,6 +69,9 @@ pub(crate) fn draft_of(alloc: Global, parts: &Parts, rows: TableRows) -> Result<
         rows,
         marks,
         versions,
+        newest: 0,
+        latest: NO_LATEST,
+        returned: 0,
     })
 }
 

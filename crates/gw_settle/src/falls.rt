@@ -8,7 +8,7 @@ ghost use Rattle.gw_settle.specs.Jumps.{AreDecided, PlaceFallsOn};
 
 use crate::draft::TableRows;
 use crate::known::{Known, number_after};
-use crate::returns::are_same_params;
+use crate::passing::are_same_params;
 use gw_blocks::{Block, Units};
 use gw_flow::Amount;
 use gw_object::Parts;

@@ -10,7 +10,7 @@ use crate::draft::{Draft, TableRows, draft_of, rows_shared};
 use crate::falls::may_jump;
 use crate::known::Known;
 use crate::pace::Pace;
-use crate::returns::are_same_params;
+use crate::passing::are_same_params;
 use crate::table::{Change, next_round};
 use gw_flow::Amount;
 use gw_object::{Memory, Parts};

@@ -8,7 +8,7 @@ mod known;
 pub mod laws;
 mod leaps;
 mod pace;
-mod returns;
+mod passing;
 mod rounds;
 mod sets;
 mod settling;

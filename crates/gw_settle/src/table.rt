@@ -15,7 +15,7 @@ ghost use Rattle.gw_settle.specs.Rounds.{sent_at, change_of};
 
 use crate::draft::Draft;
 use crate::known::Known;
-use crate::returns::visit_return;
+use crate::passing::{behind_of, is_sent_already, visit_behind, visit_return};
 use gw_blocks::Block;
 use gw_flow::{State, check_rules, own_edges_of};
 use gw_object::{Memory, Parts};
@@ -291,6 +291,10 @@ fn visit_in(
         let change = visit_return(alloc, parts, number, *parameter, row, draft)?;
         return Ok(change);
     }
+    if let Some(behind) = behind_of(number, block) {
+        let change = visit_behind(alloc, parts, number, block, row, behind, draft)?;
+        return Ok(change);
+    }
     let state = row.lent(alloc)?;
     let edges = edges_sent(alloc, parts, number, block, &state, members)?;
     let change = send_all(alloc, parts, &edges, draft)?;
@@ -331,7 +335,11 @@ fn visit_marked(
     if !draft.marks[place] {
         return Ok(Change::Same);
     }
+    let is_sent = is_sent_already(parts, place, draft);
     draft.marks[place] = false;
+    if is_sent {
+        return Ok(Change::Same);
+    }
     let change = visit(alloc, parts, number, draft)?;
     Ok(change)
 }

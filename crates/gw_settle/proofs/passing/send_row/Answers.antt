@@ -1,5 +1,5 @@
 use Rattle.gw_settle.proofs.Drafting.{at_marks}
-use Rattle.gw_settle.proofs.returns.send_row.Goals as goal
+use Rattle.gw_settle.proofs.passing.send_row.Goals as goal
 
 pub returns : goal.returns
 returns c = record {

@@ -6,7 +6,7 @@ use Rattle.gw_settle.specs.Rounds.{sent_at, change_of}
 use Rattle.gw_settle.specs.Versions.{without_version, Sets}
 use Rattle.gw_settle.proofs.Sharing.{read_or, itself_is, sharing_first}
 use Rattle.gw_settle.proofs.Drafting.{is_sent_at}
-use Rattle.gw_settle.proofs.returns.send_first.Goals as goal
+use Rattle.gw_settle.proofs.passing.send_first.Goals as goal
 
 pub like_of-requires-clause-itself : goal.like_of-requires-clause-itself
 like_of-requires-clause-itself c = λ is.
@@ -34,7 +34,7 @@ returns-clause-versions c =
     let version : c.like_of.result.version ≢ 0 → c.like_of.result.version ≡ get_or versions a.place 0 = λ has. c.like_of.ensures.version has ∙ read ∙ read_or versions a.place c.index-version.result.now 0 within in
     let makes : c.like_of.result.version ≢ 0 → MakesOf a.sent (row_in rows a.place) c.like_of.result = search rules in
     let same : itself ≡ true → row_in c.send_at.new.rows.items a.place ≡ Some state = search rules in
-    sharing_first a.sent.parameter state a.sent.version a.like.now c.like_of.result versions c.note.new.versions.items c.share_version-itself.new.versions.items rows c.send_at.new.rows.items a.place c.in_ok-change.change itself
+    sharing_first a.sent.parameter state a.sent.version a.draft.now.newest a.like.now c.like_of.result versions c.note.new.versions.items c.share_version-itself.new.versions.items rows c.send_at.new.rows.items a.place c.in_ok-change.change itself
     within change new without shared same (λ has. (version has, makes has)) c.requires.versions
 
 pub returns-clause-sent : goal.returns-clause-sent

@@ -1,7 +1,7 @@
 use Rattle.std.proofs.Common.{drop}
 use Rattle.gw_settle.specs.Drafts.{AreShared}
 use Rattle.gw_settle.proofs.Drafting.{Behind}
-use Rattle.gw_settle.proofs.returns.send_behind.Given as goal
+use Rattle.gw_settle.proofs.passing.send_each.Given as goal
 
 abbrev pub invariant-loop-caller : goal.invariant-loop-caller
 invariant-loop-caller l = record {

@@ -1,17 +1,16 @@
-use Rattle.std.proofs.Common.{rules, ◌≡◌, ◌+◌, drop, get_or, refl, subst}
+use Rattle.std.proofs.Common.{rules, ◌≡◌, ◌+◌, drop, get_or, subst}
 use Rattle.gw_settle.specs.Drafts.{IsRowSent}
 use Rattle.gw_settle.specs.Rounds.{followed_by}
 use Rattle.gw_settle.proofs.Uniting.{drop_at}
-use Rattle.gw_settle.proofs.Sharing.{sharing_start}
 use Rattle.gw_settle.proofs.Drafting.{Behind, behind_start, behind_more}
-use Rattle.gw_settle.proofs.returns.send_behind.Goals as goal
+use Rattle.gw_settle.proofs.passing.send_each.Goals as goal
 
 pub loop-caller-init : goal.loop-caller-init
 loop-caller-init c =
     let a = c.args in
     record {
       sent = behind_start a.parts.now a.sent.row.now a.callers.now a.draft.now c.requires.blocks;
-      shared = sharing_start a.sent.parameter a.sent.row.now a.sent.version _ a.draft.now.versions.items a.draft.now.rows.blocks.items refl c.requires.unused c.requires.versions;
+      shared = c.requires.versions;
     }
 
 pub loop-caller-preserved : goal.loop-caller-preserved
