@@ -139,7 +139,7 @@ module _ (p : Parts) (w : Written) (well : IsWell p) (t : IsTableOf p w) where
       let other = other_passes o h in
       flow_same_to p w.returns w.states w.chain_states (own_table q) (settled_passes p (as_table p (own_rows q)) (own_table o) none kept.good settled.each other.1 other.0)
 
-  fault_or : (fault : Fault) → (first_broken (flow_checks q (own_table q)) ≡ Some fault) ⊎ (fault ≡ out_of_memory) → FlowPasses q (own_table q) → IsNoFlowFault fault
+  fault_or : (fault : Fault) → (first_broken (flow_checks q (own_table q)) ≡ Some fault) ⊎ (fault ≡ out_of_memory) → FlowPasses q (own_table q) → IsNoFlowFault p fault
   fault_or fault (inl h) pass = absurd (let none : Some fault ≡ None = sym h ∙ pass in cc)
   fault_or fault (inr h) pass = inl h
 
@@ -156,8 +156,8 @@ pub back : (p q : Parts) (returns own_returns : List ReturnRow) (states own_stat
 back p q returns own_returns states own_states chain_states own_chain_states is a b c = rw (is, a, b, c) refl
 
 -- a refusal that is no fault of flow
-pub refused_otherwise : (p : Parts) (fault : Fault) → IsNoFlowFault fault → IsRefused p fault
+pub refused_otherwise : (p : Parts) (fault : Fault) → IsNoFlowFault p fault → IsRefused p fault
 refused_otherwise p fault h = inl h
 
-pub complete_otherwise : (p : Parts) (fault : Fault) → IsNoFlowFault fault → IsComplete p fault
+pub complete_otherwise : (p : Parts) (fault : Fault) → IsNoFlowFault p fault → IsComplete p fault
 complete_otherwise p fault h none q passes = h

@@ -27,3 +27,5 @@ pub mod Placing
 pub mod Tabled
 pub mod KindsStay
 pub mod Answered
+pub mod Stopping
+pub mod Spelled

@@ -1,5 +1,6 @@
 -- What settling an object answers.
 use Rattle.std.specs.Prelude.{◌≡◌, ◌⊎◌, List, Some, Option}
+use Rattle.gw_object.specs.Grammar.{HasSpelling}
 use Rattle.gw_object.specs.Reading.{out_of_memory}
 use Rattle.gw_object.specs.declared.fault.Fault.{Fault}
 use Rattle.gw_object.specs.declared.fault.Place.TheVariants as places
@@ -46,17 +47,22 @@ IsFlowFault p fault = (first_broken (flow_checks p (own_table p)) ≡ Some fault
 abbrev pub past_limit : Fault
 past_limit = record { code = 82; place = places.Nowhere }
 
--- the fault is no fault of flow
-abbrev pub IsNoFlowFault : Fault → Type 0
-IsNoFlowFault fault = (fault ≡ out_of_memory) ⊎ (fault ≡ past_limit)
+-- that a limit is passed, which is where no object with the assembler's table has a spelling
+pub record IsTooLarge (p : Parts) (fault : Fault) : Type 0 where
+  pub is : fault ≡ past_limit
+  pub none : (q : Parts) → DiffersInTable p q → HasAssemblersTable p q → ¬ HasSpelling q
+
+-- the fault is no fault of flow: memory ran out, or the table is too large for an object
+abbrev pub IsNoFlowFault : Parts → Fault → Type 0
+IsNoFlowFault p fault = (fault ≡ out_of_memory) ⊎ IsTooLarge p fault
 
 -- a refusal is no fault of flow, or the first one that flow finds in the object with the assembler's table
 abbrev pub IsRefused : Parts → Fault → Type 0
-IsRefused p fault = IsNoFlowFault fault ⊎ ((q : Parts) × DiffersInTable p q × HasAssemblersTable p q × (first_broken (flow_checks q (own_table q)) ≡ Some fault))
+IsRefused p fault = IsNoFlowFault p fault ⊎ ((q : Parts) × DiffersInTable p q × HasAssemblersTable p q × (first_broken (flow_checks q (own_table q)) ≡ Some fault))
 
 -- no model is refused for its own table: where flow passes with any table, the refusal is no fault of flow
 abbrev pub IsComplete : Parts → Fault → Type 0
-IsComplete p fault = NoneChanged p → (q : Parts) → Passes p q → IsNoFlowFault fault
+IsComplete p fault = NoneChanged p → (q : Parts) → Passes p q → IsNoFlowFault p fault
 
 -- and each row of the table fits the one of every table with which flow passes
 abbrev pub IsGreatest : Parts → Parts → Type 0

@@ -2,11 +2,13 @@
 
 ghost use Rattle.std.specs.Prelude.{◌≡◌, IfOk, IfErr};
 ghost use Rattle.gw_object.specs.Grammar.{HasSpelling};
+ghost use Rattle.gw_object.specs.Reading.{out_of_memory};
 ghost use Rattle.gw_rules.specs.Pass.{KindsPass};
 ghost use Rattle.gw_rules.specs.PlusChecks.{PlusPasses};
 ghost use Rattle.gw_rules.specs.Flow.{own_table, FlowPasses};
 ghost use Rattle.gw_settle.specs.Keeps.{IsWell};
 ghost use Rattle.gw_settle.specs.Settles as model;
+ghost use Rattle.gw_settle.specs.declared.written.Stop.TheVariants as stops;
 
 use crate::codes::LIMIT;
 use crate::rounds::settled_rows;
@@ -32,7 +34,8 @@ const PAST_LIMIT: Fault = Fault {
 
 /// The fault of a table that can't be written.
 fn fault_of(stop: Stop) -> Fault
-    ensures { model.IsNoFlowFault result }
+    ensures memory { stop ≡ stops.Memory → result ≡ out_of_memory }
+    ensures limit { stop ≡ stops.Limit → result ≡ model.past_limit }
 {
     match stop {
         Stop::Limit => PAST_LIMIT,
@@ -41,11 +44,12 @@ fn fault_of(stop: Stop) -> Fault
 }
 
 /// The assembler's state table of an object of which kinds pass, as an object has it, also where flow refuses it. It is refused
-/// with 82 Limit at Nowhere where the table passes a limit of the object format, or with 8 Memory at Nowhere.
+/// with 82 Limit at Nowhere where it has more sets of blocks than an object may have return rows, or an amount above
+/// [`GREATEST_UNITS`](gw_object::GREATEST_UNITS), so that no object with it has a spelling, or with 8 Memory at Nowhere.
 pub fn table_of(alloc: Global, parts: &Parts) -> Result<Written, Fault>
     requires { IsWell parts.now }
     ensures table { IfOk result (λ table. model.IsTableOf parts.now table) }
-    ensures refused { IfErr result model.IsNoFlowFault }
+    ensures refused { IfErr result (model.IsNoFlowFault parts.now) }
 {
     match settled_rows(alloc, parts) {
         Ok(rows) => match table_written(alloc, &rows.blocks, &rows.chains) {
@@ -93,12 +97,13 @@ fn checked(alloc: Global, settled: Object, table: Written) -> Result<Object, (Ob
     }
 }
 
-/// An object with this table, and the table that it had; as it was, where it then passes a limit.
+/// An object with this table, and the table that it had; as it was, where it then has no spelling.
 fn with_table(object: Object, table: Written) -> Result<(Object, Written), Object>
     requires { HasSpelling object }
     ensures there { IfOk result (λ pair. pair.0 ≡ model.with_written object table) }
     ensures back { IfOk result (λ pair. model.with_written pair.0 pair.1 ≡ object) }
     ensures unchanged { IfErr result (λ o. o ≡ object) }
+    ensures refused { IfErr result (λ _. ¬ HasSpelling (model.with_written object table)) }
 {
     let mut parts = object.into_parts();
     let mut table = table;
@@ -116,9 +121,9 @@ fn with_table(object: Object, table: Written) -> Result<(Object, Written), Objec
 /// sight, and equal sets of blocks share one.
 ///
 /// An object that is refused comes back as it was: with 82 Limit at Nowhere where the table passes a limit of the object
-/// format, else with the first fault of [`check_flow`], 20 to 28, or with 8 Memory at Nowhere. Where flow passes with any
-/// table at all, none of 20 to 28 is answered, unless a parameter keeps the return of a TRANSFER to a subroutine and is added
-/// to or subtracted from by an ASSIGN (ours: docs/object-format.md).
+/// format, which is where no object with the table has a spelling, else with the first fault of [`check_flow`], 20 to 28, or
+/// with 8 Memory at Nowhere. Where flow passes with any table at all, none of 20 to 28 is answered, unless a parameter keeps
+/// the return of a TRANSFER to a subroutine and is added to or subtracted from by an ASSIGN (ours: docs/object-format.md).
 pub fn settle(alloc: Global, object: Object) -> Result<Object, (Object, Fault)>
     requires kinds { KindsPass object }
     requires code { PlusPasses object }

@@ -1,12 +1,13 @@
 //! The state table as an object has it: its sets of blocks as return rows.
 
-ghost use Rattle.std.specs.Prelude.{◌≡◌, ◌<◌, ◌≤◌, ◌++◌, ◌∷◌, [], IfOk, IfSome, is_some, length, option_map};
+ghost use Rattle.std.specs.Prelude.{◌≡◌, ◌<◌, ◌≤◌, ◌++◌, ◌∷◌, [], IfOk, IfErr, IfSome, is_some, length, option_map};
 ghost use Rattle.gw_rules.specs.Seen.{row_blocks, kind_said, params_said, units_seen, row_meaning, seen_rows};
 ghost use Rattle.gw_flow.specs.Known.{amounts_of};
 ghost use Rattle.gw_settle.specs.Known.{kind_known, params_known};
-ghost use Rattle.gw_settle.specs.Numbers.{sets_of, has_set, AddsSet, AddsKind, AddsParams, AddsRow, AddsRows};
+ghost use Rattle.gw_settle.specs.Numbers.{sets_of, has_set, AddsSet, AddsKind, AddsParams, AddsRow, AddsRows, MayAddSet, MayAddKind, MayAddParams, MayAddRow, MayAddRows, MayNameKind, MayNameParams};
 ghost use Rattle.gw_settle.specs.Rounds.{rows_of};
-ghost use Rattle.gw_settle.specs.Written.{NamesRow, NamesRows, ParamsName, StatesName, SaysRows};
+ghost use Rattle.gw_settle.specs.Written.{NamesRow, NamesRows, ParamsName, StatesName, SaysRows, AmountsFit, RowFits, RowsFit, CanBeWritten, StopsUnless};
+ghost use Rattle.gw_settle.specs.declared.written.Stop.TheVariants as stops;
 
 use crate::known::{Known, KnownKind, KnownParam};
 use gw_blocks::Units;
@@ -27,6 +28,8 @@ pub(crate) enum Stop {
 }
 
 impl From<AllocError> for Stop {
+    ghost from_gives = { λ _ stop. stop ≡ stops.Memory };
+
     fn from(_: AllocError) -> Stop {
         Stop::Memory
     }
@@ -70,6 +73,7 @@ fn add_row(alloc: Global, returns: &mut Vec<ReturnRow>, blocks: &Items<u16>) -> 
     requires { length returns.old.items ≤ 4096 }
     ensures sets { IfOk result (λ _. AddsSet blocks.now returns.old.items returns.new.items) }
     ensures few { IfOk result (λ _. length returns.new.items ≤ 4096) }
+    ensures stops { IfErr result (StopsUnless (MayAddSet blocks.now returns.old.items)) }
 {
     if row_number(returns, blocks).is_some() {
         return Ok(());
@@ -88,6 +92,7 @@ fn add_kind(alloc: Global, returns: &mut Vec<ReturnRow>, kind: &KnownKind) -> Re
     requires { length returns.old.items ≤ 4096 }
     ensures sets { IfOk result (λ _. AddsKind kind.now returns.old.items returns.new.items) }
     ensures few { IfOk result (λ _. length returns.new.items ≤ 4096) }
+    ensures stops { IfErr result (StopsUnless (MayAddKind kind.now returns.old.items)) }
 {
     match kind {
         KnownKind::Num => Ok(()),
@@ -104,6 +109,7 @@ fn add_params(
     requires { length returns.old.items ≤ 4096 }
     ensures sets { IfOk result (λ _. AddsParams params.now returns.old.items returns.new.items) }
     ensures few { IfOk result (λ _. length returns.new.items ≤ 4096) }
+    ensures stops { IfErr result (StopsUnless (MayAddParams params.now returns.old.items)) }
 {
     for param in params {
         add_kind(alloc, returns, &param.kind)?;
@@ -116,6 +122,7 @@ fn add_state(alloc: Global, returns: &mut Vec<ReturnRow>, row: &Option<Known>) -
     requires { length returns.old.items ≤ 4096 }
     ensures sets { IfOk result (λ _. AddsRow row.now returns.old.items returns.new.items) }
     ensures few { IfOk result (λ _. length returns.new.items ≤ 4096) }
+    ensures stops { IfErr result (StopsUnless (MayAddRow row.now returns.old.items)) }
 {
     match row {
         Some(row) => add_params(alloc, returns, row.params()),
@@ -132,6 +139,7 @@ fn add_states(
     requires { length returns.old.items ≤ 4096 }
     ensures sets { IfOk result (λ _. AddsRows rows.now returns.old.items returns.new.items) }
     ensures few { IfOk result (λ _. length returns.new.items ≤ 4096) }
+    ensures stops { IfErr result (StopsUnless (MayAddRows rows.now returns.old.items)) }
 {
     for row in rows {
         add_state(alloc, returns, row)?;
@@ -144,6 +152,7 @@ fn kind_written(returns: &[ReturnRow], kind: &KnownKind) -> Result<TableKind, St
     requires { length returns.now ≤ 4096 }
     ensures said { IfOk result (λ k. kind_said returns.now k ≡ kind_known kind.now) }
     ensures number { IfOk result (NamesRow (length returns.now)) }
+    ensures stops { IfErr result (StopsUnless (MayNameKind kind.now returns.now)) }
 {
     match kind {
         KnownKind::Num => Ok(TableKind::Num),
@@ -163,6 +172,7 @@ fn params_written(
     requires { length returns.now ≤ 4096 }
     ensures said { IfOk result (λ ps. params_said returns.now ps.items ≡ params_known params.now) }
     ensures numbers { IfOk result (λ all. ParamsName (length returns.now) all.items) }
+    ensures stops { IfErr result (StopsUnless (MayNameParams params.now returns.now)) }
 {
     let mut all = Vec::with_capacity(alloc, params.len())?;
     for param in params {
@@ -175,7 +185,8 @@ fn params_written(
 
 /// Units, where none are more than an object may have.
 fn units_written(alloc: Global, units: &[Amount]) -> Result<Vec<Units>, Stop>
-    ensures { IfOk result (λ all. units_seen all.items ≡ amounts_of units.now) }
+    ensures seen { IfOk result (λ all. units_seen all.items ≡ amounts_of units.now) }
+    ensures stops { IfErr result (StopsUnless (AmountsFit (amounts_of units.now))) }
 {
     let mut all = Vec::with_capacity(alloc, units.len())?;
     for amount in units {
@@ -194,6 +205,7 @@ fn row_written(alloc: Global, returns: &[ReturnRow], row: &Known) -> Result<Tabl
     requires { length returns.now ≤ 4096 }
     ensures seen { IfOk result (λ state. row_meaning returns.now state ≡ row.now) }
     ensures numbers { IfOk result (λ state. NamesRows (length returns.now) state) }
+    ensures stops { IfErr result (StopsUnless (RowFits (sets_of returns.now) row.now)) }
 {
     let parameters = params_written(alloc, returns, row.params())?;
     let facilities = Vec::from_slice(alloc, row.facilities())?;
@@ -214,6 +226,7 @@ fn state_written(
     requires { length returns.now ≤ 4096 }
     ensures seen { IfOk result (λ state. option_map (row_meaning returns.now) state ≡ row.now) }
     ensures numbers { IfOk result (λ state. IfSome state (NamesRows (length returns.now))) }
+    ensures stops { IfErr result (StopsUnless (IfSome row.now (RowFits (sets_of returns.now)))) }
 {
     match row {
         Some(row) => Ok(Some(row_written(alloc, returns, row)?)),
@@ -230,6 +243,7 @@ fn states_written(
     requires { length returns.now ≤ 4096 }
     ensures seen { IfOk result (λ all. seen_rows returns.now all.items ≡ rows.now) }
     ensures numbers { IfOk result (λ all. StatesName (length returns.now) all.items) }
+    ensures stops { IfErr result (StopsUnless (RowsFit (sets_of returns.now) rows.now)) }
 {
     let mut all = Vec::with_capacity(alloc, rows.len())?;
     for row in rows {
@@ -244,7 +258,8 @@ pub(crate) fn table_written(
     blocks: &[Option<Known>],
     chains: &[Option<Known>],
 ) -> Result<Written, Stop>
-    ensures { IfOk result (λ table. SaysRows table (rows_of blocks.now chains.now)) }
+    ensures says { IfOk result (λ table. SaysRows table (rows_of blocks.now chains.now)) }
+    ensures stops { IfErr result (StopsUnless (CanBeWritten (rows_of blocks.now chains.now))) }
 {
     let mut returns = Vec::new(alloc);
     add_states(alloc, &mut returns, blocks)?;

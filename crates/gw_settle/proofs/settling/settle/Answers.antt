@@ -1,4 +1,4 @@
-use Rattle.std.proofs.Common.{rules, ◌≡◌, refl, sym, subst, ◌∙◌}
+use Rattle.std.proofs.Common.{rules, ◌≡◌, inl, inr, refl, sym, subst, ◌∙◌}
 use Rattle.std.proofs.lemmas.Result.{IfOk-weaker, IfErr-weaker}
 use Rattle.gw_object.specs.Grammar.{HasSpelling}
 use Rattle.gw_object.specs.declared.parts.Parts.{Parts}
@@ -9,6 +9,7 @@ use Rattle.gw_settle.specs.Keeps.{IsWell}
 use Rattle.gw_settle.specs.Settles.{with_written, IsFlowFault, Passes, HasAssemblersTable, IsGreatest}
 use Rattle.gw_settle.proofs.Tabled.{plus_same}
 use Rattle.gw_settle.proofs.Answered.{kinds_settled, table_settled, greatest_settled, complete_settled, refused_settled}
+use Rattle.gw_settle.proofs.Spelled.{too_large_written}
 use Rattle.gw_settle.proofs.settling.settle.Goals as goal
 
 well : (p : Parts) → KindsPass p → HasSpelling p → IsWell p
@@ -52,3 +53,9 @@ pub returns-in-Ok-with_table-clause-complete : goal.returns-in-Ok-with_table-cla
 returns-in-Ok-with_table-clause-complete c =
     let same : c.in-Ok-with_table.settled ≡ with_written c.args.object c.in-Ok.table = search rules in
     IfErr-weaker c.checked.result _ _ (λ e h. complete_settled c.args.object c.in-Ok.table (well c.args.object c.requires.kinds (search rules)) (search rules) e.1 (subst (λ x. IsFlowFault x e.1) same h)) c.checked.ensures.refused
+
+pub returns-in-Err-with_table-clause-refused : goal.returns-in-Err-with_table-clause-refused
+returns-in-Err-with_table-clause-refused c = inl (inr (too_large_written c.args.object c.in-Ok.table _ (search rules) c.in-Err-with_table.ensures.refused refl))
+
+pub returns-in-Err-with_table-clause-complete : goal.returns-in-Err-with_table-clause-complete
+returns-in-Err-with_table-clause-complete c = λ none q passes. inr (too_large_written c.args.object c.in-Ok.table _ (search rules) c.in-Err-with_table.ensures.refused refl)
