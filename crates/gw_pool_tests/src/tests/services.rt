@@ -3,12 +3,12 @@
 ghost use Rattle.std.specs.Prelude.{◌≡◌};
 ghost use Rattle.gw_pool.specs.Shares.{AreWhole};
 
+use super::calls::slot_of;
 use super::jobs::spec_of;
 use gw_jobs::{JobFault, Pass, Progress, State};
 use gw_object::Memory;
 use gw_pool::{Crew, Gate, PoolFault, Seat, Service, Totals};
 use gw_samples::{THREE_BLOCKS, THREE_BLOCKS_REPORT};
-use gw_scan::Spec;
 use std::alloc::Global;
 use std::marker::Brand;
 use std::sync::Wait;
@@ -75,17 +75,6 @@ pub(super) fn wrong_of<W: Threads + Wait + Sync>(
     trial: Trial,
 ) -> Result<Option<usize>, Memory> {
     wrong_in_service::<Brand, Brand, W>(rt, alloc, Blank::new(17), Blank::new(17), trial)
-}
-
-/// The slot of a job, or why there is none.
-fn slot_of(submitted: Result<Pass, (Spec, JobFault)>) -> Result<u32, JobFault> {
-    match submitted {
-        Ok(pass) => Ok(pass.slot()),
-        Err((spec, fault)) => {
-            drop(spec);
-            Err(fault)
-        }
-    }
 }
 
 impl<R: Ledger, S: Ledger, W: Wait> Fixture<'_, R, S, W> {

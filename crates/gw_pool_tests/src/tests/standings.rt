@@ -1,71 +1,12 @@
 //! A job that is cancelled while it is out, one that ends before it is cancelled, and the task of another table.
 
-use super::jobs::{pass_for, spec_of};
-use gw_jobs::{JobFault, Pass, Returned, State, Table, Task};
+use super::calls::{cancel, comes_back, next_task, polled, submit, told_after};
+use super::jobs::pass_for;
+use gw_jobs::{JobFault, Pass, State, Table, Task};
 use gw_object::Memory;
 use gw_samples::{QUEUEING, THREE_BLOCKS, first_wrong};
 use std::alloc::Global;
 use std::test::Fail;
-
-/// Submits the job of an object: its slot, if it isn't refused.
-fn submit(alloc: Global, table: &mut Table, user: u64, bytes: &[u8]) -> Option<u32> {
-    let spec = spec_of(alloc, bytes).ok()?;
-    let pass = table.submit(alloc, user, spec).ok()?;
-    Some(pass.slot())
-}
-
-/// The next task, if a job is ready.
-fn next_task(table: &mut Table) -> Option<Task> {
-    table.take().ok()?
-}
-
-/// The slot, the user, the steps, and whether the row is ended and was cancelled.
-type Told = (u32, u64, u64, bool, bool);
-
-/// What a receipt tells.
-fn parts_of(returned: &Returned) -> Told {
-    (
-        returned.slot(),
-        returned.user(),
-        returned.steps(),
-        returned.ended(),
-        returned.cancelled(),
-    )
-}
-
-/// What is told of a task that is given back, or nothing where it comes back.
-fn told(table: &mut Table, task: Task) -> Option<Told> {
-    Some(parts_of(&table.give_back(task).ok()?))
-}
-
-/// Makes a slice of so many steps; where memory is wanting, the fewer steps are told.
-fn make_slice(task: &mut Task, steps: u32) {
-    let _ = task.run_slice(steps);
-}
-
-/// What is told of a task that is given back after a slice.
-fn told_after(table: &mut Table, mut task: Task, steps: u32) -> Option<Told> {
-    make_slice(&mut task, steps);
-    told(table, task)
-}
-
-/// How the job of a pass stands, and its steps; or why that isn't told.
-fn polled(table: &Table, pass: &Pass) -> Result<(State, u64), JobFault> {
-    let progress = table.poll(pass)?;
-    Ok((progress.state, progress.steps))
-}
-
-/// Cancels the job of a pass: why it isn't, if it isn't.
-fn cancel(table: &mut Table, pass: &Pass) -> Option<JobFault> {
-    table.cancel(pass).err()
-}
-
-/// Whether the next task of another table has made no step, and comes back from this one.
-fn comes_back(table: &mut Table, other: &mut Table) -> Option<bool> {
-    let stray = next_task(other)?;
-    let is_new = stray.steps() == 0;
-    Some(told(table, stray).is_none() && is_new)
-}
 
 /// The place of the first that is told wrong while this task is out, the task of another table comes for the same slot, and the
 /// job is cancelled; and once the task is back with the 5 steps that it made.
@@ -115,9 +56,9 @@ fn wrong_of_both(
 
 /// Whether user 1 gets the slots 0 and 1 in one table, and user 2 slot 0 in another.
 fn are_submitted(alloc: Global, table: &mut Table, other: &mut Table) -> bool {
-    submit(alloc, table, 1, THREE_BLOCKS) == Some(0)
-        && submit(alloc, table, 1, QUEUEING) == Some(1)
-        && submit(alloc, other, 2, QUEUEING) == Some(0)
+    submit(alloc, table, 1, THREE_BLOCKS) == Ok(0)
+        && submit(alloc, table, 1, QUEUEING) == Ok(1)
+        && submit(alloc, other, 2, QUEUEING) == Ok(0)
 }
 
 /// Whether nothing is told wrong in these tables.

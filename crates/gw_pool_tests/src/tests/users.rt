@@ -1,9 +1,11 @@
-//! Users of a service, who look at its table under the lock.
+//! Users of a table, and of a service, who look at its table under the lock.
 
+use super::calls::submit;
 use super::jobs::pass_for;
 use super::services::{Fixture, Trial, wrong_of};
-use gw_jobs::JobFault;
+use gw_jobs::{JobFault, Table};
 use gw_samples::{QUEUEING, THREE_BLOCKS, first_wrong};
+use std::alloc::Global;
 use std::sync::Wait;
 use std::sync::ledger::Ledger;
 use std::test::Fail;
@@ -47,5 +49,31 @@ impl<R: Ledger, S: Ledger, W: Wait> Fixture<'_, R, S, W> {
 #[test]
 fn users_and_strangers_are_told_apart(rt: HostRuntime) -> Result<(), Fail> {
     assert!(rt; wrong_of(&rt, rt.alloc(), Trial::Users)?.is_none());
+    Ok(())
+}
+
+/// Whether the first 16 jobs of user 1 get the slots of a table in order.
+fn fill_slots(alloc: Global, table: &mut Table) -> bool {
+    for slot in 0..MOST_RUNNING {
+        if submit(alloc, table, 1, THREE_BLOCKS) != Ok(slot) {
+            return false;
+        }
+    }
+    true
+}
+
+/// A 17th job of a user is refused by a table, and another user's first job gets the next slot.
+fn wrong_of_table(alloc: Global, table: &mut Table) -> Option<usize> {
+    first_wrong(&[
+        fill_slots(alloc, table),
+        submit(alloc, table, 1, THREE_BLOCKS) == Err(JobFault::UserFull),
+        submit(alloc, table, 2, THREE_BLOCKS) == Ok(MOST_RUNNING),
+    ])
+}
+
+#[test]
+fn seventeenth_job_of_a_user_is_refused(rt: HostRuntime) -> Result<(), Fail> {
+    let mut table = Table::new(rt.alloc())?;
+    assert!(rt; wrong_of_table(rt.alloc(), &mut table).is_none());
     Ok(())
 }
