@@ -207,7 +207,7 @@ pub const ADVICE: [(u16, &str, &str); 59] = [
     (
         57,
         "No worker could be started.",
-        "Let the machine have threads free, and try again.",
+        "Let the machine have threads and memory free, and try again.",
     ),
     (
         60,
@@ -237,7 +237,7 @@ pub const ADVICE: [(u16, &str, &str); 59] = [
     (
         65,
         "The job hasn't ended.",
-        "Let workers run it to its end, and ask again; where gpssw pool says it, no worker could be started: let the machine have threads free.",
+        "Let workers run it to its end, and ask again. Where gpssw pool or planner study says it: the journal was full, since slices were too short (SLICE must be at least the steps of all jobs together, divided by 520,000); or workers ran short of memory (free some, or hand in fewer jobs); or no thread could be started (let the machine have some free).",
     ),
     (66, "The job was cancelled.", "Hand it in again."),
     (

@@ -1,8 +1,9 @@
 -- Workers: what their crew counts, how many of them are run and in which slices, and what one of them leaves.
-use Rattle.std.specs.Prelude.{◌≡◌, ℕ, ◌+◌, ◌*◌, ◌≤◌, ◌^◌, ◌⊎◌, Bool, ◌&&◌, nat_lt, nat_le, if◌then◌else◌, Option, Some, None}
+use Rattle.std.specs.Prelude.{◌≡◌, ℕ, ◌+◌, ◌*◌, ◌≤◌, ◌<◌, ◌^◌, vec_len, ◌⊎◌, Bool, ◌&&◌, nat_lt, nat_le, if◌then◌else◌, Option, Some, None}
 use Rattle.atomic_table.specs.Seated.{TableId}
 use Rattle.gw_pool.specs.declared.faults.PoolFault.{PoolFault}
 use Rattle.gw_pool.specs.declared.faults.PoolFault.TheVariants as faults
+use Rattle.gw_pool.specs.declared.totals.Totals.{Totals}
 use Rattle.gw_pool.specs.declared.worker.Ending.{Ending}
 use Rattle.gw_pool.specs.declared.worker.Ending.TheVariants as endings
 use Rattle.gw_pool.specs.Shares.{Share}
@@ -42,6 +43,19 @@ range_fault workers slice =
 abbrev pub RefusesRun : Option PoolFault → PoolFault → Type 0
 RefusesRun (Some fault) answer = answer ≡ fault
 RefusesRun None answer = (answer ≡ faults.Spawn) ⊎ (answer ≡ faults.Memory)
+
+-- TOTALS
+
+-- of at most n workers some were started, of whom each ended in one way
+pub record AreEnded (n : ℕ) (t : Totals) : Type 0 where
+  pub some : 0 < t.workers
+  pub most : t.workers ≤ n
+  pub endings : t.short + vec_len t.strays ≤ t.workers
+
+-- the rows and the steps that a crew counts rose as those of the workers' totals did
+pub record CountsAlike (old new : Crew) (before after : Totals) : Type 0 where
+  pub rows : new.rows + vec_len before.strays ≡ old.rows + vec_len after.strays
+  pub steps : new.steps + before.steps ≡ old.steps + after.steps
 
 -- WHAT WORKERS LEAVE
 

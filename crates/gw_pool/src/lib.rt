@@ -8,6 +8,7 @@ mod faults;
 mod gate;
 mod gathering;
 mod replies;
+mod runs;
 mod service;
 mod share;
 mod shared;

@@ -11,6 +11,7 @@ use crate::board::{Board, Seat};
 use crate::crew::Crew;
 use crate::faults::PoolFault;
 use crate::gate::Gate;
+use crate::runs::run_while_short;
 use crate::shared::{Shared, new_shared};
 use crate::threads::run_all;
 use crate::totals::Totals;
@@ -140,5 +141,36 @@ impl<R: Ledger + Send + Sync, S: Ledger + Send + Sync> Service<R, S> {
         let seat = self.board.split_off(&mut crew.seat);
         let gathered = run_all(rt, self, gate, slice, n, share, seat, strays);
         gathered.settle(&mut crew.share)
+    }
+
+    /// Runs n workers as `run_workers` does, and again as long as the run before made steps and left workers short of memory, so
+    /// that what memory held up goes on once there is some. It ends too where the table didn't take a task back, and where the
+    /// next run is refused, which then counts for nothing.
+    ///
+    /// `slices` and `steps` are of all runs; `workers`, `short` and `strays` of the last that was made.
+    ///
+    /// Refused as the first run is; then no slice was made, and the crew is as it was.
+    pub fn run_jobs<G: Gate + Sync, W: Threads + Wait + Sync>(
+        &self,
+        rt: &W,
+        alloc: Global,
+        crew: &mut Crew<R, S>,
+        n: u32,
+        slice: u32,
+        gate: &G,
+    ) -> Result<Totals, PoolFault>
+        requires { crew.old.board ≡ self.now }
+        ensures board { crew.new.board ≡ crew.old.board }
+        ensures rows { IfOk result (λ t. crew.new.rows ≡ crew.old.rows + vec_len t.strays) }
+        ensures steps { IfOk result (λ t. crew.new.steps ≡ crew.old.steps + t.steps) }
+        ensures workers { IfOk result (λ t. (0 < t.workers) × (t.workers ≤ n)) }
+        ensures endings { IfOk result (λ t. t.short + vec_len t.strays ≤ t.workers) }
+        ensures in_range { IfOk result (λ _. model.range_fault n slice ≡ None) }
+        ensures refused { IfErr result (RefusesRun (model.range_fault n slice)) }
+        ensures same { OnErr result (crew.new ≡ crew.old) }
+    {
+        let mut totals = self.run_workers(rt, alloc, crew, n, slice, gate)?;
+        run_while_short(rt, alloc, self, crew, n, slice, gate, &mut totals);
+        Ok(totals)
     }
 }

@@ -1,4 +1,4 @@
-//! The runs of a study, by a service and its workers.
+//! The runs of a study, by services and their workers.
 
 ghost use Rattle.std.specs.Prelude.{◌≡◌, ◌<◌, ◌≤◌, ◌+◌, length, vec_len, IfOk, IfErr, OnOk};
 ghost use Rattle.gw_pool.specs.Shares.{AreWhole};
@@ -23,7 +23,7 @@ use std::thread::Threads;
 /// The parts of each ledger of a service.
 const PARTS: u64 = 17;
 
-/// So many runs are submitted together.
+/// So many runs are of one service, which is let go before the next are made.
 const TOGETHER: u32 = 64;
 
 /// So many runs, one after the other, are of one user: as many of a user's jobs may run at once.
@@ -144,71 +144,72 @@ fn make_runs<R: Ledger + Send + Sync, S: Ledger + Send + Sync, W: Threads + Wait
     requires crew { crew.old.board ≡ service.now }
     requires runs { (vec_len reports.old ≤ end) × (end ≤ 1024) }
     requires before { AreReportsOf setup.now reports.old.items }
-    ensures crew { crew.new.board ≡ crew.old.board }
     ensures reports { OnOk result (AreReportsOf setup.now reports.new.items) }
     ensures all { OnOk result (vec_len reports.new ≡ end) }
     ensures refused { IfErr result (TellsStudy setup.now end) }
 {
     let first = reports.len() as u32;
     let passes = submit_runs(rt, alloc, service.table(), setup, first, end)?;
-    match service.run_workers(rt, alloc, crew, WORKERS, SLICE, &OpenGate) {
+    match service.run_jobs(rt, alloc, crew, WORKERS, SLICE, &OpenGate) {
         Err(PoolFault::Memory) => Err(NoJob::OutOfMemory),
         Ok(_) | Err(_) => collect_runs(rt, alloc, service.table(), passes, reports),
     }
 }
 
-/// Makes all runs with a setup, some at a time, and tells how far it is.
-fn all_runs<R: Ledger + Send + Sync, S: Ledger + Send + Sync, W: Threads + Wait + Sync + Eprint>(
-    rt: &W,
-    alloc: Global,
-    service: &Service<R, S>,
-    crew: &mut Crew<R, S>,
-    setup: &Setup<'_>,
-    runs: u32,
-) -> Result<Vec<Vec<u8>>, NoJob>
-    requires crew { crew.old.board ≡ service.now }
-    requires runs { runs ≤ 1024 }
-    ensures reports { IfOk result (λ r. AreReportsOf setup.now r.items) }
-    ensures all { IfOk result (λ reports. vec_len reports ≡ runs) }
-    ensures refused { IfErr result (TellsStudy setup.now runs) }
-{
-    let mut reports = Vec::new(alloc);
-    let mut end = 0;
-    while end < runs {
-        end = runs.min(end + TOGETHER);
-        make_runs(rt, alloc, service, crew, setup, end, &mut reports)?;
-        let _ = eprintln!(rt; "{end} of {runs} runs");
-    }
-    Ok(reports)
-}
-
-/// The same, by a service whose ledgers the type parameters name.
-fn runs_by<R: Ledger + Send + Sync, S: Ledger + Send + Sync, W: Threads + Wait + Sync + Eprint>(
+/// The same, by a new service whose ledgers the type parameters name. All that it keeps of the runs is let go with it.
+fn make_runs_by<R: Ledger + Send + Sync, S: Ledger + Send + Sync, W: Threads + Wait + Sync>(
     rt: &W,
     alloc: Global,
     rows: Blank,
     steps: Blank,
     setup: &Setup<'_>,
-    runs: u32,
-) -> Result<Vec<Vec<u8>>, NoJob>
+    end: u32,
+    reports: &mut Vec<Vec<u8>>,
+) -> Result<(), NoJob>
     requires names { (rows.name ≡ R.name) × (steps.name ≡ S.name) }
     requires parts { (rows.parts ≡ R.parts) × (steps.parts ≡ S.parts) }
     requires whole { AreWhole rows.parts steps.parts }
-    requires runs { runs ≤ 1024 }
-    ensures reports { IfOk result (λ r. AreReportsOf setup.now r.items) }
-    ensures all { IfOk result (λ reports. vec_len reports ≡ runs) }
-    ensures refused { IfErr result (TellsStudy setup.now runs) }
+    requires runs { (vec_len reports.old ≤ end) × (end ≤ 1024) }
+    requires before { AreReportsOf setup.now reports.old.items }
+    ensures reports { OnOk result (AreReportsOf setup.now reports.new.items) }
+    ensures all { OnOk result (vec_len reports.new ≡ end) }
+    ensures refused { IfErr result (TellsStudy setup.now end) }
 {
     match Service::<R, S>::new(alloc, rows, steps) {
         Ok((service, mut crew, seat)) => {
-            let reports = all_runs(rt, alloc, &service, &mut crew, setup, runs);
+            let made = make_runs(rt, alloc, &service, &mut crew, setup, end, reports);
             drop(service);
             drop(crew);
             drop(seat);
-            reports
+            made
         }
         Err(_) => Err(NoJob::OutOfMemory),
     }
+}
+
+/// The same, by a service of their own.
+fn make_group<W: Threads + Wait + Sync>(
+    rt: &W,
+    alloc: Global,
+    setup: &Setup<'_>,
+    end: u32,
+    reports: &mut Vec<Vec<u8>>,
+) -> Result<(), NoJob>
+    requires runs { (vec_len reports.old ≤ end) × (end ≤ 1024) }
+    requires before { AreReportsOf setup.now reports.old.items }
+    ensures reports { OnOk result (AreReportsOf setup.now reports.new.items) }
+    ensures all { OnOk result (vec_len reports.new ≡ end) }
+    ensures refused { IfErr result (TellsStudy setup.now end) }
+{
+    make_runs_by::<Brand, Brand, W>(
+        rt,
+        alloc,
+        Blank::new(PARTS),
+        Blank::new(PARTS),
+        setup,
+        end,
+        reports,
+    )
 }
 
 /// The reports of so many runs with a setup, at most 1,024. Workers make them, 64
@@ -224,5 +225,12 @@ pub(crate) fn reports_of<W: Threads + Wait + Sync + Eprint>(
     ensures all { IfOk result (λ reports. vec_len reports ≡ runs) }
     ensures refused { IfErr result (TellsStudy setup.now runs) }
 {
-    runs_by::<Brand, Brand, W>(rt, alloc, Blank::new(PARTS), Blank::new(PARTS), setup, runs)
+    let mut reports = Vec::new(alloc);
+    let mut end = 0;
+    while end < runs {
+        end = runs.min(end + TOGETHER);
+        make_group(rt, alloc, setup, end, &mut reports)?;
+        let _ = eprintln!(rt; "{end} of {runs} runs");
+    }
+    Ok(reports)
 }
