@@ -1,15 +1,17 @@
 -- What answers a batch answers the reader that gave it.
-use Rattle.std.proofs.Common.{◌≡◌, ◌≢◌, ℕ, List, ◌++◌, map, Option, Some, None, IfSome, MatchOption, refl, sym, ap, subst, ◌∙◌}
-use Rattle.std.specs.Io.KnownBytes.{Consumes, Keeps}
-use Rattle.std.proofs.KnownBytes.{Keeps-refl}
+use Rattle.std.proofs.Common.{◌≡◌, ◌≢◌, ℕ, List, [], ◌++◌, map, Option, Some, None, IfSome, MatchOption, inl, inr, refl, sym, ap, subst, ◌∙◌}
+use Rattle.std.specs.Io.KnownBytes.{Consumes, Keeps, Appends}
+use Rattle.std.proofs.KnownBytes.{Keeps-refl, Appends-nil, Appends-kept, Appends-trans}
 use Rattle.gw_object.specs.declared.fault.Fault.{Fault}
 use Rattle.gw_answers.specs.Refusal.{refusal_line}
-use Rattle.gw_answers.specs.Status.{refused}
+use Rattle.gw_answers.specs.Status.{refused, no_memory}
 use Rattle.gw_batch.specs.Codes.{words_fault}
 use Rattle.gw_batch.specs.declared.entry.Entry.{Entry as StoredEntry}
-use Rattle.gw_batch.specs.Batch.{entry_of, entries, unread, most_objects}
+use Rattle.gw_batch.specs.Batch.{Entry, entry_of, entries, unread, most_objects}
 use Rattle.gw_batch.specs.Parts.{IsBatchTold, IsPool}
-use Rattle.gw_console.specs.Output.{AnswersReader}
+use Rattle.gw_console.specs.declared.fault.ProgramFault.TheVariants.{Memory}
+use Rattle.gw_console.specs.Output.{memory_line, Fails, AnswersReader, Responds}
+use Rattle.gpssw.specs.Output.{RespondsToBatch}
 use Rattle.gpssw.specs.Framing.{left_of, GivesBatch, LosesEntries, LosesBatch}
 
 -- what was read, and what is left, is what there was
@@ -24,6 +26,22 @@ batch_answered workers slice old new es text status in_range given told =
     let bytes = given.read ++ left_of new in
     let answer : IsBatchTold (entries most_objects bytes) text status = subst (λ all. IsBatchTold all text status) (sym given.entries) told in
     (bytes, all_of old new given.read given.taken, rw in_range answer)
+
+-- nothing, and then a text
+behind_nothing : (old mid new : Option (List ℕ)) (text : List ℕ) → Keeps old mid → Appends mid new text → Appends old new text
+behind_nothing old mid new text kept written = Appends-trans old mid new [] text (Appends-kept old old mid [] (Appends-nil old) kept) written
+
+-- the line on want of memory responds to a batch of which nothing was written
+pub memory_responds : (es : List Entry) (result : ℕ) (old mid new : Option (List ℕ)) → Keeps old mid → Fails Memory result mid new → RespondsToBatch es result old new
+memory_responds es result old mid new kept (inl h) = (memory_line, no_memory, inr (refl, refl), inl (h.0, behind_nothing old mid new memory_line kept h.1))
+memory_responds es result old mid new kept (inr h) = (memory_line, no_memory, inr (refl, refl), inr (h.0, (h.1.0, h.1.1, behind_nothing old mid new _ kept h.1.2)))
+
+-- what was written of a batch that was read is the response of `pool`
+pub batch_responds : (workers slice result : ℕ) (old new held written : Option (List ℕ)) (es : List StoredEntry) → words_fault workers slice ≡ None → GivesBatch es old new
+    → RespondsToBatch (map entry_of es) result held written → Responds (IsPool workers slice) old result held written
+batch_responds workers slice result old new held written es in_range given (text, status, inl told, writes) =
+    (text, status, inl (batch_answered workers slice old new es text status in_range given told), writes)
+batch_responds workers slice result old new held written es in_range given (text, status, inr is, writes) = (text, status, inr (inl is), writes)
 
 -- known bytes lose those of the batch
 lost : (old new : Option (List ℕ)) (read : List ℕ) → Consumes old new read → unread most_objects (read ++ left_of new) ≡ left_of new → LosesEntries old new

@@ -1,5 +1,5 @@
 -- What is so of an answer is so of it once want of memory is told as the program tells it.
-use Rattle.std.proofs.Common.{◌≡◌, ◌+◌, ℕ, List, take, map, Option, Some, None, Result, Ok, Err, IfOk, IfSome, MatchResult}
+use Rattle.std.proofs.Common.{◌≡◌, ◌+◌, ℕ, List, take, Option, Some, Result, Ok, Err, IfOk, IfSome, MatchResult}
 use Rattle.std.specs.Prelude.{OnOk}
 use Rattle.gw_object.specs.declared.fault.Fault.{Fault}
 use Rattle.gw_object.specs.declared.limits.TheConstants.{MOST_BYTES}
@@ -9,18 +9,15 @@ use Rattle.gw_answers.specs.declared.request.Request.{Request}
 use Rattle.gw_answers.specs.Requests.{answering}
 use Rattle.gw_answers.specs.Status.{refused}
 use Rattle.gw_batch.specs.Codes.{words_fault}
-use Rattle.gw_batch.specs.declared.entry.Entry.{Entry as StoredEntry}
-use Rattle.gw_batch.specs.Batch.{entry_of}
-use Rattle.gw_batch.specs.Parts.{IsBatchTold, IsPool}
+use Rattle.gw_batch.specs.Parts.{IsPool}
 use Rattle.gw_console.specs.declared.fault.ProgramFault.{ProgramFault}
 use Rattle.gw_console.specs.declared.fault.ProgramFault.TheVariants as faults
 use Rattle.gw_console.specs.Output.{AnswersReader}
-use Rattle.gpssw.specs.Framing.{GivesBatch}
 use Rattle.gpssw.proofs.Whole.{answers_reader}
-use Rattle.gpssw.proofs.Batches.{batch_answered, words_answered}
+use Rattle.gpssw.proofs.Batches.{words_answered}
 
 -- the same answer is told, or want of memory
-abbrev Tells : {E : Type 0} → Result Answer E → Result Answer ProgramFault → Type 0
+abbrev pub Tells : {E : Type 0} → Result Answer E → Result Answer ProgramFault → Type 0
 Tells r told = MatchResult r (λ a. told ≡ Ok a) (λ _. told ≡ Err faults.Memory)
 
 -- an answer to the bytes that were read
@@ -36,13 +33,6 @@ pub words_told : {E : Type 0} (workers slice : ℕ) (old : Option (List ℕ)) (f
     → IfOk told (λ a. AnswersReader (IsPool workers slice) old a.text.items a.status)
 words_told workers slice old fault out (Ok a) told answers same = rw same (words_answered workers slice old fault a.text.items a.status out answers.0 answers.1)
 words_told workers slice old fault out (Err e) told answers same = rw same tt
-
--- what is told of a batch
-pub batch_told : {E : Type 0} (workers slice : ℕ) (old new : Option (List ℕ)) (es : List StoredEntry) → words_fault workers slice ≡ None → GivesBatch es old new
-    → (r : Result Answer E) (told : Result Answer ProgramFault) → IfOk r (λ a. IsBatchTold (map entry_of es) a.text.items a.status) → Tells r told
-    → IfOk told (λ a. AnswersReader (IsPool workers slice) old a.text.items a.status)
-batch_told workers slice old new es in_range given (Ok a) told answers same = rw same (batch_answered workers slice old new es a.text.items a.status in_range given answers)
-batch_told workers slice old new es in_range given (Err e) told answers same = rw same tt
 
 -- what is so is so where there is a result
 pub on_ok : {X E P : Type 0} (r : Result X E) → P → OnOk r P

@@ -13,4 +13,4 @@ TellsPoolCalls workers slice status from to old new = Account (LosesBatch worker
 -- what a status tells where a command is carried out
 abbrev pub tells_calls : Command → ℕ → Source → Source → Sink → Sink → Type 0
 tells_calls (Single request) = TellsCalls
-tells_calls (Pool workers slice) = TellsPoolCalls workers slice
+tells_calls (Pool workers slice watched) = TellsPoolCalls workers slice

@@ -11,6 +11,7 @@ use gw_console::{ProgramFault, deliver};
 use gw_streams::{Input, Output};
 use program::dispatch;
 use std::alloc::AllocError;
+use std::io::IsTerminal;
 use std::process::ExitCode;
 use std::{env, io};
 
@@ -18,12 +19,20 @@ use std::{env, io};
 fn main(rt: HostRuntime) -> ExitCode {
     let mut reader = Input::new(rt.reader());
     let mut writer = Output::new(io::writer(&rt));
+    let is_terminal = rt.stderr().is_terminal();
     let status = match env::args(&rt) {
         Ok(mut args) => {
             let _ = args.next();
             let words: Result<Vec<String>, AllocError> = args.collect(rt.alloc());
             match words {
-                Ok(words) => dispatch(&rt, rt.alloc(), &words, &mut reader, &mut writer),
+                Ok(words) => dispatch(
+                    &rt,
+                    rt.alloc(),
+                    &words,
+                    is_terminal,
+                    &mut reader,
+                    &mut writer,
+                ),
                 Err(_) => deliver(&mut writer, Err(ProgramFault::Memory)),
             }
         }
@@ -35,6 +44,7 @@ fn main(rt: HostRuntime) -> ExitCode {
             &rt,
             rt.alloc(),
             &Vec::new(rt.alloc()),
+            is_terminal,
             &mut reader,
             &mut writer,
         ),

@@ -1,32 +1,34 @@
 //! The program, over its words, a reader and a writer.
 
-ghost use Rattle.std.specs.Prelude.{◌≡◌, ◌≢◌, ◌+◌, [], ◌∷◌, map, false, None, IfOk, OnOk, MatchResult, MatchOption, Contains};
+ghost use Rattle.std.specs.Prelude.{◌≡◌, ◌≢◌, ◌↔◌, ◌+◌, [], ◌∷◌, map, false, IsTrue, None, IfOk, OnOk, MatchOption, Contains};
 ghost use Rattle.std.specs.String.{string_bytes};
 ghost use Rattle.gw_answers.specs.Status.{ended, refused as refused_status, wrong_words, failed, no_memory};
 ghost use Rattle.gw_answers.specs.Requests as requests;
 ghost use Rattle.gw_answers.specs.Answer.{IsAnswer, IsCheck};
 ghost use Rattle.gw_answers.specs.Assembly.{IsAssembly};
+ghost use Rattle.gw_batch.specs.Batch.{entry_of};
 ghost use Rattle.gw_batch.specs.Codes.{words_fault};
 ghost use Rattle.gw_batch.specs.Parts.{IsPool};
 ghost use Rattle.gpssw.specs.Words.{command_in};
 ghost use Rattle.gw_console.specs.Output.{AnswersReader, Writes, Responds, Delivers};
 ghost use Rattle.gw_console.specs.Calls.{LosesFront, LosesAtMost, TellsReads, TellsCalls};
-ghost use Rattle.gpssw.specs.Output.{usage_line, answering};
-ghost use Rattle.gpssw.specs.Framing.{LosesBatch, most_bytes_of_batch};
+ghost use Rattle.gpssw.specs.Output.{usage_line, answering, RespondsToBatch};
 ghost use Rattle.gpssw.specs.Calls.{TellsPoolCalls, tells_calls};
 
 use crate::framing::read_batch;
 use crate::words::{Command, command_of};
-use gw_answers::status::WRONG_WORDS;
+use gw_answers::status::{FAILED, WRONG_WORDS};
 use gw_answers::{Answer, Request, answer_to, refused};
-use gw_batch::{answer_batch, refusal_of_words};
+use gw_batch::{Entry, Shift, answer_batch, refusal_of_words};
 use gw_console::{ProgramFault, deliver, or_no_memory, read_input, write_and_end};
 use gw_object::{MOST_BYTES, Memory};
 use gw_streams::{Input, Output};
 use std::alloc::Global;
-use std::io::{Read, Write};
+use std::collections::VecDeque;
+use std::io::{Eprint, Read, Write};
 use std::sync::Wait;
 use std::thread::Threads;
+use std::time::Clock;
 
 /// Reads all that is to be read, and then answers it.
 fn read_and_answer<R: Read>(
@@ -105,39 +107,40 @@ pub fn run<R: Read, W: Write>(
     respond(alloc, Request::Run { seed, count }, reader, writer)
 }
 
-/// Reads a batch, and then runs its jobs and answers it; where the words are out of range, nothing is read.
-fn read_and_run<R: Read, T: Threads + Wait + Sync>(
+/// Runs the jobs of a batch, writes what is told of it, and answers the status; where memory ran out, its line is written.
+fn run_batch<W: Write, T: Threads + Wait + Sync + Eprint + Clock>(
     rt: &T,
     alloc: Global,
-    workers: u32,
-    slice: u32,
-    reader: &mut Input<R>,
-) -> Result<Answer, ProgramFault>
-    requires { reader.old.failed ≡ false }
-    ensures answer { IfOk result (λ a.
-        AnswersReader (IsPool workers slice) reader.old.left a.text.items a.status) }
-    ensures unread { words_fault workers slice ≢ None → reader.new ≡ reader.old }
-    ensures told { TellsReads result reader.old.failed reader.new.failed }
-    ensures whole { OnOk result (LosesBatch workers slice reader.old.left reader.new.left) }
-    ensures limited { LosesAtMost most_bytes_of_batch reader.old.left reader.new.left }
+    shift: Shift,
+    entries: VecDeque<Entry>,
+    writer: &mut Output<W>,
+) -> u8
+    requires { writer.old.failed ≡ false }
+    ensures bytes { RespondsToBatch
+        (map entry_of entries.items) result writer.old.held writer.new.held }
+    ensures told { (result ≡ failed) ↔ IsTrue writer.new.failed }
+    ensures flushed { result ≢ failed → writer.new.waits ≡ false }
 {
-    if let Some(refusal) = refusal_of_words(workers, slice) {
-        return or_no_memory(refused(alloc, refusal));
+    match answer_batch(rt, alloc, shift, entries, writer) {
+        Ok(status) => status,
+        Err(ProgramFault::Memory) => deliver(writer, Err(ProgramFault::Memory)),
+        Err(ProgramFault::Read) => FAILED,
+        Err(ProgramFault::Write) => FAILED,
     }
-    let entries = read_batch(alloc, reader)?;
-    or_no_memory(answer_batch(rt, alloc, workers, slice, entries))
 }
 
 /// The command `pool`: reads a batch of objects, each behind its length, has so many workers run their jobs in slices of so many
 /// steps, and writes for each object, in order, the line `JOB` with its number, and the report of its run or the refusal line. It
 /// answers the status: 0 where no object was refused, 1 where one was, 3 where a read or a write failed, 4 where memory ran out.
-/// Nothing is written before all is read that is read. Where the words are out of range (docs/program.md) the refusal line is all
-/// that is written, with status 1, and nothing is read. It waits for the workers.
-pub fn pool<R: Read, W: Write, T: Threads + Wait + Sync>(
+/// Nothing is written before all is read that is read; then each part is, as soon as the workers of its window have ended, and on
+/// standard error, where it is watched, how far the batch is. Where the words are out of range (docs/program.md) the refusal line is
+/// all that is written, with status 1, and nothing is read. It waits for the workers.
+pub fn pool<R: Read, W: Write, T: Threads + Wait + Sync + Eprint + Clock>(
     rt: &T,
     alloc: Global,
     workers: u32,
     slice: u32,
+    is_watched: bool,
     reader: &mut Input<R>,
     writer: &mut Output<W>,
 ) -> u8
@@ -148,14 +151,28 @@ pub fn pool<R: Read, W: Write, T: Threads + Wait + Sync>(
     ensures unread { words_fault workers slice ≢ None → reader.new ≡ reader.old }
     ensures calls { TellsPoolCalls workers slice result reader.old reader.new writer.old writer.new }
 {
-    deliver(writer, read_and_run(rt, alloc, workers, slice, reader))
+    if let Some(refusal) = refusal_of_words(workers, slice) {
+        return deliver(writer, or_no_memory(refused(alloc, refusal)));
+    }
+    match read_batch(alloc, reader) {
+        Ok(entries) => {
+            let shift = Shift {
+                workers,
+                slice,
+                is_watched,
+            };
+            run_batch(rt, alloc, shift, entries, writer)
+        }
+        Err(fault) => deliver(writer, Err(fault)),
+    }
 }
 
 /// Carries out a command, by its function.
-fn perform<R: Read, W: Write, T: Threads + Wait + Sync>(
+fn perform<R: Read, W: Write, T: Threads + Wait + Sync + Eprint + Clock>(
     rt: &T,
     alloc: Global,
     command: Command,
+    is_terminal: bool,
     reader: &mut Input<R>,
     writer: &mut Output<W>,
 ) -> u8
@@ -169,16 +186,24 @@ fn perform<R: Read, W: Write, T: Threads + Wait + Sync>(
         Command::Single(Request::Asm) => asm(alloc, reader, writer),
         Command::Single(Request::Check) => check(alloc, reader, writer),
         Command::Single(Request::Run { seed, count }) => run(alloc, seed, count, reader, writer),
-        Command::Pool { workers, slice } => pool(rt, alloc, workers, slice, reader, writer),
+        Command::Pool {
+            workers,
+            slice,
+            is_watched,
+        } => {
+            let is_watched = is_watched || is_terminal;
+            pool(rt, alloc, workers, slice, is_watched, reader, writer)
+        }
     }
 }
 
 /// The program: the command that its words name. On any other words it writes the usage line, with status 2, and
-/// reads nothing. Only `pool` waits.
-pub fn dispatch<R: Read, W: Write, T: Threads + Wait + Sync>(
+/// reads nothing. Only `pool` waits; how far it is it tells on standard error, where that is a terminal or its words ask for it.
+pub fn dispatch<R: Read, W: Write, T: Threads + Wait + Sync + Eprint + Clock>(
     rt: &T,
     alloc: Global,
     words: &[String],
+    is_terminal: bool,
     reader: &mut Input<R>,
     writer: &mut Output<W>,
 ) -> u8
@@ -194,7 +219,7 @@ pub fn dispatch<R: Read, W: Write, T: Threads + Wait + Sync>(
         (λ command. tells_calls command result reader.old reader.new writer.old writer.new) }
 {
     match command_of(words) {
-        Some(command) => perform(rt, alloc, command, reader, writer),
+        Some(command) => perform(rt, alloc, command, is_terminal, reader, writer),
         None => write_and_end(
             writer,
             b"usage: gpssw asm | check | run SEED COUNT | pool WORKERS SLICE\n",

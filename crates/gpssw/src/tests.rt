@@ -5,10 +5,11 @@ use crate::program::{dispatch, run};
 use gw_streams::{Input, Output};
 use std::alloc::{AllocError, Global};
 use std::io;
-use std::io::{ErrorKind, Read, Write};
+use std::io::{Eprint, ErrorKind, Read, Write};
 use std::sync::Wait;
 use std::test::Fail;
 use std::thread::Threads;
+use std::time::Clock;
 
 /// The object of `GENERATE 10 / ADVANCE 3 / TERMINATE 1` with count 2.
 const FIRST: &[u8] = b"GPSO\x00\x01\x00\x00\x00\x00\x00\x00\x00\x00\x02\x00\x00\x03\
@@ -67,16 +68,30 @@ fn words_of(alloc: Global, words: &[&str]) -> Result<Vec<String>, AllocError> {
 }
 
 /// Whether that is what comes of a row.
-fn is_right<T: Threads + Wait + Sync>(rt: &T, alloc: Global, row: Row) -> Result<bool, AllocError> {
+fn is_right<T: Threads + Wait + Sync + Eprint + Clock>(
+    rt: &T,
+    alloc: Global,
+    row: Row,
+) -> Result<bool, AllocError> {
     let (words, input, due, due_status) = row;
     let words = words_of(alloc, words)?;
     let mut writer = Output::new(Vec::new(alloc));
-    let status = dispatch(rt, alloc, &words, &mut Input::new(input), &mut writer);
+    let status = dispatch(
+        rt,
+        alloc,
+        &words,
+        false,
+        &mut Input::new(input),
+        &mut writer,
+    );
     Ok(writer.into_inner().as_slice() == due && status == due_status)
 }
 
 /// The place, from 0, of the first row of which something else comes.
-fn wrong_row<T: Threads + Wait + Sync>(rt: &T, alloc: Global) -> Result<Option<usize>, AllocError> {
+fn wrong_row<T: Threads + Wait + Sync + Eprint + Clock>(
+    rt: &T,
+    alloc: Global,
+) -> Result<Option<usize>, AllocError> {
     for i in 0..ROWS.len() {
         if !is_right(rt, alloc, ROWS[i])? {
             return Ok(Some(i));

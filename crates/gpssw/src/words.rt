@@ -20,6 +20,8 @@ pub enum Command {
         workers: u32,
         /// How many steps a slice of a worker has.
         slice: u32,
+        /// Whether the words ask for lines on standard error that tell how far it is.
+        is_watched: bool,
     },
 }
 
@@ -43,13 +45,18 @@ fn command_named(name: &str) -> Option<Command>
     }
 }
 
-/// The command `pool`, where both words spell numbers below 2^32.
-fn pool_with(workers: &str, slice: &str) -> Option<Command>
-    ensures { result ≡ pool_of (number_below (2 ^ 32) workers.now) (number_below (2 ^ 32) slice.now) }
+/// The command `pool`, watched or not, where both words spell numbers below 2^32.
+fn pool_with(workers: &str, slice: &str, is_watched: bool) -> Option<Command>
+    ensures { result ≡ pool_of
+        is_watched (number_below (2 ^ 32) workers.now) (number_below (2 ^ 32) slice.now) }
 {
     let workers = number_in(workers)?;
     let slice = number_in(slice)?;
-    Some(Command::Pool { workers, slice })
+    Some(Command::Pool {
+        workers,
+        slice,
+        is_watched,
+    })
 }
 
 /// The command that a word names which two others follow: `run` or `pool`.
@@ -58,19 +65,30 @@ fn command_with(name: &str, first: &str, second: &str) -> Option<Command>
 {
     match name {
         "run" => run_with(first, second),
-        "pool" => pool_with(first, second),
+        "pool" => pool_with(first, second, false),
         _ => None,
     }
 }
 
-/// The command that these words name: `asm`; `check`; `run`, a seed below 2^32 and a count below 2^64; or `pool`, and two numbers
-/// below 2^32. Numbers are in decimal digits alone.
+/// The command that a word names which three others follow: `pool`, where the last is `-v`.
+fn command_before(name: &str, first: &str, second: &str, last: &str) -> Option<Command>
+    ensures { result ≡ words.command_before name.now first.now second.now last.now }
+{
+    match (name, last) {
+        ("pool", "-v") => pool_with(first, second, true),
+        _ => None,
+    }
+}
+
+/// The command that these words name: `asm`; `check`; `run`, a seed below 2^32 and a count below 2^64; or `pool`, two numbers below
+/// 2^32, and perhaps `-v`. Numbers are in decimal digits alone.
 pub fn command_of(words: &[String]) -> Option<Command>
     ensures { result ≡ command_in (map string_bytes words.now) }
 {
     match words {
         [name] => command_named(name),
         [name, first, second] => command_with(name, first, second),
+        [name, first, second, last] => command_before(name, first, second, last),
         _ => None,
     }
 }

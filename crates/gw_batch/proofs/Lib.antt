@@ -1,2 +1,5 @@
-pub mod Told
-pub mod Listed
+pub mod ByTicket
+pub mod Stages
+pub mod Started
+pub mod Waits
+pub mod Windows

@@ -1,43 +1,26 @@
-//! From a batch to a text and a status.
+//! From a batch to what is written of it, and a status.
 
-ghost use Rattle.std.specs.Prelude.{◌≡◌, IfOk, map};
-ghost use Rattle.gw_pool.specs.Shares.{AreWhole};
+ghost use Rattle.std.specs.Prelude.{◌≡◌, [], false, IfOk, IfErr, OnOk, map};
 ghost use Rattle.gw_batch.specs.Batch.{entry_of};
-ghost use Rattle.gw_batch.specs.Parts.{status_if, IsBatchTold};
+ghost use Rattle.gw_batch.specs.Parts.{status_if};
+ghost use Rattle.gw_batch.specs.Waiting.{waiting_entry};
+ghost use Rattle.gw_batch.specs.Writing.{stage, Advances, Stops, WritesBatch, IsLeft, TellsWrites};
 
 use crate::entry::Entry;
-use crate::submission::submit_all;
-use crate::telling::{Told, tell_all};
-use gw_answers::Answer;
+use crate::progress::Progress;
+use crate::shift::Shift;
+use crate::telling::Telling;
+use crate::waiting::{Waiting, wait_all};
+use crate::window::tell_window;
 use gw_answers::status::{ENDED, REFUSED};
-use gw_object::Memory;
-use gw_pool::{Crew, OpenGate, PoolFault, Service};
+use gw_console::{ProgramFault, write_text};
+use gw_streams::Output;
 use std::alloc::Global;
 use std::collections::VecDeque;
-use std::marker::Brand;
+use std::io::{Eprint, Write};
 use std::sync::Wait;
-use std::sync::ledger::{Blank, Ledger};
 use std::thread::Threads;
-
-/// The parts of each ledger of a service.
-const PARTS: u64 = 17;
-
-/// Runs the workers of a service. Where none could be started the jobs stay as they are.
-fn run<R: Ledger + Send + Sync, S: Ledger + Send + Sync, W: Threads + Wait + Sync>(
-    rt: &W,
-    alloc: Global,
-    service: &Service<R, S>,
-    crew: &mut Crew<R, S>,
-    workers: u32,
-    slice: u32,
-) -> Result<(), Memory>
-    requires { crew.old.board ≡ service.now }
-{
-    match service.run_workers(rt, alloc, crew, workers, slice, &OpenGate) {
-        Err(PoolFault::Memory) => Err(Memory),
-        Ok(_) | Err(_) => Ok(()),
-    }
-}
+use std::time::Clock;
 
 /// The status of a text in which something is refused, or nothing.
 fn status_of(refused: bool) -> u8
@@ -46,70 +29,67 @@ fn status_of(refused: bool) -> u8
     if refused { REFUSED } else { ENDED }
 }
 
-/// The text and the status of a batch, by a service and what its workers need.
-fn answer_over<R: Ledger + Send + Sync, S: Ledger + Send + Sync, W: Threads + Wait + Sync>(
+/// Tells all entries that wait, window by window.
+fn tell_waiting<W: Threads + Wait + Sync + Eprint + Clock, O: Write>(
     rt: &W,
     alloc: Global,
-    service: &Service<R, S>,
-    crew: &mut Crew<R, S>,
-    workers: u32,
-    slice: u32,
-    entries: VecDeque<Entry>,
-) -> Result<Answer, Memory>
-    requires { crew.old.board ≡ service.now }
-    ensures { IfOk result (λ a. IsBatchTold (map entry_of entries.items) a.text.items a.status) }
+    shift: Shift,
+    mut waiting: VecDeque<Waiting>,
+    telling: &mut Telling,
+    writer: &mut Output<O>,
+) -> Result<(), ProgramFault>
+    requires writer { writer.old.failed ≡ false }
+    requires start { telling.old.number ≡ 0 }
+    ensures advances { OnOk result (Advances
+        (stage telling.old (map waiting_entry waiting.items) writer.old.held)
+        (stage telling.new [] writer.new.held)) }
+    ensures stops { IfErr result (Stops
+        (stage telling.old (map waiting_entry waiting.items) writer.old.held) writer.new.held) }
+    ensures marks { TellsWrites result writer.old.failed writer.new.failed }
+    ensures flushed { OnOk result (writer.new.waits ≡ false) }
 {
-    let tickets = submit_all(rt, alloc, service.table(), entries)?;
-    run(rt, alloc, service, crew, workers, slice)?;
-    let Told { text, refused } = tell_all(rt, alloc, service.table(), tickets)?;
-    Ok(Answer {
-        text,
-        status: status_of(refused),
-    })
+    let all = waiting.len();
+    let mut progress = Progress::new(rt, shift.is_watched, all);
+    while telling.number() < all {
+        tell_window(
+            rt,
+            alloc,
+            shift,
+            &mut progress,
+            &mut waiting,
+            telling,
+            writer,
+        )?;
+    }
+    progress.finish(rt);
+    write_text(writer, b"")
 }
 
-/// The text and the status of a batch, by a service whose ledgers the type parameters name.
-fn answer_by<R: Ledger + Send + Sync, S: Ledger + Send + Sync, W: Threads + Wait + Sync>(
+/// Writes what is told of a batch, and answers the status. Its entries are told window by window: their jobs are submitted to a new
+/// service, so many workers run them in slices of so many steps, and each entry is told, in order, as soon as the workers of its
+/// window have ended. A job that isn't ended then is refused (65 NotEnded). Want of memory for one entry is told of it; elsewhere it is
+/// the answer, and nothing is written. It waits for the workers.
+pub fn answer_batch<W: Threads + Wait + Sync + Eprint + Clock, O: Write>(
     rt: &W,
     alloc: Global,
-    rows: Blank,
-    steps: Blank,
-    workers: u32,
-    slice: u32,
+    shift: Shift,
     entries: VecDeque<Entry>,
-) -> Result<Answer, Memory>
-    requires names { (rows.name ≡ R.name) × (steps.name ≡ S.name) }
-    requires parts { (rows.parts ≡ R.parts) × (steps.parts ≡ S.parts) }
-    requires whole { AreWhole rows.parts steps.parts }
-    ensures { IfOk result (λ a. IsBatchTold (map entry_of entries.items) a.text.items a.status) }
+    writer: &mut Output<O>,
+) -> Result<u8, ProgramFault>
+    requires writer { writer.old.failed ≡ false }
+    ensures whole { IfOk result (λ status. WritesBatch
+        (map entry_of entries.items) status writer.old.held writer.new.held) }
+    ensures left { IfErr result (IsLeft
+        (map entry_of entries.items) writer.old.held writer.new.held) }
+    ensures marks { TellsWrites result writer.old.failed writer.new.failed }
+    ensures flushed { OnOk result (writer.new.waits ≡ false) }
 {
-    let (service, mut crew, seat) = Service::<R, S>::new(alloc, rows, steps)?;
-    let answer = answer_over(rt, alloc, &service, &mut crew, workers, slice, entries);
-    drop(service);
-    drop(crew);
-    drop(seat);
-    answer
-}
-
-/// The text and the status of a batch: its jobs are submitted to a new service, so many workers run them in slices of so many
-/// steps, and each entry is told, in order. A job that isn't ended then is refused (65 NotEnded). Want of memory for one entry is
-/// told of it; elsewhere it is the answer. It waits for the workers.
-pub fn answer_batch<W: Threads + Wait + Sync>(
-    rt: &W,
-    alloc: Global,
-    workers: u32,
-    slice: u32,
-    entries: VecDeque<Entry>,
-) -> Result<Answer, Memory>
-    ensures { IfOk result (λ a. IsBatchTold (map entry_of entries.items) a.text.items a.status) }
-{
-    answer_by::<Brand, Brand, W>(
-        rt,
-        alloc,
-        Blank::new(PARTS),
-        Blank::new(PARTS),
-        workers,
-        slice,
-        entries,
-    )
+    let Ok(waiting) = wait_all(alloc, entries) else {
+        return Err(ProgramFault::Memory);
+    };
+    let Ok(mut telling) = Telling::new(alloc) else {
+        return Err(ProgramFault::Memory);
+    };
+    tell_waiting(rt, alloc, shift, waiting, &mut telling, writer)?;
+    Ok(status_of(telling.has_refused()))
 }

@@ -1,13 +1,15 @@
-//! Submitting the jobs of a batch.
+//! Submitting jobs of a batch.
 
-ghost use Rattle.std.specs.Prelude.{◌≡◌, IfOk, map};
-ghost use Rattle.gw_batch.specs.Batch.{entry_of, Object};
-ghost use Rattle.gw_batch.specs.Tickets.{user_of, IsTicket, IsTicketFor, AreTickets};
+ghost use Rattle.std.specs.Prelude.{◌≡◌, ◌+◌, ◌<◌, ◌^◌, IfOk, OnErr, map, length};
+ghost use Rattle.gw_batch.specs.Batch.{Object};
+ghost use Rattle.gw_batch.specs.Waiting.{waiting_entry};
+ghost use Rattle.gw_batch.specs.Tickets.{user_of, IsTicket, IsTicketFor, StartWith};
 
-use crate::entry::Entry;
 use crate::refusals::want_of_memory;
+use crate::room::{has_room, need_of};
 use crate::ticket::Ticket;
-use gw_answers::{NoJob, Refusal, refusal_of_job, spec_of};
+use crate::waiting::Waiting;
+use gw_answers::{NoJob, refusal_of_job, spec_of};
 use gw_object::Memory;
 use gw_pool::Shared;
 use gw_scan::Spec;
@@ -45,18 +47,22 @@ fn submitted<R: Ledger, S: Ledger, W: Wait>(
     }
 }
 
-/// Submits the job of an object, which is the entry with this number, if it has one.
+/// Submits the job of an object, which is the entry with this number, if it has one, and adds what it is taken to need.
 fn ticket_of_object<R: Ledger, S: Ledger, W: Wait>(
     rt: &W,
     alloc: Global,
     table: &Mutex<Shared<R, S>>,
     number: usize,
     bytes: &[u8],
+    need: &mut usize,
 ) -> Ticket
     ensures { IsTicket number (Object bytes.now) result }
 {
     match spec_of(alloc, 0, 0, bytes) {
-        Ok(spec) => submitted(rt, alloc, table, number, spec),
+        Ok(spec) => {
+            *need = need.saturating_add(need_of(&spec, bytes.len()));
+            submitted(rt, alloc, table, number, spec)
+        }
         Err(NoJob::Refused(refusal)) => Ticket::Refused(refusal),
         Err(NoJob::OutOfMemory) => Ticket::Refused(want_of_memory()),
     }
@@ -68,33 +74,48 @@ fn ticket_of<R: Ledger, S: Ledger, W: Wait>(
     alloc: Global,
     table: &Mutex<Shared<R, S>>,
     number: usize,
-    entry: Entry,
+    waiting: Waiting,
+    need: &mut usize,
 ) -> Ticket
-    ensures { IsTicket number (entry_of entry) result }
+    ensures { IsTicket number (waiting_entry waiting) result }
 {
-    match entry {
-        Entry::Object(bytes) => ticket_of_object(rt, alloc, table, number, &bytes),
-        Entry::Broken(fault) => Ticket::Refused(Refusal(fault)),
+    match waiting {
+        Waiting::Object(bytes) => ticket_of_object(rt, alloc, table, number, &bytes, need),
+        Waiting::Broken(line) => Ticket::Broken(line),
     }
 }
 
-/// Submits the jobs of all entries, in order; each entry has a ticket then.
-pub fn submit_all<R: Ledger, S: Ledger, W: Wait>(
+/// Submits the jobs of the entries that wait, from the first on, which has this number, while there is room: one at least, and as
+/// many as there are workers. Each of these entries has a ticket then, and waits no more. Where memory is wanted for the list of
+/// tickets all wait as they did.
+pub(crate) fn submit_some<R: Ledger, S: Ledger, W: Wait>(
     rt: &W,
     alloc: Global,
     table: &Mutex<Shared<R, S>>,
-    mut entries: VecDeque<Entry>,
+    workers: u32,
+    first: usize,
+    waiting: &mut VecDeque<Waiting>,
 ) -> Result<VecDeque<Ticket>, Memory>
-    ensures { IfOk result (λ tickets. AreTickets 0 (map entry_of entries.items) tickets.items) }
+    requires fits { first + length waiting.old.items < 2 ^ 64 }
+    ensures tickets { IfOk result (λ tickets. StartWith
+        first (map waiting_entry waiting.old.items) tickets.items (map waiting_entry waiting.new.items)) }
+    ensures all { IfOk result (λ tickets.
+        length tickets.items + length waiting.new.items ≡ length waiting.old.items) }
+    ensures some { IfOk result (λ tickets.
+        0 < length waiting.old.items → 0 < length tickets.items) }
+    ensures same { OnErr result (waiting.new ≡ waiting.old) }
 {
-    let mut tickets = VecDeque::new(alloc);
-    let mut number = 0;
-    while let Some(entry) = entries.pop_front() {
-        let ticket = ticket_of(rt, alloc, table, number, entry);
-        if tickets.push_back(ticket).is_err() {
-            return Err(Memory);
+    let mut tickets = VecDeque::with_capacity(alloc, waiting.len())?;
+    let mut need = 0;
+    while has_room(workers, tickets.len(), need) {
+        match waiting.pop_front() {
+            Some(entry) => {
+                let number = first + tickets.len();
+                let ticket = ticket_of(rt, alloc, table, number, entry, &mut need);
+                tickets.push_back_reserved(ticket);
+            }
+            None => return Ok(tickets),
         }
-        number += 1;
     }
     Ok(tickets)
 }

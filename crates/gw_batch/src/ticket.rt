@@ -1,13 +1,16 @@
 //! What became of an entry.
 
+use crate::waiting::Line;
 use gw_answers::Refusal;
 use gw_jobs::Pass;
 
 /// What became of an entry of a batch.
 #[derive(Drop)]
-pub enum Ticket {
+pub(crate) enum Ticket {
     /// Its job was submitted.
     Submitted(Pass),
-    /// It was refused.
+    /// The object was refused.
     Refused(Refusal),
+    /// It ended the reading.
+    Broken(Line),
 }

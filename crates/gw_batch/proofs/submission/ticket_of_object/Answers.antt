@@ -1,4 +1,4 @@
-use Rattle.gw_batch.proofs.Told.{memory_ticket}
+use Rattle.gw_batch.proofs.ByTicket.{memory_ticket}
 use Rattle.gw_batch.proofs.submission.ticket_of_object.Goals as goal
 
 pub returns-in-Err-OutOfMemory : goal.returns-in-Err-OutOfMemory

@@ -1,11 +1,15 @@
-use Rattle.std.proofs.Common.{◌≡◌, ◌+◌, length}
-use Rattle.gw_batch.proofs.Listed.{Tell}
+use Rattle.std.proofs.Common.{◌≡◌, ◌+◌, List, length}
+use Rattle.gw_batch.specs.Batch.{Entry}
+use Rattle.gw_batch.specs.Tickets.{StartWith}
+use Rattle.gw_batch.specs.Writing.{stage}
+use Rattle.gw_batch.proofs.Started.{Reaches}
 use Rattle.gw_batch.proofs.telling.tell_all.Given as goal
 
 abbrev pub invariant-loop-ticket : goal.invariant-loop-ticket
 invariant-loop-ticket g l = record {
-  tell : Tell l.number l.tickets.items l.text.items l.refused l.fn.tickets.items;
-  count : l.number + length l.tickets.items ≡ length l.fn.tickets.items;
+  reached : (es rest : List Entry) → StartWith l.fn.telling.number es l.fn.tickets.items rest → Reaches (stage l.fn.telling es l.fn.writer.held) l.telling l.tickets.items rest l.writer.held;
+  count : l.telling.number + length l.tickets.items ≡ l.fn.telling.number + length l.fn.tickets.items;
+  unfailed : l.writer.failed ≡ l.fn.writer.failed;
 }
 
 abbrev pub decreases-loop-ticket : goal.decreases-loop-ticket
