@@ -23,9 +23,9 @@ use Rattle.gw_pieces.specs.Numbers.{with_source, source_in}
 use Rattle.gw_pieces.specs.Order.{order_in}
 use Rattle.gw_pieces.specs.declared.plan.Plan.{Plan}
 use Rattle.gw_pieces.specs.Entities.{IsKindBy, AreSightedAs, AreEntitiesOf}
-use Rattle.gw_pieces.specs.Making.{IsPlan, AreMeanings, AreMade, NotesPieces}
+use Rattle.gw_pieces.specs.Making.{AreMeanings, AreMade, NotesPieces, GetsEntities, with_entities}
 use Rattle.gw_pieces.specs.Notes.{NotesMissing}
-use Rattle.gw_pieces.specs.Pieces.{NumbersText, HasCode}
+use Rattle.gw_pieces.specs.Pieces.{NumbersText, IsPlan, HasCode}
 use Rattle.gw_pieces.specs.Plans.{names_planned, order_planned, text_planned}
 use Rattle.gw_pieces.specs.Reasons.{AllThere, NotesCode, EntityMissing, CodeOrBlockMissing, PieceMissing}
 use Rattle.gw_pieces.proofs.Reasoning.{all_pieces, pieces_missing}
@@ -78,20 +78,29 @@ names_are ss order known meanings list knows is meant = record {
   equs = meant.equs;
 }
 
-module _ (plan : Plan) (planned : IsPlan plan) (made : Vec Entity Global) where
+module _ (plan : Plan) (made : Vec Entity Global) where
   -- what is evaluated for attributes, where these are the entities
   abbrev pub sources : Numbered → Operand
   sources = source_in made.items
 
-  names_still : NumbersText (with_source (names_planned plan) sources) (order_planned plan) (text_planned plan)
-  names_still = record {
-    ordered = planned.names.ordered;
-    entities = planned.names.entities;
-    labels = planned.names.labels;
-    parameters = planned.names.parameters;
-    callees = planned.names.callees;
-    equs = planned.names.equs;
+  -- names that get entities are still those of the text
+  pub planned_still : IsPlan (text_planned plan) (record plan.names { list = made }) (order_planned plan) plan.sighted.items
+  planned_still = record {
+    numbers = record {
+      ordered = plan.planned.numbers.ordered;
+      entities = plan.planned.numbers.entities;
+      labels = plan.planned.numbers.labels;
+      parameters = plan.planned.numbers.parameters;
+      callees = plan.planned.numbers.callees;
+      equs = plan.planned.numbers.equs;
+    };
+    keys = plan.planned.keys;
+    declared = plan.planned.declared;
   }
+
+  -- where these are the entities that names get
+  pub gets_entities : (given : Vec Entity Global) → made ≡ given → (planned : IsPlan (text_planned plan) (record plan.names { list = made }) (order_planned plan) plan.sighted.items) → GetsEntities plan given (with_entities plan made planned)
+  gets_entities given is planned = subst (λ (v : Vec Entity Global). GetsEntities plan v (with_entities plan made planned)) is (planned, refl)
 
   -- what is made by a plan that gets its entities is what the statements become
   pub are_made : (procedures : List Procedure) (blocks : List Block) → AreSightedAs (names_planned plan) (order_planned plan) (text_planned plan) plan.sighted.items made.items
@@ -103,9 +112,9 @@ module _ (plan : Plan) (planned : IsPlan plan) (made : Vec Entity Global) where
       record {
         numbers = n;
         order = order;
-        names = names_still;
+        names = planned_still.numbers;
         sources = λ of. refl;
-        each_entity = sighted_are n order ss plan.sighted.items (entities_of ss) made.items planned.sighted planned.declared (resourced (names_planned plan) sources order ss plan.sighted.items made.items sighted);
+        each_entity = sighted_are n order ss plan.sighted.items (entities_of ss) made.items plan.planned.keys plan.planned.declared (resourced (names_planned plan) sources order ss plan.sighted.items made.items sighted);
         code = code;
       }
 
@@ -117,12 +126,12 @@ module _ (plan : Plan) (planned : IsPlan plan) (made : Vec Entity Global) where
       let n = with_source (names_planned plan) sources in
       let ss = text_planned plan in
       let order = order_planned plan in
-      let is = planned.names.ordered in
+      let is = plan.planned.numbers.ordered in
       let there = subst (AllThere ss) (sym is) (all_there ss) in
-      let all = all_pieces (names_planned plan) order ss plan.sighted.items planned.declared there sources a b c entities code in
-      let pieces = pieces_missing n order ss plan.sighted.items planned.declared there a c all in
+      let all = all_pieces (names_planned plan) order ss plan.sighted.items plan.planned.declared there sources a b c entities code in
+      let pieces = pieces_missing n order ss plan.sighted.items plan.planned.declared there a c all in
       record {
         numbers = n;
-        names = subst (λ o. NumbersText n o ss) is names_still;
+        names = subst (λ o. NumbersText n o ss) is planned_still.numbers;
         notes = subst (λ o. NotesCode n o ss (PieceMissing n o ss) a c) is pieces;
       }

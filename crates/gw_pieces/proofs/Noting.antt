@@ -24,68 +24,68 @@ pub behind : (least : Option Noted) (xs ys : List Noted) → with_notes least (x
 behind least [] ys = refl
 behind least (x ∷ xs) ys = behind (with_note least x) xs ys
 
-module _ {L D M : Noted → Type 0} where
-  pub nothing_more : (least : Option Noted) → ((note : Noted) → D note → ⊥) → NotesMore L D M least least
-  nothing_more least none = record { more = []; first = refl; reasons = All-nil (HasReason L M least); all = λ note d. absurd (none note d) }
+module _ {Limit Due Missing : Noted → Type 0} where
+  pub nothing_more : (least : Option Noted) → ((note : Noted) → Due note → ⊥) → NotesMore Limit Due Missing least least
+  nothing_more least none = record { more = []; first = refl; reasons = All-nil (HasReason Limit Missing least); all = λ note d. absurd (none note d) }
 
   -- where this refusal alone is due
-  pub one_limit : (least : Option Noted) (note : Noted) → L note → ((x : Noted) → D x → note ≡ x) → NotesMore L D M least (with_note least note)
+  pub one_limit : (least : Option Noted) (note : Noted) → Limit note → ((x : Noted) → Due x → note ≡ x) → NotesMore Limit Due Missing least (with_note least note)
   one_limit least note h is = record {
     more = note ∷ [];
     first = refl;
-    reasons = All-cons (HasReason L M least) note [] (inl h) (All-nil (HasReason L M least));
+    reasons = All-cons (HasReason Limit Missing least) note [] (inl h) (All-nil (HasReason Limit Missing least));
     all = λ x d. (0, omega arith, is x d);
   }
 
-  pub one_missing : (least : Option Noted) (line : ℕ) → M (noted_at line name_fault) → ((note : Noted) → D note → ⊥) → NotesMore L D M least (or_missing least line)
+  pub one_missing : (least : Option Noted) (line : ℕ) → Missing (noted_at line name_fault) → ((note : Noted) → Due note → ⊥) → NotesMore Limit Due Missing least (or_missing least line)
   one_missing None line h none = record {
     more = noted_at line name_fault ∷ [];
     first = refl;
-    reasons = All-cons (HasReason L M None) (noted_at line name_fault) [] (inr (refl, h)) (All-nil (HasReason L M None));
+    reasons = All-cons (HasReason Limit Missing None) (noted_at line name_fault) [] (inr (refl, h)) (All-nil (HasReason Limit Missing None));
     all = λ note d. absurd (none note d);
   }
   one_missing (Some x) line h none = nothing_more (Some x) none
 
   -- where the first refusal is this one
-  pub ends_with : (a b c : Option Noted) → c ≡ b → NotesMore L D M a b → NotesMore L D M a c
-  ends_with a b c is h = subst (NotesMore L D M a) (sym is) h
+  pub ends_with : (a b c : Option Noted) → c ≡ b → NotesMore Limit Due Missing a b → NotesMore Limit Due Missing a c
+  ends_with a b c is h = subst (NotesMore Limit Due Missing a) (sym is) h
 
   -- of one pass and the next, of which each tells what is due of it
-  pub further : {D1 D2 : Noted → Type 0} (a b c : Option Noted) → ((note : Noted) → D note → D1 note ⊎ D2 note) → NotesMore L D1 M a b → NotesMore L D2 M b c → NotesMore L D M a c
-  further {D1} {D2} a b c split one next = record {
+  pub further : {DueFirst DueNext : Noted → Type 0} (a b c : Option Noted) → ((note : Noted) → Due note → DueFirst note ⊎ DueNext note) → NotesMore Limit DueFirst Missing a b → NotesMore Limit DueNext Missing b c → NotesMore Limit Due Missing a c
+  further {DueFirst} {DueNext} a b c split one next = record {
     more = one.more ++ next.more;
     first = next.first ∙ ap (λ x. with_notes x next.more) one.first ∙ sym (behind a one.more next.more);
-    reasons = All-append (HasReason L M a) one.more next.more one.reasons (λ k d lt. earlier _ (next.reasons k d lt));
+    reasons = All-append (HasReason Limit Missing a) one.more next.more one.reasons (λ k d lt. earlier _ (next.reasons k d lt));
     all = λ note d. in_either note (split note d);
   }
     where
-      earlier : (note : Noted) → HasReason L M b note → HasReason L M a note
+      earlier : (note : Noted) → HasReason Limit Missing b note → HasReason Limit Missing a note
       earlier note (inl h) = inl h
       earlier note (inr h) = inr ((none_noted a one.more (sym one.first ∙ h.0)).0, h.1)
 
-      in_either : (note : Noted) → D1 note ⊎ D2 note → Contains (one.more ++ next.more) note
+      in_either : (note : Noted) → DueFirst note ⊎ DueNext note → Contains (one.more ++ next.more) note
       in_either note (inl d) = Contains-append_left one.more next.more note (one.all note d)
       in_either note (inr d) = Contains-append_right one.more next.more note (next.all note d)
 
 -- what may be missing
-module _ {M : Noted → Type 0} where
-  pub unless : {A : Type 0} (piece : Option A) (least : Option Noted) (line : ℕ) → (piece ≡ None → M (noted_at line name_fault)) → NotesMissing M least (unless_piece piece least line)
+module _ {Missing : Noted → Type 0} where
+  pub unless : {A : Type 0} (piece : Option A) (least : Option Noted) (line : ℕ) → (piece ≡ None → Missing (noted_at line name_fault)) → NotesMissing Missing least (unless_piece piece least line)
   unless None least line h = one_missing least line (h refl) (λ note d. d)
   unless (Some x) least line h = nothing_more least (λ note d. d)
 
-  pub further_missing : (a b c : Option Noted) → NotesMissing M a b → NotesMissing M b c → NotesMissing M a c
+  pub further_missing : (a b c : Option Noted) → NotesMissing Missing a b → NotesMissing Missing b c → NotesMissing Missing a c
   further_missing a b c one next = further a b c (λ note d. absurd d) one next
 
 -- by wider reasons, where less is due
-pub widen : {L D M L2 D2 M2 : Noted → Type 0} (a b : Option Noted) → ((note : Noted) → L note → L2 note) → ((note : Noted) → D2 note → D note) → ((note : Noted) → M note → M2 note) → NotesMore L D M a b → NotesMore L2 D2 M2 a b
-widen {L} {D} {M} {L2} {D2} {M2} a b limit due missing h = record {
+pub widen : {Limit Due Missing WideLimit LessDue WideMissing : Noted → Type 0} (a b : Option Noted) → ((note : Noted) → Limit note → WideLimit note) → ((note : Noted) → LessDue note → Due note) → ((note : Noted) → Missing note → WideMissing note) → NotesMore Limit Due Missing a b → NotesMore WideLimit LessDue WideMissing a b
+widen {Limit} {Due} {Missing} {WideLimit} {LessDue} {WideMissing} a b limit due missing h = record {
   more = h.more;
   first = h.first;
   reasons = λ k d lt. wide _ (h.reasons k d lt);
   all = λ note d. h.all note (due note d);
 }
   where
-    wide : (note : Noted) → HasReason L M a note → HasReason L2 M2 a note
+    wide : (note : Noted) → HasReason Limit Missing a note → HasReason WideLimit WideMissing a note
     wide note (inl x) = inl (limit note x)
     wide note (inr x) = inr (x.0, missing note x.1)
 
@@ -100,7 +100,7 @@ told A first Over faults.Limit h = h
 told A first Over faults.Memory h = tt
 
 -- by other reasons that follow
-pub explains_by : (b : Blamed) {Over Missing Over2 Missing2 : Type 0} → (Over → Over2) → (Missing → Missing2) → Explains b Over Missing → Explains b Over2 Missing2
+pub explains_by : (b : Blamed) {Over Missing WideOver WideMissing : Type 0} → (Over → WideOver) → (Missing → WideMissing) → Explains b Over Missing → Explains b WideOver WideMissing
 explains_by blamed.Limit f g h = f h
 explains_by blamed.Name f g h = g h
 explains_by blamed.Memory f g h = tt

@@ -99,10 +99,10 @@ module _ (n : Numbers) (order : List Origin) (ss : List Statement) where
       missing note (inr x) = inr (record { place = x.place; needed = record { place = place; entity = e; among = at; declaration = x.needed }; missing = x.missing; noted = x.noted })
 
   -- where this may be missing of code, and that of what else is made
-  with_code : {M1 M2 : Noted → Type 0} (a b : Option Noted) → ((note : Noted) → M1 note → M2 note) → NotesCode n order ss M1 a b → NotesCode n order ss M2 a b
+  with_code : {Missing WideMissing : Noted → Type 0} (a b : Option Noted) → ((note : Noted) → Missing note → WideMissing note) → NotesCode n order ss Missing a b → NotesCode n order ss WideMissing a b
   with_code a b missing h = widen a b (λ note x. x) (λ note d. d) missing h
 
-  with_missing : {L M1 M2 : Noted → Type 0} (a b : Option Noted) → ((note : Noted) → M1 note → M2 note) → NotesMissing M1 a b → NotesMore L Never M2 a b
+  with_missing : {Limit Missing WideMissing : Noted → Type 0} (a b : Option Noted) → ((note : Noted) → Missing note → WideMissing note) → NotesMissing Missing a b → NotesMore Limit Never WideMissing a b
   with_missing a b missing h = widen a b (λ note x. absurd x) (λ note d. d) missing h
 
   pub code_and_blocks : (a b c : Option Noted) → NotesCode n order ss (ProcedureMissing n order ss) a b → NotesMissing (BlockMissing n order ss) b c → NotesCode n order ss (CodeOrBlockMissing n order ss) a c

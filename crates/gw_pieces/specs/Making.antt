@@ -1,5 +1,5 @@
 -- What is made of a model text, before it is an object.
-use Rattle.std.specs.Prelude.{◌≡◌, ◌≤◌, ◌⊎◌, ℕ, List, [], length, map, Vec, Option, Some, None}
+use Rattle.std.specs.Prelude.{◌≡◌, ◌≤◌, ◌⊎◌, ℕ, List, [], length, Vec, Option, Some, None}
 use Rattle.std.specs.Global.{Global}
 use Rattle.gw_blocks.specs.declared.parts.Block.{Block}
 use Rattle.gw_blocks.specs.declared.parts.Numbered.{Numbered}
@@ -13,25 +13,22 @@ use Rattle.gw_text.specs.declared.model.Statement.{Statement}
 use Rattle.gw_compile.specs.Numbers.{Numbers}
 use Rattle.gw_names.specs.declared.ledger.Ledger.{Ledger}
 use Rattle.gw_names.specs.declared.ledger.Noted.{Noted}
-use Rattle.gw_names.specs.declared.sights.Sighted.{Sighted}
 use Rattle.gw_names.specs.Judgement.{refusals_in}
 use Rattle.gw_names.specs.Known.{found_in}
 use Rattle.gw_names.specs.Ledger.{as_fault, with_notes}
-use Rattle.gw_names.specs.Places.{declaration_of}
-use Rattle.gw_names.specs.Sighting.{keys_of}
 use Rattle.gw_names.specs.Sights.{entities_of, limits_in}
 use Rattle.gw_pieces.specs.declared.naming.Meanings.{Meanings}
 use Rattle.gw_pieces.specs.declared.origins.Origin.{Origin}
 use Rattle.gw_pieces.specs.declared.pieces.Code.{Code}
 use Rattle.gw_pieces.specs.declared.pieces.Pieces.{Pieces}
-use Rattle.gw_pieces.specs.declared.plan.Ordered.{Ordered}
+use Rattle.gw_pieces.specs.declared.planning.Ordered.{Ordered}
 use Rattle.gw_pieces.specs.declared.plan.Plan.{Plan}
 use Rattle.gw_pieces.specs.Clear.{StaysClear}
 use Rattle.gw_pieces.specs.Entities.{AreEntitiesOf}
 use Rattle.gw_pieces.specs.Naming.{callee_of, equ_meant}
 use Rattle.gw_pieces.specs.Numbers.{source_in}
 use Rattle.gw_pieces.specs.Order.{order_in}
-use Rattle.gw_pieces.specs.Pieces.{NumbersText, HasCode, IsNamed}
+use Rattle.gw_pieces.specs.Pieces.{NumbersText, IsPlan, HasCode, IsNamed}
 use Rattle.gw_pieces.specs.Plans.{names_planned, order_planned, text_planned, AreFew}
 use Rattle.gw_pieces.specs.Reasons.{NotesCode, PieceMissing, surplus_in}
 
@@ -79,20 +76,17 @@ IsNotMade ss fault = IsRefusedAtLine ss fault ⊎ (fault ≡ out_of_memory)
 
 -- PLANS
 
--- a plan has the numbers that its text gives to names, and the entities of which the text speaks, each with what declares it
-pub record IsPlan (plan : Plan) : Type 0 where
-  pub names : NumbersText (names_planned plan) (order_planned plan) (text_planned plan)
-  pub sighted : keys_of plan.sighted.items ≡ entities_of (text_planned plan)
-  pub declared : map (λ (s : Sighted). s.declaration) plan.sighted.items ≡ map (declaration_of (text_planned plan)) (entities_of (text_planned plan))
-
--- and is that of a text
-pub record IsPlanOf (text : Model) (plan : Plan) : Type 0 where
-  pub text_is : plan.text.now ≡ text
-  pub plan_is : IsPlan plan
+-- a plan is that of a text
+abbrev pub IsPlanOf : Model → Plan → Type 0
+IsPlanOf text plan = plan.text.now ≡ text
 
 -- a plan whose names have these entities
-abbrev pub with_entities : Plan → Vec Entity Global → Plan
-with_entities plan made = record plan { names = record plan.names { list = made } }
+abbrev pub with_entities : (plan : Plan) (made : Vec Entity Global) → IsPlan (text_planned plan) (record plan.names { list = made }) (order_planned plan) plan.sighted.items → Plan
+with_entities plan made planned = record plan { names = record plan.names { list = made }; planned = planned }
+
+-- the names of a plan get these entities
+abbrev pub GetsEntities : Plan → Vec Entity Global → Plan → Type 0
+GetsEntities old made new = (planned : IsPlan (text_planned old) (record old.names { list = made }) (order_planned old) old.sighted.items) × (new ≡ with_entities old made planned)
 
 -- where nothing is noted, there are no more origins than an object has procedures
 abbrev pub HasRoom : Ledger → Ledger → Vec Origin Global → Type 0

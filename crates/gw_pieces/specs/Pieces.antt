@@ -1,5 +1,5 @@
 -- What a model text becomes, piece by piece.
-use Rattle.std.specs.Prelude.{◌≡◌, ℕ, List, [], Some, None, length, replicate, slice_get}
+use Rattle.std.specs.Prelude.{◌≡◌, ℕ, List, [], Some, None, length, map, replicate, slice_get}
 use Rattle.gw_blocks.specs.declared.parts.Block.{Block}
 use Rattle.gw_blocks.specs.declared.parts.Numbered.{Numbered}
 use Rattle.gw_blocks.specs.declared.parts.Operand.{Operand}
@@ -28,9 +28,13 @@ use Rattle.gw_records.specs.Entities.{entity_kind}
 use Rattle.gw_pieces.specs.Numbers.{with_source, source_in}
 use Rattle.gw_compile.specs.Numbers.{Numbers}
 use Rattle.gw_compile.specs.Value.{value_of}
+use Rattle.gw_names.specs.declared.names.Names.{Names}
+use Rattle.gw_names.specs.declared.sights.Sighted.{Sighted}
 use Rattle.gw_names.specs.Judgement.{refusals_in}
 use Rattle.gw_names.specs.Known.{key}
-use Rattle.gw_names.specs.Places.{block_of}
+use Rattle.gw_names.specs.Numbers.{numbers_of}
+use Rattle.gw_names.specs.Places.{block_of, declaration_of}
+use Rattle.gw_names.specs.Sighting.{keys_of}
 use Rattle.gw_names.specs.Sights.{entities_of, number_among, parameter_of, limits_in}
 use Rattle.gw_pieces.specs.declared.origins.Origin.{Origin}
 use Rattle.gw_pieces.specs.Origins.{expression_at, number_for, numbers_for}
@@ -51,6 +55,12 @@ pub record NumbersText (n : Numbers) (order : List Origin) (ss : List Statement)
   pub ordered : order ≡ order_in ss
   pub callees : (name : List ℕ) → n.procedure name ≡ callee_of ss order name
   pub equs : (name : List ℕ) → n.equ name ≡ equ_meant ss order name
+
+-- the names, the order of the procedures and the entities that were sighted are those of the text: each entity of which it speaks, with what declares it
+pub record IsPlan (ss : List Statement) (names : Names) (order : List Origin) (sighted : List Sighted) : Type 0 where
+  pub numbers : NumbersText (numbers_of names) order ss
+  pub keys : keys_of sighted ≡ entities_of ss
+  pub declared : map (λ (s : Sighted). s.declaration) sighted ≡ map (declaration_of ss) (entities_of ss)
 
 -- PIECES
 

@@ -12,6 +12,7 @@ mod order;
 mod origins;
 mod pieces;
 mod plan;
+mod planning;
 mod settings;
 
 pub use lines::procedure_lines;

@@ -5,7 +5,7 @@ ghost use Rattle.gw_names.specs.Naming.{Knows};
 ghost use Rattle.gw_pieces.specs.Lines as model;
 
 use crate::origins::Origin;
-use crate::plan::{line_of, order_of};
+use crate::planning::{line_of, order_of};
 use gw_names::{Known, Ledger};
 use gw_text::Model;
 use std::alloc::{AllocError, Global};

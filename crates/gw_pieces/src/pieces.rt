@@ -10,7 +10,8 @@ ghost use Rattle.gw_pieces.specs.Settings.{seeds_in};
 use crate::blocks::blocks_of;
 use crate::compiling::procedures_of;
 use crate::entities::entities_of;
-use crate::plan::{Plan, plan_of};
+use crate::plan::Plan;
+use crate::planning::plan_of;
 use crate::settings::{count_of, seeds_of};
 use gw_blocks::Block;
 use gw_code::Procedure;
@@ -54,7 +55,7 @@ struct Pieces {
 
 /// The names of a plan get their entities.
 fn give_entities(plan: &mut Plan<'_>, entities: Vec<Entity>)
-    ensures { plan.new ≡ making.with_entities plan.old entities }
+    ensures { making.GetsEntities plan.old entities plan.new }
 {
     drop(mem::replace(&mut plan.names.list, entities));
 }
@@ -68,7 +69,6 @@ fn take_entities(alloc: Global, plan: &mut Plan<'_>) -> Vec<Entity>
 
 /// What is made by a plan, which gets its entities first; they are taken from it in the end. What can't be made is noted.
 fn pieces_by(alloc: Global, plan: &mut Plan<'_>, ledger: &mut Ledger) -> Result<Pieces, AllocError>
-    requires { making.IsPlan plan.old }
     ensures made { IfOk result (making.MakesPieces plan.old ledger.old ledger.new) }
     ensures notes { OnOk result (making.NotesPlan plan.old ledger.old ledger.new) }
 {

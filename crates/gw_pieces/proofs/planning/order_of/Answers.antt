@@ -3,7 +3,7 @@ use Rattle.gw_names.specs.Ledger.{with_notes}
 use Rattle.gw_pieces.specs.Order.{lookup_by, order_by}
 use Rattle.gw_pieces.specs.Reasons.{surplus_in}
 use Rattle.gw_pieces.proofs.Searching.{lookup_is}
-use Rattle.gw_pieces.proofs.plan.order_of.Goals as goal
+use Rattle.gw_pieces.proofs.planning.order_of.Goals as goal
 
 pub returns-clause-order : goal.returns-clause-order
 returns-clause-order c =

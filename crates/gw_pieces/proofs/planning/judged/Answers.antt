@@ -8,7 +8,7 @@ use Rattle.gw_pieces.specs.Naming.{callee_of, equ_by}
 use Rattle.gw_pieces.specs.Order.{order_in}
 use Rattle.gw_pieces.specs.Reasons.{surplus_in}
 use Rattle.gw_pieces.proofs.Noted.{none_noted}
-use Rattle.gw_pieces.proofs.plan.judged.Goals as goal
+use Rattle.gw_pieces.proofs.planning.judged.Goals as goal
 
 pub returns-clause-few : goal.returns-clause-few
 returns-clause-few c = λ none.

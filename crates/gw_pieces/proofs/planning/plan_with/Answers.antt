@@ -1,5 +1,5 @@
 use Rattle.std.proofs.Common.{◌≤◌, length, subst}
-use Rattle.gw_pieces.proofs.plan.plan_with.Goals as goal
+use Rattle.gw_pieces.proofs.planning.plan_with.Goals as goal
 
 pub returns-in-Ok-clause-few : goal.returns-in-Ok-clause-few
 returns-in-Ok-clause-few c none =

@@ -4,7 +4,7 @@ use Rattle.gw_names.specs.Ledger.{with_notes}
 use Rattle.gw_pieces.specs.Making.{noted_of_names}
 use Rattle.gw_pieces.proofs.Succeeding.{on_ok}
 use Rattle.gw_pieces.proofs.Noted.{none_noted}
-use Rattle.gw_pieces.proofs.plan.plan_of.Goals as goal
+use Rattle.gw_pieces.proofs.planning.plan_of.Goals as goal
 
 pub returns-in-Ok-clause-few : goal.returns-in-Ok-clause-few
 returns-in-Ok-clause-few c =

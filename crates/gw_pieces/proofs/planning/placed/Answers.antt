@@ -2,7 +2,7 @@ use Rattle.std.proofs.Common.{◌∙◌, ap, arith}
 use Rattle.gw_pieces.specs.Order.{lookup_by, ordered_by}
 use Rattle.gw_pieces.proofs.Succeeding.{on_every_ok}
 use Rattle.gw_pieces.proofs.Searching.{few_are_ordered}
-use Rattle.gw_pieces.proofs.plan.placed.Goals as goal
+use Rattle.gw_pieces.proofs.planning.placed.Goals as goal
 
 pub returns-else-len-gt-MOST_PROCEDURES : goal.returns-else-len-gt-MOST_PROCEDURES
 returns-else-len-gt-MOST_PROCEDURES c =
