@@ -3,6 +3,7 @@
 
 mod blocks;
 mod entities;
+mod room;
 mod tables;
 pub mod text;
 
@@ -11,6 +12,7 @@ ghost use Rattle.gw_report.specs.Report.{Puts, status_word as word_of_status, co
 
 use blocks::put_block_lines;
 use entities::put_entity_lines;
+use room::bytes_about;
 /// The word of a block in a model text.
 pub use gw_blocks::block_word;
 use gw_object::Memory;
@@ -54,11 +56,13 @@ fn put_end_line(out: &mut Vec<u8>, sim: &Sim, status: Status) -> Result<(), Memo
     put(out, "\n")
 }
 
-/// The report of a job, in lines that each end by LF: how it stands, its blocks, and its entities (ours: docs/report.md).
+/// The report of a job, in lines that each end by LF: how it stands, its blocks, and its entities (ours: docs/report.md). Room
+/// for about as much as it takes is asked for at once, so that it isn't moved as it grows.
 pub fn report(alloc: Global, sim: &Sim) -> Result<Vec<u8>, Memory>
     ensures { IfOk result (λ text. text.items ≡ report_of sim.now) }
 {
-    let mut out = Vec::new(alloc);
+    let bytes = bytes_about(sim.spec().verified().object().parts());
+    let mut out = Vec::with_capacity(alloc, bytes)?;
     put_end_line(&mut out, sim, sim.status())?;
     put_block_lines(&mut out, sim)?;
     put_entity_lines(&mut out, sim)?;
