@@ -11,7 +11,7 @@ use crate::ticket::Ticket;
 use crate::waiting::Waiting;
 use gw_answers::{NoJob, refusal_of_job, spec_of};
 use gw_object::Memory;
-use gw_pool::Shared;
+use gw_pool::{Shared, submit};
 use gw_scan::Spec;
 use std::alloc::Global;
 use std::collections::VecDeque;
@@ -38,7 +38,7 @@ fn submitted<R: Ledger, S: Ledger, W: Wait>(
 ) -> Ticket
     ensures { IsTicketFor number spec result }
 {
-    match table.lock(rt).submit(alloc, user(number), spec) {
+    match submit(rt, alloc, table, user(number), spec) {
         Ok(pass) => Ticket::Submitted(pass),
         Err((spec, fault)) => {
             drop(spec);

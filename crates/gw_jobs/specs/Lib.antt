@@ -1,6 +1,8 @@
 -- WHAT A ROW HOLDS
 pub mod Holding
 pub mod Running
+-- JOBS AT THEIR START
+pub mod Starting
 -- PASSES, TASKS AND RECEIPTS
 pub mod Passes
 -- THE STORED JOURNAL, AND THE TABLE

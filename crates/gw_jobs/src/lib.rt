@@ -17,5 +17,6 @@ pub use gw_service::{JobFault, Progress, State};
 pub use laws::equal_rows_are_told_alike;
 pub use pass::Pass;
 pub use replies::{Reply, Returned};
+pub use submission::NewJob;
 pub use table::Table;
 pub use task::Task;

@@ -1,70 +1,81 @@
 //! What a submit needs: the job at its start, and room for its row.
 
-ghost use Rattle.std.specs.Prelude.{◌≡◌, ◌+◌, ◌≤◌, ◌<◌, ◌∷◌, ◌++◌, [], vec_len, vec_capacity, IfOk, IfErr, Some};
-ghost use Rattle.gw_step.specs.Job.{JobFits, start_of};
+ghost use Rattle.std.specs.Prelude.{◌≡◌, ◌+◌, ◌≤◌, ◌<◌, ◌∷◌, ◌++◌, [], vec_len, vec_capacity, IfOk, IfErr};
+ghost use Rattle.gw_step.specs.Job.{JobFits};
 ghost use Rattle.gw_service.specs.Rows.{new_row};
+ghost use Rattle.gw_service.specs.Journal.{HasState};
 
 use crate::journal::{StoredEvent, reserve_more};
 use crate::row::Row;
 use gw_scan::{Sim, Spec};
 use gw_service::JobFault;
 use std::alloc::Global;
+use std::marker::Model;
 
-/// A job at its start, with its spec for the row and for the pass.
+/// A job at its start, which a table may take in (`Table::add`). Contracts see what it runs.
 #[derive(Drop)]
 pub struct NewJob {
-    /// For its row.
-    pub row_spec: Spec,
-    /// For its pass.
-    pub pass_spec: Spec,
-    /// Its start state.
-    pub sim: Sim,
+    row_spec: Spec,
+    pass_spec: Spec,
+    sim: Sim,
 }
 
-/// The job of a spec at its start. Where memory runs out the spec comes back.
-pub fn start_job(alloc: Global, spec: Spec) -> Result<NewJob, Spec>
-    ensures specs { IfOk result (λ job. (job.row_spec ≡ spec) × (job.pass_spec ≡ spec)) }
-    ensures job { IfOk result (λ job. job.sim.job ≡ spec) }
-    ensures start { IfOk result (λ job. start_of spec ≡ Some job.sim.state) }
-    ensures err { IfErr result (λ back. back ≡ spec) }
-{
-    let row_spec = match spec.share() {
-        Ok(shared) => shared,
-        Err(_) => return Err(spec),
-    };
-    let pass_spec = match spec.share() {
-        Ok(shared) => shared,
-        Err(_) => {
-            drop(row_spec);
-            return Err(spec);
+impl Model for NewJob {
+    ghost use Rattle.gw_step.specs.Job.{Job};
+    ghost use Rattle.gw_jobs.specs.Starting.{job_of, IsAtStart};
+
+    ghost Value = { Job };
+
+    ghost view = { job_of };
+
+    ghost invariant = { IsAtStart };
+}
+
+impl NewJob {
+    /// The job of a spec at its start. It needs no table and no lock, and may take long: what GENERATE blocks ask for at the
+    /// start is computed here. Where memory runs out the spec comes back.
+    pub fn start(alloc: Global, spec: Spec) -> Result<NewJob, Spec>
+        ensures job { IfOk result (λ job. job ≡ spec) }
+        ensures back { IfErr result (λ back. back ≡ spec) }
+    {
+        let row_spec = match spec.share() {
+            Ok(shared) => shared,
+            Err(_) => return Err(spec),
+        };
+        let pass_spec = match spec.share() {
+            Ok(shared) => shared,
+            Err(_) => {
+                drop(row_spec);
+                return Err(spec);
+            }
+        };
+        match Sim::start(alloc, spec) {
+            Ok(sim) => Ok(NewJob {
+                row_spec,
+                pass_spec,
+                sim,
+            }),
+            Err((spec, _)) => {
+                drop(row_spec);
+                drop(pass_spec);
+                Err(spec)
+            }
         }
-    };
-    match Sim::start(alloc, spec) {
-        Ok(sim) => Ok(NewJob {
+    }
+
+    /// What it runs; its state is let go.
+    pub fn into_spec(self) -> Spec
+        ensures { result ≡ self }
+    {
+        let NewJob {
             row_spec,
             pass_spec,
             sim,
-        }),
-        Err((spec, _)) => {
-            drop(row_spec);
-            drop(pass_spec);
-            Err(spec)
-        }
+        } = self;
+        drop(sim);
+        drop(row_spec);
+        pass_spec
     }
-}
-
-/// The spec of a job for which there is no room; what else it has is let go.
-pub fn spec_again(job: NewJob) -> Spec
-    ensures { result ≡ job.pass_spec }
-{
-    let NewJob {
-        row_spec,
-        pass_spec,
-        sim,
-    } = job;
-    drop(sim);
-    drop(row_spec);
-    pass_spec
 }
 
 /// How many rows there is room for at once.
@@ -111,14 +122,20 @@ pub fn make_room(
     reserve_row(rows)
 }
 
-/// Puts a new row at the end, whose job is one of an accepted object.
-pub fn add_row(rows: &mut Vec<Row>, user: u64, spec: Spec, sim: Sim)
+/// Puts a new row at the end, whose job is one of an accepted object and has a start, and answers the spec for its pass.
+pub fn add_row(rows: &mut Vec<Row>, user: u64, job: NewJob) -> Spec
     requires room { vec_len rows.old < vec_capacity rows.old }
-    requires job { sim.job ≡ spec }
-    requires start { start_of spec ≡ Some sim.state }
-    ensures rows { rows.new.items ≡ rows.old.items ++ (new_row user spec ∷ []) }
-    ensures fits { JobFits spec }
+    ensures spec { result ≡ job }
+    ensures rows { rows.new.items ≡ rows.old.items ++ (new_row user job ∷ []) }
+    ensures starts { HasState job 0 }
+    ensures fits { JobFits job }
     ensures len { vec_len rows.new ≡ vec_len rows.old + 1 }
 {
-    rows.push_reserved(Row::new(user, spec, sim));
+    let NewJob {
+        row_spec,
+        pass_spec,
+        sim,
+    } = job;
+    rows.push_reserved(Row::new(user, row_spec, sim));
+    pass_spec
 }

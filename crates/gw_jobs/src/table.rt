@@ -17,7 +17,7 @@ use crate::rows::{
     MOST_JOBS, admitted_row, cancel_row, put_back_row, receipt, refusal_of_cancel,
     refusal_of_submit, reply_of, steps_at_take, take_row,
 };
-use crate::submission::{NewJob, add_row, make_room, spec_again, start_job};
+use crate::submission::{NewJob, add_row, make_room};
 use crate::task::Task;
 use gw_object::Memory;
 use gw_scan::Spec;
@@ -72,8 +72,17 @@ impl Table {
         })
     }
 
+    /// The first refusal of a submit of a user as the table stands, if there is one: `UserFull`, `ServiceFull`, `JournalFull`.
+    /// It takes no memory.
+    pub fn refusal_of(&self, user: u64) -> Option<JobFault>
+        ensures { result ≡ submit_fault user self.now }
+    {
+        let full = is_full(&self.journal, self.out, 1);
+        refusal_of_submit(&self.rows, user, full)
+    }
+
     /// Adds a job of a user, and makes its pass. The job is ready, at the end of the ready list; one that its start already
-    /// ended is ended at once.
+    /// ended is ended at once. Who holds a lock on the table starts the job without it, and adds it by `add`.
     ///
     /// Refused by the first of `UserFull`, `ServiceFull`, `JournalFull` and `Memory` that applies; then the spec comes back,
     /// and nothing changes.
@@ -85,27 +94,38 @@ impl Table {
         ensures refused { IfErr result (λ e. Refuses (submit_fault user self.old) e.1) }
         ensures same { OnErr result (self.new ≡ self.old) }
     {
-        let full = is_full(&self.journal, self.out, 1);
-        if let Some(fault) = refusal_of_submit(&self.rows, user, full) {
+        if let Some(fault) = self.refusal_of(user) {
             return Err((spec, fault));
         }
-        let job = match start_job(alloc, spec) {
-            Ok(job) => job,
-            Err(spec) => return Err((spec, JobFault::Memory)),
-        };
-        if make_room(&mut self.rows, &mut self.ready, &mut self.journal, self.out).is_err() {
-            return Err((spec_again(job), JobFault::Memory));
+        match NewJob::start(alloc, spec) {
+            Ok(job) => self.add(user, job),
+            Err(spec) => Err((spec, JobFault::Memory)),
         }
-        let NewJob {
-            row_spec,
-            pass_spec,
-            sim,
-        } = job;
+    }
+
+    /// Adds a job of a user that was started before, as `submit` does.
+    ///
+    /// Refused by the first of `UserFull`, `ServiceFull`, `JournalFull` and `Memory` that applies; then its spec comes back,
+    /// and nothing changes.
+    pub fn add(&mut self, user: u64, job: NewJob) -> Result<Pass, (Spec, JobFault)>
+        ensures pass { IfOk result (λ pass. pass ≡ new_pass user job self.old) }
+        ensures free { IfOk result (λ _. submit_fault user self.old ≡ None) }
+        ensures event { IfOk result (λ _. self.new ≡ with_event (Submit user job) self.old) }
+        ensures back { IfErr result (λ e. e.0 ≡ job) }
+        ensures refused { IfErr result (λ e. Refuses (submit_fault user self.old) e.1) }
+        ensures same { OnErr result (self.new ≡ self.old) }
+    {
+        if let Some(fault) = self.refusal_of(user) {
+            return Err((job.into_spec(), fault));
+        }
+        if make_room(&mut self.rows, &mut self.ready, &mut self.journal, self.out).is_err() {
+            return Err((job.into_spec(), JobFault::Memory));
+        }
         let slot = self.rows.len() as u32;
-        add_row(&mut self.rows, user, row_spec, sim);
+        let spec = add_row(&mut self.rows, user, job);
         self.journal.push_reserved(StoredEvent::Submit);
         list_if_ready(&mut self.ready, &self.rows, slot);
-        Ok(Pass::of(user, slot, pass_spec))
+        Ok(Pass::of(user, slot, spec))
     }
 
     /// Takes the first job of the ready list, with its state, for a worker; none where nothing is ready. The table keeps the

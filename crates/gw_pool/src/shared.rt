@@ -10,7 +10,7 @@ ghost use Rattle.gw_jobs.specs.Answers.{IsCollected, AnswersTake, after_take, Co
 ghost use Rattle.gw_pool.specs.Shares.{all_parts, AreWhole, share_of, Follows, IsPartOf};
 
 use crate::share::Share;
-use gw_jobs::{JobFault, Pass, Progress, Reply, Returned, Table, Task};
+use gw_jobs::{JobFault, NewJob, Pass, Progress, Reply, Returned, Table, Task};
 use gw_object::Memory;
 use gw_scan::Spec;
 use std::alloc::Global;
@@ -67,8 +67,16 @@ pub fn new_shared<R: Ledger, S: Ledger>(
 }
 
 impl<R: Ledger, S: Ledger> Shared<R, S> {
+    /// The first refusal of a submit of a user as the table stands, if there is one: `UserFull`, `ServiceFull`, `JournalFull`.
+    /// It takes no memory.
+    pub fn refusal_of(&self, user: u64) -> Option<JobFault>
+        ensures { result ≡ submit_fault user self.now }
+    {
+        self.table.refusal_of(user)
+    }
+
     /// Adds a job of a user, and makes its pass. The job is ready, at the end of the ready list; one that its start already
-    /// ended is ended at once.
+    /// ended is ended at once. It starts the job: who holds a lock that others wait for starts it without (`gw_pool::submit`).
     ///
     /// Refused by the first of `UserFull`, `ServiceFull`, `JournalFull` and `Memory` that applies; then the spec comes back,
     /// and nothing changes.
@@ -81,6 +89,21 @@ impl<R: Ledger, S: Ledger> Shared<R, S> {
         ensures same { OnErr result (self.new ≡ self.old) }
     {
         self.table.submit(alloc, user, spec)
+    }
+
+    /// Adds a job of a user that was started before, as `submit` does.
+    ///
+    /// Refused by the first of `UserFull`, `ServiceFull`, `JournalFull` and `Memory` that applies; then its spec comes back,
+    /// and nothing changes.
+    pub fn add(&mut self, user: u64, job: NewJob) -> Result<Pass, (Spec, JobFault)>
+        ensures pass { IfOk result (λ pass. pass ≡ new_pass user job self.old) }
+        ensures free { IfOk result (λ _. submit_fault user self.old ≡ None) }
+        ensures event { IfOk result (λ _. self.new ≡ with_event (Submit user job) self.old) }
+        ensures back { IfErr result (λ e. e.0 ≡ job) }
+        ensures refused { IfErr result (λ e. Refuses (submit_fault user self.old) e.1) }
+        ensures same { OnErr result (self.new ≡ self.old) }
+    {
+        self.table.add(user, job)
     }
 
     /// Takes the first job of the ready list, with its state, for a worker; none where nothing is ready. The table keeps the

@@ -10,7 +10,7 @@ ghost use Rattle.gw_study.specs.Runs.{IsPassOf, ArePassesOf, AddsReportsTo, AreR
 use crate::job::{Setup, job_of_run};
 use gw_answers::{NoJob, refusal_of_job};
 use gw_jobs::{JobFault, Pass};
-use gw_pool::{Crew, OpenGate, PoolFault, Service, Shared};
+use gw_pool::{Crew, OpenGate, PoolFault, Service, Shared, submit};
 use gw_scan::Spec;
 use std::alloc::Global;
 use std::collections::VecDeque;
@@ -59,7 +59,7 @@ fn submit_run<R: Ledger, S: Ledger, W: Wait>(
 {
     let spec = job_of_run(alloc, setup.object, run, setup.count)?;
     let user = u64::from(run / RUNS_OF_A_USER);
-    match table.lock(rt).submit(alloc, user, spec) {
+    match submit(rt, alloc, table, user, spec) {
         Ok(pass) => Ok(pass),
         Err((spec, fault)) => {
             drop(spec);
