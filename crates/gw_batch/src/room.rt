@@ -11,8 +11,9 @@ const ROOM: usize = 48 << 20;
 /// What a job is taken to need beside its tables and its object, in bytes: 64 KiB.
 const BYTES_OF_A_JOB: usize = 64 << 10;
 
-/// What a class of a table is taken to need, in bytes.
-const BYTES_OF_A_CLASS: usize = 8;
+/// What a class of a table is taken to need, in bytes: 8 in the state, and some 16 in its line of the report, which is kept
+/// once the job has ended.
+const BYTES_OF_A_CLASS: usize = 24;
 
 /// How many times its bytes an object is taken to need, once it is read.
 const TIMES_ITS_BYTES: usize = 4;

@@ -1,14 +1,15 @@
 -- What a row holds, by whether a named end stands.
-use Rattle.std.proofs.Common.{◌≡◌, ◌≤◌, Option, Some, None, refl, ap, arith}
-use Rattle.std.specs.Prelude.{is_some, ◌^◌}
+use Rattle.std.proofs.Common.{◌≡◌, ◌≤◌, ◌∙◌, ℕ, Option, Some, None, refl, ap, arith}
+use Rattle.std.specs.Prelude.{is_some, ◌^◌, true}
 use Rattle.gw_step.specs.declared.ends.End.{End}
-use Rattle.gw_step.specs.Job.{Progress, IsReached}
+use Rattle.gw_step.specs.Job.{Job, Progress, IsReached}
 use Rattle.gw_scan.specs.declared.sim.Status.TheVariants as statuses
 use Rattle.gw_scan.specs.Answers.{status_at}
 use Rattle.gw_service.specs.Rows.{is_final, is_over, standing_at}
 use Rattle.gw_jobs.specs.declared.row.Standing.{Standing}
 use Rattle.gw_jobs.specs.declared.row.Standing.TheVariants as standings
-use Rattle.gw_jobs.specs.Holding.{standing_of, HoldsFor}
+use Rattle.gw_jobs.specs.declared.conclusion.Conclusion.{Conclusion}
+use Rattle.gw_jobs.specs.Holding.{standing_of, HoldsFor, Concludes}
 
 -- the lone run is over at a reached state exactly where a named end stands in it
 pub over_is : (p : Progress) → IsReached p → is_over p.job p.state.steps ≡ is_some p.state.ended
@@ -32,6 +33,15 @@ by_running (Some e) p over is = absurd cc
 
 pub stands_ready : (p : Progress) → IsReached p → statuses.Running ≡ status_at p.state.ended → StandsWith (standings.Ready p) p
 stands_ready p h is = by_running p.state.ended p (over_is p h) is
+
+-- the lone run is over where a conclusion tells it
+over_told : (j : Job) (n : ℕ) (c : Conclusion) → Concludes j n c → is_over j n ≡ true
+over_told j n c h = ap is_final h.alone ∙ ap is_some h.ended
+
+pub stands_concluded : (p : Progress) (c : Conclusion) → Concludes p.job p.state.steps c → StandsWith (standings.Concluded c) p
+stands_concluded p c h =
+    let over = over_told p.job p.state.steps c h in
+    record { holds = h; standing = rw over refl }
 
 -- the steps of a reached state are within every budget
 pub few_steps : (p : Progress) → IsReached p → p.state.steps ≤ 2 ^ 40

@@ -1,6 +1,7 @@
 //! The job table: the jobs of many users, the tasks in which workers own them, and the replies that users get (ours: docs/service.md).
 #![tactic(auto)]
 
+mod conclusion;
 mod journal;
 mod laws;
 mod pass;

@@ -1,25 +1,31 @@
 //! A row of the table.
 
-ghost use Rattle.std.specs.Prelude.{◌≡◌, ℕ, ◌≤◌, ◌^◌, true, Some, IfSome, IfNone};
-ghost use Rattle.gw_step.specs.Job.{Job, JobFits, Alone};
+ghost use Rattle.std.specs.Prelude.{◌≡◌, ℕ, ◌≤◌, ◌^◌, true, IfOk, IfSome, IfNone};
+ghost use Rattle.gw_step.specs.Job.{Job, JobFits};
 ghost use Rattle.gw_service.specs.Rows as rows;
 ghost use Rattle.gw_service.specs.Calls.{state_for};
-ghost use Rattle.gw_jobs.specs.Holding.{standing_of, standing_after, HoldsFor};
+ghost use Rattle.gw_jobs.specs.Holding.{standing_of, standing_after, HoldsFor, Concludes};
 
-use gw_scan::{End, Sim, Spec, Status};
+use crate::conclusion::{Conclusion, conclude};
+use gw_object::Memory;
+use gw_scan::{Sim, Spec, Status};
 use gw_service::State;
+use std::alloc::Global;
 use std::marker::Model;
 use std::mem;
 
-/// How a job stands, and where its state is: the row holds it while the job is ready, and once it is ended.
+/// How a job stands, and where its state is: the row holds it while the job is ready. Of an ended job it holds what its report
+/// says, and the state where memory was wanted for that.
 #[derive(Drop)]
 pub enum Standing {
     /// It waits to be taken.
     Ready(Sim),
     /// A worker owns its state.
     Out,
-    /// A named end stands.
+    /// A named end stands, in this state.
     Ended(Sim),
+    /// A named end stands, and the state went.
+    Concluded(Conclusion),
     /// It was cancelled.
     Cancelled,
     /// It was cancelled while it was out, and is out still.
@@ -27,7 +33,7 @@ pub enum Standing {
 }
 
 /// A job of a user. Contracts see the row of a service; a state that it holds is the one that the job's lone run has after
-/// the row's steps.
+/// the row's steps, and a conclusion tells that one.
 #[derive(Drop)]
 pub struct Row {
     user: u64,
@@ -47,6 +53,16 @@ impl Model for Row {
     ghost invariant = { IsRow };
 }
 
+/// How a job stands that has this conclusion; its state is dropped.
+fn standing_concluded(sim: Sim, conclusion: Conclusion) -> Standing
+    requires { Concludes sim.job sim.state.steps conclusion }
+    ensures holds { HoldsFor sim.job sim.state.steps result }
+    ensures standing { standing_of result ≡ rows.standing_at sim.job sim.state.steps }
+{
+    drop(sim);
+    Standing::Concluded(conclusion)
+}
+
 /// How a job stands that isn't out and wasn't cancelled, with its state: ended where a named end stands, else ready.
 fn standing_with(sim: Sim) -> Standing
     ensures holds { HoldsFor sim.job sim.state.steps result }
@@ -60,22 +76,36 @@ fn standing_with(sim: Sim) -> Standing
 }
 
 /// How a job stands that was cancelled, now that its state is back, which is dropped.
-fn cancelled(sim: Sim) -> Standing
+fn cancelled(sim: Sim, conclusion: Option<Conclusion>) -> Standing
     ensures { result ≡ Standing.Cancelled }
 {
     drop(sim);
+    drop(conclusion);
     Standing::Cancelled
 }
 
+/// How a job stands that was out and wasn't cancelled, now that its state is back, with its conclusion if that was made.
+fn standing_kept(sim: Sim, conclusion: Option<Conclusion>) -> Standing
+    requires { IfSome conclusion (Concludes sim.job sim.state.steps) }
+    ensures holds { HoldsFor sim.job sim.state.steps result }
+    ensures standing { standing_of result ≡ rows.standing_at sim.job sim.state.steps }
+{
+    match conclusion {
+        Some(conclusion) => standing_concluded(sim, conclusion),
+        None => standing_with(sim),
+    }
+}
+
 /// How a job stands that was out, now that its state is back; that of a cancelled one is dropped.
-fn standing_back(standing: &Standing, sim: Sim) -> Standing
-    requires { rows.is_out (standing_of standing.now) ≡ true }
+fn standing_back(standing: &Standing, sim: Sim, conclusion: Option<Conclusion>) -> Standing
+    requires out { rows.is_out (standing_of standing.now) ≡ true }
+    requires concludes { IfSome conclusion (Concludes sim.job sim.state.steps) }
     ensures holds { HoldsFor sim.job sim.state.steps result }
     ensures standing { standing_of result ≡ standing_after sim standing.now }
 {
     match standing {
-        Standing::CancelledOut => cancelled(sim),
-        _ => standing_with(sim),
+        Standing::CancelledOut => cancelled(sim, conclusion),
+        _ => standing_kept(sim, conclusion),
     }
 }
 
@@ -141,7 +171,7 @@ impl Row {
         match &self.standing {
             Standing::Ready(_) => State::Ready,
             Standing::Out => State::Out,
-            Standing::Ended(_) => State::Ended,
+            Standing::Ended(_) | Standing::Concluded(_) => State::Ended,
             Standing::Cancelled => State::Cancelled,
             Standing::CancelledOut => State::Cancelled,
         }
@@ -175,7 +205,7 @@ impl Row {
     pub fn is_ended(&self) -> bool
         ensures { result ≡ rows.is_ended self.now.standing }
     {
-        matches!(self.standing, Standing::Ended(_))
+        matches!(self.standing, Standing::Ended(_) | Standing::Concluded(_))
     }
 
     /// Whether it was cancelled, and is out no more.
@@ -185,17 +215,15 @@ impl Row {
         matches!(self.standing, Standing::Cancelled)
     }
 
-    /// The final state of an ended row, and the end that stands there.
-    pub fn ended(&self) -> (&Sim, End)
+    /// The conclusion of an ended row.
+    pub fn conclusion(&self, alloc: Global) -> Result<Conclusion, Memory>
         requires { self.now.standing ≡ rows.Ended }
-        ensures job { result.0.now.job ≡ self.now.job }
-        ensures steps { result.0.now.state.steps ≡ self.now.steps }
-        ensures end { result.0.now.state.ended ≡ Some result.1 }
-        ensures alone { Alone self.now.job self.now.steps result.0.now.state }
+        ensures { IfOk result (Concludes self.now.job self.now.steps) }
     {
         match &self.standing {
+            Standing::Concluded(conclusion) => conclusion.copy(alloc),
             Standing::Ended(sim) => match sim.status() {
-                Status::Ended(end) => (sim, end),
+                Status::Ended(end) => conclude(alloc, sim, end),
                 Status::Running => unreachable!(),
             },
             _ => unreachable!(),
@@ -215,14 +243,16 @@ impl Row {
         }
     }
 
-    /// Takes back the state of a row that is out; that of a cancelled job is dropped.
-    pub fn put_back(&mut self, sim: Sim)
+    /// Takes back the state of a row that is out, with its conclusion if that was made: then the state is dropped, and so is
+    /// that of a cancelled job.
+    pub fn put_back(&mut self, sim: Sim, conclusion: Option<Conclusion>)
         requires job { sim.job ≡ self.old.job }
         requires out { rows.is_out self.old.standing ≡ true }
+        requires concludes { IfSome conclusion (Concludes sim.job sim.state.steps) }
         ensures { self.new ≡ rows.returned_row sim.state.steps self.old }
     {
         let steps = sim.steps();
-        let standing = standing_back(&self.standing, sim);
+        let standing = standing_back(&self.standing, sim, conclusion);
         self.steps = steps;
         drop(mem::replace(&mut self.standing, standing));
     }

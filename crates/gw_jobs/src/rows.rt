@@ -9,11 +9,11 @@ ghost use Rattle.gw_service.specs.Keeping.{counts_ready};
 ghost use Rattle.gw_jobs.specs.Running.{runs_for};
 ghost use Rattle.gw_jobs.specs.Answers.{IsReplyOf, IsStateIn, IsOutWith, AnswersFit, rows_back, IsReceiptOf};
 
+use crate::conclusion::Conclusion;
 use crate::pass::Pass;
 use crate::replies::{Reply, Returned};
 use crate::row::Row;
 use crate::task::Task;
-use gw_report::report;
 use gw_scan::Sim;
 use gw_service::{JobFault, State};
 use std::alloc::Global;
@@ -126,13 +126,12 @@ pub fn reply_of(alloc: Global, row: &Row) -> Result<Reply, JobFault>
     ensures reply { IfOk result (IsReplyOf row.now.job row.now.steps) }
     ensures err { IfErr result (λ fault. fault ≡ JobFault.Memory) }
 {
-    let (sim, end) = row.ended();
     let spec = match row.spec().share() {
         Ok(spec) => spec,
         Err(_) => return Err(JobFault::Memory),
     };
-    let report = match report(alloc, sim) {
-        Ok(report) => report,
+    let Conclusion { end, report } = match row.conclusion(alloc) {
+        Ok(conclusion) => conclusion,
         Err(_) => {
             drop(spec);
             return Err(JobFault::Memory);
@@ -180,8 +179,12 @@ pub fn put_back_row(rows: &mut Vec<Row>, task: Task)
     ensures rows { rows.new.items ≡ rows_back task rows.old.items }
     ensures len { vec_len rows.new ≡ vec_len rows.old }
 {
-    let Task { slot, sim } = task;
-    rows[slot as usize].put_back(sim);
+    let Task {
+        slot,
+        sim,
+        conclusion,
+    } = task;
+    rows[slot as usize].put_back(sim, conclusion);
 }
 
 /// Cancels a row.

@@ -156,7 +156,11 @@ impl Table {
         let sim = take_row(&mut self.rows, slot);
         self.out += 1;
         self.journal.push_reserved(StoredEvent::Take(slot));
-        Ok(Some(Task { slot, sim }))
+        Ok(Some(Task {
+            slot,
+            sim,
+            conclusion: None,
+        }))
     }
 
     /// Takes a task back, and drops it where its job was cancelled. Its row has the task's steps then; it is cancelled, or

@@ -5,9 +5,12 @@ ghost use Rattle.gw_step.specs.Job.{IsReached};
 ghost use Rattle.gw_scan.specs.Answers.{IsSlice, StaysPaid};
 ghost use Rattle.gw_jobs.specs.Passes.{steps_made};
 
+use crate::conclusion::{Conclusion, conclude};
 use gw_object::Memory;
-use gw_scan::{Sim, Slice, Spec};
+use gw_scan::{Sim, Slice, Spec, Status};
+use std::alloc::Global;
 use std::marker::Model;
+use std::mem;
 
 /// A job that a worker owns, with its state, which is the one that the job's lone run has after as many steps. It is made by
 /// `Table::take` alone.
@@ -15,6 +18,8 @@ use std::marker::Model;
 pub struct Task {
     pub(crate) slot: u32,
     pub(crate) sim: Sim,
+    /// What is kept of it, once that is made.
+    pub(crate) conclusion: Option<Conclusion>,
 }
 
 impl Model for Task {
@@ -66,6 +71,20 @@ impl Task {
         ensures reached { IsReached self.new.sim }
         ensures moment { StaysPaid self.old.sim self.new.sim }
     {
+        drop(mem::replace(&mut self.conclusion, None));
         self.sim.run_slice(steps)
+    }
+
+    /// Makes the report of a job that has ended, so that its row need not keep the state when the task is given back. It needs
+    /// no lock, and nothing that is told of the task or of the job changes. On `Memory` the row keeps the state, and the
+    /// report is made each time it is collected.
+    pub fn conclude(&mut self, alloc: Global) -> Result<(), Memory>
+        ensures { self.new ≡ self.old }
+    {
+        if let Status::Ended(end) = self.sim.status() {
+            let conclusion = conclude(alloc, &self.sim, end)?;
+            drop(mem::replace(&mut self.conclusion, Some(conclusion)));
+        }
+        Ok(())
     }
 }

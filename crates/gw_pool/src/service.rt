@@ -104,8 +104,8 @@ impl<R: Ledger, S: Ledger> Service<R, S> {
 
 impl<R: Ledger + Send + Sync, S: Ledger + Send + Sync> Service<R, S> {
     /// Runs n workers, numbered from 0, each in a thread of its own, and returns once all have ended. Each takes the job that
-    /// is next under the lock, passes the gate, makes a slice of so many steps outside the lock, gives the job back under it,
-    /// and publishes the job's steps. It ends where nothing is ready, where the journal is full, where memory is refused (its
+    /// is next under the lock, passes the gate, makes a slice of so many steps outside the lock, and the report of a job that
+    /// has ended then, gives the job back under it, and publishes the job's steps. It ends where nothing is ready, where the journal is full, where memory is refused (its
     /// task is given back first), and where the table doesn't take its task back. One whose thread can't be made is left out.
     ///
     /// Refused by the first of `Workers`, `Slice`, and then `Memory` or `Spawn`; then no slice was made, and the crew is as it
@@ -139,7 +139,7 @@ impl<R: Ledger + Send + Sync, S: Ledger + Send + Sync> Service<R, S> {
         self.table.lock(rt).audit(&mut crew.share);
         let share = crew.share.split(u64::from(n));
         let seat = self.board.split_off(&mut crew.seat);
-        let gathered = run_all(rt, self, gate, slice, n, share, seat, strays);
+        let gathered = run_all(rt, alloc, self, gate, slice, n, share, seat, strays);
         gathered.settle(&mut crew.share)
     }
 

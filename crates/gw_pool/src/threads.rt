@@ -11,6 +11,7 @@ use crate::service::Service;
 use crate::share::Share;
 use crate::worker::{Outcome, not_started, work};
 use gw_jobs::Task;
+use std::alloc::Global;
 use std::marker::PhantomData;
 use std::sync::Wait;
 use std::sync::atomic::{AtomicU64, Ordering};
@@ -32,6 +33,7 @@ const NOBODY: u64 = u64::MAX;
 /// Works, unless it is this worker whose thread couldn't be made.
 fn work_if_started<R: Ledger, S: Ledger, G: Gate, W: Wait>(
     rt: &W,
+    alloc: Global,
     service: &Service<R, S>,
     gate: &G,
     refused: &AtomicU64,
@@ -47,7 +49,7 @@ fn work_if_started<R: Ledger, S: Ledger, G: Gate, W: Wait>(
     if refused.load(Ordering::SeqCst) == u64::from(worker) {
         return not_started(share);
     }
-    work(rt, service, gate, slice, worker, share, seat)
+    work(rt, alloc, service, gate, slice, worker, share, seat)
 }
 
 /// Runs so many workers, numbered from the first on, and gathers what they leave. One whose thread can't be made leaves its
@@ -62,6 +64,7 @@ fn run_from<
 >(
     scope: &Scope<'s, E>,
     rt: &'s W,
+    alloc: Global,
     service: &'s Service<R, S>,
     gate: &'s G,
     refused: &'s AtomicU64,
@@ -93,11 +96,12 @@ fn run_from<
             requires share { mine ≡ share_of 1 0 0 }
             requires seat { place.board ≡ service.now }
             ensures { IsOutcome result.share result.ending }
-        { work_if_started(rt, service, gate, refused, slice, first, mine, place) },
+        { work_if_started(rt, alloc, service, gate, refused, slice, first, mine, place) },
     );
     let rest = run_from(
         scope,
         rt,
+        alloc,
         service,
         gate,
         refused,
@@ -125,6 +129,7 @@ pub(crate) fn run_all<
     W: Threads + Wait + Sync,
 >(
     rt: &W,
+    alloc: Global,
     service: &Service<R, S>,
     gate: &G,
     slice: u32,
@@ -154,7 +159,7 @@ pub(crate) fn run_all<
             ensures { result.parts ≡ count }
         {
             run_from(
-                scope, rt, service, gate, refused, slice, 0, count, share, seat, strays,
+                scope, rt, alloc, service, gate, refused, slice, 0, count, share, seat, strays,
             )
         },
     )

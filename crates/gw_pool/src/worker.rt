@@ -11,6 +11,7 @@ use crate::service::Service;
 use crate::share::Share;
 use crate::shared::Shared;
 use gw_jobs::{JobFault, Returned, Task};
+use std::alloc::Global;
 use std::sync::Wait;
 use std::sync::ledger::Ledger;
 
@@ -108,9 +109,11 @@ fn publish_return<R: Ledger, S: Ledger, W: Wait>(
     }
 }
 
-/// Makes a slice of the task that is next: none where the worker goes on then, else how it ends.
+/// Makes a slice of the task that is next, and its report if it has ended then: none where the worker goes on, else how it
+/// ends. Where memory is wanted for the report alone, the task is given back without it.
 fn round<R: Ledger, S: Ledger, G: Gate, W: Wait>(
     rt: &W,
+    alloc: Global,
     service: &Service<R, S>,
     gate: &G,
     slice: u32,
@@ -134,6 +137,7 @@ fn round<R: Ledger, S: Ledger, G: Gate, W: Wait>(
     gate.before(worker, task.slot());
     let is_whole = task.run_slice(slice).is_ok();
     *slices = slices.saturating_add(1);
+    let _ = task.conclude(alloc);
     match publish_return(rt, service, task, share, seat) {
         Ok(_) => { if is_whole { None } else { Some(Ending::Short) } }
         Err(task) => Some(Ending::Stray(task)),
@@ -143,6 +147,7 @@ fn round<R: Ledger, S: Ledger, G: Gate, W: Wait>(
 /// Works until nothing is ready, memory is refused, or a task isn't taken back.
 pub(crate) fn work<R: Ledger, S: Ledger, G: Gate, W: Wait>(
     rt: &W,
+    alloc: Global,
     service: &Service<R, S>,
     gate: &G,
     slice: u32,
@@ -160,6 +165,7 @@ pub(crate) fn work<R: Ledger, S: Ledger, G: Gate, W: Wait>(
     for _ in rt.forever() {
         let ending = round(
             rt,
+            alloc,
             service,
             gate,
             slice,
