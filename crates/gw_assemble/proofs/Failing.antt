@@ -1,5 +1,5 @@
 -- An object that is refused though all but its weights pass: no weights do.
-use Rattle.std.proofs.Common.{◌≡◌, ◌⊎◌, inl, inr, ℕ, List, sym, ◌∙◌, subst}
+use Rattle.std.proofs.Common.{◌≡◌, ◌⊎◌, inl, inr, ℕ, List, Result, Ok, Err, IfErr, sym, ◌∙◌, subst}
 use Rattle.gw_object.specs.Reading.{out_of_memory}
 use Rattle.gw_object.specs.Grammar.{HasSpelling}
 use Rattle.gw_object.specs.declared.fault.Fault.{Fault}
@@ -11,7 +11,8 @@ use Rattle.gw_rules.specs.Weights.{WeightsPass}
 use Rattle.gw_rules.specs.Accepted.{Accepted, IsRefusedFor}
 use Rattle.gw_rules.proofs.AllPass.{checked_where_all_pass, accepted_where_checked_and_weighted}
 use Rattle.gw_weighing.specs.Certificates.{DifferInWeights, HasLeastWeights, AreCertificate}
-use Rattle.gw_assemble.specs.Completion.{FailsByWeights}
+use Rattle.gw_settle.specs.Settles.{Passes, HasAssemblersTable, IsGreatest}
+use Rattle.gw_assemble.specs.Completion.{FailsByWeights, HasNoCompletion}
 use Rattle.gw_assemble.proofs.Reweighed.{kinds_same, plus_same, flow_same_to}
 
 accepted : (p : Parts) → KindsPass p → PlusPasses p → FlowPasses p (own_table p) → WeightsPass p → Accepted p
@@ -39,3 +40,11 @@ fails p kinds code flow q differ least spelled fault (inl refused) =
       },
     )
 fails p kinds code flow q differ least spelled fault (inr memory) = inr memory
+
+-- where no weights pass in an object with the assembler's table, or memory is wanted for them, that is why there is no completion
+pub no_completion : {A : Type 0} (r : Result A Fault) (p settled : Parts) → Passes p settled → PlusPasses settled → HasAssemblersTable p settled → IsGreatest p settled
+    → IfErr r (λ fault. ((q : Parts) × DifferInWeights settled q × FailsByWeights q fault) ⊎ (fault ≡ out_of_memory)) → IfErr r (HasNoCompletion p)
+no_completion (Ok x) p settled passes code table greatest h = tt
+no_completion (Err fault) p settled passes code table greatest (inl (q, differ, fails)) =
+    inr (inr (inr (inl (q, record { settled = settled; passes = passes; code = code; table = table; greatest = greatest; weights = differ }, fails))))
+no_completion (Err fault) p settled passes code table greatest (inr memory) = inr (inr (inr (inr memory)))

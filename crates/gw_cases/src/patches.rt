@@ -72,7 +72,7 @@ fn spelled<Format, T: Spelled<Format>>(alloc: Global, words: &[&[u8]]) -> Result
     }
 }
 
-/// Changes a block, or its weight.
+/// Changes a block, its weight or its slope.
 fn patch_block(
     alloc: Global,
     parts: &mut Parts,
@@ -83,6 +83,10 @@ fn patch_block(
         [b"weight", value] => {
             let weight = number_u32(value)?;
             put_at(alloc, &mut parts.weights, block, weight)
+        }
+        [b"slope", parameter, value] => {
+            let slope = Some((number_u8(parameter)?, number_u32(value)?));
+            put_at(alloc, &mut parts.slopes, block, slope)
         }
         [b"bytes", bytes @ ..] => {
             let value = spelled::<BlockFormat, Block>(alloc, bytes)?;
@@ -229,15 +233,26 @@ fn patch_chain(alloc: Global, parts: &mut Parts, name: &[u8], words: &[&[u8]]) -
 
 /// Changes parts as a line of a script says:
 ///
+/// - `version N`: the version;
 /// - `count N`: the termination count;
 /// - `seeds N ..`: the seeds;
 /// - `block B weight W`, `chain NAME weight W`: a weight;
+/// - `block B slope P N`: the slope of a block's weight; `slopes N`: so many slopes, of which none is there;
 /// - `block B bytes HEX ..`, `procedure P bytes HEX ..`: a block or a procedure, by its spelling;
 /// - `return B ..`: one more return row;
 /// - `state PLACE none`, `state PLACE empty`, `state PLACE facility NAME`, `state PLACE units N NAME`, `state PLACE parameter P
 ///   number`, `state PLACE parameter P return R`: the row of a block or of a user chain, of which the last four add to it.
 pub fn apply(alloc: Global, parts: &mut Parts, words: &[&[u8]]) -> Result<(), Stop> {
     match words {
+        [b"version", value] => {
+            parts.version = number_u16(value)?;
+            Ok(())
+        }
+        [b"slopes", value] => {
+            let slopes = Items::from_vec(vec![in alloc; None; place(value)?]?);
+            drop(mem::replace(&mut parts.slopes, slopes));
+            Ok(())
+        }
         [b"count", value] => {
             parts.count = number(value)?;
             Ok(())

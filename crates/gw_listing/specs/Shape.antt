@@ -1,5 +1,5 @@
 -- What the lines of a listing begin with: one for each part of the object.
-use Rattle.std.specs.Prelude.{ℕ, ◌+◌, List, [], ◌∷◌, ◌++◌, length, codes, slice_get, Option, Some, None}
+use Rattle.std.specs.Prelude.{ℕ, ◌+◌, List, [], ◌∷◌, ◌++◌, length, codes, if◌then◌else◌, ◌==◌, slice_get, Option, Some, None}
 use Rattle.std.specs.Fmt.{decimal}
 use Rattle.gw_code.specs.declared.parts.Procedure.{Procedure}
 use Rattle.gw_object.specs.declared.parts.Parts.{Parts}
@@ -76,14 +76,19 @@ return_front i = codes "RETURN " ++ decimal i ++ codes " blocks"
 abbrev pub return_opening : ℕ → List Opening
 return_opening i = Front (return_front i) ∷ []
 
+-- the version, where it isn't 1
+abbrev pub version_openings : ℕ → List Opening
+version_openings version = if version == 1 then [] else Whole (codes "VERSION " ++ decimal version) ∷ []
+
 -- the termination count
 abbrev pub start_opening : ℕ → List Opening
 start_opening count = Whole (codes "START " ++ decimal count) ∷ []
 
--- all lines of an object: its termination count, its blocks, its entities, its user chains, its procedures, its return rows
+-- all lines of an object: its version, where it isn't 1, its termination count, its blocks, its entities, its user chains, its procedures, its return rows
 abbrev pub openings : Parts → Sites → List Opening
 openings p sites =
-    start_opening p.count
+    version_openings p.version
+    ++ start_opening p.count
     ++ numbered (block_opening sites.blocks p.weights) (length p.blocks)
     ++ numbered (entity_opening sites.entities) (length p.entities)
     ++ numbered (chain_opening p.chain_weights) (length p.chain_weights)

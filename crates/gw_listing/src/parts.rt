@@ -63,6 +63,19 @@ fn put_procedures(
     Ok(())
 }
 
+/// The line of the version, where it isn't 1.
+#[tactic(auto, using(crate::proofs::Adding::begun, crate::proofs::Adding::whole))]
+fn put_version(out: &mut Vec<u8>, parts: &Parts) -> Result<(), Memory>
+    ensures { OnOk result (AddsLines (shape.version_openings parts.now.version)
+        out.old.items out.new.items) }
+{
+    if parts.version == 1 {
+        return Ok(());
+    }
+    put_number(out, "VERSION ", parts.version)?;
+    put(out, "\n")
+}
+
 /// The line of the termination count.
 #[tactic(auto, using(crate::proofs::Adding::whole))]
 fn put_start(out: &mut Vec<u8>, parts: &Parts) -> Result<(), Memory>
@@ -71,6 +84,17 @@ fn put_start(out: &mut Vec<u8>, parts: &Parts) -> Result<(), Memory>
 {
     put_number(out, "START ", parts.count)?;
     put(out, "\n")
+}
+
+/// The line of the version, where it isn't 1, and that of the termination count.
+#[tactic(auto, using(crate::proofs::Adding::joined))]
+fn put_first_lines(out: &mut Vec<u8>, parts: &Parts) -> Result<(), Memory>
+    ensures { OnOk result (AddsLines
+        (shape.version_openings parts.now.version ++ shape.start_opening parts.now.count)
+        out.old.items out.new.items) }
+{
+    put_version(out, parts)?;
+    put_start(out, parts)
 }
 
 /// The listing of an object. Where it comes from a text, the lines of its parts are known.
@@ -83,7 +107,7 @@ pub(crate) fn listing_of(
     ensures { IfOk result (λ out. IsListingOf parts.now (sites_told sources.now) out.items) }
 {
     let mut out = Vec::new(alloc);
-    put_start(&mut out, parts)?;
+    put_first_lines(&mut out, parts)?;
     put_section(alloc, &mut out, parts, &Section::Blocks(&sources.blocks))?;
     put_section(
         alloc,

@@ -1,6 +1,6 @@
 -- The object grammar: which parts have a spelling, and which bytes spell them.
-use Rattle.std.specs.Prelude.{◌≡◌, ◌≢◌, ◌⊎◌, ℕ, ◌-◌, ◌≤◌, ◌<◌, List, [], ◌∷◌, length, slice_get, Option, Some, IfSome, nat_lt}
-use Rattle.std.specs.List.{All, AllPairs}
+use Rattle.std.specs.Prelude.{◌≡◌, ◌≢◌, ◌⊎◌, ℕ, ◌-◌, ◌≤◌, ◌<◌, Bool, true, false, not, IsTrue, ◌==◌, ◌||◌, List, [], ◌∷◌, map, length, slice_get, Option, Some, None, IfSome, nat_lt}
+use Rattle.std.specs.List.{All, AllPairs, zip}
 use Rattle.std.specs.Int.{w16, w32, w64}
 use Rattle.gw_object.specs.Codes as codes
 use Rattle.gw_object.specs.Limits.{most_bytes, most_seeds, greatest_seed, greatest_count, most_entities, greatest_units, most_procedures, most_blocks, most_return_rows, greatest_weight}
@@ -12,7 +12,7 @@ use Rattle.gw_object.specs.declared.parts.TableParameter.{TableParameter}
 use Rattle.gw_object.specs.declared.parts.TableState.{TableState}
 use Rattle.gw_object.specs.declared.parts.ReturnRow.{ReturnRow}
 use Rattle.gw_object.specs.declared.parts.Parts.{Parts}
-use Rattle.gw_fields.specs.Fields.{Read, Field, number, as_type, both, and_then, constant, fitting, ranged, optional, Form, behind, by_tag, nothing, Element, plain, last_tested, ascending, above_last, elements, listed}
+use Rattle.gw_fields.specs.Fields.{Read, Field, byte, number, as_type, tested, both, and_then, constant, fitting, ranged, optional, Form, behind, by_tag, nothing, Element, plain, last_tested, ascending, above_last, elements, listed}
 use Rattle.gw_code.specs.Grammar.{ProcedureFits, NeedsAscend, procedure}
 use Rattle.gw_object.specs.Entities.{entity, EntityFits, EntityAscends, IsLettered, AreNamesakes, chains_in}
 use Rattle.gw_blocks.specs.Grammar.{entity_number, block_number, parameter_number, BlockFits, block}
@@ -116,19 +116,59 @@ weight = ranged 1 greatest_weight (number w32)
 abbrev pub rows : ℕ → Field (List (Option TableState))
 rows n = elements (plain (optional state)) n
 
--- so many weights
-abbrev pub certificate : ℕ → Field (List ℕ)
-certificate n = elements (plain weight) n
+-- no slope, as this field tells it
+abbrev pub no_slope : Field (Unit {0}) → Field (Option (ℕ × ℕ))
+no_slope f = fitting (λ slope. slope ≡ None) (as_type (λ _. None) (λ _. tt) f)
 
--- the return rows, for each of so many blocks and each of so many user chains its row of the state table, and for each its weight
-unfoldable pub tables : ℕ → ℕ → Field (List ReturnRow × (List (Option TableState) × (List (Option TableState) × (List ℕ × List ℕ))))
-tables blocks chains = both (listed 0 most_return_rows (plain return_row)) (both (rows blocks) (both (rows chains) (both (certificate blocks) (certificate chains))))
+-- whether a slope stands behind each weight of a block: not in version 1
+abbrev pub has_slopes : ℕ → Bool
+has_slopes version = not (version == 1)
+
+-- the slope of a block's weight: the flag 00 where slopes stand behind weights, else no byte
+abbrev pub slope_where : Bool → Field (Option (ℕ × ℕ))
+slope_where true = no_slope (constant 0 codes.tag byte)
+slope_where false = no_slope nothing
+
+-- the slope of a block's weight, by the version
+abbrev pub slope : ℕ → Field (Option (ℕ × ℕ))
+slope version = slope_where (has_slopes version)
+
+-- a block's weight, and behind it its slope
+abbrev pub sloped_weight : ℕ → Field (ℕ × Option (ℕ × ℕ))
+sloped_weight version = both weight (slope version)
+
+-- so many weights within limits, and as many slopes that the version has
+pub record CertificateFits (version n : ℕ) (x : List ℕ × List (Option (ℕ × ℕ))) : Type 0 where
+  pub weights : length x.0 ≡ n
+  pub each_weight : All weight.Fits x.0
+  pub slopes : length x.1 ≡ n
+  pub each_slope : All (slope version).Fits x.1
+
+-- the weights and the slopes of so many blocks
+abbrev pub certificate : ℕ → ℕ → Field (List ℕ × List (Option (ℕ × ℕ)))
+certificate version n = fitting (CertificateFits version n) (as_type (λ xs. (map (λ x. x.0) xs, map (λ x. x.1) xs)) (λ x. zip x.0 x.1) (elements (plain (sloped_weight version)) n))
+
+-- the weights of so many user chains
+abbrev pub chain_certificate : ℕ → Field (List ℕ)
+chain_certificate n = elements (plain weight) n
+
+-- the return rows, for each of so many blocks and each of so many user chains its row of the state table, and for each its weight, with the blocks' slopes
+unfoldable pub tables : ℕ → ℕ → ℕ → Field (List ReturnRow × (List (Option TableState) × (List (Option TableState) × ((List ℕ × List (Option (ℕ × ℕ))) × List ℕ))))
+tables version blocks chains = both (listed 0 most_return_rows (plain return_row)) (both (rows blocks) (both (rows chains) (both (certificate version blocks) (chain_certificate chains))))
 
 -- ---- the object
 
+-- whether a number is that of a version
+abbrev pub is_version : ℕ → Bool
+is_version n = n == 1 || n == 2
+
+-- the version's number
+abbrev pub version_number : Field ℕ
+version_number = fitting (λ n. IsTrue (is_version n)) (tested is_version codes.version (number w16))
+
 -- the letters GPSO and the version
-unfoldable pub head : Field (Unit {0} × Unit {0})
-head = both (constant 0x4750_534f codes.magic (number w32)) (constant 1 codes.version (number w16))
+unfoldable pub head : Field (Unit {0} × ℕ)
+head = both (constant 0x4750_534f codes.magic (number w32)) version_number
 
 -- a seed; the last isn't 0
 abbrev pub seed : Element ℕ
@@ -141,10 +181,10 @@ start_count = ranged 1 greatest_count (number w64)
 -- the head, seeds, termination count, entities, procedures, blocks, and what stands for each block and each user chain
 unfoldable pub object : Field Parts
 object = as_type
-    (λ (_, (seeds, (count, (entities, (procedures, (blocks, (returns, (states, (chain_states, (weights, chain_weights)))))))))). record { seeds = seeds; count = count; entities = entities; procedures = procedures; blocks = blocks; returns = returns; states = states; chain_states = chain_states; weights = weights; chain_weights = chain_weights })
-    (λ p. ((tt, tt), (p.seeds, (p.count, (p.entities, (p.procedures, (p.blocks, (p.returns, (p.states, (p.chain_states, (p.weights, p.chain_weights)))))))))))
-    (both head (both (listed 0 most_seeds seed) (both start_count (and_then (listed 0 most_entities entity) (λ entities. both (listed 0 most_procedures (plain procedure))
-    (and_then (listed 0 most_blocks (plain block)) (λ blocks. tables (length blocks) (chains_in entities))))))))
+    (λ ((_, version), (seeds, (count, (entities, (procedures, (blocks, (returns, (states, (chain_states, ((weights, slopes), chain_weights)))))))))). record { version = version; seeds = seeds; count = count; entities = entities; procedures = procedures; blocks = blocks; returns = returns; states = states; chain_states = chain_states; weights = weights; slopes = slopes; chain_weights = chain_weights })
+    (λ p. ((tt, p.version), (p.seeds, (p.count, (p.entities, (p.procedures, (p.blocks, (p.returns, (p.states, (p.chain_states, ((p.weights, p.slopes), p.chain_weights)))))))))))
+    (and_then head (λ head. both (listed 0 most_seeds seed) (both start_count (and_then (listed 0 most_entities entity) (λ entities. both (listed 0 most_procedures (plain procedure))
+    (and_then (listed 0 most_blocks (plain block)) (λ blocks. tables head.1 (length blocks) (chains_in entities))))))))
 
 -- the bytes that spell parts
 unfoldable pub spelling : Parts → List ℕ
@@ -152,9 +192,11 @@ spelling p = object.spell p
 
 -- ---- the rules of parts, by the code of their breach
 
--- 4: each byte is among those that its field lists
+-- 4: the version and each byte of a name are among those that their fields list, and no weight has a slope
 pub record HasLetters (p : Parts) : Type 0 where
+  pub version : IsTrue (is_version p.version)
   pub names : All IsLettered p.entities
+  pub slopes : All (λ slope. slope ≡ None) p.slopes
 
 -- 5: parts keep the limits of the format
 pub record IsWithinLimits (p : Parts) : Type 0 where
@@ -176,6 +218,7 @@ pub record IsWithinLimits (p : Parts) : Type 0 where
   pub each_chain_state : All (λ row. IfSome row StateFits) p.chain_states
   pub weights : length p.weights ≡ length p.blocks
   pub each_weight : All (λ weight. (1 ≤ weight) × (weight ≤ greatest_weight)) p.weights
+  pub slopes : length p.slopes ≡ length p.blocks
   pub chain_weights : length p.chain_weights ≡ chains_in p.entities
   pub each_chain_weight : All (λ weight. (1 ≤ weight) × (weight ≤ greatest_weight)) p.chain_weights
   pub size : length (spelling p) ≤ most_bytes

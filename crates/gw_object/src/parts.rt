@@ -121,6 +121,8 @@ pub struct TableState {
 /// The parts of an object. Comparing them takes no memory.
 #[derive(Debug, Drop, PartialEq, Eq)]
 pub struct Parts {
+    /// The version of the format in which it is spelled: 1 or 2.
+    pub version: u16,
     /// The seeds of the streams from the first on, at most 16; 0 is the stream's own number.
     pub seeds: Items<u32>,
     /// The termination count, from 1 to 2^40.
@@ -140,6 +142,9 @@ pub struct Parts {
     pub chain_states: Items<Option<TableState>>,
     /// For each block its certified weight, from 1 to 1,000,000,000.
     pub weights: Items<u32>,
+    /// For each block the slope of its weight, as the number of a parameter and what each 1 of its value adds. No weight
+    /// has a slope: each is `None`.
+    pub slopes: Items<Option<(u8, u32)>>,
     /// For each user chain, in the order of the entities, its certified weight, from 1 to 1,000,000,000.
     pub chain_weights: Items<u32>,
 }

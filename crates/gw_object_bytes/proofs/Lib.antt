@@ -1,3 +1,4 @@
+pub mod CertificateLaws
 pub mod EntityLaws
 pub mod KindLaws
 pub mod ObjectLaws

@@ -1,48 +1,53 @@
 -- The object grammar is exact: each of its fields, the object, and reading as a whole.
-use Rattle.std.proofs.Common.{◌≡◌, ◌≢◌, ℕ, zero, suc, ◌-◌, ◌≤◌, true, false, cond, eqb, ltb, List, [], ◌∷◌, ◌++◌, length, Some, Result, Ok, Err, refl, sym, ap, subst, ◌∙◌, arith, inl, inr, ◌⊎◌, slice_get}
+use Rattle.std.proofs.Common.{◌≡◌, ◌≢◌, ℕ, zero, suc, ◌-◌, ◌≤◌, true, false, cond, eqb, ltb, List, [], ◌∷◌, ◌++◌, length, Some, None, IsTrue, ◌^◌, ◌<◌, Result, Ok, Err, refl, sym, ap, subst, ◌∙◌, arith, inl, inr, ◌⊎◌, slice_get}
 use Rattle.std.specs.Prelude.{IfOk}
 use Rattle.std.specs.List.{All}
 use Rattle.std.specs.Int.{w16, w32, w64}
+use Rattle.std.proofs.lemmas.Bool.Decides.{nat_tests}
 use Rattle.std.proofs.lemmas.Bool.{cases_lt, eqb-true, ne_eqb, ltb-true, lt-ltb, le-ltb}
 use Rattle.std.proofs.lemmas.List.{append-nil, nil_from_length, length-append}
 use Rattle.gw_object.specs.declared.fault.Fault.{Fault}
 use Rattle.gw_object.specs.Codes as codes
-use Rattle.gw_object.specs.Limits.{most_bytes, most_seeds, greatest_seed, greatest_count, most_entities, most_procedures, most_blocks, greatest_weight}
+use Rattle.gw_object.specs.Limits.{most_bytes, most_seeds, greatest_seed, greatest_count, most_entities, most_procedures, most_blocks}
 use Rattle.gw_object.specs.declared.parts.Parts.{Parts}
 use Rattle.gw_fields.specs.declared.error.Bad.{Bad}
-use Rattle.gw_fields.specs.Fields.{IsProperFront, bad, number, count, plain, ElementsFit}
-use Rattle.gw_object.specs.Grammar.{weight, rows, certificate, tables, head, seed, start_count, object, spelling, HasSpelling, Spells}
+use Rattle.gw_fields.specs.Fields.{IsProperFront, bad, number, tested, count, plain, ElementsFit}
+use Rattle.gw_object.specs.Grammar.{weight, rows, CertificateFits, chain_certificate, tables, is_version, version_number, head, seed, start_count, object, spelling, IsWithinLimits, HasSpelling, Spells}
 use Rattle.gw_blocks.specs.Grammar.{BlockFits, block}
 use Rattle.gw_code.specs.declared.parts.Procedure.{Procedure}
 use Rattle.gw_code.specs.Grammar.{ProcedureFits, NeedsAscend, procedure}
 use Rattle.gw_code_bytes.proofs.CodeLaws.{procedure_exact}
 use Rattle.gw_object.specs.Entities.{entity, chains_in}
 use Rattle.gw_object.specs.Reading.{whole_read, with_place, first_fault, out_of_memory, fault_at, IsRefused}
+use Rattle.gw_object_bytes.proofs.CertificateLaws.{weight_exact, certificate_exact, slopes_fit, none_sloped}
 use Rattle.gw_object_bytes.proofs.EntityLaws.{entity_exact, entities_fit, entities_are}
 use Rattle.gw_object_bytes.proofs.StateLaws.{return_rows_exact, return_rows_fit, return_rows_keep, state_exact, rows_fit, rows_keep}
 use Rattle.gw_block_bytes.proofs.BlockLaws.{block_exact}
-use Rattle.gw_field_bytes.proofs.Exact.{IsCut, CutsFronts, cuts_still, front_shorter, IsBytes, Takes-shorter, IsExact, IsExactElement, bind_ok, bind_err, chosen, ok_is, err_is, not_both, wide16, wide32, wide64, number_exact, made_exact, and_then_exact, both_exact, constant_exact, ranged_exact, optional_exact, plain_exact, last_tested_exact, elements_exact, listed_exact, All-from_fit, fit-from_All}
+use Rattle.gw_field_bytes.proofs.Exact.{IsCut, CutsFronts, cuts_still, front_shorter, IsBytes, Takes-shorter, IsExact, IsExactElement, bind_ok, bind_err, chosen, ok_is, err_is, not_both, wide16, wide32, wide64, number_exact, made_exact, and_then_exact, both_exact, tested_exact, fitting_exact, constant_exact, ranged_exact, optional_exact, plain_exact, last_tested_exact, elements_exact, listed_exact, All-from_fit, fit-from_All}
 
 -- ---- what stands for each block
-
-weight_exact : IsExact weight
-weight_exact = ranged_exact 1 greatest_weight (number w32) (λ n h. omega arith) (number_exact w32 wide32)
 
 rows_exact : (n : ℕ) → IsExact (rows n)
 rows_exact n = elements_exact _ n (plain_exact _ (optional_exact _ state_exact))
 
-certificate_exact : (n : ℕ) → IsExact (certificate n)
-certificate_exact n = elements_exact _ n (plain_exact _ weight_exact)
+chain_certificate_exact : (n : ℕ) → IsExact (chain_certificate n)
+chain_certificate_exact n = elements_exact _ n (plain_exact _ weight_exact)
 
-pub tables_exact : (blocks chains : ℕ) → IsExact (tables blocks chains)
+pub tables_exact : (version blocks chains : ℕ) → IsExact (tables version blocks chains)
 unfolding tables
-tables_exact blocks chains = both_exact _ _ return_rows_exact (both_exact _ _ (rows_exact blocks) (both_exact _ _ (rows_exact chains) (both_exact _ _ (certificate_exact blocks) (certificate_exact chains))))
+tables_exact version blocks chains = both_exact _ _ return_rows_exact (both_exact _ _ (rows_exact blocks) (both_exact _ _ (rows_exact chains) (both_exact _ _ (certificate_exact version blocks) (chain_certificate_exact chains))))
 
 -- ---- the object
 
+version_is_short : (n : ℕ) → IsTrue (is_version n) → n < 256 ^ 2
+version_is_short n h = grind (arith, nat_tests)
+
+version_number_exact : IsExact version_number
+version_number_exact = fitting_exact (λ n. IsTrue (is_version n)) (tested is_version codes.version (number w16)) (λ n h. h.1) (λ n h. (version_is_short n h, h)) (tested_exact is_version codes.version (number w16) (number_exact w16 wide16))
+
 pub head_exact : IsExact head
 unfolding head
-head_exact = both_exact _ _ (constant_exact 0x4750_534f codes.magic (number w32) (omega arith) (number_exact w32 wide32)) (constant_exact 1 codes.version (number w16) (omega arith) (number_exact w16 wide16))
+head_exact = both_exact _ _ (constant_exact 0x4750_534f codes.magic (number w32) (omega arith) (number_exact w32 wide32)) version_number_exact
 
 seed_exact : IsExactElement seed
 seed_exact = last_tested_exact (ltb 0) codes.not_canonical _ (ranged_exact 0 greatest_seed (number w32) (λ n h. omega arith) (number_exact w32 wide32))
@@ -54,8 +59,8 @@ pub object_exact : IsExact object
 unfolding object
 object_exact =
     made_exact _ _ _ (λ x h. refl) (λ p h. refl)
-    (both_exact _ _ head_exact (both_exact _ _ (listed_exact 0 most_seeds seed (omega arith) seed_exact) (both_exact _ _ start_count_exact (and_then_exact _ _ (listed_exact 0 most_entities entity (omega arith) entity_exact) (λ entities. both_exact _ _ (listed_exact 0 most_procedures (plain procedure) (omega arith) (plain_exact procedure procedure_exact))
-    (and_then_exact _ _ (listed_exact 0 most_blocks (plain block) (omega arith) (plain_exact block block_exact)) (λ blocks. tables_exact (length blocks) (chains_in entities))))))))
+    (and_then_exact _ _ head_exact (λ head. both_exact _ _ (listed_exact 0 most_seeds seed (omega arith) seed_exact) (both_exact _ _ start_count_exact (and_then_exact _ _ (listed_exact 0 most_entities entity (omega arith) entity_exact) (λ entities. both_exact _ _ (listed_exact 0 most_procedures (plain procedure) (omega arith) (plain_exact procedure procedure_exact))
+    (and_then_exact _ _ (listed_exact 0 most_blocks (plain block) (omega arith) (plain_exact block block_exact)) (λ blocks. tables_exact head.1 (length blocks) (chains_in entities))))))))
 
 -- ---- procedures
 
@@ -97,11 +102,14 @@ seeds_fit (x ∷ y ∷ ys) front each last =
     let more : eqb (length (y ∷ ys)) 0 ≡ false = ne_eqb _ _ (λ e. omega arith) in
     (((omega arith, each 0 x (omega arith)), rw more refl), seeds_fit (y ∷ ys) (front ++ x ∷ []) (λ k d lt. each (suc k) d (omega arith)) (λ e. last (last_of_rest x y ys ∙ e)))
 
+certificate_fits : (p : Parts) → All (λ slope. slope ≡ None) p.slopes → IsWithinLimits p → CertificateFits p.version (length p.blocks) (p.weights, p.slopes)
+certificate_fits p unsloped limits = record { weights = limits.weights; each_weight = limits.each_weight; slopes = limits.slopes; each_slope = slopes_fit p.version p.slopes unsloped }
+
 pub spelled_fits : (p : Parts) → HasSpelling p → object.Fits p
 unfolding object head tables
 spelled_fits p h =
     let limits = h.limits in (
-      (tt, tt),
+      (tt, h.letters.version),
       (
         (omega arith, limits.seeds, seeds_fit p.seeds [] limits.each_seed h.canonical.last_seed),
         (
@@ -118,7 +126,7 @@ spelled_fits p h =
                     (limits.states, rows_fit p.states limits.each_state h.canonical.each_state),
                     (
                       (limits.chain_states, rows_fit p.chain_states limits.each_chain_state h.canonical.each_chain_state),
-                      ((limits.weights, fit-from_All weight.Fits p.weights [] limits.each_weight), (limits.chain_weights, fit-from_All weight.Fits p.chain_weights [] limits.each_chain_weight)),
+                      (certificate_fits p h.letters.slopes limits, (limits.chain_weights, fit-from_All weight.Fits p.chain_weights [] limits.each_chain_weight)),
                     ),
                   ),
                 ),
@@ -131,13 +139,13 @@ spelled_fits p h =
 
 pub fits_spelled : (p : Parts) → object.Fits p → length (spelling p) ≤ most_bytes → HasSpelling p
 unfolding object head tables
-fits_spelled p (h, (seeds, (count, (entities, (procedures, (blocks, (returns, (states, (chain_states, (weights, chain_weights)))))))))) size =
+fits_spelled p (head, (seeds, (count, (entities, (procedures, (blocks, (returns, (states, (chain_states, (certificate, chain_weights)))))))))) size =
     let each_entity = entities_are p.entities entities.2 in
     let each_procedure = procedures_keep p.procedures procedures.2 in
     let each_return = return_rows_keep p.returns returns.2 in
     let each_row = rows_keep p.states states.1 in
     let each_chain_row = rows_keep p.chain_states chain_states.1 in record {
-      letters = record { names = each_entity.letters };
+      letters = record { version = head.1; names = each_entity.letters; slopes = none_sloped p.version p.slopes certificate.each_slope };
       limits = record {
         seeds = seeds.1;
         each_seed = seeds_are p.seeds [] seeds.2;
@@ -155,8 +163,9 @@ fits_spelled p (h, (seeds, (count, (entities, (procedures, (blocks, (returns, (s
         each_state = λ k d lt. (each_row k d lt).0;
         chain_states = chain_states.0;
         each_chain_state = λ k d lt. (each_chain_row k d lt).0;
-        weights = weights.0;
-        each_weight = All-from_fit (λ front left. weight.Fits) weight.Fits (λ front left w h. h) p.weights [] weights.1;
+        weights = certificate.weights;
+        each_weight = certificate.each_weight;
+        slopes = certificate.slopes;
         chain_weights = chain_weights.0;
         each_chain_weight = All-from_fit (λ front left. weight.Fits) weight.Fits (λ front left w h. h) p.chain_weights [] chain_weights.1;
         size = size;

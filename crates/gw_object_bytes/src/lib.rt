@@ -2,6 +2,7 @@
 #![tactic(auto)]
 
 mod building;
+mod certificate;
 mod entities;
 mod kinds;
 pub mod laws;

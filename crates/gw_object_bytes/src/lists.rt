@@ -1,4 +1,4 @@
-//! The lists of an object whose elements are numbers: seeds and weights.
+//! The lists of an object whose elements are numbers: seeds and the weights of user chains.
 
 ghost use Rattle.gw_fields.specs.Fields.{plain};
 ghost use Rattle.gw_object.specs.Grammar.{seed, weight};
@@ -26,7 +26,7 @@ impl Elements for Seeds {
     }
 }
 
-/// The weights, one for each block.
+/// The weights, one for each user chain.
 pub struct Weights;
 
 impl Elements for Weights {

@@ -9,8 +9,10 @@ ghost use Rattle.gw_object.specs.Reading.{whole_read, placed, too_long, first_fa
 ghost use Rattle.gw_object_bytes.specs.Laws.{AnswersUnlessMemory};
 
 use crate::ObjectFormat;
+use crate::certificate::{Slope, read_certificate};
 use crate::entities::Entities;
 use crate::lists::{Seeds, Weights};
+use crate::rules::is_version;
 use gw_block_bytes::BlockFormat;
 use gw_blocks::Block;
 use gw_code::Procedure;
@@ -29,36 +31,41 @@ const LETTERS: u32 = 0x4750_534f;
 
 /// The letters `GPSO` and the version.
 #[tactic(auto, unfolding(gw_object::specs::Grammar::head))]
-fn read_head(alloc: Global, bytes: &[u8]) -> Result<&[u8], ReadError>
-    ensures { Gives (λ rest. ((tt, tt), rest.now)) result (head.read bytes.now) }
+fn read_head(alloc: Global, bytes: &[u8]) -> Result<(u16, &[u8]), ReadError>
+    ensures { Gives (λ x. ((tt, x.0), x.1.now)) result (head.read bytes.now) }
 {
     let (letters, rest) = u32::read(alloc, bytes)?;
     if letters != LETTERS {
         return Err(fault(MAGIC, bytes));
     }
     let (version, after) = u16::read(alloc, rest)?;
-    if version != 1 {
+    if !is_version(version) {
         return Err(fault(VERSION, rest));
     }
-    Ok(after)
+    Ok((version, after))
 }
 
 /// What stands for each block, or for each user chain, of an object: its row of the state table.
 type Rows = Items<Option<TableState>>;
 
-/// The return rows, the rows of the state table and the weights.
-type Tables = (Items<ReturnRow>, (Rows, (Rows, (Items<u32>, Items<u32>))));
+/// The weights of the blocks, and their slopes.
+type Certificate = (Items<u32>, Items<Slope>);
+
+/// The return rows, the rows of the state table, the weights of the blocks with their slopes, and the weights of the user
+/// chains.
+type Tables = (Items<ReturnRow>, (Rows, (Rows, (Certificate, Items<u32>))));
 
 /// The return rows, and what stands for each of so many blocks and each of so many user chains: its row of the state table,
-/// and its weight.
+/// and its weight, a block's with its slope.
 #[tactic(auto, unfolding(gw_object::specs::Grammar::tables))]
 fn read_tables(
     alloc: Global,
+    version: u16,
     blocks: usize,
     chains: usize,
     bytes: &[u8],
 ) -> Result<(Tables, &[u8]), ReadError>
-    ensures { Gives (λ x. (x.0, x.1.now)) result ((tables blocks chains).read bytes.now) }
+    ensures { Gives (λ x. (x.0, x.1.now)) result ((tables version blocks chains).read bytes.now) }
 {
     let (returns, rest) = read_listed::<Plain<ObjectFormat, ReturnRow>>(
         alloc,
@@ -72,9 +79,9 @@ fn read_tables(
     let (chain_states, rest) = read_elements::<Plain<IfAny<ObjectFormat>, Option<TableState>>>(
         alloc, chains, rest,
     )?;
-    let (weights, rest) = read_elements::<Weights>(alloc, blocks, rest)?;
+    let (weights, rest) = read_certificate(alloc, version, blocks, rest)?;
     let (chain_weights, rest) = read_elements::<Weights>(alloc, chains, rest)?;
-    let weights = (Items::from_vec(weights), Items::from_vec(chain_weights));
+    let weights = (weights, Items::from_vec(chain_weights));
     let states = (
         Items::from_vec(states),
         (Items::from_vec(chain_states), weights),
@@ -87,7 +94,7 @@ fn read_tables(
 fn read_parts(alloc: Global, bytes: &[u8]) -> Result<(Parts, &[u8]), ReadError>
     ensures { Gives (λ x. (x.0, x.1.now)) result (object.read bytes.now) }
 {
-    let rest = read_head(alloc, bytes)?;
+    let (version, rest) = read_head(alloc, bytes)?;
     let (seeds, rest) = read_listed::<Seeds>(alloc, rest, 0, MOST_SEEDS)?;
     let (count, rest) = read_ranged_u64(alloc, rest, 1, GREATEST_COUNT)?;
     let (entities, rest) = read_listed::<Entities>(alloc, rest, 0, MOST_ENTITIES)?;
@@ -99,9 +106,10 @@ fn read_parts(alloc: Global, bytes: &[u8]) -> Result<(Parts, &[u8]), ReadError>
     )?;
     let (blocks, rest) = read_listed::<Plain<BlockFormat, Block>>(alloc, rest, 0, MOST_BLOCKS)?;
     let chains = chains_in(&entities);
-    let (tables, rest) = read_tables(alloc, blocks.len(), chains, rest)?;
-    let (returns, (states, (chain_states, (weights, chain_weights)))) = tables;
+    let (tables, rest) = read_tables(alloc, version, blocks.len(), chains, rest)?;
+    let (returns, (states, (chain_states, ((weights, slopes), chain_weights)))) = tables;
     let parts = Parts {
+        version,
         seeds: Items::from_vec(seeds),
         count,
         entities: Items::from_vec(entities),
@@ -111,6 +119,7 @@ fn read_parts(alloc: Global, bytes: &[u8]) -> Result<(Parts, &[u8]), ReadError>
         states,
         chain_states,
         weights,
+        slopes,
         chain_weights,
     };
     Ok((parts, rest))

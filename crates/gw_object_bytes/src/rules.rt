@@ -5,7 +5,9 @@ ghost use Rattle.std.specs.List.{All};
 ghost use Rattle.gw_object.specs.Limits.{most_bytes, greatest_seed};
 ghost use Rattle.gw_object.specs.Grammar.{HasLetters, IsWithinLimits, IsCanonical, HasSpelling};
 ghost use Rattle.gw_object.specs.Grammar.{Refuses, spelling, weight};
+ghost use Rattle.gw_object.specs.Grammar as model;
 
+use crate::certificate::are_unsloped;
 use crate::entities::{are_lettered, entities_ascend, entities_fit, names_are_own};
 use crate::returns::{return_rows_ascend, return_rows_fit};
 use crate::states::{states_ascend, states_fit};
@@ -34,11 +36,20 @@ fn weights_fit(weights: &[u32]) -> bool
         .all(|weight| 1 <= *weight && *weight <= GREATEST_WEIGHT)
 }
 
-/// Whether each byte in parts is among those that its field lists: the letters of names.
+/// Whether a number is that of a version.
+pub fn is_version(number: u16) -> bool
+    ensures { result ≡ model.is_version number }
+{
+    number == 1 || number == 2
+}
+
+/// Whether the version and each byte of a name are among those that their fields list, and no weight has a slope.
 fn has_letters(parts: &Parts) -> bool
     ensures { IsTrue result ↔ HasLetters parts.now }
 {
-    are_lettered(parts.entities.as_slice())
+    is_version(parts.version)
+        && are_lettered(parts.entities.as_slice())
+        && are_unsloped(parts.slopes.as_slice())
 }
 
 /// Whether the spelling of parts is at most 1 MiB: its bytes are counted, and not written.
@@ -68,6 +79,9 @@ fn is_within_limits(parts: &Parts) -> bool
         return false;
     }
     if states.len() != blocks.len() || weights.len() != blocks.len() {
+        return false;
+    }
+    if parts.slopes.as_slice().len() != blocks.len() {
         return false;
     }
     let chains = chains_in(entities);

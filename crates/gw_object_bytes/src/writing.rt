@@ -7,19 +7,22 @@ ghost use Rattle.gw_object.specs.Grammar.{head, spelling};
 ghost use Rattle.gw_object_bytes.specs.Tables.{lists_spelling, tables_spelling};
 
 use crate::Memory;
+use crate::certificate::put_certificate;
 use gw_field_bytes::{Receiver, Room, Spelled, put_elements, put_listed};
 use gw_object::{Object, Parts};
 use std::alloc::Global;
 
 /// The letters `GPSO` and the version.
-#[tactic(auto, unfolding(gw_object::specs::Grammar::head))]
-fn put_head<R: Receiver>(to: &mut R) -> Result<(), R::Refusal>
-    ensures { Puts R.content to.old to.new (head.spell (tt, tt)) result }
+#[tactic(auto, using(gw_field_bytes::proofs::Receiving::joining), unfolding(gw_object::specs::Grammar::head))]
+fn put_head<R: Receiver>(to: &mut R, version: u16) -> Result<(), R::Refusal>
+    ensures { Puts R.content to.old to.new (head.spell (tt, version)) result }
 {
-    to.put_bytes(b"GPSO\x00\x01")
+    to.put_bytes(b"GPSO")?;
+    version.put(to)
 }
 
-/// The return rows, and what stands for each block and each user chain: its row of the state table, and its weight.
+/// The return rows, and what stands for each block and each user chain: its row of the state table, and its weight, a block's
+/// with its slope.
 #[tactic(auto, using(gw_field_bytes::proofs::Receiving::joining), unfolding(gw_object::specs::Grammar::tables))]
 fn put_tables<R: Receiver>(to: &mut R, parts: &Parts) -> Result<(), R::Refusal>
     ensures { Puts R.content to.old to.new (tables_spelling parts.now) result }
@@ -27,7 +30,8 @@ fn put_tables<R: Receiver>(to: &mut R, parts: &Parts) -> Result<(), R::Refusal>
     put_listed(to, parts.returns.as_slice())?;
     put_elements(to, parts.states.as_slice())?;
     put_elements(to, parts.chain_states.as_slice())?;
-    put_elements(to, parts.weights.as_slice())?;
+    let weights = parts.weights.as_slice();
+    put_certificate(to, parts.version, weights, parts.slopes.as_slice())?;
     put_elements(to, parts.chain_weights.as_slice())
 }
 
@@ -47,7 +51,7 @@ fn put_lists<R: Receiver>(to: &mut R, parts: &Parts) -> Result<(), R::Refusal>
 fn put_parts<R: Receiver>(to: &mut R, parts: &Parts) -> Result<(), R::Refusal>
     ensures { Puts R.content to.old to.new (spelling parts.now) result }
 {
-    put_head(to)?;
+    put_head(to, parts.version)?;
     put_listed(to, parts.seeds.as_slice())?;
     parts.count.put(to)?;
     put_lists(to, parts)

@@ -87,12 +87,14 @@ pub record IsNamed (ss : List Statement) : Type 0 where
   pub limits : limits_in ss ≡ []
   pub refusals : refusals_in ss ≡ []
 
--- nothing of an object is settled yet: it has no state table and no return rows, and each weight is the least
+-- nothing of an object is settled yet: it has no state table and no return rows, and each weight is the least, without a slope
 pub record IsDraft (p : Parts) : Type 0 where
+  pub version : p.version ≡ 1
   pub returns : p.returns ≡ []
   pub states : p.states ≡ replicate (length p.blocks) None
   pub chain_states : p.chain_states ≡ replicate (chains_in p.entities) None
   pub weights : p.weights ≡ replicate (length p.blocks) 1
+  pub slopes : p.slopes ≡ replicate (length p.blocks) None
   pub chain_weights : p.chain_weights ≡ replicate (chains_in p.entities) 1
 
 -- an object is made of statements

@@ -110,13 +110,14 @@ fn no_rows(alloc: Global, count: usize) -> Result<Vec<Option<TableState>>, Alloc
 }
 
 /// What an object has beside the pieces: its seeds, and for blocks and user chains rows of which none is there and the least
-/// weights.
+/// weights, without slopes.
 #[derive(Drop)]
 struct Rest {
     seeds: Vec<u32>,
     states: Vec<Option<TableState>>,
     chain_states: Vec<Option<TableState>>,
     weights: Vec<u32>,
+    slopes: Vec<Option<(u8, u32)>>,
     chain_weights: Vec<u32>,
 }
 
@@ -126,11 +127,13 @@ fn rest_of(alloc: Global, text: &Model, blocks: usize, chains: usize) -> Result<
     ensures states { IfOk result (λ rest. rest.states.items ≡ replicate blocks None) }
     ensures chain_states { IfOk result (λ rest. rest.chain_states.items ≡ replicate chains None) }
     ensures weights { IfOk result (λ rest. rest.weights.items ≡ replicate blocks 1) }
+    ensures slopes { IfOk result (λ rest. rest.slopes.items ≡ replicate blocks None) }
     ensures chain_weights { IfOk result (λ rest. rest.chain_weights.items ≡ replicate chains 1) }
 {
     Ok(Rest {
         seeds: seeds_of(alloc, text.statements.as_slice())?,
         weights: vec![in alloc; 1; blocks]?,
+        slopes: vec![in alloc; None; blocks]?,
         chain_weights: vec![in alloc; 1; chains]?,
         states: no_rows(alloc, blocks)?,
         chain_states: no_rows(alloc, chains)?,
@@ -139,6 +142,7 @@ fn rest_of(alloc: Global, text: &Model, blocks: usize, chains: usize) -> Result<
 
 /// The parts of an object of these pieces.
 fn parts_with(alloc: Global, count: u64, pieces: Pieces, rest: Rest) -> Parts
+    ensures version { result.version ≡ 1 }
     ensures count { result.count ≡ count }
     ensures seeds { result.seeds ≡ rest.seeds.items }
     ensures entities { result.entities ≡ pieces.entities.items }
@@ -148,9 +152,11 @@ fn parts_with(alloc: Global, count: u64, pieces: Pieces, rest: Rest) -> Parts
     ensures states { result.states ≡ rest.states.items }
     ensures chain_states { result.chain_states ≡ rest.chain_states.items }
     ensures weights { result.weights ≡ rest.weights.items }
+    ensures slopes { result.slopes ≡ rest.slopes.items }
     ensures chain_weights { result.chain_weights ≡ rest.chain_weights.items }
 {
     Parts {
+        version: 1,
         seeds: Items::from_vec(rest.seeds),
         count,
         entities: Items::from_vec(pieces.entities),
@@ -160,6 +166,7 @@ fn parts_with(alloc: Global, count: u64, pieces: Pieces, rest: Rest) -> Parts
         states: Items::from_vec(rest.states),
         chain_states: Items::from_vec(rest.chain_states),
         weights: Items::from_vec(rest.weights),
+        slopes: Items::from_vec(rest.slopes),
         chain_weights: Items::from_vec(rest.chain_weights),
     }
 }

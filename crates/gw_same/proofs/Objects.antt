@@ -68,8 +68,8 @@ state_apart = apart state_laws.laws-law table_state_only
 
 pub parts_only : OnlyEqual parts_eq.ghosts.eq
 parts_only = of_fields
-    (λ (x : Parts). (x.seeds, (x.count, (x.entities, (x.procedures, (x.blocks, (x.returns, (x.states, (x.chain_states, (x.weights, x.chain_weights))))))))))
-    (λ f. record { seeds = f.0; count = f.1.0; entities = f.1.1.0; procedures = f.1.1.1.0; blocks = f.1.1.1.1.0; returns = f.1.1.1.1.1.0; states = f.1.1.1.1.1.1.0; chain_states = f.1.1.1.1.1.1.1.0; weights = f.1.1.1.1.1.1.1.1.0; chain_weights = f.1.1.1.1.1.1.1.1.1 }) (λ x i. x) (list_only nat_only ⊗ nat_only ⊗ list_only entity_only ⊗ list_only procedure_only ⊗ list_only block_only ⊗ list_only return_row_only ⊗ list_only (option_only table_state_only) ⊗ list_only (option_only table_state_only) ⊗ list_only nat_only ⊗ list_only nat_only)
+    (λ (x : Parts). (x.version, (x.seeds, (x.count, (x.entities, (x.procedures, (x.blocks, (x.returns, (x.states, (x.chain_states, (x.weights, (x.slopes, x.chain_weights))))))))))))
+    (λ f. record { version = f.0; seeds = f.1.0; count = f.1.1.0; entities = f.1.1.1.0; procedures = f.1.1.1.1.0; blocks = f.1.1.1.1.1.0; returns = f.1.1.1.1.1.1.0; states = f.1.1.1.1.1.1.1.0; chain_states = f.1.1.1.1.1.1.1.1.0; weights = f.1.1.1.1.1.1.1.1.1.0; slopes = f.1.1.1.1.1.1.1.1.1.1.0; chain_weights = f.1.1.1.1.1.1.1.1.1.1.1 }) (λ x i. x) (nat_only ⊗ list_only nat_only ⊗ nat_only ⊗ list_only entity_only ⊗ list_only procedure_only ⊗ list_only block_only ⊗ list_only return_row_only ⊗ list_only (option_only table_state_only) ⊗ list_only (option_only table_state_only) ⊗ list_only nat_only ⊗ list_only (option_only (nat_only ⊗ nat_only)) ⊗ list_only nat_only)
 
 pub parts_apart : TellsApart same_parts
 parts_apart = apart parts_laws.laws-law parts_only

@@ -1,6 +1,6 @@
 -- Other weights, as many and within their limits: parts that have a spelling still have one.
-use Rattle.std.proofs.Common.{◌≡◌, ℕ, ◌*◌, List, [], ◌∷◌, ◌++◌, length, refl, sym, ap, ◌∙◌, arith, All, length-append}
-use Rattle.std.specs.List.{flat_map}
+use Rattle.std.proofs.Common.{◌≡◌, ℕ, ◌*◌, List, [], ◌∷◌, ◌++◌, length, Option, refl, sym, ap, ◌∙◌, arith, All, length-append}
+use Rattle.std.specs.List.{flat_map, zip}
 use Rattle.std.specs.Int.{w32, to_be_bytes}
 use Rattle.gw_object.specs.declared.parts.Parts.{Parts}
 use Rattle.gw_fields.specs.Fields.{plain, listed}
@@ -8,7 +8,7 @@ use Rattle.gw_code.specs.Grammar.{procedure}
 use Rattle.gw_blocks.specs.Grammar.{block}
 use Rattle.gw_object.specs.Entities.{entity, chains_in}
 use Rattle.gw_object.specs.Limits.{most_seeds, most_entities, most_procedures, most_blocks, most_return_rows}
-use Rattle.gw_object.specs.Grammar.{HasSpelling, spelling, object, tables, head, seed, start_count, return_row, rows}
+use Rattle.gw_object.specs.Grammar.{HasSpelling, spelling, object, tables, head, seed, start_count, return_row, rows, slope, sloped_weight}
 use Rattle.gw_least_weights.specs.Rules.{IsWeight}
 
 -- weights are spelled in four bytes each
@@ -16,13 +16,25 @@ spelled_in : (weights : List ℕ) → length (flat_map (to_be_bytes w32) weights
 spelled_in [] = refl
 spelled_in (w ∷ ws) = omega (arith, spelled_in ws, length-append (to_be_bytes w32 w) (flat_map (to_be_bytes w32) ws))
 
--- so many are spelled in so many bytes
+-- so many weights of user chains are spelled in so many bytes
 as_long : (weights others : List ℕ) → length weights ≡ length others → length (flat_map (to_be_bytes w32) weights) ≡ length (flat_map (to_be_bytes w32) others)
 as_long weights others same = spelled_in weights ∙ ap (λ n. n * 4) same ∙ sym (spelled_in others)
 
 -- two that are as long as two others are as long together
 together : (xs ys others more : List ℕ) → length xs ≡ length others → length ys ≡ length more → length (xs ++ ys) ≡ length (others ++ more)
 together xs ys others more same also = omega (arith, same, also, length-append xs ys, length-append others more)
+
+-- weights of blocks are spelled in as many bytes as others with the same slopes
+with_slopes_as_long : (version : ℕ) (weights others : List ℕ) (slopes : List (Option (ℕ × ℕ))) → length weights ≡ length others → length (flat_map (sloped_weight version).spell (zip weights slopes)) ≡ length (flat_map (sloped_weight version).spell (zip others slopes))
+with_slopes_as_long version [] [] slopes same = refl
+with_slopes_as_long version [] (v ∷ vs) slopes same = absurd (cc)
+with_slopes_as_long version (w ∷ ws) [] slopes same = absurd (cc)
+with_slopes_as_long version (w ∷ ws) (v ∷ vs) [] same = refl
+with_slopes_as_long version (w ∷ ws) (v ∷ vs) (s ∷ ss) same =
+    let flag = (slope version).spell s in
+    let first = together (to_be_bytes w32 w) flag (to_be_bytes w32 v) flag refl refl in
+    let others = with_slopes_as_long version ws vs ss (omega (arith, same)) in
+    together (to_be_bytes w32 w ++ flag) (flat_map (sloped_weight version).spell (zip ws ss)) (to_be_bytes w32 v ++ flag) (flat_map (sloped_weight version).spell (zip vs ss)) first others
 
 -- these, one behind the other, and more behind them
 abbrev before : List (List ℕ) → List ℕ → List ℕ
@@ -37,16 +49,16 @@ longer (front ∷ fronts) xs ys same = together front (before fronts xs) front (
 -- the spelling of what comes before weights
 abbrev fronts : Parts → List (List ℕ)
 fronts p =
-    head.spell (tt, tt) ∷ (listed 0 most_seeds seed).spell p.seeds ∷ start_count.spell p.count
+    head.spell (tt, p.version) ∷ (listed 0 most_seeds seed).spell p.seeds ∷ start_count.spell p.count
     ∷ (listed 0 most_entities entity).spell p.entities ∷ (listed 0 most_procedures (plain procedure)).spell p.procedures
     ∷ (listed 0 most_blocks (plain block)).spell p.blocks ∷ (listed 0 most_return_rows (plain return_row)).spell p.returns
     ∷ (rows (length p.blocks)).spell p.states ∷ (rows (chains_in p.entities)).spell p.chain_states ∷ []
 
--- and of weights
-abbrev weights_spelled : List ℕ → List ℕ → List ℕ
-weights_spelled weights chains = flat_map (to_be_bytes w32) weights ++ flat_map (to_be_bytes w32) chains
+-- and of weights, those of blocks with the slopes
+abbrev weights_spelled : Parts → List ℕ → List ℕ → List ℕ
+weights_spelled p weights chains = flat_map (sloped_weight p.version).spell (zip weights p.slopes) ++ flat_map (to_be_bytes w32) chains
 
-in_parts : (p : Parts) → spelling p ≡ before (fronts p) (weights_spelled p.weights p.chain_weights)
+in_parts : (p : Parts) → spelling p ≡ before (fronts p) (weights_spelled p p.weights p.chain_weights)
 unfolding spelling object tables
 in_parts p = refl
 
@@ -57,8 +69,8 @@ module _ (p : Parts) (weights chains : List ℕ) where
   pub as_large : length weights ≡ length p.weights → length chains ≡ length p.chain_weights → length (spelling reweighed) ≡ length (spelling p)
   as_large same others =
       ap length (in_parts reweighed)
-      ∙ longer (fronts p) (weights_spelled weights chains) (weights_spelled p.weights p.chain_weights)
-      (together _ _ _ _ (as_long weights p.weights same) (as_long chains p.chain_weights others))
+      ∙ longer (fronts p) (weights_spelled p weights chains) (weights_spelled p p.weights p.chain_weights)
+      (together _ _ _ _ (with_slopes_as_long p.version weights p.weights p.slopes same) (as_long chains p.chain_weights others))
       ∙ sym (ap length (in_parts p))
 
   pub still_spelled : HasSpelling p → length weights ≡ length p.blocks → length chains ≡ chains_in p.entities → All IsWeight weights → All IsWeight chains → HasSpelling reweighed
@@ -67,7 +79,7 @@ module _ (p : Parts) (weights chains : List ℕ) where
       let c = fits.canonical in
       let size : length (spelling reweighed) ≡ length (spelling p) = as_large (same ∙ sym l.weights) (others ∙ sym l.chain_weights) in
       record {
-        letters = record { names = fits.letters.names };
+        letters = record { version = fits.letters.version; names = fits.letters.names; slopes = fits.letters.slopes };
         limits = record {
           seeds = l.seeds;
           each_seed = l.each_seed;
@@ -87,6 +99,7 @@ module _ (p : Parts) (weights chains : List ℕ) where
           each_chain_state = l.each_chain_state;
           weights = same;
           each_weight = range;
+          slopes = l.slopes;
           chain_weights = others;
           each_chain_weight = chain_range;
           size = omega (arith, size, l.size);
