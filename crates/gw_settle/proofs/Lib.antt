@@ -2,6 +2,7 @@ pub mod Uniting
 pub mod Joining
 pub mod Ordering
 pub mod Keeping
+pub mod Seeking
 pub mod Sending
 pub mod Complete
 pub mod Rows

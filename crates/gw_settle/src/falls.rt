@@ -25,17 +25,24 @@ fn falls_alike(times: u64, number: u64, next: u64, second: u64, last: u64) -> bo
         && left.saturating_sub(last) <= fall
 }
 
-/// Whether an amount does, of its entity.
-fn amount_falls_on(times: u64, amount: &Amount, next: &Known, second: &Known, last: &Known) -> bool
+/// Whether an amount does, of its entity, which stands at a place, from 0.
+fn amount_falls_on(
+    times: u64,
+    place: usize,
+    amount: &Amount,
+    next: &Known,
+    second: &Known,
+    last: &Known,
+) -> bool
     ensures { IsTrue result ↔ HeldFallOn times next.now second.now last.now amount.now }
 {
     let entity = amount.entity;
     falls_alike(
         times,
         amount.number,
-        next.units_of(entity),
-        second.units_of(entity),
-        last.units_of(entity),
+        next.units_near(place, entity),
+        second.units_near(place, entity),
+        last.units_near(place, entity),
     )
 }
 
@@ -43,7 +50,12 @@ fn amount_falls_on(times: u64, amount: &Amount, next: &Known, second: &Known, la
 fn units_fall_on(times: u64, units: &[Amount], next: &Known, second: &Known, last: &Known) -> bool
     ensures { IsTrue result ↔ All (HeldFallOn times next.now second.now last.now) units.now }
 {
-    units.iter().all(|amount| amount_falls_on(times, amount, next, second, last))
+    for i in 0..units.len() {
+        if !amount_falls_on(times, i, &units[i], next, second, last) {
+            return false;
+        }
+    }
+    true
 }
 
 /// Whether two rows say the same but for units.

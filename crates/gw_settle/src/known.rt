@@ -2,7 +2,7 @@
 
 ghost use Rattle.std.specs.Prelude.{◌≡◌, ◌≢◌, ◌<◌, List, IfOk, IfSome, Some, option_map, All, AllPairs};
 ghost use Rattle.gw_rules.specs.Rows.{IsOrdered, KindAscends, Ret, kind_of, return_blocks, units_of, nothing_known};
-ghost use Rattle.gw_flow.specs.Known.{amounts_of};
+ghost use Rattle.gw_flow.specs.Known.{amounts_of, AmountsAscend};
 ghost use Rattle.gw_flow.specs.Viewed.{kind_viewed, params_viewed};
 ghost use Rattle.gw_settle.specs.Joins as model;
 ghost use Rattle.gw_settle.specs.Joins.{kind_in, kind_with, params_with, units_with, AddsJoined, AddsUnits};
@@ -10,6 +10,7 @@ ghost use Rattle.gw_settle.specs.Jumps as jumps;
 ghost use Rattle.gw_settle.specs.Drafts.{held_units_after};
 ghost use Rattle.gw_settle.specs.Known.{kind_known, params_known, known_viewed};
 
+use crate::amounts::units_near;
 use crate::sets::united;
 use gw_flow::{Amount, Lookups, Param, ParamKind, State};
 use gw_object::{Items, Memory};
@@ -222,15 +223,25 @@ fn push_units(all: &mut Vec<Amount>, entity: u16, number: u64) -> Result<(), Mem
     Ok(())
 }
 
+/// The units of an entity that a state holds; this place among them, from 0, is looked at first.
+fn state_units_near(state: &State<'_>, place: usize, entity: u16) -> u64
+    requires { IsOrdered state.now }
+    ensures { result ≡ units_of state.now entity }
+{
+    units_near(state.units(), place, entity)
+}
+
 /// The lesser of the units of a row and of a state, of each entity of which both have some.
 fn units_joined(alloc: Global, units: &[Amount], state: &State<'_>) -> Result<Vec<Amount>, Memory>
-    requires { AllPairs (λ (a b : Amount). a.entity < b.entity) units.now }
+    requires units { AmountsAscend units.now }
+    requires state { IsOrdered state.now }
     ensures { IfOk result (λ all. amounts_of all.items ≡ units_with units.now state.now) }
 {
     let mut all = Vec::with_capacity(alloc, units.len())?;
-    for amount in units {
-        let number = amount.number.min(state.units_of(amount.entity));
-        push_units(&mut all, amount.entity, number)?;
+    for i in 0..units.len() {
+        let entity = units[i].entity;
+        let number = units[i].number.min(state_units_near(state, i, entity));
+        push_units(&mut all, entity, number)?;
     }
     Ok(all)
 }
@@ -249,13 +260,14 @@ fn units_after(
     next: &Known,
     times: u64,
 ) -> Result<Vec<Amount>, Memory>
-    requires { AllPairs (λ (a b : Amount). a.entity < b.entity) units.now }
+    requires { AmountsAscend units.now }
     ensures { IfOk result (λ us. amounts_of us.items ≡ held_units_after times units.now next.now) }
 {
     let mut all = Vec::with_capacity(alloc, units.len())?;
-    for amount in units {
-        let number = number_after(amount.number, next.units_of(amount.entity), times);
-        push_units(&mut all, amount.entity, number)?;
+    for i in 0..units.len() {
+        let entity = units[i].entity;
+        let number = number_after(units[i].number, next.units_near(i, entity), times);
+        push_units(&mut all, entity, number)?;
     }
     Ok(all)
 }
@@ -382,17 +394,18 @@ impl Known {
         self.lists.as_ref().facilities.as_slice()
     }
 
+    /// The units of a storage or queue that are sure to be held; this place among them, from 0, is looked at first.
+    pub(crate) fn units_near(&self, place: usize, entity: u16) -> u64
+        ensures { result ≡ units_of self.now entity }
+    {
+        units_near(self.lists.as_ref().units.as_slice(), place, entity)
+    }
+
     /// The units of a storage or queue that are sure to be held.
     pub(crate) fn units_of(&self, entity: u16) -> u64
         ensures { result ≡ units_of self.now entity }
     {
-        let units = self.lists.as_ref().units.as_slice();
-        for i in 0..units.len() {
-            if units[i].entity == entity {
-                return units[i].number;
-            }
-        }
-        0
+        self.units_near(0, entity)
     }
 
     /// The units that are sure to be held, ascending by entity.

@@ -70,14 +70,14 @@ fn rows_after(
     Ok(TableRows { blocks, chains })
 }
 
-/// How many times an amount can fall by as much as to the next row, so that as much is left after one more; no more than
-/// this, and none where it falls by less in the second.
-fn times_of(amount: &Amount, next: &Known, second: &Known, most: u64) -> u64
+/// How many times an amount, which stands at a place, from 0, can fall by as much as to the next row, so that as much is left
+/// after one more; no more than this, and none where it falls by less in the second.
+fn times_of(amount: &Amount, place: usize, next: &Known, second: &Known, most: u64) -> u64
     ensures { result ≤ most }
 {
-    let after_one = next.units_of(amount.entity);
+    let after_one = next.units_near(place, amount.entity);
     let fall = amount.number.saturating_sub(after_one);
-    if fall > after_one.saturating_sub(second.units_of(amount.entity)) {
+    if fall > after_one.saturating_sub(second.units_near(place, amount.entity)) {
         return 0;
     }
     if fall == 0 {
@@ -93,9 +93,13 @@ fn times_in_row(row: &Known, next: &Known, second: &Known, most: u64) -> u64
     if !are_same_params(next.params(), row.params()) {
         return 0;
     }
+    let units = row.units();
     let mut times = most;
-    for amount in row.units() {
-        times = times_of(amount, next, second, times);
+    for i in 0..units.len() {
+        times = times_of(&units[i], i, next, second, times);
+        if times == 0 {
+            return 0;
+        }
     }
     times
 }
@@ -129,6 +133,9 @@ fn times_in(
     let mut times = most;
     for i in 0..count {
         times = times_at(&rows[i], &next[i], &second[i], times);
+        if times == 0 {
+            return 0;
+        }
     }
     times
 }

@@ -1,6 +1,7 @@
 //! The assembler's state table: what is known of a transaction at every block, found from the blocks alone.
 #![tactic(auto)]
 
+mod amounts;
 pub mod codes;
 mod draft;
 mod falls;

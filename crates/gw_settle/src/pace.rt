@@ -3,10 +3,10 @@
 ghost use Rattle.std.specs.Prelude.{◌≡◌, ◌==◌};
 
 /// The most rounds that are made one by one between a leap that succeeds and the next.
-const SHORTEST: u64 = 128;
+const SHORTEST: u64 = 4;
 
 /// How many rounds are made one by one before the first leap.
-const FIRST: u64 = 512;
+const FIRST: u64 = 4;
 
 /// How many rounds are made one by one until a leap is tried.
 #[derive(Clone, Copy, Debug)]

@@ -2,5 +2,5 @@ use Rattle.std.proofs.Common.{min}
 use Rattle.gw_settle.proofs.Keeping.{UnitsSoFar}
 use Rattle.gw_settle.proofs.known.units_joined.Given as goal
 
-abbrev pub invariant-loop-amount : goal.invariant-loop-amount
-invariant-loop-amount l = UnitsSoFar min l.units l.state l.all.items l.amount-index
+abbrev pub invariant-loop-i : goal.invariant-loop-i
+invariant-loop-i l = UnitsSoFar min l.units l.state l.all.items l.i

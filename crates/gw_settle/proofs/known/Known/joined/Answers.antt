@@ -21,8 +21,8 @@ params_joined-requires-clause-kinds c =
     subst (All (λ (p : KnownParam). KindAscends (kind_known p.kind))) (sym is)
     (All-from_map (λ (e : ℕ × ParamKind). KindAscends e.1) (λ (p : KnownParam). (p.number, kind_known p.kind)) c.self.inside.lists.value.params c.self.invariant.returns)
 
-pub units_joined-requires : goal.units_joined-requires
-units_joined-requires c = amounts_ascend c.as_slice-3.result.now c.self.inside.lists.value.units (search rules) c.self.invariant.units
+pub units_joined-requires-clause-units : goal.units_joined-requires-clause-units
+units_joined-requires-clause-units c = amounts_ascend c.as_slice-3.result.now c.self.inside.lists.value.units (search rules) c.self.invariant.units
 
 pub of_lists-requires : goal.of_lists-requires
 of_lists-requires c =
