@@ -100,6 +100,49 @@ zero_or_value m (suc p) vs v some few unset is =
     let within : p < length vs = omega (arith, few) in
     sym (at_slot vs p v within (rw at_place at is)) ∙ sym (value_or_zero 0 m p vs within (λ i none. unset i (let here : 0 + i ≡ i = omega arith in ap (bit_at m) (sym here) ∙ none)))
 
+-- a number whose bit isn't 1 is of no parameter that is set
+pub without_bit : (m number : ℕ) (vs : List ℤ) → 1 ≤ number → bit_at m (number - 1) ≢ 1 → at None (None ∷ shown_from 0 m vs) number ≡ None
+without_bit m zero vs some unset = absurd (omega (arith, some))
+without_bit m (suc p) vs some unset = none_at 0 p vs (λ one. unset (let here : suc p - 1 ≡ 0 + p = omega arith in ap (bit_at m) here ∙ one))
+  where
+    no_slot : (bit : ℕ) (v : ℤ) → bit < 2 → bit ≢ 1 → slot bit v ≡ None
+    no_slot zero v few other = refl
+    no_slot (suc zero) v few other = absurd (other refl)
+    no_slot (suc (suc bit)) v few other = absurd (omega (arith, few))
+
+    none_at : (k p : ℕ) (vs : List ℤ) → bit_at m (k + p) ≢ 1 → at None (shown_from k m vs) p ≡ None
+    none_at k p [] unset = at-replicate None (64 - k) p
+    none_at k zero (v ∷ vs) unset = no_slot (bit_at m k) v (bit_at-lt m k) (λ one. unset (let here : k + 0 ≡ k = omega arith in ap (bit_at m) here ∙ one))
+    none_at k (suc p) (v ∷ vs) unset = none_at (suc k) p vs (λ one. unset (let next : k + suc p ≡ suc k + p = omega arith in ap (bit_at m) next ∙ one))
+
+-- a number without a slot is of no parameter that is set
+pub without_slot : (m number : ℕ) (vs : List ℤ) → (1 ≤ number → length vs < number) → at None (None ∷ shown_from 0 m vs) number ≡ None
+without_slot m zero vs past = refl
+without_slot m (suc p) vs past = none_past 0 p vs (omega (arith, past (omega arith)))
+  where
+    none_past : (k p : ℕ) (vs : List ℤ) → length vs ≤ p → at None (shown_from k m vs) p ≡ None
+    none_past k p [] past = at-replicate None (64 - k) p
+    none_past k zero (v ∷ vs) past = absurd (omega (arith, past))
+    none_past k (suc p) (v ∷ vs) past = none_past (suc k) p vs (omega (arith, past))
+
+-- a number with a slot has its value, where its bit says that it is set
+pub with_slot : (m number : ℕ) (vs : List ℤ) (v : ℤ) → 1 ≤ number → number ≤ length vs → v ≡ get_or vs (number - 1) v → at None (None ∷ shown_from 0 m vs) number ≡ slot (bit_at m (number - 1)) v
+with_slot m zero vs v some few is = absurd (omega (arith, some))
+with_slot m (suc p) vs v some few is =
+    let at_place : suc p - 1 ≡ p = omega arith in
+    let here : 0 + p ≡ p = omega arith in
+    let within : p < length vs = omega (arith, few) in
+    slot_at 0 p vs within
+    ∙ ap (λ x. slot (bit_at m (0 + p)) x) (at_slot vs p v within (rw at_place at is))
+    ∙ ap (λ i. slot (bit_at m i) v) (here ∙ sym at_place)
+  where
+    slot_at : (k p : ℕ) (vs : List ℤ) → p < length vs → at None (shown_from k m vs) p ≡ slot (bit_at m (k + p)) (at (pos 0) vs p)
+    slot_at k p [] below = absurd (omega (arith, below))
+    slot_at k zero (v ∷ vs) below = let here : k + 0 ≡ k = omega arith in ap (λ i. slot (bit_at m i) v) (sym here)
+    slot_at k (suc p) (v ∷ vs) below =
+        let next : suc k + p ≡ k + suc p = omega arith in
+        slot_at (suc k) p vs (omega (arith, below)) ∙ ap (λ i. slot (bit_at m i) (at (pos 0) vs p)) next
+
 pub set-number : (m n number : ℕ) (x : ℤ) (vs : List ℤ) → 1 ≤ number → number ≤ length vs → bit_at n (number - 1) ≡ 1 → ((i : ℕ) → i ≢ number - 1 → bit_at n i ≡ bit_at m i) → None ∷ shown_from 0 n (set vs (number - 1) x) ≡ put None (None ∷ shown_from 0 m vs) number (Some x)
 set-number m n zero x vs some few one others = absurd (omega (arith, some))
 set-number m n (suc p) x vs some few one others =

@@ -2,9 +2,8 @@
 use Rattle.std.specs.Prelude.{◌≡◌, ℕ, suc, ◌-◌, ◌^◌, ◌<◌, ◌≤◌, List, [], ◌∷◌, replicate, Option, Some, None, slice_index_or}
 use Rattle.slab.specs.Slab.{Slab, slab_len}
 use Rattle.gw_transactions.specs.declared.Kept.{Kept}
-use Rattle.gw_transactions.specs.declared.Transaction.{Transaction}
 use Rattle.gw_num.specs.Table.{at, put}
-use Rattle.gw_transactions.specs.Transactions.{Population, LiveTransaction, listed_as, here_count}
+use Rattle.gw_transactions.specs.Transactions.{Population, LiveTransaction, ListedTransaction, listed_as, here_count}
 
 module _ {X Y : Type 0} (entry : ℕ → X → Y) (next : ℕ) where
   -- the table of these slots up to the next number, the first slot being at this place: each slot's number has the
@@ -19,7 +18,7 @@ abbrev pub live_as : Kept → LiveTransaction
 live_as kept = record { attributes = kept.attributes; parameters = kept.parameters.values; chain = kept.chain }
 
 -- what an entry of a slab lists of the transaction that it keeps
-abbrev pub listed_in : ℕ × (ℕ × Kept) → Transaction × Option ℕ
+abbrev pub listed_in : ℕ × (ℕ × Kept) → ListedTransaction
 listed_in entry = listed_as (live_as entry.1.1)
 
 -- what the slots, the next number and the greatest number of a parameter show

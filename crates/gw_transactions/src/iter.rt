@@ -2,36 +2,36 @@
 
 ghost use Rattle.std.specs.Iterator.{YieldsFirstBy, item_count};
 
-use crate::{Kept, Transaction};
+use crate::{Kept, Parameters, Transaction};
 use std::marker::Model;
 
-/// The live transactions of a job, in no particular order: the attributes of each, and the entity, by its number from 0,
-/// that is the user chain of which it is a member. Contracts see those that are still to come.
+/// The live transactions of a job, in no particular order: the attributes of each, the entity, by its number from 0,
+/// that is the user chain of which it is a member, and its parameters. Contracts see those that are still to come.
 #[derive(Drop)]
 pub struct Iter<'a> {
     pub(crate) slots: slab::Iter<'a, (u64, Kept)>,
 }
 
 impl<'a> Model for Iter<'a> {
-    ghost use Rattle.std.specs.Prelude.{ℕ, List, Option, map};
-    ghost use Rattle.gw_transactions.specs.declared.Transaction.{Transaction};
+    ghost use Rattle.std.specs.Prelude.{List, map};
+    ghost use Rattle.gw_transactions.specs.Transactions.{ListedTransaction};
     ghost use Rattle.gw_transactions.specs.Slots.{listed_in};
 
-    ghost Value = { List (Transaction × Option ℕ) };
+    ghost Value = { List ListedTransaction };
 
     ghost view = { λ it. map listed_in it.slots };
 }
 
 impl<'a> Iterator for Iter<'a> {
-    type Item = (&'a Transaction, Option<u16>);
+    type Item = (&'a Transaction, Option<u16>, &'a Parameters);
 
-    ghost next_gives = { YieldsFirstBy (λ item. (item.0.now, item.1)) (λ rest. rest) };
+    ghost next_gives = { YieldsFirstBy (λ item. (item.0.now, item.1, item.2.now.values)) (λ rest. rest) };
 
     ghost remaining = { item_count (λ rest. rest) };
 
-    fn next(&mut self) -> Option<(&'a Transaction, Option<u16>)> {
+    fn next(&mut self) -> Option<(&'a Transaction, Option<u16>, &'a Parameters)> {
         let (_, slot) = self.slots.next()?;
         let kept = &slot.1;
-        Some((&kept.attributes, kept.chain))
+        Some((&kept.attributes, kept.chain, &kept.parameters))
     }
 }

@@ -140,7 +140,8 @@ impl Transactions {
         self.slots.len()
     }
 
-    /// The transactions that there are now, in no particular order: the attributes of each, and its user chain.
+    /// The transactions that there are now, in no particular order: the attributes of each, its user chain and its
+    /// parameters.
     pub fn iter(&self) -> Iter<'_>
         ensures listed { IsPermutation (listed self.now.txs) result }
         ensures len { length result ≡ live_count self.now.txs }

@@ -75,6 +75,23 @@ impl Parameters {
         self.slots[slot]
     }
 
+    /// The value of a parameter where it is set, by any number: one that names no parameter is of none that is set.
+    pub fn get_if_set(&self, number: u8) -> Option<i64>
+        ensures { result ≡ at None self.now.values number }
+    {
+        let has_slot = 0 < number && number as usize <= self.slots.len();
+        if !has_slot {
+            return None;
+        }
+        let place = number as usize - 1;
+        let is_set = self.mask >> place & 1 == 1;
+        if is_set {
+            Some(self.slots[place])
+        } else {
+            None
+        }
+    }
+
     /// Sets a parameter.
     pub(crate) fn set(&mut self, number: u8, value: i64)
         requires { (1 ≤ number) × (number ≤ self.old.last) }
