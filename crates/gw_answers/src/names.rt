@@ -10,7 +10,7 @@ use gw_rules::{flow_codes, kinds_codes, plus_codes, weights_codes};
 use gw_text::codes as text_codes;
 
 /// All codes, ascending, with their names.
-pub const NAMES: [(u16, &str); 59] = [
+pub const NAMES: [(u16, &str); 60] = [
     (object_codes::TRUNCATED, "Truncated"),
     (object_codes::MAGIC, "Magic"),
     (object_codes::VERSION, "Version"),
@@ -43,6 +43,7 @@ pub const NAMES: [(u16, &str); 59] = [
     (weights_codes::WEIGHT_EDGE, "WeightEdge"),
     (weights_codes::CHAIN_WEIGHT, "ChainWeight"),
     (weights_codes::ARRIVAL_WEIGHT, "ArrivalWeight"),
+    (weights_codes::SLOPE_PARAM, "SlopeParam"),
     (job_codes::SEED, "Seed"),
     (job_codes::COUNT, "Count"),
     (job_codes::BUDGET, "Budget"),

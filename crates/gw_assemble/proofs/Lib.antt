@@ -1,4 +1,6 @@
-pub mod Completed
 pub mod Reweighed
 pub mod Failing
+pub mod Values
+pub mod Versions
+pub mod Completed
 pub mod Tables

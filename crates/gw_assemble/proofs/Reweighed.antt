@@ -1,4 +1,4 @@
--- An object with other weights: what of its checks stays as it was.
+-- An object with another version, and other weights and slopes: what of its checks stays as it was.
 use Rattle.std.proofs.Common.{◌≡◌, ℕ, ◌+◌, List, [], ◌∷◌, ◌++◌, Option, Some, None, true, refl, sym, ap, ap₂, subst, ◌∙◌}
 use Rattle.std.specs.Prelude.{All}
 use Rattle.std.specs.List.{flat_map}
@@ -21,11 +21,10 @@ use Rattle.gw_rules.specs.Blocks.{Table, Rule, own_rules, rules}
 use Rattle.gw_rules.specs.Flow.{FlowPasses}
 use Rattle.gw_rules.specs.FlowLaws.{FlowHolds}
 use Rattle.gw_rules.proofs.Passing.{flow_passes_at_each_block}
-use Rattle.gw_weighing.specs.Certificates.{with_weights}
 
-module _ (p : Parts) (weights chains : List ℕ) where
+module _ (p : Parts) (version : ℕ) (weights : List ℕ) (slopes : List (Option (ℕ × ℕ))) (chains : List ℕ) where
   abbrev q : Parts
-  q = with_weights p weights chains
+  q = record p { version = version; weights = weights; slopes = slopes; chain_weights = chains }
 
   pub kinds_same : KindsPass p → KindsPass q
   unfolding kinds_checks

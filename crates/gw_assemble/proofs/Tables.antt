@@ -1,9 +1,9 @@
 -- Weights that pass with some state table pass with each whose rows fit its own.
 use Rattle.std.proofs.Common.{◌≡◌, inl, inr, ℕ, List, [], ◌∷◌, length, map, Option, Some, None, true, IsTrue, IsSome, All, refl, sym, ap, subst, ◌∙◌, is_some, ◌==◌}
-use Rattle.std.specs.Prelude.{IsSomeAnd}
+use Rattle.std.specs.Prelude.{IsSomeAnd, IfSome}
 use Rattle.std.specs.List.{list_all}
 use Rattle.std.proofs.lemmas.Bool.{false≢true, and_parts, or_cases, eqb-true}
-use Rattle.std.proofs.lemmas.List.Elements.{All-nil, All-cons, All-head, All-tail}
+use Rattle.std.proofs.lemmas.List.Elements.{All-nil, All-cons, All-head, All-tail, All-weaker}
 use Rattle.gw_blocks.specs.declared.parts.Block.{Block}
 use Rattle.gw_blocks.specs.declared.parts.Block.TheVariants as blocks
 use Rattle.gw_object.specs.Entities.{chains_in}
@@ -15,14 +15,20 @@ use Rattle.gw_object.specs.declared.parts.ReturnRow.{ReturnRow}
 use Rattle.gw_object.specs.declared.parts.Parts.{Parts}
 use Rattle.gw_rules.specs.declared.edges.Target.TheVariants as targets
 use Rattle.gw_rules.specs.declared.ways.Exit.{Exit}
-use Rattle.gw_rules.specs.Exits.{exits_with, returns_to}
+use Rattle.gw_rules.specs.declared.ways.Way.{Way}
+use Rattle.gw_rules.specs.declared.ways.Who.{Who}
+use Rattle.gw_rules.specs.declared.ways.Who.TheVariants.{Itself, Copies}
+use Rattle.gw_rules.specs.declared.slopes.Treatment.{Treatment}
+use Rattle.gw_rules.specs.declared.slopes.Treatment.TheVariants.{Keeps, SetsTo, Lowers, RunsOut, Changes}
+use Rattle.gw_rules.specs.Exits.{exits_with, returns_to, leads_to}
 use Rattle.gw_rules.specs.Kinds.{block_at}
 use Rattle.gw_rules.specs.Pass.{KindsPass}
 use Rattle.gw_rules.specs.Rows.{Row, ParamKind, Num, Ret, kind_of, kind_fits, is_return, return_blocks, Fits}
 use Rattle.gw_rules.specs.FlowCodes as codes
 use Rattle.gw_rules.specs.Blocks.{Rule, rule, value_rules, return_rules, rules, returns_read}
 use Rattle.gw_rules.specs.Flow.{own_table, own_row, FlowPasses}
-use Rattle.gw_rules.specs.WeightsLaws.{PaysExit, PaysChain, Pays, Weighted}
+use Rattle.gw_rules.specs.Weights.{weight_at, slope_at, treats}
+use Rattle.gw_rules.specs.WeightsLaws.{PaysSlope, PaysTo, PaysWay, PaysExit, PaysChain, Pays, Weighted}
 use Rattle.gw_rules.proofs.AllPass.{is_checked, kinds_pass, flow_passes, weights_pass}
 use Rattle.gw_rules.proofs.EachBlock.{All-back}
 use Rattle.gw_rules.proofs.Passing.{flow_passes_at_each_block}
@@ -34,6 +40,7 @@ use Rattle.gw_weighing.proofs.Spelled.{still_spelled}
 use Rattle.gw_assemble.specs.Completion.{IsAccepted, HasNoWeights}
 use Rattle.gw_assemble.specs.Laws.{DiffersInTableAndWeights, NoTableAndWeightsPass}
 use Rattle.gw_assemble.proofs.Reweighed.{kinds_same_from, flow_same_from}
+use Rattle.gw_assemble.proofs.Failing.{still_weighed}
 
 -- RETURNS
 
@@ -71,6 +78,21 @@ fewer_paid P (b ∷ bs) cs within h =
     let two = and_parts (lists cs b) (list_all (λ b. lists cs b) bs) within in
     All-cons P (returns_to b) (map returns_to bs) (listed_paid P cs b two.0 h) (fewer_paid P bs cs two.1 h)
 
+-- NUMBERS
+
+-- what fits a number is one
+number_fits : (kind said : Option ParamKind) → IsTrue (kind_fits kind said) → said ≡ Some Num → kind ≡ Some Num
+number_fits (Some Num) (Some Num) h number = refl
+number_fits None (Some Num) h number = absurd (false≢true h)
+number_fits (Some (Ret bs)) (Some Num) h number = absurd (false≢true h)
+number_fits kind (Some (Ret cs)) h number = absurd (cc)
+number_fits kind None h number = absurd (cc)
+
+-- a slope that is on a number in a row is on one in each that fits it
+slope_fits : (slope : Option (ℕ × ℕ)) (row other : Row) → Fits row other → IfSome slope (λ s. kind_of other s.0 ≡ Some Num) → IfSome slope (λ s. kind_of row s.0 ≡ Some Num)
+slope_fits None row other fits h = tt
+slope_fits (Some slope) row other fits h = number_fits (kind_of row slope.0) (kind_of other slope.0) (fits.params slope.0) h
+
 -- TABLES
 
 -- a row that is there, below another one
@@ -94,25 +116,54 @@ module _ (p : Parts) (returns others : List ReturnRow) (states chain_states othe
   abbrev t : Parts
   t = with_table p others other_states other_chain_states
 
-  module _ (below : IsTableBelow (own_table s) (own_table t)) (flow : FlowPasses t (own_table t)) (w : Weighted (with_weights t ws cs)) where
-    chain_paid : (b : ℕ) (block : Block) → PaysChain (with_weights t ws cs) b block → PaysChain (with_weights s ws cs) b block
+  abbrev s' : Parts
+  s' = with_weights s ws cs
+
+  abbrev t' : Parts
+  t' = with_weights t ws cs
+
+  -- what is paid doesn't depend on the table
+  slope_paid : (b there : ℕ) (slope : ℕ × ℕ) (treatment : Treatment) → PaysSlope t' b there slope treatment → PaysSlope s' b there slope treatment
+  slope_paid b there slope Keeps h = h
+  slope_paid b there slope (SetsTo value) h = h
+  slope_paid b there slope Lowers h = h
+  slope_paid b there slope RunsOut h = h
+  slope_paid b there slope Changes h = h
+
+  to_paid : (b : ℕ) (block : Block) (way : Way) (there : ℕ) (slope : Option (ℕ × ℕ)) → PaysTo t' b block way there slope → PaysTo s' b block way there slope
+  to_paid b block way there None h = h
+  to_paid b block way there (Some slope) h = slope_paid b there slope (treats block way slope.0) h
+
+  way_paid : (b : ℕ) (block : Block) (way : Way) (who : Who) → PaysWay t' b block way who → PaysWay s' b block way who
+  way_paid b block way Itself h = to_paid b block way (weight_at ws (leads_to b way)) (slope_at p.slopes (leads_to b way)) h
+  way_paid b block way (Copies copies) h = record { base = h.base; fall_on = h.fall_on; target_on = h.target_on; steep = h.steep }
+
+  exit_paid : (b : ℕ) (block : Block) (exit : Exit) → PaysExit t' b block exit → PaysExit s' b block exit
+  exit_paid b block exit h at_once = way_paid b block exit.way exit.who (h at_once)
+
+  same_paid : (b : ℕ) (block : Block) (exits : List Exit) → All (PaysExit t' b block) exits → All (PaysExit s' b block) exits
+  same_paid b block exits h = All-weaker (PaysExit t' b block) (PaysExit s' b block) (exit_paid b block) exits h
+
+  module _ (below : IsTableBelow (own_table s) (own_table t)) (flow : FlowPasses t (own_table t)) (w : Weighted t') where
+    chain_paid : (b : ℕ) (block : Block) → PaysChain t' b block → PaysChain s' b block
     chain_paid b (blocks.Link l) h = h
-    chain_paid b (blocks.Unlink u) h = λ there. h (there_too (own_table s (targets.Chain u.chain)) (own_table t (targets.Chain u.chain)) (below (targets.Chain u.chain)) there)
+    chain_paid b (blocks.Unlink u) h = (h.0, λ there. h.1 (there_too (own_table s (targets.Chain u.chain)) (own_table t (targets.Chain u.chain)) (below (targets.Chain u.chain)) there))
     chain_paid b block h = tt
 
-    exits_paid : (b : ℕ) (block : Block) (row other : Row) → Fits row other → All Holds (rules t block other) → All (PaysExit (with_weights t ws cs) b) (exits_with (returns_read block other) block) → All (PaysExit (with_weights s ws cs) b) (exits_with (returns_read block row) block)
+    exits_paid : (b : ℕ) (block : Block) (row other : Row) → Fits row other → All Holds (rules t block other) → All (PaysExit t' b block) (exits_with (returns_read block other) block) → All (PaysExit s' b block) (exits_with (returns_read block row) block)
     exits_paid b (blocks.TransferByParameter q) row other fits rule h =
-        fewer_paid (PaysExit (with_weights t ws cs) b) (return_blocks (kind_of row q)) (return_blocks (kind_of other q)) (return_fits (kind_of row q) (kind_of other q) (fits.params q) (reads_return t q other rule)) h
-    exits_paid b block row other fits rule h = h
+        same_paid b (blocks.TransferByParameter q) (map returns_to (return_blocks (kind_of row q)))
+        (fewer_paid (PaysExit t' b (blocks.TransferByParameter q)) (return_blocks (kind_of row q)) (return_blocks (kind_of other q)) (return_fits (kind_of row q) (kind_of other q) (fits.params q) (reads_return t q other rule)) h)
+    exits_paid b block row other fits rule h = same_paid b block (exits_with (returns_read block other) block) h
 
-    row_paid : (b : ℕ) (block : Block) (row : Row) → block_at p.blocks b ≡ Some block → own_row s b ≡ Some row → Pays (with_weights s ws cs) b block row
+    row_paid : (b : ℕ) (block : Block) (row : Row) → block_at p.blocks b ≡ Some block → own_row s b ≡ Some row → Pays s' b block row
     row_paid b block row is has =
         let found = some_and (own_table t (targets.Block b)) row (below_there row (own_table s (targets.Block b)) (own_table t (targets.Block b)) has (below (targets.Block b))) in
         let paid = w.each_row b block found.0 is found.1 in
         let may = ((flow_passes_at_each_block t (own_table t)).0 flow).each_row b block found.0 is found.1 in
-        record { chain = chain_paid b block paid.chain; exits = exits_paid b block row found.0 found.2 may.each_rule paid.exits }
+        record { slope = slope_fits (slope_at p.slopes b) row found.0 found.2 paid.slope; chain = chain_paid b block paid.chain; exits = exits_paid b block row found.0 found.2 may.each_rule paid.exits }
 
-    pub weighted_below : Weighted (with_weights s ws cs)
+    pub weighted_below : Weighted s'
     weighted_below = record { least = w.least; chains = w.chains; arrivals = w.arrivals; each_row = row_paid }
 
 -- THE LAW
@@ -126,7 +177,7 @@ module _ (p : Parts) (fault : Fault) (none : NoneChanged p) (q : Parts) (differ 
       let checked = is_checked q it.accepted in
       let kinds : KindsPass (with_weights tabled q.weights q.chain_weights) = subst KindsPass (sym differ) (kinds_pass q checked) in
       let flow : FlowPasses (with_weights tabled q.weights q.chain_weights) (own_table (with_weights tabled q.weights q.chain_weights)) = subst (λ (x : Parts). FlowPasses x (own_table x)) (sym differ) (flow_passes q checked) in
-      record { same = refl; kinds = kinds_same_from tabled q.weights q.chain_weights kinds; flow = flow_same_from tabled q.weights q.chain_weights (own_table tabled) flow }
+      record { same = refl; kinds = kinds_same_from tabled p.version q.weights p.slopes q.chain_weights kinds; flow = flow_same_from tabled p.version q.weights p.slopes q.chain_weights (own_table tabled) flow }
 
   tabled_weighted : Weighted (with_weights tabled q.weights q.chain_weights)
   tabled_weighted = subst Weighted (sym differ) ((weights_pass_where_weighted q it.spelled).0 (weights_pass q it.accepted))
@@ -155,10 +206,12 @@ module _ (p : Parts) (fault : Fault) (none : NoneChanged p) (q : Parts) (differ 
   pub none_passes : HasNoWeights p fault → ⊥
   none_passes (found, completion, fails) =
       let settled = completion.settled in
-      let below = completion.greatest none tabled tabled_passes in
-      let one : Weighted (with_weights found q.weights q.chain_weights) = subst (λ (x : Parts). Weighted (with_weights x q.weights q.chain_weights)) completion.weights (settled_weighted settled completion.passes below) in
-      let blocks : length p.blocks ≡ length found.blocks = sym (ap (λ (x : Parts). length x.blocks) completion.passes.same) ∙ ap (λ (x : Parts). length x.blocks) completion.weights in
-      let chains : chains_in p.entities ≡ chains_in found.entities = sym (ap (λ (x : Parts). chains_in x.entities) completion.passes.same) ∙ ap (λ (x : Parts). chains_in x.entities) completion.weights in
+      let passes = completion.settlement.passes in
+      let weighed = still_weighed settled passes.kinds completion.settlement.code passes.flow found completion.weights fault fails.refused in
+      let below = completion.settlement.greatest none tabled tabled_passes in
+      let one : Weighted (with_weights found q.weights q.chain_weights) = subst (λ (x : Parts). Weighted (with_weights x q.weights q.chain_weights)) weighed (settled_weighted settled passes below) in
+      let blocks : length p.blocks ≡ length found.blocks = sym (ap (λ (x : Parts). length x.blocks) passes.same) ∙ ap (λ (x : Parts). length x.blocks) weighed in
+      let chains : chains_in p.entities ≡ chains_in found.entities = sym (ap (λ (x : Parts). chains_in x.entities) passes.same) ∙ ap (λ (x : Parts). chains_in x.entities) weighed in
       fails.none q.weights q.chain_weights (certificate found fails.spelled blocks chains one)
 
 pub no_table_and_weights_pass : NoTableAndWeightsPass

@@ -16,7 +16,8 @@ use std::alloc::Global;
 /// is refused, in this order (ours: docs/refusals.md): at the first line at fault, with the lowest code there, 80 Name, 81
 /// Storage or 82 Limit; with 82 Limit at Nowhere, where what it becomes passes a limit of the object format; with the first
 /// fault of kinds, 10 to 15, or of PLUS code, 30 to 35; where it gets no state table, with 82 Limit at Nowhere or the first
-/// fault of flow, 20 to 28; with the first fault of weights, 40 to 42. Where memory runs out, it is 8 Memory at Nowhere.
+/// fault of flow, 20 to 28; with the first fault of weights, 40 to 42, where no slopes that are tried help; with 82 Limit at
+/// Nowhere, where the object is too long with the slopes that help. Where memory runs out, it is 8 Memory at Nowhere.
 pub fn assemble(alloc: Global, model: &Model) -> Result<Verified, Fault>
     ensures assembled { IfOk result (λ v. Assembles model.now.statements.items v) }
     ensures accepted { IfOk result IsAccepted }

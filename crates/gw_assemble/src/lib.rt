@@ -6,3 +6,6 @@ mod finishing;
 pub mod laws;
 
 pub use assembling::assemble;
+/// The part of [`assemble`] that finds the state table of an object of which kinds and PLUS code pass, before it gets its
+/// weights: each row of it fits the row of every table with which flow passes (ours: docs/object-format.md).
+pub use gw_settle::settle;

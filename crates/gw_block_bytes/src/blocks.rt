@@ -1,4 +1,5 @@
-//! Blocks, in bytes and against the rules of the object format.
+//! Blocks, in bytes and against the rules of the object format. They are put alike in each version, and read here as in
+//! version 1.
 
 ghost use Rattle.std.specs.Prelude.{◌↔◌, IsTrue};
 ghost use Rattle.std.specs.List.{All};
@@ -16,9 +17,9 @@ use gw_fields::{ReadError, fault};
 use std::alloc::Global;
 
 impl Spelled<BlockFormat> for Block {
-    ghost spelling = { block.spell };
+    ghost spelling = { (block 1).spell };
 
-    ghost reading = { block.read };
+    ghost reading = { (block 1).read };
 
     fn put<R: Receiver>(&self, to: &mut R) -> Result<(), R::Refusal> {
         match self {
@@ -59,6 +60,7 @@ impl Spelled<BlockFormat> for Block {
                 14,
                 &(fraction.thousandths, (fraction.otherwise, fraction.target)),
             ),
+            Block::TransferBoth(choice) => put_behind(to, 29, &(choice.first, choice.second)),
             Block::TransferToSubroutine(call) => put_behind(to, 15, &(call.target, call.parameter)),
             Block::TransferByParameter(parameter) => put_behind(to, 16, parameter),
             Block::Loop(counted) => put_behind(to, 17, &(counted.parameter, counted.target)),

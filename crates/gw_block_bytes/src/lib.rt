@@ -5,9 +5,11 @@
 mod blocks;
 mod choices;
 mod operands;
+mod versions;
 
 pub use blocks::blocks_fit;
 pub use operands::{is_parameter, operand_fits, read_parameter_above, read_parameter_number};
+pub use versions::{are_of_version, read_block, read_blocks};
 
 /// The format of blocks and their operands.
 pub struct BlockFormat;

@@ -1,5 +1,5 @@
 -- The grammar of blocks: which operands have a spelling, which bytes spell a block, and with which word it begins in a model text.
-use Rattle.std.specs.Prelude.{ℕ, ◌<◌, ◌^◌, FitsSigned, List, [], ◌∷◌, Option, IfSome, codes, nat_lt}
+use Rattle.std.specs.Prelude.{ℕ, ◌<◌, ◌^◌, FitsSigned, Bool, true, false, not, IsTrue, ◌==◌, List, [], ◌∷◌, Option, IfSome, codes, nat_lt}
 use Rattle.std.specs.Int.{w16, w32, w64}
 use Rattle.gw_blocks.specs.Limits.{most_parameters, most_streams}
 use Rattle.gw_blocks.specs.declared.parts.Attribute.{Attribute as OwnAttribute}
@@ -14,6 +14,7 @@ use Rattle.gw_blocks.specs.declared.parts.Generate.{Generate as GenerateOperands
 use Rattle.gw_blocks.specs.declared.parts.Block.{Block}
 use Rattle.gw_blocks.specs.declared.parts.Units.{Units}
 use Rattle.gw_blocks.specs.declared.parts.Fraction.{Fraction}
+use Rattle.gw_blocks.specs.declared.parts.Both.{Both}
 use Rattle.gw_blocks.specs.declared.parts.Mode.{Mode}
 use Rattle.gw_blocks.specs.declared.parts.Mode.TheVariants.{Set, Add, Subtract}
 use Rattle.gw_blocks.specs.declared.parts.Assign.{Assign as AssignOperands}
@@ -197,6 +198,18 @@ fraction = fitting FractionFits (as_type
     (λ (thousandths, (otherwise, target)). record { thousandths = thousandths; otherwise = otherwise; target = target })
     (λ f. (f.thousandths, (f.otherwise, f.target)))
     (both (number w16) (both (optional block_number) block_number)))
+
+-- each operand fits
+pub record BothFits (t : Both) : Type 0 where
+  pub first : IfSome t.first block_number.Fits
+  pub second : block_number.Fits t.second
+
+-- the two blocks
+abbrev pub choice : Field Both
+choice = fitting BothFits (as_type
+    (λ (first, second). record { first = first; second = second })
+    (λ t. (t.first, t.second))
+    (both (optional block_number) block_number))
 
 -- the byte that stands for a mode
 abbrev pub mode_byte : Mode → ℕ
@@ -401,6 +414,7 @@ BlockFits (blocks.Test t) = TestFits t
 BlockFits (blocks.Gate g) = GateFits g
 BlockFits (blocks.Transfer target) = block_number.Fits target
 BlockFits (blocks.TransferByFraction f) = FractionFits f
+BlockFits (blocks.TransferBoth t) = BothFits t
 BlockFits (blocks.TransferToSubroutine c) = CallFits c
 BlockFits (blocks.TransferByParameter parameter) = parameter_number.Fits parameter
 BlockFits (blocks.Loop l) = LoopFits l
@@ -432,6 +446,7 @@ block_spelling (blocks.Test t) = 11 ∷ test_operands.spell t
 block_spelling (blocks.Gate g) = 12 ∷ gate.spell g
 block_spelling (blocks.Transfer target) = 13 ∷ block_number.spell target
 block_spelling (blocks.TransferByFraction f) = 14 ∷ fraction.spell f
+block_spelling (blocks.TransferBoth t) = 29 ∷ choice.spell t
 block_spelling (blocks.TransferToSubroutine c) = 15 ∷ call.spell c
 block_spelling (blocks.TransferByParameter parameter) = 16 ∷ parameter_number.spell parameter
 block_spelling (blocks.Loop l) = 17 ∷ countdown.spell l
@@ -451,7 +466,7 @@ block_spelling blocks.Buffer = 26 ∷ []
 abbrev pub tag_form : {A : Type 0} → ℕ → A → Form A
 tag_form tag one = behind tag (λ _. one) nothing
 
--- the blocks: those with operands, and then those without
+-- the blocks of version 1: those with operands, and then those without
 abbrev pub block_forms : List (Form Block)
 block_forms =
     behind 1 (λ g. blocks.Generate g) generate
@@ -484,13 +499,27 @@ block_forms =
     ∷ tag_form 26 blocks.Buffer
     ∷ []
 
--- by its tag; another tag is a fault
-unfoldable pub block_read : List ℕ → Read Block
-block_read = by_tag block_forms
+-- whether a version has the blocks with two next blocks: the first hasn't
+abbrev pub has_choices : ℕ → Bool
+has_choices version = not (version == 1)
 
--- a block
-abbrev pub block : Field Block
-block = record { spell = block_spelling; read = block_read; Fits = BlockFits }
+-- the version has this block
+abbrev pub IsOfVersion : ℕ → Block → Type 0
+IsOfVersion version (blocks.TransferBoth t) = IsTrue (has_choices version)
+IsOfVersion version block = Unit {0}
+
+-- the blocks of a version: where it has them, TRANSFER in both mode is one
+abbrev pub forms_where : Bool → List (Form Block)
+forms_where false = block_forms
+forms_where true = behind 29 (λ t. blocks.TransferBoth t) choice ∷ block_forms
+
+-- by its tag; another tag, also one that the version doesn't have, is a fault
+unfoldable pub block_read : ℕ → List ℕ → Read Block
+block_read version = by_tag (forms_where (has_choices version))
+
+-- a block of a version
+abbrev pub block : ℕ → Field Block
+block version = record { spell = block_spelling; read = block_read version; Fits = λ b. IsOfVersion version b × BlockFits b }
 
 -- ---- words
 
@@ -510,6 +539,7 @@ block_word (blocks.Test t) = codes "TEST"
 block_word (blocks.Gate g) = codes "GATE"
 block_word (blocks.Transfer target) = codes "TRANSFER"
 block_word (blocks.TransferByFraction f) = codes "TRANSFER"
+block_word (blocks.TransferBoth t) = codes "TRANSFER"
 block_word (blocks.TransferToSubroutine c) = codes "TRANSFER"
 block_word (blocks.TransferByParameter parameter) = codes "TRANSFER"
 block_word (blocks.Loop l) = codes "LOOP"

@@ -8,7 +8,7 @@ mod parts;
 
 pub use limits::{MOST_PARAMETERS, MOST_STREAMS};
 pub use parts::{
-    Assign, Attribute, Block, Call, Comparison, Condition, EntityAttribute, Fraction, Gate,
+    Assign, Attribute, Block, Both, Call, Comparison, Condition, EntityAttribute, Fraction, Gate,
     Generate, Link, LinkOrder, Logic, Loop, Mode, Numbered, Operand, Plus, Priority, Save, Split,
     Spread, SwitchAction, Test, Units, Unlink, block_word,
 };

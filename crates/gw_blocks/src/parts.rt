@@ -129,6 +129,15 @@ pub struct Fraction {
     pub target: u16,
 }
 
+/// The operands of a TRANSFER block in both mode.
+#[derive(Clone, Copy, Debug, PartialEq, Eq)]
+pub struct Both {
+    /// The number of the block that is tried first, from 1; without it the next block.
+    pub first: Option<u16>,
+    /// The number of the block that is tried next, from 1.
+    pub second: u16,
+}
+
 /// How a value is put where another one is.
 #[derive(Clone, Copy, Debug, PartialEq, Eq)]
 pub enum Mode {
@@ -349,6 +358,8 @@ pub enum Block {
     Transfer(u16),
     /// A part of the transactions goes to one block, the others to another: TRANSFER in fractional mode.
     TransferByFraction(Fraction),
+    /// Transactions go to one block, or where that refuses them to another: TRANSFER in both mode.
+    TransferBoth(Both),
     /// Transactions go to a subroutine, and a parameter of theirs keeps the number of this block: TRANSFER in subroutine
     /// mode.
     TransferToSubroutine(Call),
@@ -401,6 +412,7 @@ pub fn block_word(block: &Block) -> &'static str
         Block::Gate(_) => "GATE",
         Block::Transfer(_)
         | Block::TransferByFraction(_)
+        | Block::TransferBoth(_)
         | Block::TransferToSubroutine(_)
         | Block::TransferByParameter(_) => "TRANSFER",
         Block::Loop(_) => "LOOP",

@@ -2,7 +2,7 @@
 
 use crate::bytes::put_hex;
 use crate::jobs::{Making, go_on, job_of, put_report, put_trace, put_view};
-use crate::objects::{Kind, Source, assembled, model_of, object_of, verified_of};
+use crate::objects::{Kind, Source, assembled, model_of, object_of, settled_of, verified_of};
 use crate::rows::{put_number, put_row_at, put_weights};
 use crate::stop::Stop;
 use crate::words::{number, number_u32, place};
@@ -51,6 +51,26 @@ fn assemble_source(alloc: Global, out: &mut Vec<u8>, source: &Source) -> Result<
     drop(assembled(alloc, source)?);
     out.extend_from_slice(b"assembled\n")?;
     Ok(())
+}
+
+/// Gives an object the assembler's state table.
+fn settle_source(alloc: Global, out: &mut Vec<u8>, source: &Source) -> Result<(), Stop> {
+    drop(settled_of(alloc, source)?);
+    out.extend_from_slice(b"settled\n")?;
+    Ok(())
+}
+
+/// The row of a block or of a user chain in the assembler's state table.
+fn show_settled_row(
+    alloc: Global,
+    out: &mut Vec<u8>,
+    source: &Source,
+    name: &[u8],
+) -> Result<(), Stop> {
+    let settled = settled_of(alloc, source)?;
+    let shown = put_row_at(alloc, out, &settled, name);
+    drop(settled);
+    shown
 }
 
 /// Verifies an object.
@@ -201,6 +221,8 @@ fn with_own_job(
 ///
 /// - `read`: reads the text, or the object;
 /// - `asm`: assembles the text;
+/// - `settle`: gives the object the assembler's state table;
+/// - `settle PLACE`: the row of a block or of a user chain in that table;
 /// - `check`: verifies the object;
 /// - `weights`: the weights of the object;
 /// - `row PLACE`: the row of a block or of a user chain;
@@ -218,6 +240,8 @@ fn act(
     match words {
         [b"read"] => read_source(alloc, out, source),
         [b"asm"] => assemble_source(alloc, out, source),
+        [b"settle"] => settle_source(alloc, out, source),
+        [b"settle", row] => show_settled_row(alloc, out, source, row),
         [b"check"] => check_source(alloc, out, source),
         [b"weights"] => show_weights(alloc, out, source),
         [b"row", row] => show_row(alloc, out, source, row),

@@ -1,14 +1,17 @@
 //! The object of a case: assembled from its text or read from its bytes, and patched.
 
+ghost use Rattle.gw_rules.specs.Pass.{KindsPass};
+ghost use Rattle.gw_rules.specs.PlusChecks.{PlusPasses};
+
 use crate::patches::{apply, splice};
 use crate::stop::Stop;
 use crate::words::words_of;
-use gw_assemble::assemble;
+use gw_assemble::{assemble, settle};
 use gw_object::{Object, Parts};
 use gw_object_bytes::{build, read, write};
 use gw_rules::Verified;
 use gw_text::{Model, parse};
-use gw_verify::verify;
+use gw_verify::{check_first, verify};
 use std::alloc::Global;
 
 /// What the source of a case is.
@@ -124,6 +127,32 @@ pub fn object_of(alloc: Global, source: &Source) -> Result<Object, Stop> {
         let spliced = spliced(alloc, &object, source.splices.as_slice());
         drop(object);
         spliced
+    }
+}
+
+/// An object of which kinds and PLUS code pass, with the assembler's state table in place of its own.
+fn with_assemblers_table(alloc: Global, object: Object) -> Result<Object, Stop>
+    requires kinds { KindsPass object }
+    requires code { PlusPasses object }
+{
+    match settle(alloc, object) {
+        Ok(settled) => Ok(settled),
+        Err((object, fault)) => {
+            drop(object);
+            Err(Stop::from(fault))
+        }
+    }
+}
+
+/// The object of a case, with the assembler's state table in place of its own.
+pub fn settled_of(alloc: Global, source: &Source) -> Result<Object, Stop> {
+    let object = object_of(alloc, source)?;
+    match check_first(&object) {
+        Ok(()) => with_assemblers_table(alloc, object),
+        Err(fault) => {
+            drop(object);
+            Err(Stop::from(fault))
+        }
     }
 }
 

@@ -4,7 +4,7 @@ use crate::bytes::put_words;
 use crate::rows::chain_place;
 use crate::stop::Stop;
 use crate::words::{number, number_in, number_u8, number_u16, number_u32, place};
-use gw_block_bytes::BlockFormat;
+use gw_block_bytes::read_block;
 use gw_blocks::{Block, Units};
 use gw_code::Procedure;
 use gw_code_bytes::CodeFormat;
@@ -72,6 +72,17 @@ fn spelled<Format, T: Spelled<Format>>(alloc: Global, words: &[&[u8]]) -> Result
     }
 }
 
+/// The block that words spell, wholly, in version 2, which has all blocks.
+fn spelled_block(alloc: Global, words: &[&[u8]]) -> Result<Block, Stop> {
+    let mut bytes = Vec::new(alloc);
+    put_words(&mut bytes, words)?;
+    match read_block(alloc, 2, bytes.as_slice()) {
+        Ok((block, [])) => Ok(block),
+        Ok(_) => Err(Stop::Unknown),
+        Err(_) => Err(Stop::Unknown),
+    }
+}
+
 /// Changes a block, its weight or its slope.
 fn patch_block(
     alloc: Global,
@@ -89,7 +100,7 @@ fn patch_block(
             put_at(alloc, &mut parts.slopes, block, slope)
         }
         [b"bytes", bytes @ ..] => {
-            let value = spelled::<BlockFormat, Block>(alloc, bytes)?;
+            let value = spelled_block(alloc, bytes)?;
             put_at(alloc, &mut parts.blocks, block, value)
         }
         _ => Err(Stop::Unknown),

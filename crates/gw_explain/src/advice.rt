@@ -13,7 +13,7 @@ pub struct Advice {
 }
 
 /// For each code, ascending, what is wrong, and how to mend it.
-pub const ADVICE: [(u16, &str, &str); 59] = [
+pub const ADVICE: [(u16, &str, &str); 60] = [
     (
         1,
         "The bytes end before the object does; in a batch, a length or an object is cut off.",
@@ -173,6 +173,11 @@ pub const ADVICE: [(u16, &str, &str); 59] = [
         42,
         "The interval between arrivals isn't sure to be 1 or more, and there is no limit: they might never end at one moment.",
         "Give GENERATE a limit, its fourth operand, or an interval A,B of numbers with A - B at least 1.",
+    ),
+    (
+        43,
+        "The weight of this block grows with a parameter that isn't sure to be a number here.",
+        "The object is damaged: assemble the model text again.",
     ),
     (
         50,

@@ -90,3 +90,26 @@ fn a_removed_transaction_leaves_no_parameter(rt: HostRuntime) -> Result<(), Fail
     assert!(rt; one_at_the_place_of_another(&mut transactions)? == [true; 2]);
     Ok(())
 }
+
+/// Which answers are right where a parameter was set to 0, the others weren't set, and numbers of no parameter are asked.
+fn told_where_set(transactions: &mut Transactions) -> Result<[bool; 4], Memory>
+    requires none { length transactions.old.txs ≤ 1 }
+    requires last { transactions.old.last ≡ 64 }
+{
+    let tx = add(transactions, MADE)?;
+    transactions.assign(tx, 64, 0);
+    let parameters = transactions.parameters(tx);
+    Ok([
+        parameters.get_if_set(64) == Some(0),
+        parameters.get_if_set(63).is_none(),
+        parameters.get_if_set(0).is_none(),
+        parameters.get_if_set(65).is_none(),
+    ])
+}
+
+#[test]
+fn a_parameter_of_value_0_is_set(rt: HostRuntime) -> Result<(), Fail> {
+    let mut transactions = Transactions::new(rt.alloc(), 64)?;
+    assert!(rt; told_where_set(&mut transactions)? == [true; 4]);
+    Ok(())
+}

@@ -131,8 +131,8 @@ module _ (rules : List Rule) (counted count : ℕ) where
             let first = of_term_grows less u s.first less_most in
             let second = of_term_grows less u s.second less_most in
             elim (cases_lt (weight_at v at) (weight_at u at)) [
-              | inl lt ↦ kept_lower s.own (of_term less s.first) (of_term less s.second) (of_term u s.first) (of_term u s.second) (of_term w s.first) (of_term w s.second) (weight_at v at) (weight_at u at) (weight_at less at) (less_at at) keeps first second lt (lowers s.first) (lowers s.second) asked (at_most_greatest u c.range at)
-              | inr le ↦ kept_beside s.own (of_term less s.first) (of_term less s.second) (of_term u s.first) (of_term u s.second) (of_term w s.first) (of_term w s.second) (weight_at v at) (weight_at u at) (weight_at less at) (less_at at) keeps first second le
+              | inl lt ↦ kept_lower s.own (of_term less s.first) (of_term less s.second) (of_term u s.first) (of_term u s.second) (of_term w s.first) (of_term w s.second) s.less (weight_at v at) (weight_at u at) (weight_at less at) (less_at at) keeps first second lt (lowers s.first) (lowers s.second) asked (at_most_greatest u c.range at)
+              | inr le ↦ kept_beside s.own (of_term less s.first) (of_term less s.second) (of_term u s.first) (of_term u s.second) (of_term w s.first) (of_term w s.second) s.less (weight_at v at) (weight_at u at) (weight_at less at) (less_at at) keeps first second le
             ]
 
         pub lower_certificate : IsCertificate rules count less

@@ -1,5 +1,5 @@
 -- Rules of weights, and what they ask for.
-use Rattle.std.specs.Prelude.{ℕ, ◌+◌, ◌*◌, ◌≤◌, List, length, slice_index_or, set, min, max, Bool, ◌&&◌, nat_lt, if◌then◌else◌}
+use Rattle.std.specs.Prelude.{ℕ, ◌+◌, ◌-◌, ◌*◌, ◌≤◌, List, length, slice_index_or, set, min, max, Bool, ◌&&◌, nat_lt, if◌then◌else◌}
 use Rattle.gw_object.specs.Limits.{greatest_weight}
 use Rattle.gw_least_weights.specs.declared.rules.Term.{Term}
 use Rattle.gw_least_weights.specs.declared.rules.Sum.{Sum}
@@ -19,15 +19,15 @@ of_term weights t = t.times * weight_at weights t.place
 
 -- a sum by these weights
 abbrev pub of_sum : List ℕ → Sum → ℕ
-of_sum weights s = s.own + of_term weights s.first + of_term weights s.second
+of_sum weights s = s.own + of_term weights s.first + of_term weights s.second - s.less
 
 -- the sum that asks for nothing
 abbrev pub nothing : Sum
-nothing = record { own = 0; first = record { times = 0; place = 0 }; second = record { times = 0; place = 0 } }
+nothing = record { own = 0; first = record { times = 0; place = 0 }; second = record { times = 0; place = 0 }; less = 0 }
 
 -- the sum that is the weight at a place
 abbrev pub once : ℕ → Sum
-once place = record { own = 0; first = record { times = 1; place = place }; second = record { times = 0; place = 0 } }
+once place = record { own = 0; first = record { times = 1; place = place }; second = record { times = 0; place = 0 }; less = 0 }
 
 -- what a rule asks for by these weights
 abbrev pub needed : List ℕ → Rule → ℕ

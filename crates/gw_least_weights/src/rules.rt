@@ -12,15 +12,17 @@ pub struct Term {
     pub place: usize,
 }
 
-/// A number and two terms together.
+/// A number and two terms together, less another number; 0 where that is greater.
 #[derive(Clone, Copy, Debug, PartialEq, Eq)]
 pub struct Sum {
     /// The number.
-    pub own: u16,
+    pub own: u32,
     /// One of the terms.
     pub first: Term,
     /// The other one.
     pub second: Term,
+    /// How much less it is.
+    pub less: u32,
 }
 
 /// A rule: the weight at a place is at least each of two sums.
@@ -45,6 +47,7 @@ pub fn nothing() -> Sum
         own: 0,
         first: none,
         second: none,
+        less: 0,
     }
 }
 
@@ -76,7 +79,8 @@ fn of_term(weights: &[u32], term: Term) -> u64
 fn of_sum(weights: &[u32], sum: Sum) -> u64
     ensures { result ≡ model.of_sum weights.now sum }
 {
-    sum.own as u64 + of_term(weights, sum.first) + of_term(weights, sum.second)
+    let whole = sum.own as u64 + of_term(weights, sum.first) + of_term(weights, sum.second);
+    whole.saturating_sub(sum.less as u64)
 }
 
 /// What a rule asks for by these weights.

@@ -16,7 +16,7 @@ section_length parts sections.Returns = length parts.returns
 
 -- what the line at a place of it begins with
 abbrev pub section_front : Parts → Section → ℕ → List ℕ
-section_front parts (sections.Blocks lines) place = block_front lines.now parts.weights place
+section_front parts (sections.Blocks lines) place = block_front lines.now parts place
 section_front parts (sections.Entities lines) place = entity_front lines.now place
 section_front parts sections.Chains place = chain_front parts.chain_weights place
 section_front parts (sections.Instructions code) place = instruction_front place

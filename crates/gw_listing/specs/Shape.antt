@@ -1,5 +1,5 @@
 -- What the lines of a listing begin with: one for each part of the object.
-use Rattle.std.specs.Prelude.{ℕ, ◌+◌, List, [], ◌∷◌, ◌++◌, length, codes, if◌then◌else◌, ◌==◌, slice_get, Option, Some, None}
+use Rattle.std.specs.Prelude.{ℕ, ◌+◌, List, [], ◌∷◌, ◌++◌, length, codes, if◌then◌else◌, ◌==◌, slice_get, slice_index_or, Option, Some, None}
 use Rattle.std.specs.Fmt.{decimal}
 use Rattle.gw_code.specs.declared.parts.Procedure.{Procedure}
 use Rattle.gw_object.specs.declared.parts.Parts.{Parts}
@@ -18,12 +18,20 @@ line_part lines i = told (codes " line ") (slice_get lines i)
 abbrev pub weight_part : List ℕ → ℕ → List ℕ
 weight_part weights i = told (codes " weight ") (slice_get weights i)
 
--- a block, by its place from 0: its number, its line and its weight
-abbrev pub block_front : List ℕ → List ℕ → ℕ → List ℕ
-block_front lines weights i = codes "BLOCK " ++ decimal (i + 1) ++ line_part lines i ++ weight_part weights i ++ codes " "
+-- a slope of a weight, if there is one: its parameter, and what each 1 of that adds
+abbrev pub slope_words : Option (ℕ × ℕ) → List ℕ
+slope_words None = []
+slope_words (Some slope) = codes " slope P" ++ decimal slope.0 ++ codes " " ++ decimal slope.1
 
-abbrev pub block_opening : List ℕ → List ℕ → ℕ → List Opening
-block_opening lines weights i = Front (block_front lines weights i) ∷ []
+abbrev pub slope_part : List (Option (ℕ × ℕ)) → ℕ → List ℕ
+slope_part slopes i = slope_words (slice_index_or slopes i None)
+
+-- a block, by its place from 0: its number, its line, its weight and the slope of that
+abbrev pub block_front : List ℕ → Parts → ℕ → List ℕ
+block_front lines p i = codes "BLOCK " ++ decimal (i + 1) ++ line_part lines i ++ weight_part p.weights i ++ slope_part p.slopes i ++ codes " "
+
+abbrev pub block_opening : List ℕ → Parts → ℕ → List Opening
+block_opening lines p i = Front (block_front lines p i) ∷ []
 
 -- an entity: its number and its line
 abbrev pub entity_front : List ℕ → ℕ → List ℕ
@@ -89,7 +97,7 @@ abbrev pub openings : Parts → Sites → List Opening
 openings p sites =
     version_openings p.version
     ++ start_opening p.count
-    ++ numbered (block_opening sites.blocks p.weights) (length p.blocks)
+    ++ numbered (block_opening sites.blocks p) (length p.blocks)
     ++ numbered (entity_opening sites.entities) (length p.entities)
     ++ numbered (chain_opening p.chain_weights) (length p.chain_weights)
     ++ numbered (procedure_openings sites.procedures p.procedures) (length p.procedures)

@@ -3,8 +3,8 @@
 use crate::operands::{mode_sign, put_name, put_operand, put_spread, put_units};
 use crate::text::put_optional;
 use gw_blocks::{
-    Assign, Block, Call, Comparison, Condition, Fraction, Gate, Generate, Link, LinkOrder, Logic,
-    Loop, Plus, Priority, Save, Split, SwitchAction, Test, Units, Unlink,
+    Assign, Block, Both, Call, Comparison, Condition, Fraction, Gate, Generate, Link, LinkOrder,
+    Logic, Loop, Operand, Plus, Priority, Save, Split, Spread, SwitchAction, Test, Units, Unlink,
 };
 use gw_object::{Entity, Memory};
 use gw_report::text::{put, put_number};
@@ -15,6 +15,16 @@ fn put_generate(out: &mut Vec<u8>, entities: &[Entity], generate: Generate) -> R
     put_optional(out, " first ", generate.first)?;
     put_optional(out, " limit ", generate.limit)?;
     put_number(out, " priority ", generate.priority)
+}
+
+fn put_terminate(out: &mut Vec<u8>, entities: &[Entity], by: Operand) -> Result<(), Memory> {
+    put(out, "TERMINATE ")?;
+    put_operand(out, entities, by)
+}
+
+fn put_advance(out: &mut Vec<u8>, entities: &[Entity], time: Spread) -> Result<(), Memory> {
+    put(out, "ADVANCE ")?;
+    put_spread(out, entities, time)
 }
 
 fn put_assign(out: &mut Vec<u8>, entities: &[Entity], assign: Assign) -> Result<(), Memory> {
@@ -73,6 +83,12 @@ fn put_fraction(out: &mut Vec<u8>, fraction: Fraction) -> Result<(), Memory> {
     put_optional(out, ", others to block ", fraction.otherwise)
 }
 
+fn put_both(out: &mut Vec<u8>, both: Both) -> Result<(), Memory> {
+    put(out, "TRANSFER BOTH,")?;
+    put_optional(out, "block ", both.first)?;
+    put_number(out, ",block ", both.second)
+}
+
 fn put_call(out: &mut Vec<u8>, call: Call) -> Result<(), Memory> {
     put_number(out, "TRANSFER SBR,block ", call.target)?;
     put_number(out, ",", call.parameter)
@@ -127,6 +143,11 @@ fn put_save(out: &mut Vec<u8>, entities: &[Entity], save: Save) -> Result<(), Me
     put_operand(out, entities, save.value)
 }
 
+fn put_mark(out: &mut Vec<u8>, parameter: Option<u8>) -> Result<(), Memory> {
+    put(out, "MARK")?;
+    put_optional(out, " ", parameter)
+}
+
 fn put_priority(out: &mut Vec<u8>, entities: &[Entity], priority: Priority) -> Result<(), Memory> {
     put(out, "PRIORITY ")?;
     put_operand(out, entities, priority.value)?;
@@ -156,29 +177,6 @@ fn put_units_of(
     put_units(out, entities, units)
 }
 
-/// A block that moves transactions along, or sets what they carry.
-fn put_plain(out: &mut Vec<u8>, entities: &[Entity], block: &Block) -> Result<(), Memory> {
-    match *block {
-        Block::Assign(assign) => put_assign(out, entities, assign),
-        Block::Test(test) => put_test(out, entities, test),
-        Block::Gate(gate) => put_gate(out, entities, gate),
-        Block::Transfer(target) => put_number(out, "TRANSFER block ", target),
-        Block::TransferByFraction(fraction) => put_fraction(out, fraction),
-        Block::TransferToSubroutine(call) => put_call(out, call),
-        Block::TransferByParameter(parameter) => put_number(out, "TRANSFER P,", parameter),
-        Block::Loop(counted) => put_loop(out, counted),
-        Block::Split(split) => put_split(out, split),
-        Block::Assemble(size) => put_number(out, "ASSEMBLE ", size),
-        Block::Mark(parameter) => {
-            put(out, "MARK")?;
-            put_optional(out, " ", parameter)
-        }
-        Block::Priority(priority) => put_priority(out, entities, priority),
-        Block::Plus(plus) => put_plus(out, entities, plus),
-        _ => put(out, "BUFFER"),
-    }
-}
-
 /// A block, with its operands.
 pub(crate) fn put_block(
     out: &mut Vec<u8>,
@@ -187,25 +185,33 @@ pub(crate) fn put_block(
 ) -> Result<(), Memory> {
     match *block {
         Block::Generate(generate) => put_generate(out, entities, generate),
-        Block::Terminate(by) => {
-            put(out, "TERMINATE ")?;
-            put_operand(out, entities, by)
-        }
-        Block::Advance(time) => {
-            put(out, "ADVANCE ")?;
-            put_spread(out, entities, time)
-        }
+        Block::Terminate(by) => put_terminate(out, entities, by),
+        Block::Advance(time) => put_advance(out, entities, time),
         Block::Seize(facility) => put_of(out, entities, "SEIZE ", facility),
         Block::Release(facility) => put_of(out, entities, "RELEASE ", facility),
         Block::Enter(units) => put_units_of(out, entities, "ENTER ", units),
         Block::Leave(units) => put_units_of(out, entities, "LEAVE ", units),
         Block::Queue(units) => put_units_of(out, entities, "QUEUE ", units),
         Block::Depart(units) => put_units_of(out, entities, "DEPART ", units),
+        Block::Assign(assign) => put_assign(out, entities, assign),
+        Block::Test(test) => put_test(out, entities, test),
+        Block::Gate(gate) => put_gate(out, entities, gate),
+        Block::Transfer(target) => put_number(out, "TRANSFER block ", target),
+        Block::TransferByFraction(fraction) => put_fraction(out, fraction),
+        Block::TransferBoth(both) => put_both(out, both),
+        Block::TransferToSubroutine(call) => put_call(out, call),
+        Block::TransferByParameter(parameter) => put_number(out, "TRANSFER P,", parameter),
+        Block::Loop(counted) => put_loop(out, counted),
+        Block::Split(split) => put_split(out, split),
+        Block::Assemble(size) => put_number(out, "ASSEMBLE ", size),
         Block::Link(link) => put_link(out, entities, link),
         Block::Unlink(unlink) => put_unlink(out, entities, unlink),
+        Block::Mark(parameter) => put_mark(out, parameter),
+        Block::Priority(priority) => put_priority(out, entities, priority),
+        Block::Buffer => put(out, "BUFFER"),
         Block::Logic(logic) => put_logic(out, entities, logic),
         Block::Savevalue(save) => put_save(out, entities, save),
         Block::Tabulate(table) => put_of(out, entities, "TABULATE ", table),
-        _ => put_plain(out, entities, block),
+        Block::Plus(plus) => put_plus(out, entities, plus),
     }
 }

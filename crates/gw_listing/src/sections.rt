@@ -7,7 +7,7 @@ ghost use Rattle.gw_listing.specs.Sections.{section_length, section_front, secti
 use crate::blocks::put_block;
 use crate::code::put_instruction;
 use crate::entities::{put_entity, put_return_row, put_state};
-use crate::text::{end_line, put_told};
+use crate::text::{end_line, put_slope_at, put_told};
 use gw_code::Instruction;
 use gw_object::{Memory, Parts};
 use gw_report::text::{put, put_number};
@@ -42,7 +42,8 @@ impl Section<'_> {
         }
     }
 
-    /// What the line of a part begins with, by its place from 0: its number, and its line and its weight, if it has them.
+    /// What the line of a part begins with, by its place from 0: its number, and its line, its weight and the slope of that, if it
+    /// has them.
     fn put_front(&self, out: &mut Vec<u8>, parts: &Parts, place: usize) -> Result<(), Memory>
         requires { place < usize.MAX }
         ensures { OnOk result (out.new.items
@@ -55,6 +56,7 @@ impl Section<'_> {
                 put_number(out, "BLOCK ", place + 1)?;
                 put_told(out, " line ", lines, place)?;
                 put_told(out, " weight ", weights, place)?;
+                put_slope_at(out, parts.slopes.as_slice(), place)?;
                 put(out, " ")
             }
             Section::Entities(lines) => {

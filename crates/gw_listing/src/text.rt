@@ -2,7 +2,7 @@
 
 ghost use Rattle.std.specs.Prelude.{◌≡◌, ◌++◌, slice_get, IfOk, OnOk};
 ghost use Rattle.gw_listing.specs.Lines.{AreWords, EndsLine};
-ghost use Rattle.gw_listing.specs.Shape.{told};
+ghost use Rattle.gw_listing.specs.Shape.{told, slope_words, slope_part};
 
 use gw_object::Memory;
 use gw_report::text::{put, put_number};
@@ -35,6 +35,30 @@ pub(crate) fn put_told(
         Some(number) => put_number(out, text, *number),
         None => Ok(()),
     }
+}
+
+/// The slope of a weight, if there is one: its parameter, and what each 1 of that adds.
+fn put_slope(out: &mut Vec<u8>, slope: Option<(u8, u32)>) -> Result<(), Memory>
+    ensures { OnOk result (out.new.items ≡ out.old.items ++ slope_words slope) }
+{
+    match slope {
+        Some((parameter, growth)) => {
+            put_number(out, " slope P", parameter)?;
+            put_number(out, " ", growth)
+        }
+        None => Ok(()),
+    }
+}
+
+/// The slope at a place of these, if there is one.
+pub(crate) fn put_slope_at(
+    out: &mut Vec<u8>,
+    slopes: &[Option<(u8, u32)>],
+    place: usize,
+) -> Result<(), Memory>
+    ensures { OnOk result (out.new.items ≡ out.old.items ++ slope_part slopes.now place) }
+{
+    put_slope(out, slopes.get(place).copied().unwrap_or(None))
 }
 
 /// A byte behind words, unless it ends a line.

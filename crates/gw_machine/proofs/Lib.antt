@@ -16,3 +16,4 @@ pub mod AtSets
 pub mod AtCopies
 pub mod AtChains
 pub mod Activating
+pub mod Turning

@@ -8,6 +8,7 @@ ghost use Rattle.gw_step.specs.Blocks.{is_owed};
 ghost use Rattle.gw_step.specs.Changes as model;
 ghost use Rattle.gw_step.specs.Step as steps;
 ghost use Rattle.gw_step.specs.Times.{parameters_of};
+ghost use Rattle.gw_step.specs.Turning.{turned};
 ghost use Rattle.gw_machine.specs.View.{state_of};
 ghost use Rattle.gw_machine.specs.Leaving.{BecomesBy, HasArrivedBelow};
 ghost use Rattle.gw_transactions.specs.Parameters.{none_of};
@@ -185,6 +186,19 @@ impl Machine {
         self.transactions.set(tx, entered);
     }
 
+    /// The transaction has another next block from now on. It enters none, and rests where it did.
+    pub fn turn(&mut self, tx: Tx, transaction: Transaction, next: u16)
+        requires held { Holds self.old.transactions tx }
+        requires found { attributes_at tx.number self.old.transactions.txs ≡ Some transaction }
+        ensures state { state_of self.new ≡ turned tx.number transaction next (state_of self.old) }
+        ensures held { Holds self.new.transactions tx }
+        ensures frame { self.new ≡ record self.old { transactions = self.new.transactions } }
+    {
+        let mut turned = transaction;
+        turned.next = next;
+        self.transactions.set(tx, turned);
+    }
+
     /// A new transaction is scheduled to arrive at its GENERATE block.
     pub fn arrive(&mut self, block: u16, priority: i32, time: i64, parameters: Parameters)
         requires room { (0 < self.old.transactions.room) × (0 < self.old.future_events.room) }
@@ -251,7 +265,7 @@ impl Machine {
             self.old self.new }
     {
         self.steps += 1;
-        if self.ended.is_none() && self.steps == budget {
+        if self.steps == budget && self.ended.is_none() {
             self.ended = Some(End::Budget);
         }
     }

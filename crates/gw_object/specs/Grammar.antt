@@ -12,10 +12,10 @@ use Rattle.gw_object.specs.declared.parts.TableParameter.{TableParameter}
 use Rattle.gw_object.specs.declared.parts.TableState.{TableState}
 use Rattle.gw_object.specs.declared.parts.ReturnRow.{ReturnRow}
 use Rattle.gw_object.specs.declared.parts.Parts.{Parts}
-use Rattle.gw_fields.specs.Fields.{Read, Field, byte, number, as_type, tested, both, and_then, constant, fitting, ranged, optional, Form, behind, by_tag, nothing, Element, plain, last_tested, ascending, above_last, elements, listed}
+use Rattle.gw_fields.specs.Fields.{Read, Field, number, as_type, tested, both, and_then, constant, fitting, ranged, optional, Form, behind, by_tag, nothing, Element, plain, last_tested, ascending, above_last, elements, listed}
 use Rattle.gw_code.specs.Grammar.{ProcedureFits, NeedsAscend, procedure}
 use Rattle.gw_object.specs.Entities.{entity, EntityFits, EntityAscends, IsLettered, AreNamesakes, chains_in}
-use Rattle.gw_blocks.specs.Grammar.{entity_number, block_number, parameter_number, BlockFits, block}
+use Rattle.gw_blocks.specs.Grammar.{entity_number, block_number, parameter_number, IsOfVersion, BlockFits, block}
 
 -- ---- what stands for each block
 
@@ -116,6 +116,10 @@ weight = ranged 1 greatest_weight (number w32)
 abbrev pub rows : ℕ → Field (List (Option TableState))
 rows n = elements (plain (optional state)) n
 
+-- a slope: the number of a parameter, and how much a weight grows with each unit of its value above 0
+abbrev pub parameter_slope : Field (ℕ × ℕ)
+parameter_slope = both parameter_number (ranged 1 greatest_weight (number w32))
+
 -- no slope, as this field tells it
 abbrev pub no_slope : Field (Unit {0}) → Field (Option (ℕ × ℕ))
 no_slope f = fitting (λ slope. slope ≡ None) (as_type (λ _. None) (λ _. tt) f)
@@ -124,9 +128,9 @@ no_slope f = fitting (λ slope. slope ≡ None) (as_type (λ _. None) (λ _. tt)
 abbrev pub has_slopes : ℕ → Bool
 has_slopes version = not (version == 1)
 
--- the slope of a block's weight: the flag 00 where slopes stand behind weights, else no byte
+-- the slope of a block's weight, if it has one: 00, or 01 and the slope, where slopes stand behind weights; else no byte
 abbrev pub slope_where : Bool → Field (Option (ℕ × ℕ))
-slope_where true = no_slope (constant 0 codes.tag byte)
+slope_where true = optional parameter_slope
 slope_where false = no_slope nothing
 
 -- the slope of a block's weight, by the version
@@ -184,7 +188,7 @@ object = as_type
     (λ ((_, version), (seeds, (count, (entities, (procedures, (blocks, (returns, (states, (chain_states, ((weights, slopes), chain_weights)))))))))). record { version = version; seeds = seeds; count = count; entities = entities; procedures = procedures; blocks = blocks; returns = returns; states = states; chain_states = chain_states; weights = weights; slopes = slopes; chain_weights = chain_weights })
     (λ p. ((tt, p.version), (p.seeds, (p.count, (p.entities, (p.procedures, (p.blocks, (p.returns, (p.states, (p.chain_states, ((p.weights, p.slopes), p.chain_weights)))))))))))
     (and_then head (λ head. both (listed 0 most_seeds seed) (both start_count (and_then (listed 0 most_entities entity) (λ entities. both (listed 0 most_procedures (plain procedure))
-    (and_then (listed 0 most_blocks (plain block)) (λ blocks. tables head.1 (length blocks) (chains_in entities))))))))
+    (and_then (listed 0 most_blocks (plain (block head.1))) (λ blocks. tables head.1 (length blocks) (chains_in entities))))))))
 
 -- the bytes that spell parts
 unfoldable pub spelling : Parts → List ℕ
@@ -192,11 +196,22 @@ spelling p = object.spell p
 
 -- ---- the rules of parts, by the code of their breach
 
--- 4: the version and each byte of a name are among those that their fields list, and no weight has a slope
+-- the version has this slope of a weight
+abbrev pub IsSlopeOfVersion : ℕ → Option (ℕ × ℕ) → Type 0
+IsSlopeOfVersion version slope = IfSome slope (λ s. IsTrue (has_slopes version))
+
+-- the number of a slope's parameter, and how much a weight grows with it, are within limits
+pub record SlopeFits (slope : ℕ × ℕ) : Type 0 where
+  pub parameter : parameter_number.Fits slope.0
+  pub least : 1 ≤ slope.1
+  pub most : slope.1 ≤ greatest_weight
+
+-- 4: the version, each byte of a name and the tag of each block are among those that their fields list, and the version has each slope
 pub record HasLetters (p : Parts) : Type 0 where
   pub version : IsTrue (is_version p.version)
   pub names : All IsLettered p.entities
-  pub slopes : All (λ slope. slope ≡ None) p.slopes
+  pub blocks : All (IsOfVersion p.version) p.blocks
+  pub slopes : All (IsSlopeOfVersion p.version) p.slopes
 
 -- 5: parts keep the limits of the format
 pub record IsWithinLimits (p : Parts) : Type 0 where
@@ -219,6 +234,7 @@ pub record IsWithinLimits (p : Parts) : Type 0 where
   pub weights : length p.weights ≡ length p.blocks
   pub each_weight : All (λ weight. (1 ≤ weight) × (weight ≤ greatest_weight)) p.weights
   pub slopes : length p.slopes ≡ length p.blocks
+  pub each_slope : All (λ slope. IfSome slope SlopeFits) p.slopes
   pub chain_weights : length p.chain_weights ≡ chains_in p.entities
   pub each_chain_weight : All (λ weight. (1 ≤ weight) × (weight ≤ greatest_weight)) p.chain_weights
   pub size : length (spelling p) ≤ most_bytes

@@ -19,6 +19,7 @@ pub use limits::{
 };
 pub use object::Object;
 pub use parts::{
-    Entity, Function, Kind, Parts, Point, ReturnRow, Table, TableKind, TableParameter, TableState,
+    Entity, Function, Kind, Parts, Point, ReturnRow, Slope, Table, TableKind, TableParameter,
+    TableState,
 };
 pub use std::alloc::AllocError as Memory;

@@ -5,6 +5,10 @@ use gw_blocks::{Block, Operand, Units};
 use gw_code::Procedure;
 use gw_fields::{Items, Keyed};
 
+/// The slope of a block's weight: the number of a parameter, from 1 to 64, and what each 1 of its value above 0 adds, from 1 to
+/// 1,000,000,000.
+pub type Slope = (u8, u32);
+
 /// The operands of a TABLE: which values it counts, and in which classes.
 #[derive(Clone, Copy, Debug, PartialEq, Eq)]
 pub struct Table {
@@ -142,9 +146,8 @@ pub struct Parts {
     pub chain_states: Items<Option<TableState>>,
     /// For each block its certified weight, from 1 to 1,000,000,000.
     pub weights: Items<u32>,
-    /// For each block the slope of its weight, as the number of a parameter and what each 1 of its value adds. No weight
-    /// has a slope: each is `None`.
-    pub slopes: Items<Option<(u8, u32)>>,
+    /// For each block the slope of its weight, if it has one. None has one in version 1.
+    pub slopes: Items<Option<Slope>>,
     /// For each user chain, in the order of the entities, its certified weight, from 1 to 1,000,000,000.
     pub chain_weights: Items<u32>,
 }

@@ -1,36 +1,32 @@
 -- The weights of blocks and their slopes are exact.
-use Rattle.std.proofs.Common.{◌≡◌, ℕ, Bool, true, false, List, [], ◌∷◌, ◌++◌, map, length, get_or, take, min, ◌+◌, ◌<◌, Option, None, Ok, refl, sym, ap, ap₂, subst, ◌∙◌, arith, inl, inr}
+use Rattle.std.proofs.Common.{◌≡◌, ℕ, Bool, true, false, List, [], ◌∷◌, map, length, get_or, take, min, ◌+◌, ◌<◌, Option, Some, None, Ok, refl, sym, ap, ap₂, subst, ◌∙◌, arith, inl, inr}
+use Rattle.std.specs.Prelude.{IfSome, IsTrue}
 use Rattle.std.specs.List.{All, flat_map, zip}
 use Rattle.std.specs.Int.{w32}
 use Rattle.std.proofs.lemmas.List.{length-map, get_or_default}
 use Rattle.std.proofs.lemmas.List.Elements.{All-map}
 use Rattle.std.proofs.lemmas.Slice.Zip.{length-zip, firsts-zip, seconds-zip, get_or-zip}
-use Rattle.gw_object.specs.Codes as codes
 use Rattle.gw_object.specs.Limits.{greatest_weight}
-use Rattle.gw_fields.specs.Fields.{Field, byte, number, as_type, fitting, constant, nothing, plain, elements}
-use Rattle.gw_object.specs.Grammar.{weight, no_slope, has_slopes, slope_where, slope, sloped_weight, CertificateFits, certificate}
+use Rattle.gw_fields.specs.Fields.{Field, number, as_type, fitting, nothing, plain, elements}
+use Rattle.gw_object.specs.Grammar.{weight, parameter_slope, no_slope, has_slopes, slope_where, slope, IsSlopeOfVersion, SlopeFits, sloped_weight, CertificateFits, certificate}
+use Rattle.gw_block_bytes.proofs.BlockLaws.{parameter_number_exact}
 use Rattle.gw_field_bytes.specs.Receivers.{Content, with_bytes}
 use Rattle.gw_field_bytes.proofs.Receiving.{one_more_put}
-use Rattle.gw_field_bytes.proofs.Exact.{Takes, cuts_still, bind_ok, bind_err, ok_is, not_both, IsExact, wide32, byte_exact, number_exact, both_exact, constant_exact, ranged_exact, nothing_exact, plain_exact, elements_exact, All-from_fit, fit-from_All}
-
--- whatever slope, it is spelled as none
-spelled_alike : (b : Bool) (x : Option (ℕ × ℕ)) → (slope_where b).spell x ≡ (slope_where b).spell None
-spelled_alike true x = refl
-spelled_alike false x = refl
+use Rattle.gw_field_bytes.proofs.Exact.{Takes, cuts_still, bind_ok, bind_err, ok_is, not_both, IsExact, wide32, number_exact, both_exact, ranged_exact, nothing_exact, optional_exact, plain_exact, elements_exact, All-from_fit, fit-from_All}
 
 -- one more weight is put behind those before it, with its slope
-pub one_more_weight : (version : ℕ) (weights : List ℕ) (slopes : List (Option (ℕ × ℕ))) (i w : ℕ) (start before behind : Content) → i < min (length weights) (length slopes) → w ≡ get_or weights i 0
-    → before ≡ with_bytes (flat_map (sloped_weight version).spell (take i (zip weights slopes))) start → behind ≡ with_bytes ((sloped_weight version).spell (w, None)) before
+pub one_more_weight : (version : ℕ) (weights : List ℕ) (slopes : List (Option (ℕ × ℕ))) (i w : ℕ) (s : Option (ℕ × ℕ)) (start before behind : Content) → i < min (length weights) (length slopes) → w ≡ get_or weights i 0 → s ≡ get_or slopes i None
+    → before ≡ with_bytes (flat_map (sloped_weight version).spell (take i (zip weights slopes))) start → behind ≡ with_bytes ((sloped_weight version).spell (w, s)) before
     → behind ≡ with_bytes (flat_map (sloped_weight version).spell (take (i + 1) (zip weights slopes))) start
-one_more_weight version weights slopes i w start before behind lt is front last =
+one_more_weight version weights slopes i w s start before behind lt weight_is slope_is front last =
     let pairs = zip weights slopes in
-    let s : Option (ℕ × ℕ) = get_or slopes i None in
     let first : i < length weights = omega (arith, lt) in
     let second : i < length slopes = omega (arith, lt) in
     let there : i < length pairs = omega (arith, lt, length-zip weights slopes) in
-    let same : get_or slopes i s ≡ s = get_or_default slopes i s None second in
-    let here : (w, s) ≡ get_or pairs i (w, s) = sym (get_or-zip weights slopes i (w, s) first second ∙ ap₂ (λ (x : ℕ) (y : Option (ℕ × ℕ)). (x, y)) (get_or_default weights i w 0 first ∙ sym is) same) in
-    one_more_put (sloped_weight version).spell pairs i (w, s) start before behind there here front (last ∙ ap (λ (flag : List ℕ). with_bytes (weight.spell w ++ flag) before) (sym (spelled_alike (has_slopes version) s)))
+    let its_weight : get_or weights i w ≡ w = get_or_default weights i w 0 first ∙ sym weight_is in
+    let its_slope : get_or slopes i s ≡ s = get_or_default slopes i s None second ∙ sym slope_is in
+    let here : (w, s) ≡ get_or pairs i (w, s) = sym (get_or-zip weights slopes i (w, s) first second ∙ ap₂ (λ (x : ℕ) (y : Option (ℕ × ℕ)). (x, y)) its_weight its_slope) in
+    one_more_put (sloped_weight version).spell pairs i (w, s) start before behind there here front last
 
 -- a field's value under another type, where the values that fit are told in other words
 made_fitting_exact : {A B : Type 0} (make : A → B) (back : B → A) (f : Field A) (Fits : B → Type 0) → ((x : A) → f.Fits x → (back (make x) ≡ x) × Fits (make x)) → ((y : B) → Fits y → (make (back y) ≡ y) × f.Fits (back y)) → IsExact f
@@ -56,24 +52,31 @@ made_fitting_exact {A} {B} make back f Fits there here exact = record {
 no_slope_exact : (f : Field (Unit {0})) → f.Fits tt → IsExact f → IsExact (no_slope f)
 no_slope_exact f fits exact = made_fitting_exact (λ _. None) (λ _. tt) f (λ slope. slope ≡ None) (λ x h. (refl, refl)) (λ y h. (sym h, fits)) exact
 
+parameter_slope_exact : IsExact parameter_slope
+parameter_slope_exact = both_exact _ _ parameter_number_exact (ranged_exact 1 greatest_weight (number w32) (λ n h. omega arith) (number_exact w32 wide32))
+
 slope_where_exact : (b : Bool) → IsExact (slope_where b)
-slope_where_exact true = no_slope_exact (constant 0 codes.tag byte) tt (constant_exact 0 codes.tag byte (omega arith) byte_exact)
+slope_where_exact true = optional_exact parameter_slope parameter_slope_exact
 slope_where_exact false = no_slope_exact nothing tt nothing_exact
 
--- no slope fits in either version, and nothing else does
-none_fits : (b : Bool) (x : Option (ℕ × ℕ)) → x ≡ None → (slope_where b).Fits x
-none_fits true x h = h
-none_fits false x h = h
+-- a slope that a version has and that keeps its limits fits, and each that fits is such a one
+slope_fits : (b : Bool) (slope : Option (ℕ × ℕ)) → IfSome slope (λ s. IsTrue b) → IfSome slope SlopeFits → (slope_where b).Fits slope
+slope_fits true None has fits = tt
+slope_fits true (Some s) has fits = (fits.parameter, (fits.least, fits.most))
+slope_fits false None has fits = refl
+slope_fits false (Some s) has fits = absurd (cc)
 
-fits_none : (b : Bool) (x : Option (ℕ × ℕ)) → (slope_where b).Fits x → x ≡ None
-fits_none true x h = h
-fits_none false x h = h
+fits_slope : (b : Bool) (slope : Option (ℕ × ℕ)) → (slope_where b).Fits slope → IfSome slope (λ s. IsTrue b) × IfSome slope SlopeFits
+fits_slope true None h = (tt, tt)
+fits_slope true (Some s) h = (refl, record { parameter = h.0; least = h.1.0; most = h.1.1 })
+fits_slope false None h = (tt, tt)
+fits_slope false (Some s) h = absurd (cc)
 
-pub slopes_fit : (version : ℕ) (slopes : List (Option (ℕ × ℕ))) → All (λ slope. slope ≡ None) slopes → All (slope version).Fits slopes
-slopes_fit version slopes h k d lt = none_fits (has_slopes version) (get_or slopes k d) (h k d lt)
+pub slopes_fit : (version : ℕ) (slopes : List (Option (ℕ × ℕ))) → All (IsSlopeOfVersion version) slopes → All (λ slope. IfSome slope SlopeFits) slopes → All (slope version).Fits slopes
+slopes_fit version slopes has fits k d lt = slope_fits (has_slopes version) (get_or slopes k d) (has k d lt) (fits k d lt)
 
-pub none_sloped : (version : ℕ) (slopes : List (Option (ℕ × ℕ))) → All (slope version).Fits slopes → All (λ slope. slope ≡ None) slopes
-none_sloped version slopes h k d lt = fits_none (has_slopes version) (get_or slopes k d) (h k d lt)
+pub fits_slopes : (version : ℕ) (slopes : List (Option (ℕ × ℕ))) → All (slope version).Fits slopes → All (λ slope. IsSlopeOfVersion version slope × IfSome slope SlopeFits) slopes
+fits_slopes version slopes h k d lt = fits_slope (has_slopes version) (get_or slopes k d) (h k d lt)
 
 -- ---- weights with their slopes
 

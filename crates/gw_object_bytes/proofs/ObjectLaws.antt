@@ -1,5 +1,5 @@
 -- The object grammar is exact: each of its fields, the object, and reading as a whole.
-use Rattle.std.proofs.Common.{◌≡◌, ◌≢◌, ℕ, zero, suc, ◌-◌, ◌≤◌, true, false, cond, eqb, ltb, List, [], ◌∷◌, ◌++◌, length, Some, None, IsTrue, ◌^◌, ◌<◌, Result, Ok, Err, refl, sym, ap, subst, ◌∙◌, arith, inl, inr, ◌⊎◌, slice_get}
+use Rattle.std.proofs.Common.{◌≡◌, ◌≢◌, ℕ, zero, suc, ◌-◌, ◌≤◌, true, false, cond, eqb, ltb, List, [], ◌∷◌, ◌++◌, length, Some, IsTrue, ◌^◌, ◌<◌, Result, Ok, Err, refl, sym, ap, subst, ◌∙◌, arith, inl, inr, ◌⊎◌, slice_get}
 use Rattle.std.specs.Prelude.{IfOk}
 use Rattle.std.specs.List.{All}
 use Rattle.std.specs.Int.{w16, w32, w64}
@@ -12,14 +12,15 @@ use Rattle.gw_object.specs.Limits.{most_bytes, most_seeds, greatest_seed, greate
 use Rattle.gw_object.specs.declared.parts.Parts.{Parts}
 use Rattle.gw_fields.specs.declared.error.Bad.{Bad}
 use Rattle.gw_fields.specs.Fields.{IsProperFront, bad, number, tested, count, plain, ElementsFit}
-use Rattle.gw_object.specs.Grammar.{weight, rows, CertificateFits, chain_certificate, tables, is_version, version_number, head, seed, start_count, object, spelling, IsWithinLimits, HasSpelling, Spells}
-use Rattle.gw_blocks.specs.Grammar.{BlockFits, block}
+use Rattle.gw_object.specs.Grammar.{weight, rows, IsSlopeOfVersion, CertificateFits, chain_certificate, tables, is_version, version_number, head, seed, start_count, object, spelling, IsWithinLimits, HasSpelling, Spells}
+use Rattle.gw_blocks.specs.declared.parts.Block.{Block}
+use Rattle.gw_blocks.specs.Grammar.{IsOfVersion, BlockFits, block}
 use Rattle.gw_code.specs.declared.parts.Procedure.{Procedure}
 use Rattle.gw_code.specs.Grammar.{ProcedureFits, NeedsAscend, procedure}
 use Rattle.gw_code_bytes.proofs.CodeLaws.{procedure_exact}
 use Rattle.gw_object.specs.Entities.{entity, chains_in}
 use Rattle.gw_object.specs.Reading.{whole_read, with_place, first_fault, out_of_memory, fault_at, IsRefused}
-use Rattle.gw_object_bytes.proofs.CertificateLaws.{weight_exact, certificate_exact, slopes_fit, none_sloped}
+use Rattle.gw_object_bytes.proofs.CertificateLaws.{weight_exact, certificate_exact, slopes_fit, fits_slopes}
 use Rattle.gw_object_bytes.proofs.EntityLaws.{entity_exact, entities_fit, entities_are}
 use Rattle.gw_object_bytes.proofs.StateLaws.{return_rows_exact, return_rows_fit, return_rows_keep, state_exact, rows_fit, rows_keep}
 use Rattle.gw_block_bytes.proofs.BlockLaws.{block_exact}
@@ -60,7 +61,7 @@ unfolding object
 object_exact =
     made_exact _ _ _ (λ x h. refl) (λ p h. refl)
     (and_then_exact _ _ head_exact (λ head. both_exact _ _ (listed_exact 0 most_seeds seed (omega arith) seed_exact) (both_exact _ _ start_count_exact (and_then_exact _ _ (listed_exact 0 most_entities entity (omega arith) entity_exact) (λ entities. both_exact _ _ (listed_exact 0 most_procedures (plain procedure) (omega arith) (plain_exact procedure procedure_exact))
-    (and_then_exact _ _ (listed_exact 0 most_blocks (plain block) (omega arith) (plain_exact block block_exact)) (λ blocks. tables_exact head.1 (length blocks) (chains_in entities))))))))
+    (and_then_exact _ _ (listed_exact 0 most_blocks (plain (block head.1)) (omega arith) (plain_exact (block head.1) (block_exact head.1))) (λ blocks. tables_exact head.1 (length blocks) (chains_in entities))))))))
 
 -- ---- procedures
 
@@ -71,6 +72,14 @@ procedures_fit procedures limits up = fit-from_All (λ pr. ProcedureFits pr × N
 procedures_keep : (procedures : List Procedure) → ElementsFit (plain procedure).Fits [] procedures → All (λ pr. ProcedureFits pr × NeedsAscend pr) procedures
 unfolding procedure
 procedures_keep procedures h = All-from_fit (λ front left pr. ProcedureFits pr × NeedsAscend pr) (λ pr. ProcedureFits pr × NeedsAscend pr) (λ front left pr fit. fit) procedures [] h
+
+-- ---- blocks
+
+blocks_fit : (version : ℕ) (xs : List Block) → All (IsOfVersion version) xs → All BlockFits xs → ElementsFit (plain (block version)).Fits [] xs
+blocks_fit version xs listed limits = fit-from_All (block version).Fits xs [] (λ k d lt. (listed k d lt, limits k d lt))
+
+blocks_keep : (version : ℕ) (xs : List Block) → ElementsFit (plain (block version)).Fits [] xs → All (block version).Fits xs
+blocks_keep version xs h = All-from_fit (plain (block version)).Fits (block version).Fits (λ front left b fit. fit) xs [] h
 
 -- ---- what fits the object is what has a spelling
 
@@ -102,8 +111,8 @@ seeds_fit (x ∷ y ∷ ys) front each last =
     let more : eqb (length (y ∷ ys)) 0 ≡ false = ne_eqb _ _ (λ e. omega arith) in
     (((omega arith, each 0 x (omega arith)), rw more refl), seeds_fit (y ∷ ys) (front ++ x ∷ []) (λ k d lt. each (suc k) d (omega arith)) (λ e. last (last_of_rest x y ys ∙ e)))
 
-certificate_fits : (p : Parts) → All (λ slope. slope ≡ None) p.slopes → IsWithinLimits p → CertificateFits p.version (length p.blocks) (p.weights, p.slopes)
-certificate_fits p unsloped limits = record { weights = limits.weights; each_weight = limits.each_weight; slopes = limits.slopes; each_slope = slopes_fit p.version p.slopes unsloped }
+certificate_fits : (p : Parts) → All (IsSlopeOfVersion p.version) p.slopes → IsWithinLimits p → CertificateFits p.version (length p.blocks) (p.weights, p.slopes)
+certificate_fits p sloped limits = record { weights = limits.weights; each_weight = limits.each_weight; slopes = limits.slopes; each_slope = slopes_fit p.version p.slopes sloped limits.each_slope }
 
 pub spelled_fits : (p : Parts) → HasSpelling p → object.Fits p
 unfolding object head tables
@@ -119,7 +128,7 @@ spelled_fits p h =
             (
               (omega arith, limits.procedures, procedures_fit p.procedures limits.each_procedure h.canonical.each_procedure),
               (
-                (omega arith, limits.blocks, fit-from_All BlockFits p.blocks [] limits.each_block),
+                (omega arith, limits.blocks, blocks_fit p.version p.blocks h.letters.blocks limits.each_block),
                 (
                   (omega arith, limits.returns, return_rows_fit p.returns limits.each_return h.canonical.each_return),
                   (
@@ -142,10 +151,12 @@ unfolding object head tables
 fits_spelled p (head, (seeds, (count, (entities, (procedures, (blocks, (returns, (states, (chain_states, (certificate, chain_weights)))))))))) size =
     let each_entity = entities_are p.entities entities.2 in
     let each_procedure = procedures_keep p.procedures procedures.2 in
+    let each_block = blocks_keep p.version p.blocks blocks.2 in
     let each_return = return_rows_keep p.returns returns.2 in
     let each_row = rows_keep p.states states.1 in
-    let each_chain_row = rows_keep p.chain_states chain_states.1 in record {
-      letters = record { version = head.1; names = each_entity.letters; slopes = none_sloped p.version p.slopes certificate.each_slope };
+    let each_chain_row = rows_keep p.chain_states chain_states.1 in
+    let each_slope = fits_slopes p.version p.slopes certificate.each_slope in record {
+      letters = record { version = head.1; names = each_entity.letters; blocks = λ k d lt. (each_block k d lt).0; slopes = λ k d lt. (each_slope k d lt).0 };
       limits = record {
         seeds = seeds.1;
         each_seed = seeds_are p.seeds [] seeds.2;
@@ -156,7 +167,7 @@ fits_spelled p (head, (seeds, (count, (entities, (procedures, (blocks, (returns,
         procedures = procedures.1;
         each_procedure = λ k d lt. (each_procedure k d lt).0;
         blocks = blocks.1;
-        each_block = All-from_fit (λ front left. BlockFits) BlockFits (λ front left b h. h) p.blocks [] blocks.2;
+        each_block = λ k d lt. (each_block k d lt).1;
         returns = returns.1;
         each_return = λ k d lt. (each_return k d lt).0;
         states = states.0;
@@ -166,6 +177,7 @@ fits_spelled p (head, (seeds, (count, (entities, (procedures, (blocks, (returns,
         weights = certificate.weights;
         each_weight = certificate.each_weight;
         slopes = certificate.slopes;
+        each_slope = λ k d lt. (each_slope k d lt).1;
         chain_weights = chain_weights.0;
         each_chain_weight = All-from_fit (λ front left. weight.Fits) weight.Fits (λ front left w h. h) p.chain_weights [] chain_weights.1;
         size = size;

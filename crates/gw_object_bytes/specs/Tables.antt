@@ -1,5 +1,5 @@
 -- The bytes of what stands behind the termination count of an object, of what stands behind its blocks, and of the weights of blocks.
-use Rattle.std.specs.Prelude.{ℕ, List, ◌++◌, length, Option, None}
+use Rattle.std.specs.Prelude.{ℕ, List, ◌++◌, length, Option}
 use Rattle.std.specs.List.{flat_map, zip}
 use Rattle.gw_fields.specs.Fields.{Field, plain, elements, list_spelling}
 use Rattle.gw_blocks.specs.Grammar.{block}
@@ -16,14 +16,10 @@ sloped_weights version n = elements (plain (sloped_weight version)) n
 abbrev pub sloped_spelling : ℕ → List ℕ → List (Option (ℕ × ℕ)) → List ℕ
 sloped_spelling version weights slopes = flat_map (sloped_weight version).spell (zip weights slopes)
 
--- the bytes that spell a weight of a block without a slope
-abbrev pub unsloped_spelling : ℕ → ℕ → List ℕ
-unsloped_spelling version weight = (sloped_weight version).spell (weight, None)
-
 -- the bytes that spell the return rows, the rows of the state table, the weights of blocks with their slopes, and those of user chains
 abbrev pub tables_spelling : Parts → List ℕ
 tables_spelling p = (tables p.version (length p.blocks) (chains_in p.entities)).spell (p.returns, (p.states, (p.chain_states, ((p.weights, p.slopes), p.chain_weights))))
 
 -- the bytes that spell the entities, procedures and blocks, and what stands behind them
 abbrev pub lists_spelling : Parts → List ℕ
-lists_spelling p = list_spelling entity.spell p.entities ++ (list_spelling procedure.spell p.procedures ++ (list_spelling block.spell p.blocks ++ tables_spelling p))
+lists_spelling p = list_spelling entity.spell p.entities ++ (list_spelling procedure.spell p.procedures ++ (list_spelling (block p.version).spell p.blocks ++ tables_spelling p))

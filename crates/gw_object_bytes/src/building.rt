@@ -8,8 +8,8 @@ use crate::rules::broken_rule;
 use gw_object::{Fault, Object, Parts, Place};
 
 /// The object of these parts. Parts that have no spelling are handed back with the lowest code that
-/// applies anywhere in them: 4 (a version that isn't listed, a byte of a name that isn't, a slope), 5 (a limit or a list's
-/// length), 6 (not the one form); the place is Nowhere.
+/// applies anywhere in them: 4 (a version that isn't listed, a byte of a name that isn't, a block that the version doesn't
+/// have, a slope in version 1), 5 (a limit or a list's length), 6 (not the one form); the place is Nowhere.
 pub fn build(parts: Parts) -> Result<Object, (Parts, Fault)>
     ensures accepted { IfOk result (λ o. (o ≡ parts) × HasSpelling parts) }
     ensures exactly { HasSpelling parts → result ≡ Ok parts }

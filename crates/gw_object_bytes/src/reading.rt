@@ -9,12 +9,11 @@ ghost use Rattle.gw_object.specs.Reading.{whole_read, placed, too_long, first_fa
 ghost use Rattle.gw_object_bytes.specs.Laws.{AnswersUnlessMemory};
 
 use crate::ObjectFormat;
-use crate::certificate::{Slope, read_certificate};
+use crate::certificate::read_certificate;
 use crate::entities::Entities;
 use crate::lists::{Seeds, Weights};
 use crate::rules::is_version;
-use gw_block_bytes::BlockFormat;
-use gw_blocks::Block;
+use gw_block_bytes::read_blocks;
 use gw_code::Procedure;
 use gw_code_bytes::CodeFormat;
 use gw_field_bytes::{IfAny, Plain, Spelled, read_elements, read_listed, read_ranged_u64};
@@ -22,7 +21,7 @@ use gw_fields::{Bad, Items, ReadError, fault};
 use gw_object::codes::{LIMIT, MAGIC, MEMORY, TRAILING, VERSION};
 use gw_object::{
     Fault, GREATEST_COUNT, MOST_BLOCKS, MOST_BYTES, MOST_ENTITIES, MOST_PROCEDURES,
-    MOST_RETURN_ROWS, MOST_SEEDS, Object, Parts, Place, ReturnRow, TableState, chains_in,
+    MOST_RETURN_ROWS, MOST_SEEDS, Object, Parts, Place, ReturnRow, Slope, TableState, chains_in,
 };
 use std::alloc::Global;
 
@@ -49,7 +48,7 @@ fn read_head(alloc: Global, bytes: &[u8]) -> Result<(u16, &[u8]), ReadError>
 type Rows = Items<Option<TableState>>;
 
 /// The weights of the blocks, and their slopes.
-type Certificate = (Items<u32>, Items<Slope>);
+type Certificate = (Items<u32>, Items<Option<Slope>>);
 
 /// The return rows, the rows of the state table, the weights of the blocks with their slopes, and the weights of the user
 /// chains.
@@ -104,7 +103,7 @@ fn read_parts(alloc: Global, bytes: &[u8]) -> Result<(Parts, &[u8]), ReadError>
         0,
         MOST_PROCEDURES,
     )?;
-    let (blocks, rest) = read_listed::<Plain<BlockFormat, Block>>(alloc, rest, 0, MOST_BLOCKS)?;
+    let (blocks, rest) = read_blocks(alloc, version, rest, MOST_BLOCKS)?;
     let chains = chains_in(&entities);
     let (tables, rest) = read_tables(alloc, version, blocks.len(), chains, rest)?;
     let (returns, (states, (chain_states, ((weights, slopes), chain_weights)))) = tables;

@@ -7,12 +7,12 @@ ghost use Rattle.gw_object.specs.Grammar.{HasLetters, IsWithinLimits, IsCanonica
 ghost use Rattle.gw_object.specs.Grammar.{Refuses, spelling, weight};
 ghost use Rattle.gw_object.specs.Grammar as model;
 
-use crate::certificate::are_unsloped;
+use crate::certificate::{are_slopes_of_version, slopes_fit};
 use crate::entities::{are_lettered, entities_ascend, entities_fit, names_are_own};
 use crate::returns::{return_rows_ascend, return_rows_fit};
 use crate::states::{states_ascend, states_fit};
 use crate::writing::room_after_parts;
-use gw_block_bytes::blocks_fit;
+use gw_block_bytes::{are_of_version, blocks_fit};
 use gw_code_bytes::{procedures_ascend, procedures_fit};
 use gw_object::codes::{LIMIT, NOT_CANONICAL, TAG};
 use gw_object::{
@@ -43,13 +43,15 @@ pub fn is_version(number: u16) -> bool
     number == 1 || number == 2
 }
 
-/// Whether the version and each byte of a name are among those that their fields list, and no weight has a slope.
+/// Whether the version, each byte of a name and the tag of each block are among those that their fields list, and the version
+/// has each slope of a weight.
 fn has_letters(parts: &Parts) -> bool
     ensures { IsTrue result ↔ HasLetters parts.now }
 {
     is_version(parts.version)
         && are_lettered(parts.entities.as_slice())
-        && are_unsloped(parts.slopes.as_slice())
+        && are_of_version(parts.version, parts.blocks.as_slice())
+        && are_slopes_of_version(parts.version, parts.slopes.as_slice())
 }
 
 /// Whether the spelling of parts is at most 1 MiB: its bytes are counted, and not written.
@@ -99,6 +101,7 @@ fn is_within_limits(parts: &Parts) -> bool
         && states_fit(states)
         && states_fit(chain_states)
         && weights_fit(weights)
+        && slopes_fit(parts.slopes.as_slice())
         && weights_fit(chain_weights)
         && size_fits(parts)
 }

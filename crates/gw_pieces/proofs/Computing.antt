@@ -296,6 +296,7 @@ module _ (n : Numbers) (order : List Origin) (ss : List Statement) (p : Parts) (
     as_table (texts.Name name ∷ l) b is h = absurd cc
     as_table (texts.Whole z ∷ l) b is h = absurd cc
     as_table (texts.Fraction t ∷ l) b is h = absurd cc
+    as_table (texts.Both ∷ l) b is h = absurd cc
     as_table (texts.Sna sna ∷ l) b is h = absurd cc
     as_table (texts.Expression x ∷ []) b is h = absurd cc
     as_table (texts.Expression x ∷ limit ∷ []) b is h = absurd cc
@@ -317,6 +318,7 @@ module _ (n : Numbers) (order : List Origin) (ss : List Statement) (p : Parts) (
     as_function (texts.Name name ∷ l) b is h = absurd cc
     as_function (texts.Whole z ∷ l) b is h = absurd cc
     as_function (texts.Fraction t ∷ l) b is h = absurd cc
+    as_function (texts.Both ∷ l) b is h = absurd cc
     as_function (texts.Sna sna ∷ l) b is h = absurd cc
     as_function (texts.Expression x ∷ []) b is h = function_by own_of (points_in b) h
     as_function (texts.Expression x ∷ y ∷ l) b is h = absurd cc

@@ -5,6 +5,7 @@ pub mod Blocks
 pub mod Clear
 pub mod Naming
 pub mod Settings
+pub mod Versions
 pub mod Entities
 pub mod Pieces
 pub mod Order

@@ -158,6 +158,7 @@ module _ (l : Lookup) where
   of_argument i (Some texts.Missing) = None
   of_argument i (Some (texts.Whole z)) = None
   of_argument i (Some (texts.Fraction thousandths)) = None
+  of_argument i (Some texts.Both) = None
   of_argument i None = None
 
   -- of what the FUNCTION of a statement calls

@@ -26,6 +26,7 @@ expression_in (Some texts.Missing) = None
 expression_in (Some (texts.Name name)) = None
 expression_in (Some (texts.Whole z)) = None
 expression_in (Some (texts.Fraction thousandths)) = None
+expression_in (Some texts.Both) = None
 expression_in (Some (texts.Sna sna)) = None
 expression_in None = None
 

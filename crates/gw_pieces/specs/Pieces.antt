@@ -43,6 +43,7 @@ use Rattle.gw_pieces.specs.Entities.{AreEntitiesOf}
 use Rattle.gw_pieces.specs.Naming.{callee_of, equ_meant, IsEquOf}
 use Rattle.gw_pieces.specs.Order.{order_in}
 use Rattle.gw_pieces.specs.Settings.{count_in, seeds_in}
+use Rattle.gw_pieces.specs.Versions.{version_of}
 use Rattle.gw_pieces.specs.Sources.{AreCompiled}
 
 -- NAMES
@@ -79,6 +80,8 @@ pub record HasPieces (n : Numbers) (order : List Origin) (ss : List Statement) (
   pub sources : (of : Numbered) → n.source of ≡ source_in p.entities of
   pub entities : AreEntitiesOf n order ss (entities_of ss) p.entities
   pub code : HasCode n order ss p.procedures p.blocks
+  -- the least version that has the blocks
+  pub version : p.version ≡ version_of p.blocks
   pub count : p.count ≡ count_in ss
   pub seeds : p.seeds ≡ seeds_in ss
 
@@ -89,7 +92,6 @@ pub record IsNamed (ss : List Statement) : Type 0 where
 
 -- nothing of an object is settled yet: it has no state table and no return rows, and each weight is the least, without a slope
 pub record IsDraft (p : Parts) : Type 0 where
-  pub version : p.version ≡ 1
   pub returns : p.returns ≡ []
   pub states : p.states ≡ replicate (length p.blocks) None
   pub chain_states : p.chain_states ≡ replicate (chains_in p.entities) None

@@ -14,6 +14,7 @@ number_in (Some (texts.Whole z)) = z
 number_in (Some texts.Missing) = pos 0
 number_in (Some (texts.Name name)) = pos 0
 number_in (Some (texts.Fraction thousandths)) = pos 0
+number_in (Some texts.Both) = pos 0
 number_in (Some (texts.Sna sna)) = pos 0
 number_in (Some (texts.Expression e)) = pos 0
 number_in None = pos 0

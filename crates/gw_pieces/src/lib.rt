@@ -14,6 +14,7 @@ mod pieces;
 mod plan;
 mod planning;
 mod settings;
+mod versions;
 
 pub use lines::procedure_lines;
 pub use pieces::parts_of;

@@ -77,7 +77,7 @@ fn origin_of_argument(text: &Text<'_>, argument: &Operand, statement: usize) -> 
                 operand: 0,
             }),
         },
-        Operand::Missing | Operand::Whole(_) | Operand::Fraction(_) => None,
+        Operand::Missing | Operand::Whole(_) | Operand::Fraction(_) | Operand::Both => None,
     }
 }
 

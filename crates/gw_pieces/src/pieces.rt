@@ -6,6 +6,7 @@ ghost use Rattle.gw_pieces.specs.Making as making;
 ghost use Rattle.gw_pieces.specs.Pieces.{IsDraft, IsMadeOf};
 ghost use Rattle.gw_pieces.specs.Plans as plans;
 ghost use Rattle.gw_pieces.specs.Settings.{seeds_in};
+ghost use Rattle.gw_pieces.specs.Versions as versions;
 
 use crate::blocks::blocks_of;
 use crate::compiling::procedures_of;
@@ -13,6 +14,7 @@ use crate::entities::entities_of;
 use crate::plan::Plan;
 use crate::planning::plan_of;
 use crate::settings::{count_of, seeds_of};
+use crate::versions::version_of;
 use gw_blocks::Block;
 use gw_code::Procedure;
 use gw_names::Ledger;
@@ -142,7 +144,7 @@ fn rest_of(alloc: Global, text: &Model, blocks: usize, chains: usize) -> Result<
 
 /// The parts of an object of these pieces.
 fn parts_with(alloc: Global, count: u64, pieces: Pieces, rest: Rest) -> Parts
-    ensures version { result.version ≡ 1 }
+    ensures version { result.version ≡ versions.version_of pieces.blocks.items }
     ensures count { result.count ≡ count }
     ensures seeds { result.seeds ≡ rest.seeds.items }
     ensures entities { result.entities ≡ pieces.entities.items }
@@ -156,7 +158,7 @@ fn parts_with(alloc: Global, count: u64, pieces: Pieces, rest: Rest) -> Parts
     ensures chain_weights { result.chain_weights ≡ rest.chain_weights.items }
 {
     Parts {
-        version: 1,
+        version: version_of(pieces.blocks.as_slice()),
         seeds: Items::from_vec(rest.seeds),
         count,
         entities: Items::from_vec(pieces.entities),
@@ -190,9 +192,10 @@ fn completed(alloc: Global, text: &Model, pieces: Pieces) -> Result<Parts, Fault
     }
 }
 
-/// The parts of the object that a model text becomes: its seeds and count, entities, procedures and blocks, without a state
-/// table, and with the least weights. A text of which some can't be made is refused at the first line at fault, with the lowest
-/// code there: 80 Name, 81 Storage, 82 Limit (ours: docs/refusals.md); or with 8 Memory, at Nowhere.
+/// The parts of the object that a model text becomes: its version, the least that has its blocks, its seeds and count,
+/// entities, procedures and blocks, without a state table, and with the least weights. A text of which some can't be made is
+/// refused at the first line at fault, with the lowest code there: 80 Name, 81 Storage, 82 Limit (ours: docs/refusals.md); or
+/// with 8 Memory, at Nowhere.
 pub fn parts_of(alloc: Global, text: &Model) -> Result<Parts, Fault>
     ensures made { IfOk result (IsMadeOf text.now.statements.items) }
     ensures draft { IfOk result IsDraft }

@@ -41,6 +41,7 @@ value_in n compiled (texts.Name name) = option_map equ_value (n.equ (string_byte
 value_in n compiled (texts.Sna sna) = attribute_value n sna
 value_in n compiled (texts.Expression e) = option_map operands.Procedure compiled
 value_in n compiled (texts.Fraction thousandths) = None
+value_in n compiled texts.Both = None
 
 -- the procedure that the operand at a position becomes, if it is an expression
 abbrev pub procedure_at : List (Option ℕ) → ℕ → Option ℕ
@@ -56,6 +57,7 @@ name_in (texts.Whole z) = None
 name_in (texts.Sna sna) = None
 name_in (texts.Expression e) = None
 name_in (texts.Fraction thousandths) = None
+name_in texts.Both = None
 
 -- the entity of a kind
 abbrev pub entity_in : Numbers → EntityKind → Text → Option ℕ
@@ -73,6 +75,7 @@ optional_block_in n (texts.Whole z) = None
 optional_block_in n (texts.Sna sna) = None
 optional_block_in n (texts.Expression e) = None
 optional_block_in n (texts.Fraction thousandths) = None
+optional_block_in n texts.Both = None
 
 -- NUMBERS
 
@@ -89,6 +92,7 @@ whole_in missing (texts.Name name) = None
 whole_in missing (texts.Sna sna) = None
 whole_in missing (texts.Expression e) = None
 whole_in missing (texts.Fraction thousandths) = None
+whole_in missing texts.Both = None
 
 -- a number that 32 bits hold with their sign
 abbrev pub in_32_bits : ℤ → Option ℤ
@@ -110,6 +114,7 @@ number_in most (texts.Name name) = None
 number_in most (texts.Sna sna) = None
 number_in most (texts.Expression e) = None
 number_in most (texts.Fraction thousandths) = None
+number_in most texts.Both = None
 
 -- a whole number, or none where it is missing
 abbrev pub optional_whole_in : Text → Option (Option ℤ)
@@ -119,6 +124,7 @@ optional_whole_in (texts.Name name) = None
 optional_whole_in (texts.Sna sna) = None
 optional_whole_in (texts.Expression e) = None
 optional_whole_in (texts.Fraction thousandths) = None
+optional_whole_in texts.Both = None
 
 -- the same in 32 bits
 abbrev pub optional_count_in : Text → Option (Option ℕ)
@@ -128,6 +134,7 @@ optional_count_in (texts.Name name) = None
 optional_count_in (texts.Sna sna) = None
 optional_count_in (texts.Expression e) = None
 optional_count_in (texts.Fraction thousandths) = None
+optional_count_in texts.Both = None
 
 -- PARAMETERS
 
@@ -139,6 +146,7 @@ parameter_in n texts.Missing = None
 parameter_in n (texts.Sna sna) = None
 parameter_in n (texts.Expression e) = None
 parameter_in n (texts.Fraction thousandths) = None
+parameter_in n texts.Both = None
 
 -- the same, or none where it is missing
 abbrev pub optional_parameter_in : Numbers → Text → Option (Option ℕ)
@@ -148,6 +156,7 @@ optional_parameter_in n (texts.Whole z) = option_map Some (up_to 255 z)
 optional_parameter_in n (texts.Sna sna) = None
 optional_parameter_in n (texts.Expression e) = None
 optional_parameter_in n (texts.Fraction thousandths) = None
+optional_parameter_in n texts.Both = None
 
 -- WORDS
 

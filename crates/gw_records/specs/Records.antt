@@ -96,6 +96,10 @@ module _ (n : Numbers) where
   by_fraction k otherwise to =
       of_two (λ o t. blocks.TransferByFraction (record { thousandths = k; otherwise = o; target = t })) (optional_block_in n otherwise) (block_in n to)
 
+  -- TRANSFER BOTH
+  abbrev pub both_of : Text → Text → Option Block
+  both_of first second = of_two (λ f s. blocks.TransferBoth (record { first = f; second = s })) (optional_block_in n first) (block_in n second)
+
   -- TRANSFER to a subroutine
   abbrev pub call_of : Text → Text → Option Block
   call_of to x = of_two (λ t p. blocks.TransferToSubroutine (record { target = t; parameter = p })) (block_in n to) (parameter_in n x)
@@ -106,9 +110,10 @@ module _ (n : Numbers) where
   transfer_of_two (texts.Name form) x = option_map blocks.TransferByParameter (parameter_in n x)
   transfer_of_two form operand = None
 
-  -- and with three: by a fraction, or to a subroutine
+  -- and with three: by a fraction, to one of two blocks, or to a subroutine
   abbrev pub transfer_of_three : Text → Text → Text → Option Block
   transfer_of_three (texts.Fraction k) otherwise to = by_fraction k otherwise to
+  transfer_of_three texts.Both first second = both_of first second
   transfer_of_three (texts.Name form) to x = call_of to x
   transfer_of_three form first second = None
 

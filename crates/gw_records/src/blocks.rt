@@ -8,8 +8,8 @@ ghost use Rattle.gw_records.specs.Records as model;
 use crate::operands::*;
 use crate::operators::{action_of, asked_of, comparison_of, condition_of, mode_of};
 use gw_blocks::{
-    Assign, Block, Call, Fraction, Generate, Link, Logic, Loop, Operand, Plus, Priority, Save,
-    Split, Spread, Units, Unlink,
+    Assign, Block, Both, Call, Fraction, Generate, Link, Logic, Loop, Operand, Plus, Priority,
+    Save, Split, Spread, Units, Unlink,
 };
 use gw_compile::Numbering;
 use gw_rules::EntityKind;
@@ -133,6 +133,16 @@ impl<N: Numbering> Reading<'_, N> {
         }))
     }
 
+    /// TRANSFER BOTH.
+    fn both_of(&self, first: &Text, second: &Text) -> Option<Block>
+        ensures { result ≡ model.both_of (N.numbers self.now.names.now) first.now second.now }
+    {
+        Some(Block::TransferBoth(Both {
+            first: optional_block_of(self.names, first)?,
+            second: block_of(self.names, second)?,
+        }))
+    }
+
     /// TRANSFER to a subroutine.
     fn call_of(&self, target: &Text, parameter: &Text) -> Option<Block>
         ensures { result ≡ model.call_of (N.numbers self.now.names.now) target.now parameter.now }
@@ -253,13 +263,14 @@ impl<N: Numbering> Reading<'_, N> {
         }
     }
 
-    /// TRANSFER with three operands: by a fraction, or to a subroutine.
+    /// TRANSFER with three operands: by a fraction, to one of two blocks, or to a subroutine.
     fn transfer_of_three(&self, form: &Text, first: &Text, second: &Text) -> Option<Block>
         ensures { result ≡ model.transfer_of_three (N.numbers self.now.names.now)
             form.now first.now second.now }
     {
         match form {
             Text::Fraction(thousandths) => self.by_fraction(*thousandths, first, second),
+            Text::Both => self.both_of(first, second),
             Text::Name(_) => self.call_of(first, second),
             _ => None,
         }

@@ -46,7 +46,7 @@ pub(crate) fn value_of<N: Numbering>(
         Text::Name(name) => names.equ(name).map(equ_value),
         Text::Sna(sna) => attribute_value(names, sna),
         Text::Expression(_) => compiled.map(Operand::Procedure),
-        Text::Fraction(_) => None,
+        Text::Fraction(_) | Text::Both => None,
     }
 }
 

@@ -45,6 +45,7 @@ exits (blocks.Test t) = falls_or_goes t.otherwise
 exits (blocks.Gate g) = falls_or_goes g.otherwise
 exits (blocks.Transfer target) = at_once (Goes target) ∷ []
 exits (blocks.TransferByFraction f) = at_once (goes_or_falls f.otherwise) ∷ at_once (Goes f.target) ∷ []
+exits (blocks.TransferBoth t) = at_once (goes_or_falls t.first) ∷ at_once (Goes t.second) ∷ []
 exits (blocks.TransferToSubroutine c) = at_once (Goes c.target) ∷ []
 exits (blocks.TransferByParameter q) = []
 exits (blocks.Loop l) = at_once Falls ∷ at_once (Goes l.target) ∷ []

@@ -11,6 +11,7 @@ pub mod kinds_codes;
 pub mod laws;
 pub mod plus_codes;
 mod set_parameters;
+mod slopes;
 mod verified;
 mod ways;
 mod weights;
@@ -21,8 +22,9 @@ pub use checks::check;
 pub use edges::{FlowEdge, Target};
 pub use entities::{EntityKind, Named, needs};
 pub use set_parameters::{Parameter, ParameterKind};
+pub use slopes::{Treatment, above, changed_parameter, slope_at, treats};
 pub use verified::Verified;
 pub use ways::{
     Exit, Way, Who, exits, is_call, is_used, leads_to, other_way, returns_to, takes_time,
 };
-pub use weights::{chain_weight, need, weight_at};
+pub use weights::{chain_weight, weight_at};

@@ -100,6 +100,10 @@ pub fn exits(block: &Block) -> ArrayVec<Exit, 2>
             exits.push(at_once(goes_or_falls(fraction.otherwise)));
             exits.push(at_once(Way::Goes(fraction.target)));
         }
+        Block::TransferBoth(both) => {
+            exits.push(at_once(goes_or_falls(both.first)));
+            exits.push(at_once(Way::Goes(both.second)));
+        }
         Block::TransferToSubroutine(call) => exits.push(at_once(Way::Goes(call.target))),
         Block::Loop(looping) => {
             exits.push(at_once(Way::Falls));

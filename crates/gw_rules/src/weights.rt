@@ -4,7 +4,6 @@ ghost use Rattle.std.specs.Prelude.{◌≡◌};
 ghost use Rattle.gw_rules.specs.Weights as model;
 
 use crate::chain_rows::chain_place;
-use crate::ways::Who;
 use gw_object::Parts;
 
 /// The weight of the block of this number, from 1, where these are the weights of all blocks; 0 where there is no such block
@@ -29,15 +28,4 @@ pub fn chain_weight(parts: &Parts, chain: u16) -> u32
         .get(place)
         .copied()
         .unwrap_or(0)
-}
-
-/// What is needed for an entry and for what comes after it, by the weights of the next block and of the one to which these
-/// go: who makes copies needs it for itself and for each of them (ours: docs/weights.md).
-pub fn need(who: Who, next: u32, there: u32) -> u64
-    ensures { result ≡ model.need who next there }
-{
-    match who {
-        Who::Itself => 1 + there as u64,
-        Who::Copies(copies) => 1 + next as u64 + copies as u64 * there as u64,
-    }
 }

@@ -3,6 +3,7 @@ use denote.Enum.Bare.{same_true}
 use Rattle.gw_same.specs.Same.{TellsApart, same_operand, same_block}
 use Rattle.gw_same.proofs.Fields.{OnlyEqual, apart, nat_only, int_only, bool_only, option_only, of_fields, ◌⊗◌, ◌⊕◌, bare, no_more, of_choices}
 use Rattle.gw_blocks.specs.declared.parts.Assign.{Assign}
+use Rattle.gw_blocks.specs.declared.parts.Both.{Both}
 use Rattle.gw_blocks.specs.declared.parts.Call.{Call}
 use Rattle.gw_blocks.specs.declared.parts.Fraction.{Fraction}
 use Rattle.gw_blocks.specs.declared.parts.Gate.{Gate}
@@ -30,6 +31,7 @@ use Rattle.gw_blocks.specs.contracts.parts.SpreadPartialEq.TheImpl as spread_eq
 use Rattle.gw_blocks.specs.contracts.parts.GeneratePartialEq.TheImpl as generate_eq
 use Rattle.gw_blocks.specs.contracts.parts.UnitsPartialEq.TheImpl as units_eq
 use Rattle.gw_blocks.specs.contracts.parts.FractionPartialEq.TheImpl as fraction_eq
+use Rattle.gw_blocks.specs.contracts.parts.BothPartialEq.TheImpl as both_eq
 use Rattle.gw_blocks.specs.contracts.parts.ModePartialEq.TheImpl as mode_eq
 use Rattle.gw_blocks.specs.contracts.parts.Mode as mode_type
 use Rattle.gw_blocks.specs.contracts.parts.AssignPartialEq.TheImpl as assign_eq
@@ -125,6 +127,9 @@ logic_only = of_fields (λ (x : Logic). (x.action, x.switch)) (λ f. record { ac
 pub fraction_only : OnlyEqual fraction_eq.ghosts.eq
 fraction_only = of_fields (λ (x : Fraction). (x.thousandths, (x.otherwise, x.target))) (λ f. record { thousandths = f.0; otherwise = f.1.0; target = f.1.1 }) (λ x i. x) (nat_only ⊗ option_only nat_only ⊗ nat_only)
 
+pub both_only : OnlyEqual both_eq.ghosts.eq
+both_only = of_fields (λ (x : Both). (x.first, x.second)) (λ f. record { first = f.0; second = f.1 }) (λ x i. x) (option_only nat_only ⊗ nat_only)
+
 pub call_only : OnlyEqual call_eq.ghosts.eq
 call_only = of_fields (λ (x : Call). (x.target, x.parameter)) (λ f. record { target = f.0; parameter = f.1 }) (λ x i. x) (nat_only ⊗ nat_only)
 
@@ -150,7 +155,7 @@ unlink_only = of_fields (λ (x : Unlink). (x.chain, (x.target, x.most))) (λ f. 
 pub block_only : OnlyEqual block_eq.ghosts.eq
 block_only = of_choices block_type.enum (
     generate_only ⊕ operand_only ⊕ spread_only ⊕ nat_only ⊕ nat_only ⊕ units_only ⊕ units_only ⊕ units_only
-    ⊕ units_only ⊕ assign_only ⊕ test_only ⊕ gate_only ⊕ nat_only ⊕ fraction_only ⊕ call_only ⊕ nat_only
+    ⊕ units_only ⊕ assign_only ⊕ test_only ⊕ gate_only ⊕ nat_only ⊕ fraction_only ⊕ both_only ⊕ call_only ⊕ nat_only
     ⊕ loop_only ⊕ split_only ⊕ nat_only ⊕ link_only ⊕ unlink_only ⊕ logic_only ⊕ save_only ⊕ option_only nat_only
     ⊕ priority_only ⊕ bare (plus_only ⊕ nat_only ⊕ no_more)
     )

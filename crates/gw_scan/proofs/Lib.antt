@@ -9,3 +9,8 @@ pub mod Moments
 pub mod Slicing
 pub mod Subjects
 pub mod Entering
+pub mod Visits
+pub mod Turned
+pub mod Ready
+pub mod Going
+pub mod Trying

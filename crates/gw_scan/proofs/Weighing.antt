@@ -1,42 +1,72 @@
 -- What a state weighs, summed in memory as it is defined.
-use Rattle.std.proofs.Common.{◌≡◌, ◌≢◌, ◌≤◌, ℕ, zero, suc, ◌+◌, ℤ, List, [], ◌∷◌, map, length, Option, Some, None, Bool, true, false, if◌then◌else◌, ◌==◌, refl, sym, ap, ◌∙◌, arith, inl, inr}
-use Rattle.std.specs.Prelude.{sum, sum_by, int_lt, ◌&&◌, ◌||◌, is_some, IsPermutation}
+use Rattle.std.proofs.Common.{◌≡◌, ◌≢◌, ◌≤◌, ℕ, zero, suc, ◌+◌, ◌*◌, ℤ, List, [], ◌∷◌, map, length, Option, Some, None, IfSome, Bool, true, false, if◌then◌else◌, ◌==◌, refl, sym, ap, subst, ◌∙◌, arith, inl, inr}
+use Rattle.std.specs.Prelude.{All, sum, sum_by, slice_index_or, int_lt, ◌&&◌, ◌||◌, is_some, IsPermutation}
 use Rattle.std.specs.List.{list_any}
 use Rattle.std.proofs.lemmas.Bool.{cases_lt, eq-eqb, ne_eqb}
+use Rattle.std.proofs.lemmas.List.{get_or_past}
 use Rattle.std.proofs.lemmas.List.Sums.{sum_by-cons}
 use Rattle.std.proofs.lemmas.List.Sorted.{sum_by-IsPermutation}
+use Rattle.std.proofs.lemmas.Nat.{mul-le}
 use Rattle.gw_object.specs.declared.parts.Parts.{Parts}
+use Rattle.gw_object.specs.Limits.{greatest_weight}
+use Rattle.gw_object.specs.Grammar.{SlopeFits, HasSpelling}
 use Rattle.gw_num.specs.Table.{at, tabulate}
 use Rattle.gw_num.proofs.Tables.{sum_by-replicate, tabulate-replicate, at_past}
-use Rattle.gw_transactions.specs.declared.Transaction.{Transaction}
-use Rattle.gw_transactions.specs.Transactions.{LiveTransaction, listed}
-use Rattle.gw_rules.specs.Weights.{weight_of}
+use Rattle.gw_transactions.specs.Transactions.{LiveTransaction, ListedTransaction, listed_as, listed}
+use Rattle.gw_rules.specs.Weights.{weight_at, slope_at}
 use Rattle.gw_members.specs.declared.tx.Event.{Event}
 use Rattle.gw_machine.specs.Configuration.{Configuration}
 use Rattle.gw_machine.specs.View.{state_of, event_of}
 use Rattle.gw_step.specs.State.{FutureEvent, State}
 use Rattle.gw_step.specs.Changes.{numbers}
 use Rattle.gw_step.specs.Residence.{occurrences, ResidesOnce}
-use Rattle.gw_step.specs.Places.{place_of}
+use Rattle.gw_step.specs.Turning.{two_next}
 use Rattle.gw_step.proofs.Sums.{sum-same, sum-but_one, sum-tabulate_at}
 use Rattle.gw_step.proofs.Residence.{same_number, at_most_one}
 use Rattle.gw_step.proofs.Weighing.{not_there}
-use Rattle.gw_step.specs.Weight.{is_later, weight_in, weighs, weight}
+use Rattle.gw_step.specs.Weight.{is_later, weight_by, weight_in, weighs, weight}
 use Rattle.gw_scan.specs.Weighing.{later_weight, owed_weight}
+
+-- AT MOST
+
+-- a weight of a certificate, or none
+listed_weighs : (weights : List ℕ) (i : ℕ) → All (λ weight. (1 ≤ weight) × (weight ≤ greatest_weight)) weights → slice_index_or weights i 0 ≤ greatest_weight
+listed_weighs weights i each = elim (cases_lt i (length weights)) [
+  | inl within ↦ (each i 0 within).1
+  | inr beyond ↦ omega (arith, get_or_past weights i 0 beyond)
+]
+
+-- the weight of a block
+pub block_weighs : (p : Parts) → HasSpelling p → (b : ℕ) → weight_at p.weights b ≤ greatest_weight
+block_weighs p spelled zero = omega arith
+block_weighs p spelled (suc i) = listed_weighs p.weights i spelled.limits.each_weight
+
+-- the slope of a block
+pub slope_fits : (p : Parts) → HasSpelling p → (b : ℕ) → IfSome (slope_at p.slopes b) SlopeFits
+slope_fits p spelled zero = tt
+slope_fits p spelled (suc i) = elim (cases_lt i (length p.slopes)) [
+  | inl within ↦ spelled.limits.each_slope i None within
+  | inr beyond ↦ subst (λ slope. IfSome slope SlopeFits) (sym (get_or_past p.slopes i None beyond)) tt
+]
+
+-- there is no block 0, and the others owe at most so much
+pub owed_less : (p : Parts) (scheduled : List ℕ) (b most : ℕ) → owed_weight p scheduled b ≤ most → owed_weight p scheduled b ≤ b * most
+owed_less p scheduled zero most few = omega arith
+owed_less p scheduled (suc i) most few = omega (arith, few, mul-le 1 most (suc i) most (omega arith) (omega arith))
 
 -- ALL THAT ARE LIVE
 
 -- the weight of the place of a live transaction, as it is listed
-abbrev pub listed_weight : Parts → Transaction × Option ℕ → ℕ
-listed_weight p t = weight_of p (place_of t.1 t.0.next)
+abbrev pub listed_weight : Parts → ListedTransaction → ℕ
+listed_weight p t = weight_by p t.1 t.0.next (two_next p t.0) t.2
 
 all_listed : (p : Parts) (txs : List (Option LiveTransaction)) → sum_by (listed_weight p) (listed txs) ≡ sum_by (weight_in p) txs
 all_listed p [] = refl
 all_listed p (None ∷ txs) = omega (arith, all_listed p txs, sum_by-cons (weight_in p) None txs)
-all_listed p (Some t ∷ txs) = omega (arith, all_listed p txs, sum_by-cons (weight_in p) (Some t) txs, sum_by-cons (listed_weight p) (t.attributes, t.chain) (listed txs))
+all_listed p (Some t ∷ txs) = omega (arith, all_listed p txs, sum_by-cons (weight_in p) (Some t) txs, sum_by-cons (listed_weight p) (listed_as t) (listed txs))
 
 -- in whatever order they are listed, they weigh the same together
-pub all_weigh : (p : Parts) (txs : List (Option LiveTransaction)) (all : List (Transaction × Option ℕ)) → IsPermutation (listed txs) all → sum_by (listed_weight p) all ≡ sum_by (weight_in p) txs
+pub all_weigh : (p : Parts) (txs : List (Option LiveTransaction)) (all : List ListedTransaction) → IsPermutation (listed txs) all → sum_by (listed_weight p) all ≡ sum_by (weight_in p) txs
 all_weigh p txs all same = sum_by-IsPermutation (listed_weight p) (listed txs) all same ∙ all_listed p txs
 
 -- BY NUMBER

@@ -4,6 +4,7 @@ pub mod Answers
 -- WHAT A BLOCK AND A STEP MAKE
 pub mod Makes
 pub mod Visiting
+pub mod Trying
 -- WHAT A JOB AND A SIM STAND FOR
 pub mod JobView
 pub mod SimView

@@ -1,5 +1,5 @@
 -- The visit of a machine's active transaction to its next block: what the block may rely on, and what it makes.
-use Rattle.std.specs.Prelude.{◌≡◌, ℕ, ℤ, ◌+◌, ◌≤◌, List, length, Option, Bool, not, ◌&&◌, is_none, if◌then◌else◌, Result}
+use Rattle.std.specs.Prelude.{◌≡◌, ℕ, ℤ, ◌+◌, ◌≤◌, List, length, Option, Some, Bool, not, ◌&&◌, is_none, if◌then◌else◌, Result}
 use Rattle.gw_blocks.specs.declared.parts.Block.{Block}
 use Rattle.gw_operands.specs.Environment.{Environment}
 use Rattle.gw_machine.specs.Coherence.{IsActive, IsOf, IsPassing, IsRunning}
@@ -19,19 +19,33 @@ use Rattle.gw_step.specs.Outcome.{Outcome, Gives}
 use Rattle.gw_step.specs.Placing.{placed}
 use Rattle.gw_step.specs.State.{Assembly, State, with_streams}
 use Rattle.gw_step.specs.Times.{environment_of}
+use Rattle.gw_step.specs.Turning.{turned, two_next}
 use Rattle.gw_step.specs.declared.placement.Placement.{Placement}
 use Rattle.gw_step.specs.declared.placement.Placement.TheVariants.{JoinsRetryList}
 use Rattle.gw_transactions.specs.declared.Transaction.{Transaction}
+use Rattle.gw_transactions.specs.Transactions.{attributes_at}
 
 -- WHAT A STEP MAY RELY ON
 
--- a machine of this object runs, has a slot for each parameter that a block sets, and its next block may be met
+-- once the transaction n, which is t, has turned to this block, its next block may be met, wherever the streams are
+pub record MayTurn (p : Parts) (n : ℕ) (t : Transaction) (to : ℕ) (s : State) : Type 0 where
+  pub values : (streams : List ℕ) → MayStep p (turned n t to (with_streams streams s))
+  pub served : (streams : List ℕ) → IsServed p (turned n t to (with_streams streams s))
+
+-- an active transaction with two next blocks may turn to either
+abbrev pub MayTurnToBoth : Parts → State → Type 0
+MayTurnToBoth p s =
+    (n : ℕ) (t : Transaction) (pair : ℕ × ℕ) → s.lists.active ≡ Some n → attributes_at n s.transactions ≡ Some t
+    → two_next p t ≡ Some pair → MayTurn p n t pair.0 s × MayTurn p n t pair.1 s
+
+-- a machine of this object runs, has a slot for each parameter that a block sets, and its next block may be met, or each of two
 pub record IsReady (p : Parts) (m : Configuration) : Type 0 where
   pub running : IsRunning p.blocks m
   pub own : IsOf p m
   pub slots : m.last ≡ greatest_set p.blocks
   pub values : MayStep p (state_of m)
   pub served : IsServed p (state_of m)
+  pub turns : MayTurnToBoth p (state_of m)
 
 -- WHAT A BLOCK MAY RELY ON
 
@@ -60,6 +74,21 @@ pub record Meets (v : Visit) (m : Configuration) (block : Block) : Type 0 where
   pub slot : set_by block ≤ m.last
   pub asks : Asks v.verified.now v.tx.number (state_of m) block
   pub leads : Leads v.verified.now.blocks v.transaction.next block
+
+-- the visit may be made on a machine of its object: what its one next block evaluates and asks for is there
+pub record MayMake (v : Visit) (m : Configuration) : Type 0 where
+  pub visit : IsVisit v m
+  pub own : IsOf v.verified.now m
+  pub slots : m.last ≡ greatest_set v.verified.now.blocks
+  pub values : MayStep v.verified.now (state_of m)
+  pub served : IsServed v.verified.now (state_of m)
+
+-- the same, once the transaction has turned to this block
+pub record MayTry (v : Visit) (to : ℕ) (m : Configuration) : Type 0 where
+  pub visit : IsVisit v m
+  pub own : IsOf v.verified.now m
+  pub slots : m.last ≡ greatest_set v.verified.now.blocks
+  pub turns : MayTurn v.verified.now v.tx.number v.transaction to (state_of m)
 
 -- what the block's operands read
 abbrev pub environment_in : Visit → Configuration → Environment

@@ -7,14 +7,16 @@ ghost use Rattle.gw_entities.specs.Facility.{is_idle as is_idle_now};
 ghost use Rattle.gw_step.specs.State as state;
 ghost use Rattle.gw_step.specs.Changes as change;
 ghost use Rattle.gw_step.specs.Blocks as model;
+ghost use Rattle.gw_step.specs.Step as steps;
 ghost use Rattle.gw_step.specs.Placing.{placed};
 ghost use Rattle.gw_machine.specs.View.{state_of};
 ghost use Rattle.gw_machine.specs.Leaving.{BecomesBy, BecomesOnOk};
-ghost use Rattle.gw_scan.specs.Visiting.{Acts, ActsOnOk, IsEntering, IsVisit, Meets, after_entry, after_fall, with_mark};
+ghost use Rattle.gw_scan.specs.Makes.{MakesOnOk};
+ghost use Rattle.gw_scan.specs.Visiting.{Acts, ActsOnOk, IsEntering, IsVisit, MayMake, Meets, after_entry, after_fall, with_mark};
 
 use crate::visit::{Visit, blocks_of};
-use gw_blocks::{Block, Fraction, Generate, Operand, Spread, Units};
-use gw_machine::{Machine, Made, active_subject, drawn_thousandths, end_by};
+use gw_blocks::{Block, Both, Fraction, Generate, Operand, Spread, Units};
+use gw_machine::{Machine, Made, active_subject, block_of, drawn_thousandths, end_by};
 use gw_members::Memory;
 use gw_num::Stream;
 use gw_step::{End, Placement};
@@ -224,6 +226,15 @@ impl Visit<'_> {
         Made::Step
     }
 
+    /// TRANSFER BOTH: the transaction enters, and goes on from there to one of two blocks.
+    fn transfer_to_either(&self, machine: &mut Machine, _both: Both) -> Made
+        requires { Meets self.now machine.old (Block.TransferBoth _both) }
+        ensures { Acts result self.now (Block.TransferBoth _both) machine.old machine.new }
+    {
+        machine.enter(self.tx, self.transaction, self.transaction.next);
+        Made::Step
+    }
+
     // THE END OF A TRANSACTION
 
     /// The transaction enters its TERMINATE block, the termination count falls, and it is destroyed.
@@ -268,6 +279,18 @@ impl Visit<'_> {
 
     // THE STEP
 
+    /// What the transaction does at its one next block; on Memory, nothing.
+    #[inline(always)]
+    pub(crate) fn meet(&self, machine: &mut Machine) -> Result<Made, Memory>
+        requires { MayMake self.now machine.old }
+        ensures { MakesOnOk result
+            (steps.meets_one self.now.verified.now self.now.tx.number self.now.transaction)
+            machine.old machine.new }
+    {
+        let block = block_of(blocks_of(self.verified), self.transaction.next).unwrap();
+        self.act(machine, block)
+    }
+
     /// What the transaction does at its next block, which is this one; on Memory, nothing.
     #[inline(always)]
     pub(crate) fn act(&self, machine: &mut Machine, block: &Block) -> Result<Made, Memory>
@@ -288,6 +311,7 @@ impl Visit<'_> {
             Block::Gate(gate) => self.gate(machine, *gate),
             Block::Transfer(target) => Ok(self.transfer(machine, *target)),
             Block::TransferByFraction(f) => Ok(self.transfer_by_fraction(machine, *f)),
+            Block::TransferBoth(both) => Ok(self.transfer_to_either(machine, *both)),
             Block::TransferToSubroutine(call) => Ok(self.call_subroutine(machine, *call)),
             Block::TransferByParameter(p) => Ok(self.come_back(machine, *p)),
             Block::Assign(assign) => Ok(self.assign(machine, *assign)),

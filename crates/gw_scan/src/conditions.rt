@@ -17,7 +17,7 @@ use gw_num::Stream;
 use gw_step::Placement;
 
 /// Whether two values compare so.
-fn compares(comparison: Comparison, left: i64, right: i64) -> bool
+pub(crate) fn compares(comparison: Comparison, left: i64, right: i64) -> bool
     ensures { result ≡ model.compares comparison left right }
 {
     match comparison {
@@ -45,7 +45,11 @@ fn led_by(block: u16, otherwise: Option<u16>, so: bool) -> u16
 
 impl Visit<'_> {
     /// The transaction is refused, with the streams here, and waits on the retry list.
-    fn wait_to_retry(&self, machine: &mut Machine, streams: &[Stream; 16]) -> Result<(), Memory>
+    pub(crate) fn wait_to_retry(
+        &self,
+        machine: &mut Machine,
+        streams: &[Stream; 16],
+    ) -> Result<(), Memory>
         requires { IsVisit self.now machine.old }
         ensures { BecomesOnOk result (λ s. placed self.now.tx.number Placement.JoinsRetryList
             (state.with_streams streams.now s)) machine.old machine.new }

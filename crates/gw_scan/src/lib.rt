@@ -3,6 +3,7 @@
 
 mod assigning;
 mod blocks;
+mod both;
 mod conditions;
 mod copying;
 mod linking;

@@ -1,15 +1,17 @@
 //! The scan: who is active next, and one step.
 
-ghost use Rattle.std.specs.Prelude.{◌≡◌, ◌<◌, ◌^◌, Some, OnOk, OnErr};
+ghost use Rattle.std.specs.Prelude.{◌≡◌, ◌<◌, ◌^◌, Some, None, false, OnOk, OnErr};
 ghost use Rattle.gw_step.specs.Step as model;
 ghost use Rattle.gw_machine.specs.View.{state_of};
 ghost use Rattle.gw_machine.specs.Coherence.{IsRunning};
 ghost use Rattle.gw_scan.specs.Makes.{MakesOnOk};
+ghost use Rattle.gw_scan.specs.Trying.{MakesOrUndoes};
 ghost use Rattle.gw_scan.specs.Visiting.{IsReady};
 
+use crate::both::{Before, undo};
 use crate::visit::{Visit, blocks_of};
 use gw_blocks::Block;
-use gw_machine::{Machine, Made, block_of};
+use gw_machine::{Machine, Made};
 use gw_members::Memory;
 use gw_rules::Verified;
 use gw_step::End;
@@ -33,10 +35,11 @@ fn next_active(machine: &mut Machine, blocks: &[Block]) -> Result<Made, Memory>
     }
 }
 
-/// What a step does, but for the count of steps.
-fn scan(machine: &mut Machine, verified: &Verified) -> Result<Made, Memory>
-    requires { IsReady verified.now machine.old }
-    ensures { MakesOnOk result (λ s. model.scan verified.now s.lists.active s)
+/// What a step does, but for the count of steps. Where it comes to nothing, what was done has to be undone.
+fn scan(machine: &mut Machine, verified: &Verified, before: &mut Before) -> Result<Made, Memory>
+    requires ready { IsReady verified.now machine.old }
+    requires before { before.old.turned ≡ false }
+    ensures { MakesOrUndoes result (λ s. model.scan verified.now s.lists.active s) before.new
         machine.old machine.new }
 {
     let tx = match machine.active() {
@@ -44,17 +47,31 @@ fn scan(machine: &mut Machine, verified: &Verified) -> Result<Made, Memory>
         None => return next_active(machine, blocks_of(verified)),
     };
     let transaction = machine.transaction(tx);
-    let block = block_of(blocks_of(verified), transaction.next).unwrap();
     let visit = Visit {
         verified,
         tx,
         transaction,
     };
-    visit.act(machine, block)
+    if let Some(made) = visit.turn_if_two(machine, before)? {
+        return Ok(made);
+    }
+    // Where it had two next blocks it has turned to one.
+    let transaction = machine.transaction(tx);
+    let onward = Visit {
+        verified,
+        tx,
+        transaction,
+    };
+    onward.meet(machine)
 }
 
-/// One step of a running job; on Memory nothing changes.
-pub(crate) fn step(machine: &mut Machine, verified: &Verified, budget: u64) -> Result<(), Memory>
+/// One step of a running job; on Memory nothing changes. What it would have to undo is kept in `before`.
+pub(crate) fn step(
+    machine: &mut Machine,
+    verified: &Verified,
+    budget: u64,
+    before: &mut Before,
+) -> Result<(), Memory>
     requires ready { IsReady verified.now machine.old }
     requires runs { machine.old.ended ≡ None }
     requires few { machine.old.steps < 2 ^ 60 }
@@ -63,9 +80,17 @@ pub(crate) fn step(machine: &mut Machine, verified: &Verified, budget: u64) -> R
     ensures slots { machine.new.last ≡ machine.old.last }
     ensures err { OnErr result (state_of machine.new ≡ state_of machine.old) }
 {
-    match scan(machine, verified)? {
-        Made::Step => machine.count_step(budget),
-        Made::Ends(end) => machine.end_by(end),
+    before.turned = false;
+    match scan(machine, verified, before) {
+        Ok(Made::Step) => machine.count_step(budget),
+        Ok(Made::Ends(end)) => {
+            undo(machine, before);
+            machine.end_by(end);
+        }
+        Err(memory) => {
+            undo(machine, before);
+            return Err(memory);
+        }
     }
     Ok(())
 }

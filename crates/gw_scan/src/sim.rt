@@ -1,12 +1,13 @@
 //! One job.
 
-ghost use Rattle.std.specs.Prelude.{◌≡◌, ◌≤◌, ◌<◌, pos, Some, length, sum, IfOk, IfErr, IsOk, OnErr};
+ghost use Rattle.std.specs.Prelude.{◌≡◌, ◌≤◌, ◌<◌, ◌-◌, ◌^◌, pos, Some, length, sum, IfOk, IfErr, IsOk, OnErr};
 ghost use Rattle.gw_num.specs.Table.{at};
 ghost use Rattle.gw_transactions.specs.Transactions.{here_count};
 ghost use Rattle.gw_step.specs.State.{delay_list, user_chain};
 ghost use Rattle.gw_step.specs.Job.{Alone, IsFinal, start_of};
 ghost use Rattle.gw_step.specs.Weight.{weight, most_weight};
 
+use crate::both::{Before, nothing_before};
 use crate::scan::step;
 use crate::spec::{Spec, StartFault};
 use crate::weight::certified_weight;
@@ -31,6 +32,8 @@ pub enum Status {
 pub struct Sim {
     pub(crate) spec: Spec,
     pub(crate) machine: Machine,
+    /// What a step has to undo where it comes to nothing; between steps it says nothing.
+    before: Before,
 }
 
 impl Model for Sim {
@@ -57,7 +60,14 @@ impl Sim {
         ensures refused { IfErr result (λ e. (e.0 ≡ spec) × (e.1 ≡ StartFault.Memory)) }
     {
         match Machine::start(alloc, spec.verified(), spec.count(), spec.streams()) {
-            Ok(machine) => Ok(Sim { spec, machine }),
+            Ok(machine) => {
+                let before = nothing_before(machine.streams());
+                Ok(Sim {
+                    spec,
+                    machine,
+                    before,
+                })
+            }
             Err(_) => Err((spec, StartFault::Memory)),
         }
     }
@@ -81,7 +91,7 @@ impl Sim {
         }
         let verified = self.spec.verified();
         let budget = self.spec.budget();
-        step(&mut self.machine, verified, budget)?;
+        step(&mut self.machine, verified, budget, &mut self.before)?;
         Ok(self.status())
     }
 
@@ -108,11 +118,11 @@ impl Sim {
     /// the places of all live transactions, but those that are scheduled for later, and of what is owed
     /// (ours: docs/weights.md). It takes no memory.
     ///
-    /// At most 65,536 are live and at most 4,096 blocks owe fewer than 2^32 arrivals each, all at places of 10^9 at most; so it
-    /// is below 2^74.
+    /// At most 65,536 are live, each at a place of 10^9 at most with a slope of 10^9 at most, which a parameter below 2^63
+    /// multiplies; and at most 4,096 blocks owe fewer than 2^32 arrivals each, of 10^9 at most. So it is below 2^109.
     pub fn weight(&self) -> u128
         ensures value { result ≡ weight self.now.job.parts self.now.state }
-        ensures range { result ≤ most_weight }
+        ensures range { result ≤ most_weight (2 ^ 63 - 1) }
     {
         let parts = self.spec.verified().object().parts();
         certified_weight(parts, &self.machine)

@@ -4,7 +4,9 @@ ghost use Rattle.std.specs.Prelude.{◌≡◌, length};
 ghost use Rattle.gw_transactions.specs.Transactions.{live_count};
 ghost use Rattle.gw_step.specs.Changes.{facility};
 ghost use Rattle.gw_scan.specs.Views.{active_attributes, delayed_in};
+ghost use Rattle.gw_scan.specs.Views as model;
 
+use crate::both::two_next;
 use crate::sim::Sim;
 use gw_transactions::Transaction;
 
@@ -51,6 +53,15 @@ impl Sim {
     {
         let tx = self.machine.active()?;
         Some(self.machine.transaction(tx))
+    }
+
+    /// The two blocks that the active transaction tries, by their numbers from 1, if it has two: those of the TRANSFER BOTH that
+    /// it has entered and not left.
+    pub fn next_pair(&self) -> Option<(u16, u16)>
+        ensures { result ≡ model.next_pair self.now.job.parts self.now.state }
+    {
+        let transaction = self.active_transaction()?;
+        two_next(self.spec().verified().object().parts(), transaction)
     }
 
     /// The number of the transaction that owns a facility, which is given by its number from 0 as an entity; nobody owns

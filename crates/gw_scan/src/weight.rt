@@ -1,60 +1,121 @@
 //! The certified weight of a state: how many block entries may still be made in its clock moment (ours: docs/weights.md).
 
-ghost use Rattle.std.specs.Prelude.{◌≡◌, ◌≤◌, ◌<◌, ◌+◌, ◌*◌, ◌^◌, length, sum, sum_by, None};
-ghost use Rattle.std.specs.List.{AllByRecursion};
+ghost use Rattle.std.specs.Prelude.{◌≡◌, ◌≤◌, ◌+◌, ◌*◌, ◌^◌, length, sum, sum_by, None, IfSome};
 ghost use Rattle.std.specs.Option.{option_copied};
 ghost use Rattle.gw_num.specs.Table.{at, tabulate};
+ghost use Rattle.gw_object.specs.Limits.{most_blocks, greatest_weight};
+ghost use Rattle.gw_object.specs.Grammar.{HasSpelling, SlopeFits};
 ghost use Rattle.gw_transactions.specs.Transactions.{Holds, live_count};
 ghost use Rattle.gw_rules.specs.Kinds.{block_at};
 ghost use Rattle.gw_rules.specs.Weights as certified;
-ghost use Rattle.gw_step.specs.Places.{place_of};
+ghost use Rattle.gw_step.specs.Turning.{two_next as two_next_of};
 ghost use Rattle.gw_step.specs.Weight as model;
 ghost use Rattle.gw_machine.specs.View.{state_of};
 ghost use Rattle.gw_machine.specs.Coherence.{IsHeld};
-ghost use Rattle.gw_scan.specs.Weighing.{later_weight, owed_weight};
+ghost use Rattle.gw_scan.specs.Weighing.{greatest_value, heaviest, later_weight, later_weights, owed_weight};
 
+use crate::both::two_next;
 use gw_blocks::{Block, Generate};
 use gw_machine::{Machine, block_of};
 use gw_members::{Event, Tx};
-use gw_object::Parts;
-use gw_rules::{chain_weight, takes_time, weight_at};
-use gw_transactions::Transactions;
+use gw_object::{Parts, Slope};
+use gw_rules::{above, chain_weight, slope_at, takes_time, weight_at};
+use gw_transactions::{Parameters, Transaction, Transactions};
 
-/// The weight of a place: of the user chain that who is there is a member of, else of the block that it is about to enter.
-fn place_weight(parts: &Parts, chain: Option<u16>, next: u16) -> u32
-    ensures { result ≡ certified.weight_of parts.now (place_of chain next) }
+/// How far a parameter is above 0; one that isn't set counts as 0.
+fn height(parameters: &Parameters, number: u8) -> u64
+    ensures value { result ≡ model.height number parameters.now.values }
+    ensures bound { result ≤ greatest_value }
 {
-    match chain {
-        Some(chain) => chain_weight(parts, chain),
-        None => weight_at(parts.weights.as_slice(), next),
+    match parameters.get_if_set(number) {
+        None => 0,
+        Some(value) => above(value),
+    }
+}
+
+/// What a slope adds to a weight, where these are the parameters.
+fn added(slope: Option<Slope>, parameters: &Parameters) -> u128
+    requires { IfSome slope SlopeFits }
+    ensures value { result ≡ model.added slope parameters.now.values }
+    ensures bound { result ≤ greatest_weight * greatest_value }
+{
+    match slope {
+        None => 0,
+        Some((number, per_unit)) => per_unit as u128 * height(parameters, number) as u128,
+    }
+}
+
+/// The weight of a transaction with these parameters that is about to enter the block of this number, from 1.
+fn weight_before(parts: &Parts, number: u16, parameters: &Parameters) -> u128
+    requires { HasSpelling parts.now }
+    ensures value { result ≡ model.weighs_there parts.now number parameters.now.values }
+    ensures bound { result ≤ heaviest }
+{
+    let weight = weight_at(parts.weights.as_slice(), number);
+    let slope = slope_at(parts.slopes.as_slice(), number);
+    weight as u128 + added(slope, parameters)
+}
+
+/// The weight of a transaction with these parameters that is about to enter one of two blocks: that before the heavier.
+fn heavier(parts: &Parts, pair: (u16, u16), parameters: &Parameters) -> u128
+    requires { HasSpelling parts.now }
+    ensures value { result ≡ model.heavier parts.now pair parameters.now.values }
+    ensures bound { result ≤ heaviest }
+{
+    weight_before(parts, pair.0, parameters).max(weight_before(parts, pair.1, parameters))
+}
+
+/// The weight of a transaction where it is: of the user chain that it is a member of, else before the block that it is about
+/// to enter, or before the heavier of two.
+fn place_weight(
+    parts: &Parts,
+    chain: Option<u16>,
+    transaction: Transaction,
+    parameters: &Parameters,
+) -> u128
+    requires { HasSpelling parts.now }
+    ensures value { result ≡ model.weight_by parts.now chain transaction.next
+        (two_next_of parts.now transaction) parameters.now.values }
+    ensures bound { result ≤ heaviest }
+{
+    if let Some(chain) = chain {
+        return chain_weight(parts, chain) as u128;
+    }
+    match two_next(parts, transaction) {
+        None => weight_before(parts, transaction.next, parameters),
+        Some(pair) => heavier(parts, pair, parameters),
     }
 }
 
 /// The weights of the places of all live transactions together, of those too that are scheduled for later.
 fn weight_of_all(parts: &Parts, transactions: &Transactions) -> u128
-    requires { live_count transactions.now.txs ≤ 2 ^ 62 }
+    requires spelled { HasSpelling parts.now }
+    requires live { live_count transactions.now.txs ≤ 65536 }
     ensures value { result ≡ sum_by (model.weight_in parts.now) transactions.now.txs }
-    ensures bound { result ≤ 2 ^ 94 }
+    ensures bound { result ≤ 65536 * heaviest }
 {
     let mut weight = 0u128;
-    for (transaction, chain) in transactions.iter() {
-        weight += place_weight(parts, chain, transaction.next) as u128;
+    for (transaction, chain, parameters) in transactions.iter() {
+        weight += place_weight(parts, chain, *transaction, parameters);
     }
     weight
 }
 
 /// The weight of the place of a transaction.
-fn weight_of(parts: &Parts, transactions: &Transactions, tx: Tx) -> u32
-    requires { Holds transactions.now tx }
+fn weight_of(parts: &Parts, transactions: &Transactions, tx: Tx) -> u128
+    requires spelled { HasSpelling parts.now }
+    requires held { Holds transactions.now tx }
     ensures { result ≡ model.weight_in parts.now (at None transactions.now.txs tx.number) }
 {
     let chain = transactions.chain(tx);
-    place_weight(parts, chain, transactions.get(tx).next)
+    let parameters = transactions.parameters(tx);
+    place_weight(parts, chain, *transactions.get(tx), parameters)
 }
 
 /// The weight of the place of the transaction of an event, where it is scheduled for a time after the clock; else 0.
-fn weight_if_later(parts: &Parts, machine: &Machine, event: &Event) -> u32
-    requires { IsHeld machine.now.transactions event.now }
+fn weight_if_later(parts: &Parts, machine: &Machine, event: &Event) -> u128
+    requires spelled { HasSpelling parts.now }
+    requires held { IsHeld machine.now.transactions event.now }
     ensures { result
         ≡ later_weight parts.now machine.now.transactions.txs machine.now.clock event.now }
 {
@@ -67,12 +128,13 @@ fn weight_if_later(parts: &Parts, machine: &Machine, event: &Event) -> u32
 
 /// The weights of the places of those together that are scheduled for a time after the clock.
 fn weight_of_later(parts: &Parts, machine: &Machine) -> u128
-    ensures { result
-        ≡ sum_by (later_weight parts.now machine.now.transactions.txs machine.now.clock) machine.now.future_events.items }
+    requires spelled { HasSpelling parts.now }
+    requires bound { later_weights parts.now machine.now ≤ model.most_weight greatest_value }
+    ensures { result ≡ later_weights parts.now machine.now }
 {
     let mut weight = 0u128;
     for event in machine.future_events().iter() {
-        weight += weight_if_later(parts, machine, event) as u128;
+        weight += weight_if_later(parts, machine, event);
     }
     weight
 }
@@ -101,8 +163,10 @@ fn owed_by(block: Option<&Block>, scheduled: u64) -> u32
 
 /// What the arrivals weigh that the block of this number, from 1, still owes, where so many of it were scheduled.
 fn owed_at(parts: &Parts, number: u16, scheduled: u64) -> u64
-    ensures { result
+    requires { HasSpelling parts.now }
+    ensures value { result
         ≡ model.owed_by (block_at parts.now.blocks number) scheduled * certified.weight_at parts.now.weights number }
+    ensures bound { result ≤ 2 ^ 32 * greatest_weight }
 {
     let owed = owed_by(block_of(parts.blocks.as_slice(), number), scheduled);
     owed as u64 * weight_at(parts.weights.as_slice(), number) as u64
@@ -111,10 +175,11 @@ fn owed_at(parts: &Parts, number: u16, scheduled: u64) -> u64
 /// What the arrivals weigh together that GENERATE blocks still owe, where so many of each block, by its number, were
 /// scheduled.
 fn weight_owed(parts: &Parts, scheduled: &[u64]) -> u128
-    requires { length scheduled.now ≤ 4097 }
+    requires spelled { HasSpelling parts.now }
+    requires whole { length scheduled.now ≡ length parts.now.blocks + 1 }
     ensures value { result
         ≡ sum (tabulate (owed_weight parts.now scheduled.now) (length scheduled.now)) }
-    ensures bound { result ≤ 4097 * 2 ^ 64 }
+    ensures bound { result ≤ most_blocks * 2 ^ 32 * greatest_weight }
 {
     let mut weight = 0u128;
     for (number, count) in scheduled.iter().enumerate() {
@@ -126,9 +191,11 @@ fn weight_owed(parts: &Parts, scheduled: &[u64]) -> u128
 /// The certified weight of the state that a machine of these parts is in: the weights of the places of all live
 /// transactions, but those that are scheduled for a time after the clock, and what GENERATE blocks still owe.
 pub(crate) fn certified_weight(parts: &Parts, machine: &Machine) -> u128
+    requires spelled { HasSpelling parts.now }
+    requires live { live_count machine.now.transactions.txs ≤ 65536 }
     requires whole { length machine.now.scheduled ≡ length parts.now.blocks + 1 }
-    requires blocks { length parts.now.blocks ≤ 4096 }
-    ensures { result ≡ model.weight parts.now (state_of machine.now) }
+    ensures value { result ≡ model.weight parts.now (state_of machine.now) }
+    ensures range { result ≤ model.most_weight greatest_value }
 {
     let all = weight_of_all(parts, machine.transactions());
     let owed = weight_owed(parts, machine.scheduled());

@@ -47,7 +47,8 @@ use Rattle.gw_rules.specs.declared.ways.Way.TheVariants.{Falls}
 use Rattle.gw_step.proofs.Drawn.{IsSound, AreRead, IsDrawn, safe_drawn}
 use Rattle.gw_step.proofs.Asked.{interval_read}
 use Rattle.gw_step.proofs.AtBlock.{first_may_be_entered}
-use Rattle.gw_step.proofs.Moving.{Acts, Enters, safe_leads, at_first, the_rule, falls_paid}
+use Rattle.gw_step.proofs.Paying.{one_plain, its_weight, first_paid}
+use Rattle.gw_step.proofs.Moving.{Acts, Enters, safe_leads, at_first, the_rule}
 use Rattle.gw_step.proofs.Calling.{some_of}
 use Rattle.gw_step.proofs.PlainBlocks.{by_arrival}
 use Rattle.gw_step.proofs.Attributes.{attributes-past, chain-past}
@@ -106,7 +107,7 @@ module _ (p : Parts) (sound : IsSound p) (s : State) (n : ℕ) (t : Transaction)
         trace = trace_on p h.trace
             (Then (Goes n (t.next + 1) t (record t { mark = s.clock }) (blocks.Generate g) row row after.entities
             (record { found = h.found; block_is = acts.is.block_is; row_is = acts.is.row_is; free = h.free }) (record { next = refl; mark = λ clock mark. subst (λ z. pos 0 ≤ℤ z) h.clock clock })
-            (present after.lists n (h.active ∙ acts.active)) (all_as_known row empty_row (parameters_of n after)) (at_first _ []) may (balanced-nothing p n row after.entities) (falls_paid p s n t (blocks.Generate g) row acts Falls [] refl 0)) Done);
+            (present after.lists n (h.active ∙ acts.active)) (all_as_known row empty_row (parameters_of n after)) (at_first _ []) may (balanced-nothing p n row after.entities) (λ weighted. omega (arith, first_paid p t.next (blocks.Generate g) row acts.is.block_is acts.is.row_is Falls [] refl (parameters_of n after) (parameters_of n after) (λ q. refl) 0 weighted, its_weight p after.transactions n t (blocks.Generate g) row (record { found = h.found; block_is = acts.is.block_is; row_is = acts.is.row_is; free = h.free }) (one_plain p t (blocks.Generate g) acts.is.block_is refl)))) Done);
         may = tt;
         settles = refl;
         few_entries = omega arith;

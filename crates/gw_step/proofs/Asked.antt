@@ -1,5 +1,5 @@
 -- Where operands are evaluated, the parameters are set that they ask for.
-use Rattle.std.proofs.Common.{◌≡◌, ℕ, ℤ, [], ◌∷◌, Option, Some, None, true, refl, sym, ap, ◌∙◌, subst}
+use Rattle.std.proofs.Common.{◌≡◌, ℕ, ℤ, [], ◌∷◌, Option, Some, None, true, refl, sym, ap, ◌∙◌, subst, arith}
 use Rattle.std.specs.Prelude.{All}
 use Rattle.gw_blocks.specs.declared.parts.Generate.{Generate}
 use Rattle.gw_blocks.specs.declared.parts.Block.{Block}
@@ -23,6 +23,9 @@ use Rattle.gw_step.specs.Times.{environment_of, environment_of_next, parameters_
 use Rattle.gw_step.specs.Operands.{environment_at}
 use Rattle.gw_step.specs.Typing.{IsAsKnown, WellTyped}
 use Rattle.gw_step.proofs.Traces.{none_known, its_parameters, present, present_free}
+use Rattle.gw_rules.specs.WeightsLaws.{Weighted}
+use Rattle.gw_step.specs.Turning.{two_next}
+use Rattle.gw_step.proofs.Paying.{its_weight}
 use Rattle.gw_step.proofs.Moving.{Acts, the_rule}
 use Rattle.gw_step.proofs.Calling.{some_of, is_at}
 use Rattle.gw_step.proofs.Effects.{value_is_set}
@@ -66,7 +69,7 @@ module _ (p : Parts) (entities : All (EntityHolds p) p.entities) where
         interval_read b g row.0 (each_block b (blocks.Generate g) is) pass (the_rule p b codes.edge_state (is_empty row.0) (blocks.Generate g) row.0 refl pass)
 
     -- the active transaction of a well-typed state at its block
-    pub acts_at : (s : State) → WellTyped p s → (n : ℕ) (t : Transaction) (block : Block) → s.lists.active ≡ Some n → attributes_at n s.transactions ≡ Some t → block_at p.blocks t.next ≡ Some block → (row : Row) × Acts p s n t block row
-    acts_at s ty n t block active found there =
+    pub acts_at : (s : State) → WellTyped p s → (n : ℕ) (t : Transaction) (block : Block) → s.lists.active ≡ Some n → attributes_at n s.transactions ≡ Some t → block_at p.blocks t.next ≡ Some block → (Weighted p → two_next p t ≡ None) → (row : Row) × Acts p s n t block row
+    acts_at s ty n t block active found there one =
         let row = is_at p each_block flow s ty n t block found (present_free p s.transactions s.lists s.entities ty n (present s.lists n active)) there in
-        (row.0, record { typed = ty; active = active; is = row.1; kinds = each_block t.next block there; flow = flow.each_row t.next block row.0 there row.1.row_is })
+        (row.0, record { typed = ty; active = active; is = row.1; kinds = each_block t.next block there; flow = flow.each_row t.next block row.0 there row.1.row_is; weighs = λ weighted. omega (arith, its_weight p s.transactions n t block row.0 row.1 (one weighted)) })

@@ -1,6 +1,6 @@
 -- What a list of elementary changes keeps of the bounds of a state: capacities, numbers, limits, how many live.
 use Rattle.gw_step.specs.Blocks.{is_owed}
-use Rattle.gw_step.proofs.Traces.{storages-later, Rested, credited, Change, Goes, EntersLast, GoesWith, Arrives, Copied, Rests, Called, Assembled, Comes, Unlinked, Woken, Activates, ClockMoves, Draws, Counts, Marks, Trace, Done, Then}
+use Rattle.gw_step.proofs.Traces.{storages-later, Rested, credited, Change, Goes, EntersLast, Turns, GoesWith, Arrives, Copied, Rests, Called, Assembled, Comes, Unlinked, Woken, Activates, ClockMoves, Draws, Counts, Marks, Trace, Done, Then}
 use Rattle.gw_transactions.specs.Transactions.{LiveTransaction, made_with, with_attributes, with_parameter, with_chain, put_attributes, put_parameter, put_chain, live_count}
 use Rattle.std.proofs.Common.{◌≡◌, ℕ, suc, ◌+◌, ◌≤◌, ◌≤ℤ◌, ℤ, pos, ◌-ℤ◌, List, length, Option, Some, None, true, is_some, refl, sym, ap, ◌∙◌, subst, arith, option_map}
 use Rattle.std.specs.Prelude.{unsigned_abs, IfSome}
@@ -23,7 +23,7 @@ use Rattle.gw_step.specs.Numbers.{IsWithin, AreWithinLimits, AreFewLive}
 use Rattle.gw_step.specs.State.{EntityStates, State, raised}
 use Rattle.gw_step.specs.Changes.{newcomer, assigned, time_passes}
 use Rattle.gw_step.proofs.Residence.{one_if}
-use Rattle.gw_step.proofs.Within.{raises-same, mark_from, within-entered, within-assigned, within-destroyed, within-retries, within-woken, within-counted, within-arrives, within-rests, within-streams, within-waits, within-called, within-active, within-ended, within-ahead, within-behind, within-copied, within-awaits, within-assembled, within-come, within-linked, within-unlinked}
+use Rattle.gw_step.proofs.Within.{raises-same, mark_from, within-entered, within-turned, within-assigned, within-destroyed, within-retries, within-woken, within-counted, within-arrives, within-rests, within-streams, within-waits, within-called, within-active, within-ended, within-ahead, within-behind, within-copied, within-awaits, within-assembled, within-come, within-linked, within-unlinked}
 use Rattle.gw_step.proofs.Follows.{block_below, within-clock}
 use Rattle.gw_step.proofs.Placed.{placed_at-leaves}
 use Rattle.gw_step.specs.Times.{parameters_of}
@@ -103,6 +103,8 @@ module _ (p : Parts) where
       within-entered (length p.blocks) (length p.entities) en ar s w n u to h (omega (arith, same.next, block_below p.blocks t.next block is.block_is)) (number_below s.transactions n t is.found) (same.mark w.clock (mark_from s.transactions n t w.marked is.found)) (balance.raises w.whole.entity_tables)
   change-within (EntersLast {en = en} {ar = ar} {s = s} n t block row is here pays) w =
       within-entered (length p.blocks) (length p.entities) en ar s w n t t.next s.entities (block_below p.blocks t.next block is.block_is) (number_below s.transactions n t is.found) (mark_from s.transactions n t w.marked is.found) (raises-same s.entities)
+  change-within (Turns {en = en} {ar = ar} {s = s} n to t block row is here along may pays) w =
+      within-turned (length p.blocks) (length p.entities) en ar s w n to t (number_below s.transactions n t is.found) (mark_from s.transactions n t w.marked is.found)
   change-within (GoesWith {en = en} {ar = ar} {s = s} n to q value t block row state is here known along may balance pays) w =
       let before = within-assigned (length p.blocks) (length p.entities) en ar s w n q value (number_below s.transactions n t is.found) in
       within-entered (length p.blocks) (length p.entities) en ar (assigned n q value s) before n t to s.entities (block_below p.blocks t.next block is.block_is) (number_below (put_parameter n q value s.transactions) n t (attributes-parameter s.transactions n q value ∙ is.found)) (mark_from s.transactions n t w.marked is.found) (raises-same s.entities)
@@ -162,6 +164,7 @@ trace-limits p = along p (λ (s : State). AreWithinLimits p.blocks s.scheduled) 
 change-live : (p : Parts) {en ar c en' ar' c' : ℕ} {s t : State} → Change p en ar c s en' ar' c' t → AreFewLive s.transactions → AreFewLive t.transactions
 change-live p (Goes {s = s} n to t u block row state h is same here known along may balance pays) l = record { live = omega (arith, l.live, entered-live s.transactions n (record u { current = u.next; next = to })) }
 change-live p (EntersLast {s = s} n t block row is here pays) l = record { live = omega (arith, l.live, entered-live s.transactions n (record t { current = t.next })) }
+change-live p (Turns {s = s} n to t block row is here along may pays) l = record { live = omega (arith, l.live, entered-live s.transactions n (record t { next = to })) }
 change-live p (GoesWith {s = s} n to q value t block row state is here known along may balance pays) l =
     record { live = omega (arith, l.live, assigned-live s.transactions n q value, entered-live (put_parameter n q value s.transactions) n (record t { current = t.next; next = to })) }
 change-live p (Arrives {s = s} b g row priority time block is none later passes owed few) l =

@@ -31,7 +31,8 @@ use Rattle.gw_step.proofs.Traces.{IsAt, place-free, its_chain, its_parameters, w
 use Rattle.gw_step.proofs.AtBlock.{first_may_be_entered, is_storage, kind_below}
 use Rattle.gw_step.proofs.Operands.{good_units}
 use Rattle.gw_step.proofs.Moving.{at_first, unchanged}
-use Rattle.gw_step.proofs.Paying.{first_paid}
+use Rattle.gw_step.specs.Times.{parameters_of}
+use Rattle.gw_step.proofs.Paying.{one_plain, its_weight, first_paid}
 use Rattle.gw_rules.specs.declared.ways.Way.TheVariants.{Falls}
 use Rattle.gw_transactions.specs.Transactions.{attributes_at, chain_of}
 use Rattle.gw_step.proofs.Attributes.{bearer_at}
@@ -70,7 +71,7 @@ module _ (p : Parts) (each_block : (b : ℕ) (block : Block) → block_at p.bloc
   taken_over k ar s ty f w t below idle waits live there =
       let found = is_at s ty w t (blocks.Seize f) live (waiting_free p s.transactions s.lists s.entities ty f w waits) there in
       Then (Called f w waits below)
-      (Then (Goes w (t.next + 1) t t (blocks.Seize f) found.0 (with_facility f found.0) (put_facility f (seized w (facility f s)) s).entities found.1 (unchanged (called_from f w s) t) (called_is_present f w s) (its_parameters p s ty w t (blocks.Seize f) found.0 found.1) (at_first _ []) (first_may_be_entered p t.next _ [] (each_block t.next (blocks.Seize f) there).exits) (balanced-seize p w f found.0 s.entities below idle) (first_paid p t.next (blocks.Seize f) found.0 there found.1.row_is Falls [] refl 0)) Done)
+      (Then (Goes w (t.next + 1) t t (blocks.Seize f) found.0 (with_facility f found.0) (put_facility f (seized w (facility f s)) s).entities found.1 (unchanged (called_from f w s) t) (called_is_present f w s) (its_parameters p s ty w t (blocks.Seize f) found.0 found.1) (at_first _ []) (first_may_be_entered p t.next _ [] (each_block t.next (blocks.Seize f) there).exits) (balanced-seize p w f found.0 s.entities below idle) (λ weighted. omega (arith, first_paid p t.next (blocks.Seize f) found.0 there found.1.row_is Falls [] refl (parameters_of w s) (parameters_of w s) (λ q. refl) 0 weighted, its_weight p s.transactions w t (blocks.Seize f) found.0 found.1 (one_plain p t (blocks.Seize f) there refl)))) Done)
 
   pub handed_over : (k ar : ℕ) (s : State) → WellTyped p s → (f : ℕ) (ws : List ℕ) → f < length p.entities → is_idle (facility f s) ≡ true → ((m : ℕ) → occurrences m ws ≤ occurrences m (delay_list f s)) → Trace p (suc k) ar 0 s (suc k) ar 0 (hand_over p.blocks f ws s)
   handed_over k ar s ty f [] below idle among = Done
@@ -102,7 +103,7 @@ module _ (p : Parts) (each_block : (b : ℕ) (block : Block) → block_at p.bloc
       record {
         trace = Then (Called u.entity w waits (kind_below p.entities u.entity (kinds.Storage kind.0) kind.1))
             (Then (Goes w (t.next + 1) t t (blocks.Enter u) found.0 (with_units u.entity (units_of found.0 u.entity + u.number) found.0) (put_storage u.entity (storages.entered u.number (storage u.entity s)) s).entities found.1 (unchanged (called_from u.entity w s) t) (called_is_present u.entity w s) (its_parameters p s ty w t (blocks.Enter u) found.0 found.1) (at_first _ []) (first_may_be_entered p t.next _ [] holds.exits)
-            (balanced-storage p w u.entity (units_of found.0 u.entity + u.number) (storages.entered u.number (storage u.entity s)) found.0 s.entities kind.0 kind.1 refl (omega arith) (λ _. leb-true _ _ free) (came_in u.number _) (omega (arith, (good_units p needed.Storage u holds.entities holds.constants).number))) (first_paid p t.next (blocks.Enter u) found.0 there found.1.row_is Falls [] refl 0)) Done);
+            (balanced-storage p w u.entity (units_of found.0 u.entity + u.number) (storages.entered u.number (storage u.entity s)) found.0 s.entities kind.0 kind.1 refl (omega arith) (λ _. leb-true _ _ free) (came_in u.number _) (omega (arith, (good_units p needed.Storage u holds.entities holds.constants).number))) (λ weighted. omega (arith, first_paid p t.next (blocks.Enter u) found.0 there found.1.row_is Falls [] refl (parameters_of w s) (parameters_of w s) (λ q. refl) 0 weighted, its_weight p s.transactions w t (blocks.Enter u) found.0 found.1 (one_plain p t (blocks.Enter u) there refl)))) Done);
         left = λ m. omega (arith, occurrences-without m w old waits, ap (occurrences m) (at-put [] s.lists.delay_lists u.entity (without w old)));
       }
 

@@ -19,7 +19,7 @@ use Rattle.gw_step.specs.Numbers.{AreFewLive}
 use Rattle.gw_step.specs.Typing.{WellTyped}
 use Rattle.gw_step.proofs.Residence.{one_if, same_number, at_most_one, occurrences-append}
 use Rattle.gw_step.proofs.Within.{sum-raised}
-use Rattle.gw_step.proofs.Traces.{Change, Goes, EntersLast, GoesWith, Arrives, Copied, Rests, Called, Assembled, Comes, Unlinked, Woken, Activates, ClockMoves, Draws, Counts, Marks, Trace, Done, Then}
+use Rattle.gw_step.proofs.Traces.{Change, Goes, EntersLast, Turns, GoesWith, Arrives, Copied, Rests, Called, Assembled, Comes, Unlinked, Woken, Activates, ClockMoves, Draws, Counts, Marks, Trace, Done, Then}
 use Rattle.gw_step.proofs.Placed.{placed_at-leaves, placed-leaves}
 use Rattle.gw_step.proofs.Bounds.{written-live}
 
@@ -182,6 +182,7 @@ placed_grows n placement s t grows = subst (λ xs. sum s.entries + 1 ≤ sum xs)
 change-grows : (p : Parts) {en ar c en' ar' c' : ℕ} {s t : State} → Change p en ar c s en' ar' c' t → sum s.entries ≤ sum t.entries
 change-grows p (Goes {s = s} n to t u block row state h is same here known along may balance pays) = omega (arith, sum-raised u.next s.entries)
 change-grows p (EntersLast {s = s} n t block row is here pays) = omega (arith, sum-raised t.next s.entries)
+change-grows p (Turns n to t block row is here along may pays) = omega arith
 change-grows p (GoesWith {s = s} n to q value t block row state is here known along may balance pays) = omega (arith, sum-raised t.next s.entries)
 change-grows p (Arrives b g row priority time block is none later passes owed few) = omega arith
 change-grows p (Rests {s = s} n placement may settles) = omega (arith, ap (λ (xs : List ℕ). sum xs) (placed_at-leaves n placement s).entries)

@@ -27,11 +27,12 @@ use Rattle.gw_step.specs.Outcome.{Outcome, Gives, EndsBy, HasNoCase, ◌>>=◌, 
 use Rattle.gw_step.specs.State.{FutureEvent, Assembly, State, may_enter, with_streams, delay_list, user_chain}
 use Rattle.gw_step.specs.Times.{environment_of, environment_of_next, moment_after, drawn_moment}
 use Rattle.gw_step.specs.Changes.{copied, copies_made, assembled, come_to, leaves_chain, entered, enters_and_falls, assigned, arrives, facility, storage, queue, switch, savevalue, put_facility, put_storage, put_queue, put_switch, put_savevalue, table, put_table, end_at, woken}
-use Rattle.gw_step.specs.declared.placement.Placement.TheVariants.{StaysActive}
+use Rattle.gw_step.specs.declared.placement.Placement.TheVariants.{StaysActive, JoinsRetryList}
 use Rattle.gw_step.specs.Placing.{placed, woken_if_stirred}
 use Rattle.gw_step.specs.Typing.{IsWoken}
-use Rattle.gw_step.specs.Blocks.{refuses, refusal, is_owed, next_arrival, chosen, passes_test, is_so, led_by, block_after, put_by, looped, switch_after, the_value, plus, split, assembly_at, joined_by_one, first_unlinked, unlinked, taken_by, unlink, assemble_in, assemble, is_priority, effect, then_placed, meets, act}
-use Rattle.gw_step.specs.Step.{next_event, next_active, scan}
+use Rattle.gw_step.specs.Blocks.{refuses, refused_placement, is_owed, next_arrival, chosen, passes_test, is_so, led_by, block_after, put_by, looped, switch_after, the_value, plus, split, assembly_at, joined_by_one, first_unlinked, unlinked, taken_by, unlink, assemble_in, assemble, is_priority, effect, then_placed, meets, act}
+use Rattle.gw_step.specs.Turning.{two_next, towards, turned}
+use Rattle.gw_step.specs.Step.{next_event, next_active, meets_one, refusal, tries, goes_on, scan}
 use Rattle.gw_step.proofs.Outcomes.{OnGives, on_bind, on_test, on_if, on_both, choose, by_option}
 use Rattle.gw_step.proofs.Placed.{Leaves, placed-leaves}
 use Rattle.gw_step.proofs.Follows.{Stays, stays-same, stays-then, stays-hand_over, stays-admission}
@@ -186,6 +187,8 @@ module _ (s : State) where
   effect_counted p n t (blocks.Transfer target) values = on_test Entered (may_enter (block_at p.blocks target)) _ (passed (entered n t target s) refl refl refl refl)
   effect_counted p n t (blocks.TransferByFraction f) values =
       on_test Entered (may_enter (block_at p.blocks (chosen t.next f (the_value values)))) _ (passed (entered n t (chosen t.next f (the_value values)) s) refl refl refl refl)
+  effect_counted p n t (blocks.TransferBoth two) values =
+      on_test Entered (may_enter (block_at p.blocks (leads_to t.next (goes_or_falls two.first)))) _ (on_test Entered (may_enter (block_at p.blocks two.second)) _ (passed (entered n t t.next s) refl refl refl refl))
   effect_counted p n t (blocks.TransferToSubroutine c) values =
       on_test Entered (may_enter (block_at p.blocks c.target)) _ (passed (entered n t c.target (assigned n c.parameter (pos t.next) s)) refl refl refl refl)
   effect_counted p n t (blocks.TransferByParameter q) values =
@@ -216,8 +219,8 @@ module _ (s : State) where
 
   meets_scans : (p : Parts) (n : ℕ) (t : Transaction) (block : Block) (values : List ℤ) → s.lists.active ≡ Some n → OnGives (Scans s) (meets p n t block values s)
   meets_scans p n t block values active =
-      on_if (Scans s) (refuses n block values s) (Gives (placed n (refusal block) s)) (then_placed n (effect p n t block values s))
-      (record { counted = counted_same s _ (placed-leaves n (refusal block) s); woken = placed_wakes n (refusal block) s active })
+      on_if (Scans s) (refuses n block values s) (Gives (placed n (refused_placement block) s)) (then_placed n (effect p n t block values s))
+      (record { counted = counted_same s _ (placed-leaves n (refused_placement block) s); woken = placed_wakes n (refused_placement block) s active })
       (on_both Entered (Scans s) (effect p n t block values s) _ (effect_counted p n t block values) (λ e h.
       let left = placed-leaves n e.1 e.0 in
       record { counted = counted_then s e.0 _ h.counted left.steps left.ended left.count; woken = placed_wakes n e.1 e.0 (h.active ∙ active) }))
@@ -239,11 +242,42 @@ next_scans : (s : State) (ns : List ℕ) → OnGives (Scans s) (next_active ns s
 next_scans s [] = event_scans s s.lists.future_events
 next_scans s (n ∷ ns) = record { counted = record { steps = refl; ended = inl (refl, refl) }; woken = λ none. absurd cc }
 
+meets_one_scans : (p : Parts) (n : ℕ) (t : Transaction) (s : State) → s.lists.active ≡ Some n → OnGives (Scans s) (meets_one p n t s)
+meets_one_scans p n t s active = on_bind (Scans s) (case_of (block_at p.blocks t.next)) (λ block. act p n t block s) (λ block _. act_scans p n t block s active)
+
+-- what a scan leaves from a state that differs from another in its transactions and streams alone
+scans_from : (s u t : State) → u.steps ≡ s.steps → u.ended ≡ s.ended → u.count ≡ s.count → Scans u t → Scans s t
+scans_from s u t steps ended count h = record {
+  counted = record {
+    steps = h.counted.steps ∙ steps;
+    ended = elim h.counted.ended [
+      | inl same ↦ inl (same.0 ∙ ended, same.1 ∙ count)
+      | inr brought ↦ inr brought
+    ];
+  };
+  woken = h.woken;
+}
+
+tries_scans : (p : Parts) (n : ℕ) (t : Transaction) (b : ℕ) (otherwise : State → Outcome State) (s : State) → s.lists.active ≡ Some n → ((streams : List ℕ) → OnGives (Scans s) (otherwise (with_streams streams s))) → OnGives (Scans s) (tries p n t b otherwise s)
+tries_scans p n t b otherwise s active h =
+    on_bind (Scans s) (refusal p n (towards b t) (turned n t b s)) (λ answer. if answer.0 then otherwise (with_streams answer.1 s) else meets_one p n (towards b t) (turned n t b s)) (λ answer _.
+    on_if (Scans s) answer.0 (otherwise (with_streams answer.1 s)) (meets_one p n (towards b t) (turned n t b s)) (h answer.1)
+    (on_then (Scans (turned n t b s)) (Scans s) (meets_one p n (towards b t) (turned n t b s)) (meets_one_scans p n (towards b t) (turned n t b s) active) (λ u scans. scans_from s (turned n t b s) u refl refl refl scans)))
+
+on_scans : (p : Parts) (n : ℕ) (t : Transaction) (two : Option (ℕ × ℕ)) (s : State) → s.lists.active ≡ Some n → OnGives (Scans s) (goes_on p n t two s)
+on_scans p n t None s active = meets_one_scans p n t s active
+on_scans p n t (Some pair) s active =
+    tries_scans p n t pair.0 (λ u. tries p n t pair.1 (λ v. Gives (placed n JoinsRetryList v)) u) s active
+    (λ streams. on_then (Scans (with_streams streams s)) (Scans s) (tries p n t pair.1 (λ v. Gives (placed n JoinsRetryList v)) (with_streams streams s))
+    (tries_scans p n t pair.1 (λ v. Gives (placed n JoinsRetryList v)) (with_streams streams s) active (λ later. rests_scans (with_streams streams s) (with_streams later s) refl refl refl active))
+    (λ u scans. scans_from s (with_streams streams s) u refl refl refl scans))
+  where
+    rests_scans : (u v : State) → v.steps ≡ u.steps → v.ended ≡ u.ended → v.count ≡ u.count → v.lists.active ≡ Some n → Scans u (placed n JoinsRetryList v)
+    rests_scans u v steps ended count active = scans_from u v (placed n JoinsRetryList v) steps ended count (record { counted = counted_same v _ (placed-leaves n JoinsRetryList v); woken = placed_wakes n JoinsRetryList v active })
+
 scan_scans : (p : Parts) (a : Option ℕ) (s : State) → s.lists.active ≡ a → OnGives (Scans s) (scan p a s)
 scan_scans p None s active = next_scans s s.lists.current_events
-scan_scans p (Some n) s active =
-    on_bind (Scans s) (case_of (attributes_at n s.transactions)) (λ t. case_of (block_at p.blocks t.next) >>= λ block. act p n t block s) (λ t _.
-    on_bind (Scans s) (case_of (block_at p.blocks t.next)) (λ block. act p n t block s) (λ block _. act_scans p n t block s active))
+scan_scans p (Some n) s active = on_bind (Scans s) (case_of (attributes_at n s.transactions)) (λ t. goes_on p n t (two_next p t) s) (λ t _. on_scans p n t (two_next p t) s active)
 
 scanned : (p : Parts) (s t : State) → scan p s.lists.active s ≡ Gives t → Scans s t
 scanned p s t h = subst (OnGives (Scans s)) h (scan_scans p s.lists.active s refl)

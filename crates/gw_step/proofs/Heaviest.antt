@@ -1,5 +1,5 @@
 -- No state in which few are live weighs more than this.
-use Rattle.std.proofs.Common.{◌≡◌, ℕ, zero, suc, ◌-◌, ◌*◌, ◌^◌, ◌<◌, ◌≤◌, List, [], ◌∷◌, length, Option, Some, None, IfSome, Bool, true, false, if◌then◌else◌, cond, is_some, refl, ap, add-one, arith, inl, inr}
+use Rattle.std.proofs.Common.{◌≡◌, ℕ, zero, suc, ◌+◌, ◌-◌, ◌*◌, ◌^◌, ◌<◌, ◌≤◌, ℤ, List, [], ◌∷◌, length, Option, Some, None, IfSome, Bool, true, false, if◌then◌else◌, cond, is_some, refl, ap, add-one, arith, inl, inr}
 use Rattle.std.specs.Prelude.{All, sum, sum_by, slice_index_or}
 use Rattle.std.specs.Option.{option_map_or}
 use Rattle.std.proofs.lemmas.Bool.{cases_lt}
@@ -10,18 +10,17 @@ use Rattle.gw_blocks.specs.declared.parts.Block.{Block}
 use Rattle.gw_blocks.specs.declared.parts.Block.TheVariants as blocks
 use Rattle.gw_object.specs.declared.parts.Parts.{Parts}
 use Rattle.gw_object.specs.Limits.{greatest_weight}
-use Rattle.gw_object.specs.Grammar.{HasSpelling}
+use Rattle.gw_object.specs.Grammar.{SlopeFits, HasSpelling}
 use Rattle.gw_rules.specs.Exits.{takes_time}
 use Rattle.gw_rules.specs.Kinds.{block_at, chain_place}
-use Rattle.gw_rules.specs.declared.edges.Target.{Target}
-use Rattle.gw_rules.specs.declared.edges.Target.TheVariants as targets
-use Rattle.gw_rules.specs.Weights.{weight_at, weight_of}
+use Rattle.gw_rules.specs.Weights.{weight_at, slope_at}
 use Rattle.gw_num.specs.Table.{at, tabulate}
 use Rattle.gw_transactions.specs.Transactions.{LiveTransaction, live_count}
 use Rattle.gw_step.specs.State.{State}
-use Rattle.gw_step.specs.Places.{place}
+use Rattle.gw_step.specs.Turning.{two_next}
 use Rattle.gw_step.specs.Numbers.{AreFewLive}
-use Rattle.gw_step.specs.Weight.{weight_in, weighs, owed_by, owes, weight, most_weight}
+use Rattle.gw_step.specs.Moments.{AreNoHigher, StatesWeighLittle}
+use Rattle.gw_step.specs.Weight.{height, added, weight_by, weight_in, weighs, owed_by, owes, weight, most_weight}
 use Rattle.gw_step.proofs.Sums.{sum-le, sum-le_all, sum-tabulate_at}
 use Rattle.gw_step.proofs.Operands.{block_spelled}
 use Rattle.gw_step.proofs.Weighing.{weighs_at_most}
@@ -38,18 +37,37 @@ module _ (p : Parts) (spelled : HasSpelling p) where
   block_weighs zero = omega arith
   block_weighs (suc i) = listed_weighs p.weights i spelled.limits.each_weight
 
-  place_weighs : (t : Target) → weight_of p t ≤ greatest_weight
-  place_weighs (targets.Block b) = block_weighs b
-  place_weighs (targets.Chain c) = listed_weighs p.chain_weights (chain_place p.entities c) spelled.limits.each_chain_weight
+  -- no parameter is above this
+  abbrev AreBelow : ℕ → List (Option ℤ) → Type 0
+  AreBelow highest parameters = (q : ℕ) → height q parameters ≤ highest
+
+  slope_below : (slopes : List (Option (ℕ × ℕ))) (i : ℕ) → All (λ slope. IfSome slope SlopeFits) slopes → (highest : ℕ) (parameters : List (Option ℤ)) → AreBelow highest parameters → added (slice_index_or slopes i None) parameters ≤ greatest_weight * highest
+  slope_below slopes i each highest parameters below = elim (cases_lt i (length slopes)) [
+    | inl within ↦ by_slope (slice_index_or slopes i None) (each i None within)
+    | inr beyond ↦ omega (arith, ap (λ s. added s parameters) (get_or_past slopes i None beyond))
+  ]
+    where
+      by_slope : (s : Option (ℕ × ℕ)) → IfSome s SlopeFits → added s parameters ≤ greatest_weight * highest
+      by_slope None h = omega arith
+      by_slope (Some slope) h = mul-le slope.1 (height slope.0 parameters) greatest_weight highest h.most (below slope.0)
+
+  slope_weighs : (b : ℕ) (highest : ℕ) (parameters : List (Option ℤ)) → AreBelow highest parameters → added (slope_at p.slopes b) parameters ≤ greatest_weight * highest
+  slope_weighs zero highest parameters below = omega arith
+  slope_weighs (suc i) highest parameters below = slope_below p.slopes i spelled.limits.each_slope highest parameters below
+
+  place_weighs : (chain : Option ℕ) (next : ℕ) (two : Option (ℕ × ℕ)) (highest : ℕ) (parameters : List (Option ℤ)) → AreBelow highest parameters → weight_by p chain next two parameters ≤ greatest_weight + greatest_weight * highest
+  place_weighs (Some c) next two highest parameters below = omega (arith, listed_weighs p.chain_weights (chain_place p.entities c) spelled.limits.each_chain_weight)
+  place_weighs None next None highest parameters below = omega (arith, block_weighs next, slope_weighs next highest parameters below)
+  place_weighs None next (Some pair) highest parameters below = omega (arith, block_weighs pair.0, block_weighs pair.1, slope_weighs pair.0 highest parameters below, slope_weighs pair.1 highest parameters below)
 
   -- all that are live together
-  live_weigh : (ts : List (Option LiveTransaction)) → sum_by (weight_in p) ts ≤ live_count ts * greatest_weight
-  live_weigh [] = omega arith
-  live_weigh (t ∷ ts) = omega (arith, live_weigh ts, sum_by-cons (weight_in p) t ts, sum_by-cons (λ (t : Option LiveTransaction). cond (is_some t) 1 0) t ts, one_weighs t)
+  live_weigh : (ts : List (Option LiveTransaction)) (highest : ℕ) → AreNoHigher highest ts → sum_by (weight_in p) ts ≤ live_count ts * (greatest_weight + greatest_weight * highest)
+  live_weigh [] highest below = omega arith
+  live_weigh (t ∷ ts) highest below = omega (arith, live_weigh ts highest (λ n. below (suc n)), sum_by-cons (weight_in p) t ts, ap (λ k. k * (greatest_weight + greatest_weight * highest)) (sum_by-cons (λ (t : Option LiveTransaction). cond (is_some t) 1 0) t ts), one_weighs t (below 0))
     where
-      one_weighs : (t : Option LiveTransaction) → weight_in p t ≤ cond (is_some t) 1 0 * greatest_weight
-      one_weighs None = omega arith
-      one_weighs (Some t) = omega (arith, place_weighs (place t))
+      one_weighs : (t : Option LiveTransaction) → IfSome t (λ t. AreBelow highest t.parameters) → weight_in p t ≤ cond (is_some t) 1 0 * (greatest_weight + greatest_weight * highest)
+      one_weighs None h = omega arith
+      one_weighs (Some t) h = omega (arith, place_weighs t.chain t.attributes.next (two_next p t.attributes) highest t.parameters h)
 
   -- fewer arrivals are owed than a limit may be
   owed_few : (b n : ℕ) → owed_by (block_at p.blocks b) n ≤ 2 ^ 32
@@ -70,16 +88,19 @@ module _ (p : Parts) (spelled : HasSpelling p) where
       let each : (i : ℕ) → owes p s (suc i) ≤ 2 ^ 32 * greatest_weight = λ i. mul-le (owed_by (block_at p.blocks (suc i)) (at 0 s.scheduled (suc i))) (weight_at p.weights (suc i)) (2 ^ 32) greatest_weight (owed_few (suc i) (at 0 s.scheduled (suc i))) (block_weighs (suc i)) in
       omega (arith, sum-le_all (λ i. owes p s (suc i)) (2 ^ 32 * greatest_weight) (length p.blocks) each, sum_by-cons (λ (x : ℕ). x) 0 (tabulate (λ i. owes p s (suc i)) (length p.blocks)))
 
-  pub weight_below : (s : State) → AreFewLive s.transactions → weight p s ≤ most_weight
+  pub weight_below : (s : State) (highest : ℕ) → AreFewLive s.transactions → AreNoHigher highest s.transactions → weight p s ≤ most_weight highest
   unfolding weight
-  weight_below s few =
+  weight_below s highest few below =
       omega (
         arith,
         sum-le (weighs p s) (λ n. weight_in p (at None s.transactions n)) (length s.transactions) (weighs_at_most p s),
         sum-tabulate_at (weight_in p) s.transactions,
-        live_weigh s.transactions,
-        few.live,
+        live_weigh s.transactions highest below,
+        mul-le (live_count s.transactions) (greatest_weight + greatest_weight * highest) 65536 (greatest_weight + greatest_weight * highest) few.live (omega arith),
         ap (λ n. sum (tabulate (owes p s) n)) (add-one (length p.blocks)),
         owed_weigh s,
         spelled.limits.blocks,
       )
+
+pub states_weigh_little : StatesWeighLittle
+states_weigh_little p s highest spelled few below = weight_below p spelled s highest few below

@@ -33,9 +33,12 @@ use Rattle.gw_step.proofs.Traces.{IsAt, place-free, its_chain, Becomes, its_para
 use Rattle.gw_step.proofs.Within.{sum-raised}
 use Rattle.gw_step.proofs.Calm.{Moves, MakesEntry, Calms, Refuses, refused_calms, placed_grows}
 use Rattle.gw_step.proofs.Unstopped.{Safe, safe_bind, safe_test}
-use Rattle.gw_step.proofs.Paying.{weight_there, first_paid, second_paid}
-use Rattle.gw_step.specs.Weight.{weight_in}
-use Rattle.gw_rules.specs.Weights.{weight_at}
+use Rattle.gw_step.specs.Turning.{choice_at, two_next}
+use Rattle.gw_step.proofs.Paying.{one_plain, two_here, weighs_one, weighs_two, weighs_within, own_parameters, Does, Makes, set_makes, first_paid, second_paid}
+use Rattle.gw_num.specs.Table.{put}
+use Rattle.gw_rules.specs.WeightsLaws.{Weighted}
+use Rattle.gw_step.specs.Weight.{height, weighs_there, heavier, weight_in}
+use Rattle.gw_rules.specs.Weights.{above, changed_parameter, treatment}
 use Rattle.gw_rules.specs.declared.ways.Way.{Way}
 use Rattle.gw_rules.specs.declared.ways.Exit.{Exit}
 use Rattle.gw_rules.specs.Exits.{leads_to, at_once, exits_with}
@@ -49,6 +52,8 @@ pub record Acts (p : Parts) (s : State) (n : ℕ) (t : Transaction) (block : Blo
   pub is : IsAt p s.transactions n t block row
   pub kinds : BlockHolds p t.next block
   pub flow : MayPass p (own_table p) t.next block row
+  -- it weighs what its next block weighs: it has no other
+  pub weighs : Weighted p → weighs_there p t.next (parameters_of n s) ≤ weight_in p (at None s.transactions n)
 
 -- a block to which a transaction may go on may be entered
 pub enterable : (o : Option Block) → IsSomeAnd o (λ block. is_generate (Some block) ≡ false) → may_enter o ≡ true
@@ -140,18 +145,18 @@ module _ (p : Parts) (s : State) (n : ℕ) (t : Transaction) (block : Block) (ro
 
   -- it goes along an edge
   pub goes : (en ar c d : ℕ) (u : Transaction) (to : ℕ) (state : Row) (h : EntityStates) → Becomes s t u → Knows row state → Contains (edges p (own_table p) t.next block row) (move to state) → MayBeEntered p to → Balanced p n (Some row) (Some state) s.entities h
-      → Paid p (1 + weight_at p.weights to + d) (weight_at p.weights t.next + c) → Change p en ar c s (suc en) ar d (record (entered n u to s) { entities = h })
-  goes en ar c d u to state h same known along may balance pays = Goes n to t u block row state h acts.is same (present s.lists n acts.active) (λ q. as_before state q (known q)) along may balance pays
+      → Paid p (1 + weighs_there p to (parameters_of n s) + d) (weighs_there p t.next (parameters_of n s) + c) → Change p en ar c s (suc en) ar d (record (entered n u to s) { entities = h })
+  goes en ar c d u to state h same known along may balance pays = Goes n to t u block row state h acts.is same (present s.lists n acts.active) (λ q. as_before state q (known q)) along may balance (λ weighted. omega (arith, pays weighted, acts.weighs weighted))
 
   -- it goes along an edge with a parameter that is set: of this one the edge's state knows what it is set to, and of each other one what the row knows of it
   pub goes_with : (en ar : ℕ) (to : ℕ) (state : Row) (q : ℕ) (value : ℤ) → IsAsKnown (kind_of state q) (Some value) → ((r : ℕ) → r ≢ q → kind_of state r ≡ kind_of row r) → Contains (edges p (own_table p) t.next block row) (move to state) → MayBeEntered p to
-      → Balanced p n (Some row) (Some state) s.entities s.entities → Paid p (1 + weight_at p.weights to + 0) (weight_at p.weights t.next + 0) → Change p en ar 0 s (suc en) ar 0 (entered n t to (assigned n q value s))
+      → Balanced p n (Some row) (Some state) s.entities s.entities → Paid p (1 + weighs_there p to (put None (parameters_of n s) q (Some value)) + 0) (weighs_there p t.next (parameters_of n s) + 0) → Change p en ar 0 s (suc en) ar 0 (entered n t to (assigned n q value s))
   goes_with en ar to state q value here others along may balance pays =
-      GoesWith n to q value t block row state acts.is (present s.lists n acts.active) (by_entry None (parameters_of n s) q (Some value) (λ r v. IsAsKnown (kind_of state r) v) here (λ r other. as_before state r (others r other))) along may balance pays
+      GoesWith n to q value t block row state acts.is (present s.lists n acts.active) (by_entry None (parameters_of n s) q (Some value) (λ r v. IsAsKnown (kind_of state r) v) here (λ r other. as_before state r (others r other))) along may balance (λ weighted. omega (arith, pays weighted, acts.weighs weighted))
 
   -- and stays active, and nothing else happens
   pub just_goes : (k : ℕ) (to : ℕ) (state : Row) (h : EntityStates) → Knows row state → Contains (edges p (own_table p) t.next block row) (move to state) → MayBeEntered p to → Balanced p n (Some row) (Some state) s.entities h
-      → Paid p (1 + weight_at p.weights to + 0) (weight_at p.weights t.next + 0) → Enters p k s n (record (entered n t to s) { entities = h }, StaysActive)
+      → Paid p (1 + weighs_there p to (parameters_of n s) + 0) (weighs_there p t.next (parameters_of n s) + 0) → Enters p k s n (record (entered n t to s) { entities = h }, StaysActive)
   just_goes k to state h known along may balance pays = entered_once p k s n _ (Then (goes k (made_in k) 0 0 t to state h (unchanged s t) known along may balance pays) Done) (omega (arith, sum-raised t.next s.entries))
 
   -- what its row says of an owner, and what is inside at least
@@ -170,21 +175,47 @@ module _ (p : Parts) (s : State) (n : ℕ) (t : Transaction) (block : Block) (ro
         row_is = ap (own_table p) (place-free (with_attributes last bears.0) last (its_chain (at None s.transactions n) bears.0 None bears.1 acts.is.free) refl) ∙ acts.is.row_is;
       }
 
-  -- it enters its block and goes on to another as u: it is there then, and weighs what that weighs
-  pub weighs_next : (u : Transaction) (to : ℕ) → weight_in p (at None (entered n u to s).transactions n) ≡ weight_at p.weights to
-  weighs_next u to =
+  -- it enters its block and goes on as u to a block, and has one next block: it weighs what that weighs
+  pub weighs_next : (u : Transaction) (to : ℕ) → two_next p (record u { current = u.next; next = to }) ≡ None → weight_in p (at None (entered n u to s).transactions n) ≡ weighs_there p to (parameters_of n s)
+  weighs_next u to one =
       let bears = bearer_at s.transactions n t acts.is.found in
       let next : Transaction = record u { current = u.next; next = to } in
-      weight_there p (entered n u to s).transactions n to (with_attributes next bears.0) (written_at s.transactions n next bears.0 bears.1) (place-free (with_attributes next bears.0) next (its_chain (at None s.transactions n) bears.0 None bears.1 acts.is.free) refl)
+      ap (weight_in p) (written_at s.transactions n next bears.0 bears.1) ∙ weighs_one p (with_attributes next bears.0) (its_chain (at None s.transactions n) bears.0 None bears.1 acts.is.free) one ∙ ap (weighs_there p to) (own_parameters s.transactions n bears.0 bears.1)
+
+  -- it enters a block that gives a choice, and stays at it: it weighs what the heavier of the two weighs
+  pub weighs_choice : (pair : ℕ × ℕ) → choice_at t.next block ≡ Some pair → weight_in p (at None (entered n t t.next s).transactions n) ≡ heavier p pair (parameters_of n s)
+  weighs_choice pair is =
+      let bears = bearer_at s.transactions n t acts.is.found in
+      let last : Transaction = record t { current = t.next } in
+      ap (weight_in p) (written_at s.transactions n last bears.0 bears.1) ∙ weighs_two p (with_attributes last bears.0) pair (its_chain (at None s.transactions n) bears.0 None bears.1 acts.is.free) (two_here p last block pair refl acts.is.block_is is) ∙ ap (heavier p pair) (own_parameters s.transactions n bears.0 bears.1)
+
+  -- it enters its block and stays at it: it weighs no more than that
+  weighs_still : Weighted p → weight_in p (at None (entered n t t.next s).transactions n) ≤ weighs_there p t.next (parameters_of n s)
+  weighs_still weighted =
+      let bears = bearer_at s.transactions n t acts.is.found in
+      let last : Transaction = record t { current = t.next } in
+      let most = weighs_within p weighted (with_attributes last bears.0) block row (its_chain (at None s.transactions n) bears.0 None bears.1 acts.is.free) acts.is.block_is acts.is.row_is in
+      omega (arith, most, ap (weight_in p) (written_at s.transactions n last bears.0 bears.1), ap (weighs_there p t.next) (own_parameters s.transactions n bears.0 bears.1))
 
   -- the first of its ways is paid for
-  pub falls_paid : (way : Way) (es : List Exit) → exits_with (returns_read block row) block ≡ at_once way ∷ es → (c : ℕ) → Paid p (1 + weight_at p.weights (leads_to t.next way) + c) (weight_at p.weights t.next + c)
-  falls_paid = first_paid p t.next block row acts.is.block_is acts.is.row_is
+  pub falls_paid : (way : Way) (es : List Exit) → exits_with (returns_read block row) block ≡ at_once way ∷ es → Makes block way (parameters_of n s) (parameters_of n s) → (c : ℕ) → Paid p (1 + weighs_there p (leads_to t.next way) (parameters_of n s) + c) (weighs_there p t.next (parameters_of n s) + c)
+  falls_paid way es is = first_paid p t.next block row acts.is.block_is acts.is.row_is way es is (parameters_of n s) (parameters_of n s)
 
   -- and the second
-  pub other_paid : (e : Exit) (way : Way) (es : List Exit) → exits_with (returns_read block row) block ≡ e ∷ at_once way ∷ es → (c : ℕ) → Paid p (1 + weight_at p.weights (leads_to t.next way) + c) (weight_at p.weights t.next + c)
-  other_paid = second_paid p t.next block row acts.is.block_is acts.is.row_is
+  pub other_paid : (e : Exit) (way : Way) (es : List Exit) → exits_with (returns_read block row) block ≡ e ∷ at_once way ∷ es → Makes block way (parameters_of n s) (parameters_of n s) → (c : ℕ) → Paid p (1 + weighs_there p (leads_to t.next way) (parameters_of n s) + c) (weighs_there p t.next (parameters_of n s) + c)
+  other_paid e way es is = second_paid p t.next block row acts.is.block_is acts.is.row_is e way es is (parameters_of n s) (parameters_of n s)
+
+  -- and each of the two with a parameter that is set
+  pub falls_set_paid : (way : Way) (es : List Exit) → exits_with (returns_read block row) block ≡ at_once way ∷ es → (q : ℕ) (value : ℤ) → changed_parameter block ≡ Some q → Does (treatment block way) (height q (parameters_of n s)) (above value) → Paid p (1 + weighs_there p (leads_to t.next way) (put None (parameters_of n s) q (Some value)) + 0) (weighs_there p t.next (parameters_of n s) + 0)
+  falls_set_paid way es is q value sets does = first_paid p t.next block row acts.is.block_is acts.is.row_is way es is (parameters_of n s) (put None (parameters_of n s) q (Some value)) (set_makes block way q value (parameters_of n s) sets does) 0
+
+  pub other_set_paid : (e : Exit) (way : Way) (es : List Exit) → exits_with (returns_read block row) block ≡ e ∷ at_once way ∷ es → (q : ℕ) (value : ℤ) → changed_parameter block ≡ Some q → Does (treatment block way) (height q (parameters_of n s)) (above value) → Paid p (1 + weighs_there p (leads_to t.next way) (put None (parameters_of n s) q (Some value)) + 0) (weighs_there p t.next (parameters_of n s) + 0)
+  other_set_paid e way es is q value sets does = second_paid p t.next block row acts.is.block_is acts.is.row_is e way es is (parameters_of n s) (put None (parameters_of n s) q (Some value)) (set_makes block way q value (parameters_of n s) sets does) 0
 
   -- who enters its block for the last time pays the entry by the weight of its place
-  pub last_paid : Paid p 1 (weight_in p (at None (entered n t t.next s).transactions n) + 0)
-  last_paid weighted = omega (arith, weighs_next t t.next, weighted.least t.next block acts.is.block_is)
+  pub last_paid : choice_at t.next block ≡ None → Paid p 1 (weight_in p (at None (entered n t t.next s).transactions n) + 0)
+  last_paid plain weighted = omega (arith, weighs_next t t.next (one_plain p (record t { current = t.next }) block acts.is.block_is plain), weighted.least t.next block acts.is.block_is)
+
+  -- the entry itself is borrowed until then
+  pub last_borrowed : Paid p (1 + weight_in p (at None (entered n t t.next s).transactions n) + 0) (weight_in p (at None s.transactions n) + 1)
+  last_borrowed weighted = omega (arith, weighs_still weighted, acts.weighs weighted)

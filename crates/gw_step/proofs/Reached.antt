@@ -47,8 +47,6 @@ use Rattle.gw_step.proofs.Drawn.{IsSound, IsDrawn, AreRead, safe_drawn}
 use Rattle.gw_step.proofs.Asked.{arrival_read}
 use Rattle.gw_step.proofs.Safe.{kinds_of, flow_of, sound_of, reached_in_step, reached_states_are_well_typed, start_is_well_typed, steps_keep_types}
 use Rattle.gw_step.proofs.Operands.{blocks_fit, all-blocks}
-use Rattle.gw_step.specs.Weight.{weight, most_weight}
-use Rattle.gw_step.proofs.Heaviest.{weight_below}
 use Rattle.gw_step.proofs.Steps.{step-scan, by_budget, counts_more, some_is}
 use Rattle.gw_step.proofs.PlainBlocks.{by_arrival}
 use Rattle.gw_step.proofs.Nothing.{no_transaction}
@@ -65,7 +63,6 @@ record Numbered (j : Job) (k : ℕ) (t : State) : Type 0 where
   limits : AreWithinLimits j.parts.blocks t.scheduled
   live : AreFewLive t.transactions
   conserved : AreConserved t.entities
-  weight : weight j.parts t ≤ most_weight
 
 -- with the steps that are left, they bound a state
 bounds : (j : Job) (t : State) → Numbered j t.steps t → t.steps ≤ j.budget → (t.ended ≡ None → t.steps < j.budget) → (t.ended ≡ None → pos 0 <ℤ t.count) → IsWoken t → IsBounded j t
@@ -78,7 +75,6 @@ bounds j t n steps runs counts woken = record {
   live = n.live;
   conserved = n.conserved;
   woken = woken;
-  weight = n.weight;
 }
 
 -- what one step keeps of them
@@ -89,7 +85,6 @@ bounded_more j s u b runs c woken =
     (λ other n. bounds j _ n (omega (arith, b.runs runs)) (λ e. omega (arith, b.runs runs, other e)) (λ e. runs_still s u c e (b.counts runs)) woken)
 
 bounded_ended : (j : Job) (s : State) (end : End) → IsBounded j s → s.ended ≡ None → IsBounded j (record s { steps = s.steps + 1; ended = Some end })
-unfolding weight
 bounded_ended j s end b runs =
     let bs = length j.parts.blocks in
     let es = length j.parts.entities in
@@ -102,7 +97,6 @@ bounded_ended j s end b runs =
       live = b.live;
       conserved = b.conserved;
       woken = λ none. b.woken none;
-      weight = b.weight;
     }
 
 -- what a step leads to
@@ -128,7 +122,6 @@ numbered_step j s t r next =
       limits = trace-limits j.parts x.trace r.bounded.limits;
       live = live;
       conserved = trace-conserves j.parts x.trace r.bounded.conserved;
-      weight = weight_below j.parts r.fits.spelled t live;
     }
 
 pub reached_more : (j : Job) (s t : State) → IsReached (record { job = j; state = s }) → s.ended ≡ None → Step j s t → IsReached (record { job = j; state = t })
@@ -308,7 +301,6 @@ begun_bounded j k t end fits few b =
       live = live;
       conserved = b.conserved;
       woken = λ _. b.stir;
-      weight = weight_below j.parts fits.spelled (record t { ended = end }) live;
     }
   where
     constants : (c : ℕ) (g : Generate) → block_at j.parts.blocks c ≡ Some (blocks.Generate g) → IsTrue (has_good_constants (blocks.Generate g))

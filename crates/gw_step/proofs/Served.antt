@@ -43,6 +43,8 @@ use Rattle.gw_step.proofs.Owning.{lists-none}
 use Rattle.gw_step.proofs.Traces.{place-free, its_chain, its_row, its_parameters, present, present_free}
 use Rattle.gw_step.proofs.AtBlock.{is_storage, is_queue, is_table}
 use Rattle.gw_step.proofs.Attributes.{bearer_at}
+use Rattle.gw_step.specs.Turning.{choice_at}
+use Rattle.gw_step.proofs.Paying.{one_plain}
 use Rattle.gw_step.proofs.Moving.{Acts, enterable, the_rule, owner_as}
 use Rattle.gw_step.proofs.Returns.{may_come_back}
 use Rattle.gw_step.proofs.Calling.{some_of}
@@ -134,8 +136,13 @@ module _ (p : Parts) where
     asks block row acts = tt
 
     -- kinds say where each way leads
-    leads : (block : Block) (row : Row) → Acts p s n t block row → Leads p.blocks t.next block
-    leads block row acts = on_ways t.next (exits block) _ acts.kinds.exits acts.kinds.others
+    leads : (block : Block) → BlockHolds p t.next block → Leads p.blocks t.next block
+    leads block kinds = on_ways t.next (exits block) _ kinds.exits kinds.others
+
+    -- who has entered a TRANSFER BOTH is asked for nothing there
+    asks_nothing : (block : Block) (pair : ℕ × ℕ) → choice_at t.next block ≡ Some pair → Asks p n s block
+    asks_nothing (blocks.TransferBoth two) pair is = tt
+    asks_nothing block pair is = absurd cc
 
 -- the block that the active transaction meets next is there
 next_is_there : (p : Parts) (s : State) → WellTyped p s → (n : ℕ) (t : Transaction) → s.lists.active ≡ Some n → attributes_at n s.transactions ≡ Some t → (block : Block) × (block_at p.blocks t.next ≡ Some block)
@@ -148,9 +155,13 @@ next_is_there p s ty n t active found =
 
 pub blocks_are_served : BlocksAreServed
 blocks_are_served p s checked ty n t active found =
-    let sound = sound_of p checked in
     let block = next_is_there p s ty n t active found in
-    let acts = acts_at p sound.entities (kinds_of p checked) (flow_of p checked) s ty n t block.0 active found block.1 in
-    let serves : Asks p n s block.0 × Leads p.blocks t.next block.0 =
-    (asks p (returns_of p checked) (kinds_of p checked) s n t block.0 acts.0 acts.1, leads p (returns_of p checked) (kinds_of p checked) s n t block.0 acts.0 acts.1) in
+    let asked : (o : Option (ℕ × ℕ)) → choice_at t.next block.0 ≡ o → Asks p n s block.0 = λ o is. by_choice block.0 block.1 o is in
+    let serves : Asks p n s block.0 × Leads p.blocks t.next block.0 = (asked (choice_at t.next block.0) refl, leads p (returns_of p checked) (kinds_of p checked) s n t block.0 (kinds_of p checked t.next block.0 block.1)) in
     subst (λ o. IsSomeAnd o (λ b. Asks p n s b × Leads p.blocks t.next b)) (sym block.1) serves
+  where
+    by_choice : (block : Block) → block_at p.blocks t.next ≡ Some block → (o : Option (ℕ × ℕ)) → choice_at t.next block ≡ o → Asks p n s block
+    by_choice block there None is =
+        let acts = acts_at p (sound_of p checked).entities (kinds_of p checked) (flow_of p checked) s ty n t block active found there (λ weighted. one_plain p t block there is) in
+        asks p (returns_of p checked) (kinds_of p checked) s n t block acts.0 acts.1
+    by_choice block there (Some pair) is = asks_nothing p (returns_of p checked) (kinds_of p checked) s n t block pair is

@@ -15,7 +15,7 @@ use Rattle.gw_num.specs.Generator as generator
 use Rattle.gw_num.proofs.Draws.{times_lie_within}
 use Rattle.gw_rules.specs.Exits.{takes_time}
 use Rattle.gw_operands.specs.Environment.{Environment}
-use Rattle.gw_operands.specs.Values.{Evaluation, Value, Fails, Unset, ◌>>=◌, answered, first_stream, with_first, drawn_time, single_value, operands as operand_values}
+use Rattle.gw_operands.specs.Values.{Evaluation, Value, Fails, Unset, ◌>>=◌, answered, first_stream, with_first, drawn_time, single_value, operand_value, operands as operand_values}
 use Rattle.gw_step.specs.declared.ends.End.TheVariants.{NegativeTime}
 use Rattle.gw_step.specs.Outcome.{EndsBy, evaluated}
 use Rattle.gw_step.specs.Times.{moment_after, drawn_moment}
@@ -63,8 +63,14 @@ moment_passes p env spread clock streams =
     on_both (λ (d : ℤ × List ℕ). pos 0 <ℤ d.0) (λ (d : ℤ × List ℕ). clock <ℤ d.0) (evaluated (drawn_time p env spread streams)) _ (spread_passes p env streams spread.mean spread.half h)
     (λ d more. on_both (λ moment. clock <ℤ moment) (λ (d : ℤ × List ℕ). clock <ℤ d.0) (moment_after clock d.0) _ (after_clock clock d.0 more) (λ moment later. later)))
 
--- the values of a block tell of a time that passes: an ADVANCE's is 1 or more where that is known
+-- the value of a constant is itself
+abbrev pub TellsValue : Operand → ℤ → Type 0
+TellsValue (operands.Constant c) value = value ≡ c
+TellsValue operand value = Unit {0}
+
+-- the values of a block tell of a time that passes: an ADVANCE's is 1 or more where that is known; and an ASSIGN's of a constant
 abbrev pub TellsTime : Block → List ℤ → Type 0
+TellsTime (blocks.Assign a) values = TellsValue a.value (the_value values)
 TellsTime (blocks.Advance time) values = takes_time time.mean time.half ≡ true → pos 0 <ℤ the_value values
 TellsTime block values = Unit {0}
 
@@ -75,4 +81,9 @@ values_tell p env (blocks.Advance time) streams = by_time (drawn_time p env time
     by_time (Value d) h = h
     by_time (Fails end) h = tt
     by_time Unset h = tt
+values_tell p env (blocks.Assign a) streams = by_operand a.value
+  where
+    by_operand : (o : Operand) → OnGives (λ (read : List ℤ × List ℕ). TellsValue o (the_value read.0)) (evaluated (operand_value p env o streams >>= λ value. Value (single_value value)))
+    by_operand (operands.Constant c) = refl
+    by_operand o = on_any (evaluated (operand_value p env o streams >>= λ value. Value (single_value value)))
 values_tell p env block streams = on_any (evaluated (operand_values p env block streams))

@@ -1,9 +1,9 @@
 -- A step is a list of elementary changes, and each keeps a state well-typed.
 use Rattle.gw_step.specs.Blocks.{is_owed}
 use Rattle.gw_rules.specs.Exits.{takes_time}
-use Rattle.gw_rules.specs.Weights.{weight_at, chain_weight}
+use Rattle.gw_rules.specs.Weights.{chain_weight}
 use Rattle.gw_rules.specs.WeightsLaws.{Weighted}
-use Rattle.gw_step.specs.Weight.{weight_in}
+use Rattle.gw_step.specs.Weight.{weighs_there, weight_in}
 use Rattle.gw_transactions.specs.Transactions.{LiveTransaction, made_with, with_attributes, with_parameter, with_chain, chain_of, attributes_at, put_attributes, put_parameter, put_chain, live_count}
 use Rattle.std.proofs.Common.{◌≡◌, ℕ, suc, ◌+◌, ◌<◌, ◌≤◌, ◌≤ℤ◌, ℤ, pos, ◌-ℤ◌, List, [], ◌∷◌, length, map, Option, Some, None, Bool, true, false, is_some, if◌then◌else◌, ◌==◌, refl, sym, ap, ◌∙◌, subst, arith, inl, inr, IsSome, option_map}
 use Rattle.std.specs.Prelude.{◌<ℤ◌, IsSomeAnd, Contains, unsigned_abs, sum_by, IfSome, IsTrue, nat_le, ◌&&◌, ◌-◌, ◌++◌, All}
@@ -43,6 +43,7 @@ use Rattle.gw_step.specs.declared.ends.End.{End}
 use Rattle.gw_step.specs.declared.placement.Placement.{Placement}
 use Rattle.gw_step.specs.declared.placement.Placement.TheVariants.{StaysActive, RestsUntil, JoinsDelayList, JoinsRetryList, RestsAhead, RestsBehind, AwaitsSet, JoinsChain, LeavesModel}
 use Rattle.gw_step.specs.Placing.{placed_at, placed}
+use Rattle.gw_step.specs.Turning.{turned}
 use Rattle.gw_step.specs.State.{FutureEvent, Assembly, Lists, EntityStates, State, with_streams, priority_of, delay_list, user_chain, without}
 use Rattle.gw_step.specs.Changes.{newcomer, copied, rests_ahead, rests_behind, awaits_set, is_of, assembled, one_fewer, come_to, joins_chain, leaves_chain, entered, assigned, destroyed, arrives, rests_until, waits_for, retries, called_from, woken, counted, time_passes, clock_moves}
 use Rattle.gw_step.specs.Residence.{EachResidesOnce, occurrences, active_numbers, occurrences_in}
@@ -158,17 +159,19 @@ Settles p n placement s c d = c ≡ d
 pub data Change (p : Parts) : ℕ → ℕ → ℕ → State → ℕ → ℕ → ℕ → State → Type 0 where
   -- a transaction enters its block and goes along one of its edges, and what the entities hold is in balance with that
   Goes : {en ar c d : ℕ} {s : State} (n to : ℕ) (t u : Transaction) (block : Block) (row state : Row) (h : EntityStates) → IsAt p s.transactions n t block row → Becomes s t u → IsPresent s.lists n → AreAsKnown (Some state) (parameters_of n s)
-      → Contains (edges p (own_table p) t.next block row) (move to state) → MayBeEntered p to → Balanced p n (Some row) (Some state) s.entities h → Paid p (1 + weight_at p.weights to + d) (weight_at p.weights t.next + c) → Change p en ar c s (suc en) ar d (record (entered n u to s) { entities = h })
-  -- a transaction enters its block, and goes nowhere from there
-  EntersLast : {en ar c d : ℕ} {s : State} (n : ℕ) (t : Transaction) (block : Block) (row : Row) → IsAt p s.transactions n t block row → IsPresent s.lists n → Paid p (1 + d) c → Change p en ar c s (suc en) ar d (entered n t t.next s)
+      → Contains (edges p (own_table p) t.next block row) (move to state) → MayBeEntered p to → Balanced p n (Some row) (Some state) s.entities h → Paid p (1 + weighs_there p to (parameters_of n s) + d) (weight_in p (at None s.transactions n) + c) → Change p en ar c s (suc en) ar d (record (entered n u to s) { entities = h })
+  -- a transaction enters its block, and stays at it: it goes nowhere from there, or has two next blocks from then on
+  EntersLast : {en ar c d : ℕ} {s : State} (n : ℕ) (t : Transaction) (block : Block) (row : Row) → IsAt p s.transactions n t block row → IsPresent s.lists n → Paid p (1 + weight_in p (at None (entered n t t.next s).transactions n) + d) (weight_in p (at None s.transactions n) + c) → Change p en ar c s (suc en) ar d (entered n t t.next s)
+  -- a transaction turns to a block to which an edge of its block leads, and enters nothing
+  Turns : {en ar c d : ℕ} {s : State} (n to : ℕ) (t : Transaction) (block : Block) (row : Row) → IsAt p s.transactions n t block row → IsPresent s.lists n → Contains (edges p (own_table p) t.next block row) (move to row) → MayBeEntered p to → Paid p (weighs_there p to (parameters_of n s) + d) (weight_in p (at None s.transactions n) + c) → Change p en ar c s en ar d (turned n t to s)
   -- a parameter of a transaction is set, and it enters its block and goes along one of its edges, where the parameter is known to be what it is set to
   GoesWith : {en ar c d : ℕ} {s : State} (n to q : ℕ) (value : ℤ) (t : Transaction) (block : Block) (row state : Row) → IsAt p s.transactions n t block row → IsPresent s.lists n → AreAsKnown (Some state) (put None (parameters_of n s) q (Some value))
-      → Contains (edges p (own_table p) t.next block row) (move to state) → MayBeEntered p to → Balanced p n (Some row) (Some state) s.entities s.entities → Paid p (1 + weight_at p.weights to + d) (weight_at p.weights t.next + c) → Change p en ar c s (suc en) ar d (entered n t to (assigned n q value s))
+      → Contains (edges p (own_table p) t.next block row) (move to state) → MayBeEntered p to → Balanced p n (Some row) (Some state) s.entities s.entities → Paid p (1 + weighs_there p to (put None (parameters_of n s) q (Some value)) + d) (weight_in p (at None s.transactions n) + c) → Change p en ar c s (suc en) ar d (entered n t to (assigned n q value s))
   -- a transaction is scheduled to arrive at a GENERATE
   Arrives : {en ar c : ℕ} {s : State} (b : ℕ) (g : Generate) (row : Row) (priority time : ℤ) → block_at p.blocks b ≡ Some (blocks.Generate g) → own_row p b ≡ Some row → is_empty row ≡ true → s.clock ≤ℤ time → (takes_time g.interval.mean g.interval.half ≡ true → s.clock <ℤ time) → is_owed g.limit (at 0 s.scheduled b) ≡ true → nat_le (live_count s.transactions + 1) 65536 ≡ true → Change p en ar c s en (suc ar) c (arrives b priority time s)
   -- a copy of a transaction is made, and goes along an edge of a block
   Copied : {en ar c d : ℕ} {s : State} (n target b : ℕ) (t u : Transaction) (block : Block) (row state : Row) → attributes_at n s.transactions ≡ Some u → t.mark ≡ u.mark → AreAsKnown (Some state) (parameters_of n s) → block_at p.blocks b ≡ Some block → own_row p b ≡ Some row
-      → Contains (edges p (own_table p) b block row) (move target state) → MayBeEntered p target → state.facilities ≡ [] → state.units ≡ [] → live_count s.transactions + 1 ≤ 65536 → Paid p (weight_at p.weights target + d) c → Change p en ar c s en (suc ar) d (copied n t target s)
+      → Contains (edges p (own_table p) b block row) (move target state) → MayBeEntered p target → state.facilities ≡ [] → state.units ≡ [] → live_count s.transactions + 1 ≤ 65536 → Paid p (weighs_there p target (parameters_of n s) + d) c → Change p en ar c s en (suc ar) d (copied n t target s)
   -- the active transaction is placed
   Rests : {en ar c d : ℕ} {s : State} (n : ℕ) (placement : Placement) → Rested p n placement s → Settles p n placement s c d → Change p en ar c s (credited placement en) ar d (placed_at n placement s)
   -- a waiter is called
@@ -179,7 +182,7 @@ pub data Change (p : Parts) : ℕ → ℕ → ℕ → State → ℕ → ℕ → 
   Comes : {en ar c : ℕ} {s : State} (a : Assembly) → find (is_of a.block a.set) s.lists.assemblies ≡ Some a → 2 ≤ a.missing → Change p en ar c s en ar c (come_to a s)
   -- the first member of a user chain leaves it for a block, whose row the row of the chain fits
   Unlinked : {en ar d : ℕ} {s : State} (c target n : ℕ) (t : Transaction) (ns : List ℕ) (members row : Row) → user_chain c s ≡ n ∷ ns → attributes_at n s.transactions ≡ Some t → own_table p (targets.Chain c) ≡ Some members → own_row p target ≡ Some row → Fits members row
-      → MayBeEntered p target → c < length p.entities → Paid p (weight_at p.weights target) (chain_weight p c) → Change p en ar d s en ar d (leaves_chain c target n t s)
+      → MayBeEntered p target → c < length p.entities → Paid p (weighs_there p target (parameters_of n s)) (chain_weight p c) → Change p en ar d s en ar d (leaves_chain c target n t s)
   -- the retry list is woken
   Woken : {en ar c : ℕ} {s : State} → Change p en ar c s en ar c (woken s)
   -- the first of the current events chain becomes active
@@ -251,7 +254,7 @@ pub waiting_free : (p : Parts) (ts : List (Option LiveTransaction)) (l : Lists) 
 waiting_free p ts l g ty e n waits = free p ts l g ty n (omega (arith, most p ts l g ty n, waits, occurrences-one n l.delay_lists e))
 
 -- who resides on a user chain is a member of it
-member_of : (p : Parts) (ts : List (Option LiveTransaction)) (l : Lists) (g : EntityStates) → Agree p ts l g → (c n : ℕ) → 1 ≤ occurrences n (at [] l.user_chains c) → chain_of (at None ts n) ≡ Some c
+pub member_of : (p : Parts) (ts : List (Option LiveTransaction)) (l : Lists) (g : EntityStates) → Agree p ts l g → (c n : ℕ) → 1 ≤ occurrences n (at [] l.user_chains c) → chain_of (at None ts n) ≡ Some c
 member_of p ts l g ty c n here = by_chain (chain_of (at None ts n)) (ty.linked c n)
   where
     by_chain : (o : Option ℕ) → occurrences n (at [] l.user_chains c) ≡ one_if (is_member c o) → o ≡ Some c
@@ -374,6 +377,10 @@ module _ (p : Parts) (flow : FlowHolds p (own_table p)) where
   goes s ty n to t u block row state h is here known along may balance =
       let lead = leads p t.next to block row state (flow.each_row t.next block row is.block_is is.row_is) along in
       enters s ty n to t u block row lead.row h is here (known_on state lead.row (parameters_of n s) lead.fits known) (there (block_at p.blocks to) may) lead.is (balanced-fits p n (Some row) state lead.row s.entities h balance lead.fits)
+
+  -- a transaction that turns to a block enters nothing, and is at that block's row
+  pub turns : (s : State) → WellTyped p s → (n to : ℕ) (t : Transaction) (block : Block) (row : Row) → IsAt p s.transactions n t block row → IsPresent s.lists n → Contains (edges p (own_table p) t.next block row) (move to row) → MayBeEntered p to → WellTyped p (turned n t to s)
+  turns s ty n to t block row is here along may = goes s ty n to t (record t { next = t.current }) block row row s.entities is here (its_parameters p s ty n t block row is) along may (balanced-nothing p n row s.entities)
 
   -- a parameter of it is set besides
   goes_with : (s : State) → WellTyped p s → (n to q : ℕ) (value : ℤ) (t : Transaction) (block : Block) (row state : Row) → IsAt p s.transactions n t block row → IsPresent s.lists n → AreAsKnown (Some state) (put None (parameters_of n s) q (Some value))
@@ -587,6 +594,7 @@ module _ (p : Parts) (flow : FlowHolds p (own_table p)) where
   pub change-keeps : {en ar c en' ar' c' : ℕ} {s t : State} → Change p en ar c s en' ar' c' t → WellTyped p s → WellTyped p t
   change-keeps (Goes {s = s} n to t u block row state h is same here known along may balance pays) ty = goes s ty n to t u block row state h is here known along may balance
   change-keeps (EntersLast {s = s} n t block row is here pays) ty = enters s ty n t.next t t block row row s.entities is here (its_parameters p s ty n t block row is) (ap is_some is.block_is) is.row_is (balanced-nothing p n row s.entities)
+  change-keeps (Turns {s = s} n to t block row is here along may pays) ty = turns s ty n to t block row is here along may
   change-keeps (GoesWith {s = s} n to q value t block row state is here known along may balance pays) ty = goes_with s ty n to q value t block row state is here known along may balance
   change-keeps (Arrives {s = s} b g row priority time block is none later passes owed few) ty = arrived s ty b g row priority time block is none
   change-keeps (Rests {s = s} n placement may settles) ty = rests s ty n placement may

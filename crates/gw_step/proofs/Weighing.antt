@@ -1,6 +1,6 @@
 -- The weight of a state through each elementary change: what it falls by pays for entries.
 use Rattle.std.proofs.Common.{◌≡◌, ◌≢◌, ℕ, suc, ◌+◌, ◌-◌, ◌*◌, ◌<◌, ◌≤◌, ◌≤ℤ◌, ℤ, List, [], ◌∷◌, length, Option, Some, None, Bool, true, false, is_some, if◌then◌else◌, ◌==◌, ◌&&◌, ◌||◌, option_map, refl, sym, ap, ◌∙◌, subst, arith, IsSome}
-use Rattle.std.specs.Prelude.{◌<ℤ◌, sum, int_lt, int_le, IsTrue}
+use Rattle.std.specs.Prelude.{◌<ℤ◌, sum, int_lt, int_le, IsTrue, IsSomeAnd}
 use Rattle.std.specs.Option.{option_map_or}
 use Rattle.std.specs.List.{list_any}
 use Rattle.std.proofs.lemmas.Bool.{eq-eqb, ne_eqb, ltb-true, false≢true}
@@ -11,17 +11,18 @@ use Rattle.gw_blocks.specs.declared.parts.Block.{Block}
 use Rattle.gw_blocks.specs.declared.parts.Block.TheVariants as blocks
 use Rattle.gw_object.specs.declared.parts.Parts.{Parts}
 use Rattle.gw_rules.specs.Exits.{takes_time}
-use Rattle.gw_rules.specs.Kinds.{block_at}
+use Rattle.gw_rules.specs.Kinds.{block_at, is_generate}
+use Rattle.gw_rules.specs.KindsLaws.{MayBeEntered}
 use Rattle.gw_rules.specs.Rows.{Row}
-use Rattle.gw_rules.specs.Flow.{own_table}
+use Rattle.gw_rules.specs.Flow.{own_table, own_row}
 use Rattle.gw_rules.specs.FlowLaws.{FlowHolds}
-use Rattle.gw_rules.specs.Weights.{weight_at, weight_of, chain_weight}
+use Rattle.gw_rules.specs.Weights.{weight_at, chain_weight, slope_at, above}
 use Rattle.gw_rules.specs.WeightsLaws.{Weighted}
 use Rattle.gw_num.specs.Table.{at, put, tabulate}
-use Rattle.gw_num.proofs.Tables.{at-put, at-put_other, at_some, length-put, length-put_next}
+use Rattle.gw_num.proofs.Tables.{at-replicate, at-put, at-put_other, at_some, length-put, length-put_next}
 use Rattle.gw_members.specs.Chain.{in_time, later}
 use Rattle.gw_transactions.specs.declared.Transaction.{Transaction}
-use Rattle.gw_transactions.specs.Transactions.{LiveTransaction, made_with, with_attributes, with_parameter, with_chain, attributes_at, put_parameter}
+use Rattle.gw_transactions.specs.Transactions.{LiveTransaction, made_with, with_attributes, with_parameter, with_chain, attributes_at, put_attributes, put_parameter}
 use Rattle.gw_step.specs.declared.placement.Placement.{Placement}
 use Rattle.gw_step.specs.declared.placement.Placement.TheVariants.{StaysActive, RestsUntil, JoinsDelayList, JoinsRetryList, RestsAhead, RestsBehind, AwaitsSet, JoinsChain, LeavesModel}
 use Rattle.gw_step.specs.State.{FutureEvent, EntityStates, State, user_chain, raised}
@@ -32,16 +33,18 @@ use Rattle.gw_step.specs.Placing.{placed_at}
 use Rattle.gw_step.specs.Residence.{occurrences}
 use Rattle.gw_step.specs.Numbers.{IsFrom, IsWithin}
 use Rattle.gw_step.specs.Typing.{WellTyped}
-use Rattle.gw_step.specs.Weight.{is_later, weight_in, weighs, still_owed, owed_by, owes, weight}
+use Rattle.gw_step.specs.Turning.{towards, turned, two_next}
+use Rattle.gw_transactions.specs.Parameters.{no_parameters}
+use Rattle.gw_step.specs.Weight.{added, weighs_there, is_later, weight_by, weight_in, weighs, still_owed, owed_by, owes, weight}
 use Rattle.gw_step.proofs.Sums.{sum-same, sum-but_one, sum-more}
 use Rattle.gw_step.proofs.Attributes.{bearer_at, number_below, written_at, written_both}
 use Rattle.gw_step.proofs.Residence.{one_if, at_most_one, same_number, occurrences-one}
 use Rattle.gw_step.proofs.Within.{sum-raised}
 use Rattle.gw_step.proofs.Follows.{block_below}
 use Rattle.gw_step.proofs.Placed.{placed_at-leaves}
-use Rattle.gw_step.proofs.Traces.{IsAt, place-free, its_place, its_chain, present, member_at, IsPresent, Rested, Settles, Change, Goes, EntersLast, GoesWith, Arrives, Copied, Rests, Called, Assembled, Comes, Unlinked, Woken, Activates, ClockMoves, Draws, Counts, Marks, Trace, Done, Then, change-keeps}
+use Rattle.gw_step.proofs.Traces.{leads, its_chain, present, member_of, IsPresent, Rested, Settles, Change, Goes, EntersLast, Turns, GoesWith, Arrives, Copied, Rests, Called, Assembled, Comes, Unlinked, Woken, Activates, ClockMoves, Draws, Counts, Marks, Trace, Done, Then, change-keeps}
 use Rattle.gw_step.proofs.Bounds.{change-within}
-use Rattle.gw_step.proofs.Paying.{weight_there}
+use Rattle.gw_step.proofs.Paying.{weighs_within}
 
 -- WHO IS SCHEDULED FOR LATER
 
@@ -163,40 +166,61 @@ module _ (p : Parts) where
 
   -- ENTRIES
 
-  -- the transaction n was at a block, and is at another one
-  enters : (s : State) → WellTyped p s → (n to : ℕ) (t u : Transaction) (block : Block) (row : Row) (h : EntityStates) → IsAt p s.transactions n t block row → IsPresent s.lists n
-      → weight p (record (entered n u to s) { entities = h }) + weight_at p.weights t.next ≤ weight p s + weight_at p.weights to
-  enters s ty n to t u block row h is here =
+  -- the transaction n is written, and is not scheduled for later
+  enters : (s : State) → WellTyped p s → (n to : ℕ) (t u : Transaction) (h : EntityStates) → attributes_at n s.transactions ≡ Some t → IsPresent s.lists n
+      → weight p (record (entered n u to s) { entities = h }) + weight_in p (at None s.transactions n) ≤ weight p s + weight_in p (at None (entered n u to s).transactions n)
+  enters s ty n to t u h found here =
       let after : State = record (entered n u to s) { entities = h } in
-      let next : Transaction = record u { current = u.next; next = to } in
-      let bears = bearer_at s.transactions n t is.found in
-      let free = its_chain (at None s.transactions n) bears.0 None bears.1 is.free in
-      let below = number_below s.transactions n t is.found in
-      let none = present_now p s ty n here in
-      let was = weighs_all p s n none ∙ weight_there p s.transactions n t.next bears.0 bears.1 (its_place p s.transactions n t block row is) in
-      let now = weight_there p after.transactions n to (with_attributes next bears.0) (written_at s.transactions n next bears.0 bears.1) (place-free (with_attributes next bears.0) next free refl) in
-      let changes = weight_changes s after n below (length-put None s.transactions n (option_map (with_attributes next) (at None s.transactions n)) below) refl (λ i other. others_weigh s n (option_map (with_attributes next) (at None s.transactions n)) i other) in
-      omega (arith, changes, was, now, weighs_at_most p after n)
+      let v : Option LiveTransaction = option_map (with_attributes (record u { current = u.next; next = to })) (at None s.transactions n) in
+      let below = number_below s.transactions n t found in
+      let changes = weight_changes s after n below (length-put None s.transactions n v below) refl (λ i other. others_weigh s n v i other) in
+      omega (arith, changes, weighs_all p s n (present_now p s ty n here), weighs_at_most p after n)
+
+  -- it turns to another block
+  turns : (s : State) → WellTyped p s → (n to : ℕ) (t : Transaction) → attributes_at n s.transactions ≡ Some t → IsPresent s.lists n
+      → weight p (turned n t to s) + weight_in p (at None s.transactions n) ≤ weight p s + weight_in p (at None (turned n t to s).transactions n)
+  turns s ty n to t found here =
+      let after : State = turned n t to s in
+      let v : Option LiveTransaction = option_map (with_attributes (towards to t)) (at None s.transactions n) in
+      let below = number_below s.transactions n t found in
+      let changes = weight_changes s after n below (length-put None s.transactions n v below) refl (λ i other. others_weigh s n v i other) in
+      omega (arith, changes, weighs_all p s n (present_now p s ty n here), weighs_at_most p after n)
 
   -- a parameter of it is set besides
-  enters_with : (s : State) → WellTyped p s → (n to q : ℕ) (value : ℤ) (t : Transaction) (block : Block) (row : Row) → IsAt p s.transactions n t block row → IsPresent s.lists n
-      → weight p (entered n t to (assigned n q value s)) + weight_at p.weights t.next ≤ weight p s + weight_at p.weights to
-  enters_with s ty n to q value t block row is here =
+  enters_with : (s : State) → WellTyped p s → (n to q : ℕ) (value : ℤ) (t : Transaction) → attributes_at n s.transactions ≡ Some t → IsPresent s.lists n
+      → weight p (entered n t to (assigned n q value s)) + weight_in p (at None s.transactions n) ≤ weight p s + weight_in p (at None (entered n t to (assigned n q value s)).transactions n)
+  enters_with s ty n to q value t found here =
       let ts = s.transactions in
       let after : State = entered n t to (assigned n q value s) in
-      let next : Transaction = record t { current = t.next; next = to } in
-      let bears = bearer_at ts n t is.found in
-      let free = its_chain (at None ts n) bears.0 None bears.1 is.free in
-      let below = number_below ts n t is.found in
+      let below = number_below ts n t found in
       let set : Option LiveTransaction = option_map (with_parameter q value) (at None ts n) in
-      let set_at : at None (put_parameter n q value ts) n ≡ Some (with_parameter q value bears.0) = at-put None ts n set ∙ ap (option_map (with_parameter q value)) bears.1 in
       let length_set : length (put_parameter n q value ts) ≡ length ts = length-put None ts n set below in
-      let none = present_now p s ty n here in
-      let was = weighs_all p s n none ∙ weight_there p ts n t.next bears.0 bears.1 (its_place p ts n t block row is) in
-      let now = weight_there p after.transactions n to (with_attributes next (with_parameter q value bears.0)) (written_at (put_parameter n q value ts) n next (with_parameter q value bears.0) set_at) (place-free (with_attributes next (with_parameter q value bears.0)) next free refl) in
-      let lengths : length after.transactions ≡ length ts = length-put None (put_parameter n q value ts) n (option_map (with_attributes next) (at None (put_parameter n q value ts) n)) (omega (arith, below, length_set)) ∙ length_set in
-      let changes = weight_changes s after n below lengths refl (λ i other. others_weigh (assigned n q value s) n (option_map (with_attributes next) (at None (put_parameter n q value ts) n)) i other ∙ others_weigh s n set i other) in
-      omega (arith, changes, was, now, weighs_at_most p after n)
+      let v : Option LiveTransaction = option_map (with_attributes (record t { current = t.next; next = to })) (at None (put_parameter n q value ts) n) in
+      let lengths : length after.transactions ≡ length ts = length-put None (put_parameter n q value ts) n v (omega (arith, below, length_set)) ∙ length_set in
+      let changes = weight_changes s after n below lengths refl (λ i other. others_weigh (assigned n q value s) n v i other ∙ others_weigh s n set i other) in
+      omega (arith, changes, weighs_all p s n (present_now p s ty n here), weighs_at_most p after n)
+
+  -- WHERE ONE COMES TO
+
+  -- the parameters of who is there
+  its_own : (s : State) (n : ℕ) (u : LiveTransaction) → at None s.transactions n ≡ Some u → parameters_of n s ≡ u.parameters
+  its_own s n u there = ap (λ o. option_map_or (λ (x : LiveTransaction). x.parameters) o no_parameters) there
+
+  -- a slope adds nothing where no parameter is set
+  nothing_added : (slope : Option (ℕ × ℕ)) → added slope no_parameters ≡ 0
+  nothing_added None = refl
+  nothing_added (Some slope) = ap (λ (v : Option ℤ). slope.1 * option_map_or above v 0) (at-replicate None 65 slope.0) ∙ omega arith
+
+  -- where a transaction may go there is a block
+  the_block : (o : Option Block) → IsSomeAnd o (λ block. is_generate (Some block) ≡ false) → (block : Block) × (o ≡ Some block)
+  the_block None h = absurd h
+  the_block (Some block) h = (block, refl)
+
+  -- who is written there, and is a member of no user chain, weighs no more than the block to which it goes on
+  lands : Weighted p → (ts : List (Option LiveTransaction)) (n : ℕ) (u : LiveTransaction) (a : Transaction) (row : Row) → at None ts n ≡ Some u → u.chain ≡ None → MayBeEntered p a.next → own_row p a.next ≡ Some row → weight_in p (at None (put_attributes n a ts) n) ≤ weighs_there p a.next u.parameters
+  lands weighted ts n u a row there free may row_is =
+      let block = the_block (block_at p.blocks a.next) may in
+      omega (arith, ap (weight_in p) (written_at ts n a u there), weighs_within p weighted (with_attributes a u) block.0 row free block.1 row_is)
 
   -- ARRIVALS AND COPIES
 
@@ -220,8 +244,8 @@ module _ (p : Parts) where
       omega (arith, same)
 
   module _ (weighted : Weighted p) where
-    arrive : (s : State) (b : ℕ) (g : Generate) (priority time : ℤ) → block_at p.blocks b ≡ Some (blocks.Generate g) → (takes_time g.interval.mean g.interval.half ≡ true → s.clock <ℤ time) → is_owed g.limit (at 0 s.scheduled b) ≡ true → b < length p.blocks + 1 → weight p (arrives b priority time s) ≤ weight p s
-    arrive s b g priority time is passes owed below = by_time (takes_time g.interval.mean g.interval.half) refl (int_lt s.clock time) refl
+    arrive : (s : State) (b : ℕ) (g : Generate) (priority time : ℤ) → block_at p.blocks b ≡ Some (blocks.Generate g) → (takes_time g.interval.mean g.interval.half ≡ true → s.clock <ℤ time) → is_owed g.limit (at 0 s.scheduled b) ≡ true → b < length p.blocks + 1 → (row : Row) → own_row p b ≡ Some row → weight p (arrives b priority time s) ≤ weight p s
+    arrive s b g priority time is passes owed below row row_is = by_time (takes_time g.interval.mean g.interval.half) refl (int_lt s.clock time) refl
       where
         n : ℕ
         n = length s.transactions
@@ -238,7 +262,7 @@ module _ (p : Parts) where
         owing = sum-but_one (owes p s) (owes p after) (length p.blocks + 1) b below (λ i other. owed_other s b priority time i other)
 
         weighs_new : weighs p after n ≤ weight_at p.weights b
-        weighs_new = let there = at-put None s.transactions n (Some (newcomer b priority s)) in omega (arith, weighs_at_most p after n, ap (weight_in p) there)
+        weighs_new = let there = at-put None s.transactions n (Some (newcomer b priority s)) in omega (arith, weighs_at_most p after n, ap (weight_in p) there, weighs_within p weighted (newcomer b priority s) (blocks.Generate g) row refl is row_is, nothing_added (slope_at p.slopes b))
 
         limited : (a c : Bool) → a ≡ false → IsTrue (a || c) → c ≡ true
         limited true c not some = absurd (false≢true (sym not))
@@ -257,13 +281,14 @@ module _ (p : Parts) where
             let now = owed_now s b priority time g is ∙ ap (λ (x : Bool). (if x then 0 else option_map_or (λ most. most - (at 0 s.scheduled b + 1)) g.limit 0) * weight_at p.weights b) may in
             omega (arith, grown, owing, weighs_new, before, now, paid_by_owed g.limit (at 0 s.scheduled b) (weight_at p.weights b) limit owed)
 
-  copy_comes : (s : State) (n : ℕ) (t : Transaction) (target : ℕ) → weight p (copied n t target s) ≤ weight p s + weight_at p.weights target
-  copy_comes s n t target =
+  copy_comes : Weighted p → (s : State) (n : ℕ) (t : Transaction) (target : ℕ) (row : Row) → MayBeEntered p target → own_row p target ≡ Some row → weight p (copied n t target s) ≤ weight p s + weighs_there p target (parameters_of n s)
+  copy_comes weighted s n t target row may row_is =
       let m = length s.transactions in
       let v : LiveTransaction = made_with (parameters_of n s) (record t { next = target }) in
       let after : State = copied n t target s in
+      let block = the_block (block_at p.blocks target) may in
       let grown = weight_grows s after (length-put_next None s.transactions (Some v)) (λ i lower. let other : i ≢ m = λ same. omega (arith, lower, same) in others_weigh s m (Some v) i other) in
-      omega (arith, grown, owed_same s after refl, weighs_at_most p after m, ap (weight_in p) (at-put None s.transactions m (Some v)))
+      omega (arith, grown, owed_same s after refl, weighs_at_most p after m, ap (weight_in p) (at-put None s.transactions m (Some v)), weighs_within p weighted v block.0 row refl block.1 row_is)
 
   -- RESTS
 
@@ -325,8 +350,8 @@ module _ (p : Parts) where
   rests_pay weighted s ty n LeavesModel c d may settles = omega (arith, left_model s ty n may.0, settles weighted)
 
   -- a member leaves its user chain for a block
-  member_leaves : (s : State) → WellTyped p s → (c target n : ℕ) (t : Transaction) (ns : List ℕ) → user_chain c s ≡ n ∷ ns → attributes_at n s.transactions ≡ Some t → weight p (leaves_chain c target n t s) + chain_weight p c ≤ weight p s + weight_at p.weights target
-  member_leaves s ty c target n t ns is found =
+  member_leaves : Weighted p → (s : State) → WellTyped p s → (c target n : ℕ) (t : Transaction) (ns : List ℕ) → user_chain c s ≡ n ∷ ns → attributes_at n s.transactions ≡ Some t → (row : Row) → MayBeEntered p target → own_row p target ≡ Some row → weight p (leaves_chain c target n t s) + chain_weight p c ≤ weight p s + weighs_there p target (parameters_of n s)
+  member_leaves weighted s ty c target n t ns is found row may row_is =
       let after : State = leaves_chain c target n t s in
       let bears = bearer_at s.transactions n t found in
       let v : LiveTransaction = with_chain None (with_attributes (record t { next = target }) bears.0) in
@@ -334,11 +359,13 @@ module _ (p : Parts) where
       let below = number_below s.transactions n t found in
       let here : 1 ≤ occurrences n (user_chain c s) = omega (arith, ap (occurrences n) is, same_number n n refl) in
       let none : occurrences n (numbers s.lists.future_events) ≡ 0 = omega (arith, ty.resides n, at_most_one (is_some (at None s.transactions n)), here, occurrences-one n s.lists.user_chains c) in
-      let was = weighs_all p s n none ∙ ap (weight_in p) bears.1 ∙ ap (weight_of p) (member_at p s ty c n here bears.0 bears.1) in
+      let was = weighs_all p s n none ∙ ap (weight_in p) bears.1 ∙ ap (λ (d : Option ℕ). weight_by p d bears.0.attributes.next (two_next p bears.0.attributes) bears.0.parameters) (its_chain (at None s.transactions n) bears.0 (Some c) bears.1 (member_of p s.transactions s.lists s.entities ty c n here)) in
       let lengths : length after.transactions ≡ length s.transactions = ap (λ (xs : List (Option LiveTransaction)). length xs) same ∙ length-put None s.transactions n (Some v) below in
-      let now : weight_in p (at None after.transactions n) ≡ weight_at p.weights target = ap (λ xs. weight_in p (at None xs n)) same ∙ ap (weight_in p) (at-put None s.transactions n (Some v)) in
+      let now : weight_in p (at None after.transactions n) ≡ weight_in p (Some v) = ap (λ xs. weight_in p (at None xs n)) same ∙ ap (weight_in p) (at-put None s.transactions n (Some v)) in
+      let block = the_block (block_at p.blocks target) may in
+      let most = weighs_within p weighted v block.0 row refl block.1 row_is in
       let changes = weight_changes s after n below lengths refl (λ i other. ap (λ xs. if is_later s i then 0 else weight_in p (at None xs i)) same ∙ others_weigh s n (Some v) i other) in
-      omega (arith, changes, was, now, weighs_at_most p after n)
+      omega (arith, changes, was, now, most, ap (weighs_there p target) (its_own s n bears.0 bears.1), weighs_at_most p after n)
 
   -- the clock moves to where it is
   clock_stays : (s : State) (time : ℤ) → time ≡ s.clock → weight p (clock_moves time s) ≡ weight p s
@@ -349,24 +376,40 @@ module _ (p : Parts) where
   -- EACH CHANGE
 
   -- what the weight falls by and the credit pay for the entries that a change makes
-  change-weighs : Weighted p → {en ar c en' ar' d : ℕ} {s t : State} → Change p en ar c s en' ar' d t → WellTyped p s → IsWithin (length p.blocks) (length p.entities) en ar s → t.clock ≡ s.clock → weight p t + sum t.entries + d ≤ weight p s + sum s.entries + c
+  change-weighs : FlowHolds p (own_table p) → Weighted p → {en ar c en' ar' d : ℕ} {s t : State} → Change p en ar c s en' ar' d t → WellTyped p s → IsWithin (length p.blocks) (length p.entities) en ar s → t.clock ≡ s.clock → weight p t + sum t.entries + d ≤ weight p s + sum s.entries + c
   unfolding weight
-  change-weighs weighted (Goes {s = s} n to t u block row state h is same here known along may balance pays) ty w clock = omega (arith, enters s ty n to t u block row h is here, sum-raised u.next s.entries, pays weighted)
-  change-weighs weighted (EntersLast {s = s} n t block row is here pays) ty w clock = omega (arith, enters s ty n t.next t t block row s.entities is here, sum-raised t.next s.entries, pays weighted)
-  change-weighs weighted (GoesWith {s = s} n to q value t block row state is here known along may balance pays) ty w clock = omega (arith, enters_with s ty n to q value t block row is here, sum-raised t.next s.entries, pays weighted)
-  change-weighs weighted (Arrives {s = s} b g row priority time block is none later passes owed few) ty w clock = omega (arith, arrive weighted s b g priority time block passes owed (omega (arith, block_below p.blocks b (blocks.Generate g) block)))
-  change-weighs weighted (Copied {s = s} n target b t u block row state found mark known block_is row_is along may facilities units few pays) ty w clock = omega (arith, copy_comes s n t target, pays weighted)
-  change-weighs weighted (Rests {c = c} {d = d} {s = s} n placement may settles) ty w clock = omega (arith, rests_pay weighted s ty n placement c d may settles, ap (λ (xs : List ℕ). sum xs) (placed_at-leaves n placement s).entries)
-  change-weighs weighted (Called e n here below) ty w clock = omega arith
-  change-weighs weighted (Assembled a is) ty w clock = omega arith
-  change-weighs weighted (Comes a is more) ty w clock = omega arith
-  change-weighs weighted (Unlinked {s = s} c target n t ns members row is found members_is row_is fits may below pays) ty w clock = omega (arith, member_leaves s ty c target n t ns is found, pays weighted)
-  change-weighs weighted Woken ty w clock = omega arith
-  change-weighs weighted (Activates n ns nobody first) ty w clock = omega arith
-  change-weighs weighted (ClockMoves {s = s} e es is) ty w clock = omega (arith, clock_stays s e.time clock)
-  change-weighs weighted (Draws streams same) ty w clock = omega arith
-  change-weighs weighted (Counts by) ty w clock = omega arith
-  change-weighs weighted (Marks steps ended) ty w clock = omega arith
+  change-weighs flow weighted (Goes {s = s} n to t u block row state h is same here known along may balance pays) ty w clock =
+      let lead = leads p t.next to block row state (flow.each_row t.next block row is.block_is is.row_is) along in
+      let bears = bearer_at s.transactions n t is.found in
+      let most = lands weighted s.transactions n bears.0 (record u { current = u.next; next = to }) lead.row bears.1 (its_chain (at None s.transactions n) bears.0 None bears.1 is.free) may lead.is in
+      omega (arith, enters s ty n to t u h is.found here, most, ap (weighs_there p to) (its_own s n bears.0 bears.1), sum-raised u.next s.entries, pays weighted)
+  change-weighs flow weighted (EntersLast {s = s} n t block row is here pays) ty w clock = omega (arith, enters s ty n t.next t t s.entities is.found here, sum-raised t.next s.entries, pays weighted)
+  change-weighs flow weighted (Turns {s = s} n to t block row is here along may pays) ty w clock =
+      let lead = leads p t.next to block row row (flow.each_row t.next block row is.block_is is.row_is) along in
+      let bears = bearer_at s.transactions n t is.found in
+      let most = lands weighted s.transactions n bears.0 (towards to t) lead.row bears.1 (its_chain (at None s.transactions n) bears.0 None bears.1 is.free) may lead.is in
+      omega (arith, turns s ty n to t is.found here, most, ap (weighs_there p to) (its_own s n bears.0 bears.1), pays weighted)
+  change-weighs flow weighted (GoesWith {s = s} n to q value t block row state is here known along may balance pays) ty w clock =
+      let lead = leads p t.next to block row state (flow.each_row t.next block row is.block_is is.row_is) along in
+      let bears = bearer_at s.transactions n t is.found in
+      let set_at : at None (put_parameter n q value s.transactions) n ≡ Some (with_parameter q value bears.0) = at-put None s.transactions n (option_map (with_parameter q value) (at None s.transactions n)) ∙ ap (option_map (with_parameter q value)) bears.1 in
+      let most = lands weighted (put_parameter n q value s.transactions) n (with_parameter q value bears.0) (record t { current = t.next; next = to }) lead.row set_at (its_chain (at None s.transactions n) bears.0 None bears.1 is.free) may lead.is in
+      omega (arith, enters_with s ty n to q value t is.found here, most, ap (λ xs. weighs_there p to (put None xs q (Some value))) (its_own s n bears.0 bears.1), sum-raised t.next s.entries, pays weighted)
+  change-weighs flow weighted (Arrives {s = s} b g row priority time block is none later passes owed few) ty w clock = omega (arith, arrive weighted s b g priority time block passes owed (omega (arith, block_below p.blocks b (blocks.Generate g) block)) row is)
+  change-weighs flow weighted (Copied {s = s} n target b t u block row state found mark known block_is row_is along may facilities units few pays) ty w clock =
+      let lead = leads p b target block row state (flow.each_row b block row block_is row_is) along in
+      omega (arith, copy_comes weighted s n t target lead.row may lead.is, pays weighted)
+  change-weighs flow weighted (Rests {c = c} {d = d} {s = s} n placement may settles) ty w clock = omega (arith, rests_pay weighted s ty n placement c d may settles, ap (λ (xs : List ℕ). sum xs) (placed_at-leaves n placement s).entries)
+  change-weighs flow weighted (Called e n here below) ty w clock = omega arith
+  change-weighs flow weighted (Assembled a is) ty w clock = omega arith
+  change-weighs flow weighted (Comes a is more) ty w clock = omega arith
+  change-weighs flow weighted (Unlinked {s = s} c target n t ns members row is found members_is row_is fits may below pays) ty w clock = omega (arith, member_leaves weighted s ty c target n t ns is found row may row_is, pays weighted)
+  change-weighs flow weighted Woken ty w clock = omega arith
+  change-weighs flow weighted (Activates n ns nobody first) ty w clock = omega arith
+  change-weighs flow weighted (ClockMoves {s = s} e es is) ty w clock = omega (arith, clock_stays s e.time clock)
+  change-weighs flow weighted (Draws streams same) ty w clock = omega arith
+  change-weighs flow weighted (Counts by) ty w clock = omega arith
+  change-weighs flow weighted (Marks steps ended) ty w clock = omega arith
 
   -- THE CLOCK
 
@@ -377,6 +420,7 @@ module _ (p : Parts) where
   change-later : {en ar c en' ar' d : ℕ} {s t : State} → Change p en ar c s en' ar' d t → IsWithin (length p.blocks) (length p.entities) en ar s → s.clock ≤ℤ t.clock
   change-later (Goes n to t u block row state h is same here known along may balance pays) w = omega (arith, ints)
   change-later (EntersLast n t block row is here pays) w = omega (arith, ints)
+  change-later (Turns n to t block row is here along may pays) w = omega (arith, ints)
   change-later (GoesWith n to q value t block row state is here known along may balance pays) w = omega (arith, ints)
   change-later (Arrives b g row priority time block is none later passes owed few) w = omega (arith, ints)
   change-later (Copied n target b t u block row state found mark known block_is row_is along may facilities units few pays) w = omega (arith, ints)
@@ -405,4 +449,4 @@ module _ (p : Parts) where
       let within = change-within p x w in
       let here : t.clock ≡ s.clock = omega (arith, ints, change-later x w, trace-later xs within, clock) in
       let there : u.clock ≡ t.clock = clock ∙ sym here in
-      omega (arith, change-weighs weighted x ty w here, trace-weighs flow weighted xs (change-keeps p flow x ty) within there)
+      omega (arith, change-weighs flow weighted x ty w here, trace-weighs flow weighted xs (change-keeps p flow x ty) within there)

@@ -1,4 +1,5 @@
 -- What each elementary change does to the numbers of a state.
+use Rattle.gw_step.specs.Turning.{towards, turned}
 use Rattle.gw_step.specs.declared.ends.End.{End}
 use Rattle.std.proofs.Common.{◌≡◌, ℕ, suc, ◌+◌, ◌^◌, ◌≤◌, ◌<◌, ℤ, pos, ◌≤ℤ◌, List, [], ◌∷◌, ◌++◌, length, Some, None, Bool, true, false, if◌then◌else◌, ◌==◌, refl, ap, ◌∙◌, arith, inl, inr, Option, sym, subst, option_map}
 use Rattle.std.proofs.lemmas.Int.{ints}
@@ -253,6 +254,12 @@ module _ (bs es en ar : ℕ) (s : State) (w : IsWithin bs es en ar s) where
   pub within-destroyed : (n : ℕ) → n < length s.transactions → IsWithin bs es en ar (destroyed n s)
   within-destroyed n there =
       within-by (destroyed n s) en ar refl refl refl refl refl w.whole.streams w.entries (omega (arith, w.made, length-put None s.transactions n None there)) w.scheduled (marked-put s.transactions n None tt w.marked) w.clock w.future
+
+  -- a transaction turns to another block
+  pub within-turned : (n to : ℕ) (t : Transaction) → n < length s.transactions → pos 0 ≤ℤ t.mark → IsWithin bs es en ar (turned n t to s)
+  within-turned n to t there marks =
+      let made = length-put None s.transactions n (option_map (with_attributes (towards to t)) (at None s.transactions n)) there in
+      within-by (turned n t to s) en ar refl refl refl refl refl w.whole.streams w.entries (omega (arith, w.made, made)) w.scheduled (marked-written s.transactions n (towards to t) marks w.marked) w.clock w.future
 
   -- a parameter is set
   pub within-assigned : (n p : ℕ) (value : ℤ) → n < length s.transactions → IsWithin bs es en ar (assigned n p value s)

@@ -6,6 +6,7 @@ use Rattle.std.specs.List.{find}
 use Rattle.gw_blocks.specs.declared.parts.Generate.{Generate}
 use Rattle.gw_blocks.specs.declared.parts.Units.{Units}
 use Rattle.gw_blocks.specs.declared.parts.Fraction.{Fraction}
+use Rattle.gw_blocks.specs.declared.parts.Both.{Both}
 use Rattle.gw_blocks.specs.declared.parts.Comparison.{Comparison}
 use Rattle.gw_blocks.specs.declared.parts.Comparison.TheVariants.{Equal, NotEqual, Greater, GreaterOrEqual, Less, LessOrEqual}
 use Rattle.gw_blocks.specs.declared.parts.Test.{Test}
@@ -98,10 +99,10 @@ refuses n (blocks.Gate gate) values s = is_none gate.otherwise && not (is_so gat
 refuses n block values s = false
 
 -- where a transaction rests that a block refused
-abbrev pub refusal : Block → Placement
-refusal (blocks.Seize f) = JoinsDelayList f
-refusal (blocks.Enter u) = JoinsDelayList u.entity
-refusal block = JoinsRetryList
+abbrev pub refused_placement : Block → Placement
+refused_placement (blocks.Seize f) = JoinsDelayList f
+refused_placement (blocks.Enter u) = JoinsDelayList u.entity
+refused_placement block = JoinsRetryList
 
 -- ENTERING
 
@@ -238,6 +239,11 @@ transfer bs n t target s = leads bs target (stays (entered n t target s))
 -- where a TRANSFER by fraction, the block of number b, leads to when so many thousandths are drawn
 abbrev pub chosen : ℕ → Fraction → ℤ → ℕ
 chosen b f drawn = if int_lt drawn (pos f.thousandths) then f.target else unwrap_or f.otherwise (b + 1)
+
+-- the effect of TRANSFER BOTH: the transaction enters and stays at its block; both of its next blocks have to be there
+abbrev pub both : List Block → ℕ → Transaction → Both → State → Outcome (State × Placement)
+both bs n t two s =
+    leads bs (leads_to t.next (goes_or_falls two.first)) (leads bs two.second (stays (entered n t t.next s)))
 
 -- SUBROUTINES
 
@@ -413,6 +419,7 @@ effect p n t (blocks.Test test) values s = transfer p.blocks n t (led_by t.next 
 effect p n t (blocks.Gate gate) values s = transfer p.blocks n t (led_by t.next gate.otherwise (is_so gate.condition gate.entity s)) s
 effect p n t (blocks.Transfer target) values s = transfer p.blocks n t target s
 effect p n t (blocks.TransferByFraction f) values s = transfer p.blocks n t (chosen t.next f (the_value values)) s
+effect p n t (blocks.TransferBoth two) values s = both p.blocks n t two s
 effect p n t (blocks.TransferToSubroutine c) values s = call p.blocks n t c s
 effect p n t (blocks.TransferByParameter q) values s = come_back p.blocks n t q s
 effect p n t (blocks.Loop l) values s = loop p.blocks n t l s
@@ -435,7 +442,10 @@ then_placed n outcome = outcome >>= λ e. Gives (placed n e.1 e.0)
 
 -- the block refuses the active transaction n, which is t, or is entered by it
 abbrev pub meets : Parts → ℕ → Transaction → Block → List ℤ → State → Outcome State
-meets p n t block values s = if refuses n block values s then Gives (placed n (refusal block) s) else then_placed n (effect p n t block values s)
+meets p n t block values s =
+    if refuses n block values s
+    then Gives (placed n (refused_placement block) s)
+    else then_placed n (effect p n t block values s)
 
 -- the active transaction n, which is t, at its next block: the operands are evaluated before it enters, and their draws stand also where it is refused
 unfoldable pub act : Parts → ℕ → Transaction → Block → State → Outcome State

@@ -10,7 +10,6 @@ use Rattle.gw_step.specs.Step.{step}
 use Rattle.gw_step.specs.Typing.{WellTyped, AreConserved, IsWoken}
 use Rattle.gw_step.specs.Start.{start}
 use Rattle.gw_step.specs.Numbers.{IsWithin, made_in, AreWithinLimits, AreFewLive}
-use Rattle.gw_step.specs.Weight.{weight, most_weight}
 
 -- what a job runs: the parts of its object, the seeds of the 16 streams, the termination count, and at most how many steps
 pub record Job : Type 0 where
@@ -94,7 +93,6 @@ pub record IsBounded (j : Job) (s : State) : Type 0 where
   pub live : AreFewLive s.transactions
   pub conserved : AreConserved s.entities
   pub woken : IsWoken s
-  pub weight : weight j.parts s ≤ most_weight
 
 -- a state that its job reaches: the lone run has it after as many steps, and it is well-typed
 pub record IsReached (p : Progress) : Type 0 where

@@ -14,6 +14,7 @@ pub mod Job
 pub mod Laws
 pub mod Residence
 pub mod Places
+pub mod Turning
 pub mod Typing
 pub mod Safety
 pub mod Weight

@@ -1,7 +1,12 @@
 -- The moment bound: within one clock moment a job makes no more block entries than its certified weight, and so no more steps than that allows.
-use Rattle.std.specs.Prelude.{◌≡◌, ◌⊎◌, ℕ, ◌+◌, ◌*◌, ◌≤◌, ◌<ℤ◌, sum}
+use Rattle.std.specs.Prelude.{◌≡◌, ◌⊎◌, ℕ, ◌+◌, ◌*◌, ◌≤◌, ◌<ℤ◌, List, sum, Option, None, IfSome}
 use Rattle.gw_step.specs.State.{State}
-use Rattle.gw_step.specs.Weight.{weight}
+use Rattle.gw_object.specs.declared.parts.Parts.{Parts}
+use Rattle.gw_object.specs.Grammar.{HasSpelling}
+use Rattle.gw_num.specs.Table.{at}
+use Rattle.gw_transactions.specs.Transactions.{LiveTransaction}
+use Rattle.gw_step.specs.Numbers.{AreFewLive}
+use Rattle.gw_step.specs.Weight.{height, weight, most_weight}
 use Rattle.gw_step.specs.Job.{Job, JobFits, IsFinal, Alone}
 
 -- of two states of one clock moment the later one has come: m and n steps of the job lead to s and to t
@@ -40,3 +45,12 @@ pub record Over (j : Job) (before : ℕ) (s : State) : Type 0 where
 -- no job hangs in a clock moment
 abbrev pub MomentsPass : Type 0
 MomentsPass = (j : Job) (n : ℕ) (s : State) → JobFits j → Alone j n s → Over j n s
+
+-- no parameter of a live transaction is above this
+abbrev pub AreNoHigher : ℕ → List (Option LiveTransaction) → Type 0
+AreNoHigher highest txs = (n : ℕ) → IfSome (at None txs n) (λ t. (q : ℕ) → height q t.parameters ≤ highest)
+
+-- a state in which few are live, and no parameter is above a number, weighs no more than what that number allows
+abbrev pub StatesWeighLittle : Type 0
+StatesWeighLittle = (p : Parts) (s : State) (highest : ℕ) → HasSpelling p → AreFewLive s.transactions
+    → AreNoHigher highest s.transactions → weight p s ≤ most_weight highest

@@ -12,6 +12,9 @@ use Rattle.gw_rules.specs.Accepted.{Checked}
 use Rattle.gw_step.specs.State.{State}
 use Rattle.gw_step.specs.Job.{Job, JobFits, Step, IsFinal, IsStuck, Alone, start_of}
 use Rattle.gw_step.specs.Residence.{occurrences, occurrences_in}
+use Rattle.gw_transactions.specs.declared.Transaction.{Transaction}
+use Rattle.gw_transactions.specs.Transactions.{attributes_at}
+use Rattle.gw_step.specs.Turning.{two_next, turned}
 use Rattle.gw_step.specs.Typing.{WellTyped, AreWithinCapacity, AreConserved, IsWoken}
 
 -- a job of a checked object has a start state
@@ -37,6 +40,13 @@ ParametersSuffice = (p : Parts) (s : State) → Checked p → HasSpelling p → 
 -- and the interval of a GENERATE asks for no parameter at all
 abbrev pub IntervalsAskForNothing : Type 0
 IntervalsAskForNothing = (p : Parts) (b : ℕ) (g : Generate) (env : Environment) → Checked p → HasSpelling p → block_at p.blocks b ≡ Some (blocks.Generate g) → MayDraw p env g.interval
+
+-- who has two next blocks in a well-typed state turns to either, and the state stays well-typed
+abbrev pub TurnsKeepTypes : Type 0
+TurnsKeepTypes =
+    (p : Parts) (s : State) (n : ℕ) (t : Transaction) (pair : ℕ × ℕ) → Checked p → WellTyped p s
+    → s.lists.active ≡ Some n → attributes_at n s.transactions ≡ Some t → two_next p t ≡ Some pair
+    → WellTyped p (turned n t pair.0 s) × WellTyped p (turned n t pair.1 s)
 
 -- in a well-typed state the active transaction has all that its next block asks for
 abbrev pub BlocksAreServed : Type 0

@@ -1,13 +1,20 @@
 -- One step of a job.
-use Rattle.std.specs.Prelude.{ℕ, ◌+◌, List, [], ◌∷◌, Option, Some, None, ◌==◌, ◌&&◌, is_none, if◌then◌else◌}
+use Rattle.std.specs.Prelude.{Bool, ℕ, ◌+◌, List, [], ◌∷◌, Option, Some, None, ◌==◌, ◌&&◌, is_none, if◌then◌else◌}
+use Rattle.gw_blocks.specs.declared.parts.Block.{Block}
 use Rattle.gw_object.specs.declared.parts.Parts.{Parts}
 use Rattle.gw_rules.specs.Kinds.{block_at}
 use Rattle.gw_transactions.specs.Transactions.{attributes_at}
 use Rattle.gw_step.specs.declared.ends.End.TheVariants.{NoMoreEvents, Budget}
-use Rattle.gw_step.specs.Outcome.{Outcome, Gives, EndsBy, HasNoCase, ◌>>=◌, case_of}
-use Rattle.gw_step.specs.State.{FutureEvent, State}
+use Rattle.gw_step.specs.Outcome.{Outcome, Gives, EndsBy, HasNoCase, ◌>>=◌, case_of, evaluated}
+use Rattle.gw_operands.specs.Values.{operands}
+use Rattle.gw_transactions.specs.declared.Transaction.{Transaction}
+use Rattle.gw_step.specs.declared.placement.Placement.TheVariants.{JoinsRetryList}
+use Rattle.gw_step.specs.Placing.{placed}
+use Rattle.gw_step.specs.Times.{environment_of}
+use Rattle.gw_step.specs.Turning.{two_next, towards, turned}
+use Rattle.gw_step.specs.State.{FutureEvent, State, with_streams}
 use Rattle.gw_step.specs.Changes.{clock_moves, woken}
-use Rattle.gw_step.specs.Blocks.{act}
+use Rattle.gw_step.specs.Blocks.{refuses, act}
 
 -- THE SCAN
 
@@ -21,10 +28,39 @@ abbrev pub next_active : List ℕ → State → Outcome State
 next_active [] s = next_event s.lists.future_events s
 next_active (n ∷ ns) s = Gives (record s { lists = record s.lists { active = Some n; current_events = ns } })
 
+-- the transaction n, which is t, meets its one next block
+abbrev pub meets_one : Parts → ℕ → Transaction → State → Outcome State
+meets_one p n t s = case_of (block_at p.blocks t.next) >>= λ block. act p n t block s
+
+-- whether a block refuses n, which is t and meets it next, and the streams after its operands
+abbrev pub refusal_by : Parts → ℕ → Transaction → Block → State → Outcome (Bool × List ℕ)
+refusal_by p n t block s =
+    evaluated (operands p (environment_of n t s) block s.streams) >>= λ read.
+    Gives (refuses n block read.0 (with_streams read.1 s), read.1)
+
+-- the same of its one next block
+abbrev pub refusal : Parts → ℕ → Transaction → State → Outcome (Bool × List ℕ)
+refusal p n t s = case_of (block_at p.blocks t.next) >>= λ block. refusal_by p n t block s
+
+-- the transaction n, which is t, turns to a block and meets it; refused it does something else, and the draws stand
+abbrev pub tries : Parts → ℕ → Transaction → ℕ → (State → Outcome State) → State → Outcome State
+tries p n t b otherwise s =
+    refusal p n (towards b t) (turned n t b s) >>= λ answer.
+    if answer.0 then otherwise (with_streams answer.1 s) else meets_one p n (towards b t) (turned n t b s)
+
+-- the first of two next blocks, else the second; refused at both it rests on the retry list, and keeps both
+abbrev pub tries_both : Parts → ℕ → Transaction → ℕ × ℕ → State → Outcome State
+tries_both p n t pair s = tries p n t pair.0 (λ u. tries p n t pair.1 (λ v. Gives (placed n JoinsRetryList v)) u) s
+
+-- the transaction n, which is t, goes on to its one next block, or to one of its two
+abbrev pub goes_on : Parts → ℕ → Transaction → Option (ℕ × ℕ) → State → Outcome State
+goes_on p n t None s = meets_one p n t s
+goes_on p n t (Some pair) s = tries_both p n t pair s
+
 -- what a step does, but for the count of steps: the active transaction meets its next block, or another becomes active
 abbrev pub scan : Parts → Option ℕ → State → Outcome State
 scan p None s = next_active s.lists.current_events s
-scan p (Some n) s = case_of (attributes_at n s.transactions) >>= λ t. case_of (block_at p.blocks t.next) >>= λ block. act p n t block s
+scan p (Some n) s = case_of (attributes_at n s.transactions) >>= λ t. goes_on p n t (two_next p t) s
 
 -- THE STEP
 

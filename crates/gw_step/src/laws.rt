@@ -15,6 +15,7 @@ ghost use Rattle.gw_step.specs.Safety.{
   CheckedObjectsStart,
   StartIsWellTyped,
   StepsKeepTypes,
+  TurnsKeepTypes,
   WellTypedStatesStep,
   ParametersSuffice,
   IntervalsAskForNothing,
@@ -27,7 +28,7 @@ ghost use Rattle.gw_step.specs.Safety.{
   StoragesLoseNoUnit,
   RestingStatesAreWoken,
 };
-ghost use Rattle.gw_step.specs.Moments.{EntriesArePaid, EntriesAreWithinWeight, StepsAreWithinWeight, MomentsPass};
+ghost use Rattle.gw_step.specs.Moments.{EntriesArePaid, EntriesAreWithinWeight, StatesWeighLittle, StepsAreWithinWeight, MomentsPass};
 
 /// Each state has at most one step, and so a job has at most one state after so many steps.
 #[tactic(auto, using(crate::proofs::Slices::one_step, crate::proofs::Slices::one_state))]
@@ -123,4 +124,17 @@ pub fn entries_are_within_weight()
 pub fn moments_pass()
     ensures within { StepsAreWithinWeight }
     ensures over { MomentsPass }
+{}
+
+/// Who has two next blocks turns to either of them, and the state stays well-typed: so what is said of the active
+/// transaction and its one next block is said of each of the two (ours: docs/machine.md, "Well-typed states").
+#[tactic(auto, using(crate::proofs::Safe::turns_keep_types))]
+pub fn turns_keep_types()
+    ensures { TurnsKeepTypes }
+{}
+
+/// A state in which at most 65,536 transactions are live, and no parameter is above a number, weighs no more than that
+/// number allows (ours: docs/weights.md).
+pub fn states_weigh_little()
+    ensures { StatesWeighLittle }
 {}

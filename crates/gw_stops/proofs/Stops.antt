@@ -1,5 +1,5 @@
 -- Each error stop is stuck.
-use Rattle.std.proofs.Common.{◌≡◌, ℕ, zero, suc, ◌+◌, ◌<◌, ℤ, pos, ◌-ℤ◌, List, [], ◌∷◌, ◌++◌, Option, Some, None, Bool, true, false, not, if◌then◌else◌, is_some, ◌&&◌, nat_le, ◌==◌, Result, Ok, refl, sym, ap, ◌∙◌, subst, arith, inl, inr, option_map, option_to_list}
+use Rattle.std.proofs.Common.{◌≡◌, ◌⊎◌, ℕ, zero, suc, ◌+◌, ◌<◌, ℤ, pos, ◌-ℤ◌, List, [], ◌∷◌, ◌++◌, Option, Some, None, Bool, true, false, not, if◌then◌else◌, is_some, ◌&&◌, nat_le, ◌==◌, Result, Ok, refl, sym, ap, ◌∙◌, subst, arith, inl, inr, option_map, option_to_list}
 use Rattle.std.specs.Prelude.{int_lt, IfSome}
 use Rattle.std.proofs.lemmas.Bool.{lt-leb, le-leb, false≢true, or_left, or_right, ne_eqb}
 use Rattle.std.proofs.lemmas.Int.{ints}
@@ -18,7 +18,7 @@ use Rattle.gw_num.specs.Table.{at}
 use Rattle.gw_num.specs.Arithmetic.{difference_of}
 use Rattle.gw_num.specs.declared.arithmetic.NumFault.{NumFault}
 use Rattle.gw_transactions.specs.declared.Transaction.{Transaction}
-use Rattle.gw_transactions.specs.Transactions.{attributes_at, parameter_at, live_count}
+use Rattle.gw_transactions.specs.Transactions.{parameter_at, live_count}
 use Rattle.gw_entities.specs.declared.facilities.Facility.{Facility}
 use Rattle.gw_entities.specs.declared.storages.Storage.{Storage}
 use Rattle.gw_entities.specs.Facility.{idle, is_owned_by, owns_any, seizing, releasing, released, is_idle, seized}
@@ -29,14 +29,18 @@ use Rattle.gw_step.specs.Outcome.{Outcome, Gives, EndsBy, HasNoCase, ◌>>=◌, 
 use Rattle.gw_step.specs.State.{Assembly, State, may_enter, with_streams}
 use Rattle.gw_step.specs.Times.{environment_of, environment_of_next, moment_after, drawn_moment}
 use Rattle.gw_step.specs.Changes.{facility, storage, queue}
-use Rattle.gw_step.specs.Blocks.{has_to_wait, refuses, the_value, leads, is_owed, next_arrival, others_lead, block_after, looped, assembly_at, assemble_in, taken_by, plus, then_placed, effect, meets, act}
+use Rattle.gw_step.specs.Blocks.{has_to_wait, refuses, refused_placement, the_value, leads, is_owed, next_arrival, others_lead, block_after, looped, assembly_at, assemble_in, taken_by, plus, then_placed, effect, meets, act}
 use Rattle.gw_step.specs.Start.{nothing, started, first_moment, first_arrival, first_arrivals}
-use Rattle.gw_step.specs.Step.{scan}
+use Rattle.gw_step.specs.declared.placement.Placement.TheVariants.{JoinsRetryList}
+use Rattle.gw_step.specs.Placing.{placed}
+use Rattle.gw_step.specs.Turning.{two_next, towards, turned}
+use Rattle.gw_step.specs.Step.{meets_one, tries, goes_on, scan}
 use Rattle.gw_step.specs.Job.{Job, IsStuck}
 use Rattle.gw_step.proofs.Steps.{step-none}
 use Rattle.gw_stops.specs.Activations.{OneLacksValue}
+use Rattle.gw_stops.specs.Attempts.{Attempt, at_its_one, at_the_first, at_the_second, Attempts, Tries}
 use Rattle.gw_stops.specs.Moves.{IsNoTarget, goes_on_to, ComesToNoEnd}
-use Rattle.gw_stops.specs.Stops.{Tries, ReleaseOfAnothersStops, SeizeOfOnesOwnStops, TerminateWhileOwningStops, AssembleWhileOwningStops, LeaveOfTooMuchStops, DepartOfTooMuchStops, EnterAboveCapacityStops, MissingBlockStops, MoveToNoTargetStops, CopiesToNoTargetStop, MembersToNoTargetStop, OperandWithoutValueStops, LoopByUnsetStops, ReturnByUnsetStops, IntervalWithoutValueStops, ArrivalWithoutValueHasNoStart}
+use Rattle.gw_stops.specs.Stops.{ReleaseOfAnothersStops, SeizeOfOnesOwnStops, TerminateWhileOwningStops, AssembleWhileOwningStops, LeaveOfTooMuchStops, DepartOfTooMuchStops, EnterAboveCapacityStops, MissingBlockStops, MoveToNoTargetStops, ChoiceOfNoTargetStops, CopiesToNoTargetStop, MembersToNoTargetStop, OperandWithoutValueStops, LoopByUnsetStops, ReturnByUnsetStops, IntervalWithoutValueStops, ArrivalWithoutValueHasNoStart}
 use Rattle.gw_stops.proofs.Activations.{lacks_value}
 
 -- OUTCOMES WITHOUT A CASE
@@ -86,17 +90,55 @@ leads_to_none bs a b o to none = let same : a ≡ b = cc in leads_none bs a o (s
 
 -- A STATE WITHOUT A CASE
 
--- what the active transaction n, which is t, comes to at this block
-stuck_before : (j : Job) (s : State) (n : ℕ) (t : Transaction) → s.ended ≡ None → s.lists.active ≡ Some n → attributes_at n s.transactions ≡ Some t → (case_of (block_at j.parts.blocks t.next) >>= λ block. act j.parts n t block s) ≡ HasNoCase → IsStuck j s
-stuck_before j s n t runs active found none = (
-  runs,
-  step-none j.parts j.budget s runs
-      (ap (λ a. scan j.parts a s) active ∙ ap (λ o. case_of o >>= λ t. case_of (block_at j.parts.blocks t.next) >>= λ block. act j.parts n t block s) found ∙ none),
+module _ (p : Parts) (n : ℕ) where
+  -- who has no case at a block isn't refused there
+  unrefused : (t : Transaction) (block : Block) (u : State) (read : List ℤ × List ℕ) (refused : Bool) → (if refused then Gives (placed n (refused_placement block) (with_streams read.1 u)) else then_placed n (effect p n t block read.0 (with_streams read.1 u))) ≡ HasNoCase → refused ≡ false
+  unrefused t block u read true none = absurd cc
+  unrefused t block u read false none = refl
+
+  -- where a transaction has no case at its one next block, neither has what tries it
+  module _ (t : Transaction) (u : State) (otherwise : List ℕ → Outcome State) where
+    abbrev answered_so : Bool × List ℕ → Outcome State
+    answered_so answer = if answer.0 then otherwise answer.1 else meets_one p n t u
+
+    by_operands : (block : Block) (read : Outcome (List ℤ × List ℕ)) → meets_one p n t u ≡ HasNoCase → (read >>= λ read. meets p n t block read.0 (with_streams read.1 u)) ≡ HasNoCase
+        → ((read >>= λ read. Gives (refuses n block read.0 (with_streams read.1 u), read.1)) >>= answered_so) ≡ HasNoCase
+    by_operands block (Gives read) met none = ap (λ refused. answered_so (refused, read.1)) (unrefused t block u read (refuses n block read.0 (with_streams read.1 u)) none) ∙ met
+    by_operands block (EndsBy end) met none = absurd cc
+    by_operands block HasNoCase met none = refl
+
+    by_block : (block : Option Block) → meets_one p n t u ≡ HasNoCase → (case_of block >>= λ block. act p n t block u) ≡ HasNoCase
+        → ((case_of block >>= λ block. evaluated (operands p (environment_of n t u) block u.streams) >>= λ read. Gives (refuses n block read.0 (with_streams read.1 u), read.1)) >>= answered_so) ≡ HasNoCase
+    unfolding act
+    by_block None met none = refl
+    by_block (Some block) met none = by_operands block (evaluated (operands p (environment_of n t u) block u.streams)) met none
+
+  tries_none : (t : Transaction) (b : ℕ) (otherwise : State → Outcome State) (s : State) → meets_one p n (towards b t) (turned n t b s) ≡ HasNoCase → tries p n t b otherwise s ≡ HasNoCase
+  tries_none t b otherwise s none = by_block (towards b t) (turned n t b s) (λ streams. otherwise (with_streams streams s)) (block_at p.blocks b) none none
+
+  goes_on_none : (s u : State) (own t : Transaction) → Attempt p s n own t u → meets_one p n t u ≡ HasNoCase → goes_on p n own (two_next p own) s ≡ HasNoCase
+  goes_on_none s u own t (at_its_one one) none = ap (λ two. goes_on p n own two s) one ∙ none
+  goes_on_none s u own t (at_the_first {pair = pair} two) none =
+      ap (λ two. goes_on p n own two s) two ∙ tries_none own pair.0 (λ v. tries p n own pair.1 (λ w. Gives (placed n JoinsRetryList w)) v) s none
+  goes_on_none s u own t (at_the_second {pair = pair} {streams = streams} two refused) none =
+      ap (λ two. goes_on p n own two s) two
+      ∙ ap (λ o. o >>= λ answer. if answer.0 then tries p n own pair.1 (λ w. Gives (placed n JoinsRetryList w)) (with_streams answer.1 s) else meets_one p n (towards pair.0 own) (turned n own pair.0 s)) refused
+      ∙ tries_none own pair.1 (λ w. Gives (placed n JoinsRetryList w)) (with_streams streams s) none
+
+-- what an attempt of the active transaction comes to
+stuck_before : (j : Job) (s u : State) (n : ℕ) (t : Transaction) → Attempts j s u n t → meets_one j.parts n t u ≡ HasNoCase → IsStuck j s
+stuck_before j s u n t attempts none = (
+  attempts.runs,
+  step-none j.parts j.budget s attempts.runs
+      (ap (λ a. scan j.parts a s) attempts.active
+      ∙ ap (λ o. case_of o >>= λ own. goes_on j.parts n own (two_next j.parts own) s) attempts.found
+      ∙ goes_on_none j.parts n s u attempts.own t attempts.attempt none),
 )
 
-stuck_at : (j : Job) (s : State) (n : ℕ) (t : Transaction) (block : Block) → Tries j s n t block → act j.parts n t block s ≡ HasNoCase → IsStuck j s
-stuck_at j s n t block tries none =
-    stuck_before j s n t tries.runs tries.active tries.found (then_none (case_of (block_at j.parts.blocks t.next)) (λ block. act j.parts n t block s) block (ap case_of tries.before) none)
+-- at this block
+stuck_at : (j : Job) (s u : State) (n : ℕ) (t : Transaction) (block : Block) → Tries j s u n t block → act j.parts n t block u ≡ HasNoCase → IsStuck j s
+stuck_at j s u n t block tries none =
+    stuck_before j s u n t tries.attempts (then_none (case_of (block_at j.parts.blocks t.next)) (λ block. act j.parts n t block u) block (ap case_of tries.before) none)
 
 no_effect : (p : Parts) (n : ℕ) (t : Transaction) (block : Block) (values : List ℤ) (streams : List ℕ) (s : State) → operands p (environment_of n t s) block s.streams ≡ Value (values, streams) → refuses n block values (with_streams streams s) ≡ false
     → effect p n t block values (with_streams streams s) ≡ HasNoCase → act p n t block s ≡ HasNoCase
@@ -109,20 +151,20 @@ no_effect p n t block values streams s read free none =
 
 pub release_of_anothers_stops : ReleaseOfAnothersStops
 unfolding effect
-release_of_anothers_stops j s n f t tries owned =
-    stuck_at j s n t (blocks.Release f) tries
-    (no_effect j.parts n t (blocks.Release f) [] s.streams s refl refl
-    (asks_in_vain j.parts.blocks (t.next + 1) (releasing n (facility f s)) _ (ap (λ b. if b then Some (released (facility f s)) else None) owned)))
+release_of_anothers_stops j s u n f t tries owned =
+    stuck_at j s u n t (blocks.Release f) tries
+    (no_effect j.parts n t (blocks.Release f) [] u.streams u refl refl
+    (asks_in_vain j.parts.blocks (t.next + 1) (releasing n (facility f u)) _ (ap (λ b. if b then Some (released (facility f u)) else None) owned)))
 
 seizes_nothing : (n : ℕ) (f : Facility) → is_owned_by n f ≡ true → seizing n f ≡ None
 seizes_nothing n f owned = ap (λ b. if b then None else if is_idle f then Some (true, seized n f) else Some (false, f)) owned
 
 pub seize_of_ones_own_stops : SeizeOfOnesOwnStops
 unfolding effect
-seize_of_ones_own_stops j s n f t tries owned =
-    stuck_at j s n t (blocks.Seize f) tries
-    (no_effect j.parts n t (blocks.Seize f) [] s.streams s refl (ap has_to_wait (seizes_nothing n (facility f s) owned))
-    (asks_in_vain j.parts.blocks (t.next + 1) (seizing n (facility f s)) _ (seizes_nothing n (facility f s) owned)))
+seize_of_ones_own_stops j s u n f t tries owned =
+    stuck_at j s u n t (blocks.Seize f) tries
+    (no_effect j.parts n t (blocks.Seize f) [] u.streams u refl (ap has_to_wait (seizes_nothing n (facility f u) owned))
+    (asks_in_vain j.parts.blocks (t.next + 1) (seizing n (facility f u)) _ (seizes_nothing n (facility f u) owned)))
 
 -- who owns one owns any
 owning : (n f : ℕ) (facilities : List Facility) → is_owned_by n (at idle facilities f) ≡ true → owns_any n facilities ≡ true
@@ -136,50 +178,50 @@ not_below_0 k false above = refl
 
 pub terminate_while_owning_stops : TerminateWhileOwningStops
 unfolding effect
-terminate_while_owning_stops j s n f k t by streams tries read owned =
-    stuck_at j s n t (blocks.Terminate by) tries
-    (no_effect j.parts n t (blocks.Terminate by) (pos k ∷ []) streams s (ap (λ v. v then λ value. Value (single_value value)) read) refl
+terminate_while_owning_stops j s u n f k t by streams tries read owned =
+    stuck_at j s u n t (blocks.Terminate by) tries
+    (no_effect j.parts n t (blocks.Terminate by) (pos k ∷ []) streams u (ap (λ v. v then λ value. Value (single_value value)) read) refl
     (else_none (int_lt (pos k) (pos 0)) _ _ (not_below_0 k (int_lt (pos k) (pos 0)) refl)
-    (only_failed (not (owns_any n s.entities.facilities)) _ (ap not (owning n f s.entities.facilities owned)))))
+    (only_failed (not (owns_any n u.entities.facilities)) _ (ap not (owning n f u.entities.facilities owned)))))
 
 pub assemble_while_owning_stops : AssembleWhileOwningStops
 unfolding effect
-assemble_while_owning_stops j s n f size t a tries more begun owned =
-    stuck_at j s n t (blocks.Assemble size) tries
-    (no_effect j.parts n t (blocks.Assemble size) [] s.streams s refl refl
+assemble_while_owning_stops j s u n f size t a tries more begun owned =
+    stuck_at j s u n t (blocks.Assemble size) tries
+    (no_effect j.parts n t (blocks.Assemble size) [] u.streams u refl refl
     (else_none (nat_le size 1) _ _ (lt-leb size 1 more)
-    (ap (λ o. assemble_in j.parts.blocks n t size o (with_streams s.streams s)) begun ∙ only_failed (not (owns_any n s.entities.facilities)) _ (ap not (owning n f s.entities.facilities owned)))))
+    (ap (λ o. assemble_in j.parts.blocks n t size o (with_streams u.streams u)) begun ∙ only_failed (not (owns_any n u.entities.facilities)) _ (ap not (owning n f u.entities.facilities owned)))))
 
 -- STORAGES AND QUEUES
 
 pub leave_of_too_much_stops : LeaveOfTooMuchStops
 unfolding effect
-leave_of_too_much_stops j s n t u tries few =
-    stuck_at j s n t (blocks.Leave u) tries
-    (no_effect j.parts n t (blocks.Leave u) [] s.streams s refl refl
-    (asks_in_vain j.parts.blocks (t.next + 1) (leaving u.number (storage u.entity s)) _ (ap (λ b. if b then Some (left u.number (storage u.entity s)) else None) (lt-leb u.number (storage u.entity s).contents.content few))))
+leave_of_too_much_stops j s u n t units tries few =
+    stuck_at j s u n t (blocks.Leave units) tries
+    (no_effect j.parts n t (blocks.Leave units) [] u.streams u refl refl
+    (asks_in_vain j.parts.blocks (t.next + 1) (leaving units.number (storage units.entity u)) _ (ap (λ b. if b then Some (left units.number (storage units.entity u)) else None) (lt-leb units.number (storage units.entity u).contents.content few))))
 
 pub depart_of_too_much_stops : DepartOfTooMuchStops
 unfolding effect
-depart_of_too_much_stops j s n t u tries few =
-    stuck_at j s n t (blocks.Depart u) tries
-    (no_effect j.parts n t (blocks.Depart u) [] s.streams s refl refl
-    (asks_in_vain j.parts.blocks (t.next + 1) (departing u.number (queue u.entity s)) _ (ap (λ b. if b then Some (departed u.number (queue u.entity s)) else None) (lt-leb u.number (queue u.entity s).content few))))
+depart_of_too_much_stops j s u n t units tries few =
+    stuck_at j s u n t (blocks.Depart units) tries
+    (no_effect j.parts n t (blocks.Depart units) [] u.streams u refl refl
+    (asks_in_vain j.parts.blocks (t.next + 1) (departing units.number (queue units.entity u)) _ (ap (λ b. if b then Some (departed units.number (queue units.entity u)) else None) (lt-leb units.number (queue units.entity u).content few))))
 
 enters_nothing : (n : ℕ) (s : Storage) → s.capacity < n → entering n s ≡ None
 enters_nothing n s above = ap (λ b. if b then (if has_room n s then Some (true, entered n s) else Some (false, s)) else None) (lt-leb n s.capacity above)
 
 pub enter_above_capacity_stops : EnterAboveCapacityStops
 unfolding effect
-enter_above_capacity_stops j s n t u tries above =
-    stuck_at j s n t (blocks.Enter u) tries
-    (no_effect j.parts n t (blocks.Enter u) [] s.streams s refl (ap has_to_wait (enters_nothing u.number (storage u.entity s) above))
-    (asks_in_vain j.parts.blocks (t.next + 1) (entering u.number (storage u.entity s)) _ (enters_nothing u.number (storage u.entity s) above)))
+enter_above_capacity_stops j s u n t units tries above =
+    stuck_at j s u n t (blocks.Enter units) tries
+    (no_effect j.parts n t (blocks.Enter units) [] u.streams u refl (ap has_to_wait (enters_nothing units.number (storage units.entity u) above))
+    (asks_in_vain j.parts.blocks (t.next + 1) (entering units.number (storage units.entity u)) _ (enters_nothing units.number (storage units.entity u) above)))
 
 -- MOVES
 
 pub missing_block_stops : MissingBlockStops
-missing_block_stops j s n t runs active found none = stuck_before j s n t runs active found (absent (block_at j.parts.blocks t.next) (λ block. act j.parts n t block s) none)
+missing_block_stops j s u n t attempts none = stuck_before j s u n t attempts (absent (block_at j.parts.blocks t.next) (λ block. act j.parts n t block u) none)
 
 -- what arithmetic answered is given
 answers : {A : Type 0} (r : Result A NumFault) (a : A) → r ≡ Ok a → evaluated (answered r) ≡ Gives a
@@ -219,6 +261,7 @@ module _ (p : Parts) (n b : ℕ) (t : Transaction) (none : IsNoTarget p.blocks b
   no_move (blocks.Gate gate) values s ends to = leads_to_none p.blocks _ b _ to none
   no_move (blocks.Transfer target) values s ends to = leads_to_none p.blocks _ b _ to none
   no_move (blocks.TransferByFraction f) values s ends to = leads_to_none p.blocks _ b _ to none
+  no_move (blocks.TransferBoth two) values s ends to = absurd cc
   no_move (blocks.TransferToSubroutine c) values s ends to = leads_to_none p.blocks _ b _ to none
   no_move (blocks.TransferByParameter q) values s ends to = comes_back_to_none (parameter_at n q s.transactions) _ to
   no_move (blocks.Loop l) values s ends to = loops_to_none (parameter_at n l.parameter s.transactions) (looped t.next l.target) _ ends to
@@ -234,38 +277,49 @@ module _ (p : Parts) (n b : ℕ) (t : Transaction) (none : IsNoTarget p.blocks b
   no_move block values s ends to = falls_to_none _ to
 
 pub move_to_no_target_stops : MoveToNoTargetStops
-move_to_no_target_stops j s n b t block values streams tries read free ends to none =
-    stuck_at j s n t block tries (no_effect j.parts n t block values streams s read free (no_move j.parts n b t none block values (with_streams streams s) ends to))
+move_to_no_target_stops j s u n b t block values streams tries read free ends to none =
+    stuck_at j s u n t block tries (no_effect j.parts n t block values streams u read free (no_move j.parts n b t none block values (with_streams streams u) ends to))
+
+leads_either : {A : Type 0} (bs : List Block) (a b c : ℕ) (o : Outcome A) → (a ≡ c) ⊎ (b ≡ c) → IsNoTarget bs c → leads bs a (leads bs b o) ≡ HasNoCase
+leads_either bs a b c o (inl first) none = leads_none bs a (leads bs b o) (subst (IsNoTarget bs) (sym first) none)
+leads_either bs a b c o (inr second) none = ap (leads bs a) (leads_none bs b o (subst (IsNoTarget bs) (sym second) none)) ∙ only_none (may_enter (block_at bs a))
+
+pub choice_of_no_target_stops : ChoiceOfNoTargetStops
+unfolding effect
+choice_of_no_target_stops j s u n b t two tries is none =
+    stuck_at j s u n t (blocks.TransferBoth two) tries
+    (no_effect j.parts n t (blocks.TransferBoth two) [] u.streams u refl refl
+    (leads_either j.parts.blocks (leads_to t.next (goes_or_falls two.first)) two.second b _ is none))
 
 others_none : {A : Type 0} (bs : List Block) (others b : ℕ) (o : Outcome A) → 0 < others → IsNoTarget bs b → others_lead bs others b o ≡ HasNoCase
 others_none bs others b o some none = else_none (others == 0) o (leads bs b o) (ne_eqb others 0 (λ zero. omega (arith, some, zero))) (leads_none bs b o none)
 
 pub copies_to_no_target_stop : CopiesToNoTargetStop
 unfolding effect
-copies_to_no_target_stop j s n t c tries some few none =
-    stuck_at j s n t (blocks.Split c) tries
-    (no_effect j.parts n t (blocks.Split c) [] s.streams s refl refl
-    (if_none (nat_le (live_count s.transactions + c.copies) 65536) _ (EndsBy Live) (le-leb _ 65536 few)
+copies_to_no_target_stop j s u n t c tries some few none =
+    stuck_at j s u n t (blocks.Split c) tries
+    (no_effect j.parts n t (blocks.Split c) [] u.streams u refl refl
+    (if_none (nat_le (live_count u.transactions + c.copies) 65536) _ (EndsBy Live) (le-leb _ 65536 few)
     (ap (leads j.parts.blocks (t.next + 1)) (others_none j.parts.blocks c.copies (leads_to t.next (goes_or_falls c.target)) _ some none) ∙ only_none (may_enter (block_at j.parts.blocks (t.next + 1))))))
 
 pub members_to_no_target_stop : MembersToNoTargetStop
 unfolding effect
-members_to_no_target_stop j s n t u tries some none =
-    stuck_at j s n t (blocks.Unlink u) tries
-    (no_effect j.parts n t (blocks.Unlink u) [] s.streams s refl refl
-    (ap (leads j.parts.blocks (t.next + 1)) (others_none j.parts.blocks (taken_by u s) u.target _ some none) ∙ only_none (may_enter (block_at j.parts.blocks (t.next + 1)))))
+members_to_no_target_stop j s u n t taken tries some none =
+    stuck_at j s u n t (blocks.Unlink taken) tries
+    (no_effect j.parts n t (blocks.Unlink taken) [] u.streams u refl refl
+    (ap (leads j.parts.blocks (t.next + 1)) (others_none j.parts.blocks (taken_by taken u) taken.target _ some none) ∙ only_none (may_enter (block_at j.parts.blocks (t.next + 1)))))
 
 -- PARAMETERS THAT AREN'T SET
 
 pub loop_by_unset_stops : LoopByUnsetStops
 unfolding effect
-loop_by_unset_stops j s n t l tries unset =
-    stuck_at j s n t (blocks.Loop l) tries (no_effect j.parts n t (blocks.Loop l) [] s.streams s refl refl (absent (parameter_at n l.parameter s.transactions) _ unset))
+loop_by_unset_stops j s u n t l tries unset =
+    stuck_at j s u n t (blocks.Loop l) tries (no_effect j.parts n t (blocks.Loop l) [] u.streams u refl refl (absent (parameter_at n l.parameter u.transactions) _ unset))
 
 pub return_by_unset_stops : ReturnByUnsetStops
 unfolding effect
-return_by_unset_stops j s n q t tries unset =
-    stuck_at j s n t (blocks.TransferByParameter q) tries (no_effect j.parts n t (blocks.TransferByParameter q) [] s.streams s refl refl (absent (parameter_at n q s.transactions) _ unset))
+return_by_unset_stops j s u n q t tries unset =
+    stuck_at j s u n t (blocks.TransferByParameter q) tries (no_effect j.parts n t (blocks.TransferByParameter q) [] u.streams u refl refl (absent (parameter_at n q u.transactions) _ unset))
 
 module _ (p : Parts) (env : Environment) where
   the_only : (o : Operand) (streams : List ℕ) → OneLacksValue p env (o ∷ []) streams → operand_value p env o streams ≡ Unset
@@ -305,16 +359,16 @@ module _ (p : Parts) (env : Environment) where
 
 pub operand_without_value_stops : OperandWithoutValueStops
 unfolding act
-operand_without_value_stops j s n t block tries other lacks =
-    stuck_at j s n t block tries
-    (ap (λ o. evaluated o >>= λ read. meets j.parts n t block read.0 (with_streams read.1 s)) (no_values j.parts (environment_of n t s) block s.streams other lacks))
+operand_without_value_stops j s u n t block tries other lacks =
+    stuck_at j s u n t block tries
+    (ap (λ o. evaluated o >>= λ read. meets j.parts n t block read.0 (with_streams read.1 u)) (no_values j.parts (environment_of n t u) block u.streams other lacks))
 
 pub interval_without_value_stops : IntervalWithoutValueStops
 unfolding effect
-interval_without_value_stops j s n t g tries owed lacks =
-    stuck_at j s n t (blocks.Generate g) tries
-    (no_effect j.parts n t (blocks.Generate g) [] s.streams s refl refl
-    (bind_none _ _ (if_none (is_owed g.limit (at 0 s.scheduled t.next)) _ _ owed (bind_none _ _ (no_moment j.parts (environment_of_next g.priority s) g.interval s.clock s.streams lacks)))))
+interval_without_value_stops j s u n t g tries owed lacks =
+    stuck_at j s u n t (blocks.Generate g) tries
+    (no_effect j.parts n t (blocks.Generate g) [] u.streams u refl refl
+    (bind_none _ _ (if_none (is_owed g.limit (at 0 u.scheduled t.next)) _ _ owed (bind_none _ _ (no_moment j.parts (environment_of_next g.priority u) g.interval u.clock u.streams lacks)))))
 
 -- THE START
 
@@ -323,10 +377,10 @@ module _ (p : Parts) (g : Generate) (after : List Block) (s : State) (first : g.
   arrives_never b =
       bind_none _ _ (ap (first_moment p g s) first ∙ no_moment p (environment_of_next g.priority s) g.interval s.clock s.streams lacks)
 
-  goes_on : (before behind : State → Outcome State) (o : Outcome State) → ((u : State) → before u ≡ Gives s → behind u ≡ HasNoCase) → (o >>= before) ≡ Gives s → (o >>= behind) ≡ HasNoCase
-  goes_on before behind (Gives u) then_ is = then_ u is
-  goes_on before behind (EndsBy end) then_ is = absurd cc
-  goes_on before behind HasNoCase then_ is = absurd cc
+  goes_wrong : (before behind : State → Outcome State) (o : Outcome State) → ((u : State) → before u ≡ Gives s → behind u ≡ HasNoCase) → (o >>= before) ≡ Gives s → (o >>= behind) ≡ HasNoCase
+  goes_wrong before behind (Gives u) then_ is = then_ u is
+  goes_wrong before behind (EndsBy end) then_ is = absurd cc
+  goes_wrong before behind HasNoCase then_ is = absurd cc
 
   never_arrive : (b : ℕ) (before : List Block) (from : State) → first_arrivals p b before from ≡ Gives s → first_arrivals p b (before ++ blocks.Generate g ∷ after) from ≡ HasNoCase
   unfolding first_arrivals
@@ -334,7 +388,7 @@ module _ (p : Parts) (g : Generate) (after : List Block) (s : State) (first : g.
       let same : from ≡ s = cc in
       subst (λ x. (first_arrival p b (blocks.Generate g) x >>= first_arrivals p (b + 1) after) ≡ HasNoCase) (sym same) (ap (λ o. o >>= first_arrivals p (b + 1) after) (arrives_never b))
   never_arrive b (block ∷ before) from is =
-      goes_on (first_arrivals p (b + 1) before) (first_arrivals p (b + 1) (before ++ blocks.Generate g ∷ after)) (first_arrival p b block from) (λ u there. never_arrive (b + 1) before u there) is
+      goes_wrong (first_arrivals p (b + 1) before) (first_arrivals p (b + 1) (before ++ blocks.Generate g ∷ after)) (first_arrival p b block from) (λ u there. never_arrive (b + 1) before u there) is
 
 pub arrival_without_value_has_no_start : ArrivalWithoutValueHasNoStart
 arrival_without_value_has_no_start j before after g s are arrive first lacks =

@@ -1,3 +1,4 @@
 pub mod Activations
+pub mod Attempts
 pub mod Moves
 pub mod Stops

@@ -2,9 +2,11 @@
 use Rattle.std.specs.Prelude.{◌≡◌, ◌⊎◌, ℕ, ◌+◌, ◌≤◌, ℤ, pos, ◌-ℤ◌, List, Option, Some, None, Ok, Bool, true, is_some, unwrap_or, nat_le, not, ◌&&◌, if◌then◌else◌, IfSome}
 use Rattle.std.specs.Option.{option_map}
 use Rattle.gw_blocks.specs.declared.parts.Generate.{Generate}
+use Rattle.gw_blocks.specs.declared.parts.Both.{Both}
 use Rattle.gw_blocks.specs.declared.parts.Block.{Block}
 use Rattle.gw_blocks.specs.declared.parts.Block.TheVariants as blocks
 use Rattle.gw_object.specs.declared.parts.Parts.{Parts}
+use Rattle.gw_rules.specs.Exits.{leads_to, goes_or_falls}
 use Rattle.gw_rules.specs.Kinds.{block_at}
 use Rattle.gw_num.specs.Arithmetic.{difference_of}
 use Rattle.gw_transactions.specs.declared.Transaction.{Transaction}
@@ -24,7 +26,7 @@ IsNoTarget bs b = (block_at bs b ≡ None) ⊎ ((g : Generate) × (block_at bs b
 abbrev pub is_awaited : Transaction → ℕ → State → Bool
 is_awaited t size s = not (nat_le size 1) && is_some (assembly_at t.next t.set s)
 
--- the number of the block to which the transaction n, which is t, goes on that enters a block with these operand values; none where it is destroyed, or joins a user chain
+-- the number of the block to which the transaction n, which is t, goes on that enters a block with these operand values; none where it is destroyed, joins a user chain, or has two to go on to
 abbrev pub goes_on_to : ℕ → Transaction → Block → List ℤ → State → Option ℕ
 goes_on_to n t (blocks.Terminate by) values s = None
 goes_on_to n t (blocks.Link l) values s = None
@@ -33,10 +35,15 @@ goes_on_to n t (blocks.Test test) values s = Some (led_by t.next test.otherwise 
 goes_on_to n t (blocks.Gate gate) values s = Some (led_by t.next gate.otherwise (is_so gate.condition gate.entity s))
 goes_on_to n t (blocks.Transfer target) values s = Some target
 goes_on_to n t (blocks.TransferByFraction f) values s = Some (chosen t.next f (the_value values))
+goes_on_to n t (blocks.TransferBoth two) values s = None
 goes_on_to n t (blocks.TransferToSubroutine c) values s = Some c.target
 goes_on_to n t (blocks.TransferByParameter q) values s = option_map block_after (parameter_at n q s.transactions)
 goes_on_to n t (blocks.Loop l) values s = option_map (λ old. looped t.next l.target (old -ℤ pos 1)) (parameter_at n l.parameter s.transactions)
 goes_on_to n t block values s = Some (t.next + 1)
+
+-- a block is one of the two to which a TRANSFER BOTH, the block of number b, leads
+abbrev pub IsOneOfTwo : ℕ → Both → ℕ → Type 0
+IsOneOfTwo b two to = (leads_to b (goes_or_falls two.first) ≡ to) ⊎ (two.second ≡ to)
 
 -- with these operand values no named end comes before the move
 abbrev pub ComesToNoEnd : Parts → ℕ → Transaction → Block → List ℤ → State → Type 0

@@ -3,6 +3,7 @@ use Rattle.std.specs.Prelude.{◌≡◌, ℕ, ◌+◌, ◌<◌, ◌≤◌, ℤ, 
 use Rattle.gw_blocks.specs.declared.parts.Operand.{Operand}
 use Rattle.gw_blocks.specs.declared.parts.Generate.{Generate}
 use Rattle.gw_blocks.specs.declared.parts.Units.{Units}
+use Rattle.gw_blocks.specs.declared.parts.Both.{Both}
 use Rattle.gw_blocks.specs.declared.parts.Loop.{Loop}
 use Rattle.gw_blocks.specs.declared.parts.Split.{Split}
 use Rattle.gw_blocks.specs.declared.parts.Unlink.{Unlink}
@@ -14,7 +15,7 @@ use Rattle.gw_rules.specs.Kinds.{block_at, is_generate}
 use Rattle.gw_rules.specs.Exits.{leads_to, goes_or_falls}
 use Rattle.gw_num.specs.Table.{at}
 use Rattle.gw_transactions.specs.declared.Transaction.{Transaction}
-use Rattle.gw_transactions.specs.Transactions.{attributes_at, parameter_at, live_count}
+use Rattle.gw_transactions.specs.Transactions.{parameter_at, live_count}
 use Rattle.gw_entities.specs.Facility.{is_owned_by}
 use Rattle.gw_step.specs.Outcome.{Gives}
 use Rattle.gw_step.specs.State.{Assembly, State, with_streams}
@@ -24,88 +25,121 @@ use Rattle.gw_step.specs.Blocks.{is_owed, refuses, assembly_at, taken_by}
 use Rattle.gw_step.specs.Start.{nothing, first_arrivals}
 use Rattle.gw_step.specs.Job.{Job, IsStuck, start_of}
 use Rattle.gw_stops.specs.Activations.{OneLacksValue}
-use Rattle.gw_stops.specs.Moves.{IsNoTarget, goes_on_to, ComesToNoEnd}
+use Rattle.gw_stops.specs.Attempts.{Attempts, Tries}
+use Rattle.gw_stops.specs.Moves.{IsNoTarget, goes_on_to, IsOneOfTwo, ComesToNoEnd}
 
--- in a running state the active transaction n, which is t, has a block before it
-pub record Tries (j : Job) (s : State) (n : ℕ) (t : Transaction) (block : Block) : Type 0 where
-  pub runs : s.ended ≡ None
-  pub active : s.lists.active ≡ Some n
-  pub found : attributes_at n s.transactions ≡ Some t
-  pub before : block_at j.parts.blocks t.next ≡ Some block
+-- each of these is asked of who tries a block: n, which is t then, in the state u of the attempt
 
 -- FACILITIES
 
 -- RELEASE of a facility that one doesn't own
 abbrev pub ReleaseOfAnothersStops : Type 0
-ReleaseOfAnothersStops = (j : Job) (s : State) (n f : ℕ) (t : Transaction) → Tries j s n t (blocks.Release f) → is_owned_by n (facility f s) ≡ false → IsStuck j s
+ReleaseOfAnothersStops =
+    (j : Job) (s u : State) (n f : ℕ) (t : Transaction) → Tries j s u n t (blocks.Release f)
+    → is_owned_by n (facility f u) ≡ false → IsStuck j s
 
 -- SEIZE of a facility that one owns already
 abbrev pub SeizeOfOnesOwnStops : Type 0
-SeizeOfOnesOwnStops = (j : Job) (s : State) (n f : ℕ) (t : Transaction) → Tries j s n t (blocks.Seize f) → is_owned_by n (facility f s) ≡ true → IsStuck j s
+SeizeOfOnesOwnStops =
+    (j : Job) (s u : State) (n f : ℕ) (t : Transaction) → Tries j s u n t (blocks.Seize f)
+    → is_owned_by n (facility f u) ≡ true → IsStuck j s
 
 -- TERMINATE while one owns a facility; the operand is 0 or more, else the job ends by Number
 abbrev pub TerminateWhileOwningStops : Type 0
-TerminateWhileOwningStops = (j : Job) (s : State) (n f k : ℕ) (t : Transaction) (by : Operand) (streams : List ℕ) → Tries j s n t (blocks.Terminate by) → operand_value j.parts (environment_of n t s) by s.streams ≡ Value (pos k, streams) → is_owned_by n (facility f s) ≡ true → IsStuck j s
+TerminateWhileOwningStops =
+    (j : Job) (s u : State) (n f k : ℕ) (t : Transaction) (by : Operand) (streams : List ℕ)
+    → Tries j s u n t (blocks.Terminate by) → operand_value j.parts (environment_of n t u) by u.streams ≡ Value (pos k, streams)
+    → is_owned_by n (facility f u) ≡ true → IsStuck j s
 
 -- destruction by an ASSEMBLE, where the first of the set waits, while one owns a facility
 abbrev pub AssembleWhileOwningStops : Type 0
-AssembleWhileOwningStops = (j : Job) (s : State) (n f size : ℕ) (t : Transaction) (a : Assembly) → Tries j s n t (blocks.Assemble size) → 1 < size → assembly_at t.next t.set s ≡ Some a → is_owned_by n (facility f s) ≡ true → IsStuck j s
+AssembleWhileOwningStops =
+    (j : Job) (s u : State) (n f size : ℕ) (t : Transaction) (a : Assembly) → Tries j s u n t (blocks.Assemble size)
+    → 1 < size → assembly_at t.next t.set u ≡ Some a → is_owned_by n (facility f u) ≡ true → IsStuck j s
 
 -- STORAGES AND QUEUES
 
 -- LEAVE of more units than are inside
 abbrev pub LeaveOfTooMuchStops : Type 0
-LeaveOfTooMuchStops = (j : Job) (s : State) (n : ℕ) (t : Transaction) (u : Units) → Tries j s n t (blocks.Leave u) → (storage u.entity s).contents.content < u.number → IsStuck j s
+LeaveOfTooMuchStops =
+    (j : Job) (s u : State) (n : ℕ) (t : Transaction) (units : Units) → Tries j s u n t (blocks.Leave units)
+    → (storage units.entity u).contents.content < units.number → IsStuck j s
 
 -- DEPART of more
 abbrev pub DepartOfTooMuchStops : Type 0
-DepartOfTooMuchStops = (j : Job) (s : State) (n : ℕ) (t : Transaction) (u : Units) → Tries j s n t (blocks.Depart u) → (queue u.entity s).content < u.number → IsStuck j s
+DepartOfTooMuchStops =
+    (j : Job) (s u : State) (n : ℕ) (t : Transaction) (units : Units) → Tries j s u n t (blocks.Depart units)
+    → (queue units.entity u).content < units.number → IsStuck j s
 
 -- ENTER of more units than the storage ever holds
 abbrev pub EnterAboveCapacityStops : Type 0
-EnterAboveCapacityStops = (j : Job) (s : State) (n : ℕ) (t : Transaction) (u : Units) → Tries j s n t (blocks.Enter u) → (storage u.entity s).capacity < u.number → IsStuck j s
+EnterAboveCapacityStops =
+    (j : Job) (s u : State) (n : ℕ) (t : Transaction) (units : Units) → Tries j s u n t (blocks.Enter units)
+    → (storage units.entity u).capacity < units.number → IsStuck j s
 
 -- MOVES
 
--- the block before the active transaction isn't there
+-- the block that is tried isn't there
 abbrev pub MissingBlockStops : Type 0
-MissingBlockStops = (j : Job) (s : State) (n : ℕ) (t : Transaction) → s.ended ≡ None → s.lists.active ≡ Some n → attributes_at n s.transactions ≡ Some t → block_at j.parts.blocks t.next ≡ None → IsStuck j s
+MissingBlockStops =
+    (j : Job) (s u : State) (n : ℕ) (t : Transaction) → Attempts j s u n t → block_at j.parts.blocks t.next ≡ None
+    → IsStuck j s
 
 -- a block that isn't refused, with no named end, leads to a block that isn't there or to a GENERATE
 abbrev pub MoveToNoTargetStops : Type 0
 MoveToNoTargetStops =
-    (j : Job) (s : State) (n b : ℕ) (t : Transaction) (block : Block) (values : List ℤ) (streams : List ℕ) → Tries j s n t block → operands j.parts (environment_of n t s) block s.streams ≡ Value (values, streams) → refuses n block values (with_streams streams s) ≡ false
-    → ComesToNoEnd j.parts n t block values (with_streams streams s) → goes_on_to n t block values (with_streams streams s) ≡ Some b → IsNoTarget j.parts.blocks b → IsStuck j s
+    (j : Job) (s u : State) (n b : ℕ) (t : Transaction) (block : Block) (values : List ℤ) (streams : List ℕ)
+    → Tries j s u n t block → operands j.parts (environment_of n t u) block u.streams ≡ Value (values, streams)
+    → refuses n block values (with_streams streams u) ≡ false → ComesToNoEnd j.parts n t block values (with_streams streams u)
+    → goes_on_to n t block values (with_streams streams u) ≡ Some b → IsNoTarget j.parts.blocks b → IsStuck j s
+
+-- a TRANSFER BOTH leads there by one of its two, at once where it is entered
+abbrev pub ChoiceOfNoTargetStops : Type 0
+ChoiceOfNoTargetStops =
+    (j : Job) (s u : State) (n b : ℕ) (t : Transaction) (two : Both) → Tries j s u n t (blocks.TransferBoth two)
+    → IsOneOfTwo t.next two b → IsNoTarget j.parts.blocks b → IsStuck j s
 
 -- SPLIT sends copies there
 abbrev pub CopiesToNoTargetStop : Type 0
 CopiesToNoTargetStop =
-    (j : Job) (s : State) (n : ℕ) (t : Transaction) (c : Split) → Tries j s n t (blocks.Split c) → 0 < c.copies → live_count s.transactions + c.copies ≤ 65536 → IsNoTarget j.parts.blocks (leads_to t.next (goes_or_falls c.target)) → IsStuck j s
+    (j : Job) (s u : State) (n : ℕ) (t : Transaction) (c : Split) → Tries j s u n t (blocks.Split c) → 0 < c.copies
+    → live_count u.transactions + c.copies ≤ 65536 → IsNoTarget j.parts.blocks (leads_to t.next (goes_or_falls c.target))
+    → IsStuck j s
 
 -- UNLINK sends members there
 abbrev pub MembersToNoTargetStop : Type 0
-MembersToNoTargetStop = (j : Job) (s : State) (n : ℕ) (t : Transaction) (u : Unlink) → Tries j s n t (blocks.Unlink u) → 0 < taken_by u s → IsNoTarget j.parts.blocks u.target → IsStuck j s
+MembersToNoTargetStop =
+    (j : Job) (s u : State) (n : ℕ) (t : Transaction) (taken : Unlink) → Tries j s u n t (blocks.Unlink taken)
+    → 0 < taken_by taken u → IsNoTarget j.parts.blocks taken.target → IsStuck j s
 
 -- PARAMETERS THAT AREN'T SET
 
 -- an operand has no value, and each before it has one
 abbrev pub OperandWithoutValueStops : Type 0
 OperandWithoutValueStops =
-    (j : Job) (s : State) (n : ℕ) (t : Transaction) (block : Block) → Tries j s n t block → is_generate (Some block) ≡ false → OneLacksValue j.parts (environment_of n t s) (evaluated j.parts.entities block) s.streams → IsStuck j s
+    (j : Job) (s u : State) (n : ℕ) (t : Transaction) (block : Block) → Tries j s u n t block
+    → is_generate (Some block) ≡ false
+    → OneLacksValue j.parts (environment_of n t u) (evaluated j.parts.entities block) u.streams → IsStuck j s
 
 -- LOOP by a parameter that isn't set
 abbrev pub LoopByUnsetStops : Type 0
-LoopByUnsetStops = (j : Job) (s : State) (n : ℕ) (t : Transaction) (l : Loop) → Tries j s n t (blocks.Loop l) → parameter_at n l.parameter s.transactions ≡ None → IsStuck j s
+LoopByUnsetStops =
+    (j : Job) (s u : State) (n : ℕ) (t : Transaction) (l : Loop) → Tries j s u n t (blocks.Loop l)
+    → parameter_at n l.parameter u.transactions ≡ None → IsStuck j s
 
 -- TRANSFER in parameter mode by one
 abbrev pub ReturnByUnsetStops : Type 0
-ReturnByUnsetStops = (j : Job) (s : State) (n q : ℕ) (t : Transaction) → Tries j s n t (blocks.TransferByParameter q) → parameter_at n q s.transactions ≡ None → IsStuck j s
+ReturnByUnsetStops =
+    (j : Job) (s u : State) (n q : ℕ) (t : Transaction) → Tries j s u n t (blocks.TransferByParameter q)
+    → parameter_at n q u.transactions ≡ None → IsStuck j s
 
 -- the interval of a GENERATE has no value that owes an arrival
 abbrev pub IntervalWithoutValueStops : Type 0
 IntervalWithoutValueStops =
-    (j : Job) (s : State) (n : ℕ) (t : Transaction) (g : Generate) → Tries j s n t (blocks.Generate g) → is_owed g.limit (at 0 s.scheduled t.next) ≡ true
-    → OneLacksValue j.parts (environment_of_next g.priority s) (g.interval.mean ∷ g.interval.half ∷ []) s.streams → IsStuck j s
+    (j : Job) (s u : State) (n : ℕ) (t : Transaction) (g : Generate) → Tries j s u n t (blocks.Generate g)
+    → is_owed g.limit (at 0 u.scheduled t.next) ≡ true
+    → OneLacksValue j.parts (environment_of_next g.priority u) (g.interval.mean ∷ g.interval.half ∷ []) u.streams
+    → IsStuck j s
 
 -- where the time of the first arrival of a GENERATE has no value, and those before it have their arrivals, there is no start
 abbrev pub ArrivalWithoutValueHasNoStart : Type 0

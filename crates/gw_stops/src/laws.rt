@@ -15,6 +15,7 @@ ghost use Rattle.gw_stops.specs.Activations.{
 ghost use Rattle.gw_stops.specs.Stops.{
   ArrivalWithoutValueHasNoStart,
   AssembleWhileOwningStops,
+  ChoiceOfNoTargetStops,
   CopiesToNoTargetStop,
   DepartOfTooMuchStops,
   EnterAboveCapacityStops,
@@ -31,10 +32,13 @@ ghost use Rattle.gw_stops.specs.Stops.{
   TerminateWhileOwningStops,
 };
 
-/// The error stops are stuck: the job runs, and has no step, where its active transaction would
+/// The error stops are stuck: the job runs, and has no step, where its active transaction, at the
+/// block that it tries (its next one; of two the first, or the second where the first refuses it),
+/// would
 /// - release what it doesn't own, seize what it owns, or be destroyed while it owns a facility;
 /// - give back more units than are inside, or ask for more than a storage ever holds;
-/// - go on, or send copies or members, to a block that isn't there or to a GENERATE;
+/// - go on, by itself or as one of the two ways of a TRANSFER BOTH, or send copies or members, to a
+///   block that isn't there or to a GENERATE;
 /// - ask for a parameter that isn't set: by an operand, also through PLUS code, at LOOP, at TRANSFER
 ///   in parameter mode, or by the interval of a GENERATE.
 ///
@@ -52,6 +56,7 @@ pub fn error_stops_are_stuck()
     ensures enter { EnterAboveCapacityStops }
     ensures missing { MissingBlockStops }
     ensures moves { MoveToNoTargetStops }
+    ensures choices { ChoiceOfNoTargetStops }
     ensures copies { CopiesToNoTargetStop }
     ensures members { MembersToNoTargetStop }
     ensures operands { OperandWithoutValueStops }

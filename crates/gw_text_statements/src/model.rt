@@ -14,6 +14,8 @@ pub enum Operand {
     Whole(i64),
     /// A fraction, in thousandths.
     Fraction(u16),
+    /// BOTH, the form of a TRANSFER.
+    Both,
     /// A system numerical attribute.
     Sna(Sna),
     /// An expression: one in parentheses, a call of a PROCEDURE, or what follows VARIABLE, BVARIABLE and EQU.

@@ -18,6 +18,8 @@ enum Form {
     Always,
     /// By a fraction.
     Fraction(u16),
+    /// To one block, or where that refuses to another.
+    Both,
     /// To a subroutine, which returns by a parameter.
     Subroutine,
     /// Back from a subroutine, by a parameter.
@@ -26,14 +28,14 @@ enum Form {
 
 const TO: [Field; 1] = [Field::Target];
 
-const BY_FRACTION: [Field; 2] = [Field::OptionalTarget, Field::Target];
+const TO_ONE_OF_TWO: [Field; 2] = [Field::OptionalTarget, Field::Target];
 
 const TO_SUBROUTINE: [Field; 2] = [Field::Target, Field::Parameter];
 
 const BACK: [Field; 1] = [Field::Parameter];
 
 /// The forms of GPSS World that are left out.
-const OTHER_FORMS: [&[u8]; 5] = [b"BOTH", b"ALL", b"PICK", b"FN", b"SIM"];
+const OTHER_FORMS: [&[u8]; 4] = [b"ALL", b"PICK", b"FN", b"SIM"];
 
 /// The operands of TRANSFER: what stands first, then those of its form. Refusals are noted.
 pub(crate) fn transfer_of(
@@ -78,6 +80,8 @@ fn form_by_word(word: &[u8]) -> Result<Form, Refusal> {
         Ok(Form::Subroutine)
     } else if is_spelled(word, b"P") {
         Ok(Form::Return)
+    } else if is_spelled(word, b"BOTH") {
+        Ok(Form::Both)
     } else {
         Err(other_form(word))
     }
@@ -105,7 +109,7 @@ fn other_form(word: &[u8]) -> Refusal {
 fn fields_of(form: Form) -> &'static [Field] {
     match form {
         Form::Always => &TO,
-        Form::Fraction(_) => &BY_FRACTION,
+        Form::Fraction(_) | Form::Both => &TO_ONE_OF_TWO,
         Form::Subroutine => &TO_SUBROUTINE,
         Form::Return => &BACK,
     }
@@ -116,6 +120,7 @@ fn first_of(alloc: Global, form: Form) -> Result<Operand, AllocError> {
     match form {
         Form::Always => Ok(Operand::Missing),
         Form::Fraction(thousandths) => Ok(Operand::Fraction(thousandths)),
+        Form::Both => Ok(Operand::Both),
         Form::Subroutine => Ok(Operand::Name(String::from_str(alloc, "SBR")?)),
         Form::Return => Ok(Operand::Name(String::from_str(alloc, "P")?)),
     }

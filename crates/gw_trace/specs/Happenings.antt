@@ -1,9 +1,12 @@
 -- What a step did: by what was seen of the state before it, and the state after it.
-use Rattle.std.specs.Prelude.{ℕ, ◌-◌, length, Option, Some, None, is_some, Bool, true, false, not, nat_lt, ◌&&◌, if◌then◌else◌}
+use Rattle.std.specs.Prelude.{ℕ, ◌-◌, length, Option, Some, None, is_some, Bool, true, false, not, nat_lt, ◌==◌, ◌&&◌, if◌then◌else◌}
 use Rattle.std.specs.Int.{from_bool}
 use Rattle.gw_num.specs.Table.{at}
 use Rattle.gw_step.specs.State.{State}
-use Rattle.gw_scan.specs.Views.{delayed_in}
+use Rattle.gw_transactions.specs.declared.Transaction.{Transaction}
+use Rattle.gw_scan.specs.Views.{active_attributes, delayed_in}
+use Rattle.gw_trace.specs.declared.sight.Candidate.{Candidate}
+use Rattle.gw_trace.specs.declared.sight.Choice.{Choice}
 use Rattle.gw_trace.specs.declared.sight.Sight.{Sight}
 use Rattle.gw_trace.specs.declared.happening.Happening.{Happening}
 use Rattle.gw_trace.specs.declared.happening.Happening.TheVariants.{Activation, ClockMove, Entry, Refusal, Stop}
@@ -15,12 +18,41 @@ without_active before after =
     else if nat_lt (length after.lists.future_events) before.future_events then ClockMove
     else Stop
 
--- somebody was active: the block that it tried to enter has more entries; or it is still active; or it rests
+-- a block, if it has more entries
+abbrev pub entered_since : Candidate → State → Option ℕ
+entered_since before after = if nat_lt before.entries (at 0 after.entries before.block) then Some before.block else None
+
+-- the first of two that has more entries, if one has
+abbrev pub or_second : Option ℕ → Option ℕ → Option ℕ
+or_second None second = second
+or_second (Some b) second = Some b
+
+abbrev pub either_entered : Choice → State → Option ℕ
+either_entered before after = or_second (entered_since before.first after) (entered_since before.second after)
+
+-- the block that was entered by who had entered this TRANSFER BOTH, if it entered one: the one where it is, if it is still active; else the one that has more entries
+abbrev pub entered_by : ℕ → Choice → State → Option Transaction → Option ℕ
+entered_by both before after None = either_entered before after
+entered_by both before after (Some t) = if t.current == both then None else Some t.current
+
+abbrev pub entered_from : ℕ → Choice → State → Option ℕ
+entered_from both before after = entered_by both before after (active_attributes after)
+
+-- the block that was entered by who was active, if it entered one, by whether it tried two
+abbrev pub entered_of : Option Choice → Candidate → State → Option ℕ
+entered_of None next after = entered_since next after
+entered_of (Some choice) next after = entered_from next.block choice after
+
+abbrev pub entered : Sight → State → Option ℕ
+entered before after = entered_of before.choice before.next after
+
+-- somebody was active: it entered a block; or it is still active; or it rests
+abbrev pub with_entry : Option ℕ → State → Happening
+with_entry (Some b) after = Entry b
+with_entry None after = if is_some after.lists.active then Stop else Refusal
+
 abbrev pub with_active : Sight → State → Happening
-with_active before after =
-    if nat_lt before.entries (at 0 after.entries before.next) then Entry
-    else if is_some after.lists.active then Stop
-    else Refusal
+with_active before after = with_entry (entered before after) after
 
 -- the same, by who was active
 abbrev pub happening_by : Option ℕ → Sight → State → Happening

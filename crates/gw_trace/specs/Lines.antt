@@ -1,5 +1,5 @@
 -- The line of a step: by what was seen of the state before it, and the state after it.
-use Rattle.std.specs.Prelude.{ℕ, ◌-◌, List, [], ◌++◌, length, codes, slice_get, Option, Some, None, is_some, nat_lt, ◌==◌, if◌then◌else◌}
+use Rattle.std.specs.Prelude.{ℕ, List, [], ◌++◌, length, codes, slice_get, Option, Some, None, is_some, nat_lt, ◌==◌, if◌then◌else◌}
 use Rattle.std.specs.Option.{unwrap_or, option_map_or}
 use Rattle.std.specs.Fmt.{decimal, signed_decimal}
 use Rattle.gw_blocks.specs.declared.parts.Block.{Block}
@@ -15,6 +15,7 @@ use Rattle.gw_step.specs.Changes.{facility}
 use Rattle.gw_scan.specs.declared.sim.Status.TheVariants.{Ended}
 use Rattle.gw_scan.specs.Views.{delayed_in}
 use Rattle.gw_report.specs.Report.{status_word}
+use Rattle.gw_trace.specs.declared.sight.Choice.{Choice}
 use Rattle.gw_trace.specs.declared.sight.Sight.{Sight}
 use Rattle.gw_trace.specs.declared.happening.Happening.{Happening}
 use Rattle.gw_trace.specs.declared.happening.Happening.TheVariants.{Activation, ClockMove, Entry, Refusal, Stop}
@@ -90,33 +91,50 @@ taken_text after count None = let_in_count count
 abbrev pub let_in_text : Sight → State → Option Block → List ℕ
 let_in_text before after block = if let_in before after == 0 then [] else taken_text after (let_in before after) (released_by block)
 
--- an entry, and what became of it
-abbrev pub entry_text : Parts → Sight → State → List ℕ
-entry_text p before after =
-    codes "enters " ++ block_at_text p before.next ++ rest_text before after (block_at p.blocks before.next)
-    ++ let_in_text before after (block_at p.blocks before.next)
+-- an entry of a block, and what became of it
+abbrev pub entry_text : Parts → Sight → State → ℕ → List ℕ
+entry_text p before after b =
+    codes "enters " ++ block_at_text p b ++ rest_text before after (block_at p.blocks b)
+    ++ let_in_text before after (block_at p.blocks b)
 
--- where a transaction rests that was refused
+-- two blocks, with this between them
+abbrev pub choice_text : Parts → Choice → List ℕ → List ℕ
+choice_text p choice between = block_at_text p choice.first.block ++ between ++ block_at_text p choice.second.block
+
+-- where a transaction rests that one block refused
 abbrev pub waiting_place : Sight → State → List ℕ
 waiting_place before after = if is_delayed before after then codes ", waits on its delay list" else codes ", waits on the retry list"
 
+-- a refusal by both of two blocks
+abbrev pub refusal_by_both : Parts → Choice → List ℕ
+refusal_by_both p choice = codes "refused by both " ++ choice_text p choice (codes " and ") ++ codes ", waits on the retry list"
+
 -- a refusal, and where the refused one rests
+abbrev pub refusal_of : Option Choice → Parts → Sight → State → List ℕ
+refusal_of None p before after = codes "refused by " ++ block_at_text p before.next.block ++ waiting_place before after
+refusal_of (Some choice) p before after = refusal_by_both p choice
+
 abbrev pub refusal_text : Parts → Sight → State → List ℕ
-refusal_text p before after = codes "refused by " ++ block_at_text p before.next ++ waiting_place before after
+refusal_text p before after = refusal_of before.choice p before after
+
+-- what a transaction tried to enter: a block, or one of two
+abbrev pub tried_text : Option Choice → Parts → ℕ → List ℕ
+tried_text None p b = block_at_text p b
+tried_text (Some choice) p b = choice_text p choice (codes " or ")
 
 -- where a run stopped by an end that changes nothing else
-abbrev pub stopped_text : Option ℕ → Parts → ℕ → List ℕ
-stopped_text None p b = codes "nobody is left to move"
-stopped_text (Some n) p b = codes "stopped at " ++ block_at_text p b
+abbrev pub stopped_text : Option ℕ → Parts → Sight → List ℕ
+stopped_text None p before = codes "nobody is left to move"
+stopped_text (Some n) p before = codes "stopped at " ++ tried_text before.choice p before.next.block
 
 abbrev pub stop_text : Parts → Sight → List ℕ
-stop_text p before = stopped_text before.active p before.next
+stop_text p before = stopped_text before.active p before
 
 -- what happened, but for whom it woke and the end of the run
 abbrev pub happening_text : Parts → Sight → State → Happening → List ℕ
 happening_text p before after Activation = codes "becomes active"
 happening_text p before after ClockMove = codes "the clock moves"
-happening_text p before after Entry = entry_text p before after
+happening_text p before after (Entry b) = entry_text p before after b
 happening_text p before after Refusal = refusal_text p before after
 happening_text p before after Stop = stop_text p before
 
@@ -139,10 +157,11 @@ end_text (Some end) = codes ", the run ends: " ++ status_word (Ended end)
 abbrev pub subject_columns : Option ℕ → ℕ → List ℕ
 subject_columns n b = column 8 (number_or_dash (unwrap_or n 0)) ++ column 7 (number_or_dash b)
 
--- who became active, and the block that it tries to enter; else who was active, and the block that it tried to enter
+-- who became active, and the block that it tries to enter; who was active, and the block that it entered, or that it tried to enter
 abbrev pub subject : Sight → State → Happening → List ℕ
 subject before after Activation = subject_columns after.lists.active (next_block after)
-subject before after other = subject_columns before.active before.next
+subject before after (Entry b) = subject_columns before.active b
+subject before after other = subject_columns before.active before.next.block
 
 -- how many are on the current events chain, on the future events chain, on delay lists and on the retry list
 abbrev pub lengths : State → List ℕ

@@ -1,5 +1,5 @@
 -- The trace of a run: the lines of its steps, in order.
-use Rattle.std.specs.Prelude.{◌≡◌, ◌&&◌, ℕ, zero, suc, ℤ, int_le, Bool, List, [], ◌++◌, codes, Option, Some, None, if◌then◌else◌}
+use Rattle.std.specs.Prelude.{◌≡◌, ◌&&◌, ℕ, zero, suc, ℤ, int_le, Bool, List, [], ◌++◌, codes, Option, Some, if◌then◌else◌}
 use Rattle.gw_object.specs.declared.parts.Parts.{Parts}
 use Rattle.gw_step.specs.State.{State}
 use Rattle.gw_step.specs.Job.{Job, Progress, Alone, after, start_of}
@@ -18,7 +18,7 @@ line_seen p from to before t = if is_within from to t.clock then step_line p bef
 
 -- the line of the step from s to t
 abbrev pub line_within : Parts → ℤ → ℤ → State → State → List ℕ
-line_within p from to s t = line_seen p from to (sight_of s) t
+line_within p from to s t = line_seen p from to (sight_of p s) t
 
 -- the same, where there are such states
 abbrev pub line_between : Parts → ℤ → ℤ → Option State → Option State → List ℕ

@@ -6,7 +6,7 @@ ghost use Rattle.gw_trace.specs.Lines as model;
 
 use crate::columns::{put_column, put_number_or_dash};
 use crate::happening::{Happening, is_delayed, let_in, what_happened, woken};
-use crate::sight::{Sight, next_block};
+use crate::sight::{Choice, Sight, next_block};
 use gw_blocks::Block;
 use gw_machine::block_of;
 use gw_object::{Memory, Parts};
@@ -155,18 +155,28 @@ fn put_let_in(out: &mut Vec<u8>, step: &Step<'_>, block: Option<&Block>) -> Resu
 }
 
 /// An entry of the block of a number, from 1, and what became of it.
-fn put_entry(out: &mut Vec<u8>, parts: &Parts, step: &Step<'_>) -> Result<(), Memory>
+fn put_entry(out: &mut Vec<u8>, parts: &Parts, step: &Step<'_>, number: u16) -> Result<(), Memory>
     ensures { OnOk result (out.new.items ≡ out.old.items
-        ++ model.entry_text parts.now step.now.before.now step.now.sim.now.state) }
+        ++ model.entry_text parts.now step.now.before.now step.now.sim.now.state number) }
 {
     put(out, "enters ")?;
-    put_block_at(out, parts, step.before.next)?;
-    let block = block_of(parts.blocks.as_slice(), step.before.next);
+    put_block_at(out, parts, number)?;
+    let block = block_of(parts.blocks.as_slice(), number);
     put_rest(out, step, block)?;
     put_let_in(out, step, block)
 }
 
-/// Where a transaction rests that was refused.
+/// Two blocks, and a text between them.
+fn put_choice(out: &mut Vec<u8>, parts: &Parts, choice: Choice, between: &str) -> Result<(), Memory>
+    ensures { OnOk result (out.new.items ≡ out.old.items
+        ++ model.choice_text parts.now choice between.now) }
+{
+    put_block_at(out, parts, choice.first.block)?;
+    put(out, between)?;
+    put_block_at(out, parts, choice.second.block)
+}
+
+/// Where a transaction rests that one block refused.
 fn waiting_place(before: &Sight, sim: &Sim) -> &'static str
     ensures { result.now ≡ model.waiting_place before.now sim.now.state }
 {
@@ -177,14 +187,38 @@ fn waiting_place(before: &Sight, sim: &Sim) -> &'static str
     }
 }
 
+/// A refusal by both of two blocks, and where the refused one rests.
+fn put_refusal_by_both(out: &mut Vec<u8>, parts: &Parts, choice: Choice) -> Result<(), Memory>
+    ensures { OnOk result (out.new.items ≡ out.old.items
+        ++ model.refusal_by_both parts.now choice) }
+{
+    put(out, "refused by both ")?;
+    put_choice(out, parts, choice, " and ")?;
+    put(out, ", waits on the retry list")
+}
+
 /// A refusal, and where the refused one rests.
 fn put_refusal(out: &mut Vec<u8>, parts: &Parts, step: &Step<'_>) -> Result<(), Memory>
     ensures { OnOk result (out.new.items ≡ out.old.items
         ++ model.refusal_text parts.now step.now.before.now step.now.sim.now.state) }
 {
+    if let Some(choice) = step.before.choice {
+        return put_refusal_by_both(out, parts, choice);
+    }
     put(out, "refused by ")?;
-    put_block_at(out, parts, step.before.next)?;
+    put_block_at(out, parts, step.before.next.block)?;
     put(out, waiting_place(step.before, step.sim))
+}
+
+/// What a transaction tried to enter: a block, or one of two.
+fn put_tried(out: &mut Vec<u8>, parts: &Parts, before: &Sight) -> Result<(), Memory>
+    ensures { OnOk result (out.new.items ≡ out.old.items
+        ++ model.tried_text before.now.choice parts.now before.now.next.block) }
+{
+    match before.choice {
+        None => put_block_at(out, parts, before.next.block),
+        Some(choice) => put_choice(out, parts, choice, " or "),
+    }
 }
 
 /// Where a run stopped by an end that changes nothing else.
@@ -195,7 +229,7 @@ fn put_stop(out: &mut Vec<u8>, parts: &Parts, before: &Sight) -> Result<(), Memo
         None => put(out, "nobody is left to move"),
         Some(_) => {
             put(out, "stopped at ")?;
-            put_block_at(out, parts, before.next)
+            put_tried(out, parts, before)
         }
     }
 }
@@ -213,7 +247,7 @@ fn put_happening(
     match happening {
         Happening::Activation => put(out, "becomes active"),
         Happening::ClockMove => put(out, "the clock moves"),
-        Happening::Entry => put_entry(out, parts, step),
+        Happening::Entry(number) => put_entry(out, parts, step, number),
         Happening::Refusal => put_refusal(out, parts, step),
         Happening::Stop => put_stop(out, parts, step.before),
     }
@@ -249,20 +283,24 @@ fn put_end(out: &mut Vec<u8>, sim: &Sim) -> Result<(), Memory>
     }
 }
 
-/// The numbers of the transaction and of the block that a step was about; a dash where it was about none.
+/// The numbers of a transaction and of a block, each from 1; a dash for 0, which stands for none.
+fn put_numbers(out: &mut Vec<u8>, transaction: Option<u64>, block: u16) -> Result<(), Memory>
+    ensures { OnOk result (out.new.items ≡ out.old.items
+        ++ model.subject_columns transaction block) }
+{
+    put_number_or_dash(out, 8, transaction.unwrap_or(0))?;
+    put_number_or_dash(out, 7, u64::from(block))
+}
+
+/// The numbers of the transaction and of the block that a step was about.
 fn put_subject(out: &mut Vec<u8>, step: &Step<'_>, happening: Happening) -> Result<(), Memory>
     ensures { OnOk result (out.new.items ≡ out.old.items
         ++ model.subject step.now.before.now step.now.sim.now.state happening) }
 {
     match happening {
-        Happening::Activation => {
-            put_number_or_dash(out, 8, step.sim.active().unwrap_or(0))?;
-            put_number_or_dash(out, 7, u64::from(next_block(step.sim)))
-        }
-        _ => {
-            put_number_or_dash(out, 8, step.before.active.unwrap_or(0))?;
-            put_number_or_dash(out, 7, u64::from(step.before.next))
-        }
+        Happening::Activation => put_numbers(out, step.sim.active(), next_block(step.sim)),
+        Happening::Entry(block) => put_numbers(out, step.before.active, block),
+        _ => put_numbers(out, step.before.active, step.before.next.block),
     }
 }
 

@@ -68,6 +68,7 @@ roles_of_two word m first = (Plain, Plain)
 -- what stands behind the form of a TRANSFER with three: two blocks, or a subroutine and the parameter by which it returns
 abbrev pub roles_behind_form : Operand → Role × Role
 roles_behind_form (operands.Fraction thousandths) = (Label, Label)
+roles_behind_form operands.Both = (Label, Label)
 roles_behind_form (operands.Name form) = (Label, Parameter)
 roles_behind_form form = (Plain, Plain)
 

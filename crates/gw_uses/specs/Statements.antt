@@ -25,6 +25,7 @@ in_value operands.Missing = []
 in_value (operands.Name name) = Equ (string_bytes name) ∷ []
 in_value (operands.Whole z) = []
 in_value (operands.Fraction thousandths) = []
+in_value operands.Both = []
 in_value (operands.Sna sna) = in_attribute sna
 in_value (operands.Expression e) = in_expression [] e
 
@@ -34,6 +35,7 @@ in_entity kind (operands.Name name) = Entity kind (string_bytes name) ∷ []
 in_entity kind operands.Missing = []
 in_entity kind (operands.Whole z) = []
 in_entity kind (operands.Fraction thousandths) = []
+in_entity kind operands.Both = []
 in_entity kind (operands.Sna sna) = []
 in_entity kind (operands.Expression e) = []
 
@@ -43,6 +45,7 @@ in_label (operands.Name label) = Label (string_bytes label) ∷ []
 in_label operands.Missing = []
 in_label (operands.Whole z) = []
 in_label (operands.Fraction thousandths) = []
+in_label operands.Both = []
 in_label (operands.Sna sna) = []
 in_label (operands.Expression e) = []
 
@@ -57,6 +60,7 @@ in_parameter (operands.Name name) = Parameter (string_bytes name) ∷ []
 in_parameter (operands.Whole z) = of_number z
 in_parameter operands.Missing = []
 in_parameter (operands.Fraction thousandths) = []
+in_parameter operands.Both = []
 in_parameter (operands.Sna sna) = []
 in_parameter (operands.Expression e) = []
 

@@ -14,7 +14,7 @@ fn put_value<'a>(uses: &mut Vec<Use<'a>>, operand: &'a Operand) -> Result<(), Al
     ensures { Puts result uses.old uses.new (model.in_value operand.now) }
 {
     match operand {
-        Operand::Missing | Operand::Whole(_) | Operand::Fraction(_) => Ok(()),
+        Operand::Missing | Operand::Whole(_) | Operand::Fraction(_) | Operand::Both => Ok(()),
         Operand::Name(name) => put(uses, Use::Equ(name)),
         Operand::Sna(sna) => put_attribute(uses, sna),
         Operand::Expression(expression) => put_uses_of_operand(uses, expression),

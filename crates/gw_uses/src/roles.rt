@@ -96,7 +96,7 @@ fn roles_behind_form(form: &Operand) -> (Role, Role)
     ensures { result ≡ model.roles_behind_form form.now }
 {
     match form {
-        Operand::Fraction(_) => (Role::Label, Role::Label),
+        Operand::Fraction(_) | Operand::Both => (Role::Label, Role::Label),
         Operand::Name(_) => (Role::Label, Role::Parameter),
         _ => (Role::Plain, Role::Plain),
     }

@@ -8,7 +8,6 @@ use Rattle.std.proofs.lemmas.List.Elements.{All-nil, All-cons, All-head, All-tai
 use Rattle.gw_blocks.specs.declared.parts.Block.{Block}
 use Rattle.gw_blocks.specs.declared.parts.Block.TheVariants as blocks
 use Rattle.gw_object.specs.Entities.{chains_in}
-use Rattle.gw_object.specs.Grammar.{HasSpelling}
 use Rattle.gw_object.specs.declared.parts.ReturnRow.{ReturnRow}
 use Rattle.gw_object.specs.declared.parts.TableState.{TableState}
 use Rattle.gw_object.specs.declared.parts.Parts.{Parts}
@@ -16,6 +15,7 @@ use Rattle.gw_rules.specs.Kinds.{chain_place, chain_row}
 use Rattle.gw_least_weights.specs.declared.rules.Rule.{Rule}
 use Rattle.gw_least_weights.specs.Rules.{nothing, once}
 use Rattle.gw_least_weights.specs.Least.{Gathers, ComesBehind, IsSystem}
+use Rattle.gw_weighing.specs.Certificates.{IsCounted}
 use Rattle.gw_weighing.specs.Layout.{layout_of, counted, places, of_chain, of_row, of_block}
 use Rattle.gw_weighing.specs.Rules.{state_at, block_rule, chain_rule, rules_of_block, gathering_rule, rules_of_row, rules_of_blocks, rules_of_rows, rules_of}
 use Rattle.gw_rules.proofs.EachBlock.{All-front, All-back}
@@ -105,9 +105,9 @@ module _ (p : Parts) where
   block_at_place i block None = (refl, refl)
   block_at_place i block (Some row) = (refl, refl)
 
-  module _ (fits : HasSpelling p) where
+  module _ (few : IsCounted p) where
     chain_within : (e : ℕ) → is_some (chain_row p e) ≡ true → chain_place p.entities e < chains_in p.entities
-    chain_within e h = subst (λ n. chain_place p.entities e < n) fits.limits.chain_states (row_within p.chain_states (chain_place p.entities e) h)
+    chain_within e h = subst (λ n. chain_place p.entities e < n) few.chain_states (row_within p.chain_states (chain_place p.entities e) h)
 
     pub chain_at_place : (e : ℕ) → is_some (chain_row p e) ≡ true → of_chain (layout_of p) p.entities e ≡ length p.blocks + chain_place p.entities e
     chain_at_place e h = chosen (chain_place p.entities e) (chains_in p.entities) (length p.blocks + chain_place p.entities e) (places (layout_of p)) (chain_within e h)

@@ -102,7 +102,7 @@ module _ (p : Parts) (fits : HasSpelling p) where
           least = λ b block is. some_block_too bs us (blocks ∙ sym c.blocks) range b (w.least b block is);
           chains = λ e is. some_too cs vs (chains ∙ sym c.chains) chain_range (chain_place p.entities e) (w.chains e is);
           arrivals = w.arrivals;
-          each_row = pays p all bs cs (reads p bs cs rs blocks chains rows) blocks range (each_rule p (Keeps all) keeps);
+          each_row = pays p all bs cs (reads p bs cs rs blocks chains rows) blocks range us vs w.each_row (each_rule p (Keeps all) keeps);
         } in
         (weights_pass_where_weighted (with_weights p bs cs) (spelled bs cs blocks chains range chain_range)).1 one
 
@@ -134,7 +134,7 @@ pub split_in_three : (n c : ℕ) (weights : List ℕ) → take n weights ++ (tak
 split_in_three n c weights = ap (λ (xs : List ℕ). take n weights ++ xs) (take-append-drop c (drop n weights)) ∙ take-append-drop n weights
 
 -- found at all places
-pub found_least : (p : Parts) → HasSpelling p → (weights : List ℕ) → length weights ≡ places (layout_of p) → InRange weights → IsLeast (rules_of (layout_of p) p) (places (layout_of p)) weights
+found_least : (p : Parts) → HasSpelling p → (weights : List ℕ) → length weights ≡ places (layout_of p) → InRange weights → IsLeast (rules_of (layout_of p) p) (places (layout_of p)) weights
     → AreLeast p (take (length p.blocks) weights) (take (chains_in p.entities) (drop (length p.blocks) weights))
 found_least p fits weights many range least =
     let n = length p.blocks in
@@ -146,3 +146,17 @@ found_least p fits weights many range least =
     let third : length (drop c (drop n weights)) ≡ length p.returns = omega (arith, length-drop c (drop n weights), behind) in
     are_least p fits (take n weights) (take c (drop n weights)) (drop c (drop n weights)) first second third
     (subst InRange (sym same) range) (subst (IsLeast (rules_of (layout_of p) p) (places (layout_of p))) (sym same) least)
+
+-- whatever weights the object has in which they are looked for
+pub found_for : (p : Parts) (us vs : List ℕ) → HasSpelling (with_weights p us vs) → (weights : List ℕ) → length weights ≡ places (layout_of p) → InRange weights → IsLeast (rules_of (layout_of p) p) (places (layout_of p)) weights
+    → AreLeast p (take (length p.blocks) weights) (take (chains_in p.entities) (drop (length p.blocks) weights))
+unfolding rules_of
+found_for p us vs fits weights many range least =
+    let found = found_least (with_weights p us vs) fits weights many range least in
+    record {
+      blocks = found.blocks;
+      chains = found.chains;
+      range = found.range;
+      chain_range = found.chain_range;
+      least = λ xs ys c. found.least xs ys (record { blocks = c.blocks; chains = c.chains; range = c.range; chain_range = c.chain_range; passes = c.passes });
+    }

@@ -70,12 +70,15 @@ module _ (p : Parts) (weights bs cs : List ℕ) (reads : Reads p weights bs cs) 
   at_place : (i : ℕ) → i < n → weight_at weights i ≡ weight_of_block bs (suc i)
   at_place i lt = sym (ap (weight_at weights) (chosen i n i (places (layout_of p)) lt)) ∙ reads.at_block (suc i)
 
-  some_weight : (i : ℕ) → i < n → 1 ≤ weight_of_block bs (suc i)
-  some_weight i lt = (range i 0 (subst (λ m. i < m) (sym many) lt)).0
+  in_range : (i : ℕ) → i < n → IsWeight (weight_of_block bs (suc i))
+  in_range i lt = range i 0 (subst (λ m. i < m) (sym many) lt)
 
-  -- WHAT KEEPS THE RULES PASSES
+  -- WHAT KEEPS THE RULES PASSES, where other weights do
 
-  module _ (keeps : OfEach p (Keeps weights)) where
+  module _ (us vs : List ℕ) (paid : (b : ℕ) (block : Block) (row : Row) → block_at p.blocks b ≡ Some block → own_row p b ≡ Some row → Pays (with_weights p us vs) b block row) (keeps : OfEach p (Keeps weights)) where
+    abbrev other : Parts
+    other = with_weights p us vs
+
     gathered : (r : ℕ) → HasGathered p weights bs cs (weight_at weights (of_row (layout_of p) r)) (row_blocks p.returns r)
     gathered r =
         elim (cases_lt r (length p.returns)) [
@@ -94,42 +97,51 @@ module _ (p : Parts) (weights bs cs : List ℕ) (reads : Reads p weights bs cs) 
     held_pay b None some asked = All-nil (λ r. 1 + weight_of_block bs (r + 1) ≤ weight_of_block bs b)
     held_pay b (Some r) some asked = pays_returns p weights bs cs b r many some (gathered r) asked
 
-    exits_pay : (b : ℕ) (block : Block) (own : TableState) → 1 ≤ weight_of_block bs b → of_sum weights (first_sum (layout_of p) p b block own) ≤ weight_of_block bs b → of_sum weights (second_sum (layout_of p) b block) ≤ weight_of_block bs b
-        → All (PaysExit q b) (exits_with (returns_read block (row_meaning p.returns own)) block)
-    exits_pay b (blocks.TransferByParameter q0) own some first second =
-        subst (λ (rs : List ℕ). All (PaysExit q b) (map returns_to rs)) (sym (blocks_held p.returns own q0)) (exits_from p weights bs cs b (held_blocks p.returns (row_held own q0)) (held_pay b (row_held own q0) some first))
-    exits_pay b (blocks.Link l) own some first second = All-nil (PaysExit q b)
-    exits_pay b block own some first second = both_paid p weights bs cs reads b (exits block) (few_exits block) first second
+    exits_pay : (b : ℕ) (block : Block) (own : TableState) → IsWeight (weight_of_block bs b) → All (PaysExit other b block) (exits_with (returns_read block (row_meaning p.returns own)) block)
+        → of_sum weights (first_sum (layout_of p) p b block own) ≤ weight_of_block bs b → of_sum weights (second_sum (layout_of p) p b block) ≤ weight_of_block bs b
+        → All (PaysExit q b block) (exits_with (returns_read block (row_meaning p.returns own)) block)
+    exits_pay b (blocks.TransferByParameter q0) own range before first second =
+        let returns = blocks_held p.returns own q0 in
+        let others = subst (λ (rs : List ℕ). All (PaysExit other b (blocks.TransferByParameter q0)) (map returns_to rs)) returns before in
+        subst (λ (rs : List ℕ). All (PaysExit q b (blocks.TransferByParameter q0)) (map returns_to rs)) (sym returns) (exits_from p weights bs cs us vs b q0 (held_blocks p.returns (row_held own q0)) others (held_pay b (row_held own q0) range.0 first))
+    exits_pay b (blocks.Link l) own range before first second = All-nil (PaysExit q b (blocks.Link l))
+    exits_pay b block own range before first second = both_paid p weights bs cs reads us vs b block (exits block) (few_exits block) range.1 before first second
 
-    chain_pays : (i : ℕ) (block : Block) (own : TableState) → i < n → state_at p i ≡ Some own → slice_get p.blocks i ≡ Some block → of_sum weights (first_sum (layout_of p) p (suc i) block own) ≤ weight_of_block bs (suc i) → PaysChain q (suc i) block
-    chain_pays i (blocks.Link l) own lt here is first = omega (arith, with_entry_is weights (of_chain (layout_of p) p.entities l.chain), reads.at_chain l.chain, first)
-    chain_pays i (blocks.Unlink u) own lt here is first = λ there.
-        let row : is_some (chain_row p u.chain) ≡ true = sym (chain_there p u.chain) ∙ there in
-        let both : (is_some (state_at p i) && is_some (chain_row p u.chain)) ≡ true = rw (here, row) refl in
-        let block : get_or p.blocks i (blocks.Unlink u) ≡ blocks.Unlink u = get_or_from_slice_get p.blocks i (blocks.Unlink u) (blocks.Unlink u) is in
-        let rule : chain_rule (layout_of p) p i (get_or p.blocks i (blocks.Unlink u)) ≡ Some (send p u.chain u.target) = ap (chain_rule (layout_of p) p i) block ∙ is_there (is_some (state_at p i) && is_some (chain_row p u.chain)) (send p u.chain u.target) both in
-        let kept = (keeps.chain i (blocks.Unlink u) lt (send p u.chain u.target) rule).0 in
-        omega (arith, kept, reads.at_block u.target, reads.at_chain u.chain)
-    chain_pays i block own lt here is first = tt
+    chain_pays : (i : ℕ) (block : Block) (own : TableState) → i < n → state_at p i ≡ Some own → slice_get p.blocks i ≡ Some block → PaysChain other (suc i) block
+        → of_sum weights (first_sum (layout_of p) p (suc i) block own) ≤ weight_of_block bs (suc i) → PaysChain q (suc i) block
+    chain_pays i (blocks.Link l) own lt here is before first = omega (arith, with_entry_is weights (of_chain (layout_of p) p.entities l.chain), reads.at_chain l.chain, first)
+    chain_pays i (blocks.Unlink u) own lt here is before first = (
+      before.0,
+      λ there.
+          let row : is_some (chain_row p u.chain) ≡ true = sym (chain_there p u.chain) ∙ there in
+          let both : (is_some (state_at p i) && is_some (chain_row p u.chain)) ≡ true = rw (here, row) refl in
+          let block : get_or p.blocks i (blocks.Unlink u) ≡ blocks.Unlink u = get_or_from_slice_get p.blocks i (blocks.Unlink u) (blocks.Unlink u) is in
+          let rule : chain_rule (layout_of p) p i (get_or p.blocks i (blocks.Unlink u)) ≡ Some (send p u.chain u.target) = ap (chain_rule (layout_of p) p i) block ∙ is_there (is_some (state_at p i) && is_some (chain_row p u.chain)) (send p u.chain u.target) both in
+          let kept = (keeps.chain i (blocks.Unlink u) lt (send p u.chain u.target) rule).0 in
+          omega (arith, kept, reads.at_block u.target, reads.at_chain u.chain),
+    )
+    chain_pays i block own lt here is before first = tt
 
-    pays_in : (i : ℕ) (block : Block) (own : Option TableState) (row : Row) → state_at p i ≡ own → slice_get p.blocks i ≡ Some block → option_map (row_meaning p.returns) own ≡ Some row → Pays q (suc i) block row
-    pays_in i block None row here is has = absurd (cc)
-    pays_in i block (Some own) row here is has =
+    pays_in : (i : ℕ) (block : Block) (own : Option TableState) (row : Row) → state_at p i ≡ own → slice_get p.blocks i ≡ Some block → Pays other (suc i) block row → option_map (row_meaning p.returns) own ≡ Some row → Pays q (suc i) block row
+    pays_in i block None row here is paid has = absurd (cc)
+    pays_in i block (Some own) row here is paid has =
         let lt = slice_get_within p.blocks i block is in
         let same : get_or p.blocks i block ≡ block = get_or_from_slice_get p.blocks i block block is in
         let kept : Keeps weights (block_rule (layout_of p) p i block (Some own)) = subst (λ o. Keeps weights (block_rule (layout_of p) p i block o)) here (subst (λ b. Keeps weights (block_rule (layout_of p) p i b (state_at p i))) same (keeps.block i block lt)) in
         let weighs = at_place i lt in
         let first : of_sum weights (first_sum (layout_of p) p (suc i) block own) ≤ weight_of_block bs (suc i) = omega (arith, kept.0, weighs) in
-        let second : of_sum weights (second_sum (layout_of p) (suc i) block) ≤ weight_of_block bs (suc i) = omega (arith, kept.1, weighs) in
+        let second : of_sum weights (second_sum (layout_of p) p (suc i) block) ≤ weight_of_block bs (suc i) = omega (arith, kept.1, weighs) in
         let row_is : row_meaning p.returns own ≡ row = cc in
+        let before : Pays other (suc i) block (row_meaning p.returns own) = subst (Pays other (suc i) block) (sym row_is) paid in
         subst (Pays q (suc i) block) row_is (record {
-          chain = chain_pays i block own lt here is first;
-          exits = exits_pay (suc i) block own (some_weight i lt) first second;
+          slope = before.slope;
+          chain = chain_pays i block own lt here is before.chain first;
+          exits = exits_pay (suc i) block own (in_range i lt) before.exits first second;
         })
 
     pub pays : (b : ℕ) (block : Block) (row : Row) → block_at p.blocks b ≡ Some block → own_row q b ≡ Some row → Pays q b block row
     pays zero block row is has = absurd (cc)
-    pays (suc i) block row is has = pays_in i block (state_at p i) row refl is (sym (own_row_is p i) ∙ has)
+    pays (suc i) block row is has = pays_in i block (state_at p i) row refl is (paid (suc i) block row is has) (sym (own_row_is p i) ∙ has)
 
   -- WHAT PASSES KEEPS THE RULES
 
@@ -147,14 +159,14 @@ module _ (p : Parts) (weights bs cs : List ℕ) (reads : Reads p weights bs cs) 
 
     first_kept : (b : ℕ) (block : Block) (own : TableState) → Pays q b block (row_meaning p.returns own) → of_sum weights (first_sum (layout_of p) p b block own) ≤ weight_of_block bs b
     first_kept b (blocks.TransferByParameter q0) own pay =
-        held_asked b (row_held own q0) (from_exits p weights bs cs b (held_blocks p.returns (row_held own q0)) (subst (λ (rs : List ℕ). All (PaysExit q b) (map returns_to rs)) (blocks_held p.returns own q0) pay.exits))
+        held_asked b (row_held own q0) (from_exits p weights bs cs b q0 (held_blocks p.returns (row_held own q0)) (subst (λ (rs : List ℕ). All (PaysExit q b (blocks.TransferByParameter q0)) (map returns_to rs)) (blocks_held p.returns own q0) pay.exits))
     first_kept b (blocks.Link l) own pay = let chain = pay.chain in omega (arith, with_entry_is weights (of_chain (layout_of p) p.entities l.chain), reads.at_chain l.chain, chain)
-    first_kept b block own pay = first_asked p weights bs cs reads b (exits block) pay.exits
+    first_kept b block own pay = first_asked p weights bs cs reads b block (exits block) pay.exits
 
-    second_kept : (b : ℕ) (block : Block) (own : TableState) → Pays q b block (row_meaning p.returns own) → of_sum weights (second_sum (layout_of p) b block) ≤ weight_of_block bs b
+    second_kept : (b : ℕ) (block : Block) (own : TableState) → Pays q b block (row_meaning p.returns own) → of_sum weights (second_sum (layout_of p) p b block) ≤ weight_of_block bs b
     second_kept b (blocks.TransferByParameter q0) own pay = omega arith
     second_kept b (blocks.Link l) own pay = omega arith
-    second_kept b block own pay = second_asked p weights bs cs reads b (exits block) pay.exits
+    second_kept b block own pay = second_asked p weights bs cs reads b block (exits block) pay.exits
 
     block_kept : (i : ℕ) (block : Block) (own : Option TableState) → i < n → state_at p i ≡ own → slice_get p.blocks i ≡ Some block → Keeps weights (block_rule (layout_of p) p i block own)
     block_kept i block None lt here is = (omega arith, omega arith)
@@ -173,7 +185,7 @@ module _ (p : Parts) (weights bs cs : List ℕ) (reads : Reads p weights bs cs) 
         chain_paid i u None here is some row = absurd (false≢true some)
         chain_paid i u (Some own) here is some row =
             let pay = paid (suc i) (blocks.Unlink u) (row_meaning p.returns own) is (own_row_is p i ∙ ap (option_map (row_meaning p.returns)) here) in
-            let asked = pay.chain (chain_there p u.chain ∙ row) in
+            let asked = pay.chain.1 (chain_there p u.chain ∙ row) in
             (omega (arith, asked, reads.at_block u.target, reads.at_chain u.chain), omega arith)
     chain_kept i block r lt is rule = absurd (cc)
 

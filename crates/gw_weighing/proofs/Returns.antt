@@ -1,5 +1,5 @@
 -- What return rows gather, and what is asked for returns.
-use Rattle.std.proofs.Common.{◌≡◌, ℕ, suc, ◌+◌, ◌-◌, ◌≤◌, ◌<◌, List, [], ◌∷◌, length, map, max, Option, Some, None, Bool, true, false, All, refl, ap, ◌∙◌, arith, inl, inr, if◌then◌else◌, ◌==◌, nat_lt, get_or, le_trans}
+use Rattle.std.proofs.Common.{◌≡◌, ℕ, suc, ◌+◌, ◌-◌, ◌≤◌, ◌<◌, List, [], ◌∷◌, length, map, max, Option, Some, None, Bool, true, false, All, refl, ap, ◌∙◌, subst, arith, inl, inr, if◌then◌else◌, ◌==◌, nat_lt, get_or, le_trans}
 use Rattle.std.specs.List.{find}
 use Rattle.std.specs.Option.{option_map, option_and_then}
 use Rattle.std.proofs.Math.Nat.{max-le, le-max_left, le-max_right}
@@ -16,8 +16,12 @@ use Rattle.gw_object.specs.declared.parts.Parts.{Parts}
 use Rattle.gw_rules.specs.Exits.{returns_to}
 use Rattle.gw_rules.specs.Rows.{kind_of, return_blocks}
 use Rattle.gw_rules.specs.Seen.{row_meaning, kind_said}
-use Rattle.gw_rules.specs.Weights.{weight_at as weight_of_block}
-use Rattle.gw_rules.specs.WeightsLaws.{PaysExit}
+use Rattle.gw_rules.specs.Weights.{weight_at as weight_of_block, slope_at}
+use Rattle.gw_rules.specs.WeightsLaws.{Covers, PaysTo, PaysExit}
+use Rattle.gw_rules.specs.declared.ways.Way.{Way}
+use Rattle.gw_rules.specs.declared.ways.Way.TheVariants.{Goes}
+use Rattle.gw_blocks.specs.declared.parts.Block.{Block}
+use Rattle.gw_blocks.specs.declared.parts.Block.TheVariants as blocks
 use Rattle.gw_weights.proofs.Reading.{kind_read}
 use Rattle.gw_least_weights.specs.Rules.{IsWeight, weight_at, of_sum, nothing}
 use Rattle.gw_weighing.specs.Layout.{layout_of, of_row}
@@ -83,17 +87,38 @@ module _ (p : Parts) (weights bs cs : List ℕ) where
   abbrev pub PaysReturns : ℕ → List ℕ → Type 0
   PaysReturns b returns = All (λ r. 1 + weight_of_block bs (r + 1) ≤ weight_of_block bs b) returns
 
-  pub exits_from : (b : ℕ) (returns : List ℕ) → PaysReturns b returns → All (PaysExit q b) (map returns_to returns)
-  exits_from b [] h = All-nil (PaysExit q b)
-  exits_from b (r ∷ returns) h =
-      All-cons (PaysExit q b) (returns_to r) (map returns_to returns) (λ _. All-head (λ r. 1 + weight_of_block bs (r + 1) ≤ weight_of_block bs b) r returns h)
-      (exits_from b returns (All-tail (λ r. 1 + weight_of_block bs (r + 1) ≤ weight_of_block bs b) r returns h))
+  -- a TRANSFER in parameter mode changes no parameter: it pays for a return as each block that keeps a slope's parameter
+  abbrev returning : ℕ → Block
+  returning parameter = blocks.TransferByParameter parameter
 
-  pub from_exits : (b : ℕ) (returns : List ℕ) → All (PaysExit q b) (map returns_to returns) → PaysReturns b returns
-  from_exits b [] h = All-nil (λ r. 1 + weight_of_block bs (r + 1) ≤ weight_of_block bs b)
-  from_exits b (r ∷ returns) h =
-      All-cons (λ r. 1 + weight_of_block bs (r + 1) ≤ weight_of_block bs b) r returns (All-head (PaysExit q b) (returns_to r) (map returns_to returns) h refl)
-      (from_exits b returns (All-tail (PaysExit q b) (returns_to r) (map returns_to returns) h))
+  kept_slope : (b there elsewhere : ℕ) (other : Parts) (parameter : ℕ) (way : Way) (slope : Option (ℕ × ℕ)) → slope_at other.slopes b ≡ slope_at p.slopes b → 1 + there ≤ weight_of_block bs b
+      → PaysTo other b (returning parameter) way elsewhere slope → PaysTo q b (returning parameter) way there slope
+  kept_slope b there elsewhere other parameter way None same h before = h
+  kept_slope b there elsewhere other parameter way (Some slope) same h before = (h, subst (λ own. Covers own slope) same before.1)
+
+  weighs_next : (b there parameter : ℕ) (way : Way) (slope : Option (ℕ × ℕ)) → PaysTo q b (returning parameter) way there slope → 1 + there ≤ weight_of_block bs b
+  weighs_next b there parameter way None h = h
+  weighs_next b there parameter way (Some slope) h = h.0
+
+  module _ (us vs : List ℕ) where
+    abbrev other : Parts
+    other = with_weights p us vs
+
+    pub exits_from : (b parameter : ℕ) (returns : List ℕ) → All (PaysExit other b (returning parameter)) (map returns_to returns) → PaysReturns b returns → All (PaysExit q b (returning parameter)) (map returns_to returns)
+    exits_from b parameter [] before h = All-nil (PaysExit q b (returning parameter))
+    exits_from b parameter (r ∷ returns) before h =
+        let first = All-head (PaysExit other b (returning parameter)) (returns_to r) (map returns_to returns) before in
+        let weighs = All-head (λ r. 1 + weight_of_block bs (r + 1) ≤ weight_of_block bs b) r returns h in
+        All-cons (PaysExit q b (returning parameter)) (returns_to r) (map returns_to returns)
+        (λ made. kept_slope b (weight_of_block bs (r + 1)) (weight_of_block us (r + 1)) other parameter (Goes (r + 1)) (slope_at p.slopes (r + 1)) refl weighs (first made))
+        (exits_from b parameter returns (All-tail (PaysExit other b (returning parameter)) (returns_to r) (map returns_to returns) before) (All-tail (λ r. 1 + weight_of_block bs (r + 1) ≤ weight_of_block bs b) r returns h))
+
+  pub from_exits : (b parameter : ℕ) (returns : List ℕ) → All (PaysExit q b (returning parameter)) (map returns_to returns) → PaysReturns b returns
+  from_exits b parameter [] h = All-nil (λ r. 1 + weight_of_block bs (r + 1) ≤ weight_of_block bs b)
+  from_exits b parameter (r ∷ returns) h =
+      All-cons (λ r. 1 + weight_of_block bs (r + 1) ≤ weight_of_block bs b) r returns
+      (weighs_next b (weight_of_block bs (r + 1)) parameter (Goes (r + 1)) (slope_at p.slopes (r + 1)) (All-head (PaysExit q b (returning parameter)) (returns_to r) (map returns_to returns) h refl))
+      (from_exits b parameter returns (All-tail (PaysExit q b (returning parameter)) (returns_to r) (map returns_to returns) h))
 
   -- a return row has gathered the weights of the blocks behind these
   abbrev pub HasGathered : ℕ → List ℕ → Type 0

@@ -10,6 +10,11 @@ use Rattle.gw_object.specs.Entities.{entity, chains_in}
 use Rattle.gw_object.specs.Limits.{most_seeds, most_entities, most_procedures, most_blocks, most_return_rows}
 use Rattle.gw_object.specs.Grammar.{HasSpelling, spelling, object, tables, head, seed, start_count, return_row, rows, slope, sloped_weight}
 use Rattle.gw_least_weights.specs.Rules.{IsWeight}
+use Rattle.gw_weighing.specs.Certificates.{IsCounted}
+
+-- what has a spelling is counted
+pub is_counted : (p : Parts) → HasSpelling p → IsCounted p
+is_counted p fits = record { blocks = fits.limits.blocks; entities = fits.limits.entities; returns = fits.limits.returns; chain_states = fits.limits.chain_states }
 
 -- weights are spelled in four bytes each
 spelled_in : (weights : List ℕ) → length (flat_map (to_be_bytes w32) weights) ≡ length weights * 4
@@ -51,7 +56,7 @@ abbrev fronts : Parts → List (List ℕ)
 fronts p =
     head.spell (tt, p.version) ∷ (listed 0 most_seeds seed).spell p.seeds ∷ start_count.spell p.count
     ∷ (listed 0 most_entities entity).spell p.entities ∷ (listed 0 most_procedures (plain procedure)).spell p.procedures
-    ∷ (listed 0 most_blocks (plain block)).spell p.blocks ∷ (listed 0 most_return_rows (plain return_row)).spell p.returns
+    ∷ (listed 0 most_blocks (plain (block p.version))).spell p.blocks ∷ (listed 0 most_return_rows (plain return_row)).spell p.returns
     ∷ (rows (length p.blocks)).spell p.states ∷ (rows (chains_in p.entities)).spell p.chain_states ∷ []
 
 -- and of weights, those of blocks with the slopes
@@ -79,7 +84,7 @@ module _ (p : Parts) (weights chains : List ℕ) where
       let c = fits.canonical in
       let size : length (spelling reweighed) ≡ length (spelling p) = as_large (same ∙ sym l.weights) (others ∙ sym l.chain_weights) in
       record {
-        letters = record { version = fits.letters.version; names = fits.letters.names; slopes = fits.letters.slopes };
+        letters = record { version = fits.letters.version; names = fits.letters.names; blocks = fits.letters.blocks; slopes = fits.letters.slopes };
         limits = record {
           seeds = l.seeds;
           each_seed = l.each_seed;
@@ -100,6 +105,7 @@ module _ (p : Parts) (weights chains : List ℕ) where
           weights = same;
           each_weight = range;
           slopes = l.slopes;
+          each_slope = l.each_slope;
           chain_weights = others;
           each_chain_weight = chain_range;
           size = omega (arith, size, l.size);

@@ -21,7 +21,7 @@ state_at p i = option_flatten (slice_get p.states i)
 -- the rule at the block at a place, in its row of the state table
 abbrev pub block_rule : Layout → Parts → ℕ → Block → Option TableState → Rule
 block_rule y p i block None = record { turn = 2 * i; at = i; first = nothing; second = nothing }
-block_rule y p i block (Some row) = record { turn = 2 * i; at = i; first = first_sum y p (suc i) block row; second = second_sum y (suc i) block }
+block_rule y p i block (Some row) = record { turn = 2 * i; at = i; first = first_sum y p (suc i) block row; second = second_sum y p (suc i) block }
 
 -- the rule at the user chain of the block at a place, if that is an UNLINK, and both have a row
 abbrev pub chain_rule : Layout → Parts → ℕ → Block → Option Rule

@@ -2,7 +2,7 @@
 //! return rows gather.
 
 ghost use Rattle.std.specs.Prelude.{◌≡◌};
-ghost use Rattle.gw_object.specs.Grammar.{HasSpelling};
+ghost use Rattle.gw_weighing.specs.Certificates.{IsCounted};
 ghost use Rattle.gw_weighing.specs.Layout as model;
 
 use gw_object::{Entity, Parts, chains_in};
@@ -22,7 +22,7 @@ pub(crate) struct Layout {
 impl Layout {
     /// Those of an object.
     pub(crate) fn of(parts: &Parts) -> Layout
-        requires { HasSpelling parts.now }
+        requires { IsCounted parts.now }
         ensures { result ≡ model.layout_of parts.now }
     {
         Layout {

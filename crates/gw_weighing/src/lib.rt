@@ -6,4 +6,4 @@ mod rules;
 mod sums;
 mod weighing;
 
-pub use weighing::weigh;
+pub use weighing::{Weights, weigh, weights_of};

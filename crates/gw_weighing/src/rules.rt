@@ -2,7 +2,7 @@
 
 ghost use Rattle.std.specs.Prelude.{◌≡◌, ◌++◌, ◌<◌, ◌≤◌, IfOk, option_map, option_to_list, length};
 ghost use Rattle.gw_blocks.specs.declared.parts.Block.TheVariants as blocks;
-ghost use Rattle.gw_object.specs.Grammar.{HasSpelling};
+ghost use Rattle.gw_weighing.specs.Certificates.{IsCounted};
 ghost use Rattle.gw_weighing.specs.Rules as model;
 
 use crate::layout::Layout;
@@ -35,7 +35,7 @@ fn block_rule(layout: Layout, parts: &Parts, place: usize, block: &Block) -> Rul
     match state_at(parts, place) {
         Some(row) => Rule {
             first: first_sum(layout, parts, number, block, row),
-            second: second_sum(layout, number, block),
+            second: second_sum(layout, parts, number, block),
             ..idle
         },
         None => idle,
@@ -147,7 +147,7 @@ fn add_rows(rules: &mut Vec<Rule>, layout: Layout, parts: &Parts) -> Result<(), 
 /// rows that gather its weight, and then those of the user chains.
 #[tactic(auto, unfolding(crate::specs::Rules::rules_of))]
 pub(crate) fn rules_of(alloc: Global, parts: &Parts, layout: Layout) -> Result<Vec<Rule>, Memory>
-    requires { HasSpelling parts.now }
+    requires { IsCounted parts.now }
     ensures { IfOk result (λ rules. rules.items ≡ model.rules_of layout parts.now) }
 {
     let mut rules = Vec::new(alloc);

@@ -6,8 +6,8 @@ ghost use Rattle.gw_weighing.specs.Sums as model;
 use crate::layout::Layout;
 use gw_blocks::Block;
 use gw_least_weights::{Sum, Term, nothing};
-use gw_object::{Parts, TableKind, TableState};
-use gw_rules::{Exit, Who, exits, leads_to};
+use gw_object::{GREATEST_WEIGHT, Parts, Slope, TableKind, TableState};
+use gw_rules::{Exit, Treatment, Way, Who, above, exits, leads_to, slope_at, treats};
 use gw_weights::{goes_at_once, parameter_of};
 
 /// 1 for an entry, and the weight at a place.
@@ -21,34 +21,94 @@ fn with_entry(place: usize) -> Sum
     }
 }
 
-/// What the block of this number asks for an exit of it.
-fn for_exit(layout: Layout, number: u16, exit: Exit) -> Sum
-    requires { number ≤ 4096 }
-    ensures { result ≡ model.for_exit layout number exit }
+/// What a slope of the next block adds, by what is done to its parameter: what it makes of a constant, or the greatest weight,
+/// which is too much already.
+fn surcharge(slope: Slope, treatment: Treatment) -> u32
+    ensures { result ≡ model.surcharge slope treatment }
 {
-    if !goes_at_once(exit) {
-        return nothing();
+    match treatment {
+        Treatment::SetsTo(value) => {
+            let added = slope.1 as u128 * above(value) as u128;
+            added.min(GREATEST_WEIGHT as u128) as u32
+        }
+        Treatment::Keeps | Treatment::Lowers | Treatment::RunsOut | Treatment::Changes => 0,
     }
-    let there = layout.of_block(leads_to(number, exit.way));
-    match exit.who {
-        Who::Itself => with_entry(there),
+}
+
+/// And what it takes off: what it makes of 1.
+fn discount(slope: Slope, treatment: Treatment) -> u32
+    ensures { result ≡ model.discount slope treatment }
+{
+    match treatment {
+        Treatment::Lowers => slope.1,
+        Treatment::Keeps | Treatment::SetsTo(_) | Treatment::RunsOut | Treatment::Changes => 0,
+    }
+}
+
+/// 1 for an entry, and the weight at a place with this slope, by what is done to its parameter.
+fn with_slope(place: usize, slope: Slope, treatment: Treatment) -> Sum
+    ensures { result ≡ model.with_slope place slope treatment }
+{
+    Sum {
+        own: 1 + surcharge(slope, treatment),
+        less: discount(slope, treatment),
+        ..with_entry(place)
+    }
+}
+
+/// What is asked for who goes along a way of a block to a place with this slope or with none.
+fn for_next(place: usize, block: &Block, way: Way, slope: Option<Slope>) -> Sum
+    ensures { result ≡ model.for_next place block.now way slope }
+{
+    match slope {
+        Some(slope) => with_slope(place, slope, treats(block, way, slope.0)),
+        None => with_entry(place),
+    }
+}
+
+/// What the block of this number asks for who goes along a way of it.
+fn for_who(layout: Layout, parts: &Parts, number: u16, block: &Block, way: Way, who: Who) -> Sum
+    requires { number ≤ 4096 }
+    ensures { result ≡ model.for_who layout parts.now number block.now way who }
+{
+    let target = leads_to(number, way);
+    let place = layout.of_block(target);
+    match who {
+        Who::Itself => for_next(place, block, way, slope_at(parts.slopes.as_slice(), target)),
         Who::Copies(copies) => Sum {
             second: Term {
                 times: copies,
-                place: there,
+                place,
             },
             ..with_entry(layout.of_block(number + 1))
         },
     }
 }
 
-/// And for one that it may have.
-fn for_exit_there(layout: Layout, number: u16, exit: Option<Exit>) -> Sum
+/// What the block of this number asks for an exit of it.
+fn for_exit(layout: Layout, parts: &Parts, number: u16, block: &Block, exit: Exit) -> Sum
     requires { number ≤ 4096 }
-    ensures { result ≡ model.for_exit_there layout number exit }
+    ensures { result ≡ model.for_exit layout parts.now number block.now exit }
+{
+    if !goes_at_once(exit) {
+        return nothing();
+    }
+    for_who(layout, parts, number, block, exit.way, exit.who)
+}
+
+/// And for one that it may have.
+fn for_exit_there(
+    layout: Layout,
+    parts: &Parts,
+    number: u16,
+    block: &Block,
+    exit: Option<Exit>,
+) -> Sum
+    requires { number ≤ 4096 }
+    ensures { result ≡ model.for_exit_there layout parts.now number block.now exit }
 {
     match exit {
-        Some(exit) => for_exit(layout, number, exit),
+        Some(exit) => for_exit(layout, parts, number, block, exit),
         None => nothing(),
     }
 }
@@ -109,14 +169,14 @@ pub(crate) fn first_sum(
             for_returns_held(layout, parts, row_held(row, *parameter))
         }
         Block::Link(link) => with_entry(layout.of_chain(parts.entities.as_slice(), link.chain)),
-        _ => for_exit_there(layout, number, exits(block).first().copied()),
+        _ => for_exit_there(layout, parts, number, block, exits(block).first().copied()),
     }
 }
 
 /// What it asks besides: for its second exit.
-pub(crate) fn second_sum(layout: Layout, number: u16, block: &Block) -> Sum
+pub(crate) fn second_sum(layout: Layout, parts: &Parts, number: u16, block: &Block) -> Sum
     requires { number ≤ 4096 }
-    ensures { result ≡ model.second_sum layout number block.now }
+    ensures { result ≡ model.second_sum layout parts.now number block.now }
 {
-    for_exit_there(layout, number, exits(block).get(1).copied())
+    for_exit_there(layout, parts, number, block, exits(block).get(1).copied())
 }

@@ -2,10 +2,9 @@
 
 ghost use Rattle.std.specs.Prelude.{◌≡◌, IfOk, IfErr, All, length};
 ghost use Rattle.gw_object.specs.Entities.{chains_in as chains_among};
-ghost use Rattle.gw_object.specs.Grammar.{HasSpelling};
 ghost use Rattle.gw_rules.specs.Pass.{KindsPass};
 ghost use Rattle.gw_least_weights.specs.Rules.{IsWeight};
-ghost use Rattle.gw_weighing.specs.Certificates.{DifferInWeights, HasLeastWeights, AreLeast};
+ghost use Rattle.gw_weighing.specs.Certificates.{DifferInWeights, HasLeastWeights, AreLeast, IsCounted, MayBeSpelled};
 
 use crate::layout::Layout;
 use crate::rules::rules_of;
@@ -16,17 +15,19 @@ use std::alloc::Global;
 
 /// The weights of the blocks and of the user chains of an object.
 #[derive(Debug, Drop)]
-struct Weights {
+pub struct Weights {
     /// Of the blocks, in order.
-    blocks: Vec<u32>,
+    pub blocks: Vec<u32>,
     /// Of the user chains, in the order of the entities.
-    chains: Vec<u32>,
+    pub chains: Vec<u32>,
 }
 
-/// The least weights that the rules of an object ask for.
-fn weights_of(alloc: Global, parts: &Parts) -> Result<Weights, Memory>
-    requires { HasSpelling parts.now }
-    ensures { IfOk result (λ w. AreLeast parts.now w.blocks.items w.chains.items) }
+/// The least weights that the rules of parts ask for, with the slopes that they have: where they are those of an object, but for
+/// the weights that they have, and any weights pass in it, these do, and each is at most the other's (ours: docs/weights.md).
+/// They may be too long for an object. For want of memory there are none.
+pub fn weights_of(alloc: Global, parts: &Parts) -> Result<Weights, Memory>
+    requires { IsCounted parts.now }
+    ensures { IfOk result (λ w. MayBeSpelled parts.now → AreLeast parts.now w.blocks.items w.chains.items) }
 {
     let layout = Layout::of(parts);
     let rules = rules_of(alloc, parts, layout)?;
@@ -34,6 +35,13 @@ fn weights_of(alloc: Global, parts: &Parts) -> Result<Weights, Memory>
     let chains = Vec::from_slice(alloc, &blocks[layout.blocks as usize..layout.counted()])?;
     blocks.truncate(layout.blocks as usize);
     Ok(Weights { blocks, chains })
+}
+
+/// The least weights that the rules of an object ask for.
+fn weights_in(alloc: Global, object: &Object) -> Result<Weights, Memory>
+    ensures { IfOk result (λ w. AreLeast object.now w.blocks.items w.chains.items) }
+{
+    weights_of(alloc, object.parts())
 }
 
 /// An object with these weights in the place of its own.
@@ -64,7 +72,7 @@ pub fn weigh(alloc: Global, object: Object) -> Result<Object, (Object, Memory)>
     ensures least { IfOk result HasLeastWeights }
     ensures refused { IfErr result (λ e. e.0 ≡ object) }
 {
-    match weights_of(alloc, object.parts()) {
+    match weights_in(alloc, &object) {
         Ok(weights) => {
             let Weights { blocks, chains } = weights;
             Ok(with_weights(object, blocks, chains))

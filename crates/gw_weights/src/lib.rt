@@ -5,8 +5,10 @@ mod arrivals;
 mod chains;
 mod check;
 mod exits;
+mod paying;
 mod returns;
+mod slopes;
 
-pub use check::check_weights;
+pub use check::{check_parts, check_weights, own_row};
 pub use exits::goes_at_once;
-pub use returns::parameter_of;
+pub use returns::{blocks_read, parameter_of};

@@ -41,11 +41,7 @@ pub fn parameter_of(parameters: &[TableParameter], number: u8) -> Option<TablePa
 
 /// The blocks to one of which this parameter returns by a row of the state table, if that says that it holds a return
 /// (ours: docs/object-format.md).
-pub(crate) fn blocks_read<'a>(
-    returns: &'a [ReturnRow],
-    row: &TableState,
-    parameter: u8,
-) -> &'a [u16]
+pub fn blocks_read<'a>(returns: &'a [ReturnRow], row: &TableState, parameter: u8) -> &'a [u16]
     ensures { result.now ≡ return_blocks (kind_of (row_meaning returns.now row.now) parameter) }
 {
     match parameter_of(row.parameters.as_slice(), parameter) {

@@ -9,7 +9,7 @@ use Rattle.gw_object_bytes.proofs.certificate.put_certificate.Goals as goal
 
 pub loop-i-preserved : goal.loop-i-preserved
 loop-i-preserved g c =
-    one_more_weight c.args.version c.args.weights.now c.args.slopes.now c.loop-i.i _ _ _ _ (omega (arith, c.loop-i-test.true, c.min-i-end.ensures)) refl c.loop-i.invariant c.in_ok-put_weight.ensures
+    one_more_weight c.args.version c.args.weights.now c.args.slopes.now c.loop-i.i _ _ _ _ _ (omega (arith, c.loop-i-test.true, c.min-i-end.ensures)) refl refl c.loop-i.invariant c.in_ok-put_weight.ensures
 
 pub returns : goal.returns
 returns g c =

@@ -9,5 +9,5 @@ loop-transaction-init c =
     let all = all_weigh c.args.parts.now c.args.transactions.now.txs c.iter-transaction-items.result c.iter-transaction-items.ensures.listed in
     record {
       sum = omega (arith, all, ap (sum_by (listed_weight c.args.parts.now)) is);
-      bound = omega (arith, c.iter-transaction-items.ensures.len, c.requires, ap length is);
+      bound = omega (arith, c.iter-transaction-items.ensures.len, c.requires.live, ap length is);
     }

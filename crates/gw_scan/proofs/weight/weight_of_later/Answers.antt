@@ -1,7 +1,7 @@
-use Rattle.std.proofs.Common.{length, sym, subst, ap, arith}
+use Rattle.std.proofs.Common.{sym, subst, ap, arith}
 use Rattle.std.specs.Prelude.{sum_by}
 use Rattle.std.specs.List.{AllByRecursion}
-use Rattle.std.proofs.lemmas.List.Sorted.{sum_by-IsPermutation, All-permutation, length_permutation}
+use Rattle.std.proofs.lemmas.List.Sorted.{sum_by-IsPermutation, All-permutation}
 use Rattle.std.proofs.lemmas.List.Elements.{recursion_from_All, All-from_recursion}
 use Rattle.gw_members.specs.Chain.{Chain}
 use Rattle.gw_members.specs.declared.tx.Event.{Event}
@@ -21,5 +21,4 @@ loop-event-init c =
     record {
       held = subst (AllByRecursion held) (sym is) (recursion_from_All held all (All-permutation held items all same (All-from_recursion held items c.future_events.ensures.held)));
       sum = omega (arith, sum_by-IsPermutation weights items all same, ap (sum_by weights) is, ap (λ (chain : Chain Event). sum_by weights chain.items) c.future_events.ensures.events);
-      bound = omega (arith, length_permutation items all same, c.future_events.ensures.few, ap length is);
     }

@@ -3,7 +3,7 @@ use Rattle.gw_object.specs.Entities.{chains_in}
 use Rattle.gw_weighing.specs.Layout.{layout_of, counted, places}
 use Rattle.gw_weighing.specs.Rules.{rules_of}
 use Rattle.gw_weighing.proofs.Bridge.{is_system}
-use Rattle.gw_weighing.proofs.Found.{found_least}
+use Rattle.gw_weighing.proofs.Found.{found_for}
 use Rattle.gw_weighing.proofs.weighing.weights_of.Goals as goal
 
 pub least_weights-requires-clause-system : goal.least_weights-requires-clause-system
@@ -15,10 +15,10 @@ least_weights-requires-clause-system c =
     rw (rules_are, counted_is, places_is) (is_system p c.requires)
 
 pub returns : goal.returns
-returns c =
+returns c = λ spelled.
     let p = c.args.parts.now in
     let weights : List ℕ = c.in_ok-blocks.blocks.items in
-    let found = found_least p c.requires weights (search rules) (search rules) (search rules) in
+    let found = found_for p spelled.0 spelled.1 spelled.2 weights (search rules) (search rules) (search rules) in
     let blocks_are : c.truncate.new.self.items ≡ take (length p.blocks) weights = search rules in
     let chains_are : c.in_ok-chains.chains.items ≡ take (chains_in p.entities) (drop (length p.blocks) weights) = search rules in
     rw (blocks_are, chains_are) found

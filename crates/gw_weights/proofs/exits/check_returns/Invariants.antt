@@ -6,6 +6,6 @@ use Rattle.gw_rules.specs.Weights.{exit_checks}
 use Rattle.gw_weights.proofs.exits.check_returns.Given as goal
 
 -- the first fault of the exits that are left is that of all
-abbrev pub invariant-loop-block : goal.invariant-loop-block
-invariant-loop-block l =
-    first_broken (flat_map (exit_checks l.parts l.number) (map returns_to (drop l.block-index l.blocks))) ≡ first_broken (flat_map (exit_checks l.parts l.number) (map returns_to l.blocks))
+abbrev pub invariant-loop-caller : goal.invariant-loop-caller
+invariant-loop-caller l =
+    first_broken (flat_map (exit_checks l.parts l.number l.block) (map returns_to (drop l.caller-index l.callers))) ≡ first_broken (flat_map (exit_checks l.parts l.number l.block) (map returns_to l.callers))

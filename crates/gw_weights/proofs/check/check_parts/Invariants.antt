@@ -1,7 +1,7 @@
 use Rattle.std.proofs.Common.{◌≡◌, ◌+◌, drop}
 use Rattle.gw_rules.specs.Checks.{first_broken, numbered}
 use Rattle.gw_rules.specs.Weights.{checks_at}
-use Rattle.gw_weights.proofs.check.check_blocks.Given as goal
+use Rattle.gw_weights.proofs.check.check_parts.Given as goal
 
 -- the first fault of the blocks that are left is that of all
 abbrev pub invariant-loop-i : goal.invariant-loop-i

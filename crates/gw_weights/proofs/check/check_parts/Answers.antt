@@ -2,7 +2,7 @@ use Rattle.std.proofs.Common.{◌+◌, refl}
 use Rattle.std.proofs.lemmas.Result.{err_from_is_err_and}
 use Rattle.gw_rules.proofs.Broken.{goes_on, stops}
 use Rattle.gw_rules.specs.Weights.{checks_at, weight_checks}
-use Rattle.gw_weights.proofs.check.check_blocks.Goals as goal
+use Rattle.gw_weights.proofs.check.check_parts.Goals as goal
 
 pub returns-in_err-check_block : goal.returns-in_err-check_block
 unfolding weight_checks

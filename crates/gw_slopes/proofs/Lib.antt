@@ -1,0 +1,3 @@
+mod Marking
+mod Returning
+mod Alike

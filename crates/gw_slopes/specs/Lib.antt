@@ -1,0 +1,4 @@
+pub mod Sloped
+pub mod Marking
+pub mod Found
+pub mod Aside
