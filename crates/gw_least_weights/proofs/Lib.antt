@@ -4,3 +4,4 @@ pub mod Raised
 pub mod Gathered
 pub mod Reached
 pub mod Sorted
+pub mod Walks

@@ -9,7 +9,8 @@ use Rattle.gw_least_weights.specs.declared.rules.Sum.{Sum}
 use Rattle.gw_least_weights.specs.declared.rules.Rule.{Rule}
 use Rattle.gw_least_weights.specs.Rules.{weight_at, of_term, of_sum, Keeps}
 use Rattle.gw_least_weights.specs.Least.{EachAtMost, InRange, IsCertificate, IsLeast, Gathers}
-use Rattle.gw_least_weights.specs.Rounds.{IsRound, IsGathered, AreGathered, KeepsGathering, AreInOrder}
+use Rattle.gw_least_weights.specs.Circles.{KeepNone}
+use Rattle.gw_least_weights.specs.Rounds.{IsRaised, IsRound, IsGathered, AreGathered, KeepsGathering, AreInOrder, AreUnder}
 use Rattle.gw_least_weights.proofs.Below.{below, lowered, total, lowered_length, lowered_at, lowered_total, below_most, below_fewer, same_below, none_below}
 use Rattle.gw_least_weights.proofs.Raised.{at_most_self, at_most_both, of_term_grows, of_sum_grows, at_most_greatest}
 use Rattle.gw_least_weights.proofs.Gathered.{gathered_place, is_kept, keeps_gathered}
@@ -236,3 +237,17 @@ module _ (rules : List Rule) (counted count : ℕ) where
     gathered = near.gathered;
     reached = λ u c. let r = near.reached u c in record { near = r.near; certificate = r.certificate; above = r.above; most = r.most; left = omega (arith, r.left, few) };
   }
+
+  -- WHERE WEIGHTS ARE RAISED IN ANY ORDER
+
+  -- raised to no more than rules ask they stay under each certificate
+  pub raised_under : (w v : List ℕ) → AreUnder rules count w → IsRaised rules w v → AreUnder rules count v
+  raised_under w v under raised = record { range = raised.range under.range; below = λ u c. raised.below u c.keeps (under.below u c) }
+
+  -- so they are at first
+  pub ones_under : (w : List ℕ) → length w ≡ count → w ≡ replicate count 1 → AreInOrder rules counted count → AreUnder rules count w
+  ones_under w many ones order = let near = rounds_begin w many ones order in record { range = near.range; below = near_under counted w near }
+
+  -- where no weights keep the rules that are at least these, these are the least
+  pub none_least : (w : List ℕ) → AreUnder rules count w → KeepNone rules w → IsLeast rules count w
+  none_least w under none u c = absurd (none u (under.below u c) c.keeps)

@@ -1,3 +1,4 @@
 pub mod Rules
 pub mod Least
 pub mod Rounds
+pub mod Circles

@@ -3,7 +3,7 @@ use Rattle.std.specs.Prelude.{◌≡◌, ◌⊎◌, ℕ, ◌≤◌, ◌<◌, Lis
 use Rattle.gw_object.specs.Limits.{greatest_weight}
 use Rattle.gw_least_weights.specs.declared.rules.Rule.{Rule}
 use Rattle.gw_least_weights.specs.Rules.{weight_at, of_sum, needed, Keeps}
-use Rattle.gw_least_weights.specs.Least.{EachAtMost, InRange, Gathers}
+use Rattle.gw_least_weights.specs.Least.{EachAtMost, InRange, IsCertificate, Gathers}
 
 -- what raising for one rule makes of weights: each grows, at the rule's place to what it asks for or to the greatest weight, and to no more than weights have that keep the rule
 pub record IsRaisedFor (r : Rule) (w v : List ℕ) : Type 0 where
@@ -19,6 +19,11 @@ pub record IsRaised (rules : List Rule) (w v : List ℕ) : Type 0 where
   pub grown : EachAtMost w v
   pub below : (u : List ℕ) → All (Keeps u) rules → EachAtMost w u → EachAtMost v u
   pub range : InRange w → InRange v
+
+-- weights that may stand, and are at most those of each certificate
+pub record AreUnder (rules : List Rule) (count : ℕ) (w : List ℕ) : Type 0 where
+  pub range : InRange w
+  pub below : (u : List ℕ) → IsCertificate rules count u → EachAtMost w u
 
 -- a gathered weight is no more than one of those that it gathers, unless it is the least
 pub record IsGathered (rules : List Rule) (w : List ℕ) (place : ℕ) : Type 0 where

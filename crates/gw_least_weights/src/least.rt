@@ -4,9 +4,10 @@ ghost use Rattle.std.specs.Prelude.{◌≡◌, ◌<◌, IfOk, IfSome, length, re
 ghost use Rattle.gw_least_weights.specs.Least.{InRange, IsLeast, IsSystem};
 ghost use Rattle.gw_least_weights.specs.Rounds.{AreInOrder};
 
-use crate::order::order_of;
+use crate::order::{Course, Scope, course_of};
 use crate::rounds::{raise_in_rounds, settles_along};
 use crate::rules::Rule;
+use crate::sweeps::settles_by_sweeps;
 use std::alloc::{AllocError, Global};
 
 /// The least weight at each of so many places.
@@ -29,11 +30,30 @@ fn by_one_pass(
     ensures many { IfOk result (λ found. IfSome found (λ v. length v.items ≡ count)) }
     ensures range { IfOk result (λ found. IfSome found (λ v. InRange v.items)) }
 {
-    let Some(numbers) = order_of(alloc, rules, count)? else {
+    let Course::Order(numbers) = course_of(alloc, rules, Scope::All, count)? else {
         return Ok(None);
     };
     let mut weights = ones(alloc, count)?;
     if settles_along(&mut weights, rules, &numbers, counted) {
+        return Ok(Some(weights));
+    }
+    Ok(None)
+}
+
+/// The least weights by sweeps, where some sums take something off, and sweeps suffice.
+fn by_sweeps(
+    alloc: Global,
+    rules: &[Rule],
+    counted: usize,
+    count: usize,
+) -> Result<Option<Vec<u32>>, AllocError>
+    requires order { AreInOrder rules.now counted count }
+    ensures least { IfOk result (λ found. IfSome found (λ v. IsLeast rules.now count v.items)) }
+    ensures many { IfOk result (λ found. IfSome found (λ v. length v.items ≡ count)) }
+    ensures range { IfOk result (λ found. IfSome found (λ v. InRange v.items)) }
+{
+    let mut weights = ones(alloc, count)?;
+    if settles_by_sweeps(alloc, &mut weights, rules, counted)? {
         return Ok(Some(weights));
     }
     Ok(None)
@@ -57,6 +77,25 @@ fn by_rounds(
     Ok(weights)
 }
 
+/// The least weights in a circle of rules: by sweeps, or by rounds.
+fn in_circles(
+    alloc: Global,
+    rules: &[Rule],
+    counted: usize,
+    count: usize,
+) -> Result<Vec<u32>, AllocError>
+    requires order { AreInOrder rules.now counted count }
+    requires few { counted < 65536 }
+    ensures least { IfOk result (λ v. IsLeast rules.now count v.items) }
+    ensures many { IfOk result (λ v. length v.items ≡ count) }
+    ensures range { IfOk result (λ v. InRange v.items) }
+{
+    match by_sweeps(alloc, rules, counted, count)? {
+        Some(weights) => Ok(weights),
+        None => by_rounds(alloc, rules, counted, count),
+    }
+}
+
 /// The least weights that keep these rules in the order of a round.
 fn least_in_order(
     alloc: Global,
@@ -72,12 +111,13 @@ fn least_in_order(
 {
     match by_one_pass(alloc, rules, counted, count)? {
         Some(weights) => Ok(weights),
-        None => by_rounds(alloc, rules, counted, count),
+        None => in_circles(alloc, rules, counted, count),
     }
 }
 
 /// The least weights at so many places that keep these rules, where any do, each from 1 to 1,000,000,000. They are raised from
-/// 1 in one pass, where the rules have an order for it; else in rounds, in each of them for the rules one after the other by
+/// 1 in one pass, where the rules have an order for it; else, where some take something off, in sweeps along an order of the
+/// others, unless a circle shows that no weights keep them; else in rounds, in each of them for the rules one after the other by
 /// their turns, until nothing is raised, or for as many rounds as there are counted places, and one more. The places are
 /// counted, but for the last ones, whose rules only gather the greatest weight of counted ones, behind whose turns they come
 /// (ours: docs/weights.md). For want of memory there are none.

@@ -1,7 +1,37 @@
-//! An order of rules, in which each comes behind those at the places that it counts.
+//! An order of rules, in which each comes behind those at the places that it counts, or a circle of rules.
 
+use crate::circles::Link;
 use crate::rules::{Rule, Sum, Term};
 use std::alloc::{AllocError, Global};
+
+/// Which sums a search looks at.
+#[derive(Clone, Copy, Debug, PartialEq, Eq)]
+pub(crate) enum Scope {
+    /// All.
+    All,
+    /// Those that take nothing off.
+    Whole,
+}
+
+impl Scope {
+    /// Whether it has a sum.
+    fn has(self, sum: Sum) -> bool {
+        match self {
+            Scope::All => true,
+            Scope::Whole => sum.less == 0,
+        }
+    }
+}
+
+/// What a search along what rules count comes to.
+#[derive(Debug, Drop)]
+pub(crate) enum Course {
+    /// The numbers of the rules, each behind those of all rules at the places that it counts.
+    Order(Vec<usize>),
+    /// Sums of rules that count one another in a circle: each counts the place of the one before it, and the first that of the
+    /// last one.
+    Circle(Vec<Link>),
+}
 
 /// How far a search has come with a place.
 #[derive(Clone, Copy, Debug, PartialEq, Eq)]
@@ -57,10 +87,12 @@ struct Search {
     pending: Vec<usize>,
     /// How far it has come with each place.
     stages: Vec<Stage>,
+    /// For each place the sum that came to it last.
+    entered: Vec<Link>,
     /// The numbers of the rules at the places that it has left behind, in order.
     order: Vec<usize>,
-    /// Whether it has found rules that count one another in a circle.
-    is_circular: bool,
+    /// The sum that closed a circle, and the place that it counts.
+    closing: Option<(Link, usize)>,
 }
 
 impl Search {
@@ -73,8 +105,9 @@ impl Search {
         Ok(Search {
             pending,
             stages: vec![in alloc; Stage::Before; count]?,
+            entered: vec![in alloc; Link::none(); count]?,
             order: Vec::new(alloc),
-            is_circular: false,
+            closing: None,
         })
     }
 
@@ -90,23 +123,31 @@ impl Search {
         }
     }
 
-    /// Comes to the place of a term, if that counts: it is looked at next, if it wasn't yet.
-    fn come_to(&mut self, term: Term) -> Result<(), AllocError> {
+    /// Comes to the place of a term of a sum, if that counts: it is looked at next, if it wasn't yet.
+    fn come_to(&mut self, term: Term, link: Link) -> Result<(), AllocError> {
         if term.times == 0 {
             return Ok(());
         }
         match self.stage(term.place) {
-            Stage::Before => self.pending.push(term.place)?,
-            Stage::Within => self.is_circular = true,
+            Stage::Before => {
+                if let Some(at) = self.entered.get_mut(term.place) {
+                    *at = link;
+                }
+                self.pending.push(term.place)?;
+            }
+            Stage::Within => self.closing = Some((link, term.place)),
             Stage::Behind => {}
         }
         Ok(())
     }
 
-    /// Comes to the places of a sum.
-    fn come_to_both(&mut self, sum: Sum) -> Result<(), AllocError> {
-        self.come_to(sum.first)?;
-        self.come_to(sum.second)
+    /// Comes to the places of a sum, if it is looked at.
+    fn come_to_both(&mut self, scope: Scope, sum: Sum, link: Link) -> Result<(), AllocError> {
+        if !scope.has(sum) {
+            return Ok(());
+        }
+        self.come_to(sum.first, link)?;
+        self.come_to(sum.second, link)
     }
 
     /// Comes to all places that the rules at a place count.
@@ -114,6 +155,7 @@ impl Search {
         &mut self,
         rules: &[Rule],
         places: &Places,
+        scope: Scope,
         place: usize,
     ) -> Result<(), AllocError> {
         let mut number = places.first_at(place);
@@ -121,8 +163,8 @@ impl Search {
             let Some(rule) = rules.get(number) else {
                 return Ok(());
             };
-            self.come_to_both(rule.first)?;
-            self.come_to_both(rule.second)?;
+            self.come_to_both(scope, rule.first, Link::first(number))?;
+            self.come_to_both(scope, rule.second, Link::second(number))?;
             number = places.next_behind(number);
         }
         Ok(())
@@ -143,11 +185,17 @@ impl Search {
 
     /// Goes on at a place: to those that its rules count, if it wasn't come to; else back, and leaves it behind, if these were
     /// looked at just now.
-    fn go_on(&mut self, rules: &[Rule], places: &Places, place: usize) -> Result<(), AllocError> {
+    fn go_on(
+        &mut self,
+        rules: &[Rule],
+        places: &Places,
+        scope: Scope,
+        place: usize,
+    ) -> Result<(), AllocError> {
         match self.stage(place) {
             Stage::Before => {
                 self.note(place, Stage::Within);
-                return self.look_behind(rules, places, place);
+                return self.look_behind(rules, places, scope, place);
             }
             Stage::Within => {
                 self.note(place, Stage::Behind);
@@ -160,33 +208,66 @@ impl Search {
     }
 
     /// Goes on until nothing is left to be looked at, or until rules are found that count one another in a circle.
-    fn go_through(&mut self, rules: &[Rule], places: &Places) -> Result<(), AllocError> {
+    fn go_through(
+        &mut self,
+        rules: &[Rule],
+        places: &Places,
+        scope: Scope,
+    ) -> Result<(), AllocError> {
         for _ in 0..usize::MAX {
             let Some(place) = self.pending.last().copied() else {
                 return Ok(());
             };
-            self.go_on(rules, places, place)?;
-            if self.is_circular {
+            self.go_on(rules, places, scope, place)?;
+            if self.closing.is_some() {
                 return Ok(());
             }
         }
         Ok(())
     }
+
+    /// The circle that a sum closed which counts this place: that sum, the one that came to its place, and so on, until one
+    /// stands at the place.
+    fn circle(
+        &self,
+        alloc: Global,
+        rules: &[Rule],
+        closing: Link,
+        place: usize,
+    ) -> Result<Vec<Link>, AllocError> {
+        let mut links = Vec::new(alloc);
+        let mut link = closing;
+        for _ in 0..rules.len() {
+            links.push(link)?;
+            let at = link.place(rules);
+            if at == place {
+                return Ok(links);
+            }
+            link = self.entered.get(at).copied().unwrap_or(closing);
+        }
+        Ok(links)
+    }
 }
 
-/// The numbers of rules, each behind those of all rules at the places that it counts; none where rules count one another in a
-/// circle. It takes as long as there are rules and places. Nothing rests on it but the time that raising takes.
-pub(crate) fn order_of(
+/// The order of rules by the sums of a scope, or a circle of such sums. It takes as long as there are rules and places. Nothing
+/// rests on it but the time that raising takes.
+pub(crate) fn course_of(
     alloc: Global,
     rules: &[Rule],
+    scope: Scope,
     count: usize,
-) -> Result<Option<Vec<usize>>, AllocError> {
+) -> Result<Course, AllocError> {
     let places = Places::of(alloc, rules, count)?;
     let mut search = Search::over(alloc, count)?;
-    search.go_through(rules, &places)?;
-    if search.is_circular {
-        return Ok(None);
+    search.go_through(rules, &places, scope)?;
+    match search.closing {
+        Some((closing, place)) => {
+            let circle = search.circle(alloc, rules, closing, place)?;
+            Ok(Course::Circle(circle))
+        }
+        None => {
+            let Search { order, .. } = search;
+            Ok(Course::Order(order))
+        }
     }
-    let Search { order, .. } = search;
-    Ok(Some(order))
 }

@@ -32,7 +32,7 @@ fn raise_for(weights: &mut [u32], rule: &Rule) -> bool
 }
 
 /// Raises each weight once to what the rules ask, one after the other, and tells whether one was raised.
-fn raise_in_round(weights: &mut [u32], rules: &[Rule], counted: usize) -> bool
+pub(crate) fn raise_in_round(weights: &mut [u32], rules: &[Rule], counted: usize) -> bool
     requires order { AreInOrder rules.now counted (length weights.old) }
     ensures round { IsRound rules.now counted weights.old weights.new }
     ensures still { result ≡ false → weights.new ≡ weights.old }
@@ -61,14 +61,13 @@ pub(crate) fn raise_in_rounds(weights: &mut [u32], rules: &[Rule], counted: usiz
     }
 }
 
-/// Raises a weight to what the rule of a number asks; where there is none, it is passed over.
-fn raise_by(weights: &mut [u32], rules: &[Rule], number: usize, counted: usize)
+/// Raises a weight to what the rule of a number asks, and tells whether it was below that; where there is none, it is passed
+/// over.
+pub(crate) fn raise_by(weights: &mut [u32], rules: &[Rule], number: usize, counted: usize) -> bool
     requires order { AreInOrder rules.now counted (length weights.old) }
     ensures raised { IsRaised rules.now weights.old weights.new }
 {
-    if number < rules.len() {
-        raise_for(weights, &rules[number]);
-    }
+    number < rules.len() && raise_for(weights, &rules[number])
 }
 
 /// Raises weights to what the rules of these numbers ask, one after the other.

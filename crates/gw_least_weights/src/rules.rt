@@ -69,14 +69,14 @@ pub(crate) fn weight_at(weights: &[u32], place: usize) -> u32
 }
 
 /// So many times the weight at a place.
-fn of_term(weights: &[u32], term: Term) -> u64
+pub(crate) fn of_term(weights: &[u32], term: Term) -> u64
     ensures { result ≡ model.of_term weights.now term }
 {
     term.times as u64 * weight_at(weights, term.place) as u64
 }
 
 /// A sum by these weights.
-fn of_sum(weights: &[u32], sum: Sum) -> u64
+pub(crate) fn of_sum(weights: &[u32], sum: Sum) -> u64
     ensures { result ≡ model.of_sum weights.now sum }
 {
     let whole = sum.own as u64 + of_term(weights, sum.first) + of_term(weights, sum.second);

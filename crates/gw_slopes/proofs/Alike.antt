@@ -1,10 +1,10 @@
 -- Parts that are the same but for weights and slopes: what is tried in one of them is tried in the other.
-use Rattle.std.proofs.Common.{◌≡◌, ℕ, ◌+◌, ◌<◌, List, [], Option, Bool, true, false, refl, sym, ap, ◌∙◌, subst, arith, inl, inr}
+use Rattle.std.proofs.Common.{◌≡◌, ℕ, ◌+◌, List, [], Option, Bool, true, false, refl, sym, ap, ◌∙◌, subst, arith, inl, inr}
 use Rattle.std.proofs.lemmas.Bool.{false≢true}
 use Rattle.std.proofs.Common.{eq-or-lt_of_le}
 use Rattle.gw_object.specs.declared.parts.Parts.{Parts}
 use Rattle.gw_rules.specs.Pass.{kinds_checks, KindsPass}
-use Rattle.gw_weighing.specs.Certificates.{AreCertificate, IsCounted, with_weights}
+use Rattle.gw_weighing.specs.Certificates.{IsCounted, with_weights}
 use Rattle.gw_slopes.specs.Aside.{emptied, own_of, with_own}
 use Rattle.gw_slopes.specs.Sloped.{AreMarks, AreSlopes}
 use Rattle.gw_slopes.specs.Found.{AreAlike, DifferInSlopes, HelpsNone, HelpNoneBefore, HasSlopes, IsTrial, is_tried}

@@ -15,7 +15,7 @@ use Rattle.gw_rules.specs.Kinds.{block_at}
 use Rattle.gw_rules.specs.Rows.{Row}
 use Rattle.gw_rules.specs.declared.ways.Exit.{Exit}
 use Rattle.gw_slopes.specs.Sloped.{Sloped, loops, leads, counts, asks_back, leads_back, asks_in, asks_at, asks, marked_at, AreMarks}
-use Rattle.gw_slopes.specs.Marking.{is_due, marked_if, AreSound, lacks, missing, IsOn, IsRound}
+use Rattle.gw_slopes.specs.Marking.{is_due, marked_if, AreSound, StaySound, lacks, missing, IsOn, IsRound}
 
 -- HOW MANY ARE MISSING
 
@@ -24,9 +24,10 @@ one_less [] i within h = absurd (omega (arith, within))
 one_less (m ∷ marks) zero within h = let one : lacks m ≡ 1 = ap lacks h in omega (arith, one)
 one_less (m ∷ marks) (suc i) within h = omega (arith, one_less marks i (omega (arith, within)) h)
 
-pub all_missing : (n : ℕ) → missing (replicate n false) ≡ n
-all_missing zero = refl
-all_missing (suc n) = omega (arith, all_missing n)
+pub most_missing : (marks : List Bool) → missing marks ≤ length marks
+most_missing [] = omega arith
+most_missing (true ∷ marks) = omega (arith, most_missing marks)
+most_missing (false ∷ marks) = omega (arith, most_missing marks)
 
 none_marked : (n i : ℕ) → get_or (replicate n false) i false ≡ false
 none_marked zero i = refl
@@ -161,6 +162,14 @@ module _ (p : Parts) (q : ℕ) where
   pub none_sound : (n : ℕ) → AreSound p q (replicate n false)
   none_sound n zero h = absurd (false≢true h)
   none_sound n (suc i) h = absurd (false≢true (sym (none_marked n i) ∙ h))
+
+  -- what a mark that is put where it is due makes of sound marks
+  pub stay_sound : (old new : List Bool) (due : Bool) (place : ℕ) → due ≡ is_due p q old place → new ≡ marked_if due old place → StaySound p q old new
+  stay_sound old new true place is put = (ap length put ∙ length-set old place true, λ h. subst (AreSound p q) (sym put) (sound_set old place h (sym is)))
+  stay_sound old new false place is put = (ap length put, λ h. subst (AreSound p q) (sym put) h)
+
+  pub stay_both : (old v new : List Bool) → StaySound p q old v → StaySound p q v new → StaySound p q old new
+  stay_both old v new first second = (second.0 ∙ first.0, λ h. second.1 (first.1 h))
 
   -- sound marks of which none is due are all
   pub are_marks : (marks : List Bool) → length marks ≡ length p.blocks → AreSound p q marks → ((i : ℕ) → i < length marks → is_due p q marks i ≡ false) → AreMarks p q marks

@@ -16,6 +16,10 @@ marked_if due marks i = if due then set marks i true else marks
 abbrev pub AreSound : Parts → ℕ → List Bool → Type 0
 AreSound p q marks = (b : ℕ) → marked_at marks b ≡ true → Sloped p.blocks (own_row p) q b
 
+-- there are as many marks as before, and they are sound if they were
+abbrev pub StaySound : Parts → ℕ → List Bool → List Bool → Type 0
+StaySound p q old new = (length new ≡ length old) × (AreSound p q old → AreSound p q new)
+
 -- 1 for a mark that is missing
 abbrev pub lacks : Bool → ℕ
 lacks true = 0

@@ -4,6 +4,7 @@
 mod marks;
 mod search;
 mod slopes;
+mod sources;
 mod weighing;
 
 pub use weighing::{Refusal, weigh_with_slopes};

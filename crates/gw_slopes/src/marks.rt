@@ -5,13 +5,15 @@ ghost use Rattle.std.specs.List.{list_any};
 ghost use Rattle.gw_rules.specs.Flow.{own_row as row_of};
 ghost use Rattle.gw_rules.specs.Seen.{row_meaning};
 ghost use Rattle.gw_slopes.specs.Sloped as model;
-ghost use Rattle.gw_slopes.specs.Marking.{IsRound, is_due, marked_if};
+ghost use Rattle.gw_slopes.specs.Marking.{AreSound, IsRound, StaySound, is_due, marked_if};
 
+use crate::sources::Sources;
 use gw_blocks::Block;
 use gw_object::{Parts, TableState};
 use gw_rules::{Exit, Treatment, exits, leads_to, treats};
 use gw_weights::{blocks_read, goes_at_once, own_row};
 use std::alloc::{AllocError, Global};
+use std::mem;
 
 /// Whether a block is a LOOP on a parameter.
 pub(crate) fn counts(block: &Block, parameter: u8) -> bool
@@ -151,7 +153,8 @@ fn mark_round(parts: &Parts, marks: &mut [bool], parameter: u8) -> bool
 
 /// Marks blocks in rounds until none is due.
 fn mark_all(parts: &Parts, marks: &mut [bool], parameter: u8)
-    requires none { marks.old ≡ replicate (length parts.now.blocks) false }
+    requires many { length marks.old ≡ length parts.now.blocks }
+    requires sound { AreSound parts.now parameter marks.old }
     requires few { length parts.now.blocks ≤ 4096 }
     ensures { model.AreMarks parts.now parameter marks.new }
 {
@@ -162,14 +165,86 @@ fn mark_all(parts: &Parts, marks: &mut [bool], parameter: u8)
     }
 }
 
+/// Marks the block at a place, from 0, if that is due, and tells whether those that lead to the place are due then: it is that
+/// of a block which was marked, or of a return row that wasn't seen before.
+fn mark_place(
+    parts: &Parts,
+    marks: &mut [bool],
+    seen: &mut [bool],
+    place: usize,
+    parameter: u8,
+) -> bool
+    requires many { length marks.old ≡ length parts.now.blocks }
+    requires few { length parts.now.blocks ≤ 4096 }
+    ensures { StaySound parts.now parameter marks.old marks.new }
+{
+    if place < marks.len() {
+        return mark(parts, marks, place, parameter);
+    }
+    match seen.get_mut(place) {
+        Some(seen) => !mem::replace(seen, true),
+        None => false,
+    }
+}
+
+/// Marks blocks that are due, from these places on back to those that lead to a marked one.
+fn mark_from(
+    alloc: Global,
+    parts: &Parts,
+    sources: &Sources,
+    marks: &mut [bool],
+    pending: &mut Vec<usize>,
+    parameter: u8,
+) -> Result<(), AllocError>
+    requires many { length marks.old ≡ length parts.now.blocks }
+    requires few { length parts.now.blocks ≤ 4096 }
+    ensures { StaySound parts.now parameter marks.old marks.new }
+{
+    let mut seen = vec![in alloc; false; sources.places()]?;
+    for _ in 0..usize::MAX {
+        let Some(place) = pending.pop() else {
+            return Ok(());
+        };
+        if mark_place(parts, marks, &mut seen, place, parameter) {
+            sources.put(pending, place)?;
+        }
+    }
+    Ok(())
+}
+
+/// The places of the LOOPs on a parameter, from 0.
+fn loops_on(alloc: Global, blocks: &[Block], parameter: u8) -> Result<Vec<usize>, AllocError> {
+    let mut places = Vec::new(alloc);
+    for i in 0..blocks.len() {
+        if counts(&blocks[i], parameter) {
+            places.push(i)?;
+        }
+    }
+    Ok(places)
+}
+
+/// No marks.
+fn no_marks(alloc: Global, parts: &Parts) -> Result<Vec<bool>, AllocError>
+    ensures { IfOk result (λ marks. marks.items ≡ replicate (length parts.now.blocks) false) }
+{
+    Ok(vec![in alloc; false; parts.blocks.as_slice().len()]?)
+}
+
 /// Which blocks get a slope on a parameter: each LOOP on it that has a row of the state table, and each block with a row from
 /// which somebody goes at once to one that gets it, but by an ASSIGN of a constant to the parameter, and where a LOOP on it
 /// falls (ours: docs/weights.md).
-pub(crate) fn marks_of(alloc: Global, parts: &Parts, parameter: u8) -> Result<Vec<bool>, AllocError>
+pub(crate) fn marks_of(
+    alloc: Global,
+    parts: &Parts,
+    sources: &Sources,
+    parameter: u8,
+) -> Result<Vec<bool>, AllocError>
     requires { length parts.now.blocks ≤ 4096 }
     ensures { IfOk result (λ marks. model.AreMarks parts.now parameter marks.items) }
 {
-    let mut marks = vec![in alloc; false; parts.blocks.as_slice().len()]?;
+    let mut marks = no_marks(alloc, parts)?;
+    let mut pending = loops_on(alloc, parts.blocks.as_slice(), parameter)?;
+    mark_from(alloc, parts, sources, &mut marks, &mut pending, parameter)?;
     mark_all(parts, &mut marks, parameter);
     Ok(marks)
 }

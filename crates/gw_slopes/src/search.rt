@@ -7,6 +7,7 @@ ghost use Rattle.gw_slopes.specs.Found as model;
 
 use crate::marks::counts;
 use crate::slopes::slopes_of;
+use crate::sources::Sources;
 use gw_blocks::MOST_PARAMETERS;
 use gw_object::{Items, Memory, Parts, Slope};
 use gw_weighing::{Weights, weights_of};
@@ -48,12 +49,17 @@ fn put_weights(parts: &mut Parts, weights: Weights)
 }
 
 /// Puts the slopes on a parameter into parts, and the least weights for these, and tells whether they pass.
-fn passes_with(alloc: Global, parts: &mut Parts, parameter: u8) -> Result<bool, Memory>
+fn passes_with(
+    alloc: Global,
+    parts: &mut Parts,
+    sources: &Sources,
+    parameter: u8,
+) -> Result<bool, Memory>
     requires counted { IsCounted parts.old }
     requires next { HaveNext parts.old.returns }
     ensures tried { IfOk result (model.IsTrial parts.old parts.new parameter) }
 {
-    let slopes = slopes_of(alloc, parts, parameter)?;
+    let slopes = slopes_of(alloc, parts, sources, parameter)?;
     put_slopes(parts, slopes);
     let weights = weights_of(alloc, parts)?;
     put_weights(parts, weights);
@@ -61,7 +67,7 @@ fn passes_with(alloc: Global, parts: &mut Parts, parameter: u8) -> Result<bool, 
 }
 
 /// Tries the slopes on a parameter, if a LOOP uses it, and tells whether they help.
-fn helps(alloc: Global, parts: &mut Parts, parameter: u8) -> Result<bool, Memory>
+fn helps(alloc: Global, parts: &mut Parts, sources: &Sources, parameter: u8) -> Result<bool, Memory>
     requires counted { IsCounted parts.old }
     requires next { HaveNext parts.old.returns }
     ensures { IfOk result (model.IsStep parts.old parts.new parameter) }
@@ -69,7 +75,7 @@ fn helps(alloc: Global, parts: &mut Parts, parameter: u8) -> Result<bool, Memory
     if !is_tried(parts, parameter) {
         return Ok(false);
     }
-    passes_with(alloc, parts, parameter)
+    passes_with(alloc, parts, sources, parameter)
 }
 
 /// Tries the slopes on each parameter that a LOOP uses, in ascending order, until they help, and tells whether some did.
@@ -78,8 +84,9 @@ pub(crate) fn search(alloc: Global, parts: &mut Parts) -> Result<bool, Memory>
     requires next { HaveNext parts.old.returns }
     ensures { IfOk result (model.IsSearched parts.old parts.new) }
 {
+    let sources = Sources::of(alloc, parts)?;
     for parameter in 1..MOST_PARAMETERS as u8 + 1 {
-        if helps(alloc, parts, parameter)? {
+        if helps(alloc, parts, &sources, parameter)? {
             return Ok(true);
         }
     }

@@ -4,6 +4,7 @@ ghost use Rattle.std.specs.Prelude.{◌≡◌, ◌≤◌, IfOk, length, map};
 ghost use Rattle.gw_slopes.specs.Sloped as model;
 
 use crate::marks::marks_of;
+use crate::sources::Sources;
 use gw_object::{Memory, Parts, Slope};
 use std::alloc::Global;
 
@@ -38,12 +39,13 @@ fn slopes_by(
 pub(crate) fn slopes_of(
     alloc: Global,
     parts: &Parts,
+    sources: &Sources,
     parameter: u8,
 ) -> Result<Vec<Option<Slope>>, Memory>
     requires { length parts.now.blocks ≤ 4096 }
     ensures { IfOk result (λ slopes. model.AreSlopes parts.now parameter slopes.items) }
 {
-    let marks = marks_of(alloc, parts, parameter)?;
+    let marks = marks_of(alloc, parts, sources, parameter)?;
     slopes_by(
         alloc,
         &marks,

@@ -1,15 +1,10 @@
 use Rattle.std.proofs.Common.{◌≡◌, ◌<◌, List, Bool, false, length, sym, ◌∙◌, subst, arith}
-use Rattle.std.proofs.lemmas.List.{length-replicate}
 use Rattle.gw_slopes.specs.Marking.{is_due}
-use Rattle.gw_slopes.proofs.Marking.{none_sound, all_missing, are_marks}
+use Rattle.gw_slopes.proofs.Marking.{most_missing, are_marks}
 use Rattle.gw_slopes.proofs.marks.mark_all.Goals as goal
 
 pub loop-init : goal.loop-init
-loop-init c =
-    let p = c.args.parts.now in
-    let n = length p.blocks in
-    let all = all_missing n in
-    rw (c.requires.none) (length-replicate n false, none_sound p c.args.parameter n, omega (arith, all))
+loop-init c = (c.requires.many, c.requires.sound, omega (arith, most_missing c.args.marks.now, c.requires.many))
 
 pub returns-then-not-mark_round : goal.returns-then-not-mark_round
 returns-then-not-mark_round c =

@@ -1,5 +1,5 @@
-use Rattle.std.proofs.Common.{◌≤◌, ◌<◌, refl, arith, sym, ◌∙◌}
-use Rattle.gw_slopes.proofs.Alike.{same_trial, same_tried, same_helps, same_counted, same_returns, alike_both, none_more}
+use Rattle.std.proofs.Common.{refl, arith, sym, ◌∙◌}
+use Rattle.gw_slopes.proofs.Alike.{same_trial, same_tried, same_helps, alike_both, none_more}
 use Rattle.gw_slopes.proofs.search.search.Goals as goal
 
 pub loop-parameter-init : goal.loop-parameter-init
