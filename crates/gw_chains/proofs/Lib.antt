@@ -14,3 +14,5 @@ pub mod Unlinking
 pub mod Spotting
 pub mod Taking
 pub mod Walking
+pub mod Few
+pub mod Heads

@@ -5,3 +5,5 @@ pub mod Chunks
 pub mod Newcomers
 pub mod Buckets
 pub mod Spots
+pub mod Events
+pub mod Heads

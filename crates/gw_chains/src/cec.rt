@@ -1,8 +1,9 @@
 //! The current events chain.
 
-ghost use Rattle.std.specs.Prelude.{◌≡◌, ◌≤◌, ◌<◌, ◌+◌, [], length, ◌==◌, option_map, OnOk, OnErr};
+ghost use Rattle.std.specs.Prelude.{◌≡◌, ◌≤◌, ◌<◌, ◌+◌, [], length, ◌==◌, option_map, int_le, int_lt, OnOk, OnErr};
 ghost use Rattle.gw_members.specs.Chain.{behind, ahead, first, rest};
 ghost use Rattle.gw_members.specs.declared.tx.Member.{Member};
+ghost use Rattle.gw_chains.specs.Heads.{IsHeadThatFails};
 
 use crate::bucket::{Bucket, Link};
 use crate::row::{insert_ahead, insert_behind, pop_member, reserve};
@@ -15,33 +16,63 @@ use std::marker::Model;
 /// The current events chain: the transactions that may move at this clock time, by priority
 /// (GPSS World Reference Manual, "The Transaction Scheduler").
 ///
-/// It is kept in buckets, one for each priority that occurs, whose members are linked to one another: so a newcomer among
-/// tens of thousands moves nobody, or the buckets of the priorities on one side of its own where that is new.
+/// One that comes to an empty chain stands apart, and is the first until it leaves or another goes ahead of it. The others
+/// are kept in buckets, one for each priority that occurs, whose members are linked to one another: so a newcomer among tens
+/// of thousands moves nobody, or the buckets of the priorities on one side of its own where that is new.
 #[derive(Debug, Drop)]
 pub struct Cec {
+    // The first, where it stands apart.
+    head: Option<Member>,
     buckets: VecDeque<Bucket>,
     links: Slab<Link<Member>>,
-    // How many members there are.
-    count: usize,
+    // How many there are in the buckets.
+    others: usize,
 }
 
 impl Model for Cec {
-    ghost use Rattle.std.specs.Prelude.{neg_ℤ};
+    ghost use Rattle.std.specs.Prelude.{neg_ℤ, ◌≤◌, ◌+◌, ◌^◌, ◌++◌, length, option_to_list};
     ghost use Rattle.slab.specs.Slab.{get};
     ghost use Rattle.gw_members.specs.Chain.{Chain};
     ghost use Rattle.gw_chains.specs.Slots.{row_room};
+    ghost use Rattle.gw_chains.specs.Heads.{StandsFirst};
     ghost use Rattle.gw_chains.specs.Buckets.{members_of, AreCounted};
     ghost use Rattle.gw_members.specs.declared.tx.Member.{Member};
 
     ghost Value = { Chain Member };
 
     ghost invariant = { λ c.
-        AreCounted (λ (m : Member). neg_ℤ m.priority) (get c.links) c.buckets.items c.count };
+        AreCounted (λ (m : Member). neg_ℤ m.priority) (get c.links) c.buckets.items c.others
+        × (c.others + length (option_to_list c.head) ≤ 2 ^ 62)
+        × StandsFirst c.head (members_of (get c.links) c.buckets.items) };
 
     ghost view = { λ c. record {
-      items = members_of (get c.links) c.buckets.items;
-      room = row_room c.count c.buckets c.links;
+      items = option_to_list c.head ++ members_of (get c.links) c.buckets.items;
+      room = row_room (c.others + length (option_to_list c.head)) c.buckets c.links;
     } };
+}
+
+/// Who stands apart, where anybody does who has a lower priority than a newcomer.
+fn lower_head(head: Option<Member>, newcomer: Member) -> Option<Member>
+    ensures { IsHeadThatFails (λ m. int_le newcomer.priority m.priority) head result }
+{
+    let member = head?;
+    if member.priority < newcomer.priority {
+        Some(member)
+    } else {
+        None
+    }
+}
+
+/// Who stands apart, where anybody does who has the priority of a newcomer or a lower one.
+fn head_up_to(head: Option<Member>, newcomer: Member) -> Option<Member>
+    ensures { IsHeadThatFails (λ m. int_lt newcomer.priority m.priority) head result }
+{
+    let member = head?;
+    if member.priority <= newcomer.priority {
+        Some(member)
+    } else {
+        None
+    }
 }
 
 impl Cec {
@@ -50,9 +81,10 @@ impl Cec {
         ensures { result.items ≡ [] }
     {
         Cec {
+            head: None,
             buckets: VecDeque::new(alloc),
             links: Slab::new(alloc),
-            count: 0,
+            others: 0,
         }
     }
 
@@ -63,10 +95,12 @@ impl Cec {
         ensures kept { self.old.room ≤ self.new.room }
         ensures refused { OnErr result (self.old.room < more) }
     {
-        reserve(&mut self.buckets, &mut self.links, self.count, more)
+        let count = self.len();
+        reserve(&mut self.buckets, &mut self.links, count, more)
     }
 
     /// Puts it behind its peers: behind all of equal or higher priority. There is room.
+    #[inline(never)]
     #[tactic(auto, using(crate::proofs::Ranking::behind_by_rank))]
     pub fn insert_behind(&mut self, tx: Tx, priority: i32)
         requires { 0 < self.old.room }
@@ -75,8 +109,18 @@ impl Cec {
         ensures room { self.old.room ≤ self.new.room + 1 }
     {
         let member = Member { tx, priority };
+        if self.is_empty() {
+            self.head = Some(member);
+            return;
+        }
+        if let Some(head) = lower_head(self.head, member) {
+            insert_ahead(&mut self.buckets, &mut self.links, head);
+            self.head = Some(member);
+            self.others += 1;
+            return;
+        }
         insert_behind(&mut self.buckets, &mut self.links, member);
-        self.count += 1;
+        self.others += 1;
     }
 
     /// Puts it ahead of its peers: ahead of all of equal or lower priority. There is room.
@@ -88,8 +132,18 @@ impl Cec {
         ensures room { self.old.room ≤ self.new.room + 1 }
     {
         let member = Member { tx, priority };
+        if self.is_empty() {
+            self.head = Some(member);
+            return;
+        }
+        if let Some(head) = head_up_to(self.head, member) {
+            insert_ahead(&mut self.buckets, &mut self.links, head);
+            self.head = Some(member);
+            self.others += 1;
+            return;
+        }
         insert_ahead(&mut self.buckets, &mut self.links, member);
-        self.count += 1;
+        self.others += 1;
     }
 
     /// Takes the first, if there is one.
@@ -98,8 +152,12 @@ impl Cec {
         ensures rest { self.new.items ≡ rest self.old.items }
         ensures room { self.old.room ≤ self.new.room }
     {
+        if let Some(member) = self.head {
+            self.head = None;
+            return Some(member.tx);
+        }
         let member = pop_member(&mut self.buckets, &mut self.links)?;
-        self.count -= 1;
+        self.others -= 1;
         Some(member.tx)
     }
 
@@ -107,13 +165,17 @@ impl Cec {
     pub fn len(&self) -> usize
         ensures { result ≡ length self.now.items }
     {
-        self.count
+        if self.head.is_some() {
+            self.others + 1
+        } else {
+            self.others
+        }
     }
 
     /// Whether there is no member.
     pub fn is_empty(&self) -> bool
         ensures { result ≡ (length self.now.items == 0) }
     {
-        self.count == 0
+        self.others == 0 && self.head.is_none()
     }
 }

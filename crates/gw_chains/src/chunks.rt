@@ -1,6 +1,6 @@
 //! A list that is kept in an order, in chunks, so that a newcomer among tens of thousands moves few of them.
 
-ghost use Rattle.std.specs.Prelude.{◌≡◌, ◌≤◌, ◌<◌, ◌+◌, ◌-◌, ◌^◌, [], ◌∷◌, ◌++◌, Bool, true, false, All, length, take, drop, slice_index_or, option_to_list, option_copied, ◌⊎◌, IfSome, OnSome, OnOk, OnErr};
+ghost use Rattle.std.specs.Prelude.{◌≡◌, ◌≤◌, ◌<◌, ◌+◌, ◌-◌, ◌^◌, [], ◌∷◌, ◌++◌, Bool, true, false, All, length, take, drop, set, slice_index_or, option_to_list, option_copied, ◌⊎◌, IfSome, OnSome, OnOk, OnErr};
 ghost use Rattle.std.specs.VecDeque.{deque_len, deque_capacity};
 ghost use Rattle.std.specs.declared.collections.VecDeque.{VecDeque as DeclaredQueue};
 ghost use Rattle.gw_members.specs.Chain.{first, rest};
@@ -142,6 +142,50 @@ pub(crate) fn join<T: Placed>(chunk: &mut VecDeque<T>, newcomer: T) -> Option<T>
             None
         }
     }
+}
+
+/// The last of a chunk, if it is the like of a newcomer.
+fn like_at_end<T: Placed>(chunk: &VecDeque<T>, newcomer: T) -> Option<T>
+    ensures like { IfSome result (λ y. (T.goes_first y newcomer ≡ true)
+        × (T.goes_first newcomer y ≡ true)) }
+    ensures last { IfSome result (λ y. (0 < deque_len chunk.now)
+        × (y ≡ slice_index_or chunk.now.items (deque_len chunk.now - 1) y)) }
+{
+    let last = *chunk.back()?;
+    if last.goes_first(newcomer) && newcomer.goes_first(last) {
+        Some(last)
+    } else {
+        None
+    }
+}
+
+/// Puts another in the place of the last of a chunk.
+fn replace_back<T: Placed>(chunk: &mut VecDeque<T>, other: T)
+    requires { 0 < deque_len chunk.old }
+    ensures items { chunk.new.items ≡ set chunk.old.items (deque_len chunk.old - 1) other }
+    ensures len { deque_len chunk.new ≡ deque_len chunk.old }
+    ensures capacity { deque_capacity chunk.new ≡ deque_capacity chunk.old }
+{
+    let last = chunk.len() - 1;
+    chunk[last] = other;
+}
+
+/// The same as `join`, where the last is often the like of a newcomer: it looks at that first.
+pub(crate) fn join_behind<T: Placed>(chunk: &mut VecDeque<T>, newcomer: T) -> Option<T>
+    requires order { GoFirst T.goes_first newcomer chunk.old.items }
+    requires last { IsHostLast T.goes_first newcomer chunk.old.items }
+    requires room { deque_len chunk.old < deque_capacity chunk.old }
+    ensures host { result ≡ host T.goes_first newcomer chunk.old.items }
+    ensures items { chunk.new.items
+        ≡ with_newcomer T.goes_first T.with_guest newcomer chunk.old.items }
+    ensures len { GainsOneAtMost chunk.old chunk.new }
+    ensures capacity { deque_capacity chunk.old ≤ deque_capacity chunk.new }
+{
+    if let Some(host) = like_at_end(chunk, newcomer) {
+        replace_back(chunk, host.take_in(newcomer));
+        return Some(host);
+    }
+    join(chunk, newcomer)
 }
 
 /// Moves the upper half of a full chunk to a spare one.

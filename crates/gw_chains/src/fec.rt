@@ -1,57 +1,150 @@
 //! The future events chain.
 
-ghost use Rattle.std.specs.Prelude.{◌≡◌, ◌≤◌, ◌<◌, ◌+◌, [], length, if◌then◌else◌, option_map, is_some, OnOk, OnErr, IsPermutation};
+ghost use Rattle.std.specs.Prelude.{◌≡◌, ◌≤◌, ◌<◌, ◌+◌, ◌^◌, ◌++◌, [], length, reverse, AllPairs, insert, if◌then◌else◌, option_map, is_some, int_le, OnOk, OnErr, IsPermutation};
 ghost use Rattle.std.specs.Iterator.{YieldsFirstRef, item_count};
+ghost use Rattle.std.specs.Vec.{vec_capacity};
 ghost use Rattle.gw_members.specs.Chain.{in_time, due, first, rest};
 ghost use Rattle.gw_members.specs.declared.tx.Event.{Event};
+ghost use Rattle.gw_chains.specs.Events.{most_few, NotLater, space_beside, room_behind, room_for_events};
 
-use crate::bucket::{Bucket, Link};
-use crate::buckets::{
-    first_rank, insert_member, next_bucket, next_member, pop_member, reserve_links,
-};
-use crate::chunks::reserve;
+use crate::event_buckets::{BucketEvents, EventBuckets};
 use gw_members::{Event, MOST, Memory, Tx};
-use slab::Slab;
 use std::alloc::Global;
-use std::collections::{VecDeque, vec_deque};
 use std::marker::Model;
+use std::slice;
+
+/// As many events are few at most.
+const MOST_FEW: usize = 64;
 
 /// The future events chain: the transactions that wait for a clock time, by that time, and those
 /// of one time in the order in which they were scheduled (GPSS World Reference Manual, "The
 /// Transaction Scheduler").
 ///
-/// It is kept in buckets, one for each time that occurs, whose events are linked to one another: so a newcomer among tens of
-/// thousands moves nobody, or few buckets where its time is new.
+/// Few events stand in a vector by their times, in which a newcomer goes past those that come no later. Where they come to
+/// be more, all of them go to buckets, and newcomers go there as long as there is any in them.
 #[derive(Debug, Drop)]
 pub struct Fec {
-    // The buckets, in chunks.
-    chunks: VecDeque<VecDeque<Bucket>>,
-    // What a chunk becomes that is split.
-    spare: Vec<VecDeque<Bucket>>,
-    links: Slab<Link<Event>>,
-    scheduled: usize,
+    // All events while they are few, the first to come last.
+    few: Vec<Event>,
+    // All events otherwise.
+    many: EventBuckets,
 }
 
 impl Model for Fec {
-    ghost use Rattle.std.specs.Prelude.{◌-◌, All, length};
-    ghost use Rattle.std.specs.VecDeque.{deque_len, deque_capacity};
-    ghost use Rattle.slab.specs.Slab.{get, slab_len};
+    ghost use Rattle.std.specs.Prelude.{◌++◌, ◌≤◌, ◌<◌, ◌^◌, ◌≡◌, length, reverse, AllPairs, []};
+    ghost use Rattle.std.specs.Vec.{vec_capacity};
     ghost use Rattle.gw_members.specs.Chain.{Chain};
-    ghost use Rattle.gw_chains.specs.Chunks.{all_of, room_beside, IsChunk, IsSpare};
-    ghost use Rattle.gw_chains.specs.Buckets.{members_of, AreCounted};
+    ghost use Rattle.gw_chains.specs.Events.{most_few, NotLater, room_for_events};
     ghost use Rattle.gw_members.specs.declared.tx.Event.{Event};
 
     ghost Value = { Chain Event };
 
     ghost invariant = { λ c.
-        AreCounted (λ (e : Event). e.time) (get c.links) (all_of c.chunks.items) c.scheduled
-        × All IsChunk c.chunks.items
-        × All IsSpare c.spare.items };
+        (length c.few.items ≤ most_few)
+        × AllPairs NotLater (reverse c.few.items)
+        × (0 < length c.few.items → c.many.items ≡ [])
+        × (length c.many.items ≤ 2 ^ 62) };
 
     ghost view = { λ c. record {
-      items = members_of (get c.links) (all_of c.chunks.items);
-      room = room_beside c.scheduled (c.links.capacity - slab_len c.links) (length c.spare.items) (deque_capacity c.chunks - deque_len c.chunks);
+      items = reverse c.few.items ++ c.many.items;
+      room = room_for_events (vec_capacity c.few) (length c.few.items) c.many;
     } };
+}
+
+/// Whether an event is scheduled for the time of another or an earlier one.
+fn is_no_later(one: Event, other: Event) -> bool
+    ensures { result ≡ int_le one.time other.time }
+{
+    one.time <= other.time
+}
+
+/// Puts a newcomer among few events, of which the first to come stands last: ahead of all that come no later. There is room.
+fn insert_in_time(few: &mut Vec<Event>, newcomer: Event)
+    requires { length few.old.items < vec_capacity few.old }
+    ensures items { reverse few.new.items
+        ≡ in_time (λ e. e.time) newcomer (reverse few.old.items) }
+    ensures len { length few.new.items ≡ length few.old.items + 1 }
+    ensures capacity { vec_capacity few.new ≡ vec_capacity few.old }
+{
+    let mut place = few.len();
+    few.push_reserved(newcomer);
+    while 0 < place && is_no_later(few[place - 1], newcomer) {
+        few[place] = few[place - 1];
+        place -= 1;
+    }
+    few[place] = newcomer;
+}
+
+/// How many more events fit into the vector of few; none while there are some in buckets.
+fn space_beside(few: &Vec<Event>, many: &EventBuckets) -> usize
+    requires { length few.now.items ≤ most_few }
+    ensures { result
+        ≡ space_beside (length many.now.items) (vec_capacity few.now) (length few.now.items) }
+{
+    if many.len() == 0 {
+        few.capacity().min(MOST_FEW) - few.len()
+    } else {
+        0
+    }
+}
+
+/// Makes room for so many more events, where there is too little for them in the vector of few.
+#[inline(never)]
+fn reserve_more(few: &mut Vec<Event>, many: &mut EventBuckets, more: usize) -> Result<(), Memory>
+    requires few { length few.old.items ≤ most_few }
+    requires many { length few.old.items + length many.old.items ≤ 2 ^ 62 }
+    requires lacks { space_beside (length many.old.items) (vec_capacity few.old) (length few.old.items) < more }
+    ensures few { few.new.items ≡ few.old.items }
+    ensures many { many.new.items ≡ many.old.items }
+    ensures room { OnOk result
+        (more ≤ room_for_events (vec_capacity few.new) (length few.new.items) many.new) }
+    ensures kept { room_for_events (vec_capacity few.old) (length few.old.items) many.old
+        ≤ room_for_events (vec_capacity few.new) (length few.new.items) many.new }
+    ensures refused { OnErr result
+        (room_for_events (vec_capacity few.old) (length few.old.items) many.old < more) }
+{
+    let count = few.len();
+    if many.len() == 0 && more <= MOST_FEW - count && few.reserve(more).is_ok() {
+        return Ok(());
+    }
+    if MOST - count - many.len() < more {
+        return Err(Memory);
+    }
+    many.reserve(count + more, count.min(1) + more)
+}
+
+/// Takes the first of few events, if it is scheduled for `time` or earlier.
+fn pop_due(few: &mut Vec<Event>, time: i64) -> Option<Tx>
+    ensures first { let due_now = due (λ e. e.time) time (reverse few.old.items) in
+        result ≡ option_map (λ e. e.tx) (first due_now) }
+    ensures rest { let before = reverse few.old.items in
+        reverse few.new.items ≡ (if is_some result then rest before else before) }
+    ensures len { length few.new.items ≤ length few.old.items }
+    ensures capacity { vec_capacity few.new ≡ vec_capacity few.old }
+{
+    if time < few.last()?.time {
+        return None;
+    }
+    let event = few.pop()?;
+    Some(event.tx)
+}
+
+/// Puts an event behind all of its time or an earlier one, in buckets, into which the few go before it. There is room.
+#[inline(never)]
+fn schedule_in_buckets(few: &mut Vec<Event>, many: &mut EventBuckets, event: Event)
+    requires few { length few.old.items ≤ most_few }
+    requires order { AllPairs NotLater (reverse few.old.items) }
+    requires apart { 0 < length few.old.items → many.old.items ≡ [] }
+    requires room { 0 < room_behind (length few.old.items) many.old }
+    ensures items { many.new.items
+        ≡ in_time (λ e. e.time) event (reverse few.old.items ++ many.old.items) }
+    ensures few { few.new.items ≡ [] }
+    ensures room { room_behind (length few.old.items) many.old ≤ room_behind 0 many.new + 1 }
+{
+    if !few.is_empty() {
+        many.take_few(few);
+    }
+    many.schedule(event);
 }
 
 impl Fec {
@@ -60,10 +153,8 @@ impl Fec {
         ensures { result.items ≡ [] }
     {
         Fec {
-            chunks: VecDeque::new(alloc),
-            spare: Vec::new(alloc),
-            links: Slab::new(alloc),
-            scheduled: 0,
+            few: Vec::new(alloc),
+            many: EventBuckets::new(alloc),
         }
     }
 
@@ -74,11 +165,10 @@ impl Fec {
         ensures kept { self.old.room ≤ self.new.room }
         ensures refused { OnErr result (self.old.room < more) }
     {
-        if MOST - self.scheduled < more {
-            return Err(Memory);
+        if more <= space_beside(&self.few, &self.many) {
+            return Ok(());
         }
-        reserve_links(&mut self.links, more)?;
-        reserve(&mut self.chunks, &mut self.spare, more)
+        reserve_more(&mut self.few, &mut self.many, more)
     }
 
     /// Puts it behind all that are scheduled for `time`, in clock units, or earlier. There is room.
@@ -89,15 +179,21 @@ impl Fec {
         ensures room { self.old.room ≤ self.new.room + 1 }
     {
         let event = Event { tx, time };
-        insert_member(&mut self.chunks, &mut self.spare, &mut self.links, event);
-        self.scheduled += 1;
+        if 0 < space_beside(&self.few, &self.many) {
+            insert_in_time(&mut self.few, event);
+        } else {
+            schedule_in_buckets(&mut self.few, &mut self.many, event);
+        }
     }
 
     /// The time of the first, in clock units, if there is one.
     pub fn first_time(&self) -> Option<i64>
         ensures { result ≡ option_map (λ e. e.time) (first self.now.items) }
     {
-        first_rank(&self.chunks)
+        match self.few.last() {
+            Some(event) => Some(event.time),
+            None => self.many.first_time(),
+        }
     }
 
     /// Takes the first, if it is scheduled for `time`, in clock units, or earlier.
@@ -108,12 +204,10 @@ impl Fec {
             self.new.items ≡ left }
         ensures room { self.old.room ≤ self.new.room }
     {
-        if time < self.first_time()? {
-            return None;
+        if self.few.is_empty() {
+            return self.many.pop_due(time);
         }
-        let event = pop_member(&mut self.chunks, &mut self.spare, &mut self.links)?;
-        self.scheduled -= 1;
-        Some(event.tx)
+        pop_due(&mut self.few, time)
     }
 
     /// The members, in no particular order.
@@ -121,11 +215,8 @@ impl Fec {
         ensures { IsPermutation self.now.items result }
     {
         Events {
-            links: &self.links,
-            left: 0,
-            at: 0,
-            chunk: None,
-            chunks: self.chunks.iter(),
+            few: self.few.iter(),
+            many: self.many.iter(),
         }
     }
 
@@ -133,34 +224,25 @@ impl Fec {
     pub fn len(&self) -> usize
         ensures { result ≡ length self.now.items }
     {
-        self.scheduled
+        self.few.len() + self.many.len()
     }
 }
 
 /// The members of a future events chain, in no particular order. Contracts see those that are still to come.
 #[derive(Drop)]
 pub struct Events<'a> {
-    links: &'a Slab<Link<Event>>,
-    // How many of a bucket that was begun are left, and the link of their first.
-    left: usize,
-    at: usize,
-    // The buckets of the chunk that was begun, and the chunks behind it.
-    chunk: Option<vec_deque::Iter<'a, Bucket>>,
-    chunks: vec_deque::Iter<'a, VecDeque<Bucket>>,
+    few: slice::Iter<'a, Event>,
+    many: BucketEvents<'a>,
 }
 
 impl<'a> Model for Events<'a> {
     ghost use Rattle.std.specs.Prelude.{List, ◌++◌};
-    ghost use Rattle.std.specs.VecDeque.Iter.{deque_iter_rest};
-    ghost use Rattle.slab.specs.Slab.{get};
-    ghost use Rattle.gw_chains.specs.Chunks.{all_of, rest_of};
-    ghost use Rattle.gw_chains.specs.Buckets.{run, members_at, members_of};
+    ghost use Rattle.std.specs.Slice.Iter.{iter_rest};
     ghost use Rattle.gw_members.specs.declared.tx.Event.{Event};
 
     ghost Value = { List Event };
 
-    ghost view = { λ it. members_at (get it.links.now) (run (get it.links.now) it.left it.at)
-        ++ members_of (get it.links.now) (rest_of it.chunk ++ all_of (deque_iter_rest it.chunks)) };
+    ghost view = { λ it. iter_rest it.few ++ it.many };
 }
 
 impl<'a> Iterator for Events<'a> {
@@ -171,17 +253,9 @@ impl<'a> Iterator for Events<'a> {
     ghost remaining = { item_count (λ rest. rest) };
 
     fn next(&mut self) -> Option<&'a Event> {
-        loop {
-            if let Some(event) = next_member(self.links, &mut self.left, &mut self.at) {
-                return Some(event);
-            }
-            match next_bucket(&mut self.chunk, &mut self.chunks) {
-                Some(bucket) => {
-                    self.left = bucket.count;
-                    self.at = bucket.first;
-                }
-                None => return None,
-            }
+        match self.few.next() {
+            Some(event) => Some(event),
+            None => self.many.next(),
         }
     }
 }

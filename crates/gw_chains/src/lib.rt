@@ -9,6 +9,7 @@ mod buckets;
 mod cec;
 mod chunks;
 mod delay_list;
+mod event_buckets;
 mod fec;
 mod queue;
 mod row;

@@ -11,7 +11,7 @@ ghost use Rattle.gw_chains.specs.Spots.{count_at, place_at, link_at, IsSpot, led
 
 use crate::bucket::{Bucket, Link, Ranked};
 use crate::buckets::{bucket_of_one, link_behind, reserve_links, shorter};
-use crate::chunks::{join, replace_front};
+use crate::chunks::{join_behind, replace_front};
 use crate::queue::insert_reserved;
 use crate::spot::{Spot, link_at, spot_of};
 use gw_members::{MOST, Memory};
@@ -32,6 +32,36 @@ pub(crate) fn reserve<T: Ranked>(
     ensures kept { row_room count row.old links.old ≤ row_room count row.new links.new }
     ensures refused { OnErr result (row_room count row.old links.old < more) }
 {
+    if more <= row_room(row, links, count) {
+        return Ok(());
+    }
+    reserve_more(row, links, count, more)
+}
+
+/// How many more members there is room for beside those that there are.
+fn row_room<T: Ranked>(row: &VecDeque<Bucket>, links: &Slab<Link<T>>, count: usize) -> usize
+    requires { count ≤ 2 ^ 62 }
+    ensures { result ≡ row_room count row.now links.now }
+{
+    let slots = links.capacity() - links.len();
+    slots.min(row.capacity() - row.len()).min(MOST - count)
+}
+
+/// The same as `reserve`, where memory may have to be taken.
+#[inline(never)]
+fn reserve_more<T: Ranked>(
+    row: &mut VecDeque<Bucket>,
+    links: &mut Slab<Link<T>>,
+    count: usize,
+    more: usize,
+) -> Result<(), Memory>
+    requires { count ≤ 2 ^ 62 }
+    ensures items { row.new.items ≡ row.old.items }
+    ensures slots { links.new.slots ≡ links.old.slots }
+    ensures room { OnOk result (more ≤ row_room count row.new links.new) }
+    ensures kept { row_room count row.old links.old ≤ row_room count row.new links.new }
+    ensures refused { OnErr result (row_room count row.old links.old < more) }
+{
     if MOST - count < more {
         return Err(Memory);
     }
@@ -40,6 +70,7 @@ pub(crate) fn reserve<T: Ranked>(
 }
 
 /// Puts a member behind all of its rank or a lower one. There is room.
+#[inline(always)]
 pub(crate) fn insert_behind<T: Ranked>(
     row: &mut VecDeque<Bucket>,
     links: &mut Slab<Link<T>>,
@@ -55,7 +86,7 @@ pub(crate) fn insert_behind<T: Ranked>(
     ensures links { TakesOneSlot links.old links.new }
 {
     let link = links.insert_reserved(Link { member, next: 0 });
-    let host = join(row, bucket_of_one(member, link));
+    let host = join_behind(row, bucket_of_one(member, link));
     link_behind(links, host, link);
 }
 
@@ -131,6 +162,7 @@ fn first_link(host: Option<Bucket>) -> usize
 }
 
 /// Puts a member ahead of all of its rank or a higher one. There is room.
+#[inline(never)]
 pub(crate) fn insert_ahead<T: Ranked>(
     row: &mut VecDeque<Bucket>,
     links: &mut Slab<Link<T>>,

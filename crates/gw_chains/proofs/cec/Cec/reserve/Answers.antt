@@ -1,9 +1,7 @@
-use Rattle.std.proofs.Common.{neg_ℤ}
-use Rattle.gw_chains.specs.Buckets.{AreCounted}
-use Rattle.gw_members.specs.declared.tx.Member.{Member}
 use Rattle.gw_chains.proofs.Counting.{in_slots}
+use Rattle.gw_chains.proofs.Heads.{IsHeaded}
 use Rattle.gw_chains.proofs.cec.Cec.reserve.Goals as goal
 
 pub invariant_of-self : goal.invariant_of-self
 invariant_of-self c =
-    in_slots (λ S bs. AreCounted (λ (m : Member). neg_ℤ m.priority) S bs c.self.inside.count) _ _ _ _ c.reserve.ensures.slots c.reserve.ensures.items c.self.invariant
+    in_slots (λ S bs. IsHeaded c.self.inside.head S bs c.self.inside.others) _ _ _ _ c.reserve.ensures.slots c.reserve.ensures.items c.self.invariant

@@ -4,7 +4,7 @@ use Rattle.slab.specs.Slab.{get}
 use Rattle.gw_chains.specs.Chunks.{all_of, rest_of}
 use Rattle.gw_chains.specs.Buckets.{run, links_of, members_at, members_of}
 use Rattle.gw_chains.proofs.Linking.{members-append}
-use Rattle.gw_chains.proofs.fec.EventsIterator.next.Goals as goal
+use Rattle.gw_chains.proofs.event_buckets.BucketEventsIterator.next.Goals as goal
 
 pub loop-event-preserved : goal.loop-event-preserved
 loop-event-preserved c =

@@ -3,7 +3,7 @@ use Rattle.std.specs.VecDeque.Iter.{deque_iter_rest}
 use Rattle.slab.specs.Slab.{get}
 use Rattle.gw_chains.specs.Chunks.{all_of, rest_of}
 use Rattle.gw_chains.specs.Buckets.{run, members_at, members_of}
-use Rattle.gw_chains.proofs.fec.EventsIterator.next.Given as goal
+use Rattle.gw_chains.proofs.event_buckets.BucketEventsIterator.next.Given as goal
 
 -- what is still to come is what it was
 abbrev pub invariant-loop-event : goal.invariant-loop-event
