@@ -1,4 +1,5 @@
 pub mod Codes
 pub mod Shown
+pub mod Rounds
 pub mod Explanation
 pub mod Meaning

@@ -1,6 +1,7 @@
 -- The lines of a model text that a refusal is about, as they are shown.
 use Rattle.std.specs.Prelude.{ℕ, zero, suc, List, [], ◌∷◌, ◌++◌, Option, Some, None, codes, take, slice_get, unwrap_or, ◌==◌, if◌then◌else◌}
 use Rattle.std.specs.Fmt.{decimal}
+use Rattle.std.specs.List.{flat_map}
 use Rattle.gw_object.specs.declared.fault.Place.{Place}
 use Rattle.gw_object.specs.declared.fault.Place.TheVariants.{Byte, Entity, Code, Row, Block, Edge, Chain, Line, Nowhere}
 use Rattle.gw_sources.specs.Sites.{Sites}
@@ -30,6 +31,10 @@ shown_at lines numbers i = shown_of lines (slice_get numbers i)
 abbrev pub shown_block : List (List ℕ) → List ℕ → ℕ → List ℕ
 shown_block lines blocks zero = []
 shown_block lines blocks (suc i) = shown_at lines blocks i
+
+-- the lines of the blocks of these numbers, in this order
+abbrev pub shown_blocks : List (List ℕ) → List ℕ → List ℕ → List ℕ
+shown_blocks lines blocks numbers = flat_map (shown_block lines blocks) numbers
 
 -- the lines of the block from which an edge leads and of that to which it leads, or of the one block
 abbrev pub shown_edge : List (List ℕ) → List ℕ → ℕ → ℕ → List ℕ

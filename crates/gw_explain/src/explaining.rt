@@ -8,8 +8,8 @@ ghost use Rattle.gw_sources.specs.Sites.{no_sites, sites_of, sites_told};
 ghost use Rattle.gw_explain.specs.Explanation.{Begins, ExplainsRefusal, IsExplainedModel, IsExplainedText, IsExplained};
 ghost use Rattle.gw_explain.specs.Shown.{shown_lines};
 
-use crate::known::known_in_model;
-use crate::lines::put_lines_of;
+use crate::facts::known_in_model;
+use crate::lines::{Text, put_lines_of};
 use crate::meaning::put_advice;
 use crate::objects::explain_object;
 use crate::summary::model_summary;
@@ -60,6 +60,22 @@ fn refusal_of(
     Ok(answer)
 }
 
+/// What is known at the place of a fault of a model text with these places.
+fn known_of(
+    alloc: Global,
+    text: &[u8],
+    model: &Model,
+    sources: &Sources,
+    fault: Fault,
+) -> Result<Vec<u8>, Memory> {
+    let lines = lines_of(alloc, text)?;
+    let text = Text {
+        lines: &lines,
+        blocks: &sources.blocks,
+    };
+    known_in_model(alloc, model, &text, fault)
+}
+
 /// The explanation of a refusal of a model text that was read.
 fn refusal_in(alloc: Global, text: &[u8], model: &Model, fault: Fault) -> Result<Answer, Memory>
     ensures text { IfOk result (λ a.
@@ -67,7 +83,7 @@ fn refusal_in(alloc: Global, text: &[u8], model: &Model, fault: Fault) -> Result
     ensures status { IfOk result (λ a. a.status ≡ refused_status) }
 {
     let sources = sources(alloc, model)?;
-    let known = known_in_model(alloc, model, fault)?;
+    let known = known_of(alloc, text, model, &sources, fault)?;
     refusal_of(alloc, text, &known, &sources, fault)
 }
 

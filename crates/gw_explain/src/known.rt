@@ -1,43 +1,24 @@
 //! What is known of a transaction, in words, where a model or an object is refused by flow (docs/object-format.md).
 
 use gw_blocks::{Block, Split, Units};
-use gw_kinds::check_kinds;
-use gw_names::{Known, Ledger, known_names};
-use gw_object::{
-    Entity, Fault, Memory, Object, Parts, Place, TableKind, TableParameter, TableState, codes,
-};
-use gw_object_bytes::{build, read};
-use gw_pieces::parts_of;
+use gw_object::{Entity, Fault, Memory, Parts, Place, TableKind, TableParameter, TableState};
 use gw_report::text::{put, put_number};
-use gw_rules::chain_place;
+use gw_rules::chain_row;
 use gw_rules::flow_codes::CHAIN_STATE;
-use gw_settle::table_of;
-use gw_text::Model;
 use indexmap::IndexMap;
 use std::alloc::Global;
-use std::mem;
-
-/// The first code of flow.
-const FIRST: u16 = 20;
-
-/// The last code of flow.
-const LAST: u16 = 28;
 
 /// What an object has, and what is known of its transactions.
 #[derive(Clone, Copy)]
-struct Flow<'a> {
-    /// The entities and the blocks.
-    parts: &'a Parts,
-    /// The rows of the state table: those of blocks.
-    states: &'a [Option<TableState>],
-    /// Those of user chains.
-    chain_states: &'a [Option<TableState>],
+pub(crate) struct Flow<'a> {
+    /// The entities and the blocks, and the state table.
+    pub(crate) parts: &'a Parts,
     /// The parameters that have names.
-    names: &'a IndexMap<String, u8>,
+    pub(crate) names: &'a IndexMap<String, u8>,
 }
 
 /// The name of an entity, by its number.
-fn put_name(out: &mut Vec<u8>, entities: &[Entity], number: u16) -> Result<(), Memory> {
+pub(crate) fn put_name(out: &mut Vec<u8>, entities: &[Entity], number: u16) -> Result<(), Memory> {
     match entities.get(number as usize) {
         Some(entity) => out.extend_from_slice(entity.name.as_slice()),
         None => Ok(()),
@@ -67,7 +48,7 @@ fn put_facilities(
 }
 
 /// The name of a parameter, if it has one.
-fn name_of(names: &IndexMap<String, u8>, number: u8) -> Option<&String> {
+pub(crate) fn name_of(names: &IndexMap<String, u8>, number: u8) -> Option<&String> {
     for (name, named) in names.iter() {
         if *named == number {
             return Some(name);
@@ -76,19 +57,28 @@ fn name_of(names: &IndexMap<String, u8>, number: u8) -> Option<&String> {
     None
 }
 
-/// A parameter, as a text speaks of it.
+/// The parameter of a number, as a text speaks of its value.
+pub(crate) fn put_parameter_of(
+    out: &mut Vec<u8>,
+    names: &IndexMap<String, u8>,
+    number: u8,
+) -> Result<(), Memory> {
+    match name_of(names, number) {
+        Some(name) => {
+            put(out, "P$")?;
+            put(out, name)
+        }
+        None => put_number(out, "P", number),
+    }
+}
+
+/// A parameter, and whether it is where a subroutine goes back to.
 fn put_parameter(
     out: &mut Vec<u8>,
     names: &IndexMap<String, u8>,
     parameter: &TableParameter,
 ) -> Result<(), Memory> {
-    match name_of(names, parameter.number) {
-        Some(name) => {
-            put(out, "P$")?;
-            put(out, name)?;
-        }
-        None => put_number(out, "P", parameter.number)?,
-    }
+    put_parameter_of(out, names, parameter.number)?;
     match parameter.kind {
         TableKind::Num => Ok(()),
         TableKind::Ret(_) => put(out, " (where a subroutine goes back to)"),
@@ -150,7 +140,7 @@ fn row_of(rows: &[Option<TableState>], block: u16) -> Option<&TableState> {
 }
 
 /// A block, by its number from 1.
-fn block_of(blocks: &[Block], number: u16) -> Option<&Block> {
+pub(crate) fn block_of(blocks: &[Block], number: u16) -> Option<&Block> {
     if number == 0 {
         None
     } else {
@@ -159,8 +149,8 @@ fn block_of(blocks: &[Block], number: u16) -> Option<&Block> {
 }
 
 /// What is known of a transaction that comes to a block.
-fn put_at_block(out: &mut Vec<u8>, flow: Flow<'_>, number: u16) -> Result<(), Memory> {
-    match row_of(flow.states, number) {
+pub(crate) fn put_at_block(out: &mut Vec<u8>, flow: Flow<'_>, number: u16) -> Result<(), Memory> {
+    match row_of(flow.parts.states.as_slice(), number) {
         Some(row) => {
             put_number(out, "known: a transaction that comes to block ", number)?;
             put(out, " ")?;
@@ -267,15 +257,6 @@ fn facilities_by(row: Option<&TableState>) -> &[u16] {
     }
 }
 
-/// The row of a user chain, by its entity's number from 0.
-fn chain_row<'a>(flow: Flow<'a>, chain: u16) -> Option<&'a TableState> {
-    let place = chain_place(flow.parts.entities.as_slice(), chain);
-    match flow.chain_states.get(place) {
-        Some(Some(row)) => Some(row),
-        Some(None) | None => None,
-    }
-}
-
 /// What is known of who goes from a block to another, and of who comes there by another way.
 fn put_on_edge(
     alloc: Global,
@@ -284,7 +265,7 @@ fn put_on_edge(
     from: u16,
     to: u16,
 ) -> Result<(), Memory> {
-    let rows = flow.states;
+    let rows = flow.parts.states.as_slice();
     match block_of(flow.parts.blocks.as_slice(), from) {
         Some(block) => {
             let before = facilities_by(row_of(rows, from));
@@ -298,15 +279,15 @@ fn put_on_edge(
 
 /// What is known of the members of a user chain, and of who joins them at a block, or comes another way to where they go.
 fn put_at_chain(out: &mut Vec<u8>, flow: Flow<'_>, from: u16, to: u16) -> Result<(), Memory> {
-    let there = facilities_by(row_of(flow.states, to));
+    let there = facilities_by(row_of(flow.parts.states.as_slice(), to));
     match block_of(flow.parts.blocks.as_slice(), from) {
         Some(Block::Link(link)) => {
-            let members = facilities_by(chain_row(flow, link.chain));
+            let members = facilities_by(chain_row(flow.parts, link.chain));
             let others = "; a transaction that joins it here ";
             put_members(out, flow, link.chain, members, others, there)
         }
         Some(Block::Unlink(unlink)) => {
-            let members = facilities_by(chain_row(flow, unlink.chain));
+            let members = facilities_by(chain_row(flow.parts, unlink.chain));
             let others = "; a transaction that comes by another way to where they go ";
             put_members(out, flow, unlink.chain, members, others, there)
         }
@@ -315,157 +296,16 @@ fn put_at_chain(out: &mut Vec<u8>, flow: Flow<'_>, from: u16, to: u16) -> Result
 }
 
 /// What is known at the place of a fault of flow.
-fn put_at(alloc: Global, out: &mut Vec<u8>, flow: Flow<'_>, fault: Fault) -> Result<(), Memory> {
+pub(crate) fn put_at(
+    alloc: Global,
+    out: &mut Vec<u8>,
+    flow: Flow<'_>,
+    fault: Fault,
+) -> Result<(), Memory> {
     match fault.place {
         Place::Block(number) => put_at_block(out, flow, number),
         Place::Edge(from, to) if fault.code == CHAIN_STATE => put_at_chain(out, flow, from, to),
         Place::Edge(from, to) => put_on_edge(alloc, out, flow, from, to),
         _ => Ok(()),
     }
-}
-
-/// The same, where this is what a model becomes, by the assembler's state table, if there is one.
-fn put_of_object(
-    alloc: Global,
-    out: &mut Vec<u8>,
-    object: &Object,
-    names: &IndexMap<String, u8>,
-    fault: Fault,
-) -> Result<(), Memory> {
-    if check_kinds(object).is_err() {
-        return Ok(());
-    }
-    let parts = object.parts();
-    match table_of(alloc, parts) {
-        Ok(table) => {
-            let flow = Flow {
-                parts,
-                states: table.states.as_slice(),
-                chain_states: table.chain_states.as_slice(),
-                names,
-            };
-            let put = put_at(alloc, out, flow, fault);
-            drop(table);
-            put
-        }
-        Err(refusal) => unless_memory(refusal),
-    }
-}
-
-/// Nothing more is said where something else is refused, unless memory ran out.
-fn unless_memory(fault: Fault) -> Result<(), Memory> {
-    if fault.code == codes::MEMORY {
-        Err(Memory)
-    } else {
-        Ok(())
-    }
-}
-
-/// The parameters of what is known of names; the rest is let go.
-fn taken_parameters(alloc: Global, mut known: Known) -> IndexMap<String, u8> {
-    let parameters = mem::replace(&mut known.parameters, IndexMap::new(alloc));
-    drop(known);
-    parameters
-}
-
-/// The numbers of the parameters that have names.
-fn parameter_names(alloc: Global, model: &Model) -> Result<IndexMap<String, u8>, Memory> {
-    match known_names(alloc, model.statements.as_slice(), &mut Ledger::new()) {
-        Ok(known) => Ok(taken_parameters(alloc, known)),
-        Err(_) => Err(Memory),
-    }
-}
-
-/// What is known where a model becomes these parts.
-fn put_of_parts(
-    alloc: Global,
-    out: &mut Vec<u8>,
-    parts: Parts,
-    names: &IndexMap<String, u8>,
-    fault: Fault,
-) -> Result<(), Memory> {
-    match build(parts).ok() {
-        Some(object) => {
-            let put = put_of_object(alloc, out, &object, names, fault);
-            drop(object);
-            put
-        }
-        None => Ok(()),
-    }
-}
-
-/// What is known where a model gives these names to parameters.
-fn put_named(
-    alloc: Global,
-    out: &mut Vec<u8>,
-    model: &Model,
-    names: &IndexMap<String, u8>,
-    fault: Fault,
-) -> Result<(), Memory> {
-    match parts_of(alloc, model) {
-        Ok(parts) => put_of_parts(alloc, out, parts, names, fault),
-        Err(refusal) => unless_memory(refusal),
-    }
-}
-
-/// Whether a fault is one of flow.
-fn is_of_flow(fault: Fault) -> bool {
-    FIRST <= fault.code && fault.code <= LAST
-}
-
-/// What is known of a transaction at the place of a fault of flow, in a line; of another fault nothing.
-pub(crate) fn known_in_model(
-    alloc: Global,
-    model: &Model,
-    fault: Fault,
-) -> Result<Vec<u8>, Memory> {
-    let mut out = Vec::new(alloc);
-    if is_of_flow(fault) {
-        let names = parameter_names(alloc, model)?;
-        let put = put_named(alloc, &mut out, model, &names, fault);
-        drop(names);
-        put?;
-    }
-    Ok(out)
-}
-
-/// The same, by the state table of an object.
-fn put_by_object(
-    alloc: Global,
-    out: &mut Vec<u8>,
-    object: &Object,
-    fault: Fault,
-) -> Result<(), Memory> {
-    let parts = object.parts();
-    let names = IndexMap::new(alloc);
-    let flow = Flow {
-        parts,
-        states: parts.states.as_slice(),
-        chain_states: parts.chain_states.as_slice(),
-        names: &names,
-    };
-    let put = put_at(alloc, out, flow, fault);
-    drop(names);
-    put
-}
-
-/// What is known at the place of a fault of flow in the object that bytes spell, in a line; parameters have no names there.
-pub(crate) fn known_in_object(
-    alloc: Global,
-    input: &[u8],
-    fault: Fault,
-) -> Result<Vec<u8>, Memory> {
-    let mut out = Vec::new(alloc);
-    if !is_of_flow(fault) {
-        return Ok(out);
-    }
-    match read(alloc, input) {
-        Ok(object) => {
-            let put = put_by_object(alloc, &mut out, &object, fault);
-            drop(object);
-            put?
-        }
-        Err(refusal) => unless_memory(refusal)?,
-    }
-    Ok(out)
 }

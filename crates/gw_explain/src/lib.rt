@@ -3,11 +3,15 @@
 #![tactic(auto)]
 
 pub mod advice;
+mod causes;
 mod explaining;
+mod facts;
 mod known;
 mod lines;
 mod meaning;
 mod objects;
+mod rounds;
+mod slopes;
 mod summary;
 
 pub use explaining::explain;

@@ -31,6 +31,15 @@ fn text_line<'a>(lines: &[&'a [u8]], number: u32) -> &'a [u8]
     }
 }
 
+/// The lines of a model text, and which its blocks stand on; none where there is no text.
+#[derive(Clone, Copy)]
+pub(crate) struct Text<'a> {
+    /// The lines.
+    pub(crate) lines: &'a [&'a [u8]],
+    /// The numbers of the lines of the blocks, both from 1.
+    pub(crate) blocks: &'a [u32],
+}
+
 /// As much of a line as is shown.
 fn front_of(line: &[u8]) -> &[u8]
     ensures { result.now ≡ take 1000 line.now }
@@ -98,6 +107,17 @@ fn put_edge(
     } else {
         put_block(out, lines, blocks, to)
     }
+}
+
+/// The lines of blocks of these numbers, from 1, in this order, behind what there is.
+pub(crate) fn put_blocks(out: &mut Vec<u8>, text: &Text<'_>, numbers: &[u16]) -> Result<(), Memory>
+    ensures { OnOk result (out.new.items
+        ≡ out.old.items ++ shown.shown_blocks (map (λ l. l.now) text.now.lines.now) text.now.blocks.now numbers.now) }
+{
+    for number in numbers {
+        put_block(out, text.lines, text.blocks, *number)?;
+    }
+    Ok(())
 }
 
 /// The lines that a refusal at a place is about, behind what there is.

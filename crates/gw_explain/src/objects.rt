@@ -6,7 +6,7 @@ ghost use Rattle.gw_answers.specs.Answer.{accepted_line};
 ghost use Rattle.gw_answers.specs.Refusal.{refusal_line};
 ghost use Rattle.gw_explain.specs.Explanation.{Begins, IsAdvised, IsExplainedObject};
 
-use crate::known::known_in_object;
+use crate::facts::known_in_object;
 use crate::meaning::put_advice;
 use crate::summary::object_summary;
 use gw_answers::{Answer, NoJob, Refusal, accepted, accepted_in, refused};
