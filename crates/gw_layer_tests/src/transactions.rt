@@ -102,3 +102,24 @@ fn live_and_here_count_those_that_are_there(rt: HostRuntime) -> Result<(), Fail>
     assert!(rt; three_that_move(&mut transactions)? == [true; 6]);
     Ok(())
 }
+
+/// Which answers are right where of two transactions in block 4 the second steps to block 5, and tries block 6 next.
+fn one_that_steps(transactions: &mut Transactions) -> Result<[bool; 3], Memory>
+    requires { length transactions.old.txs ≤ 1 }
+{
+    let first = add(transactions, in_block(4, 1))?;
+    let second = add(transactions, in_block(4, 2))?;
+    transactions.step_to(second, 5, 6);
+    let mut stepped = in_block(5, 2);
+    stepped.next = 6;
+    let is_written = *transactions.get(second) == stepped;
+    let is_kept = *transactions.get(first) == in_block(4, 1);
+    Ok([is_written, is_kept, counts(transactions, 2, [1, 1, 0])])
+}
+
+#[test]
+fn who_steps_changes_its_blocks_alone(rt: HostRuntime) -> Result<(), Fail> {
+    let mut transactions = Transactions::new(rt.alloc(), 3)?;
+    assert!(rt; one_that_steps(&mut transactions)? == [true; 3]);
+    Ok(())
+}

@@ -150,6 +150,29 @@ impl Machine {
         self.transactions.set(tx, entered);
     }
 
+    /// The transaction, whose attributes are these, enters its next block; the one after is now `next`, and its other
+    /// attributes stay. So something has stirred. It is `enter` for whoever has the attributes as they are: it writes less.
+    pub fn enter_as_found(&mut self, tx: Tx, transaction: Transaction, next: u16)
+        requires held { Holds self.old.transactions tx }
+        requires found { attributes_at tx.number self.old.transactions.txs ≡ Some transaction }
+        requires block { (transaction.next < length self.old.entries) × (transaction.next ≤ 4096) }
+        requires few { sum self.old.entries < 2 ^ 60 }
+        ensures state { state_of self.new
+            ≡ model.entered tx.number transaction next (state_of self.old) }
+        ensures held { Holds self.new.transactions tx }
+        ensures parameters { parameters_of tx.number (state_of self.new)
+            ≡ parameters_of tx.number (state_of self.old) }
+        ensures last { self.new.transactions.last ≡ self.old.transactions.last }
+        ensures made { length self.new.transactions.txs ≡ length self.old.transactions.txs }
+        ensures room { self.old.transactions.room ≤ self.new.transactions.room }
+        ensures rank { priority_of self.new.transactions.txs tx.number ≡ transaction.priority }
+        ensures frame { OnlyEntryIsMade self.old self.new }
+    {
+        self.stir = true;
+        raise(&mut self.entries, transaction.next as usize);
+        self.transactions.step_to(tx, transaction.next, next);
+    }
+
     /// The transaction enters its next block, and its mark time is the clock from now on.
     pub fn enter_marked(&mut self, tx: Tx, transaction: Transaction)
         requires held { Holds self.old.transactions tx }

@@ -88,6 +88,7 @@ impl Machine {
     // WAKING
 
     /// The retry list is woken: all of it joins the current events chain, in its order, each behind its peers.
+    #[inline(always)]
     pub fn wake(&mut self)
         requires room { length self.old.waits.retry ≤ self.old.current_events.room }
         ensures state { state_of self.new ≡ model.woken (state_of self.old) }
@@ -95,8 +96,11 @@ impl Machine {
         ensures left { LosesRoomToMove (length self.old.waits.retry) self.old self.new }
         ensures frame { OnlyWaking self.old self.new }
     {
-        self.waits.wake_all(&mut self.current_events);
         self.stir = false;
+        if self.waits.retrying() == 0 {
+            return;
+        }
+        self.waits.wake_all(&mut self.current_events);
     }
 
     /// Where a block was entered since the retry list was last woken, it is woken.

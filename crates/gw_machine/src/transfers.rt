@@ -97,7 +97,7 @@ impl Machine {
     {
         let next = transaction.next + 1;
         self.call(f, 0, tx, transaction.priority);
-        self.enter(tx, transaction, next);
+        self.enter_as_found(tx, transaction, next);
         self.seize_facility(f, tx.number);
     }
 
@@ -136,6 +136,7 @@ impl Machine {
     }
 
     /// One walk over those who wait for a storage, in their order: each whose units are free enters.
+    #[inline(never)]
     pub fn admit(&mut self, blocks: &[Block], e: u16)
         requires steady { IsSteady blocks.now (self.old.steps + 1) self.old }
         requires there { e < length self.old.facilities.values }
@@ -190,7 +191,7 @@ impl Machine {
         }
         self.take(units);
         self.call_current(units.entity, tx, transaction.priority);
-        self.enter(tx, transaction, transaction.next + 1);
+        self.enter_as_found(tx, transaction, transaction.next + 1);
         true
     }
 }

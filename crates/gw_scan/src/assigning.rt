@@ -134,7 +134,7 @@ impl Visit<'_> {
         let next = self.transaction.next + 1;
         match parameter {
             None => {
-                machine.enter(self.tx, self.transaction, next);
+                machine.enter_as_found(self.tx, self.transaction, next);
                 machine.set_streams(streams);
                 Made::Step
             }
@@ -166,7 +166,7 @@ impl Visit<'_> {
         ensures { Acts result self.now (Block.Logic logic) machine.old machine.new }
     {
         machine.turn_switch(logic);
-        machine.enter(self.tx, self.transaction, self.transaction.next + 1);
+        machine.enter_as_found(self.tx, self.transaction, self.transaction.next + 1);
         Made::Step
     }
 
@@ -186,7 +186,7 @@ impl Visit<'_> {
         };
         machine.set_streams(&streams);
         machine.set_savevalue(save.savevalue, new);
-        machine.enter(self.tx, self.transaction, self.transaction.next + 1);
+        machine.enter_as_found(self.tx, self.transaction, self.transaction.next + 1);
         Made::Step
     }
 
@@ -208,7 +208,7 @@ impl Visit<'_> {
             machine.old machine.new }
     {
         match machine.tabulate(table, value) {
-            Ok(()) => machine.enter(self.tx, self.transaction, self.transaction.next + 1),
+            Ok(()) => machine.enter_as_found(self.tx, self.transaction, self.transaction.next + 1),
             Err(fault) => return Made::Ends(end_by_fault(fault)),
         }
         machine.set_streams(streams);

@@ -107,7 +107,7 @@ impl Visit<'_> {
             return Ok(Made::Step);
         }
         machine.seize_facility(f, self.tx.number);
-        machine.enter(self.tx, self.transaction, self.transaction.next + 1);
+        machine.enter_as_found(self.tx, self.transaction, self.transaction.next + 1);
         Ok(Made::Step)
     }
 
@@ -121,7 +121,7 @@ impl Visit<'_> {
             (state.delay_list f s)
             (after_fall self.now s)) machine.old machine.new }
     {
-        machine.enter(self.tx, self.transaction, self.transaction.next + 1);
+        machine.enter_as_found(self.tx, self.transaction, self.transaction.next + 1);
         machine.hand_over(blocks_of(self.verified), f);
     }
 
@@ -149,7 +149,7 @@ impl Visit<'_> {
             return Ok(Made::Step);
         }
         machine.take(u);
-        machine.enter(self.tx, self.transaction, self.transaction.next + 1);
+        machine.enter_as_found(self.tx, self.transaction, self.transaction.next + 1);
         Ok(Made::Step)
     }
 
@@ -162,7 +162,7 @@ impl Visit<'_> {
             (state.delay_list e s)
             (after_fall self.now s)) machine.old machine.new }
     {
-        machine.enter(self.tx, self.transaction, self.transaction.next + 1);
+        machine.enter_as_found(self.tx, self.transaction, self.transaction.next + 1);
         machine.admit(blocks_of(self.verified), e);
     }
 
@@ -186,7 +186,7 @@ impl Visit<'_> {
         ensures { Acts result self.now (Block.Queue u) machine.old machine.new }
     {
         machine.join(u);
-        machine.enter(self.tx, self.transaction, self.transaction.next + 1);
+        machine.enter_as_found(self.tx, self.transaction, self.transaction.next + 1);
         Made::Step
     }
 
@@ -196,7 +196,7 @@ impl Visit<'_> {
         ensures { Acts result self.now (Block.Depart u) machine.old machine.new }
     {
         machine.depart_units(u);
-        machine.enter(self.tx, self.transaction, self.transaction.next + 1);
+        machine.enter_as_found(self.tx, self.transaction, self.transaction.next + 1);
         Made::Step
     }
 
@@ -207,7 +207,7 @@ impl Visit<'_> {
         requires { Meets self.now machine.old (Block.Transfer target) }
         ensures { Acts result self.now (Block.Transfer target) machine.old machine.new }
     {
-        machine.enter(self.tx, self.transaction, target);
+        machine.enter_as_found(self.tx, self.transaction, target);
         Made::Step
     }
 
@@ -222,7 +222,7 @@ impl Visit<'_> {
         let drawn = drawn_thousandths(1, &mut streams);
         let target = chosen(self.transaction.next, fraction, drawn);
         machine.set_streams(&streams);
-        machine.enter(self.tx, self.transaction, target);
+        machine.enter_as_found(self.tx, self.transaction, target);
         Made::Step
     }
 
@@ -231,7 +231,7 @@ impl Visit<'_> {
         requires { Meets self.now machine.old (Block.TransferBoth _both) }
         ensures { Acts result self.now (Block.TransferBoth _both) machine.old machine.new }
     {
-        machine.enter(self.tx, self.transaction, self.transaction.next);
+        machine.enter_as_found(self.tx, self.transaction, self.transaction.next);
         Made::Step
     }
 
@@ -253,7 +253,7 @@ impl Visit<'_> {
     {
         machine.reserve_wake()?;
         machine.set_streams(streams);
-        machine.enter(self.tx, self.transaction, self.transaction.next);
+        machine.enter_as_found(self.tx, self.transaction, self.transaction.next);
         machine.count_down(by);
         machine.place_nowhere(self.tx);
         Ok(())

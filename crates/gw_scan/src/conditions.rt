@@ -88,7 +88,7 @@ impl Visit<'_> {
         }
         let target = led_by(self.transaction.next, otherwise, so);
         machine.set_streams(streams);
-        machine.enter(self.tx, self.transaction, target);
+        machine.enter_as_found(self.tx, self.transaction, target);
         Ok(Made::Step)
     }
 

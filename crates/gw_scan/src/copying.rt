@@ -39,7 +39,7 @@ impl Visit<'_> {
             machine.old machine.new }
     {
         let parameters = machine.reserve_copies(self.tx, copies)?;
-        machine.enter(self.tx, self.transaction, self.transaction.next + 1);
+        machine.enter_as_found(self.tx, self.transaction, self.transaction.next + 1);
         let mut parent = self.transaction;
         parent.current = self.transaction.next;
         machine.make_copies(self.tx, parent, target, copies, parameters);
@@ -90,7 +90,7 @@ impl Visit<'_> {
     {
         machine.reserve_rest()?;
         machine.reserve_assembled()?;
-        machine.enter(self.tx, self.transaction, self.transaction.next);
+        machine.enter_as_found(self.tx, self.transaction, self.transaction.next);
         machine.join_assembly(assembly);
         machine.place(self.tx, self.transaction.priority, Placement::LeavesModel);
         Ok(())
@@ -115,7 +115,7 @@ impl Visit<'_> {
         ensures { ActsOnOk result self.now (Block.Assemble size) machine.old machine.new }
     {
         if size <= 1 {
-            machine.enter(self.tx, self.transaction, self.transaction.next + 1);
+            machine.enter_as_found(self.tx, self.transaction, self.transaction.next + 1);
             return Ok(Made::Step);
         }
         match machine.assembly(self.transaction.next, self.transaction.set) {

@@ -33,7 +33,7 @@ impl Visit<'_> {
     {
         machine.reserve_rest()?;
         machine.reserve_link(link.chain)?;
-        machine.enter(self.tx, self.transaction, self.transaction.next);
+        machine.enter_as_found(self.tx, self.transaction, self.transaction.next);
         machine.place(
             self.tx,
             self.transaction.priority,
@@ -56,7 +56,7 @@ impl Visit<'_> {
             machine.old machine.new }
     {
         machine.reserve_current(count)?;
-        machine.enter(self.tx, self.transaction, self.transaction.next + 1);
+        machine.enter_as_found(self.tx, self.transaction, self.transaction.next + 1);
         machine.unlink(unlink.chain, unlink.target, count);
         Ok(())
     }

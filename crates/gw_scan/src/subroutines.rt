@@ -36,7 +36,7 @@ impl Visit<'_> {
             machine.old machine.new }
     {
         let value = machine.parameter(self.tx, parameter);
-        machine.enter(self.tx, self.transaction, block_after(value));
+        machine.enter_as_found(self.tx, self.transaction, block_after(value));
         Made::Step
     }
 }

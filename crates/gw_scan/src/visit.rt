@@ -120,7 +120,7 @@ impl Visit<'_> {
     {
         machine.reserve_time()?;
         machine.set_streams(streams);
-        machine.enter(self.tx, self.transaction, self.transaction.next + 1);
+        machine.enter_as_found(self.tx, self.transaction, self.transaction.next + 1);
         rest_until(machine, self.tx, moment);
         Ok(())
     }

@@ -254,6 +254,25 @@ impl Transactions {
         self.here.add(transaction.current);
     }
 
+    /// The transaction of a handle is in the block `current` from now on, by its number from 0 to 4,096, and tries to enter
+    /// the block `next`; its other attributes stay.
+    pub fn step_to(&mut self, tx: Tx, current: u16, next: u16)
+        requires held { Holds self.old tx }
+        requires block { current ≤ 4096 }
+        ensures txs { (t : Transaction) → attributes_at tx.number self.old.txs ≡ Some t
+            → let stepped = record t { current = current; next = next } in
+            self.new.txs ≡ put_attributes tx.number stepped self.old.txs }
+        ensures rest { KeepsRest self.old self.new }
+        ensures handles { KeepsHandles self.old self.new }
+    {
+        let attributes = &mut self.slots[tx.place].1.attributes;
+        let was = attributes.current;
+        attributes.current = current;
+        attributes.next = next;
+        self.here.take(was);
+        self.here.add(current);
+    }
+
     /// The user chain, an entity by its number from 0, of which the transaction of a handle is a member, if it is of one.
     pub fn chain(&self, tx: Tx) -> Option<u16>
         requires { Holds self.now tx }

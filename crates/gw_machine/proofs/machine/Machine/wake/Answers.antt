@@ -6,7 +6,7 @@ use Rattle.gw_machine.proofs.machine.Machine.wake.Goals as goal
 pub returns-clause-state : goal.returns-clause-state
 returns-clause-state c = rw (← c.self.view_is) (state-woken (shown c.self.inside) c.self.invariant c.wake_all.new.cec.items c.wake_all.new.self c.wake_all.ensures.woken c.wake_all.ensures.retry c.wake_all.ensures.lists)
 
-pub invariant_of-self : goal.invariant_of-self
-invariant_of-self c =
+pub invariant_of-self-2 : goal.invariant_of-self-2
+invariant_of-self-2 c =
     linked-woken (shown c.self.inside) c.self.invariant c.wake_all.new.cec.items c.wake_all.new.self c.wake_all.ensures.woken c.wake_all.ensures.retry c.wake_all.ensures.lists
     _ refl refl refl refl refl refl refl refl refl refl refl (rw (← c.self.view_is) at (returns-clause-state c))

@@ -9,6 +9,6 @@ pub join_assembly-requires-clause-there : goal.join_assembly-requires-clause-the
 join_assembly-requires-clause-there c =
     let a = c.args.assembly in
     let same = c.in_ok-reserve_assembled.ensures.state ∙ c.in_ok-reserve_rest.ensures.state in
-    ap (λ (s : State). assembly_at a.block a.set s) c.enter.ensures.state
+    ap (λ (s : State). assembly_at a.block a.set s) c.enter_as_found.ensures.state
     ∙ ap (λ (s : State). assembly_at a.block a.set s) same
     ∙ found-own c.args.self.now.transaction.next c.args.self.now.transaction.set (state_of c.args.machine.now).lists.assemblies (assembly_of a) c.requires.there
