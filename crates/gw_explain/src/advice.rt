@@ -162,7 +162,7 @@ pub const ADVICE: [(u16, &str, &str); 60] = [
     (
         40,
         "From here a transaction may go round for ever while the clock stands. The round itself is often behind this place.",
-        "Let each round pass an ADVANCE that takes at least 1 for sure, as ADVANCE 3,2. A TEST or a GATE without a label waits by itself; counting belongs into a PROCEDURE.",
+        "Let each round pass an ADVANCE that takes at least 1 for sure, as ADVANCE 3,2. Or count the rounds by a LOOP over a parameter that an ASSIGN sets to a plain number, or within a PROCEDURE. A TEST or a GATE without a label waits by itself.",
     ),
     (
         41,
