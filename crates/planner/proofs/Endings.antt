@@ -8,7 +8,8 @@ use Rattle.gw_answers.specs.Refusal.{refusal_line}
 use Rattle.gw_answers.specs.Status.{ended, refused}
 use Rattle.gw_answers.specs.Answer.{object_of, accepted_line}
 use Rattle.gw_answers.specs.Assembly.{IsAssembly}
-use Rattle.gw_console.proofs.Outputs.{IsEnd, Ends, assembly_status}
+use Rattle.gw_answers.specs.declared.request.Request.TheVariants.{Run}
+use Rattle.gw_console.proofs.Outputs.{IsEnd, Ends, assembly_status, request_ends}
 use Rattle.gw_sources.specs.Sites.{no_sites, is_object}
 use Rattle.gw_explain.specs.Explanation.{Begins, IsAdvised, IsExplainedModel, IsExplainedText, IsExplainedObject}
 use Rattle.gw_listing.specs.Listing.{IsListingOf, TellsRefusal, IsListedModel, IsListedText, IsListedObject}
@@ -16,9 +17,9 @@ use Rattle.gw_model_jobs.specs.ModelJobs.{AnswersModel}
 use Rattle.gw_trace.specs.Trace.{IsTrace}
 use Rattle.gw_chart.specs.Charts.{IsChart}
 use Rattle.gw_study.specs.Study.{IsStudied, IsStudy}
-use Rattle.planner.specs.Answers.{asked, answering}
+use Rattle.planner.specs.Answers.{IsReported, asked, answering}
 use Rattle.planner.specs.declared.words.Question.{Question}
-use Rattle.planner.specs.declared.words.Question.TheVariants.{Explain, List as Lists, Chart, Trace, Study}
+use Rattle.planner.specs.declared.words.Question.TheVariants.{Explain, List as Lists, Chart, Trace, Report, Study}
 
 explained_model : (bytes : List ℕ) (ss : _) (text : List ℕ) (status : ℕ) → IsExplainedModel bytes ss text status → IsEnd status
 explained_model bytes ss text status (inl h) = inl h.0
@@ -64,6 +65,10 @@ study : (bytes : List ℕ) (runs count : ℕ) (text : List ℕ) (status : ℕ) �
 study bytes runs count text status (inl h) = studied h.0 runs count text status h.2
 study bytes runs count text status (inr h) = assembly_status bytes text status h.1
 
+report : (seed count : ℕ) (bytes text : List ℕ) (status : ℕ) → IsReported seed count bytes text status → IsEnd status
+report seed count bytes text status (inl h) = request_ends (Run seed count) h.0 text status h.2
+report seed count bytes text status (inr h) = assembly_status bytes text status h.1
+
 ends : (question : Question) (bytes text : List ℕ) (status : ℕ) → asked question bytes text status → IsEnd status
 ends Explain bytes text status h =
     of_either (is_object bytes) _ _ status (explained_object (object_of bytes) text status) (explained_text bytes text status) h
@@ -71,6 +76,7 @@ ends Lists bytes text status h =
     of_either (is_object bytes) _ _ status (listed_object (object_of bytes) text status) (listed_text bytes text status) h
 ends Chart bytes text status h = shown IsChart bytes text status h
 ends (Trace from to) bytes text status h = shown (IsTrace from to) bytes text status h
+ends (Report seed count) bytes text status h = report seed count bytes text status h
 ends (Study runs count) bytes text status h = study bytes runs count text status h
 
 -- those of a question

@@ -1,7 +1,9 @@
 -- What the program writes.
-use Rattle.std.specs.Prelude.{◌≡◌, ◌≤◌, ◌<◌, ◌⊎◌, ℕ, ◌+◌, List, take, codes, Option}
+use Rattle.std.specs.Prelude.{◌≡◌, ◌≢◌, ◌≤◌, ◌<◌, ◌⊎◌, ℕ, ◌+◌, List, take, codes, Option}
 use Rattle.gw_object.specs.declared.limits.TheConstants.{MOST_BYTES}
 use Rattle.gw_answers.specs.Status.{ended, no_memory}
+use Rattle.gw_answers.specs.Answer.{IsAnswer}
+use Rattle.gw_answers.specs.Assembly.{IsAssembly}
 use Rattle.gw_answers.specs.Requests.{Answering}
 use Rattle.gw_console.specs.Output.{Writes, Responds, memory_line}
 use Rattle.gw_explain.specs.Explanation.{IsExplained}
@@ -15,7 +17,13 @@ use Rattle.planner.specs.declared.help.TheConstants.{HELP, VERSION, USAGE}
 use Rattle.planner.specs.declared.words.Command.{Command}
 use Rattle.planner.specs.declared.words.Command.TheVariants.{Ask, Code, Help, Version}
 use Rattle.planner.specs.declared.words.Question.{Question}
-use Rattle.planner.specs.declared.words.Question.TheVariants.{Explain, List as Lists, Chart, Trace, Study}
+use Rattle.planner.specs.declared.words.Question.TheVariants.{Explain, List as Lists, Chart, Trace, Report, Study}
+
+-- what is reported of a text: the report of its object, or a refusal of that; or the refusal of the text
+abbrev pub IsReported : ℕ → ℕ → Answering
+IsReported seed count bytes text status =
+    ((object : List ℕ) × IsAssembly bytes object ended × IsAnswer seed count object text status)
+    ⊎ ((status ≢ ended) × IsAssembly bytes text status)
 
 -- what answers a question about an input
 abbrev pub asked : Question → Answering
@@ -23,6 +31,7 @@ asked Explain = IsExplained
 asked Lists = IsListed
 asked Chart = AnswersModel IsChart
 asked (Trace from to) = AnswersModel (IsTrace from to)
+asked (Report seed count) = IsReported seed count
 asked (Study runs count) = λ bytes. IsStudy bytes runs count
 
 -- about what stands on a reader: of more bytes than a model or an object may have, about their front, which is refused

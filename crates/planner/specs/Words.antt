@@ -6,7 +6,7 @@ use Rattle.gw_explain.specs.Codes.{is_code}
 use Rattle.planner.specs.declared.words.Command.{Command}
 use Rattle.planner.specs.declared.words.Command.TheVariants.{Ask, Code, Help, Version}
 use Rattle.planner.specs.declared.words.Question.{Question}
-use Rattle.planner.specs.declared.words.Question.TheVariants.{Explain, List as Lists, Chart, Trace, Study}
+use Rattle.planner.specs.declared.words.Question.TheVariants.{Explain, List as Lists, Chart, Trace, Report, Study}
 
 -- a time of the clock
 abbrev pub time_in : Option ℕ → Option ℤ
@@ -30,6 +30,7 @@ command_named name =
     if bytes_eq name (codes "explain") then Some (Ask Explain)
     else if bytes_eq name (codes "list") then Some (Ask Lists)
     else if bytes_eq name (codes "chart") then Some (Ask Chart)
+    else if bytes_eq name (codes "report") then Some (Ask (Report 0 0))
     else if bytes_eq name (codes "help") || bytes_eq name (codes "--help") then Some Help
     else if bytes_eq name (codes "--version") then Some Version
     else None
@@ -60,9 +61,16 @@ trace_of None to = None
 trace_of (Some from) None = None
 trace_of (Some from) (Some to) = Some (Ask (Trace from to))
 
+-- `report`, a seed and a count
+abbrev pub report_of : Option ℕ → Option ℕ → Option Command
+report_of None count = None
+report_of (Some seed) None = None
+report_of (Some seed) (Some count) = Some (Ask (Report seed count))
+
 abbrev pub command_of_three : List ℕ → List ℕ → List ℕ → Option Command
 command_of_three name first second =
     if bytes_eq name (codes "trace") then trace_of (clock_in first) (clock_in second)
+    else if bytes_eq name (codes "report") then report_of (number_below (2 ^ 32) first) (number_below (2 ^ 64) second)
     else if bytes_eq name (codes "study") then study_of (runs_in first) (number_below (2 ^ 64) second)
     else None
 

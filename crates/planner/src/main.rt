@@ -3,6 +3,7 @@
 
 pub mod help;
 pub mod program;
+pub mod reporting;
 pub mod words;
 
 use gw_console::{ProgramFault, deliver};

@@ -11,6 +11,7 @@ ghost use Rattle.gw_explain.specs.Meaning.{meaning};
 ghost use Rattle.planner.specs.Answers.{asked, answering, Tells, DoesCommand, usage_line};
 
 use crate::help::{HELP, USAGE, VERSION};
+use crate::reporting::report;
 use crate::words::{Command, Question, command_of};
 use gw_answers::Answer;
 use gw_answers::status::{ENDED, WRONG_WORDS};
@@ -42,6 +43,7 @@ fn answer<T: Threads + Wait + Sync + Eprint>(
         Question::List => list(alloc, input),
         Question::Chart => chart(alloc, input),
         Question::Trace { from, to } => trace(alloc, input, from, to),
+        Question::Report { seed, count } => report(alloc, input, seed, count),
         Question::Study { runs, count } => study(rt, alloc, input, runs, count),
     }
 }

@@ -27,6 +27,13 @@ pub enum Question {
         /// The last time, in clock units.
         to: i64,
     },
+    /// What its run reports.
+    Report {
+        /// The one seed of the seed list; 0 means the model's own seeds.
+        seed: u32,
+        /// The termination count; 0 means the model's own.
+        count: u64,
+    },
     /// What many runs of it say.
     Study {
         /// How many runs, 1 to 1,024.
@@ -100,6 +107,7 @@ fn command_named(name: &str) -> Option<Command>
         "explain" => Some(Command::Ask(Question::Explain)),
         "list" => Some(Command::Ask(Question::List)),
         "chart" => Some(Command::Ask(Question::Chart)),
+        "report" => Some(Command::Ask(Question::Report { seed: 0, count: 0 })),
         "help" | "--help" => Some(Command::Help),
         "--version" => Some(Command::Version),
         _ => None,
@@ -137,21 +145,31 @@ fn trace_of(from: &str, to: &str) -> Option<Command>
     Some(Command::Ask(Question::Trace { from, to }))
 }
 
-/// The command that three words name: `trace` or `study`.
+/// The command `report`, where the words are a seed and a count.
+fn report_of(seed: &str, count: &str) -> Option<Command>
+    ensures { result ≡ words.report_of (number_below (2 ^ 32) seed.now) (number_below (2 ^ 64) count.now) }
+{
+    let seed = number_in(seed)?;
+    let count = count_in(count)?;
+    Some(Command::Ask(Question::Report { seed, count }))
+}
+
+/// The command that three words name: `trace`, `report` or `study`.
 fn command_of_three(name: &str, first: &str, second: &str) -> Option<Command>
     ensures command { result ≡ words.command_of_three name.now first.now second.now }
     ensures asked { IfSome result MayBeCarriedOut }
 {
     match name {
         "trace" => trace_of(first, second),
+        "report" => report_of(first, second),
         "study" => study_of(first, count_in(second)),
         _ => None,
     }
 }
 
 /// The command that these words name: `explain`, and perhaps the code of a refusal; `list`, `chart`; `trace` and two times below
-/// 2^63; `study`, a number of runs, 1 to 1,024, and perhaps a count below 2^64; `help`, `--help` or `--version`. Numbers are in
-/// decimal digits alone.
+/// 2^63; `report`, and perhaps a seed below 2^32 and a count below 2^64; `study`, a number of runs, 1 to 1,024, and perhaps a count
+/// below 2^64; `help`, `--help` or `--version`. Numbers are in decimal digits alone.
 pub fn command_of(words: &[String]) -> Option<Command>
     ensures command { result ≡ command_in (map string_bytes words.now) }
     ensures asked { IfSome result MayBeCarriedOut }
