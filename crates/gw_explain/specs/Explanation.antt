@@ -13,6 +13,7 @@ use Rattle.gw_answers.specs.Refusal.{refusal_line}
 use Rattle.gw_sources.specs.Sites.{Sites, sites_of, no_sites, is_object}
 use Rattle.gw_explain.specs.Codes.{advice_lines}
 use Rattle.gw_explain.specs.Shown.{shown_lines}
+use Rattle.gw_explain.specs.Marks.{IsMarked}
 
 -- a text begins with this
 pub record Begins (front text : List ℕ) : Type 0 where
@@ -26,10 +27,15 @@ pub record IsAdvised (front : List ℕ) (code : ℕ) (text : List ℕ) : Type 0 
 
 -- TEXTS
 
--- the explanation of a refusal: its line, the lines that it is about, and the words on its code
+-- a text is this, then the lines that a refusal is about, marks below, and the words on its code
+pub record TellsFault (lines : List (List ℕ)) (sites : Sites) (fault : Fault) (front text : List ℕ) : Type 0 where
+  pub marks : List ℕ
+  pub marked : IsMarked lines fault.place marks
+  pub advised : IsAdvised (front ++ shown_lines lines sites fault.place ++ marks) fault.code text
+
+-- the explanation of a refusal: its line, and what is told of it
 abbrev pub ExplainsRefusal : List ℕ → Sites → Fault → List ℕ → Type 0
-ExplainsRefusal bytes sites fault text =
-    IsAdvised (refusal_line fault ++ shown_lines (lines_of_text bytes) sites fault.place) fault.code text
+ExplainsRefusal bytes sites fault text = TellsFault (lines_of_text bytes) sites fault (refusal_line fault) text
 
 -- that of an accepted model: its line, and words
 abbrev pub ExplainsModel : List Statement → List ℕ → Type 0

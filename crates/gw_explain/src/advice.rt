@@ -172,7 +172,7 @@ pub const ADVICE: [(u16, &str, &str); 60] = [
     (
         42,
         "The interval between arrivals isn't sure to be 1 or more, and there is no limit: they might never end at one moment.",
-        "Give GENERATE a limit, its fourth operand, or an interval A,B of numbers with A - B at least 1.",
+        "Give GENERATE a limit, its fourth operand: one that is never met, as GENERATE 7,7,,1000000, changes nothing. An interval A,B of numbers with A - B at least 1 is another model.",
     ),
     (
         43,
@@ -263,12 +263,12 @@ pub const ADVICE: [(u16, &str, &str); 60] = [
     (
         71,
         "No word of the language stands first on the line, or behind a label.",
-        "Write the word of the statement out, in full; a comment begins with * or ;.",
+        "Write the word of the statement out, in full; a comment begins with ;, or with * in the first column.",
     ),
     (
         72,
         "An operand is missing, or one too many, or of another kind or outside the limits that its place has; or a declaration has no name before it.",
-        "See what the statement takes: docs/model-text.md has them all. Operands have commas and no blanks between them.",
+        "See what the statement takes: docs/model-text.md has them all. A comment behind the operands begins with ;.",
     ),
     (
         73,
@@ -283,7 +283,7 @@ pub const ADVICE: [(u16, &str, &str); 60] = [
     (
         75,
         "GPSS World has this, and the language here hasn't.",
-        "Say it in another way: the table at the end of docs/guide.md names what to use in its place.",
+        "Say it in another way: docs/guide.md, From GPSS World to here, has all forms that are left out, and what stands in the place of each.",
     ),
     (
         76,
@@ -297,7 +297,7 @@ pub const ADVICE: [(u16, &str, &str); 60] = [
     ),
     (
         80,
-        "A name stands here that isn't declared: a label, an EQU, a TABLE, FUNCTION, VARIABLE or BVARIABLE; or a PROCEDURE that isn't above, or that takes another number of arguments.",
+        "A name stands here that isn't declared: a label, an EQU, a TABLE, FUNCTION, VARIABLE or BVARIABLE; or a PROCEDURE that isn't above, or that takes another number of arguments; or an attribute of GPSS World that this language hasn't.",
         "Declare it, or spell it as where it is declared; a PROCEDURE and an EQU stand above what uses them.",
     ),
     (

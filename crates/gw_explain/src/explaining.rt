@@ -1,45 +1,51 @@
 //! The explanation of a model text, or of an object.
 
-ghost use Rattle.std.specs.Prelude.{◌≡◌, ◌++◌, IfOk, OnOk};
-ghost use Rattle.std.specs.Str.Lines.{lines as lines_of_text};
+ghost use Rattle.std.specs.Prelude.{◌≡◌, map, IfOk, OnOk};
 ghost use Rattle.gw_answers.specs.Status.{ended as ended_status, refused as refused_status};
 ghost use Rattle.gw_answers.specs.Answer.{accepted_line};
 ghost use Rattle.gw_sources.specs.Sites.{no_sites, sites_of, sites_told};
-ghost use Rattle.gw_explain.specs.Explanation.{Begins, ExplainsRefusal, IsExplainedModel, IsExplainedText, IsExplained};
-ghost use Rattle.gw_explain.specs.Shown.{shown_lines};
+ghost use Rattle.gw_explain.specs.Explanation.{Begins, ExplainsRefusal, TellsFault, IsExplainedModel, IsExplainedText, IsExplained};
 
 use crate::facts::known_in_model;
+use crate::forms::{put_marks, put_words_on_site, site_of};
 use crate::lines::{Text, put_lines_of};
 use crate::meaning::put_advice;
 use crate::objects::explain_object;
 use crate::summary::model_summary;
 use gw_answers::{Answer, Refusal, accepted, refused};
 use gw_assemble::assemble;
-use gw_object::{Fault, Memory, Place, codes};
+use gw_object::{Fault, Memory, codes};
 use gw_rules::Verified;
 use gw_sources::{Sources, is_object, sources};
 use gw_text::{Model, parse};
 use gw_text_tokens::lines::lines_of;
 use std::alloc::Global;
 
-/// The lines of a text that a refusal at a place is about, behind what there is.
-fn put_shown(
+/// The lines of a text that a refusal is about, with marks below the line on which a form stands that is left out, and behind them the
+/// words on its code, with what is known.
+#[tactic(auto, using(crate::proofs::Beginning::marked_and_advised))]
+fn put_told(
     alloc: Global,
     out: &mut Vec<u8>,
-    text: &[u8],
+    lines: &[&[u8]],
+    known: &[u8],
     sources: &Sources,
-    place: Place,
+    fault: Fault,
 ) -> Result<(), Memory>
-    ensures { OnOk result (out.new.items
-        ≡ out.old.items ++ shown_lines (lines_of_text text.now) (sites_told sources.now) place) }
+    ensures { OnOk result (TellsFault (map (λ l. l.now) lines.now) (sites_told sources.now) fault
+        out.old.items out.new.items) }
 {
-    let lines = lines_of(alloc, text)?;
-    put_lines_of(out, &lines, sources, place)
+    let site = site_of(alloc, lines, fault)?;
+    put_lines_of(out, lines, sources, fault.place)?;
+    put_marks(alloc, out, lines, fault.place, site)?;
+    let mut words = Vec::new(alloc);
+    put_words_on_site(&mut words, known, site)?;
+    put_advice(out, &words, fault.code)
 }
 
 /// The explanation of a refusal: its line, the lines that it is about, and the words on it, with what is known; want of memory
 /// is no explanation.
-#[tactic(auto, using(crate::proofs::Beginning::advised_with))]
+#[tactic(auto, using(crate::proofs::Beginning::told_with))]
 fn refusal_of(
     alloc: Global,
     text: &[u8],
@@ -54,9 +60,9 @@ fn refusal_of(
     if fault.code == codes::MEMORY {
         return Err(Memory);
     }
+    let lines = lines_of(alloc, text)?;
     let mut answer = refused(alloc, Refusal(fault))?;
-    put_shown(alloc, &mut answer.text, text, sources, fault.place)?;
-    put_advice(&mut answer.text, known, fault.code)?;
+    put_told(alloc, &mut answer.text, &lines, known, sources, fault)?;
     Ok(answer)
 }
 

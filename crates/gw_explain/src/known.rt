@@ -1,7 +1,7 @@
 //! What is known of a transaction, in words, where a model or an object is refused by flow (docs/object-format.md).
 
 use gw_blocks::{Block, Split, Units};
-use gw_object::{Entity, Fault, Memory, Parts, Place, TableKind, TableParameter, TableState};
+use gw_object::{Entity, Fault, Kind, Memory, Parts, Place, TableKind, TableParameter, TableState};
 use gw_report::text::{put, put_number};
 use gw_rules::chain_row;
 use gw_rules::flow_codes::CHAIN_STATE;
@@ -39,7 +39,14 @@ fn put_facilities(
     if facilities.is_empty() {
         return put(out, "owns no facility");
     }
-    put(out, "owns ")?;
+    put(
+        out,
+        if facilities.len() == 1 {
+            "owns facility "
+        } else {
+            "owns facilities "
+        },
+    )?;
     for i in 0..facilities.len() {
         put_comma(out, i)?;
         put_name(out, entities, facilities[i])?;
@@ -102,6 +109,15 @@ fn put_parameters(
     Ok(())
 }
 
+/// Of which kind an entity is whose units are held, by its number.
+fn put_kind(out: &mut Vec<u8>, entities: &[Entity], number: u16) -> Result<(), Memory> {
+    match entities.get(number as usize).map(|entity| &entity.kind) {
+        Some(Kind::Storage(_)) => put(out, "storage "),
+        Some(Kind::Queue) => put(out, "queue "),
+        _ => Ok(()),
+    }
+}
+
 /// Which units are sure to be held.
 fn put_units(out: &mut Vec<u8>, entities: &[Entity], units: &[Units]) -> Result<(), Memory> {
     if units.is_empty() {
@@ -112,6 +128,7 @@ fn put_units(out: &mut Vec<u8>, entities: &[Entity], units: &[Units]) -> Result<
         put_comma(out, i)?;
         put_number(out, "", units[i].number)?;
         put(out, " of ")?;
+        put_kind(out, entities, units[i].entity)?;
         put_name(out, entities, units[i].entity)?;
     }
     Ok(())

@@ -6,6 +6,7 @@ pub mod advice;
 mod causes;
 mod explaining;
 mod facts;
+mod forms;
 mod known;
 mod lines;
 mod meaning;

@@ -19,7 +19,7 @@ fn line_at<'a>(lines: &[&'a [u8]], place: usize) -> Option<&'a [u8]>
 }
 
 /// The line of a number, from 1; an empty one where there is none.
-fn text_line<'a>(lines: &[&'a [u8]], number: u32) -> &'a [u8]
+pub(crate) fn text_line<'a>(lines: &[&'a [u8]], number: u32) -> &'a [u8]
     ensures { result.now ≡ shown.text_line (map (λ l. l.now) lines.now) number }
 {
     if number == 0 {
