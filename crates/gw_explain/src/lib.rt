@@ -10,6 +10,7 @@ mod forms;
 mod known;
 mod lines;
 mod meaning;
+mod notes;
 mod objects;
 mod rounds;
 mod slopes;

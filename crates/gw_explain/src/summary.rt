@@ -1,5 +1,6 @@
 //! What a model or an object that is accepted has, in words.
 
+use crate::notes::put_notes;
 use gw_object::{Entity, Kind, Memory, Parts};
 use gw_report::text::{put, put_number};
 use gw_rules::Verified;
@@ -173,8 +174,8 @@ fn put_start(out: &mut Vec<u8>, count: u64, seeds: &[u32]) -> Result<(), Memory>
     }
 }
 
-/// What an object has: its blocks, its entities by kind, its procedures, with the lines of the text that it comes from, and how a
-/// run begins.
+/// What an object has: its blocks, its entities by kind, its procedures, with the lines of the text that it comes from, how a run
+/// begins, and what is noted of it.
 fn summary_of(alloc: Global, parts: &Parts, sources: &Sources) -> Result<Vec<u8>, Memory> {
     let mut out = Vec::new(alloc);
     put_blocks(&mut out, parts.blocks.as_slice().len(), &sources.blocks)?;
@@ -185,6 +186,7 @@ fn summary_of(alloc: Global, parts: &Parts, sources: &Sources) -> Result<Vec<u8>
         &sources.procedures,
     )?;
     put_start(&mut out, parts.count, parts.seeds.as_slice())?;
+    put_notes(alloc, &mut out, parts, sources)?;
     Ok(out)
 }
 
