@@ -9,4 +9,5 @@ pub mod Leaving
 pub mod Frames
 pub mod Entities
 pub mod Evaluating
+pub mod Spans
 pub mod AtStart

@@ -19,5 +19,6 @@ mod values;
 
 pub use ends::{end_by, end_by_fault};
 pub use machine::{Machine, Made};
+pub use times::Span;
 pub use transfers::block_of;
 pub use values::{Subject, active_subject, drawn_thousandths};

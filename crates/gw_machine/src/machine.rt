@@ -3,6 +3,7 @@
 ghost use Rattle.std.specs.Prelude.{◌≡◌, ◌≤◌, ◌<◌, ◌+◌, ◌^◌, Some, None, length, vec_len, sum, IfOk, OnOk, pos, ◌<ℤ◌, ◌≤ℤ◌, nat_le};
 ghost use Rattle.gw_num.specs.Table.{at};
 ghost use Rattle.gw_transactions.specs.Transactions.{Holds, attributes_at, live_count};
+ghost use Rattle.gw_operands.specs.Values.{with_first};
 ghost use Rattle.gw_step.specs.State.{priority_of, raised, with_streams};
 ghost use Rattle.gw_step.specs.Blocks.{is_owed};
 ghost use Rattle.gw_step.specs.Changes as model;
@@ -223,6 +224,7 @@ impl Machine {
     }
 
     /// A new transaction is scheduled to arrive at its GENERATE block.
+    #[inline(always)]
     pub fn arrive(&mut self, block: u16, priority: i32, time: i64, parameters: Parameters)
         requires room { (0 < self.old.transactions.room) × (0 < self.old.future_events.room) }
         requires unset { parameters ≡ none_of self.old.last }
@@ -268,6 +270,15 @@ impl Machine {
         self.streams = *streams;
     }
 
+    /// The first stream is now here.
+    pub fn set_first_stream(&mut self, stream: Stream)
+        ensures state { state_of self.new
+            ≡ with_streams (with_first stream self.old.streams) (state_of self.old) }
+        ensures frame { self.new ≡ record self.old { streams = self.new.streams } }
+    {
+        self.streams[0] = stream;
+    }
+
     /// The termination count falls; where it is then 0 or less, the job is done.
     pub fn count_down(&mut self, by: i64)
         requires least { pos 0 <ℤ self.old.count }
@@ -281,13 +292,18 @@ impl Machine {
         self.ended = end_of(count);
     }
 
-    /// One more step is counted; where it is the last of the budget, the running job ends.
-    pub fn count_step(&mut self, budget: u64)
+    /// One more step is counted.
+    pub fn add_step(&mut self)
         requires { self.old.steps < 2 ^ 60 }
-        ensures { BecomesBy (λ s. steps.within_budget budget (record s { steps = s.steps + 1 }))
-            self.old self.new }
+        ensures { BecomesBy (λ s. record s { steps = s.steps + 1 }) self.old self.new }
     {
         self.steps += 1;
+    }
+
+    /// A running job whose steps are as many as its budget ends.
+    pub fn end_at_budget(&mut self, budget: u64)
+        ensures { BecomesBy (steps.within_budget budget) self.old self.new }
+    {
         if self.steps == budget && self.ended.is_none() {
             self.ended = Some(End::Budget);
         }
@@ -304,6 +320,7 @@ impl Machine {
     }
 
     /// Makes room for one more transaction and its arrival, and answers its parameters, none of which is set.
+    #[inline(always)]
     pub fn reserve_arrival(&mut self) -> Result<Parameters, Memory>
         ensures unset { IfOk result (λ parameters. parameters ≡ none_of self.new.last) }
         ensures state { state_of self.new ≡ state_of self.old }

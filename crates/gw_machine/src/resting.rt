@@ -216,6 +216,7 @@ impl Machine {
 
     /// The active transaction rests on the future events chain until a time, once the retry list was woken, if a block was
     /// entered since it was last woken.
+    #[inline(always)]
     pub fn place_until(&mut self, tx: Tx, time: i64)
         requires rests { CanRest self.old tx }
         requires wake { length self.old.waits.retry ≤ self.old.current_events.room }
@@ -227,7 +228,7 @@ impl Machine {
     }
 
     /// The active transaction is destroyed, once the retry list was woken, if a block was entered since it was last woken.
-    #[inline]
+    #[inline(always)]
     pub fn place_nowhere(&mut self, tx: Tx)
         requires rests { CanRest self.old tx }
         requires wake { length self.old.waits.retry ≤ self.old.current_events.room }
@@ -278,7 +279,7 @@ impl Machine {
     }
 
     /// The active transaction, of this priority, is refused, and waits on the delay list of an entity, behind its peers.
-    #[inline]
+    #[inline(always)]
     pub fn wait_for(&mut self, entity: u16, tx: Tx, priority: i32) -> Result<(), Memory>
         requires rests { CanRest self.old tx }
         requires rank { priority_of self.old.transactions.txs tx.number ≡ priority }

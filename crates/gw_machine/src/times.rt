@@ -1,12 +1,13 @@
 //! Drawn times and moments.
 
-ghost use Rattle.std.specs.Prelude.{◌≡◌};
+ghost use Rattle.std.specs.Prelude.{◌≡◌, ◌+◌, pos, Ok};
 ghost use Rattle.gw_num.specs.Generator as generator;
 ghost use Rattle.gw_operands.specs.Values as values;
 ghost use Rattle.gw_step.specs.Operands.{MayDraw};
 ghost use Rattle.gw_step.specs.Times as model;
 ghost use Rattle.gw_machine.specs.Coherence.{IsOf};
 ghost use Rattle.gw_machine.specs.Evaluating.{CanEvaluate, valued, outcome_of, drawn, environment_in};
+ghost use Rattle.gw_machine.specs.Spans.{DrawsMoment};
 
 use crate::ends::{end_by, end_by_fault};
 use crate::machine::Machine;
@@ -17,6 +18,28 @@ use gw_operands::PlusEnd;
 use gw_plus::ended_by;
 use gw_rules::Verified;
 use gw_step::End;
+
+/// Times to draw from, each as likely as the others: from a least one to twice a half-range more, in clock units.
+#[derive(Clone, Copy, Debug, PartialEq, Eq)]
+pub struct Span {
+    /// The least time, in clock units.
+    pub least: u32,
+    /// Half of how far the times reach from it, in clock units; where it is 0 nothing is drawn.
+    pub half: u32,
+}
+
+/// A time of a span drawn from a stream, in clock units, and where the stream then is.
+fn time_within(span: Span, stream: Stream) -> (i64, Stream)
+    ensures { generator.drawn_time (pos (span.least + span.half)) (pos span.half) stream ≡ Ok result }
+{
+    let least = i64::from(span.least);
+    if span.half == 0 {
+        return (least, stream);
+    }
+    let mut moved = stream;
+    let drawn = i64::from(moved.next()) % (2 * i64::from(span.half) + 1);
+    (least + drawn, moved)
+}
 
 /// The clock so much later, in clock units. A time below 0, and a moment that an i64 can't hold, are named ends.
 fn moment_after(clock: i64, time: i64) -> Result<i64, End>
@@ -67,6 +90,19 @@ impl Machine {
                 Ok(time)
             }
             Err(fault) => Err(ended_by(fault)),
+        }
+    }
+
+    /// The moment that lies a time of a span after the clock, in clock units, and where the first stream is after its draw;
+    /// or the named end of a moment that an i64 can't hold.
+    #[inline(always)]
+    pub fn moment_within(&self, span: Span) -> Result<(i64, Stream), End>
+        ensures { DrawsMoment result span self.now.clock self.now.streams }
+    {
+        let (time, stream) = time_within(span, self.streams[0]);
+        match add(self.clock, time) {
+            Ok(moment) => Ok((moment, stream)),
+            Err(fault) => Err(end_by_fault(fault)),
         }
     }
 

@@ -1,5 +1,8 @@
 pub mod Fits
 pub mod BlocksWithValue
+pub mod Arriving
+pub mod Origins
+pub mod Waiting
 pub mod Meeting
 pub mod Running
 pub mod Weighing

@@ -1,29 +1,19 @@
--- What each step of a slice makes of a state.
-use Rattle.std.proofs.Common.{◌≡◌, ◌+◌, Option, Some, None, refl, sym, ◌∙◌}
-use Rattle.gw_step.specs.declared.ends.End.{End}
+-- What a budget leaves of a state: its steps, and all of it below the budget.
+use Rattle.std.proofs.Common.{◌≡◌, ℕ, ◌<◌, None, refl, arith}
 use Rattle.gw_step.specs.State.{State}
-use Rattle.gw_step.specs.Job.{Job}
-use Rattle.gw_step.proofs.LeftByEnds.{steps_are_counted}
-use Rattle.gw_scan.specs.declared.sim.Status.{Status}
-use Rattle.gw_scan.specs.declared.sim.Status.TheVariants.{Running, Ended}
-use Rattle.gw_scan.specs.Answers.{status_at, AnswersFrom, Answers}
+use Rattle.gw_step.specs.Step.{within_budget}
+use Rattle.gw_step.proofs.Steps.{by_budget}
 
--- what a step of a running job leaves
-pub record IsStepped (status : Status) (s t : State) : Type 0 where
-  pub steps : t.steps ≡ s.steps + 1
-  pub status_is : status ≡ status_at t.ended
+module _ (budget : ℕ) (s : State) where
+  pub below_budget : s.steps < budget → within_budget budget s ≡ s
+  below_budget below = by_budget (λ (v : State). v ≡ s) budget s (λ _ same. absurd (none same)) (λ _. refl)
+    where
+      none : s.steps ≡ budget → ⊥
+      none same = omega (arith, below, same)
 
-from_running : (o : Option End) (status : Status) (j : Job) (s t : State) → o ≡ None → AnswersFrom o status j s t → IsStepped status s t
-from_running None Running j s t is h = record { steps = steps_are_counted j s t h.0; status_is = rw h.1 refl }
-from_running None (Ended end) j s t is h = record { steps = steps_are_counted j s t h.0; status_is = rw h.1 refl }
-from_running (Some end) status j s t is h = absurd cc
+  pub steps_stay : (within_budget budget s).steps ≡ s.steps
+  steps_stay = by_budget (λ (v : State). v.steps ≡ s.steps) budget s (λ _ _. refl) (λ _. refl)
 
-pub one_step : (status : Status) (j : Job) (s t : State) → s.ended ≡ None → Answers status j s t → IsStepped status s t
-one_step status j s t is h = from_running s.ended status j s t is h
-
-runs : (o : Option End) → status_at o ≡ Running → o ≡ None
-runs None h = refl
-runs (Some end) h = absurd cc
-
-pub is_running : (status : Status) (s : State) → status ≡ status_at s.ended → status ≡ Running → s.ended ≡ None
-is_running status s is h = runs s.ended (sym is ∙ h)
+  -- what runs then has run before
+  pub ran : (within_budget budget s).ended ≡ None → s.ended ≡ None
+  ran = by_budget (λ (v : State). v.ended ≡ None → s.ended ≡ None) budget s (λ runs _ _. runs) (λ _ runs. runs)

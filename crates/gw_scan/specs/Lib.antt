@@ -6,6 +6,7 @@ pub mod Makes
 pub mod Visiting
 pub mod Trying
 -- WHAT A JOB AND A SIM STAND FOR
+pub mod Origins
 pub mod JobView
 pub mod SimView
 pub mod Views

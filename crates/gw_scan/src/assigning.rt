@@ -7,8 +7,10 @@ ghost use Rattle.gw_step.specs.Blocks as model;
 ghost use Rattle.gw_machine.specs.Coherence.{HasSlot};
 ghost use Rattle.gw_machine.specs.Leaving.{BecomesBy};
 ghost use Rattle.gw_scan.specs.Makes.{MakesFrom};
+ghost use Rattle.gw_scan.specs.Origins.{assign_of, save_of};
 ghost use Rattle.gw_scan.specs.Visiting.{Acts, IsVisit, MayFall, Meets, after_entry, entry_after};
 
+use crate::decoding::{AssignConstant, SaveConstant};
 use crate::visit::Visit;
 use gw_blocks::{Assign, Block, Logic, Loop, Mode, Plus, Save};
 use gw_machine::{Machine, Made, end_by, end_by_fault};
@@ -76,6 +78,21 @@ impl Visit<'_> {
         Made::Step
     }
 
+    /// ASSIGN of a constant.
+    pub(crate) fn assign_constant(&self, machine: &mut Machine, assign: AssignConstant) -> Made
+        requires { Meets self.now machine.old (Block.Assign (assign_of assign)) }
+        ensures { Acts result self.now (Block.Assign (assign_of assign)) machine.old machine.new }
+    {
+        let old = machine.parameter_or_zero(self.tx, assign.parameter);
+        let new = match put_by(assign.mode, old, assign.value) {
+            Ok(new) => new,
+            Err(fault) => return Made::Ends(end_by_fault(fault)),
+        };
+        let next = self.transaction.next + 1;
+        self.assign_and_enter(machine, next, assign.parameter, new);
+        Made::Step
+    }
+
     /// LOOP: a parameter of the transaction falls by one, and while it is above 0 the transaction goes to a block.
     pub(crate) fn loop_back(&self, machine: &mut Machine, l: Loop) -> Made
         requires { Meets self.now machine.old (Block.Loop l) }
@@ -94,6 +111,7 @@ impl Visit<'_> {
     // MARK TIMES
 
     /// MARK with no parameter: the transaction enters, and its mark time is the clock.
+    #[inline(always)]
     pub(crate) fn mark(&self, machine: &mut Machine) -> Made
         requires { Meets self.now machine.old (Block.Mark None) }
         ensures { Acts result self.now (Block.Mark None) machine.old machine.new }
@@ -185,6 +203,21 @@ impl Visit<'_> {
             Err(fault) => return Made::Ends(end_by_fault(fault)),
         };
         machine.set_streams(&streams);
+        machine.set_savevalue(save.savevalue, new);
+        machine.enter_as_found(self.tx, self.transaction, self.transaction.next + 1);
+        Made::Step
+    }
+
+    /// SAVEVALUE with a constant.
+    pub(crate) fn save_constant(&self, machine: &mut Machine, save: SaveConstant) -> Made
+        requires { Meets self.now machine.old (Block.Savevalue (save_of save)) }
+        ensures { Acts result self.now (Block.Savevalue (save_of save)) machine.old machine.new }
+    {
+        let old = machine.savevalues().get(save.savevalue);
+        let new = match put_by(save.mode, old, save.value) {
+            Ok(new) => new,
+            Err(fault) => return Made::Ends(end_by_fault(fault)),
+        };
         machine.set_savevalue(save.savevalue, new);
         machine.enter_as_found(self.tx, self.transaction, self.transaction.next + 1);
         Made::Step

@@ -1,9 +1,10 @@
 //! What the active transaction does at its next block.
 #![tactic(auto, unfolding(gw_step::specs::Blocks::act, gw_step::specs::Blocks::effect))]
 
-ghost use Rattle.std.specs.Prelude.{◌≡◌, ◌≤◌, ◌<◌, ◌+◌, pos, ◌≤ℤ◌, [], true, length};
+ghost use Rattle.std.specs.Prelude.{◌≡◌, ◌≤◌, ◌<◌, ◌+◌, pos, ◌≤ℤ◌, [], true, length, map};
 ghost use Rattle.gw_num.specs.Table.{at};
 ghost use Rattle.gw_entities.specs.Facility.{is_idle as is_idle_now};
+ghost use Rattle.gw_operands.specs.Values.{with_first};
 ghost use Rattle.gw_step.specs.State as state;
 ghost use Rattle.gw_step.specs.Changes as change;
 ghost use Rattle.gw_step.specs.Blocks as model;
@@ -11,12 +12,15 @@ ghost use Rattle.gw_step.specs.Step as steps;
 ghost use Rattle.gw_step.specs.Placing.{placed};
 ghost use Rattle.gw_machine.specs.View.{state_of};
 ghost use Rattle.gw_machine.specs.Leaving.{BecomesBy, BecomesOnOk};
+ghost use Rattle.gw_machine.specs.Spans.{spread_of};
+ghost use Rattle.gw_scan.specs.Origins.{generate_of, origin};
 ghost use Rattle.gw_scan.specs.Makes.{MakesOnOk};
 ghost use Rattle.gw_scan.specs.Visiting.{Acts, ActsOnOk, IsEntering, IsVisit, MayMake, Meets, after_entry, after_fall, with_mark};
 
+use crate::decoding::{Arrivals, Decoded, decoded_at};
 use crate::visit::{Visit, blocks_of};
 use gw_blocks::{Block, Both, Fraction, Generate, Operand, Spread, Units};
-use gw_machine::{Machine, Made, active_subject, block_of, drawn_thousandths, end_by};
+use gw_machine::{Machine, Made, Span, active_subject, drawn_thousandths, end_by};
 use gw_members::Memory;
 use gw_num::Stream;
 use gw_step::{End, Placement};
@@ -76,6 +80,74 @@ impl Visit<'_> {
             return Ok(Made::Ends(End::Live));
         }
         self.generate_and_arrive(machine, g.priority, moment, &streams)?;
+        Ok(Made::Step)
+    }
+
+    /// GENERATE, with the next arrival at a moment, after whose draw the first stream is here.
+    fn enter_and_arrive(
+        &self,
+        machine: &mut Machine,
+        priority: i32,
+        moment: i64,
+        stream: Stream,
+    ) -> Result<(), Memory>
+        requires { IsVisit self.now machine.old }
+        ensures { BecomesOnOk result (λ s. after_fall (with_mark s.clock self.now)
+            (change.arrives self.now.transaction.next priority moment
+            (state.with_streams (with_first stream s.streams) s)))
+            machine.old machine.new }
+    {
+        let unset = machine.reserve_arrival()?;
+        machine.set_first_stream(stream);
+        machine.arrive(self.transaction.next, priority, moment, unset);
+        machine.enter_marked(self.tx, self.transaction);
+        Ok(())
+    }
+
+    /// GENERATE that owes an arrival, whose interval is of constants.
+    fn arrive_within(&self, machine: &mut Machine, g: Arrivals) -> Result<Made, Memory>
+        requires meets { Meets self.now machine.old (Block.Generate (generate_of g)) }
+        requires owed { model.is_owed g.limit
+            (at 0 machine.old.scheduled self.now.transaction.next) ≡ true }
+        ensures { ActsOnOk result self.now (Block.Generate (generate_of g))
+            machine.old machine.new }
+    {
+        let (moment, stream) = match machine.moment_within(g.interval) {
+            Ok(drawn) => drawn,
+            Err(end) => return Ok(Made::Ends(end)),
+        };
+        if !machine.may_live(1) {
+            return Ok(Made::Ends(End::Live));
+        }
+        self.enter_and_arrive(machine, g.priority, moment, stream)?;
+        Ok(Made::Step)
+    }
+
+    /// GENERATE whose interval is of constants: the transaction enters the model, and the next arrival is scheduled, if one
+    /// is owed.
+    fn generate_within(&self, machine: &mut Machine, g: Arrivals) -> Result<Made, Memory>
+        requires { Meets self.now machine.old (Block.Generate (generate_of g)) }
+        ensures { ActsOnOk result self.now (Block.Generate (generate_of g))
+            machine.old machine.new }
+    {
+        if !machine.owes(self.transaction.next, g.limit) {
+            machine.enter_marked(self.tx, self.transaction);
+            return Ok(Made::Step);
+        }
+        self.arrive_within(machine, g)
+    }
+
+    /// ADVANCE by constants: the transaction rests for a time of a span; where that is 0 it stays active.
+    fn advance_within(&self, machine: &mut Machine, span: Span) -> Result<Made, Memory>
+        requires { Meets self.now machine.old (Block.Advance (spread_of span)) }
+        ensures { ActsOnOk result self.now (Block.Advance (spread_of span))
+            machine.old machine.new }
+    {
+        let (moment, stream) = match machine.moment_within(span) {
+            Ok(drawn) => drawn,
+            Err(end) => return Ok(Made::Ends(end)),
+        };
+        self.pass_until_after(machine, stream, moment)?;
         Ok(Made::Step)
     }
 
@@ -166,12 +238,26 @@ impl Visit<'_> {
         machine.admit(blocks_of(self.verified), e);
     }
 
+    /// LEAVE where nobody waits: units are given back.
+    fn leave_alone(&self, machine: &mut Machine, u: Units) -> Made
+        requires meets { Meets self.now machine.old (Block.Leave u) }
+        requires nobody { length (at [] machine.old.waits.lists u.entity) ≡ 0 }
+        ensures { Acts result self.now (Block.Leave u) machine.old machine.new }
+    {
+        machine.give_back(u);
+        machine.enter_as_found(self.tx, self.transaction, self.transaction.next + 1);
+        Made::Step
+    }
+
     /// LEAVE: units are given back, and waiters are admitted.
     fn leave(&self, machine: &mut Machine, u: Units) -> Result<Made, Memory>
         requires { Meets self.now machine.old (Block.Leave u) }
         ensures { ActsOnOk result self.now (Block.Leave u) machine.old machine.new }
     {
         let waiting = machine.waiting(u.entity);
+        if waiting == 0 {
+            return Ok(self.leave_alone(machine, u));
+        }
         machine.reserve_current(waiting)?;
         machine.give_back(u);
         self.pass_and_admit(machine, u.entity);
@@ -259,6 +345,31 @@ impl Visit<'_> {
         Ok(())
     }
 
+    /// The transaction enters its TERMINATE block with no draw, the termination count falls, and it is destroyed.
+    fn enter_and_leave(&self, machine: &mut Machine, by: i64) -> Result<(), Memory>
+        requires visit { IsVisit self.now machine.old }
+        requires by { pos 0 ≤ℤ by }
+        ensures { BecomesOnOk result (λ s. placed self.now.tx.number Placement.LeavesModel
+            (change.counted by (after_entry self.now self.now.transaction.next s)))
+            machine.old machine.new }
+    {
+        machine.reserve_wake()?;
+        machine.enter_as_found(self.tx, self.transaction, self.transaction.next);
+        machine.count_down(by);
+        machine.place_nowhere(self.tx);
+        Ok(())
+    }
+
+    /// TERMINATE by a constant.
+    fn terminate_by(&self, machine: &mut Machine, by: u32) -> Result<Made, Memory>
+        requires { Meets self.now machine.old (Block.Terminate (Operand.Constant (pos by))) }
+        ensures { ActsOnOk result self.now (Block.Terminate (Operand.Constant (pos by)))
+            machine.old machine.new }
+    {
+        self.enter_and_leave(machine, i64::from(by))?;
+        Ok(Made::Step)
+    }
+
     /// TERMINATE: the transaction, which owns nothing, is destroyed, and the termination count falls. Less than 0 is a
     /// named end.
     fn terminate(&self, machine: &mut Machine, by: Operand) -> Result<Made, Memory>
@@ -279,55 +390,62 @@ impl Visit<'_> {
 
     // THE STEP
 
-    /// What the transaction does at its one next block; on Memory, nothing.
+    /// What the transaction does at its one next block, which is among these that are decoded; on Memory, nothing.
     #[inline(always)]
-    pub(crate) fn meet(&self, machine: &mut Machine) -> Result<Made, Memory>
-        requires { MayMake self.now machine.old }
+    pub(crate) fn meet(&self, machine: &mut Machine, decoded: &[Decoded]) -> Result<Made, Memory>
+        requires may { MayMake self.now machine.old }
+        requires table { map origin decoded.now ≡ self.now.verified.now.blocks }
         ensures { MakesOnOk result
             (steps.meets_one self.now.verified.now self.now.tx.number self.now.transaction)
             machine.old machine.new }
     {
-        let block = block_of(blocks_of(self.verified), self.transaction.next).unwrap();
+        let block = decoded_at(decoded, self.transaction.next).unwrap();
         self.act(machine, block)
     }
 
-    /// What the transaction does at its next block, which is this one; on Memory, nothing.
+    /// What the transaction does at its next block, which is the origin of this one; on Memory, nothing.
     #[inline(always)]
-    pub(crate) fn act(&self, machine: &mut Machine, block: &Block) -> Result<Made, Memory>
-        requires { Meets self.now machine.old block.now }
-        ensures { ActsOnOk result self.now block.now machine.old machine.new }
+    pub(crate) fn act(&self, machine: &mut Machine, block: &Decoded) -> Result<Made, Memory>
+        requires { Meets self.now machine.old (origin block.now) }
+        ensures { ActsOnOk result self.now (origin block.now) machine.old machine.new }
     {
         match block {
-            Block::Generate(g) => self.generate(machine, *g),
-            Block::Terminate(by) => self.terminate(machine, *by),
-            Block::Advance(time) => self.advance(machine, *time),
-            Block::Seize(f) => self.seize(machine, *f),
-            Block::Release(f) => self.release(machine, *f),
-            Block::Enter(units) => self.enter_storage(machine, *units),
-            Block::Leave(units) => self.leave(machine, *units),
-            Block::Queue(units) => Ok(self.join_queue(machine, *units)),
-            Block::Depart(units) => Ok(self.depart(machine, *units)),
-            Block::Test(test) => self.test(machine, *test),
-            Block::Gate(gate) => self.gate(machine, *gate),
-            Block::Transfer(target) => Ok(self.transfer(machine, *target)),
-            Block::TransferByFraction(f) => Ok(self.transfer_by_fraction(machine, *f)),
-            Block::TransferBoth(both) => Ok(self.transfer_to_either(machine, *both)),
-            Block::TransferToSubroutine(call) => Ok(self.call_subroutine(machine, *call)),
-            Block::TransferByParameter(p) => Ok(self.come_back(machine, *p)),
-            Block::Assign(assign) => Ok(self.assign(machine, *assign)),
-            Block::Plus(plus) => Ok(self.plus(machine, *plus)),
-            Block::Loop(l) => Ok(self.loop_back(machine, *l)),
-            Block::Split(split) => self.split(machine, *split),
-            Block::Assemble(size) => self.assemble(machine, *size),
-            Block::Link(link) => self.link(machine, *link),
-            Block::Unlink(unlink) => self.unlink(machine, *unlink),
-            Block::Priority(change) => self.set_priority(machine, *change),
-            Block::Buffer => self.buffer(machine),
-            Block::Logic(logic) => Ok(self.logic(machine, *logic)),
-            Block::Savevalue(save) => Ok(self.save(machine, *save)),
-            Block::Tabulate(table) => Ok(self.tabulate(machine, *table)),
-            Block::Mark(None) => Ok(self.mark(machine)),
-            Block::Mark(Some(p)) => Ok(self.mark_parameter(machine, *p)),
+            Decoded::GenerateWithin(arrivals) => self.generate_within(machine, *arrivals),
+            Decoded::AdvanceWithin(span) => self.advance_within(machine, *span),
+            Decoded::TerminateBy(by) => self.terminate_by(machine, *by),
+            Decoded::AssignConstant(assign) => Ok(self.assign_constant(machine, *assign)),
+            Decoded::SavevalueConstant(save) => Ok(self.save_constant(machine, *save)),
+            Decoded::PriorityConstant(change) => self.set_constant_priority(machine, *change),
+            Decoded::Generate(g) => self.generate(machine, *g),
+            Decoded::Terminate(by) => self.terminate(machine, *by),
+            Decoded::Advance(time) => self.advance(machine, *time),
+            Decoded::Seize(f) => self.seize(machine, *f),
+            Decoded::Release(f) => self.release(machine, *f),
+            Decoded::Enter(units) => self.enter_storage(machine, *units),
+            Decoded::Leave(units) => self.leave(machine, *units),
+            Decoded::Queue(units) => Ok(self.join_queue(machine, *units)),
+            Decoded::Depart(units) => Ok(self.depart(machine, *units)),
+            Decoded::Test(test) => self.test(machine, *test),
+            Decoded::Gate(gate) => self.gate(machine, *gate),
+            Decoded::Transfer(target) => Ok(self.transfer(machine, *target)),
+            Decoded::TransferByFraction(f) => Ok(self.transfer_by_fraction(machine, *f)),
+            Decoded::TransferBoth(both) => Ok(self.transfer_to_either(machine, *both)),
+            Decoded::TransferToSubroutine(call) => Ok(self.call_subroutine(machine, *call)),
+            Decoded::TransferByParameter(p) => Ok(self.come_back(machine, *p)),
+            Decoded::Assign(assign) => Ok(self.assign(machine, *assign)),
+            Decoded::Plus(plus) => Ok(self.plus(machine, *plus)),
+            Decoded::Loop(l) => Ok(self.loop_back(machine, *l)),
+            Decoded::Split(split) => self.split(machine, *split),
+            Decoded::Assemble(size) => self.assemble(machine, *size),
+            Decoded::Link(link) => self.link(machine, *link),
+            Decoded::Unlink(unlink) => self.unlink(machine, *unlink),
+            Decoded::Priority(change) => self.set_priority(machine, *change),
+            Decoded::Buffer => self.buffer(machine),
+            Decoded::Logic(logic) => Ok(self.logic(machine, *logic)),
+            Decoded::Savevalue(save) => Ok(self.save(machine, *save)),
+            Decoded::Tabulate(table) => Ok(self.tabulate(machine, *table)),
+            Decoded::Mark(None) => Ok(self.mark(machine)),
+            Decoded::Mark(Some(p)) => Ok(self.mark_parameter(machine, *p)),
         }
     }
 }

@@ -192,8 +192,7 @@ impl Visit<'_> {
         ensures { BecomesOnOk result (placed self.now.tx.number Placement.JoinsRetryList)
             machine.old machine.new }
     {
-        let streams = machine.streams();
-        self.wait_to_retry(machine, &streams)
+        self.wait_to_retry(machine)
     }
 
     /// The transaction turns to the first of its two next blocks that doesn't refuse it: `None`. Else it waits, or the job

@@ -44,12 +44,25 @@ fn led_by(block: u16, otherwise: Option<u16>, so: bool) -> u16
 }
 
 impl Visit<'_> {
-    /// The transaction is refused, with the streams here, and waits on the retry list.
-    pub(crate) fn wait_to_retry(
-        &self,
-        machine: &mut Machine,
-        streams: &[Stream; 16],
-    ) -> Result<(), Memory>
+    /// The transaction is refused, and waits on the retry list.
+    #[inline(never)]
+    pub(crate) fn wait_to_retry(self, machine: &mut Machine) -> Result<(), Memory>
+        requires { IsVisit self machine.old }
+        ensures { BecomesOnOk result (placed self.entry.tx.number Placement.JoinsRetryList)
+            machine.old machine.new }
+    {
+        machine.reserve_rest()?;
+        machine.reserve_retry()?;
+        machine.place(
+            self.tx,
+            self.transaction.priority,
+            Placement::JoinsRetryList,
+        );
+        Ok(())
+    }
+
+    /// The transaction is refused after draws that left the streams here, and waits on the retry list.
+    fn wait_after_draws(&self, machine: &mut Machine, streams: &[Stream; 16]) -> Result<(), Memory>
         requires { IsVisit self.now machine.old }
         ensures { BecomesOnOk result (λ s. placed self.now.tx.number Placement.JoinsRetryList
             (state.with_streams streams.now s)) machine.old machine.new }
@@ -83,7 +96,7 @@ impl Visit<'_> {
             machine.old machine.new }
     {
         if otherwise.is_none() && !so {
-            self.wait_to_retry(machine, streams)?;
+            self.wait_after_draws(machine, streams)?;
             return Ok(Made::Step);
         }
         let target = led_by(self.transaction.next, otherwise, so);
@@ -111,12 +124,18 @@ impl Visit<'_> {
     }
 
     /// GATE: an entity is looked at.
+    #[tactic(auto, unfolding(gw_step::specs::Blocks::act, gw_step::specs::Blocks::effect), using(crate::proofs::Leading::led_by_leads))]
     pub(crate) fn gate(&self, machine: &mut Machine, gate: Gate) -> Result<Made, Memory>
         requires { Meets self.now machine.old (Block.Gate gate) }
         ensures { ActsOnOk result self.now (Block.Gate gate) machine.old machine.new }
     {
-        let streams = machine.streams();
         let so = machine.is_so(gate.condition, gate.entity);
-        self.pass_or_retry(machine, gate.otherwise, so, &streams)
+        if gate.otherwise.is_none() && !so {
+            self.wait_to_retry(machine)?;
+            return Ok(Made::Step);
+        }
+        let target = led_by(self.transaction.next, gate.otherwise, so);
+        machine.enter_as_found(self.tx, self.transaction, target);
+        Ok(Made::Step)
     }
 }

@@ -74,8 +74,7 @@ impl Visit<'_> {
             set: self.transaction.set,
             missing,
         });
-        let streams = machine.streams();
-        self.pass_to(machine, &streams, begins)?;
+        self.pass_to(machine, begins)?;
         Ok(Made::Step)
     }
 

@@ -6,6 +6,7 @@ mod blocks;
 mod both;
 mod conditions;
 mod copying;
+mod decoding;
 mod linking;
 mod passing;
 mod scan;

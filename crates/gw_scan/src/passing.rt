@@ -3,8 +3,10 @@
 
 ghost use Rattle.std.specs.Prelude.{◌≡◌, if◌then◌else◌, IfSome, is_some};
 ghost use Rattle.gw_step.specs.Blocks as model;
+ghost use Rattle.gw_scan.specs.Origins.{priority_of};
 ghost use Rattle.gw_scan.specs.Visiting.{ActsOnOk, Meets};
 
+use crate::decoding::PriorityConstant;
 use crate::visit::Visit;
 use gw_blocks::{Block, Priority};
 use gw_machine::{Machine, Made, end_by};
@@ -54,13 +56,27 @@ impl Visit<'_> {
         Ok(Made::Step)
     }
 
+    /// PRIORITY with a constant.
+    pub(crate) fn set_constant_priority(
+        &self,
+        machine: &mut Machine,
+        change: PriorityConstant,
+    ) -> Result<Made, Memory>
+        requires { Meets self.now machine.old (Block.Priority (priority_of change)) }
+        ensures { ActsOnOk result self.now (Block.Priority (priority_of change))
+            machine.old machine.new }
+    {
+        let placement = rests(change.behind);
+        self.pass_and_rise(machine, change.value, placement)?;
+        Ok(Made::Step)
+    }
+
     /// BUFFER: the transaction lets the others of its priority go first.
     pub(crate) fn buffer(&self, machine: &mut Machine) -> Result<Made, Memory>
         requires { Meets self.now machine.old Block.Buffer }
         ensures { ActsOnOk result self.now Block.Buffer machine.old machine.new }
     {
-        let streams = machine.streams();
-        self.pass_to(machine, &streams, Placement::RestsBehind)?;
+        self.pass_to(machine, Placement::RestsBehind)?;
         Ok(Made::Step)
     }
 }

@@ -1,14 +1,16 @@
 //! The scan: who is active next, and one step.
 
-ghost use Rattle.std.specs.Prelude.{◌≡◌, ◌<◌, ◌^◌, Some, None, false, OnOk, OnErr};
+ghost use Rattle.std.specs.Prelude.{◌≡◌, ◌<◌, ◌^◌, Some, None, false, map, OnOk, OnErr};
 ghost use Rattle.gw_step.specs.Step as model;
 ghost use Rattle.gw_machine.specs.View.{state_of};
 ghost use Rattle.gw_machine.specs.Coherence.{IsRunning};
-ghost use Rattle.gw_scan.specs.Makes.{MakesOnOk};
+ghost use Rattle.gw_scan.specs.Origins.{origin};
+ghost use Rattle.gw_scan.specs.Makes.{MakesOnOk, StepsPastBudget};
 ghost use Rattle.gw_scan.specs.Trying.{MakesOrUndoes};
 ghost use Rattle.gw_scan.specs.Visiting.{IsReady};
 
-use crate::both::{Before, undo};
+use crate::both::{Before, nothing_before, undo};
+use crate::decoding::Decoded;
 use crate::visit::{Visit, blocks_of};
 use gw_blocks::Block;
 use gw_machine::{Machine, Made};
@@ -36,8 +38,14 @@ fn next_active(machine: &mut Machine, blocks: &[Block]) -> Result<Made, Memory>
 }
 
 /// What a step does, but for the count of steps. Where it comes to nothing, what was done has to be undone.
-fn scan(machine: &mut Machine, verified: &Verified, before: &mut Before) -> Result<Made, Memory>
+fn scan(
+    machine: &mut Machine,
+    verified: &Verified,
+    decoded: &[Decoded],
+    before: &mut Before,
+) -> Result<Made, Memory>
     requires ready { IsReady verified.now machine.old }
+    requires table { map origin decoded.now ≡ verified.now.blocks }
     requires before { before.old.turned ≡ false }
     ensures { MakesOrUndoes result (λ s. model.scan verified.now s.lists.active s) before.new
         machine.old machine.new }
@@ -62,27 +70,30 @@ fn scan(machine: &mut Machine, verified: &Verified, before: &mut Before) -> Resu
         tx,
         transaction,
     };
-    onward.meet(machine)
+    onward.meet(machine, decoded)
 }
 
-/// One step of a running job; on Memory nothing changes. What it would have to undo is kept in `before`.
-pub(crate) fn step(
+/// One step of a running job, but that its budget doesn't end it; on Memory nothing changes. What the step would have to undo
+/// is kept in `before`.
+#[inline(always)]
+pub(crate) fn step_past_budget(
     machine: &mut Machine,
     verified: &Verified,
-    budget: u64,
+    decoded: &[Decoded],
     before: &mut Before,
 ) -> Result<(), Memory>
     requires ready { IsReady verified.now machine.old }
+    requires table { map origin decoded.now ≡ verified.now.blocks }
     requires runs { machine.old.ended ≡ None }
     requires few { machine.old.steps < 2 ^ 60 }
-    ensures made { OnOk result
-        (model.step verified.now budget (state_of machine.old) ≡ Some (state_of machine.new)) }
+    ensures made { OnOk result (StepsPastBudget verified.now
+        (state_of machine.old) (state_of machine.new)) }
     ensures slots { machine.new.last ≡ machine.old.last }
     ensures err { OnErr result (state_of machine.new ≡ state_of machine.old) }
 {
     before.turned = false;
-    match scan(machine, verified, before) {
-        Ok(Made::Step) => machine.count_step(budget),
+    match scan(machine, verified, decoded, before) {
+        Ok(Made::Step) => machine.add_step(),
         Ok(Made::Ends(end)) => {
             undo(machine, before);
             machine.end_by(end);
@@ -92,5 +103,27 @@ pub(crate) fn step(
             return Err(memory);
         }
     }
+    Ok(())
+}
+
+/// One step of a running job; on Memory nothing changes.
+pub(crate) fn step(
+    machine: &mut Machine,
+    verified: &Verified,
+    decoded: &[Decoded],
+    budget: u64,
+) -> Result<(), Memory>
+    requires ready { IsReady verified.now machine.old }
+    requires table { map origin decoded.now ≡ verified.now.blocks }
+    requires runs { machine.old.ended ≡ None }
+    requires few { machine.old.steps < 2 ^ 60 }
+    ensures made { OnOk result
+        (model.step verified.now budget (state_of machine.old) ≡ Some (state_of machine.new)) }
+    ensures slots { machine.new.last ≡ machine.old.last }
+    ensures err { OnErr result (state_of machine.new ≡ state_of machine.old) }
+{
+    let mut before = nothing_before(machine.streams());
+    step_past_budget(machine, verified, decoded, &mut before)?;
+    machine.end_at_budget(budget);
     Ok(())
 }

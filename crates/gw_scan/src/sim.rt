@@ -7,7 +7,6 @@ ghost use Rattle.gw_step.specs.State.{delay_list, user_chain};
 ghost use Rattle.gw_step.specs.Job.{Alone, IsFinal, start_of};
 ghost use Rattle.gw_step.specs.Weight.{weight, most_weight};
 
-use crate::both::{Before, nothing_before};
 use crate::scan::step;
 use crate::spec::{Spec, StartFault};
 use crate::weight::certified_weight;
@@ -32,8 +31,6 @@ pub enum Status {
 pub struct Sim {
     pub(crate) spec: Spec,
     pub(crate) machine: Machine,
-    /// What a step has to undo where it comes to nothing; between steps it says nothing.
-    before: Before,
 }
 
 impl Model for Sim {
@@ -60,14 +57,7 @@ impl Sim {
         ensures refused { IfErr result (λ e. (e.0 ≡ spec) × (e.1 ≡ StartFault.Memory)) }
     {
         match Machine::start(alloc, spec.verified(), spec.count(), spec.streams()) {
-            Ok(machine) => {
-                let before = nothing_before(machine.streams());
-                Ok(Sim {
-                    spec,
-                    machine,
-                    before,
-                })
-            }
+            Ok(machine) => Ok(Sim { spec, machine }),
             Err(_) => Err((spec, StartFault::Memory)),
         }
     }
@@ -91,7 +81,8 @@ impl Sim {
         }
         let verified = self.spec.verified();
         let budget = self.spec.budget();
-        step(&mut self.machine, verified, budget, &mut self.before)?;
+        let decoded = self.spec.decoded();
+        step(&mut self.machine, verified, decoded, budget)?;
         Ok(self.status())
     }
 

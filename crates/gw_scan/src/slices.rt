@@ -1,10 +1,16 @@
 //! Slices: many steps of a job in one call.
 
-ghost use Rattle.std.specs.Prelude.{◌≡◌, ◌+◌, ◌≤◌, IfOk, is_some};
+ghost use Rattle.std.specs.Prelude.{◌≡◌, ◌+◌, ◌≤◌, ◌^◌, min, IfOk, OnOk, is_some, None};
+ghost use Rattle.gw_machine.specs.Slots.{greatest_set};
 ghost use Rattle.gw_step.specs.Job.{IsReached};
-ghost use Rattle.gw_scan.specs.Answers.{Advances, IsSlice, MakesSlice, StaysPaid, status_at};
+ghost use Rattle.gw_scan.specs.Answers.{Advances, IsSlice, MakesSlice, StaysPaid};
+ghost use Rattle.gw_scan.specs.SimView.{progress_on};
 
-use crate::sim::{Sim, Status};
+use crate::both::nothing_before;
+use crate::scan::step_past_budget;
+use crate::sim::Sim;
+use crate::spec::Spec;
+use gw_machine::Machine;
 use gw_members::Memory;
 
 /// What a slice came to.
@@ -16,19 +22,52 @@ pub struct Slice {
     pub ended: bool,
 }
 
-/// Makes so many steps of a job that stands so, or fewer where it is ended then. On `Memory` the steps made before stand.
-fn run(sim: &mut Sim, mut status: Status, steps: u32) -> Result<Slice, Memory>
-    requires status { status ≡ status_at sim.old.state.ended }
-    requires reached { IsReached sim.old }
-    ensures made { IfOk result (MakesSlice steps sim.old sim.new) }
-    ensures advances { Advances steps sim.old sim.new }
+/// How many steps a job has made at the most after so many more, where it has made `first`: its budget allows no more.
+fn most_after(first: u64, steps: u32, budget: u64) -> u64
+    requires { first ≤ 2 ^ 40 }
+    ensures { result ≡ min (first + steps) budget }
 {
-    let mut made = 0;
-    while made < steps && status == Status::Running {
-        status = sim.step()?;
-        made += 1;
+    (first + u64::from(steps)).min(budget)
+}
+
+/// Makes steps of a job until it has made so many in all, which its budget allows, or is ended. On `Memory` the steps made
+/// before stand.
+fn run_until(spec: &Spec, machine: &mut Machine, until: u64) -> Result<(), Memory>
+    requires reached { IsReached (progress_on spec.now machine.old) }
+    requires slots { machine.old.last ≡ greatest_set spec.now.parts.blocks }
+    requires later { machine.old.steps ≤ until }
+    requires allowed { until ≤ spec.now.budget }
+    ensures all { OnOk result (machine.new.ended ≡ None → machine.new.steps ≡ until) }
+    ensures reached { IsReached (progress_on spec.now machine.new) }
+    ensures slots { machine.new.last ≡ machine.old.last }
+    ensures rise { machine.old.steps ≤ machine.new.steps }
+    ensures most { machine.new.steps ≤ until }
+{
+    let verified = spec.verified();
+    let decoded = spec.decoded();
+    let mut before = nothing_before(machine.streams());
+    while machine.steps() < until && machine.ended().is_none() {
+        step_past_budget(machine, verified, decoded, &mut before)?;
     }
-    let ended = status != Status::Running;
+    machine.end_at_budget(spec.budget());
+    Ok(())
+}
+
+/// Makes so many steps of a job, or fewer where it is ended then. On `Memory` the steps made before stand.
+fn run(spec: &Spec, machine: &mut Machine, steps: u32) -> Result<Slice, Memory>
+    requires reached { IsReached (progress_on spec.now machine.old) }
+    requires slots { machine.old.last ≡ greatest_set spec.now.parts.blocks }
+    ensures made { IfOk result (MakesSlice steps
+        (progress_on spec.now machine.old) (progress_on spec.now machine.new)) }
+    ensures advances { Advances steps
+        (progress_on spec.now machine.old) (progress_on spec.now machine.new) }
+    ensures slots { machine.new.last ≡ machine.old.last }
+{
+    let first = machine.steps();
+    let until = most_after(first, steps, spec.budget());
+    run_until(spec, machine, until)?;
+    let made = (machine.steps() - first) as u32;
+    let ended = machine.ended().is_some();
     Ok(Slice { made, ended })
 }
 
@@ -47,7 +86,6 @@ impl Sim {
         ensures reached { IsReached self.new }
         ensures moment { StaysPaid self.old self.new }
     {
-        let status = self.status();
-        run(self, status, steps)
+        run(&self.spec, &mut self.machine, steps)
     }
 }

@@ -1,10 +1,14 @@
 //! What a job runs.
 
-ghost use Rattle.std.specs.Prelude.{◌≡◌, ◌≤◌, ◌<◌, nat_le, slice_index_or, Decides, IfOk, IfErr, None};
+ghost use Rattle.std.specs.Prelude.{◌≡◌, ◌≤◌, ◌<◌, map, nat_le, slice_index_or, Decides, IfOk, IfErr, None};
+ghost use Rattle.std.specs.Arc.{arc_value};
 ghost use Rattle.std.specs.List.{All, list_all};
 ghost use Rattle.gw_step.specs.Job as job;
+ghost use Rattle.gw_scan.specs.Origins.{origin};
 ghost use Rattle.gw_scan.specs.Making as model;
 
+use crate::decoding::{Decoded, decode_all};
+use gw_blocks::Block;
 use gw_members::Memory;
 use gw_num::Stream;
 use gw_object::{GREATEST_SEED, MOST_SEEDS, Parts};
@@ -34,6 +38,8 @@ const GREATEST: u64 = 1 << 40;
 #[derive(Debug, Drop)]
 pub struct Spec {
     verified: Arc<Verified, Global>,
+    // Its blocks, decoded.
+    decoded: Arc<Vec<Decoded>, Global>,
     streams: [Stream; 16],
     count: u64,
     budget: u64,
@@ -129,6 +135,17 @@ fn fault_of(seeds: &[u32], count: u64, budget: u64) -> Option<StartFault>
     }
 }
 
+/// These blocks, decoded, to be shared by specs.
+fn shared_blocks(alloc: Global, blocks: &[Block]) -> Result<Arc<Vec<Decoded>, Global>, Memory>
+    ensures { IfOk result (λ shared. map origin (arc_value shared).items ≡ blocks.now) }
+{
+    let decoded = decode_all(alloc, blocks)?;
+    match Arc::new(alloc, decoded) {
+        Ok(shared) => Ok(shared),
+        Err(_) => Err(Memory),
+    }
+}
+
 impl Spec {
     ghost use Rattle.gw_rules.specs.Accepted.{Checked};
     ghost use Rattle.gw_step.specs.Job.{JobFits};
@@ -158,9 +175,14 @@ impl Spec {
         let parts = verified.object().parts();
         let streams = streams_of(seeds_or(seeds, parts.seeds.as_slice()));
         let count = count_or(count, parts.count);
+        let decoded = match shared_blocks(alloc, parts.blocks.as_slice()) {
+            Ok(decoded) => decoded,
+            Err(_) => return Err((verified, StartFault::Memory)),
+        };
         match Arc::new(alloc, verified) {
             Ok(verified) => Ok(Spec {
                 verified,
+                decoded,
                 streams,
                 count,
                 budget,
@@ -175,8 +197,10 @@ impl Spec {
         ensures { IfOk result (λ spec. spec ≡ self.now) }
     {
         let verified = Arc::try_clone(&self.verified)?;
+        let decoded = Arc::try_clone(&self.decoded)?;
         Ok(Spec {
             verified,
+            decoded,
             streams: self.streams,
             count: self.count,
             budget: self.budget,
@@ -189,6 +213,13 @@ impl Spec {
         ensures fits { JobFits self.now }
     {
         &self.verified
+    }
+
+    /// The blocks of its object, decoded.
+    pub(crate) fn decoded(&self) -> &[Decoded]
+        ensures { map origin result.now ≡ self.now.parts.blocks }
+    {
+        self.decoded.as_slice()
     }
 
     /// The parts of its object.

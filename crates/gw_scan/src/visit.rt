@@ -2,6 +2,7 @@
 
 ghost use Rattle.std.specs.Prelude.{◌≡◌, ◌≤◌, ◌<◌, length};
 ghost use Rattle.gw_operands.specs.Values as values;
+ghost use Rattle.gw_operands.specs.Values.{with_first};
 ghost use Rattle.gw_step.specs.Blocks as model;
 ghost use Rattle.gw_step.specs.Operands.{MayEvaluate};
 ghost use Rattle.gw_step.specs.Placing.{placed};
@@ -39,6 +40,7 @@ pub(crate) fn blocks_of(verified: &Verified) -> &[Block]
 }
 
 /// The active transaction rests until a moment; where that is now it stays active.
+#[inline(always)]
 fn rest_until(machine: &mut Machine, tx: Tx, moment: i64)
     requires rests { CanRest machine.old tx }
     requires wake { length machine.old.waits.retry ≤ machine.old.current_events.room }
@@ -91,19 +93,35 @@ impl Visit<'_> {
         Ok(())
     }
 
-    /// The transaction enters its next block with the streams here, and is then placed.
-    pub(crate) fn pass_to(
+    /// The transaction enters its next block with this priority and no draw, and is then placed.
+    pub(crate) fn pass_and_rise(
         &self,
         machine: &mut Machine,
-        streams: &[Stream; 16],
+        priority: i32,
         placement: Placement,
     ) -> Result<(), Memory>
         requires visit { IsVisit self.now machine.old }
         requires there { CanBePlaced placement machine.old }
-        ensures { PassesOnOk result self.now streams.now placement machine.old machine.new }
+        ensures { PassesOnOk result (with_priority priority self.now) machine.old.streams placement
+            machine.old machine.new }
     {
-        let priority = self.transaction.priority;
-        self.pass_with_priority(machine, priority, streams, placement)
+        machine.reserve_rest()?;
+        machine.enter_with_priority(self.tx, self.transaction, priority);
+        machine.place(self.tx, priority, placement);
+        Ok(())
+    }
+
+    /// The transaction enters its next block, and is then placed.
+    pub(crate) fn pass_to(&self, machine: &mut Machine, placement: Placement) -> Result<(), Memory>
+        requires visit { IsVisit self.now machine.old }
+        requires there { CanBePlaced placement machine.old }
+        ensures { PassesOnOk result self.now machine.old.streams placement
+            machine.old machine.new }
+    {
+        machine.reserve_rest()?;
+        machine.enter_as_found(self.tx, self.transaction, self.transaction.next + 1);
+        machine.place(self.tx, self.transaction.priority, placement);
+        Ok(())
     }
 
     /// The transaction enters its next block with the streams here, and rests until a moment; where that is now it stays
@@ -120,6 +138,25 @@ impl Visit<'_> {
     {
         machine.reserve_time()?;
         machine.set_streams(streams);
+        machine.enter_as_found(self.tx, self.transaction, self.transaction.next + 1);
+        rest_until(machine, self.tx, moment);
+        Ok(())
+    }
+
+    /// The transaction enters its next block after a draw, with the first stream here, and rests until a moment; where that is
+    /// now it stays active.
+    pub(crate) fn pass_until_after(
+        &self,
+        machine: &mut Machine,
+        stream: Stream,
+        moment: i64,
+    ) -> Result<(), Memory>
+        requires { IsVisit self.now machine.old }
+        ensures { PassesOnOk result self.now (with_first stream machine.old.streams)
+            (model.until machine.old.clock moment) machine.old machine.new }
+    {
+        machine.reserve_time()?;
+        machine.set_first_stream(stream);
         machine.enter_as_found(self.tx, self.transaction, self.transaction.next + 1);
         rest_until(machine, self.tx, moment);
         Ok(())

@@ -8,16 +8,16 @@ use Rattle.gw_step.specs.Job.{JobFits, streams_of}
 use Rattle.gw_scan.proofs.Fits.{in_range, seeds-within, length-streams, streams_fit, count-within}
 use Rattle.gw_scan.proofs.spec.Spec.new.Goals as goal
 
-spelled : (c : goal.In-Ok) → HasSpelling c.args.verified
+spelled : (c : goal.In-Ok-new) → HasSpelling c.args.verified
 spelled c = rw c.object.ensures.value at c.parts-parts.ensures.limits
 
-none : (c : goal.In-Ok) → spec_fault c.args.seeds.now c.args.count c.args.budget ≡ None
+none : (c : goal.In-Ok-new) → spec_fault c.args.seeds.now c.args.count c.args.budget ≡ None
 none c = search rules
 
-made : (c : goal.In-Ok) → c.streams_of-streams.result ≡ streams_of (seeds_or c.args.seeds.now c.args.verified.seeds)
+made : (c : goal.In-Ok-new) → c.streams_of-streams.result ≡ streams_of (seeds_or c.args.seeds.now c.args.verified.seeds)
 made c = search rules
 
-counts : (c : goal.In-Ok) → (0 < c.count_or-count.result) × (c.count_or-count.result ≤ 2 ^ 40)
+counts : (c : goal.In-Ok-new) → (0 < c.count_or-count.result) × (c.count_or-count.result ≤ 2 ^ 40)
 counts c =
     let e : c.count_or-count.result ≡ count_or c.args.count c.args.verified.count = search rules in
     let range = in_range c.args.seeds.now c.args.count c.args.budget (none c) in
@@ -25,7 +25,7 @@ counts c =
     subst (λ (n : ℕ). (0 < n) × (n ≤ 2 ^ 40)) (sym e) (count-within c.args.count c.args.verified.count range.1 limits.count_least limits.count_most)
 
 -- the job of the object that was handed in
-fits : (c : goal.In-Ok) → JobFits (record { parts = c.args.verified; streams = c.streams_of-streams.result; count = c.count_or-count.result; budget = c.args.budget })
+fits : (c : goal.In-Ok-new) → JobFits (record { parts = c.args.verified; streams = c.streams_of-streams.result; count = c.count_or-count.result; budget = c.args.budget })
 fits c =
     let seeds = seeds_or c.args.seeds.now c.args.verified.seeds in
     let range = in_range c.args.seeds.now c.args.count c.args.budget (none c) in
@@ -43,4 +43,7 @@ fits c =
     }
 
 pub invariant_of-result : goal.invariant_of-result
-invariant_of-result c = subst (λ (p : Parts). JobFits (record { parts = p; streams = c.streams_of-streams.result; count = c.count_or-count.result; budget = c.args.budget })) (sym c.in-Ok.ensures.ok) (fits c)
+invariant_of-result c = record {
+  fits = subst (λ (p : Parts). JobFits (record { parts = p; streams = c.streams_of-streams.result; count = c.count_or-count.result; budget = c.args.budget })) (sym c.in-Ok-new.ensures.ok) (fits c);
+  decoded = search rules;
+}
