@@ -1,5 +1,5 @@
 -- A list in chunks: where a newcomer belongs, and what changes of it where one chunk does.
-use Rattle.std.proofs.Common.{◌≡◌, ◌∙◌, Option, ℕ, zero, suc, ◌+◌, ◌-◌, ◌<◌, ◌≤◌, List, [], ◌∷◌, ◌++◌, length, take, drop, set, get_or, Bool, true, false, true≢false, refl, sym, ap, subst, arith, append_assoc, inl, inr}
+use Rattle.std.proofs.Common.{◌≡◌, ◌∙◌, Option, None, ℕ, zero, suc, ◌+◌, ◌-◌, ◌<◌, ◌≤◌, List, [], ◌∷◌, ◌++◌, length, take, drop, set, get_or, Bool, true, false, true≢false, refl, sym, ap, subst, arith, append_assoc, inl, inr}
 use Rattle.std.specs.Prelude.{insert, All, AllPairs}
 use Rattle.std.specs.List.{AllByRecursion}
 use Rattle.std.specs.List.Sorted.{IsPartitionedBy}
@@ -11,7 +11,7 @@ use Rattle.std.proofs.Math.ListN.{get_or-append}
 use Rattle.std.proofs.Math.Seq.{get_or-append_seam}
 use Rattle.gw_chains.specs.Newcomers.{host, with_newcomer, IsHostLast}
 use Rattle.gw_chains.specs.Chunks.{all_of, begins_in, IsChunk}
-use Rattle.gw_chains.proofs.Newcoming.{newcomer_past, newcomer_within, host_past, host_within}
+use Rattle.gw_chains.proofs.Newcoming.{newcomer_past, newcomer_first, newcomer_within, host_past, host_first, host_within}
 
 module _ {A : Type 0} (p : A → Bool) where
   -- a list begins as its first does
@@ -46,7 +46,7 @@ module _ {A : Type 0} (R : A → A → Type 0) where
 
 module _ {A : Type 0} (goes : A → A → Bool) (x : A) where
   -- where one goes first, all before it do, and none of them takes a newcomer in
-  all_before : (front : List A) (z : A) (zs : List A) → IsPartitionedBy (λ y. goes y x) (front ++ z ∷ zs) → IsHostLast goes x (front ++ z ∷ zs) → goes z x ≡ true → AllByRecursion (λ y. (goes y x ≡ true) × (goes x y ≡ false)) front
+  pub all_before : (front : List A) (z : A) (zs : List A) → IsPartitionedBy (λ y. goes y x) (front ++ z ∷ zs) → IsHostLast goes x (front ++ z ∷ zs) → goes z x ≡ true → AllByRecursion (λ y. (goes y x ≡ true) × (goes x y ≡ false)) front
   all_before [] z zs parts last passes = tt
   all_before (y ∷ ys) z zs parts last passes =
       let there : goes (get_or (ys ++ z ∷ zs) (length ys) z) x ≡ true = ap (λ w. goes w x) (get_or-append_seam ys z zs z) ∙ passes in
@@ -201,3 +201,14 @@ module _ {X Z : Type 0} where
     pub host_inserted : (cs : List (VecDeque X Z)) (i n : ℕ) (found : Option X) → Chosen cs i n → ((d : VecDeque X Z) → found ≡ host goes x (get_or cs i d).items) → found ≡ host goes x (all_of cs)
     host_inserted [] i n found chosen is = absurd (omega (arith, chosen.within))
     host_inserted (c ∷ cs) i n found chosen is = is c ∙ host_in (c ∷ cs) i c (chosen_belongs (c ∷ cs) i n c chosen)
+
+    -- a newcomer goes ahead of all where it does so of those in the first chunk
+    none_before : (cs : List (VecDeque X Z)) → 0 < length cs → All IsChunk cs → ((d : VecDeque X Z) → begins_in (λ y. goes y x) (get_or cs 0 d).items ≡ false) → begins_in (λ y. goes y x) (all_of cs) ≡ false
+    none_before [] some chunks ahead = absurd (omega (arith, some))
+    none_before (c ∷ cs) some chunks ahead = back_begins (λ y. goes y x) (c ∷ cs) 0 c chunks (λ below. ahead c)
+
+    pub host_ahead : (cs : List (VecDeque X Z)) → 0 < length cs → All IsChunk cs → ((d : VecDeque X Z) → begins_in (λ y. goes y x) (get_or cs 0 d).items ≡ false) → None ≡ host goes x (all_of cs)
+    host_ahead cs some chunks ahead = sym (host_first goes x (all_of cs) (none_before cs some chunks ahead))
+
+    pub newcomer_ahead : (unite : X → X → X) (cs : List (VecDeque X Z)) → 0 < length cs → All IsChunk cs → ((d : VecDeque X Z) → begins_in (λ y. goes y x) (get_or cs 0 d).items ≡ false) → x ∷ all_of cs ≡ with_newcomer goes unite x (all_of cs)
+    newcomer_ahead unite cs some chunks ahead = sym (newcomer_first goes x unite (all_of cs) (none_before cs some chunks ahead))

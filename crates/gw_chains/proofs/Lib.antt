@@ -3,6 +3,7 @@ pub mod Places
 pub mod Newcoming
 pub mod Slices
 pub mod Chunking
+pub mod Known
 pub mod Linking
 pub mod Gaining
 pub mod Joining

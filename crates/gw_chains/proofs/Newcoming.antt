@@ -95,7 +95,7 @@ module _ {A : Type 0} (goes : A → A → Bool) (x : A) where
     newcomer_past (y ∷ ys) back all = rw (all.0.0, all.0.1) (ap (λ zs. y ∷ zs) (newcomer_past ys back all.1))
 
     -- and before those of whom the first doesn't go first
-    newcomer_first : (back : List A) → begins_in (λ y. goes y x) back ≡ false → with_newcomer goes unite x back ≡ x ∷ back
+    pub newcomer_first : (back : List A) → begins_in (λ y. goes y x) back ≡ false → with_newcomer goes unite x back ≡ x ∷ back
     newcomer_first [] fails = refl
     newcomer_first (z ∷ zs) fails = rw fails refl
 
@@ -112,7 +112,7 @@ module _ {A : Type 0} (goes : A → A → Bool) (x : A) where
   host_past [] back all = refl
   host_past (y ∷ ys) back all = rw (all.0.0, all.0.1) (host_past ys back all.1)
 
-  host_first : (back : List A) → begins_in (λ y. goes y x) back ≡ false → host goes x back ≡ None
+  pub host_first : (back : List A) → begins_in (λ y. goes y x) back ≡ false → host goes x back ≡ None
   host_first [] fails = refl
   host_first (z ∷ zs) fails = rw fails refl
 

@@ -1,5 +1,5 @@
 -- A list that is kept in chunks: queues of fewer than a number of elements, one behind the other, none of them empty.
-use Rattle.std.specs.Prelude.{◌≡◌, ◌<◌, ◌≤◌, ℕ, ◌-◌, ◌^◌, min, List, [], ◌∷◌, ◌++◌, slice_index_or, Option, Some, None, Bool, false}
+use Rattle.std.specs.Prelude.{◌≡◌, ◌<◌, ◌≤◌, ℕ, ◌-◌, ◌^◌, min, List, [], ◌∷◌, ◌++◌, length, slice_index_or, Option, Some, None, Bool, false}
 use Rattle.std.specs.VecDeque.{deque_len, deque_capacity}
 use Rattle.std.specs.VecDeque.Iter.{deque_iter_rest}
 use Rattle.std.specs.declared.collections.VecDeque.{VecDeque}
@@ -23,6 +23,13 @@ module _ {X Z : Type 0} where
   -- something holds of the elements of the chunk at a place
   abbrev pub HoldsInChunk : (List X → Type 0) → List (VecDeque X Z) → ℕ → Type 0
   HoldsInChunk P chunks place = (d : VecDeque X Z) → P (slice_index_or chunks place d).items
+
+  -- an element stands at a place of the chunk of a number
+  abbrev pub StandsAt : X → ℕ → ℕ → List (VecDeque X Z) → Type 0
+  StandsAt x chunk place chunks =
+      (chunk < length chunks)
+      × ((d : VecDeque X Z) → place < length (slice_index_or chunks chunk d).items)
+      × ((d : VecDeque X Z) → x ≡ slice_index_or (slice_index_or chunks chunk d).items place x)
 
   -- a chunk has an element, and room for one more
   pub record IsChunk (c : VecDeque X Z) : Type 0 where

@@ -70,4 +70,8 @@ impl Placed for Bucket {
             ..self
         }
     }
+
+    fn key(self) -> i64 {
+        self.rank
+    }
 }

@@ -12,7 +12,8 @@ ghost use Rattle.gw_chains.specs.Slots.{TakesOneSlot, TakesNoSlot, KeepsSlots};
 ghost use Rattle.gw_chains.specs.Buckets.{run, members_at, total, upto, bucket_of_one, linked_behind, without_first_link, AreBuckets, GainMember, LoseFirst};
 
 use crate::bucket::{Bucket, Link, Ranked};
-use crate::chunks::{front, insert, pop_first, set_front};
+use crate::chunks::{Position, front, insert, pop_first, set_front};
+use crate::guesses::Guesses;
 use gw_members::Memory;
 use slab::Slab;
 use std::collections::{VecDeque, vec_deque};
@@ -40,12 +41,15 @@ pub(crate) fn bucket_of_one<T: Ranked>(member: T, link: usize) -> Bucket
     }
 }
 
-/// Puts a member behind all of its rank or a lower one. There is room.
+/// Puts a member behind all of its rank or a lower one. There is room. It looks for the bucket of its rank at the position `at`
+/// first, which may be any, and tells there where that is.
 pub(crate) fn insert_member<T: Ranked>(
     chunks: &mut VecDeque<VecDeque<Bucket>>,
     spare: &mut Vec<VecDeque<Bucket>>,
     links: &mut Slab<Link<T>>,
     member: T,
+    guesses: &Guesses,
+    at: &mut Position,
 )
     requires buckets { AreBuckets T.rank (get links.old) (all_of chunks.old.items) }
     requires few { total (all_of chunks.old.items) < 2 ^ 62 }
@@ -62,7 +66,7 @@ pub(crate) fn insert_member<T: Ranked>(
     ensures links { TakesOneSlot links.old links.new }
 {
     let link = links.insert_reserved(Link { member, next: 0 });
-    let host = insert(chunks, spare, bucket_of_one(member, link));
+    let host = insert(chunks, spare, bucket_of_one(member, link), guesses, at);
     link_behind(links, host, link);
 }
 
@@ -77,6 +81,15 @@ pub(crate) fn reserve_links<T: Ranked>(links: &mut Slab<Link<T>>, more: usize) -
         return Ok(());
     }
     links.reserve(more)
+}
+
+/// The first bucket, if there is one.
+pub(crate) fn first_bucket(chunks: &VecDeque<VecDeque<Bucket>>) -> Option<Bucket>
+    requires { All IsChunk chunks.now.items }
+    ensures { result ≡ first (all_of chunks.now.items) }
+{
+    let bucket = front(chunks)?;
+    Some(*bucket)
 }
 
 /// The rank of the first member, if there is one.
@@ -123,29 +136,29 @@ fn shorten(
     }
 }
 
-/// Takes the first member, if there is one.
-pub(crate) fn pop_member<T: Ranked>(
+/// Takes the first member, which is in the first bucket, this one.
+pub(crate) fn pop_from<T: Ranked>(
     chunks: &mut VecDeque<VecDeque<Bucket>>,
     spare: &mut Vec<VecDeque<Bucket>>,
     links: &mut Slab<Link<T>>,
-) -> Option<T>
+    bucket: Bucket,
+) -> T
+    requires bucket { Some bucket ≡ first (all_of chunks.old.items) }
     requires buckets { AreBuckets T.rank (get links.old) (all_of chunks.old.items) }
     requires chunks { All IsChunk chunks.old.items }
     requires spare { All IsSpare spare.old.items }
-    ensures first { LoseFirst T.rank result
+    ensures first { LoseFirst T.rank (Some result)
         (get links.old) (all_of chunks.old.items) (get links.new) (all_of chunks.new.items) }
-    ensures total { total (all_of chunks.new.items) + length (option_to_list result)
-        ≡ total (all_of chunks.old.items) }
+    ensures total { total (all_of chunks.new.items) + 1 ≡ total (all_of chunks.old.items) }
     ensures chunks { All IsChunk chunks.new.items }
     ensures spare { All IsSpare spare.new.items }
     ensures room { space_in chunks.old ≤ space_in chunks.new }
     ensures kept { length spare.old.items ≤ length spare.new.items }
     ensures links { TakesNoSlot links.old links.new }
 {
-    let bucket = *front(chunks)?;
     let link = links.remove(bucket.first);
     shorten(chunks, spare, bucket, link.next);
-    Some(link.member)
+    link.member
 }
 
 /// The next of so many members, each linked to the next, if one is left.

@@ -5,9 +5,10 @@ ghost use Rattle.std.specs.VecDeque.{deque_len, deque_capacity};
 ghost use Rattle.std.specs.declared.collections.VecDeque.{VecDeque as DeclaredQueue};
 ghost use Rattle.gw_members.specs.Chain.{first, rest};
 ghost use Rattle.gw_chains.specs.Newcomers.{host, with_newcomer, IsHostLast, GoFirst, IsPlaceOf};
-ghost use Rattle.gw_chains.specs.Chunks.{most_in_chunk, all_of, items_of, begins_in, HoldsInChunk, IsChunk, IsSpare};
+ghost use Rattle.gw_chains.specs.Chunks.{most_in_chunk, all_of, items_of, begins_in, HoldsInChunk, StandsAt, IsChunk, IsSpare};
 ghost use Rattle.gw_chains.specs.Queues.{space_in, IsAsLarge, GainsOneAtMost};
 
+use crate::guesses::Guesses;
 use crate::queue::insert_reserved;
 use gw_members::Memory;
 use std::alloc::Global;
@@ -15,6 +16,13 @@ use std::collections::VecDeque;
 
 /// A chunk that comes to have so many elements is full, and is split.
 pub(crate) const MOST_IN_CHUNK: usize = 128;
+
+/// Where an element stands: in which chunk, and at which place of it, both from 0.
+#[derive(Clone, Copy, Debug)]
+pub(crate) struct Position {
+    pub(crate) chunk: usize,
+    pub(crate) place: usize,
+}
 
 /// What is kept in an order.
 pub(crate) trait Placed: Copy + Drop {
@@ -29,6 +37,9 @@ pub(crate) trait Placed: Copy + Drop {
     /// It with a newcomer, its like, which it takes in.
     fn take_in(self, newcomer: Self) -> Self
         ensures { result ≡ with_guest self newcomer };
+
+    /// By what guesses are kept.
+    fn key(self) -> i64;
 }
 
 /// Whether the first of a chunk goes ahead of a newcomer.
@@ -120,8 +131,9 @@ fn host_before<T: Placed>(chunk: &VecDeque<T>, place: usize, newcomer: T) -> Opt
 }
 
 /// Puts a newcomer at its place in a chunk, where there is room. If its like is there, that takes it in, and is answered as
-/// it was.
-pub(crate) fn join<T: Placed>(chunk: &mut VecDeque<T>, newcomer: T) -> Option<T>
+/// it was. The place is told in `at`.
+#[inline(always)]
+pub(crate) fn join<T: Placed>(chunk: &mut VecDeque<T>, newcomer: T, at: &mut usize) -> Option<T>
     requires order { GoFirst T.goes_first newcomer chunk.old.items }
     requires last { IsHostLast T.goes_first newcomer chunk.old.items }
     requires room { deque_len chunk.old < deque_capacity chunk.old }
@@ -135,10 +147,12 @@ pub(crate) fn join<T: Placed>(chunk: &mut VecDeque<T>, newcomer: T) -> Option<T>
     match host_before(chunk, place, newcomer) {
         Some(host) => {
             chunk[place - 1] = host.take_in(newcomer);
+            *at = place - 1;
             Some(host)
         }
         None => {
             insert_reserved(chunk, place, newcomer);
+            *at = place;
             None
         }
     }
@@ -171,6 +185,7 @@ fn replace_back<T: Placed>(chunk: &mut VecDeque<T>, other: T)
 }
 
 /// The same as `join`, where the last is often the like of a newcomer: it looks at that first.
+#[inline(always)]
 pub(crate) fn join_behind<T: Placed>(chunk: &mut VecDeque<T>, newcomer: T) -> Option<T>
     requires order { GoFirst T.goes_first newcomer chunk.old.items }
     requires last { IsHostLast T.goes_first newcomer chunk.old.items }
@@ -185,7 +200,23 @@ pub(crate) fn join_behind<T: Placed>(chunk: &mut VecDeque<T>, newcomer: T) -> Op
         replace_back(chunk, host.take_in(newcomer));
         return Some(host);
     }
-    join(chunk, newcomer)
+    join_elsewhere(chunk, newcomer)
+}
+
+/// The same as `join`, as a function of its own.
+#[inline(never)]
+fn join_elsewhere<T: Placed>(chunk: &mut VecDeque<T>, newcomer: T) -> Option<T>
+    requires order { GoFirst T.goes_first newcomer chunk.old.items }
+    requires last { IsHostLast T.goes_first newcomer chunk.old.items }
+    requires room { deque_len chunk.old < deque_capacity chunk.old }
+    ensures host { result ≡ host T.goes_first newcomer chunk.old.items }
+    ensures items { chunk.new.items
+        ≡ with_newcomer T.goes_first T.with_guest newcomer chunk.old.items }
+    ensures len { GainsOneAtMost chunk.old chunk.new }
+    ensures capacity { deque_capacity chunk.old ≤ deque_capacity chunk.new }
+{
+    let mut at = 0;
+    join(chunk, newcomer, &mut at)
 }
 
 /// Moves the upper half of a full chunk to a spare one.
@@ -211,6 +242,7 @@ fn join_and_split<T: Placed>(
     chunk: &mut VecDeque<T>,
     spare: &mut Vec<VecDeque<T>>,
     newcomer: T,
+    at: &mut usize,
 ) -> (Option<T>, Option<VecDeque<T>>)
     requires order { GoFirst T.goes_first newcomer chunk.old.items }
     requires last { IsHostLast T.goes_first newcomer chunk.old.items }
@@ -225,7 +257,7 @@ fn join_and_split<T: Placed>(
     ensures left { length spare.old.items
         ≤ length spare.new.items + length (option_to_list result.1) }
 {
-    let host = join(chunk, newcomer);
+    let host = join(chunk, newcomer, at);
     if chunk.len() < MOST_IN_CHUNK {
         return (host, None);
     }
@@ -244,6 +276,7 @@ fn insert_at<T: Placed>(
     spare: &mut Vec<VecDeque<T>>,
     place: usize,
     newcomer: T,
+    at: &mut usize,
 ) -> Option<T>
     requires within { place < deque_len chunks.old }
     requires order { HoldsInChunk (GoFirst T.goes_first newcomer) chunks.old.items place }
@@ -263,7 +296,7 @@ fn insert_at<T: Placed>(
     ensures room { space_in chunks.old ≤ space_in chunks.new + 1 }
     ensures left { length spare.old.items ≤ length spare.new.items + 1 }
 {
-    let (host, upper) = join_and_split(&mut chunks[place], spare, newcomer);
+    let (host, upper) = join_and_split(&mut chunks[place], spare, newcomer, at);
     match upper {
         Some(upper) => {
             insert_reserved(chunks, place + 1, upper);
@@ -273,11 +306,134 @@ fn insert_at<T: Placed>(
     }
 }
 
-/// Puts a newcomer at its place. If its like is there, that takes it in, and is answered as it was.
+/// The like of a newcomer, if it stands at this position.
+fn like_at<T: Placed>(chunks: &VecDeque<VecDeque<T>>, at: Position, newcomer: T) -> Option<T>
+    ensures like { IfSome result (λ y. (T.goes_first y newcomer ≡ true)
+        × (T.goes_first newcomer y ≡ true)) }
+    ensures there { IfSome result (λ y. StandsAt y at.chunk at.place chunks.now.items) }
+{
+    let there = *chunks.get(at.chunk)?.get(at.place)?;
+    if there.goes_first(newcomer) && newcomer.goes_first(there) {
+        Some(there)
+    } else {
+        None
+    }
+}
+
+/// Puts another in a place of a chunk, in which one stands.
+fn replace<T: Placed>(chunk: &mut VecDeque<T>, place: usize, other: T)
+    requires { place < deque_len chunk.old }
+    ensures items { chunk.new.items ≡ set chunk.old.items place other }
+    ensures len { deque_len chunk.new ≡ deque_len chunk.old }
+    ensures capacity { deque_capacity chunk.new ≡ deque_capacity chunk.old }
+{
+    chunk[place] = other;
+}
+
+/// Puts another in a position, in which one stands.
+fn replace_at<T: Placed>(chunks: &mut VecDeque<VecDeque<T>>, at: Position, other: T)
+    requires within { at.chunk < deque_len chunks.old }
+    requires there { HoldsInChunk (λ ys. at.place < length ys) chunks.old.items at.chunk }
+    requires chunks { All IsChunk chunks.old.items }
+    ensures items { (d : DeclaredQueue T Global) → all_of chunks.new.items
+        ≡ all_of (take at.chunk chunks.old.items)
+        ++ (set (slice_index_or chunks.old.items at.chunk d).items at.place other
+        ++ all_of (drop (at.chunk + 1) chunks.old.items)) }
+    ensures chunks { All IsChunk chunks.new.items }
+    ensures room { IsAsLarge chunks.old chunks.new }
+{
+    replace(&mut chunks[at.chunk], at.place, other);
+}
+
+/// Whether a newcomer goes ahead of all, and the first chunk isn't full with it.
+fn goes_ahead<T: Placed>(chunks: &VecDeque<VecDeque<T>>, newcomer: T) -> bool
+    requires { 0 < deque_len chunks.now }
+    ensures ahead { result ≡ true → HoldsInChunk (λ ys. begins_in (λ y. T.goes_first y newcomer) ys
+        ≡ false) chunks.now.items 0 }
+    ensures room { result ≡ true
+        → HoldsInChunk (λ ys. length ys + 1 < most_in_chunk) chunks.now.items 0 }
+{
+    let chunk = &chunks[0];
+    chunk.len() + 1 < MOST_IN_CHUNK && !begins_before(chunk, newcomer)
+}
+
+/// Puts a newcomer before all of a chunk, which isn't full with it.
+fn put_first<T: Placed>(chunk: &mut VecDeque<T>, newcomer: T)
+    requires chunk { IsChunk chunk.old }
+    requires room { deque_len chunk.old + 1 < most_in_chunk }
+    ensures items { chunk.new.items ≡ newcomer ∷ chunk.old.items }
+    ensures chunk { IsChunk chunk.new }
+{
+    chunk.push_front_reserved(newcomer);
+}
+
+/// Puts a newcomer before all, where the first chunk isn't full with it.
+fn put_ahead<T: Placed>(chunks: &mut VecDeque<VecDeque<T>>, newcomer: T)
+    requires some { 0 < deque_len chunks.old }
+    requires chunks { All IsChunk chunks.old.items }
+    requires room { HoldsInChunk (λ ys. length ys + 1 < most_in_chunk) chunks.old.items 0 }
+    ensures items { all_of chunks.new.items ≡ newcomer ∷ all_of chunks.old.items }
+    ensures chunks { All IsChunk chunks.new.items }
+    ensures room { IsAsLarge chunks.old chunks.new }
+{
+    put_first(&mut chunks[0], newcomer);
+}
+
+/// The same as `place_of`; it looks whether it is this place first, which may be any.
+fn place_near<T: Placed>(chunks: &VecDeque<VecDeque<T>>, near: usize, newcomer: T) -> usize
+    requires { 0 < deque_len chunks.now }
+    ensures within { result < deque_len chunks.now }
+    ensures behind { HoldsInChunk (λ ys. 0 < result
+        → begins_in (λ y. T.goes_first y newcomer) ys ≡ true) chunks.now.items result }
+    ensures before { HoldsInChunk (λ ys. result + 1 < deque_len chunks.now
+        → begins_in (λ y. T.goes_first y newcomer) ys ≡ false) chunks.now.items (result + 1) }
+{
+    if near < chunks.len()
+        && begins_before(&chunks[near], newcomer)
+        && (near + 1 == chunks.len() || !begins_before(&chunks[near + 1], newcomer))
+    {
+        return near;
+    }
+    place_of(chunks, newcomer)
+}
+
+/// Puts a newcomer at its place. If its like is there, that takes it in, and is answered as it was. It looks for that at the
+/// position `at` first, which may be any, and tells there where it found it, or put the newcomer. What `guesses` says of chunks
+/// may be wrong.
 pub(crate) fn insert<T: Placed>(
     chunks: &mut VecDeque<VecDeque<T>>,
     spare: &mut Vec<VecDeque<T>>,
     newcomer: T,
+    guesses: &Guesses,
+    at: &mut Position,
+) -> Option<T>
+    requires order { GoFirst T.goes_first newcomer (all_of chunks.old.items) }
+    requires last { IsHostLast T.goes_first newcomer (all_of chunks.old.items) }
+    requires chunks { All IsChunk chunks.old.items }
+    requires room { deque_len chunks.old < deque_capacity chunks.old }
+    requires spare { (0 < length spare.old.items) × All IsSpare spare.old.items }
+    ensures host { result ≡ host T.goes_first newcomer (all_of chunks.old.items) }
+    ensures items { all_of chunks.new.items
+        ≡ with_newcomer T.goes_first T.with_guest newcomer (all_of chunks.old.items) }
+    ensures chunks { All IsChunk chunks.new.items }
+    ensures spare { All IsSpare spare.new.items }
+    ensures room { space_in chunks.old ≤ space_in chunks.new + 1 }
+    ensures left { length spare.old.items ≤ length spare.new.items + 1 }
+{
+    if let Some(host) = like_at(chunks, *at, newcomer) {
+        replace_at(chunks, *at, host.take_in(newcomer));
+        return Some(host);
+    }
+    insert_anew(chunks, spare, newcomer, guesses, at)
+}
+
+/// The same, where its like isn't looked for at any position first.
+fn insert_anew<T: Placed>(
+    chunks: &mut VecDeque<VecDeque<T>>,
+    spare: &mut Vec<VecDeque<T>>,
+    newcomer: T,
+    guesses: &Guesses,
+    at: &mut Position,
 ) -> Option<T>
     requires order { GoFirst T.goes_first newcomer (all_of chunks.old.items) }
     requires last { IsHostLast T.goes_first newcomer (all_of chunks.old.items) }
@@ -294,11 +450,22 @@ pub(crate) fn insert<T: Placed>(
 {
     if chunks.is_empty() {
         begin(chunks, spare, newcomer);
-        None
-    } else {
-        let place = place_of(chunks, newcomer);
-        insert_at(chunks, spare, place, newcomer)
+        *at = Position { chunk: 0, place: 0 };
+        return None;
     }
+    if goes_ahead(chunks, newcomer) {
+        put_ahead(chunks, newcomer);
+        *at = Position { chunk: 0, place: 0 };
+        return None;
+    }
+    let place = place_near(chunks, guesses.chunk_of(newcomer.key()), newcomer);
+    let mut inside = 0;
+    let host = insert_at(chunks, spare, place, newcomer, &mut inside);
+    *at = Position {
+        chunk: place,
+        place: inside,
+    };
+    host
 }
 
 /// Puts the first in a chunk of its own, where there is none.

@@ -1,17 +1,19 @@
 //! The delay list of one entity.
 
 ghost use Rattle.std.specs.Prelude.{◌≡◌, ◌≤◌, ◌<◌, ◌+◌, ◌↔◌, [], length, option_map, slice_get, remove, IsSome, OnOk, OnErr};
+ghost use Rattle.std.specs.Iterator.{YieldsFirstRef, item_count};
 ghost use Rattle.gw_members.specs.Chain.{behind};
 ghost use Rattle.gw_members.specs.declared.tx.Member.{Member};
 
 use crate::bucket::{Bucket, Link};
+use crate::buckets::next_member;
 use crate::row::{insert_behind, remove_member, reserve, unlink};
 use crate::spot::member_at;
 use crate::walk::{Walk, advance, walk_at, walk_from};
 use gw_members::{Member, Memory, Tx};
 use slab::Slab;
 use std::alloc::Global;
-use std::collections::VecDeque;
+use std::collections::{VecDeque, vec_deque};
 use std::marker::Model;
 
 /// The delay list of one entity, by priority, with a walk over it that can take members out.
@@ -94,6 +96,18 @@ impl DelayList {
         Some(member_at(&self.buckets, &self.links, place).tx)
     }
 
+    /// The members, in order.
+    pub fn iter(&self) -> Waiters<'_>
+        ensures { result ≡ self.now.members }
+    {
+        Waiters {
+            links: &self.links,
+            left: 0,
+            at: 0,
+            buckets: self.buckets.iter(),
+        }
+    }
+
     /// Puts it behind its peers: behind all of equal or higher priority. There is room. The walk is at the first again.
     pub fn insert_behind(&mut self, tx: Tx, priority: i32)
         requires { 0 < self.old.room }
@@ -166,5 +180,52 @@ impl DelayList {
         let _ = unlink(&mut self.buckets, &mut self.links, spot, here);
         self.count -= 1;
         self.walk = walk_at(&self.buckets, &self.links, spot);
+    }
+}
+
+/// The members of a delay list, in order. Contracts see those that are still to come.
+#[derive(Drop)]
+pub struct Waiters<'a> {
+    links: &'a Slab<Link<Member>>,
+    // How many of a bucket that was begun are left, and the link of their first.
+    left: usize,
+    at: usize,
+    // The buckets behind it.
+    buckets: vec_deque::Iter<'a, Bucket>,
+}
+
+impl<'a> Model for Waiters<'a> {
+    ghost use Rattle.std.specs.Prelude.{List, ◌++◌};
+    ghost use Rattle.std.specs.VecDeque.Iter.{deque_iter_rest};
+    ghost use Rattle.slab.specs.Slab.{get};
+    ghost use Rattle.gw_chains.specs.Buckets.{run, members_at, members_of};
+    ghost use Rattle.gw_members.specs.declared.tx.Member.{Member};
+
+    ghost Value = { List Member };
+
+    ghost view = { λ it. members_at (get it.links.now) (run (get it.links.now) it.left it.at)
+        ++ members_of (get it.links.now) (deque_iter_rest it.buckets) };
+}
+
+impl<'a> Iterator for Waiters<'a> {
+    type Item = &'a Member;
+
+    ghost next_gives = { YieldsFirstRef (λ rest. rest) };
+
+    ghost remaining = { item_count (λ rest. rest) };
+
+    fn next(&mut self) -> Option<&'a Member> {
+        loop {
+            if let Some(member) = next_member(self.links, &mut self.left, &mut self.at) {
+                return Some(member);
+            }
+            match self.buckets.next() {
+                Some(bucket) => {
+                    self.left = bucket.count;
+                    self.at = bucket.first;
+                }
+                None => return None,
+            }
+        }
     }
 }

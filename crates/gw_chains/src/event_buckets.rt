@@ -1,6 +1,6 @@
 //! Future events in buckets: where they are many.
 
-ghost use Rattle.std.specs.Prelude.{◌≡◌, ◌≤◌, ◌<◌, ◌+◌, ◌^◌, ◌⊎◌, [], length, reverse, if◌then◌else◌, option_map, is_some, AllPairs, OnOk, OnErr};
+ghost use Rattle.std.specs.Prelude.{◌≡◌, ◌≤◌, ◌<◌, ◌+◌, ◌^◌, ◌⊎◌, [], nat_le, length, reverse, if◌then◌else◌, option_map, is_some, int_le, AllPairs, OnOk, OnErr};
 ghost use Rattle.std.specs.Iterator.{YieldsFirstRef, item_count};
 ghost use Rattle.std.specs.VecDeque.{deque_len, deque_capacity};
 ghost use Rattle.slab.specs.Slab.{get, slab_len, HasRoomFor};
@@ -11,11 +11,12 @@ ghost use Rattle.gw_chains.specs.Events.{most_few, NotLater, room_behind};
 
 use crate::bucket::{Bucket, Link};
 use crate::buckets::{
-    first_rank, insert_member, next_bucket, next_member, pop_member, reserve_links,
+    first_bucket, first_rank, insert_member, next_bucket, next_member, pop_from, reserve_links,
 };
-use crate::chunks::reserve;
+use crate::chunks::{Position, reserve};
+use crate::guesses::Guesses;
 use crate::row::insert_behind;
-use gw_members::{Event, Memory, Tx};
+use gw_members::{Event, MOST, Memory, Tx};
 use slab::Slab;
 use std::alloc::Global;
 use std::collections::{VecDeque, vec_deque};
@@ -32,6 +33,8 @@ pub struct EventBuckets {
     links: Slab<Link<Event>>,
     // How many events there are.
     count: usize,
+    // Where the buckets of some times stood of late.
+    guesses: Guesses,
 }
 
 impl Model for EventBuckets {
@@ -68,6 +71,7 @@ impl EventBuckets {
             spare: Vec::new(alloc),
             links: Slab::new(alloc),
             count: 0,
+            guesses: Guesses::new(alloc),
         }
     }
 
@@ -88,6 +92,7 @@ impl EventBuckets {
         {
             return Ok(());
         }
+        self.guesses.prepare(chunks);
         reserve_links(&mut self.links, events)?;
         reserve(&mut self.chunks, &mut self.spare, chunks)
     }
@@ -121,8 +126,29 @@ impl EventBuckets {
         ensures spare { self.old.spare ≤ self.new.spare + 1 }
         ensures chunks { self.old.chunks ≤ self.new.chunks + 1 }
     {
-        insert_member(&mut self.chunks, &mut self.spare, &mut self.links, event);
+        let mut at = self.guesses.guess(event.time);
+        let chunks = self.chunks.len();
+        insert_member(
+            &mut self.chunks,
+            &mut self.spare,
+            &mut self.links,
+            event,
+            &self.guesses,
+            &mut at,
+        );
+        self.guesses.keep(event.time, at);
         self.count += 1;
+        fit(&mut self.guesses, &self.chunks, chunks, at);
+    }
+
+    /// Whether there is room for so many more events.
+    pub fn has_room(&self, more: usize) -> bool
+        ensures { result ≡ nat_le more (room_behind 0 self.now) }
+    {
+        more <= self.links.capacity() - self.links.len()
+            && more <= self.spare.len()
+            && more <= self.chunks.capacity() - self.chunks.len()
+            && more <= MOST - self.count
     }
 
     /// The time of the first, in clock units, if there is one.
@@ -141,11 +167,15 @@ impl EventBuckets {
         ensures links { self.old.links ≤ self.new.links }
         ensures room { (self.old.spare ≤ self.new.spare) × (self.old.chunks ≤ self.new.chunks) }
     {
-        if time < self.first_time()? {
+        let bucket = first_bucket(&self.chunks)?;
+        if !is_due(bucket, time) {
             return None;
         }
-        let event = pop_member(&mut self.chunks, &mut self.spare, &mut self.links)?;
+        let chunks = self.chunks.len();
+        let event = pop_from(&mut self.chunks, &mut self.spare, &mut self.links, bucket);
         self.count -= 1;
+        self.guesses
+            .lose_chunks(chunks.wrapping_sub(self.chunks.len()));
         Some(event.tx)
     }
 
@@ -168,6 +198,30 @@ impl EventBuckets {
         ensures few { result ≤ 2 ^ 62 }
     {
         self.count
+    }
+}
+
+/// Whether the events of a bucket are scheduled for `time` or earlier.
+fn is_due(bucket: Bucket, time: i64) -> bool
+    ensures { result ≡ int_le bucket.rank time }
+{
+    bucket.rank <= time
+}
+
+/// Where a chunk was split, so that there were fewer before, guesses are for the times that occur now.
+fn fit(guesses: &mut Guesses, chunks: &VecDeque<VecDeque<Bucket>>, before: usize, at: Position) {
+    if chunks.len() == before {
+        return;
+    }
+    if let (Some(first), Some(last)) = (chunks.front(), chunks.back()) {
+        if let (Some(first), Some(last)) = (first.front(), last.back()) {
+            guesses.fit(first.rank, last.rank);
+        }
+    }
+    if let Some(upper) = chunks.get(at.chunk.saturating_add(1)) {
+        if let Some(first) = upper.front() {
+            guesses.split(at.chunk, first.rank);
+        }
     }
 }
 

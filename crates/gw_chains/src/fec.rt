@@ -168,6 +168,9 @@ impl Fec {
         if more <= space_beside(&self.few, &self.many) {
             return Ok(());
         }
+        if self.few.is_empty() && self.many.has_room(more) {
+            return Ok(());
+        }
         reserve_more(&mut self.few, &mut self.many, more)
     }
 

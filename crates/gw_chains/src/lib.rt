@@ -11,6 +11,7 @@ mod chunks;
 mod delay_list;
 mod event_buckets;
 mod fec;
+mod guesses;
 mod queue;
 mod row;
 mod spot;
@@ -18,7 +19,7 @@ mod waits;
 mod walk;
 
 pub use cec::Cec;
-pub use delay_list::DelayList;
+pub use delay_list::{DelayList, Waiters};
 pub use fec::{Events, Fec};
 pub use queue::insert_reserved;
 pub use waits::Waits;

@@ -8,7 +8,7 @@ ghost use Rattle.gw_members.specs.Lists.{changed, LosesRoom};
 ghost use Rattle.gw_members.specs.declared.tx.Member.{Member};
 
 use crate::Cec;
-use crate::delay_list::DelayList;
+use crate::delay_list::{DelayList, Waiters};
 use gw_members::{MOST, Member, Memory, Tx};
 use std::alloc::Global;
 use std::collections::VecDeque;
@@ -158,6 +158,14 @@ impl Waits {
         ensures { result ≡ length (at [] self.now.lists entity) }
     {
         self.delay_lists[entity as usize].len()
+    }
+
+    /// The members of the delay list of this entity, in order.
+    pub fn waiters(&self, entity: u16) -> Waiters<'_>
+        requires { entity < length self.now.lists }
+        ensures { result ≡ at [] self.now.lists entity }
+    {
+        self.delay_lists[entity as usize].iter()
     }
 
     /// Removes the member at this place, from 0, of the delay list of this entity. There is one:

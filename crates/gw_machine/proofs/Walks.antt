@@ -28,6 +28,7 @@ use Rattle.gw_step.specs.Numbers.{IsWithin, made_in}
 use Rattle.gw_machine.specs.View.{state_of, member_number}
 use Rattle.gw_machine.specs.Coherence.{IsSteady}
 use Rattle.gw_machine.specs.Leaving.{Moves}
+use Rattle.gw_machine.specs.Admission.{AsksInVain}
 use Rattle.gw_machine.proofs.Changes.{delay_list-at}
 use Rattle.gw_step.proofs.Follows.{within-looked_at, asked-enter}
 use Rattle.gw_machine.proofs.Waiters.{occurs-at, length-remove}
@@ -110,7 +111,7 @@ admission-more : (bs : List Block) (e n : ℕ) (ns : List ℕ) (s : State) → a
 unfolding admission
 admission-more bs e n ns s = refl
 
-admission-none : (bs : List Block) (e : ℕ) (s : State) → admission bs e [] s ≡ s
+pub admission-none : (bs : List Block) (e : ℕ) (s : State) → admission bs e [] s ≡ s
 unfolding admission
 admission-none bs e s = refl
 
@@ -154,6 +155,19 @@ full-admission : (bs : List Block) (es e : ℕ) (ns : List ℕ) (s : State) → 
 full-admission bs es e [] s fit full = admission-none bs e s
 full-admission bs es e (n ∷ ns) s fit full =
     admission-more bs e n ns s ∙ ap (admission bs e ns) (full-looked_at bs es e n s fit full) ∙ full-admission bs es e ns s fit full
+
+-- where the units that the block of a waiter asks for aren't free, it doesn't enter
+vain-enters : (n : ℕ) (t : Transaction) (s : State) (u : Units) → has_room u.number (storage u.entity s) ≡ false → enters_if_free n t s u ≡ s
+vain-enters n t s u none = rw none refl
+
+pub vain-looked_at : (bs : List Block) (e n : ℕ) (s : State) (t : Transaction) → attributes_at n s.transactions ≡ Some t → AsksInVain bs e t.next s → looked_at bs e n s ≡ s
+vain-looked_at bs e n s t live vain =
+    ap (λ o. option_map_or (admitted bs e n s) o s) live
+    ∙ by_option (λ x. x ≡ s) (asked e (block_at bs t.next)) (enters_if_free n t s) s (λ u is. vain-enters n t s u (vain u is)) (λ none. refl)
+
+-- so nobody does where none of the others does
+pub vain-first : (bs : List Block) (e n : ℕ) (ns : List ℕ) (s : State) → looked_at bs e n s ≡ s → admission bs e ns s ≡ s → admission bs e (n ∷ ns) s ≡ s
+vain-first bs e n ns s stays rest = admission-more bs e n ns s ∙ ap (admission bs e ns) stays ∙ rest
 
 -- the walk has come to its end, or may end since no unit is free
 pub walk-ends : (bs : List Block) (es e i : ℕ) (m : Configuration) → BlocksFit es bs → (option_map handle (slice_get (at [] m.waits.lists e) i) ≡ None) ⊎ (is_full (storage e (state_of m)) ≡ true) → rest_of_walk bs e i m ≡ state_of m

@@ -6,6 +6,7 @@ pub mod Shown
 pub mod Slots
 -- WHAT ITS CALLS ANSWER
 pub mod Leaving
+pub mod Admission
 pub mod Frames
 pub mod Entities
 pub mod Evaluating

@@ -1,6 +1,6 @@
 //! Hand-over of facilities, and admission to storages.
 
-ghost use Rattle.std.specs.Prelude.{MatchOption, ◌⊎◌, [], ◌≡◌, ◌≤◌, ◌<◌, ◌+◌, ◌^◌, Some, None, true, sum, length};
+ghost use Rattle.std.specs.Prelude.{MatchOption, ◌⊎◌, [], ◌≡◌, ◌≤◌, ◌<◌, ◌+◌, ◌^◌, Some, None, true, false, sum, length};
 ghost use Rattle.std.specs.Option.{option_map_or, option_copied};
 ghost use Rattle.gw_num.specs.Table.{at};
 ghost use Rattle.gw_entities.specs.Facility.{idle, is_idle as is_idle_now};
@@ -11,6 +11,7 @@ ghost use Rattle.gw_step.specs.State.{delay_list};
 ghost use Rattle.gw_step.specs.Changes as change;
 ghost use Rattle.gw_step.specs.Changes.{facility, storage};
 ghost use Rattle.gw_machine.specs.Leaving.{BecomesBy, Moves, waiter_at, waiter_come_to};
+ghost use Rattle.gw_machine.specs.Admission.{AsksInVain, AdmitsNobody};
 ghost use Rattle.gw_step.specs.Blocks as model;
 ghost use Rattle.gw_machine.specs.View.{state_of};
 ghost use Rattle.gw_machine.specs.Coherence.{IsSteady};
@@ -135,6 +136,38 @@ impl Machine {
         self.waits.current(e)
     }
 
+    /// Whether a block is an ENTER of a storage, and the units that it asks for are free.
+    fn has_asked(&self, blocks: &[Block], e: u16, next: u16) -> bool
+        requires steady { IsSteady blocks.now (self.now.steps + 1) self.now }
+        requires there { e < length self.now.facilities.values }
+        ensures { result ≡ false → AsksInVain blocks.now e next (state_of self.now) }
+    {
+        match asked(e, block_of(blocks, next)) {
+            Some(units) => self.has_free(units),
+            None => false,
+        }
+    }
+
+    /// Whether the units of anybody who waits for a storage are free. Of those who wait at one block and stand behind one
+    /// another it looks at the block once.
+    fn can_admit(&self, blocks: &[Block], e: u16) -> bool
+        requires steady { IsSteady blocks.now (self.now.steps + 1) self.now }
+        requires there { e < length self.now.facilities.values }
+        ensures { result ≡ false → AdmitsNobody blocks.now e (state_of self.now) }
+    {
+        let mut refused = 0;
+        for waiter in self.waits.waiters(e) {
+            let next = self.transactions.get(waiter.tx).next;
+            if next != refused {
+                if self.has_asked(blocks, e, next) {
+                    return true;
+                }
+                refused = next;
+            }
+        }
+        false
+    }
+
     /// One walk over those who wait for a storage, in their order: each whose units are free enters.
     #[inline(never)]
     pub fn admit(&mut self, blocks: &[Block], e: u16)
@@ -144,6 +177,9 @@ impl Machine {
         ensures { BecomesBy (λ s. model.admission blocks.now e (delay_list e s) s)
             self.old self.new }
     {
+        if !self.can_admit(blocks, e) {
+            return;
+        }
         self.start_walk(e);
         while let Some(tx) = self.next_waiter(e) {
             if !self.admit_one(blocks, e, tx) {

@@ -1,33 +1,13 @@
-use Rattle.std.proofs.Common.{◌+◌, arith, refl}
-use Rattle.gw_chains.proofs.Chunking.{Chosen, inserted_in, host_inserted, chunk_parted, chunk_last}
+use Rattle.std.proofs.Common.{◌+◌, refl}
+use Rattle.gw_chains.proofs.Known.{known_host, known_taken}
 use Rattle.gw_chains.proofs.chunks.insert.Goals as goal
 
-pub insert_at-requires-clause-order : goal.insert_at-requires-clause-order
-insert_at-requires-clause-order g c d =
-    let cs = c.args.chunks.now.items in
-    chunk_parted (λ y. g.T.Placed.goes_first y c.args.newcomer) cs c.place_of-place.result d (omega (arith, c.args.chunks.now.ok.0, c.place_of-place.ensures.within)) c.requires.order
+pub returns-in-Some-clause-host : goal.returns-in-Some-clause-host
+returns-in-Some-clause-host g c =
+    let at = c.args.at.now in
+    known_host g.T.Placed.goes_first c.args.newcomer c.in-Some.host c.in-Some.ensures.like.0 c.in-Some.ensures.like.1 c.args.chunks.now.items at.chunk at.place c.in-Some.ensures.there c.requires.order c.requires.last
 
-pub insert_at-requires-clause-last : goal.insert_at-requires-clause-last
-insert_at-requires-clause-last g c d =
-    let cs = c.args.chunks.now.items in
-    chunk_last g.T.Placed.goes_first c.args.newcomer cs c.place_of-place.result d (omega (arith, c.args.chunks.now.ok.0, c.place_of-place.ensures.within)) c.requires.last
-
--- the chunk in which it belongs
-abbrev chosen : (g : _) (c : goal.After-insert_at g) → Chosen g.T.Placed.goes_first c.args.newcomer c.args.chunks.now.items c.place_of-place.result (c.place_of-place.result + 1)
-chosen g c = record {
-  next = refl;
-  within = omega (arith, c.args.chunks.now.ok.0, c.place_of-place.ensures.within);
-  chunks = c.requires.chunks;
-  parts = c.requires.order;
-  last = c.requires.last;
-  behind = c.place_of-place.ensures.behind;
-  before = λ d below. c.place_of-place.ensures.before d (omega (arith, c.args.chunks.now.ok.0, below));
-}
-
-pub returns-else-is_empty-clause-host : goal.returns-else-is_empty-clause-host
-returns-else-is_empty-clause-host g c =
-    host_inserted g.T.Placed.goes_first c.args.newcomer c.args.chunks.now.items c.place_of-place.result (c.place_of-place.result + 1) c.insert_at.result (chosen g c) c.insert_at.ensures.host
-
-pub returns-else-is_empty-clause-items : goal.returns-else-is_empty-clause-items
-returns-else-is_empty-clause-items g c =
-    inserted_in g.T.Placed.goes_first c.args.newcomer g.T.Placed.with_guest c.args.chunks.now.items c.insert_at.new.chunks.items c.place_of-place.result (c.place_of-place.result + 1) (chosen g c) c.insert_at.ensures.items
+pub returns-in-Some-clause-items : goal.returns-in-Some-clause-items
+returns-in-Some-clause-items g c =
+    let at = c.args.at.now in
+    known_taken g.T.Placed.goes_first c.args.newcomer c.in-Some.host c.in-Some.ensures.like.0 c.in-Some.ensures.like.1 g.T.Placed.with_guest c.args.chunks.now.items c.replace_at.new.chunks.items at.chunk (at.chunk + 1) at.place c.take_in.result refl c.in-Some.ensures.there c.requires.order c.requires.last c.take_in.ensures c.replace_at.ensures.items

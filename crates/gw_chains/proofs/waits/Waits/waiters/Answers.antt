@@ -1,0 +1,10 @@
+use Rattle.std.proofs.Common.{[], ap, sym, ◌∙◌}
+use Rattle.gw_chains.specs.Waiting.{Walked}
+use Rattle.gw_members.proofs.Each.{here}
+use Rattle.gw_chains.proofs.Waiting.{list_of}
+use Rattle.gw_chains.proofs.waits.Waits.waiters.Goals as goal
+
+pub returns : goal.returns
+returns c =
+    rw (← c.self.view_is)
+    (c.iter.ensures ∙ sym (here (λ (l : Walked). l.members) [] _ _ _ (list_of _ _ _ _ (ap (λ w. w.lists) c.self.view_is) c.requires c.index.ensures)))

@@ -1,0 +1,17 @@
+-- Where a storage admits nobody.
+use Rattle.std.specs.Prelude.{◌≡◌, ℕ, List, Some, false}
+use Rattle.gw_blocks.specs.declared.parts.Block.{Block}
+use Rattle.gw_blocks.specs.declared.parts.Units.{Units}
+use Rattle.gw_entities.specs.Storage.{has_room}
+use Rattle.gw_rules.specs.Kinds.{block_at}
+use Rattle.gw_step.specs.Blocks.{asked, admission}
+use Rattle.gw_step.specs.Changes.{storage}
+use Rattle.gw_step.specs.State.{State, delay_list}
+
+-- the units that the block of a number asks of a storage, if it is its ENTER, aren't free
+abbrev pub AsksInVain : List Block → ℕ → ℕ → State → Type 0
+AsksInVain bs e number s = (u : Units) → asked e (block_at bs number) ≡ Some u → has_room u.number (storage u.entity s) ≡ false
+
+-- nobody who waits for a storage can enter
+abbrev pub AdmitsNobody : List Block → ℕ → State → Type 0
+AdmitsNobody bs e s = admission bs e (delay_list e s) s ≡ s
