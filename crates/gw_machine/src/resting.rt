@@ -33,6 +33,7 @@ impl Machine {
     }
 
     /// Makes room to wake the retry list, and to let the active transaction rest for a time.
+    #[inline(always)]
     pub fn reserve_time(&mut self) -> Result<(), Memory>
         ensures state { state_of self.new ≡ state_of self.old }
         ensures wake { OnOk result (length self.new.waits.retry ≤ self.new.current_events.room) }
