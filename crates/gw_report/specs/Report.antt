@@ -1,5 +1,5 @@
 -- The text of a report: one line per item, words separated by one space, each ended by LF.
-use Rattle.std.specs.Prelude.{◌≡◌, ℕ, ◌+◌, ◌/◌, ◌%◌, pos, false, List, [], ◌∷◌, ◌++◌, length, codes, sum, unsigned_abs, Result, OnOk, Vec}
+use Rattle.std.specs.Prelude.{◌≡◌, ℕ, ◌+◌, ◌/◌, ◌%◌, List, [], ◌∷◌, ◌++◌, codes, unsigned_abs, Result, OnOk, Vec}
 use Rattle.std.specs.Fmt.{decimal, signed_decimal}
 use Rattle.std.specs.Global.{Global}
 use Rattle.std.specs.Int.{from_bool}
@@ -9,22 +9,17 @@ use Rattle.gw_blocks.specs.Grammar.{block_word}
 use Rattle.gw_object.specs.declared.parts.Entity.{Entity}
 use Rattle.gw_object.specs.declared.parts.Kind.{Kind}
 use Rattle.gw_object.specs.declared.parts.Kind.TheVariants as kinds
-use Rattle.gw_num.specs.Table.{at}
-use Rattle.gw_transactions.specs.Transactions.{here_count}
 use Rattle.gw_entities.specs.declared.average.Average.{Average}
 use Rattle.gw_entities.specs.declared.contents.Contents.{Contents}
 use Rattle.gw_entities.specs.declared.facilities.Facility.{Facility}
 use Rattle.gw_entities.specs.Average.{average}
-use Rattle.gw_entities.specs.Contents.{empty}
-use Rattle.gw_entities.specs.Facility.{idle}
-use Rattle.gw_entities.specs.Storage.{vacant}
-use Rattle.gw_entities.specs.Table.{table_at}
 use Rattle.gw_step.specs.declared.ends.End.TheVariants.{Done, Number, ZeroDivisor, NegativeTime, LoopLimit, NoMoreEvents, Budget, Live}
-use Rattle.gw_step.specs.State.{State, delay_list, user_chain}
+use Rattle.gw_step.specs.State.{State}
 use Rattle.gw_scan.specs.declared.sim.Status.{Status}
 use Rattle.gw_scan.specs.declared.sim.Status.TheVariants.{Running, Ended}
-use Rattle.gw_scan.specs.Answers.{status_at}
 use Rattle.gw_step.specs.Job.{Job, Progress, Alone, IsFinal}
+use Rattle.gw_object.specs.declared.parts.Parts.{Parts}
+use Rattle.gw_report.specs.Figures.{Figures, block_at, entity_at, classes_at, figures_of}
 
 -- this text is put behind what is there, unless there is no memory for it
 abbrev pub Puts : {A E : Type 0} → Result A E → Vec ℕ Global → Vec ℕ Global → List ℕ → Type 0
@@ -43,29 +38,25 @@ status_word (Ended Budget) = codes "Budget"
 status_word (Ended Live) = codes "Live"
 
 -- the entries of all blocks, and the termination count
-abbrev pub counts : State → List ℕ
-counts s = codes " ENTRIES " ++ decimal (sum s.entries) ++ codes " COUNT " ++ signed_decimal s.count
+abbrev pub counts : Figures → List ℕ
+counts f = codes " ENTRIES " ++ decimal f.entries ++ codes " COUNT " ++ signed_decimal f.count
 
 -- how the job stands, the clock, the steps and the counts
-abbrev pub end_line : Status → State → List ℕ
-end_line status s =
-    codes "END " ++ status_word status ++ codes " CLOCK " ++ signed_decimal s.clock ++ codes " STEPS " ++ decimal s.steps
-    ++ counts s ++ codes "\n"
+abbrev pub end_line : Figures → List ℕ
+end_line f =
+    codes "END " ++ status_word f.status ++ codes " CLOCK " ++ signed_decimal f.clock ++ codes " STEPS " ++ decimal f.steps
+    ++ counts f ++ codes "\n"
 
--- a block: its number, its word, its entries, and the live transactions whose current block it is
-abbrev pub block_line : State → ℕ → Block → List ℕ
-block_line s b block =
-    codes "BLOCK " ++ decimal b ++ codes " " ++ block_word block ++ codes " " ++ decimal (at 0 s.entries b) ++ codes " "
-    ++ decimal (here_count b s.transactions) ++ codes "\n"
+-- the block at a place, from 0: its number, its word, its entries, and the live transactions whose current block it is
+abbrev pub block_line : Figures → ℕ → Block → List ℕ
+block_line f i block =
+    codes "BLOCK " ++ decimal (i + 1) ++ codes " " ++ block_word block ++ codes " " ++ decimal (block_at i f).entries ++ codes " "
+    ++ decimal (block_at i f).here ++ codes "\n"
 
--- the lines of these blocks, the first of which has this number
-unfoldable pub block_lines : State → ℕ → List Block → List ℕ
-block_lines s b [] = []
-block_lines s b (block ∷ rest) = block_line s b block ++ block_lines s (b + 1) rest
-
--- the lines of the blocks of a job, in order
-abbrev pub lines_of_blocks : Progress → List ℕ
-lines_of_blocks p = block_lines p.state 1 p.job.parts.blocks
+-- the lines of these blocks, the first of which is at this place
+unfoldable pub block_lines : Figures → ℕ → List Block → List ℕ
+block_lines f i [] = []
+block_lines f i (block ∷ rest) = block_line f i block ++ block_lines f (i + 1) rest
 
 -- an average: its whole part and the three digits of its thousandths
 abbrev pub average_text : Average → List ℕ
@@ -74,12 +65,8 @@ average_text a =
     ++ decimal (a.thousandths % 10)
 
 -- the average over the clock of what sums up to this
-abbrev pub average_so_far : ℕ → State → List ℕ
-average_so_far time_sum s = average_text (average time_sum (unsigned_abs s.clock))
-
--- how many wait for the entity of a number
-abbrev pub waiting_for : ℕ → State → List ℕ
-waiting_for e s = codes " WAIT " ++ decimal (length (delay_list e s))
+abbrev pub average_so_far : ℕ → Figures → List ℕ
+average_so_far time_sum f = average_text (average time_sum (unsigned_abs f.clock))
 
 -- how often a facility was seized, and the number of the transaction that owns it: 0 where nobody does
 abbrev pub ownership_text : Facility → List ℕ
@@ -91,32 +78,32 @@ contents_text c =
     codes " CONTENT " ++ decimal c.content ++ codes " MAX " ++ decimal c.maximum ++ codes " ENTRIES " ++ decimal c.entries
 
 -- the facility of a number and a name: its entries and owner, its waiters, and its utilisation
-abbrev pub facility_line : State → ℕ → List ℕ → List ℕ
-facility_line s e name =
-    let facility = at idle s.entities.facilities e in
-    codes "FACILITY " ++ name ++ ownership_text facility ++ waiting_for e s ++ codes " UTIL "
-    ++ average_so_far facility.busy s ++ codes "\n"
+abbrev pub facility_line : Figures → ℕ → List ℕ → List ℕ
+facility_line f e name =
+    let here = entity_at e f in
+    codes "FACILITY " ++ name ++ ownership_text here.facility ++ codes " WAIT " ++ decimal here.waiting ++ codes " UTIL "
+    ++ average_so_far here.facility.busy f ++ codes "\n"
 
 -- the storage of a number and a name: its capacity, what is inside, its waiters, and its average content
-abbrev pub storage_line : State → ℕ → List ℕ → List ℕ
-storage_line s e name =
-    let storage = at (vacant 0) s.entities.storages e in
-    codes "STORAGE " ++ name ++ codes " CAP " ++ decimal storage.capacity ++ contents_text storage.contents
-    ++ waiting_for e s ++ codes " AVG " ++ average_so_far storage.contents.time_sum s ++ codes "\n"
+abbrev pub storage_line : Figures → ℕ → List ℕ → List ℕ
+storage_line f e name =
+    let here = entity_at e f in
+    codes "STORAGE " ++ name ++ codes " CAP " ++ decimal here.storage.capacity ++ contents_text here.storage.contents
+    ++ codes " WAIT " ++ decimal here.waiting ++ codes " AVG " ++ average_so_far here.storage.contents.time_sum f ++ codes "\n"
 
 -- the queue of a number and a name: what is inside, and its average content
-abbrev pub queue_line : State → ℕ → List ℕ → List ℕ
-queue_line s e name =
-    let queue = at empty s.entities.queues e in
-    codes "QUEUE " ++ name ++ contents_text queue ++ codes " AVG " ++ average_so_far queue.time_sum s ++ codes "\n"
+abbrev pub queue_line : Figures → ℕ → List ℕ → List ℕ
+queue_line f e name =
+    let queue = (entity_at e f).queue in
+    codes "QUEUE " ++ name ++ contents_text queue ++ codes " AVG " ++ average_so_far queue.time_sum f ++ codes "\n"
 
 -- the logic switch of a number and a name: 1 where it is set, 0 where it is reset
-abbrev pub switch_line : State → ℕ → List ℕ → List ℕ
-switch_line s e name = codes "SWITCH " ++ name ++ codes " " ++ decimal (from_bool (at false s.entities.switches e)) ++ codes "\n"
+abbrev pub switch_line : Figures → ℕ → List ℕ → List ℕ
+switch_line f e name = codes "SWITCH " ++ name ++ codes " " ++ decimal (from_bool (entity_at e f).switch) ++ codes "\n"
 
 -- the savevalue of a number and a name: its value
-abbrev pub savevalue_line : State → ℕ → List ℕ → List ℕ
-savevalue_line s e name = codes "SAVEVALUE " ++ name ++ codes " " ++ signed_decimal (at (pos 0) s.entities.savevalues e) ++ codes "\n"
+abbrev pub savevalue_line : Figures → ℕ → List ℕ → List ℕ
+savevalue_line f e name = codes "SAVEVALUE " ++ name ++ codes " " ++ signed_decimal (entity_at e f).savevalue ++ codes "\n"
 
 -- a class of a table: its number, and how many values it has
 abbrev pub class_line : ℕ → ℕ → List ℕ
@@ -128,22 +115,22 @@ class_lines i [] = []
 class_lines i (values ∷ rest) = class_line i values ++ class_lines (i + 1) rest
 
 -- the table of a number and a name: how many values were entered, their sum, and its classes
-abbrev pub table_lines : State → ℕ → List ℕ → List ℕ
-table_lines s e name =
-    let table = table_at e s.entities.tables in
+abbrev pub table_lines : Figures → ℕ → List ℕ → List ℕ
+table_lines f e name =
+    let table = (entity_at e f).table in
     codes "TABLE " ++ name ++ codes " COUNT " ++ decimal table.count ++ codes " SUM " ++ signed_decimal table.sum ++ codes "\n"
-    ++ class_lines 0 table.classes
+    ++ class_lines 0 (classes_at e f)
 
 -- the user chain of a number and a name: how many members it has
-abbrev pub chain_line : State → ℕ → List ℕ → List ℕ
-chain_line s e name = codes "CHAIN " ++ name ++ codes " CONTENT " ++ decimal (length (user_chain e s)) ++ codes "\n"
+abbrev pub chain_line : Figures → ℕ → List ℕ → List ℕ
+chain_line f e name = codes "CHAIN " ++ name ++ codes " CONTENT " ++ decimal (entity_at e f).members ++ codes "\n"
 
 -- a variable or a function has no line
-abbrev pub no_line : State → ℕ → List ℕ → List ℕ
-no_line s e name = []
+abbrev pub no_line : Figures → ℕ → List ℕ → List ℕ
+no_line f e name = []
 
 -- the lines of an entity of this kind, by its number and its name
-abbrev pub lines_of_kind : Kind → State → ℕ → List ℕ → List ℕ
+abbrev pub lines_of_kind : Kind → Figures → ℕ → List ℕ → List ℕ
 lines_of_kind kinds.Facility = facility_line
 lines_of_kind (kinds.Storage capacity) = storage_line
 lines_of_kind kinds.Queue = queue_line
@@ -156,21 +143,21 @@ lines_of_kind (kinds.BooleanVariable procedure) = no_line
 lines_of_kind (kinds.Function operands) = no_line
 
 -- the lines of an entity, by its number
-abbrev pub lines_of : State → ℕ → Entity → List ℕ
-lines_of s e entity = lines_of_kind entity.kind s e entity.name
+abbrev pub lines_of : Figures → ℕ → Entity → List ℕ
+lines_of f e entity = lines_of_kind entity.kind f e entity.name
 
 -- the lines of these entities, the first of which has this number
-unfoldable pub entity_lines : State → ℕ → List Entity → List ℕ
-entity_lines s e [] = []
-entity_lines s e (entity ∷ rest) = lines_of s e entity ++ entity_lines s (e + 1) rest
+unfoldable pub entity_lines : Figures → ℕ → List Entity → List ℕ
+entity_lines f e [] = []
+entity_lines f e (entity ∷ rest) = lines_of f e entity ++ entity_lines f (e + 1) rest
 
--- the lines of the entities of a job, in order
-abbrev pub lines_of_entities : Progress → List ℕ
-lines_of_entities p = entity_lines p.state 0 p.job.parts.entities
+-- the report text of figures of a job of these parts
+abbrev pub report_text : Parts → Figures → List ℕ
+report_text parts f = end_line f ++ block_lines f 0 parts.blocks ++ entity_lines f 0 parts.entities
 
 -- the report text of a job and its state
 abbrev pub report_of : Progress → List ℕ
-report_of p = end_line (status_at p.state.ended) p.state ++ lines_of_blocks p ++ lines_of_entities p
+report_of p = report_text p.job.parts (figures_of p)
 
 -- the report of the final state that the lone run reaches
 pub record Ends (j : Job) (text : List ℕ) : Type 0 where

@@ -1,31 +1,43 @@
 //! The lines of the blocks.
 
-ghost use Rattle.gw_report.specs.Report.{Puts, block_line, lines_of_blocks};
+ghost use Rattle.std.specs.Prelude.{◌<◌, ◌≤◌, length};
+ghost use Rattle.gw_report.specs.Report.{Puts, block_line, block_lines};
 
+use crate::figures::Figures;
 use crate::text::{put, put_number};
 use gw_blocks::{Block, block_word};
 use gw_object::Memory;
-use gw_scan::Sim;
 
-fn put_block_line(out: &mut Vec<u8>, sim: &Sim, number: u16, block: &Block) -> Result<(), Memory>
-    ensures { Puts result out.old out.new (block_line sim.now.state number block.now) }
+fn put_block_line(
+    out: &mut Vec<u8>,
+    figures: &Figures,
+    place: usize,
+    block: &Block,
+) -> Result<(), Memory>
+    requires { place < 65535 }
+    ensures { Puts result out.old out.new (block_line figures.now place block.now) }
 {
-    put_number(out, "BLOCK ", number)?;
+    let here = figures.block(place);
+    put_number(out, "BLOCK ", place + 1)?;
     put(out, " ")?;
     put(out, block_word(block))?;
-    put_number(out, " ", sim.entries_at(number))?;
-    put_number(out, " ", sim.here(number))?;
+    put_number(out, " ", here.entries)?;
+    put_number(out, " ", here.here)?;
     put(out, "\n")
 }
 
 /// A line for each block, in order.
 #[tactic(auto, unfolding(crate::specs::Report::block_lines))]
-pub(crate) fn put_block_lines(out: &mut Vec<u8>, sim: &Sim) -> Result<(), Memory>
-    ensures { Puts result out.old out.new (lines_of_blocks sim.now) }
+pub(crate) fn put_block_lines(
+    out: &mut Vec<u8>,
+    figures: &Figures,
+    blocks: &[Block],
+) -> Result<(), Memory>
+    requires { length blocks.now ≤ 65535 }
+    ensures { Puts result out.old out.new (block_lines figures.now 0 blocks.now) }
 {
-    let blocks = sim.spec().verified().object().parts().blocks.as_slice();
     for i in 0..blocks.len() {
-        put_block_line(out, sim, (i + 1) as u16, &blocks[i])?;
+        put_block_line(out, figures, i, &blocks[i])?;
     }
     Ok(())
 }

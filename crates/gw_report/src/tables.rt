@@ -1,11 +1,10 @@
 //! The lines of a table.
 
-ghost use Rattle.std.specs.Prelude.{◌<◌, length};
 ghost use Rattle.gw_report.specs.Report.{Puts, class_line, class_lines, table_lines};
 
+use crate::figures::Figures;
 use crate::text::{put, put_name, put_number};
 use gw_object::Memory;
-use gw_scan::Sim;
 
 fn put_class_line(out: &mut Vec<u8>, class: usize, values: u64) -> Result<(), Memory>
     ensures { Puts result out.old out.new (class_line class values) }
@@ -29,17 +28,16 @@ fn put_class_lines(out: &mut Vec<u8>, classes: &[u64]) -> Result<(), Memory>
 /// The lines of the table of a number and a name.
 pub(crate) fn put_table_lines(
     out: &mut Vec<u8>,
-    sim: &Sim,
-    number: u16,
+    figures: &Figures,
+    number: usize,
     name: &[u8],
 ) -> Result<(), Memory>
-    requires { number < length sim.now.job.parts.entities }
-    ensures { Puts result out.old out.new (table_lines sim.now.state number name.now) }
+    ensures { Puts result out.old out.new (table_lines figures.now number name.now) }
 {
-    let table = sim.tables().get(number);
+    let table = figures.entity(number).table;
     put_name(out, "TABLE ", name)?;
-    put_number(out, " COUNT ", table.count())?;
-    put_number(out, " SUM ", table.sum())?;
+    put_number(out, " COUNT ", table.count)?;
+    put_number(out, " SUM ", table.sum)?;
     put(out, "\n")?;
-    put_class_lines(out, table.classes())
+    put_class_lines(out, figures.classes(number))
 }

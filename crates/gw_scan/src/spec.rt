@@ -207,6 +207,37 @@ impl Spec {
         })
     }
 
+    /// Another job of its object, with these seeds, this count and its own budget, as `new` makes it, whose refusals of seeds and
+    /// count are its refusals. The object isn't copied: the two share it. `Memory` comes only where 2^63 - 1 specs share it already.
+    pub fn reseed(&self, seeds: &[u32], count: u64) -> Result<Spec, StartFault>
+        ensures made { IfOk result (λ spec.
+            spec ≡ job_from self.now.parts seeds.now count self.now.budget) }
+        ensures in_range { IfOk result (λ _.
+            spec_fault seeds.now count self.now.budget ≡ None) }
+        ensures refused { IfErr result (λ fault.
+            fault ≡ refusal_of seeds.now count self.now.budget) }
+    {
+        if let Some(fault) = fault_of(seeds, count, self.budget) {
+            return Err(fault);
+        }
+        let parts = self.verified().object().parts();
+        let streams = streams_of(seeds_or(seeds, parts.seeds.as_slice()));
+        let count = count_or(count, parts.count);
+        let Ok(decoded) = Arc::try_clone(&self.decoded) else {
+            return Err(StartFault::Memory);
+        };
+        match Arc::try_clone(&self.verified) {
+            Ok(verified) => Ok(Spec {
+                verified,
+                decoded,
+                streams,
+                count,
+                budget: self.budget,
+            }),
+            Err(_) => Err(StartFault::Memory),
+        }
+    }
+
     /// The object that it runs.
     pub fn verified(&self) -> &Verified
         ensures value { result.now ≡ self.now.parts }
