@@ -1,12 +1,11 @@
 -- The classes of a table, as bars.
-use Rattle.std.specs.Prelude.{Bool, ℕ, ◌+◌, ◌-◌, ◌*◌, ◌/◌, ◌%◌, ℤ, pos, ◌+ℤ◌, min, List, [], ◌++◌, length, slice_index, codes, ◌||◌, ◌==◌, if◌then◌else◌}
-use Rattle.std.specs.Fmt.{signed_decimal}
+use Rattle.std.specs.Prelude.{Bool, ℕ, ◌+◌, ◌-◌, ◌*◌, ◌/◌, ◌%◌, ℤ, pos, ◌+ℤ◌, min, List, [], ◌++◌, length, slice_index, codes, nat_lt, ◌||◌, ◌&&◌, ◌==◌, if◌then◌else◌}
 use Rattle.gw_object.specs.declared.parts.Table.{Table}
 use Rattle.gw_chart.specs.declared.plot.Plot.{Plot}
-use Rattle.gw_chart.specs.Steps.{Steps}
-use Rattle.gw_chart.specs.Numbers.{scaled, greatest, scale_to}
-use Rattle.gw_chart.specs.Text.{upto, tenths}
-use Rattle.gw_chart.specs.Plots.{floor_of, height_of, colour_of, text_at, title, unit, below, top_of, levels}
+use Rattle.gw_drawing.specs.Steps.{Steps}
+use Rattle.gw_drawing.specs.Numbers.{scaled, greatest, scale_to, top_of}
+use Rattle.gw_drawing.specs.Text.{upto, tenths, text_at, signed_grouped}
+use Rattle.gw_chart.specs.Plots.{floor_of, height_of, colour_of, title, unit, below, levels}
 
 -- how high the bar of so many values is
 abbrev pub bar_height : Plot → Steps → ℕ → ℕ
@@ -34,7 +33,7 @@ limit_of table i = table.limit +ℤ pos (i * table.width)
 
 -- the upper limit of a class of so many; the last has none
 abbrev pub limit_text : Table → ℕ → ℕ → List ℕ
-limit_text table classes i = if i + 1 == classes then codes "more" else signed_decimal (limit_of table i)
+limit_text table classes i = if i + 1 == classes then codes "more" else signed_grouped (limit_of table i)
 
 -- the same, below its bar
 abbrev pub limit : Plot → Table → ℕ → ℕ → List ℕ
@@ -42,9 +41,9 @@ limit plot table classes i =
     text_at (800 + scaled 6200 i classes + 6200 / classes / 2) (floor_of plot + 160) (codes " text-anchor=\"middle\"")
     ++ limit_text table classes i ++ codes "</text>\n"
 
--- there is room for it below one of so many bars, and below the last
+-- there is room for it below one of so many bars, but for those near the last, and below the last
 abbrev pub has_room : ℕ → ℕ → Bool
-has_room classes i = (i % (classes / 12 + 1) == 0) || (i + 1 == classes)
+has_room classes i = ((i % (classes / 12 + 1) == 0) && nat_lt (i + classes / 12 + 1) classes) || (i + 1 == classes)
 
 -- the same, where there is room for it
 abbrev pub limit_if_room : Plot → Table → ℕ → ℕ → List ℕ

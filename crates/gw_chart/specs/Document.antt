@@ -1,4 +1,4 @@
--- The document: a panel for each facility, storage, queue and table, one below the other.
+-- The document: a panel for each facility, storage, queue, switch, user chain and table, one below the other.
 use Rattle.std.specs.Prelude.{ℕ, ◌+◌, max, List, [], ◌++◌, length, slice_get, codes, unsigned_abs, Option, Some, None}
 use Rattle.std.specs.Option.{option_map_or, option_and_then}
 use Rattle.std.specs.Fmt.{decimal}
@@ -9,10 +9,10 @@ use Rattle.gw_object.specs.declared.parts.Parts.{Parts}
 use Rattle.gw_step.specs.State.{State}
 use Rattle.gw_step.specs.Changes.{table}
 use Rattle.gw_chart.specs.declared.plot.Plot.{Plot}
-use Rattle.gw_chart.specs.Numbers.{total}
-use Rattle.gw_chart.specs.Text.{upto, tenths, grouped}
+use Rattle.gw_drawing.specs.Numbers.{total}
+use Rattle.gw_drawing.specs.Text.{upto, tenths, grouped}
 use Rattle.gw_chart.specs.Plots.{plot_of, panel_height}
-use Rattle.gw_chart.specs.Lines.{line_panel}
+use Rattle.gw_chart.specs.Lines.{line_panel, limit_of}
 use Rattle.gw_chart.specs.Bars.{bar_panel}
 
 -- how high the panel of an entity is; 0 where it has none
@@ -43,7 +43,7 @@ head height clock =
 -- what is drawn in the panel of the entity of a number, which is of this kind and has this name
 abbrev pub drawn : Kind → Plot → List ℕ → State → List (List ℕ) → ℕ → List ℕ
 drawn (kinds.Table operands) plot name s rows e = bar_panel plot name operands (table e s).classes
-drawn kind plot name s rows e = line_panel plot name rows e (span_of s)
+drawn kind plot name s rows e = line_panel plot name rows e (span_of s) (limit_of kind)
 
 -- a panel, which begins so far below the upper end of the document
 abbrev pub placed : ℕ → List ℕ → List ℕ

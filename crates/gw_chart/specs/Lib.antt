@@ -1,10 +1,6 @@
 -- WHAT IS SHOWN
 pub mod Contents
 pub mod Samples
--- NUMBERS AND TEXT
-pub mod Steps
-pub mod Numbers
-pub mod Text
 -- THE PICTURE
 pub mod Plots
 pub mod Lines

@@ -1,44 +1,52 @@
 -- The plot of an entity: its axes, and what stands beside them. Places are in tenths of pixels: the plot lies from 80 to 700 from the left, and from 32 downwards in its panel.
 use Rattle.std.specs.Prelude.{ℕ, ◌+◌, ◌-◌, ◌*◌, ◌/◌, List, ◌++◌, codes, Option, Some, None}
-use Rattle.std.specs.Fmt.{decimal}
 use Rattle.gw_object.specs.declared.parts.Kind.{Kind}
 use Rattle.gw_object.specs.declared.parts.Kind.TheVariants as kinds
 use Rattle.gw_chart.specs.declared.plot.Plot.{Plot}
-use Rattle.gw_chart.specs.declared.plot.Plot.TheVariants.{Owned, Units, Waiting, Classes}
-use Rattle.gw_chart.specs.Steps.{Steps}
-use Rattle.gw_chart.specs.Numbers.{scaled}
-use Rattle.gw_chart.specs.Text.{upto, escaped, tenths, grouped}
+use Rattle.gw_chart.specs.declared.plot.Plot.TheVariants.{Owned, Units, Waiting, Set, Members, Classes}
+use Rattle.gw_drawing.specs.Steps.{Steps}
+use Rattle.gw_drawing.specs.Numbers.{scaled}
+use Rattle.gw_drawing.specs.Text.{upto, escaped, tenths, text_at, label}
 
 -- the plot of a kind of entity, if it has one
 abbrev pub plot_of : Kind → Option Plot
 plot_of kinds.Facility = Some Owned
 plot_of (kinds.Storage capacity) = Some Units
 plot_of kinds.Queue = Some Waiting
+plot_of (kinds.Switch set) = Some Set
+plot_of kinds.Chain = Some Members
 plot_of (kinds.Table operands) = Some Classes
 plot_of kind = None
 
 -- what it shows
 abbrev pub shown_in : Plot → List ℕ
 shown_in Owned = codes "facility, 1 where it is owned"
-shown_in Units = codes "storage, units in it"
+shown_in Units = codes "storage, units in it; its capacity is dashed"
 shown_in Waiting = codes "queue, units that wait"
+shown_in Set = codes "switch, 1 where it is set"
+shown_in Members = codes "user chain, members"
 shown_in Classes = codes "table, values in each class over the whole run"
 
 abbrev pub unit_of : Plot → List ℕ
 unit_of Owned = codes "owned"
 unit_of Units = codes "units"
 unit_of Waiting = codes "waiting"
+unit_of Set = codes "set"
+unit_of Members = codes "members"
 unit_of Classes = codes "values"
 
 abbrev pub colour_of : Plot → List ℕ
 colour_of Owned = codes "#4477aa"
 colour_of Units = codes "#228833"
 colour_of Waiting = codes "#cc5533"
+colour_of Set = codes "#997700"
+colour_of Members = codes "#117788"
 colour_of Classes = codes "#886699"
 
 -- how high the plot is
 abbrev pub height_of : Plot → ℕ
 height_of Owned = 400
+height_of Set = 400
 height_of plot = 1000
 
 -- how high its panel is, with the title above it and the numbers below it
@@ -50,14 +58,6 @@ abbrev pub floor_of : Plot → ℕ
 floor_of plot = 320 + height_of plot
 
 -- TEXTS AND LINES
-
--- where a text begins, and how it lies there
-abbrev pub text_at : ℕ → ℕ → List ℕ → List ℕ
-text_at x y how = codes "<text x=\"" ++ tenths x ++ codes "\" y=\"" ++ tenths y ++ codes "\"" ++ how ++ codes ">"
-
--- a number as a text
-abbrev pub label : ℕ → ℕ → List ℕ → ℕ → List ℕ
-label x y how number = text_at x y how ++ grouped (decimal number) ++ codes "</text>\n"
 
 -- a level line through the plot
 abbrev pub level_line : ℕ → List ℕ
@@ -87,10 +87,6 @@ unfoldable pub below : Plot → List ℕ → List ℕ
 below plot words = text_at 3900 (floor_of plot + 330) (codes " text-anchor=\"middle\" fill=\"#555\"") ++ words ++ codes "</text>\n"
 
 -- THE UPRIGHT AXIS
-
--- where a scale ends
-abbrev pub top_of : Steps → ℕ
-top_of scale = scale.step * scale.count
 
 -- the place of a step of the scale, from the upper end of the panel
 abbrev pub level_at : Plot → Steps → ℕ → ℕ

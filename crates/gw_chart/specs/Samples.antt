@@ -4,7 +4,7 @@ use Rattle.gw_step.specs.State.{State}
 use Rattle.gw_step.specs.Job.{Job, Alone}
 use Rattle.gw_model_jobs.specs.Running.{AreStillAt, IsOver}
 use Rattle.gw_chart.specs.Contents.{contents_from}
-use Rattle.gw_chart.specs.Numbers.{scaled}
+use Rattle.gw_drawing.specs.Numbers.{scaled}
 
 -- the clock of a moment, by its number: the first is clock 0, the last, 499, that of the end, and the others lie evenly between them; no clock is above 2^63 - 1
 abbrev pub moment : ℤ → ℕ → ℤ

@@ -1,18 +1,17 @@
 //! The classes of a table, as bars.
 
 ghost use Rattle.std.specs.Prelude.{◌≡◌, ◌≤◌, ◌<◌, ◌*◌, ◌+◌, ◌++◌, length, slice_index, OnOk};
-ghost use Rattle.gw_chart.specs.Numbers.{greatest as greatest_of};
+ghost use Rattle.gw_drawing.specs.Numbers.{greatest as greatest_of};
 ghost use Rattle.gw_chart.specs.Plots.{height_of as plot_height};
 ghost use Rattle.gw_chart.specs.Bars as model;
 
-use crate::numbers::{scale_to, scaled};
 use crate::plot::{
-    Plot, colour_of, floor_of, height_of, put_below, put_levels, put_text_at, put_title, put_unit,
+    Plot, colour_of, floor_of, height_of, put_below, put_levels, put_title, put_unit,
 };
-use crate::scale::Scale;
-use crate::text::put_tenths;
+use gw_drawing::numbers::{scale_to, scaled, top_of};
+use gw_drawing::scale::Scale;
+use gw_drawing::text::{put, put_signed, put_tenths, put_text_at};
 use gw_object::{Memory, Table};
-use gw_report::text::{put, put_number};
 
 /// The greatest of these, and at least 1.
 #[tactic(auto, using(crate::proofs::Series::greatest_more, crate::proofs::Series::greatest_none))]
@@ -28,12 +27,11 @@ fn greatest(values: &[u64]) -> u64
 }
 
 /// How high the bar of so many values is.
-#[tactic(auto, using(crate::proofs::Places::top_most, crate::proofs::Places::top_some))]
 fn bar_height(plot: Plot, scale: Scale, value: u64) -> u64
     ensures value { result ≡ model.bar_height plot scale value }
     ensures most { result ≤ plot_height plot }
 {
-    let top = scale.step * scale.count as u128;
+    let top = top_of(scale);
     let shown = (value as u128).min(top) as u64;
     scaled(height_of(plot), shown, top)
 }
@@ -104,7 +102,7 @@ fn put_limit_text(out: &mut Vec<u8>, table: &Table, classes: u64, i: u64) -> Res
     if i + 1 == classes {
         put(out, "more")
     } else {
-        put_number(out, "", limit_of(table, i))
+        put_signed(out, limit_of(table, i))
     }
 }
 
@@ -125,12 +123,13 @@ fn put_limit(
     put(out, "</text>\n")
 }
 
-/// Whether there is room for the upper limit of a class of so many: below one of so many bars, and below the last.
+/// Whether there is room for the upper limit of a class of so many: below one of so many bars, but for those near
+/// the last, and below the last.
 fn has_room(classes: u64, i: u64) -> bool
     requires { i < classes }
     ensures { result ≡ model.has_room classes i }
 {
-    i % (classes / 12 + 1) == 0 || i + 1 == classes
+    (i % (classes / 12 + 1) == 0 && classes - i > classes / 12 + 1) || i + 1 == classes
 }
 
 /// A class: its bar, and its upper limit where there is room for it.

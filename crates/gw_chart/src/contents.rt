@@ -7,8 +7,8 @@ use gw_object::{Items, Kind, Memory};
 use gw_scan::Sim;
 use std::alloc::Global;
 
-/// What is in an entity, by its number from 0: 1 in a facility that is owned, the units in a storage, those that wait in a
-/// queue, and 0 in any other.
+/// What is in an entity, by its number from 0: 1 in a facility that is owned or a switch that is set, the units in a storage,
+/// those that wait in a queue, the members of a user chain, and 0 in any other.
 fn content_of(sim: &Sim, number: u16, kind: &Kind) -> u64
     requires { number < length sim.now.job.parts.entities }
     ensures { result ≡ content_of kind.now sim.now.state number }
@@ -17,6 +17,8 @@ fn content_of(sim: &Sim, number: u16, kind: &Kind) -> u64
         Kind::Facility => u64::from(sim.facilities().get(number).owner.is_some()),
         Kind::Storage(_) => sim.storages().get(number).contents.content,
         Kind::Queue => sim.queues().get(number).content,
+        Kind::Switch(_) => u64::from(sim.switches().get(number)),
+        Kind::Chain => sim.members(number) as u64,
         _ => 0,
     }
 }

@@ -1,14 +1,13 @@
-//! The document: a panel for each facility, storage, queue and table, one below the other.
+//! The document: a panel for each facility, storage, queue, switch, user chain and table, one below the other.
 
 ghost use Rattle.std.specs.Prelude.{◌≡◌, ◌≤◌, ◌<◌, ◌+◌, ◌*◌, ◌++◌, length, OnOk};
 ghost use Rattle.gw_chart.specs.Document as model;
 
 use crate::bars::put_bar_panel;
-use crate::line::put_line_panel;
+use crate::line::{limit_of, put_line_panel};
 use crate::plot::{Plot, panel_height, plot_of};
-use crate::text::{put_grouped, put_tenths};
+use gw_drawing::text::{put, put_grouped, put_tenths};
 use gw_object::{Entity, Items, Kind, Memory};
-use gw_report::text::put;
 use gw_scan::Sim;
 
 /// How high the panel of an entity is; 0 where it has none.
@@ -95,7 +94,10 @@ fn put_drawn(
             let values = sim.tables().get(number).classes();
             put_bar_panel(out, plot, name, table, values)
         }
-        _ => put_line_panel(out, plot, name, rows, number as usize, span_of(sim)),
+        _ => {
+            let limit = limit_of(&entity.kind);
+            put_line_panel(out, plot, name, rows, number as usize, span_of(sim), limit)
+        }
     }
 }
 

@@ -6,10 +6,7 @@ mod charting;
 mod contents;
 mod document;
 mod line;
-mod numbers;
 mod plot;
 mod samples;
-mod scale;
-mod text;
 
 pub use charting::chart;

@@ -1,18 +1,17 @@
 //! What is in an entity over time, as a line.
 
 ghost use Rattle.std.specs.Prelude.{◌≡◌, ◌≤◌, ◌<◌, ◌*◌, ◌+◌, ◌/◌, ◌++◌, length, OnOk};
-ghost use Rattle.gw_chart.specs.Numbers.{round_step as step_of, greatest as greatest_of};
+ghost use Rattle.gw_drawing.specs.Numbers.{round_step as step_of, greatest as greatest_of};
 ghost use Rattle.gw_chart.specs.Lines as model;
 
-use crate::numbers::{round_step, scale_to, scaled};
 use crate::plot::{
-    Plot, colour_of, floor_of, height_of, put_below, put_label, put_levels, put_title, put_unit,
+    Plot, colour_of, floor_of, height_of, put_below, put_levels, put_title, put_unit,
     put_upright_line,
 };
-use crate::scale::Scale;
-use crate::text::put_tenths;
-use gw_object::{Items, Memory};
-use gw_report::text::put;
+use gw_drawing::numbers::{round_step, scale_to, scaled, top_of};
+use gw_drawing::scale::Scale;
+use gw_drawing::text::{put, put_label, put_tenths};
+use gw_object::{Items, Kind, Memory};
 
 /// What was in an entity, to be drawn.
 #[derive(Clone, Copy)]
@@ -82,11 +81,10 @@ fn greatest(rows: &[Items<u64>], entity: usize) -> u64
 }
 
 /// The place of a content, from the upper end of a panel.
-#[tactic(auto, using(crate::proofs::Places::top_most, crate::proofs::Places::top_some))]
 fn height_at(plot: Plot, scale: Scale, value: u64) -> u64
     ensures { result ≡ model.height_at plot scale value }
 {
-    let top = scale.step * scale.count as u128;
+    let top = top_of(scale);
     let shown = (value as u128).min(top) as u64;
     floor_of(plot) - scaled(height_of(plot), shown, top)
 }
@@ -177,7 +175,108 @@ fn put_polyline(out: &mut Vec<u8>, curve: &Curve<'_>) -> Result<(), Memory>
     put(out, "\"/>\n")
 }
 
-/// The panel of an entity, whose name and number are given, over a run that lasts so many clock units.
+/// How much fits an entity, if it has a capacity.
+pub(crate) fn limit_of(kind: &Kind) -> Option<u64>
+    ensures { result ≡ model.limit_of kind.now }
+{
+    match kind {
+        Kind::Storage(capacity) => Some(u64::from(*capacity)),
+        _ => None,
+    }
+}
+
+/// A limit, where it is at most ten times as much as is in an entity.
+fn limit_within(most: u64, limit: Option<u64>) -> Option<u64>
+    ensures { result ≡ model.limit_within most limit }
+{
+    match limit {
+        Some(limit) if u128::from(limit) <= 10 * u128::from(most) => Some(limit),
+        _ => None,
+    }
+}
+
+/// How far the upright axis reaches: to the greatest content, and to the limit.
+fn reach_to(most: u64, limit: Option<u64>) -> u64
+    requires { 0 < most }
+    ensures value { result ≡ model.reach_to most limit }
+    ensures some { 0 < result }
+{
+    most.max(limit.unwrap_or(1))
+}
+
+/// A dashed level line at a limit.
+fn put_limit(out: &mut Vec<u8>, plot: Plot, scale: Scale, limit: u64) -> Result<(), Memory>
+    ensures { OnOk result (out.new.items ≡ out.old.items ++ model.limit plot scale limit) }
+{
+    put(out, "<path d=\"M80.0 ")?;
+    put_tenths(out, height_at(plot, scale, limit))?;
+    put(out, "H700.0\" stroke=\"#333\" stroke-dasharray=\"4 4\"/>\n")
+}
+
+/// The same, if there is a limit.
+fn put_limit_line(
+    out: &mut Vec<u8>,
+    plot: Plot,
+    scale: Scale,
+    limit: Option<u64>,
+) -> Result<(), Memory>
+    ensures { OnOk result (out.new.items ≡ out.old.items ++ model.limit_line plot scale limit) }
+{
+    match limit {
+        Some(limit) => put_limit(out, plot, scale, limit),
+        None => Ok(()),
+    }
+}
+
+/// The axes of a panel, and its limit.
+fn put_axes(
+    out: &mut Vec<u8>,
+    plot: Plot,
+    name: &[u8],
+    scale: Scale,
+    span: u64,
+    limit: Option<u64>,
+) -> Result<(), Memory>
+    requires { 0 < span }
+    ensures { OnOk result (out.new.items ≡ out.old.items
+        ++ model.axes scale plot name.now span limit) }
+{
+    put_title(out, name, plot)?;
+    put_unit(out, plot)?;
+    put_levels(out, plot, scale)?;
+    put_clocks(out, plot, span)?;
+    put_below(out, plot, "clock units")?;
+    put_limit_line(out, plot, scale, limit)
+}
+
+/// The panel of an entity in which there is so much at most.
+fn put_panel_to(
+    out: &mut Vec<u8>,
+    plot: Plot,
+    name: &[u8],
+    rows: &[Items<u64>],
+    entity: usize,
+    span: u64,
+    most: u64,
+    limit: Option<u64>,
+) -> Result<(), Memory>
+    requires { (0 < span) × (0 < most) }
+    ensures { OnOk result (out.new.items ≡ out.old.items
+        ++ model.panel_to most limit plot name.now rows.now entity span) }
+{
+    let scale = scale_to(reach_to(most, limit));
+    put_axes(out, plot, name, scale, span, limit)?;
+    let curve = Curve {
+        plot,
+        scale,
+        rows,
+        entity,
+    };
+    put_polyline(out, &curve)
+}
+
+/// The panel of an entity, whose name and number are given, over a run that lasts so many clock units, with its limit if it has
+/// one.
 #[tactic(auto, unfolding(crate::specs::Lines::line_panel))]
 pub(crate) fn put_line_panel(
     out: &mut Vec<u8>,
@@ -186,22 +285,21 @@ pub(crate) fn put_line_panel(
     rows: &[Items<u64>],
     entity: usize,
     span: u64,
+    limit: Option<u64>,
 ) -> Result<(), Memory>
     requires { 0 < span }
     ensures { OnOk result (out.new.items ≡ out.old.items
-        ++ model.line_panel plot name.now rows.now entity span) }
+        ++ model.line_panel plot name.now rows.now entity span limit) }
 {
-    let scale = scale_to(greatest(rows, entity));
-    put_title(out, name, plot)?;
-    put_unit(out, plot)?;
-    put_levels(out, plot, scale)?;
-    put_clocks(out, plot, span)?;
-    put_below(out, plot, "clock units")?;
-    let curve = Curve {
+    let most = greatest(rows, entity);
+    put_panel_to(
+        out,
         plot,
-        scale,
+        name,
         rows,
         entity,
-    };
-    put_polyline(out, &curve)
+        span,
+        most,
+        limit_within(most, limit),
+    )
 }

@@ -3,11 +3,10 @@
 ghost use Rattle.std.specs.Prelude.{◌≡◌, ◌≤◌, ◌<◌, ◌*◌, ◌+◌, ◌^◌, ◌++◌, OnOk};
 ghost use Rattle.gw_chart.specs.Plots as model;
 
-use crate::numbers::scaled;
-use crate::scale::Scale;
-use crate::text::{put_escaped, put_grouped, put_tenths};
+use gw_drawing::numbers::{count_of, number_at, scaled};
+use gw_drawing::scale::Scale;
+use gw_drawing::text::{put, put_escaped, put_label, put_tenths, put_text_at};
 use gw_object::{Kind, Memory};
-use gw_report::text::put;
 
 /// What is drawn of an entity.
 #[derive(Clone, Copy, Debug, PartialEq, Eq)]
@@ -18,6 +17,10 @@ pub enum Plot {
     Units,
     /// The units in a queue.
     Waiting,
+    /// Whether a logic switch is set.
+    Set,
+    /// The members of a user chain.
+    Members,
     /// The classes of a table.
     Classes,
 }
@@ -30,6 +33,8 @@ pub(crate) fn plot_of(kind: &Kind) -> Option<Plot>
         Kind::Facility => Some(Plot::Owned),
         Kind::Storage(_) => Some(Plot::Units),
         Kind::Queue => Some(Plot::Waiting),
+        Kind::Switch(_) => Some(Plot::Set),
+        Kind::Chain => Some(Plot::Members),
         Kind::Table(_) => Some(Plot::Classes),
         _ => None,
     }
@@ -51,8 +56,10 @@ fn words_of(plot: Plot) -> Words
 {
     let (shown, unit) = match plot {
         Plot::Owned => ("facility, 1 where it is owned", "owned"),
-        Plot::Units => ("storage, units in it", "units"),
+        Plot::Units => ("storage, units in it; its capacity is dashed", "units"),
         Plot::Waiting => ("queue, units that wait", "waiting"),
+        Plot::Set => ("switch, 1 where it is set", "set"),
+        Plot::Members => ("user chain, members", "members"),
         Plot::Classes => ("table, values in each class over the whole run", "values"),
     };
     Words { shown, unit }
@@ -66,6 +73,8 @@ pub(crate) fn colour_of(plot: Plot) -> &'static str
         Plot::Owned => "#4477aa",
         Plot::Units => "#228833",
         Plot::Waiting => "#cc5533",
+        Plot::Set => "#997700",
+        Plot::Members => "#117788",
         Plot::Classes => "#886699",
     }
 }
@@ -76,7 +85,7 @@ pub(crate) fn height_of(plot: Plot) -> u64
     ensures most { result ≤ 1000 }
 {
     match plot {
-        Plot::Owned => 400,
+        Plot::Owned | Plot::Set => 400,
         _ => 1000,
     }
 }
@@ -95,34 +104,6 @@ pub(crate) fn floor_of(plot: Plot) -> u64
     ensures most { result ≤ 1320 }
 {
     320 + height_of(plot)
-}
-
-/// Where a text begins, and how it lies there.
-pub(crate) fn put_text_at(out: &mut Vec<u8>, x: u64, y: u64, how: &str) -> Result<(), Memory>
-    ensures { OnOk result (out.new.items ≡ out.old.items ++ model.text_at x y how.now) }
-{
-    put(out, "<text x=\"")?;
-    put_tenths(out, x)?;
-    put(out, "\" y=\"")?;
-    put_tenths(out, y)?;
-    put(out, "\"")?;
-    put(out, how)?;
-    put(out, ">")
-}
-
-/// A number as a text.
-pub(crate) fn put_label(
-    out: &mut Vec<u8>,
-    x: u64,
-    y: u64,
-    how: &str,
-    number: u128,
-) -> Result<(), Memory>
-    ensures { OnOk result (out.new.items ≡ out.old.items ++ model.label x y how.now number) }
-{
-    put_text_at(out, x, y, how)?;
-    put_grouped(out, number)?;
-    put(out, "</text>\n")
 }
 
 /// A level line through a plot.
@@ -191,16 +172,7 @@ fn level_at(plot: Plot, scale: Scale, i: u64) -> u64
     ensures value { result ≡ model.level_at plot scale i }
     ensures most { result ≤ 1320 }
 {
-    floor_of(plot) - scaled(height_of(plot), i, scale.count as u128)
-}
-
-/// The number of a step of the scale.
-#[tactic(auto, using(crate::proofs::Places::top_most))]
-fn number_at(scale: Scale, i: u64) -> u128
-    requires { i ≤ scale.count }
-    ensures { result ≡ scale.step * i }
-{
-    scale.step * i as u128
+    floor_of(plot) - scaled(height_of(plot), i, count_of(scale) as u128)
 }
 
 /// The level line at a step of the scale, and its number.
@@ -217,13 +189,6 @@ fn put_level(out: &mut Vec<u8>, plot: Plot, scale: Scale, i: u64) -> Result<(), 
         " text-anchor=\"end\"",
         number_at(scale, i),
     )
-}
-
-/// How many steps a scale has.
-fn count_of(scale: Scale) -> u64
-    ensures { result ≡ scale.count }
-{
-    scale.count
 }
 
 /// The level lines at the steps below the end of the scale, and their numbers.

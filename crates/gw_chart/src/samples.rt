@@ -6,8 +6,8 @@ ghost use Rattle.gw_model_jobs.specs.Running.{AreStillAt};
 ghost use Rattle.gw_chart.specs.Samples as model;
 
 use crate::contents::contents;
-use crate::numbers::scaled;
 use gw_answers::BUDGET;
+use gw_drawing::numbers::scaled;
 use gw_model_jobs::{Time, run_past};
 use gw_object::{Items, Memory};
 use gw_scan::Sim;

@@ -1,6 +1,6 @@
 use Rattle.std.proofs.Common.{◌≡◌, ◌<◌}
 use Rattle.std.specs.Prelude.{slice_index}
-use Rattle.gw_chart.specs.Numbers.{greatest}
+use Rattle.gw_drawing.specs.Numbers.{greatest}
 use Rattle.gw_chart.proofs.bars.greatest.Given as goal
 
 abbrev pub invariant-loop-i : goal.invariant-loop-i

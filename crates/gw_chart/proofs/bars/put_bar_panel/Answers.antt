@@ -1,10 +1,10 @@
 use Rattle.std.proofs.Common.{codes, length}
 use Rattle.std.specs.Prelude.{slice_index}
 use Rattle.std.proofs.lemmas.Result.{IfOk-equal}
-use Rattle.gw_chart.specs.Numbers.{greatest, scale_to}
+use Rattle.gw_drawing.specs.Numbers.{greatest, scale_to}
 use Rattle.gw_chart.specs.Plots.{title, unit, levels, below}
 use Rattle.gw_chart.specs.Bars.{classes, bar_panel}
-use Rattle.gw_chart.proofs.Series.{chain5}
+use Rattle.gw_drawing.proofs.Series.{chain5}
 use Rattle.gw_chart.proofs.bars.put_bar_panel.Goals as goal
 
 pub returns : goal.returns

@@ -1,5 +1,5 @@
 use Rattle.gw_chart.specs.Bars.{class}
-use Rattle.gw_chart.proofs.Series.{grown, begun}
+use Rattle.gw_drawing.proofs.Series.{grown, begun}
 use Rattle.gw_chart.proofs.bars.put_classes.Goals as goal
 
 pub loop-i-init : goal.loop-i-init

@@ -1,5 +1,5 @@
 use Rattle.gw_chart.specs.Bars.{class}
-use Rattle.gw_chart.proofs.Series.{HasUpto}
+use Rattle.gw_drawing.proofs.Series.{HasUpto}
 use Rattle.gw_chart.proofs.bars.put_classes.Given as goal
 
 abbrev pub invariant-loop-i : goal.invariant-loop-i

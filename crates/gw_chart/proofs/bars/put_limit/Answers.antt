@@ -1,9 +1,10 @@
 use Rattle.std.proofs.Common.{◌+◌, ◌/◌, codes}
 use Rattle.std.proofs.lemmas.Result.{IfOk-equal}
-use Rattle.gw_chart.specs.Numbers.{scaled}
-use Rattle.gw_chart.specs.Plots.{floor_of, text_at}
+use Rattle.gw_drawing.specs.Numbers.{scaled}
+use Rattle.gw_chart.specs.Plots.{floor_of}
+use Rattle.gw_drawing.specs.Text.{text_at}
 use Rattle.gw_chart.specs.Bars.{limit_text}
-use Rattle.gw_chart.proofs.Series.{chain3}
+use Rattle.gw_drawing.proofs.Series.{chain3}
 use Rattle.gw_chart.proofs.bars.put_limit.Goals as goal
 
 pub returns : goal.returns

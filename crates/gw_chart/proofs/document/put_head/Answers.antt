@@ -1,9 +1,9 @@
 use Rattle.std.proofs.Common.{codes}
 use Rattle.std.proofs.lemmas.Result.{IfOk-equal}
 use Rattle.std.specs.Fmt.{decimal}
-use Rattle.gw_chart.specs.Text.{tenths, grouped}
+use Rattle.gw_drawing.specs.Text.{tenths, grouped}
 use Rattle.gw_chart.specs.Document.{head}
-use Rattle.gw_chart.proofs.Series.{chain7}
+use Rattle.gw_drawing.proofs.Series.{chain7}
 use Rattle.gw_chart.proofs.document.put_head.Goals as goal
 
 pub returns : goal.returns

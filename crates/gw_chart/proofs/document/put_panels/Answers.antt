@@ -1,5 +1,5 @@
 use Rattle.gw_chart.specs.Document.{panel_at}
-use Rattle.gw_chart.proofs.Series.{grown, begun}
+use Rattle.gw_drawing.proofs.Series.{grown, begun}
 use Rattle.gw_chart.proofs.document.put_panels.Goals as goal
 
 pub loop-i-init : goal.loop-i-init

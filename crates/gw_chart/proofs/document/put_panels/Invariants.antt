@@ -1,5 +1,5 @@
 use Rattle.gw_chart.specs.Document.{panel_at}
-use Rattle.gw_chart.proofs.Series.{HasUpto}
+use Rattle.gw_drawing.proofs.Series.{HasUpto}
 use Rattle.gw_chart.proofs.document.put_panels.Given as goal
 
 abbrev pub invariant-loop-i : goal.invariant-loop-i

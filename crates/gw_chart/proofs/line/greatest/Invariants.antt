@@ -1,5 +1,5 @@
 use Rattle.std.proofs.Common.{◌≡◌, ◌<◌}
-use Rattle.gw_chart.specs.Numbers.{greatest}
+use Rattle.gw_drawing.specs.Numbers.{greatest}
 use Rattle.gw_chart.specs.Lines.{content}
 use Rattle.gw_chart.proofs.line.greatest.Given as goal
 

@@ -1,5 +1,5 @@
 use Rattle.gw_chart.specs.Lines.{clock}
-use Rattle.gw_chart.proofs.Series.{HasUpto}
+use Rattle.gw_drawing.proofs.Series.{HasUpto}
 use Rattle.gw_chart.proofs.line.put_clocks.Given as goal
 
 abbrev pub invariant-loop-i : goal.invariant-loop-i

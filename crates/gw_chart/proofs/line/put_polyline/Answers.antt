@@ -2,7 +2,7 @@ use Rattle.std.proofs.Common.{codes}
 use Rattle.std.proofs.lemmas.Result.{IfOk-equal}
 use Rattle.gw_chart.specs.Plots.{colour_of}
 use Rattle.gw_chart.specs.Lines.{points, line}
-use Rattle.gw_chart.proofs.Series.{chain5}
+use Rattle.gw_drawing.proofs.Series.{chain5}
 use Rattle.gw_chart.proofs.line.put_polyline.Goals as goal
 
 pub returns : goal.returns

@@ -1,5 +1,5 @@
 use Rattle.gw_chart.specs.Lines.{points_after}
-use Rattle.gw_chart.proofs.Series.{grown, begun}
+use Rattle.gw_drawing.proofs.Series.{grown, begun}
 use Rattle.gw_chart.proofs.line.put_turns.Goals as goal
 
 pub loop-i-init : goal.loop-i-init

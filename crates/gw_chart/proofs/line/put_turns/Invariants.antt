@@ -1,5 +1,5 @@
 use Rattle.gw_chart.specs.Lines.{points_after}
-use Rattle.gw_chart.proofs.Series.{HasUpto}
+use Rattle.gw_drawing.proofs.Series.{HasUpto}
 use Rattle.gw_chart.proofs.line.put_turns.Given as goal
 
 abbrev pub invariant-loop-i : goal.invariant-loop-i

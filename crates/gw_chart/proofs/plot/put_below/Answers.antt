@@ -1,7 +1,8 @@
 use Rattle.std.proofs.Common.{◌+◌, codes}
 use Rattle.std.proofs.lemmas.Result.{IfOk-equal}
-use Rattle.gw_chart.specs.Plots.{below, floor_of, text_at}
-use Rattle.gw_chart.proofs.Series.{chain3}
+use Rattle.gw_chart.specs.Plots.{below, floor_of}
+use Rattle.gw_drawing.specs.Text.{text_at}
+use Rattle.gw_drawing.proofs.Series.{chain3}
 use Rattle.gw_chart.proofs.plot.put_below.Goals as goal
 
 pub returns : goal.returns

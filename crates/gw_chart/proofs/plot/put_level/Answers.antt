@@ -1,7 +1,8 @@
 use Rattle.std.proofs.Common.{◌+◌, ◌*◌, codes}
 use Rattle.std.proofs.lemmas.Result.{IfOk-equal}
-use Rattle.gw_chart.specs.Plots.{level_at, level_line, label}
-use Rattle.gw_chart.proofs.Series.{chain2}
+use Rattle.gw_chart.specs.Plots.{level_at, level_line}
+use Rattle.gw_drawing.specs.Text.{label}
+use Rattle.gw_drawing.proofs.Series.{chain2}
 use Rattle.gw_chart.proofs.plot.put_level.Goals as goal
 
 pub returns : goal.returns

@@ -1,7 +1,7 @@
 use Rattle.std.proofs.Common.{codes}
 use Rattle.std.proofs.lemmas.Result.{IfOk-equal}
-use Rattle.gw_chart.specs.Text.{tenths}
-use Rattle.gw_chart.proofs.Series.{chain3}
+use Rattle.gw_drawing.specs.Text.{tenths}
+use Rattle.gw_drawing.proofs.Series.{chain3}
 use Rattle.gw_chart.proofs.plot.put_level_line.Goals as goal
 
 pub returns : goal.returns

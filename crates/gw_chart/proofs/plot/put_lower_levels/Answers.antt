@@ -1,5 +1,5 @@
 use Rattle.gw_chart.specs.Plots.{level}
-use Rattle.gw_chart.proofs.Series.{grown, begun}
+use Rattle.gw_drawing.proofs.Series.{grown, begun}
 use Rattle.gw_chart.proofs.plot.put_lower_levels.Goals as goal
 
 pub loop-i-init : goal.loop-i-init

@@ -1,5 +1,5 @@
 use Rattle.std.proofs.Common.{◌≡◌, ◌++◌}
-use Rattle.gw_chart.specs.Text.{upto}
+use Rattle.gw_drawing.specs.Text.{upto}
 use Rattle.gw_chart.specs.Plots.{level}
 use Rattle.gw_chart.proofs.plot.put_lower_levels.Given as goal
 

@@ -1,8 +1,8 @@
 use Rattle.std.proofs.Common.{codes}
 use Rattle.std.proofs.lemmas.Result.{IfOk-equal}
-use Rattle.gw_chart.specs.Text.{escaped}
+use Rattle.gw_drawing.specs.Text.{escaped}
 use Rattle.gw_chart.specs.Plots.{title, colour_of, shown_in}
-use Rattle.gw_chart.proofs.Series.{chain7}
+use Rattle.gw_drawing.proofs.Series.{chain7}
 use Rattle.gw_chart.proofs.plot.put_title.Goals as goal
 
 pub returns : goal.returns

@@ -1,8 +1,8 @@
 use Rattle.std.proofs.Common.{◌+◌, ◌/◌, codes}
 use Rattle.std.proofs.lemmas.Result.{IfOk-equal}
-use Rattle.gw_chart.specs.Text.{tenths}
+use Rattle.gw_drawing.specs.Text.{tenths}
 use Rattle.gw_chart.specs.Plots.{unit, height_of, unit_of}
-use Rattle.gw_chart.proofs.Series.{chain5}
+use Rattle.gw_drawing.proofs.Series.{chain5}
 use Rattle.gw_chart.proofs.plot.put_unit.Goals as goal
 
 pub returns : goal.returns

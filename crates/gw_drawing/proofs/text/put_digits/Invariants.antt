@@ -1,6 +1,6 @@
-use Rattle.gw_chart.specs.Text.{grouped}
-use Rattle.gw_chart.proofs.Series.{Lacks}
-use Rattle.gw_chart.proofs.text.put_digits.Given as goal
+use Rattle.gw_drawing.specs.Text.{grouped}
+use Rattle.gw_drawing.proofs.Series.{Lacks}
+use Rattle.gw_drawing.proofs.text.put_digits.Given as goal
 
 -- what is written, and the digits that are left, are what was there and all digits
 abbrev pub invariant-loop-i : goal.invariant-loop-i

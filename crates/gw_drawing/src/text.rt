@@ -1,12 +1,27 @@
-//! Text of an SVG document.
+//! Pieces of text, and text of an SVG document.
 
 ghost use Rattle.std.specs.Prelude.{◌≡◌, ◌++◌, OnOk};
 ghost use Rattle.std.specs.Fmt.{decimal};
-ghost use Rattle.gw_chart.specs.Text as model;
+ghost use Rattle.gw_drawing.specs.Text as model;
 
 use gw_object::Memory;
-use gw_report::text::{put, put_number};
-use itoa::Buffer;
+use itoa::{Buffer, Integer};
+
+/// A text behind others.
+pub fn put(out: &mut Vec<u8>, text: &str) -> Result<(), Memory>
+    ensures { OnOk result (out.new.items ≡ out.old.items ++ text.now) }
+{
+    out.extend_from_slice(text.as_bytes())
+}
+
+/// A text, and a number behind it.
+pub fn put_number<I: Integer>(out: &mut Vec<u8>, text: &str, number: I) -> Result<(), Memory>
+    ensures { OnOk result (out.new.items ≡ out.old.items ++ text.now ++ I.text number) }
+{
+    let mut buffer = Buffer::new();
+    put(out, text)?;
+    put(out, buffer.format(number))
+}
 
 /// A byte as it stands in XML.
 fn put_escaped_byte(out: &mut Vec<u8>, byte: u8) -> Result<(), Memory>
@@ -26,7 +41,7 @@ fn put_escaped_byte(out: &mut Vec<u8>, byte: u8) -> Result<(), Memory>
 
 /// A text as it stands in XML.
 #[tactic(auto, unfolding(crate::specs::Text::escaped))]
-pub(crate) fn put_escaped(out: &mut Vec<u8>, text: &[u8]) -> Result<(), Memory>
+pub fn put_escaped(out: &mut Vec<u8>, text: &[u8]) -> Result<(), Memory>
     ensures { OnOk result (out.new.items ≡ out.old.items ++ model.escaped text.now) }
 {
     for i in 0..text.len() {
@@ -36,7 +51,7 @@ pub(crate) fn put_escaped(out: &mut Vec<u8>, text: &[u8]) -> Result<(), Memory>
 }
 
 /// Tenths, with a point before the last digit.
-pub(crate) fn put_tenths(out: &mut Vec<u8>, tenths: u64) -> Result<(), Memory>
+pub fn put_tenths(out: &mut Vec<u8>, tenths: u64) -> Result<(), Memory>
     ensures { OnOk result (out.new.items ≡ out.old.items ++ model.tenths tenths) }
 {
     put_number(out, "", tenths / 10)?;
@@ -66,9 +81,39 @@ fn put_digits(out: &mut Vec<u8>, digits: &[u8]) -> Result<(), Memory>
 }
 
 /// A number, with a comma before each three of its digits.
-pub(crate) fn put_grouped(out: &mut Vec<u8>, number: u128) -> Result<(), Memory>
+pub fn put_grouped(out: &mut Vec<u8>, number: u128) -> Result<(), Memory>
     ensures { OnOk result (out.new.items ≡ out.old.items ++ model.grouped (decimal number)) }
 {
     let mut buffer = Buffer::new();
     put_digits(out, buffer.format(number).as_bytes())
+}
+
+/// The same of a number that may lie below 0.
+pub fn put_signed(out: &mut Vec<u8>, number: i128) -> Result<(), Memory>
+    ensures { OnOk result (out.new.items ≡ out.old.items ++ model.signed_grouped number) }
+{
+    put(out, if number < 0 { "-" } else { "" })?;
+    put_grouped(out, number.unsigned_abs())
+}
+
+/// Where a text begins, and how it lies there.
+pub fn put_text_at(out: &mut Vec<u8>, x: u64, y: u64, how: &str) -> Result<(), Memory>
+    ensures { OnOk result (out.new.items ≡ out.old.items ++ model.text_at x y how.now) }
+{
+    put(out, "<text x=\"")?;
+    put_tenths(out, x)?;
+    put(out, "\" y=\"")?;
+    put_tenths(out, y)?;
+    put(out, "\"")?;
+    put(out, how)?;
+    put(out, ">")
+}
+
+/// A number as a text.
+pub fn put_label(out: &mut Vec<u8>, x: u64, y: u64, how: &str, number: u128) -> Result<(), Memory>
+    ensures { OnOk result (out.new.items ≡ out.old.items ++ model.label x y how.now number) }
+{
+    put_text_at(out, x, y, how)?;
+    put_grouped(out, number)?;
+    put(out, "</text>\n")
 }

@@ -1,6 +1,6 @@
 use Rattle.std.proofs.Common.{◌≡◌, drop}
-use Rattle.gw_chart.specs.Numbers.{round_in}
-use Rattle.gw_chart.proofs.numbers.round_in.Given as goal
+use Rattle.gw_drawing.specs.Numbers.{round_in}
+use Rattle.gw_drawing.proofs.numbers.round_in.Given as goal
 
 -- the powers that are left give the same number
 abbrev pub invariant-loop-i : goal.invariant-loop-i

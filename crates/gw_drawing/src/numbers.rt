@@ -1,13 +1,13 @@
 //! Places on a picture, in tenths of pixels, and round numbers.
 
 ghost use Rattle.std.specs.Prelude.{◌≡◌, ◌≤◌, ◌<◌, ◌*◌, ◌^◌, IfSome};
-ghost use Rattle.gw_chart.specs.Numbers as model;
+ghost use Rattle.gw_drawing.specs.Numbers as model;
 
 use crate::scale::Scale;
 
 /// What a part of a whole is of a length.
 #[tactic(auto, using(crate::proofs::Places::scaled_le, crate::proofs::Places::product_fits))]
-pub(crate) fn scaled(length: u64, part: u64, whole: u128) -> u64
+pub fn scaled(length: u64, part: u64, whole: u128) -> u64
     requires part { part ≤ whole }
     requires whole { 0 < whole }
     ensures value { result ≡ model.scaled length part whole }
@@ -17,7 +17,7 @@ pub(crate) fn scaled(length: u64, part: u64, whole: u128) -> u64
 }
 
 /// The powers of 10 that a `u64` can hold, but the last.
-pub(crate) const POWERS: [u64; 19] = [
+pub const POWERS: [u64; 19] = [
     1,
     10,
     100,
@@ -72,7 +72,7 @@ fn round_in(powers: &[u64], least: u64) -> u128
 }
 
 /// The first round number of which five reach so far.
-pub(crate) fn round_step(most: u64) -> u128
+pub fn round_step(most: u64) -> u128
     requires { 0 < most }
     ensures value { result ≡ model.round_step most }
     ensures range { (0 < result) × (most ≤ 5 * result) × (result ≤ 2 ^ 70) }
@@ -82,7 +82,7 @@ pub(crate) fn round_step(most: u64) -> u128
 
 /// The scale of an upright axis that reaches so far.
 #[tactic(auto, using(crate::proofs::Places::few_steps, crate::proofs::Places::some_steps))]
-pub(crate) fn scale_to(most: u64) -> Scale
+pub fn scale_to(most: u64) -> Scale
     requires { 0 < most }
     ensures { result ≡ model.scale_to most }
 {
@@ -91,4 +91,37 @@ pub(crate) fn scale_to(most: u64) -> Scale
         step,
         count: (most as u128).div_ceil(step) as u64,
     }
+}
+
+/// The step of a scale.
+pub fn step_of(scale: Scale) -> u128
+    ensures { result ≡ scale.step }
+{
+    scale.step
+}
+
+/// How many steps a scale has above 0.
+pub fn count_of(scale: Scale) -> u64
+    ensures value { result ≡ scale.count }
+    ensures range { (0 < result) × (result ≤ 5) }
+{
+    scale.count
+}
+
+/// The number of a step of a scale.
+#[tactic(auto, using(crate::proofs::Places::top_most))]
+pub fn number_at(scale: Scale, i: u64) -> u128
+    requires { i ≤ scale.count }
+    ensures { result ≡ scale.step * i }
+{
+    scale.step * i as u128
+}
+
+/// Where a scale ends.
+#[tactic(auto, using(crate::proofs::Places::top_most, crate::proofs::Places::top_some))]
+pub fn top_of(scale: Scale) -> u128
+    ensures value { result ≡ model.top_of scale }
+    ensures some { 0 < result }
+{
+    scale.step * scale.count as u128
 }

@@ -3,7 +3,7 @@ use Rattle.std.specs.Prelude.{ℕ, zero, suc, ◌+◌, ◌*◌, ◌/◌, ◌^◌
 use Rattle.std.specs.Int.{div_ceil}
 use Rattle.std.specs.List.{range_with_len}
 use Rattle.std.specs.Option.{unwrap_or}
-use Rattle.gw_chart.specs.Steps.{Steps}
+use Rattle.gw_drawing.specs.Steps.{Steps}
 
 -- what a part of a whole is of a length
 abbrev pub scaled : ℕ → ℕ → ℕ → ℕ
@@ -43,3 +43,7 @@ round_step most = round_in powers (div_ceil most 5)
 -- the scale of an upright axis that reaches so far: as many round steps as are needed
 abbrev pub scale_to : ℕ → Steps
 scale_to most = record { step = round_step most; count = div_ceil most (round_step most) }
+
+-- where a scale ends
+abbrev pub top_of : Steps → ℕ
+top_of scale = scale.step * scale.count

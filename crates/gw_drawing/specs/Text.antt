@@ -1,5 +1,5 @@
 -- Text of an SVG document.
-use Rattle.std.specs.Prelude.{ℕ, zero, suc, ◌+◌, ◌/◌, ◌%◌, List, [], ◌∷◌, ◌++◌, length, codes, nat_lt, ◌==◌, ◌&&◌, if◌then◌else◌}
+use Rattle.std.specs.Prelude.{ℕ, zero, suc, ◌+◌, ◌/◌, ◌%◌, List, [], ◌∷◌, ◌++◌, length, ℤ, pos, unsigned_abs, int_lt, codes, nat_lt, ◌==◌, ◌&&◌, if◌then◌else◌}
 use Rattle.std.specs.Fmt.{decimal}
 
 -- the first n of these texts, one after the other
@@ -33,3 +33,15 @@ digit d left = d ∷ (if nat_lt 0 left && (left % 3 == 0) then codes "," else []
 unfoldable pub grouped : List ℕ → List ℕ
 grouped [] = []
 grouped (d ∷ ds) = digit d (length ds) ++ grouped ds
+
+-- a number, with a comma before each three of its digits
+abbrev pub signed_grouped : ℤ → List ℕ
+signed_grouped number = (if int_lt number (pos 0) then codes "-" else codes "") ++ grouped (decimal (unsigned_abs number))
+
+-- where a text begins, and how it lies there
+abbrev pub text_at : ℕ → ℕ → List ℕ → List ℕ
+text_at x y how = codes "<text x=\"" ++ tenths x ++ codes "\" y=\"" ++ tenths y ++ codes "\"" ++ how ++ codes ">"
+
+-- a number as a text
+abbrev pub label : ℕ → ℕ → List ℕ → ℕ → List ℕ
+label x y how number = text_at x y how ++ grouped (decimal number) ++ codes "</text>\n"

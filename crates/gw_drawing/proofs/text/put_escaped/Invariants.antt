@@ -1,6 +1,6 @@
-use Rattle.gw_chart.specs.Text.{escaped}
-use Rattle.gw_chart.proofs.Series.{Lacks}
-use Rattle.gw_chart.proofs.text.put_escaped.Given as goal
+use Rattle.gw_drawing.specs.Text.{escaped}
+use Rattle.gw_drawing.proofs.Series.{Lacks}
+use Rattle.gw_drawing.proofs.text.put_escaped.Given as goal
 
 -- what is written, and the bytes that are left, are what was there and all bytes
 abbrev pub invariant-loop-i : goal.invariant-loop-i

@@ -12,7 +12,7 @@ pub struct Scale {
 }
 
 impl Model for Scale {
-    ghost use Rattle.gw_chart.specs.Steps.{Steps, AreFew};
+    ghost use Rattle.gw_drawing.specs.Steps.{Steps, AreFew};
 
     ghost Value = { Steps };
 
