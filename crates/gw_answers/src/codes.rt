@@ -47,3 +47,6 @@ pub const STRANGER: u16 = 67;
 
 /// The job has ended, and so can't be cancelled.
 pub const ALREADY_ENDED: u16 = 68;
+
+/// A number that is to be put into a model has no place there, or too many points were asked for.
+pub const PARAMETER: u16 = 83;

@@ -10,7 +10,7 @@ use gw_rules::{flow_codes, kinds_codes, plus_codes, weights_codes};
 use gw_text::codes as text_codes;
 
 /// All codes, ascending, with their names.
-pub const NAMES: [(u16, &str); 60] = [
+pub const NAMES: [(u16, &str); 61] = [
     (object_codes::TRUNCATED, "Truncated"),
     (object_codes::MAGIC, "Magic"),
     (object_codes::VERSION, "Version"),
@@ -71,6 +71,7 @@ pub const NAMES: [(u16, &str); 60] = [
     (names_codes::NAME, "Name"),
     (names_codes::STORAGE, "Storage"),
     (names_codes::LIMIT, "Limit"),
+    (job_codes::PARAMETER, "Parameter"),
 ];
 
 /// The name that these rows give a code.

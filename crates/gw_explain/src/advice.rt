@@ -13,7 +13,7 @@ pub struct Advice {
 }
 
 /// For each code, ascending, what is wrong, and how to mend it.
-pub const ADVICE: [(u16, &str, &str); 60] = [
+pub const ADVICE: [(u16, &str, &str); 61] = [
     (
         1,
         "The bytes end before the object does; in a batch, a length or an object is cut off.",
@@ -309,6 +309,11 @@ pub const ADVICE: [(u16, &str, &str); 60] = [
         82,
         "Too much: more than 1,024 entities, 64 parameters or 256 procedures, a PROCEDURE of more than 4,096 instructions, 32 WHILEs or 32 arguments and TEMPORARYs, or an object above 1 MiB.",
         "Split the PROCEDURE, or write the model with fewer names.",
+    ),
+    (
+        83,
+        "A number can't be put into the model: no line, or more than one, gives that name a plain number by NAME STORAGE, NAME EQU or INITIAL X$NAME; or the word is no NAME=1,2,3; or there are more than two names, or more than 64 points.",
+        "Write NAME=1,2,3 for a name whose number stands on one line of the model, as NURSES STORAGE 2.",
     ),
 ];
 

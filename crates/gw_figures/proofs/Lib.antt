@@ -1,6 +1,3 @@
-pub mod Ascii
-pub mod Mapping
-pub mod Naming
-pub mod Walking
-pub mod Halving
-pub mod Least
+pub mod Counting
+pub mod Four
+pub mod Ranges

@@ -1,4 +1,4 @@
-pub mod Numbers
-pub mod Figures
-pub mod Quantiles
-pub mod Summaries
+pub mod Labels
+pub mod Trends
+pub mod Values
+pub mod Windows

@@ -1,130 +1,91 @@
-//! The figures of a report, and how they are called.
+//! The figures of a model.
 
-ghost use Rattle.std.specs.Prelude.{◌≡◌, ◌<◌, ◌≤◌, ◌++◌, length, drop, IfOk, OnOk};
-ghost use Rattle.gw_figures.specs.Numbers.{words_in};
-ghost use Rattle.gw_figures.specs.Figures as model;
-ghost use Rattle.gw_figures.specs.Figures.{form, labels, texts, spaced, table_behind, figures_in};
+ghost use Rattle.std.specs.Prelude.{◌≡◌, ◌≤◌, ◌<◌, ◌++◌, [], ◌∷◌, IfOk, OnOk, length};
+ghost use Rattle.gw_figures.specs.Labels as model;
+ghost use Rattle.gw_figures.specs.Labels.{labels, plain};
 
-use crate::cutting::words;
-use crate::lines::{Line, line_at};
-use std::alloc::{AllocError, Global};
+use crate::entity_labels::put_entity;
+use crate::figure::{Figure, put_detail, put_plain};
+use gw_blocks::Block;
+use gw_object::{Entity, Memory, Parts};
+use gw_report::block_word;
+use gw_report::text::{put, put_number};
+use std::alloc::Global;
 
-/// A figure of a report: the place of its word, from 0, and its name for people, as `QUEUE LINE AVG`.
-#[derive(Debug, Drop)]
-pub struct Figure {
-    /// The place of the word.
-    pub place: usize,
-    /// The name.
-    pub name: Vec<u8>,
+/// Adds a figure of how the run ended.
+fn put_of_end(alloc: Global, out: &mut Vec<Figure>, what: &str) -> Result<(), Memory>
+    ensures { OnOk result (labels out.new.items ≡ labels out.old.items ++ plain [] what.now ∷ []) }
+{
+    put_plain(alloc, out, &[], what)
 }
 
-/// The word of a table.
-const TABLE: &[u8] = b"TABLE";
-
-/// The word of a class of a table.
-const CLASS: &[u8] = b"CLASS";
-
-/// Appends words, with a blank behind each.
-fn put_words(name: &mut Vec<u8>, words: &[&[u8]]) -> Result<(), AllocError>
-    ensures { OnOk result (name.new.items ≡ name.old.items ++ spaced (texts words.now)) }
+fn put_end(alloc: Global, out: &mut Vec<Figure>) -> Result<(), Memory>
+    ensures { OnOk result (labels out.new.items ≡ labels out.old.items ++ model.end_labels) }
 {
-    for word in words {
-        name.extend_from_slice(word)?;
-        name.push(b' ')?;
+    put_of_end(alloc, out, "CLOCK")?;
+    put_of_end(alloc, out, "STEPS")?;
+    put_of_end(alloc, out, "ENTRIES")?;
+    put_of_end(alloc, out, "COUNT")
+}
+
+/// What the figures of the block at a place begin with: its number, its word, and a blank.
+fn front_of(alloc: Global, place: usize, block: &Block) -> Result<Vec<u8>, Memory>
+    requires { place < 65535 }
+    ensures { IfOk result (λ front. front.items ≡ model.block_front place block.now) }
+{
+    let mut front = Vec::new(alloc);
+    put_number(&mut front, "BLOCK ", place + 1)?;
+    put(&mut front, " ")?;
+    put(&mut front, block_word(block))?;
+    put(&mut front, " ")?;
+    Ok(front)
+}
+
+fn put_block(
+    alloc: Global,
+    out: &mut Vec<Figure>,
+    place: usize,
+    block: &Block,
+) -> Result<(), Memory>
+    requires { place < 65535 }
+    ensures { OnOk result (labels out.new.items ≡ labels out.old.items ++ model.block_labels place block.now) }
+{
+    let front = front_of(alloc, place, block)?;
+    put_detail(alloc, out, &front, "ENTRIES")?;
+    put_detail(alloc, out, &front, "HERE")
+}
+
+/// The figures of each block, in order.
+#[tactic(auto, unfolding(crate::specs::Labels::blocks_labels))]
+fn put_blocks(alloc: Global, out: &mut Vec<Figure>, blocks: &[Block]) -> Result<(), Memory>
+    requires { length blocks.now ≤ 65535 }
+    ensures { OnOk result (labels out.new.items ≡ labels out.old.items ++ model.blocks_labels 0 blocks.now) }
+{
+    for i in 0..blocks.len() {
+        put_block(alloc, out, i, &blocks[i])?;
     }
     Ok(())
 }
 
-/// The words that name what a line tells of, which these begin with.
-fn naming_words<'a, 'b>(line: Line, words: &'a [&'b [u8]]) -> &'a [&'b [u8]]
-    ensures { texts result.now ≡ model.naming_words (form line) (texts words.now) }
+/// The figures of each entity, in order.
+#[tactic(auto, unfolding(crate::specs::Labels::entities_labels))]
+fn put_entities(alloc: Global, out: &mut Vec<Figure>, entities: &[Entity]) -> Result<(), Memory>
+    ensures { OnOk result (labels out.new.items ≡ labels out.old.items ++ model.entities_labels entities.now) }
 {
-    &words[..usize::from(line.names).min(words.len())]
-}
-
-/// The words of a table, where a line tells of one of its classes.
-fn words_above<'a, 'b>(table: &'a [&'b [u8]], line: Line) -> &'a [&'b [u8]]
-    ensures { texts result.now ≡ model.words_above (texts table.now) (form line) }
-{
-    if line.word == CLASS {
-        table
-    } else {
-        &table[..0]
-    }
-}
-
-/// The words that name the table whose classes come behind a line, which these begin with.
-fn table_words<'a, 'b>(table: &'a [&'b [u8]], line: Line, words: &'a [&'b [u8]]) -> &'a [&'b [u8]]
-    ensures { texts result.now ≡ table_behind (texts table.now) (form line) (texts words.now) }
-{
-    if line.word == TABLE {
-        naming_words(line, words)
-    } else {
-        table
-    }
-}
-
-/// The name of a figure of a line, which these words begin with.
-fn name_of(
-    alloc: Global,
-    table: &[&[u8]],
-    line: Line,
-    words: &[&[u8]],
-    what: &str,
-) -> Result<Vec<u8>, AllocError>
-    ensures { IfOk result (λ name. name.items
-        ≡ model.name_of (texts table.now) (form line) (texts words.now) what.now) }
-{
-    let mut name = Vec::new(alloc);
-    put_words(&mut name, words_above(table, line))?;
-    put_words(&mut name, naming_words(line, words))?;
-    name.extend_from_slice(what.as_bytes())?;
-    Ok(name)
-}
-
-/// Appends the figures of a line, which begins at this place of a report's words.
-fn put_line(
-    alloc: Global,
-    figures: &mut Vec<Figure>,
-    table: &[&[u8]],
-    line: Line,
-    words: &[&[u8]],
-    first: usize,
-) -> Result<(), AllocError>
-    requires { first ≤ length words.now }
-    ensures { OnOk result (labels figures.new.items ≡ labels figures.old.items ++
-        model.figures_of_line (texts table.now) first (form line) (drop first (texts words.now))) }
-{
-    let own = &words[first..];
-    for (place, what) in line.figures {
-        let name = name_of(alloc, table, line, own, what)?;
-        figures.push(Figure {
-            place: first + usize::from(*place),
-            name,
-        })?;
+    for i in 0..entities.len() {
+        put_entity(alloc, out, &entities[i])?;
     }
     Ok(())
 }
 
-/// The figures of a report of these words.
-fn figures_of(alloc: Global, words: &[&[u8]]) -> Result<Vec<Figure>, AllocError>
-    ensures { IfOk result (λ figures. labels figures.items ≡ figures_in (texts words.now)) }
+/// The figures of a model of these parts, in their order: those of how a run ends, of each block, and of each entity.
+pub fn figures(alloc: Global, parts: &Parts) -> Result<Vec<Figure>, Memory>
+    requires { length parts.now.blocks ≤ 65535 }
+    ensures { IfOk result (λ figures. labels figures.items ≡ model.labels_of parts.now) }
 {
-    let mut figures = Vec::new(alloc);
-    let mut table = &words[..0];
-    let mut first = 0;
-    while let Some(line) = line_at(words, first) {
-        put_line(alloc, &mut figures, table, line, words, first)?;
-        table = table_words(table, line, &words[first..]);
-        first = words.len().min(first + usize::from(line.words));
-    }
-    Ok(figures)
-}
-
-/// The figures of a report, in order, none left out. A figure of a class is called by its table, too.
-pub fn figures(alloc: Global, report: &[u8]) -> Result<Vec<Figure>, AllocError>
-    ensures { IfOk result (λ figures. labels figures.items ≡ figures_in (words_in report.now)) }
-{
-    let words = words(alloc, report)?;
-    figures_of(alloc, &words)
+    let mut out = Vec::new(alloc);
+    put_end(alloc, &mut out)?;
+    put_blocks(alloc, &mut out, parts.blocks.as_slice())?;
+    put_entities(alloc, &mut out, parts.entities.as_slice())?;
+    Ok(out)
 }

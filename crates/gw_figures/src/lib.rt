@@ -1,18 +1,22 @@
-//! The figures of reports (docs/report.md): the numbers that their words spell, and their names for people; and what repeated
-//! runs say of one figure: its mean, its least and greatest value, and how far the mean may lie from the true one
-//! (docs/planner.md). All is whole numbers: values are of one unit, as thousandths.
+//! The figures of a model and their values in one run (docs/planner.md): what each is called, and how much it is in a window of
+//! the run, in millionths, made of the exact numbers of the states with which the window begins and ends.
 #![tactic(auto)]
 
-mod confidence;
-mod cutting;
+mod classes;
+mod entity_labels;
+mod entity_values;
+mod figure;
 mod labels;
-mod lines;
-mod numbers;
-mod quantiles;
-mod summary;
-mod sums;
+mod model_values;
+mod percentiles;
+mod quotients;
+mod run;
+mod trends;
+mod window;
 
-pub use cutting::{values, words};
-pub use labels::{Figure, figures};
-pub use quantiles::{QUANTILES, quantile, runs_to_halve};
-pub use summary::{MOST_VALUES, Summary, summarize};
+pub use figure::Figure;
+pub use labels::figures;
+pub use model_values::values;
+pub use run::Run;
+pub use trends::{changes, difference};
+pub use window::Window;

@@ -1,7 +1,8 @@
-pub mod Adding
-pub mod Assembled
 pub mod Counting
+pub mod Following
+pub mod Found
+pub mod Joining
 pub mod Jumping
-pub mod Numbering
-pub mod Refused
-pub mod Telling
+pub mod Mapping
+pub mod Pieces
+pub mod Tabling

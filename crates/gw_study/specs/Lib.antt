@@ -1,6 +1,6 @@
 pub mod Seeds
+pub mod Requests
 pub mod Runs
-pub mod Refusals
 pub mod Text
-pub mod Rows
+pub mod Table
 pub mod Study

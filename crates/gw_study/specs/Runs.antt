@@ -1,67 +1,102 @@
--- The runs of a study and their reports.
-use Rattle.std.specs.Prelude.{◌≡◌, ℕ, Vec, map, ◌+◌, List, [], ◌∷◌, length, Ok, Result}
+-- The runs of a study: what the values of each are made of.
+use Rattle.std.specs.Prelude.{◌≡◌, ◌⊎◌, ◌<◌, Bool, ℕ, ◌+◌, ◌-◌, ◌/◌, ◌==◌, List, [], ◌∷◌, pos, ◌<ℤ◌, ◌≤ℤ◌, Some, length, Result, IfOk, Vec}
 use Rattle.std.specs.Global.{Global}
-use Rattle.std.specs.Option.{option_map}
-use Rattle.gw_object.specs.declared.fault.Fault.{Fault}
 use Rattle.gw_object.specs.declared.parts.Parts.{Parts}
-use Rattle.gw_step.specs.Job.{Job}
-use Rattle.gw_service.specs.Calls.{Pass}
-use Rattle.gw_scan.specs.Making.{spec_fault, job_from}
+use Rattle.gw_step.specs.declared.ends.End.{End}
+use Rattle.gw_step.specs.State.{State}
+use Rattle.gw_step.specs.Job.{Job, Alone, IsFinal}
+use Rattle.gw_scan.specs.Making.{job_from}
+use Rattle.gw_report.specs.Figures.{figures_of}
+use Rattle.gw_figures.specs.Windows.{Span}
+use Rattle.gw_figures.specs.Values.{values_of}
+use Rattle.gw_figures.specs.Labels.{Label, labels, labels_of}
+use Rattle.gw_figures.specs.Trends.{changes}
+use Rattle.gw_figures.specs.declared.run.Run.{Run}
 use Rattle.gw_answers.specs.Status.{run_budget}
-use Rattle.gw_answers.specs.Answer.{◌>>=◌, unless, object_of}
-use Rattle.gw_report.specs.Report.{Ends}
-use Rattle.gw_answers.specs.Refusal.{start_refusal}
-use Rattle.gw_study.specs.declared.job.Setup.{Setup}
+use Rattle.gw_study.specs.declared.one_run.Stops.{Stops}
+use Rattle.gw_study.specs.declared.runs.Setup.{Setup}
 use Rattle.gw_study.specs.Seeds.{seeds_of_run}
 
--- the job of an accepted object with the seeds of a run, or the refusal of the count
-abbrev pub job_seeded : ℕ → ℕ → Parts → Result Job Fault
-job_seeded run count parts =
-    unless (option_map start_refusal (spec_fault (seeds_of_run run) count run_budget)) (job_from parts (seeds_of_run run) count run_budget)
+-- STATES OF A RUN
 
--- the job of a run of the object that these bytes spell
-unfoldable pub run_job : ℕ → List ℕ → ℕ → Result Job Fault
-run_job count object run = object_of object >>= job_seeded run count
+-- before a state of the lone run more than this was left to count
+abbrev pub IsBeforeCount : Job → ℕ → ℕ → Type 0
+IsBeforeCount j left steps = (k : ℕ) (t : State) → k < steps → Alone j k t → pos left <ℤ t.count
 
--- a text is the report of the final state that the lone run of a run's job reaches
-pub record IsReport (count : ℕ) (object : List ℕ) (run : ℕ) (text : List ℕ) : Type 0 where
-  pub job : Job
-  pub made : run_job count object run ≡ Ok job
-  pub ends : Ends job text
+-- the first state of the lone run in which no more than this is left to count, or the last of all
+pub record IsFirstWith (j : Job) (left : ℕ) (s : State) : Type 0 where
+  pub alone : Alone j s.steps s
+  pub here : (s.count ≤ℤ pos left) ⊎ IsFinal s
+  pub first : IsBeforeCount j left s.steps
 
--- what holds of a number and an element holds of each, of which the first has this number
-abbrev pub Numbered : {X : Type 0} → (ℕ → X → Type 0) → ℕ → List X → Type 0
-Numbered P k [] = Unit {0}
-Numbered P k (x ∷ xs) = P k x × Numbered P (k + 1) xs
+-- the last state of the lone run
+pub record IsLast (j : Job) (s : State) : Type 0 where
+  pub alone : Alone j s.steps s
+  pub final : IsFinal s
 
--- a pass is that of a run's job
-abbrev pub IsPassOf : ℕ → List ℕ → ℕ → Pass → Type 0
-IsPassOf count object run pass = run_job count object run ≡ Ok pass.job
+-- WHAT IS KEPT OF A RUN
 
--- these are the passes of runs, of which the first has this number
-abbrev pub ArePassesFrom : ℕ → List ℕ → ℕ → List Pass → Type 0
-ArePassesFrom count object run passes = Numbered (IsPassOf count object) run passes
+-- what is left to count where a window begins, and in its middle
+abbrev pub left_at_start : Job → ℕ → ℕ
+left_at_start j from = j.count - from
 
--- the bytes of texts
-abbrev pub texts : List (Vec ℕ Global) → List (List ℕ)
-texts reports = map (λ r. r.items) reports
+abbrev pub left_halfway : Job → ℕ → ℕ
+left_halfway j from = left_at_start j from / 2
 
--- these are the reports of runs, from 0
-abbrev pub AreReports : ℕ → List ℕ → List (List ℕ) → Type 0
-AreReports count object reports = Numbered (IsReport count object) 0 reports
+-- the window from one state to another, which may be the whole run
+abbrev pub window : Job → ℕ → State → State → Span
+window j from s t =
+    record {
+      whole = from == 0;
+      start = figures_of (record { job = j; state = s });
+      end = figures_of (record { job = j; state = t });
+    }
 
--- the same of a setup
-abbrev pub ArePassesOf : Setup → ℕ → List Pass → Type 0
-ArePassesOf setup run passes = ArePassesFrom setup.count setup.object.now run passes
+-- what is kept of a run: its end and steps; the values of the window from the first state in which so
+-- many are counted to the last state; and by how much averages change from its first half to its second
+pub record IsRunOf (j : Job) (from : ℕ) (run : Run) : Type 0 where
+  pub start : State
+  pub middle : State
+  pub last : State
+  pub starts : IsFirstWith j (left_at_start j from) start
+  pub halfway : IsFirstWith j (left_halfway j from) middle
+  pub ends : IsLast j last
+  pub end : last.ended ≡ Some run.end
+  pub steps : run.steps ≡ last.steps
+  pub values : run.values.items ≡ values_of j.parts (window j from start last)
+  pub trend : run.trend.items
+      ≡ changes (labels_of j.parts) (values_of j.parts (window j from start middle))
+      (values_of j.parts (window j from middle last))
 
-abbrev pub AreReportsOf : Setup → List (Vec ℕ Global) → Type 0
-AreReportsOf setup reports = AreReports setup.count setup.object.now (texts reports)
+-- the same of a run that ended so, by the figures of these states
+pub record IsKept (parts : Parts) (figures : List Label) (whole : Bool) (by_end : End) (stops : Stops) (run : Run) : Type 0 where
+  pub end : run.end ≡ by_end
+  pub steps : run.steps ≡ stops.last.steps
+  pub values : run.values.items ≡ values_of parts (record { whole = whole; start = stops.start; end = stops.last })
+  pub trend : run.trend.items
+      ≡ changes figures (values_of parts (record { whole = whole; start = stops.start; end = stops.middle }))
+      (values_of parts (record { whole = whole; start = stops.middle; end = stops.last }))
 
--- to the reports of the first runs those of the next, of which there are these passes, are added
-pub record AddsReports (passes : List Pass) (old new : List (List ℕ)) : Type 0 where
-  pub count : length new ≡ length old + length passes
-  pub added : (count : ℕ) (object : List ℕ) → ArePassesFrom count object (length old) passes → AreReports count object old → AreReports count object new
+-- OF A JOB'S OBJECT
 
--- the same of texts
-abbrev pub AddsReportsTo : List Pass → List (Vec ℕ Global) → List (Vec ℕ Global) → Type 0
-AddsReportsTo passes old new = AddsReports passes (texts old) (texts new)
+-- the job of a run: that of the same object, count and budget, with the seeds of the run
+abbrev pub run_job : Job → ℕ → Job
+run_job j run = job_from j.parts (seeds_of_run run) j.count j.budget
+
+-- these are the runs of a job's object from one on, in order
+abbrev pub AreRunsFrom : Job → ℕ → ℕ → List Run → Type 0
+AreRunsFrom j from k [] = Unit {0}
+AreRunsFrom j from k (run ∷ runs) = IsRunOf (run_job j k) from run × AreRunsFrom j from (k + 1) runs
+
+-- IN CODE
+
+-- the budget of a setup's job is that of a run, and its figures are those of the model
+pub record IsSetUp (setup : Setup) : Type 0 where
+  pub budget : setup.spec.now.budget ≡ run_budget
+  pub figures : labels setup.figures.now ≡ labels_of setup.spec.now.parts
+
+-- where all went well, these are the runs of a setup from one on, up to another but not that one
+abbrev pub AreRunsOf : {E : Type 0} → Setup → ℕ → ℕ → Result (Vec Run Global) E → Type 0
+AreRunsOf setup first end made =
+    IfOk made (λ runs. (first + length runs.items ≡ end)
+    × AreRunsFrom setup.spec.now setup.from first runs.items)

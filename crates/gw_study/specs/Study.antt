@@ -1,32 +1,51 @@
 -- What a study of a model text tells.
-use Rattle.std.specs.Prelude.{◌≡◌, ◌≢◌, ◌⊎◌, ℕ, List, length}
+use Rattle.std.specs.Prelude.{◌≡◌, ◌⊎◌, ◌<◌, ◌^◌, ℕ, List, [], length}
 use Rattle.gw_object.specs.declared.fault.Fault.{Fault}
+use Rattle.gw_step.specs.Job.{Job}
+use Rattle.gw_scan.specs.Making.{job_from}
+use Rattle.gw_scan.specs.declared.spec.StartFault.TheVariants.{Count}
 use Rattle.gw_answers.specs.Status.{ended, refused}
-use Rattle.gw_answers.specs.Assembly.{IsAssembly}
-use Rattle.gw_answers.specs.Refusal.{refusal_line}
-use Rattle.gw_study.specs.Runs.{AreReports}
-use Rattle.gw_study.specs.Refusals.{IsStudyRefusal, IsRefusalBy}
-use Rattle.gw_study.specs.Rows.{IsTable}
+use Rattle.gw_answers.specs.Refusal.{refusal_line, start_refusal}
+use Rattle.gw_model_jobs.specs.ModelJobs.{IsJobOf, IsRefusalOf}
+use Rattle.gw_figures.specs.Labels.{labels, labels_of}
+use Rattle.gw_figures.specs.declared.run.Run.{Run}
+use Rattle.gw_study.specs.declared.request.StudyRequest.{StudyRequest}
+use Rattle.gw_study.specs.declared.telling.Results.{Results}
+use Rattle.gw_study.specs.Requests.{first_run}
+use Rattle.gw_study.specs.Runs.{AreRunsFrom}
+use Rattle.gw_study.specs.Table.{IsTable}
 
--- what is told of so many runs of an object with this count: a table of their reports, or a refusal
--- that is one of these
-abbrev pub IsTold : (Fault → Type 0) → List ℕ → ℕ → ℕ → List ℕ → ℕ → Type 0
-IsTold Refuses object runs count text status =
-    ((status ≡ ended) × ((reports : List (List ℕ)) × (length reports ≡ runs) × AreReports count object reports × IsTable reports text))
-    ⊎ ((status ≡ refused) × ((fault : Fault) × Refuses fault × (text ≡ refusal_line fault)))
+-- the job of a text's object with this count
+abbrev pub counted : Job → ℕ → Job
+counted j count = job_from j.parts [] count j.budget
 
--- of any object: the refusal of one of the runs
-abbrev pub IsToldOfRuns : List ℕ → ℕ → ℕ → List ℕ → ℕ → Type 0
-IsToldOfRuns object runs count text status =
-    IsTold (IsStudyRefusal count object runs) object runs count text status
+-- so many runs of a job's object, in order, with the figures of its model
+pub record AreResultsOf (j : Job) (request : StudyRequest) (results : Results) : Type 0 where
+  pub figures : labels results.figures.items ≡ labels_of j.parts
+  pub number : length results.runs.items ≡ request.runs
+  pub runs : AreRunsFrom j request.from (first_run request) results.runs.items
 
--- of an accepted object: the refusal of the count, or a refusal by the service
-abbrev pub IsStudied : List ℕ → ℕ → ℕ → List ℕ → ℕ → Type 0
-IsStudied object runs count text status =
-    IsTold (IsRefusalBy count) object runs count text status
+-- the table of the runs of a job's object
+abbrev pub IsTold : Job → StudyRequest → List ℕ → Type 0
+IsTold j request text =
+    (runs : List Run) × (length runs ≡ request.runs)
+    × AreRunsFrom j request.from (first_run request) runs
+    × IsTable (labels_of j.parts) runs request j.count text
 
--- what is told of a text: what is told of its object, or its refusal
-abbrev pub IsStudy : List ℕ → ℕ → ℕ → List ℕ → ℕ → Type 0
-IsStudy bytes runs count text status =
-    ((object : List ℕ) × IsAssembly bytes object ended × IsStudied object runs count text status)
-    ⊎ ((status ≢ ended) × IsAssembly bytes text status)
+-- the job of a text with this count
+abbrev pub IsCountedJob : List ℕ → ℕ → Job → Type 0
+IsCountedJob bytes count job = (j : Job) × IsJobOf bytes j × (job ≡ counted j count)
+
+-- a count is refused where it is above 2^40
+abbrev pub IsCountRefusal : ℕ → Fault → Type 0
+IsCountRefusal count fault = (2 ^ 40 < count) × (fault ≡ start_refusal Count)
+
+-- why a text has no study: it is refused, or the count is above 2^40
+abbrev pub IsStudyRefusal : List ℕ → ℕ → Fault → Type 0
+IsStudyRefusal bytes count fault = IsRefusalOf bytes fault ⊎ IsCountRefusal count fault
+
+-- what is told of a text: the table of its job's runs, or why there is none
+abbrev pub IsStudy : List ℕ → StudyRequest → List ℕ → ℕ → Type 0
+IsStudy bytes request text status =
+    ((status ≡ ended) × ((j : Job) × IsCountedJob bytes request.count j × IsTold j request text))
+    ⊎ ((status ≡ refused) × ((fault : Fault) × IsStudyRefusal bytes request.count fault × (text ≡ refusal_line fault)))

@@ -1,7 +1,7 @@
 -- The lines of a study.
-use Rattle.std.specs.Prelude.{ℕ, ◌-◌, ◌^◌, ◌/◌, ◌%◌, nat_lt, List, [], ◌∷◌, ◌++◌, length, replicate, codes, ℤ, pos, negsuc, unsigned_abs, Option, None, Some, if◌then◌else◌}
+use Rattle.std.specs.Prelude.{ℕ, suc, ◌+◌, ◌-◌, ◌^◌, ◌/◌, ◌%◌, min, nat_le, nat_lt, List, [], ◌∷◌, ◌++◌, length, replicate, codes, ℤ, pos, negsuc, neg_ℤ, unsigned_abs, Option, None, Some, if◌then◌else◌}
 use Rattle.std.specs.Fmt.{decimal}
-use Rattle.gw_figures.specs.declared.summary.Summary.{Summary}
+use Rattle.gw_statistics.specs.declared.summary.Summary.{Summary}
 
 -- blanks behind a text, up to a width
 unfoldable pub left : ℕ → List ℕ → List ℕ
@@ -13,7 +13,9 @@ right width text = 32 ∷ (replicate (width - length text) 32 ++ text)
 
 -- a number of thousandths with three digits behind its point
 abbrev pub amount_text : ℕ → List ℕ
-amount_text n = decimal (n / 1000) ++ codes "." ++ decimal (n / 100 % 10) ++ decimal (n / 10 % 10) ++ decimal (n % 10)
+amount_text n =
+    decimal (n / 1000) ++ codes "." ++ decimal (n / 100 % 10) ++ decimal (n / 10 % 10)
+    ++ decimal (n % 10)
 
 abbrev pub sign_text : ℤ → List ℕ
 sign_text (pos n) = []
@@ -22,31 +24,46 @@ sign_text (negsuc n) = codes "-"
 abbrev pub thousandths_text : ℤ → List ℕ
 thousandths_text z = sign_text z ++ amount_text (unsigned_abs z)
 
--- the same in its column
-abbrev pub amount_column : ℤ → List ℕ
-amount_column z = right 16 (thousandths_text z)
+-- millionths in thousandths, rounded to the nearest
+abbrev pub rounded : ℕ → ℕ
+rounded n = (n + 500) / 1000
 
--- a half-width, or a line where there is none
-abbrev pub half_width_text : Option ℕ → List ℕ
-half_width_text None = codes "-"
-half_width_text (Some h) = if nat_lt h (2 ^ 64) then thousandths_text (pos h) else codes "-"
+abbrev pub thousandths_of : ℤ → ℤ
+thousandths_of (pos n) = pos (rounded n)
+thousandths_of (negsuc n) = neg_ℤ (pos (rounded (suc n)))
 
--- the same in its column
-abbrev pub half_width_column : Option ℕ → List ℕ
-half_width_column h = right 16 (half_width_text h)
+-- how far millionths lie from the thousandths that are told of them
+abbrev pub distance : ℤ → ℕ
+distance z =
+    let rest = unsigned_abs z % 1000 in if nat_lt rest 500 then rest else 1000 - rest
 
--- the mean, the least and the greatest
-abbrev pub values_text : Summary → List ℕ
-values_text s = amount_column s.mean ++ amount_column s.least ++ amount_column s.greatest
+-- a value of millionths in its column
+abbrev pub value_column : ℤ → List ℕ
+value_column z = right 16 (thousandths_text (thousandths_of z))
 
--- the row of a figure: its name, these, and the half-width
-abbrev pub row_line : List ℕ → Summary → List ℕ
-row_line name s = left 40 name ++ values_text s ++ half_width_column s.half_width ++ codes "\n"
+-- a half-width in thousandths: with what rounding the mean adds, and rounded up
+abbrev pub told_half_width : ℤ → ℕ → ℕ
+told_half_width mean h = (h + distance mean) / 1000 + min 1 ((h + distance mean) % 1000)
 
--- the row of one that isn't a number of each run
-abbrev pub missing_line : List ℕ → List ℕ
-missing_line name = left 40 name ++ right 16 (codes "-") ++ codes "\n"
+-- the same in its column, or a line where there is none
+abbrev pub half_width_text : ℤ → Option ℕ → List ℕ
+half_width_text mean None = codes "-"
+half_width_text mean (Some h) =
+    if nat_le h (2 ^ 64) then thousandths_text (pos (told_half_width mean h)) else codes "-"
+
+-- what is said of a figure: its mean, least and greatest value, and the half-width
+abbrev pub said_columns : Option Summary → List ℕ
+said_columns None = right 16 (codes "-")
+said_columns (Some s) =
+    value_column s.mean ++ value_column s.least ++ value_column s.greatest
+    ++ right 16 (half_width_text s.mean s.half_width)
+
+-- the row of a figure
+abbrev pub row_line : List ℕ → Option Summary → List ℕ
+row_line name said = left 40 name ++ said_columns said ++ codes "\n"
 
 -- the line above the rows
 abbrev pub head_line : List ℕ
-head_line = left 40 (codes "FIGURE") ++ right 16 (codes "MEAN") ++ right 16 (codes "LEAST") ++ right 16 (codes "GREATEST") ++ right 16 (codes "HALF-WIDTH") ++ codes "\n"
+head_line =
+    left 40 (codes "FIGURE") ++ right 16 (codes "MEAN") ++ right 16 (codes "LEAST")
+    ++ right 16 (codes "GREATEST") ++ right 16 (codes "HALF-WIDTH") ++ codes "\n"

@@ -1,13 +1,17 @@
-//! A study: a model is run many times with other random numbers, by workers, and each figure of its reports is summed up
+//! A study: a model is run many times with other random numbers, by threads, and what each figure is in the runs is summed up
 //! (docs/planner.md).
 #![tactic(auto)]
 
-mod job;
-mod rows;
+mod columns;
+mod one_run;
+mod request;
 mod runs;
 mod seeds;
 mod studying;
-mod text;
+mod telling;
+pub mod text;
 
+pub use request::{MOST_RUNS, StudyRequest};
 pub use seeds::seeds_of;
-pub use studying::{MOST_RUNS, study};
+pub use studying::{job_of_text, results, study};
+pub use telling::{Results, table};

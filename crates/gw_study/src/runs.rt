@@ -1,236 +1,216 @@
-//! The runs of a study, by services and their workers.
+//! The runs of a study, by threads.
 
-ghost use Rattle.std.specs.Prelude.{◌≡◌, ◌<◌, ◌≤◌, ◌+◌, length, vec_len, IfOk, IfErr, OnOk};
-ghost use Rattle.gw_pool.specs.Shares.{AreWhole};
-ghost use Rattle.gw_report.specs.Report.{Ends};
-ghost use Rattle.gw_study.specs.Refusals.{RefusesBy, IsServiceRefusal};
-ghost use Rattle.gw_study.specs.Refusals.{TellsFault, TellsRun, TellsStudy};
-ghost use Rattle.gw_study.specs.Runs.{IsPassOf, ArePassesOf, AddsReportsTo, AreReportsOf};
+ghost use Rattle.std.specs.Prelude.{◌≤◌, ◌+◌};
+ghost use Rattle.gw_study.specs.Requests.{MayBeStudied, first_run as first_of};
+ghost use Rattle.gw_study.specs.Runs.{AreRunsOf, IsSetUp};
 
-use crate::job::{Setup, job_of_run};
-use gw_answers::{NoJob, refusal_of_job};
-use gw_jobs::{JobFault, Pass};
-use gw_pool::{Crew, OpenGate, PoolFault, Service, Shared, submit};
+use crate::one_run::numbered_run;
+use crate::request::{StudyRequest, first_run};
+use gw_figures::{Figure, Run};
+use gw_object::Memory;
 use gw_scan::Spec;
 use std::alloc::Global;
-use std::collections::VecDeque;
 use std::io::Eprint;
-use std::marker::Brand;
-use std::sync::ledger::{Blank, Ledger};
-use std::sync::{Mutex, Wait};
-use std::thread::Threads;
+use std::thread;
+use std::thread::{Threads, available_parallelism};
 
-/// The parts of each ledger of a service.
-const PARTS: u64 = 17;
-
-/// So many runs are of one service, which is let go before the next are made.
+/// So many runs are made side by side before it is told how far they are.
 const TOGETHER: u32 = 64;
 
-/// So many runs, one after the other, are of one user: as many of a user's jobs may run at once.
-const RUNS_OF_A_USER: u32 = 16;
+/// At most so many workers make them.
+const MOST_WORKERS: u32 = 16;
 
-/// How many workers run them.
-const WORKERS: u32 = 8;
-
-/// How many steps a slice of a worker has: as many as it may.
-const SLICE: u32 = 1 << 20;
-
-/// A refusal by the service.
-fn refused_by(fault: JobFault) -> NoJob
-    ensures { TellsFault fault result }
-{
-    match fault {
-        JobFault::Memory => NoJob::OutOfMemory,
-        _ => NoJob::Refused(refusal_of_job(fault)),
-    }
+/// What the runs of a study have in common.
+#[derive(Clone, Copy)]
+pub(crate) struct Setup<'a> {
+    /// The job whose object, count and budget they have.
+    pub spec: &'a Spec,
+    /// The figures of its model.
+    pub figures: &'a [Figure],
+    /// How many terminations are counted before the window begins.
+    pub from: u64,
 }
 
-/// Submits the job of a run.
-fn submit_run<R: Ledger, S: Ledger, W: Wait>(
-    rt: &W,
-    alloc: Global,
-    table: &Mutex<Shared<R, S>>,
-    setup: &Setup<'_>,
-    run: u32,
-) -> Result<Pass, NoJob>
-    requires { run < 1024 }
-    ensures pass { IfOk result (IsPassOf setup.now.count setup.now.object.now run) }
-    ensures refused { IfErr result (TellsRun setup.now run) }
+/// The runs from one number to another, but not that one, one after the other. Each has a state that is let go before the next.
+fn runs_between(alloc: Global, setup: &Setup<'_>, first: u32, end: u32) -> Result<Vec<Run>, Memory>
+    requires numbers { (first ≤ end) × (end ≤ 512) }
+    requires setup { IsSetUp setup.now }
+    ensures { AreRunsOf setup.now first end result }
 {
-    let spec = job_of_run(alloc, setup.object, run, setup.count)?;
-    let user = u64::from(run / RUNS_OF_A_USER);
-    match submit(rt, alloc, table, user, spec) {
-        Ok(pass) => Ok(pass),
-        Err((spec, fault)) => {
-            drop(spec);
-            Err(refused_by(fault))
-        }
+    let mut runs = Vec::new(alloc);
+    for number in first..end {
+        let run = numbered_run(alloc, setup.spec, setup.figures, number, setup.from)?;
+        runs.push(run)?;
     }
+    Ok(runs)
 }
 
-/// Submits the runs from one number to another, but not that one.
-fn submit_runs<R: Ledger, S: Ledger, W: Wait>(
-    rt: &W,
+/// The same by two workers, of whom each makes one half.
+fn runs_by_two<T: Threads + Sync>(
+    rt: &T,
     alloc: Global,
-    table: &Mutex<Shared<R, S>>,
     setup: &Setup<'_>,
     first: u32,
     end: u32,
-) -> Result<VecDeque<Pass>, NoJob>
-    requires { (first ≤ end) × (end ≤ 1024) }
-    ensures passes { IfOk result (λ passes. ArePassesOf setup.now first passes.items) }
-    ensures all { IfOk result (λ passes. first + length passes.items ≡ end) }
-    ensures refused { IfErr result (TellsStudy setup.now end) }
+) -> Result<Vec<Run>, Memory>
+    requires numbers { (first ≤ end) × (end ≤ 512) }
+    requires setup { IsSetUp setup.now }
+    ensures { AreRunsOf setup.now first end result }
 {
-    let mut passes = VecDeque::new(alloc);
-    for run in first..end {
-        let pass = submit_run(rt, alloc, table, setup, run)?;
-        if passes.push_back(pass).is_err() {
-            return Err(NoJob::OutOfMemory);
-        }
-    }
-    Ok(passes)
+    let middle = first + (end - first) / 2;
+    let own = move || -> Result<Vec<Run>, Memory>
+        requires { (first ≤ middle) × (middle ≤ 512) × IsSetUp setup.now }
+        ensures { AreRunsOf setup.entry.now first middle result }
+    { runs_between(alloc, setup, first, middle) };
+    let other = move || -> Result<Vec<Run>, Memory>
+        requires { (middle ≤ end) × (end ≤ 512) × IsSetUp setup.now }
+        ensures { AreRunsOf setup.entry.now middle end result }
+    { runs_between(alloc, setup, middle, end) };
+    let (left, right) = thread::join(rt, own, other);
+    let mut runs = left?;
+    let mut more = right?;
+    runs.append(&mut more)?;
+    Ok(runs)
 }
 
-/// The report of a run.
-fn report_to<R: Ledger, S: Ledger, W: Wait>(
-    rt: &W,
+/// The same by four.
+fn runs_by_four<T: Threads + Sync>(
+    rt: &T,
     alloc: Global,
-    table: &Mutex<Shared<R, S>>,
-    pass: &Pass,
-) -> Result<Vec<u8>, NoJob>
-    ensures report { IfOk result (λ report. Ends pass.now.job report.items) }
-    ensures refused { IfErr result (RefusesBy IsServiceRefusal) }
-{
-    match table.lock(rt).collect(alloc, pass) {
-        Ok(reply) => Ok(reply.report),
-        Err(fault) => Err(refused_by(fault)),
-    }
-}
-
-/// Appends the reports of runs, in order.
-fn collect_runs<R: Ledger, S: Ledger, W: Wait>(
-    rt: &W,
-    alloc: Global,
-    table: &Mutex<Shared<R, S>>,
-    mut passes: VecDeque<Pass>,
-    reports: &mut Vec<Vec<u8>>,
-) -> Result<(), NoJob>
-    ensures len { OnOk result (vec_len reports.new ≡ vec_len reports.old + length passes.items) }
-    ensures added { OnOk result (AddsReportsTo passes.items reports.old.items reports.new.items) }
-    ensures some { IfErr result (λ _. 0 < length passes.items) }
-    ensures refused { IfErr result (RefusesBy IsServiceRefusal) }
-{
-    while let Some(pass) = passes.pop_front() {
-        let report = report_to(rt, alloc, table, &pass)?;
-        if reports.push(report).is_err() {
-            return Err(NoJob::OutOfMemory);
-        }
-    }
-    Ok(())
-}
-
-/// Makes the runs from the first without a report to one of a number, but not that one, and appends their reports. Where no worker
-/// could be started their jobs stay as they are.
-fn make_runs<R: Ledger + Send + Sync, S: Ledger + Send + Sync, W: Threads + Wait + Sync>(
-    rt: &W,
-    alloc: Global,
-    service: &Service<R, S>,
-    crew: &mut Crew<R, S>,
     setup: &Setup<'_>,
+    first: u32,
     end: u32,
-    reports: &mut Vec<Vec<u8>>,
-) -> Result<(), NoJob>
-    requires crew { crew.old.board ≡ service.now }
-    requires runs { (vec_len reports.old ≤ end) × (end ≤ 1024) }
-    requires before { AreReportsOf setup.now reports.old.items }
-    ensures reports { OnOk result (AreReportsOf setup.now reports.new.items) }
-    ensures all { OnOk result (vec_len reports.new ≡ end) }
-    ensures refused { IfErr result (TellsStudy setup.now end) }
+) -> Result<Vec<Run>, Memory>
+    requires numbers { (first ≤ end) × (end ≤ 512) }
+    requires setup { IsSetUp setup.now }
+    ensures { AreRunsOf setup.now first end result }
 {
-    let first = reports.len() as u32;
-    let passes = submit_runs(rt, alloc, service.table(), setup, first, end)?;
-    match service.run_jobs(rt, alloc, crew, WORKERS, SLICE, &OpenGate) {
-        Err(PoolFault::Memory) => Err(NoJob::OutOfMemory),
-        Ok(_) | Err(_) => collect_runs(rt, alloc, service.table(), passes, reports),
-    }
+    let middle = first + (end - first) / 2;
+    let own = move || -> Result<Vec<Run>, Memory>
+        requires { (first ≤ middle) × (middle ≤ 512) × IsSetUp setup.now }
+        ensures { AreRunsOf setup.entry.now first middle result }
+    { runs_by_two(rt, alloc, setup, first, middle) };
+    let other = move || -> Result<Vec<Run>, Memory>
+        requires { (middle ≤ end) × (end ≤ 512) × IsSetUp setup.now }
+        ensures { AreRunsOf setup.entry.now middle end result }
+    { runs_by_two(rt, alloc, setup, middle, end) };
+    let (left, right) = thread::join(rt, own, other);
+    let mut runs = left?;
+    let mut more = right?;
+    runs.append(&mut more)?;
+    Ok(runs)
 }
 
-/// The same, by a new service whose ledgers the type parameters name. All that it keeps of the runs is let go with it.
-fn make_runs_by<R: Ledger + Send + Sync, S: Ledger + Send + Sync, W: Threads + Wait + Sync>(
-    rt: &W,
+/// The same by eight.
+fn runs_by_eight<T: Threads + Sync>(
+    rt: &T,
     alloc: Global,
-    rows: Blank,
-    steps: Blank,
     setup: &Setup<'_>,
+    first: u32,
     end: u32,
-    reports: &mut Vec<Vec<u8>>,
-) -> Result<(), NoJob>
-    requires names { (rows.name ≡ R.name) × (steps.name ≡ S.name) }
-    requires parts { (rows.parts ≡ R.parts) × (steps.parts ≡ S.parts) }
-    requires whole { AreWhole rows.parts steps.parts }
-    requires runs { (vec_len reports.old ≤ end) × (end ≤ 1024) }
-    requires before { AreReportsOf setup.now reports.old.items }
-    ensures reports { OnOk result (AreReportsOf setup.now reports.new.items) }
-    ensures all { OnOk result (vec_len reports.new ≡ end) }
-    ensures refused { IfErr result (TellsStudy setup.now end) }
+) -> Result<Vec<Run>, Memory>
+    requires numbers { (first ≤ end) × (end ≤ 512) }
+    requires setup { IsSetUp setup.now }
+    ensures { AreRunsOf setup.now first end result }
 {
-    match Service::<R, S>::new(alloc, rows, steps) {
-        Ok((service, mut crew, seat)) => {
-            let made = make_runs(rt, alloc, &service, &mut crew, setup, end, reports);
-            drop(service);
-            drop(crew);
-            drop(seat);
-            made
-        }
-        Err(_) => Err(NoJob::OutOfMemory),
-    }
+    let middle = first + (end - first) / 2;
+    let own = move || -> Result<Vec<Run>, Memory>
+        requires { (first ≤ middle) × (middle ≤ 512) × IsSetUp setup.now }
+        ensures { AreRunsOf setup.entry.now first middle result }
+    { runs_by_four(rt, alloc, setup, first, middle) };
+    let other = move || -> Result<Vec<Run>, Memory>
+        requires { (middle ≤ end) × (end ≤ 512) × IsSetUp setup.now }
+        ensures { AreRunsOf setup.entry.now middle end result }
+    { runs_by_four(rt, alloc, setup, middle, end) };
+    let (left, right) = thread::join(rt, own, other);
+    let mut runs = left?;
+    let mut more = right?;
+    runs.append(&mut more)?;
+    Ok(runs)
 }
 
-/// The same, by a service of their own.
-fn make_group<W: Threads + Wait + Sync>(
-    rt: &W,
+/// The same by sixteen.
+fn runs_by_sixteen<T: Threads + Sync>(
+    rt: &T,
     alloc: Global,
     setup: &Setup<'_>,
+    first: u32,
     end: u32,
-    reports: &mut Vec<Vec<u8>>,
-) -> Result<(), NoJob>
-    requires runs { (vec_len reports.old ≤ end) × (end ≤ 1024) }
-    requires before { AreReportsOf setup.now reports.old.items }
-    ensures reports { OnOk result (AreReportsOf setup.now reports.new.items) }
-    ensures all { OnOk result (vec_len reports.new ≡ end) }
-    ensures refused { IfErr result (TellsStudy setup.now end) }
+) -> Result<Vec<Run>, Memory>
+    requires numbers { (first ≤ end) × (end ≤ 512) }
+    requires setup { IsSetUp setup.now }
+    ensures { AreRunsOf setup.now first end result }
 {
-    make_runs_by::<Brand, Brand, W>(
-        rt,
-        alloc,
-        Blank::new(PARTS),
-        Blank::new(PARTS),
-        setup,
-        end,
-        reports,
-    )
+    let middle = first + (end - first) / 2;
+    let own = move || -> Result<Vec<Run>, Memory>
+        requires { (first ≤ middle) × (middle ≤ 512) × IsSetUp setup.now }
+        ensures { AreRunsOf setup.entry.now first middle result }
+    { runs_by_eight(rt, alloc, setup, first, middle) };
+    let other = move || -> Result<Vec<Run>, Memory>
+        requires { (middle ≤ end) × (end ≤ 512) × IsSetUp setup.now }
+        ensures { AreRunsOf setup.entry.now middle end result }
+    { runs_by_eight(rt, alloc, setup, middle, end) };
+    let (left, right) = thread::join(rt, own, other);
+    let mut runs = left?;
+    let mut more = right?;
+    runs.append(&mut more)?;
+    Ok(runs)
 }
 
-/// The reports of so many runs with a setup, at most 1,024. Workers make them, 64
-/// at a time, each in slices; a line on standard error tells how far they are.
-pub(crate) fn reports_of<W: Threads + Wait + Sync + Eprint>(
-    rt: &W,
+/// The same by at most so many workers.
+fn runs_by<T: Threads + Sync>(
+    rt: &T,
     alloc: Global,
     setup: &Setup<'_>,
-    runs: u32,
-) -> Result<Vec<Vec<u8>>, NoJob>
-    requires { runs ≤ 1024 }
-    ensures reports { IfOk result (λ r. AreReportsOf setup.now r.items) }
-    ensures all { IfOk result (λ reports. vec_len reports ≡ runs) }
-    ensures refused { IfErr result (TellsStudy setup.now runs) }
+    workers: u32,
+    first: u32,
+    end: u32,
+) -> Result<Vec<Run>, Memory>
+    requires numbers { (first ≤ end) × (end ≤ 512) }
+    requires setup { IsSetUp setup.now }
+    ensures { AreRunsOf setup.now first end result }
 {
-    let mut reports = Vec::new(alloc);
-    let mut end = 0;
-    while end < runs {
-        end = runs.min(end + TOGETHER);
-        make_group(rt, alloc, setup, end, &mut reports)?;
-        let _ = eprintln!(rt; "{end} of {runs} runs");
+    match workers {
+        0..=1 => runs_between(alloc, setup, first, end),
+        2..=3 => runs_by_two(rt, alloc, setup, first, end),
+        4..=7 => runs_by_four(rt, alloc, setup, first, end),
+        8..=15 => runs_by_eight(rt, alloc, setup, first, end),
+        _ => runs_by_sixteen(rt, alloc, setup, first, end),
     }
-    Ok(reports)
+}
+
+/// How many workers make the runs, where so many are asked for: as many as the machine has processors where none is.
+fn workers_of<T: Threads>(rt: &T, workers: u32) -> u32 {
+    if workers > 0 {
+        return workers.min(MOST_WORKERS);
+    }
+    match available_parallelism(rt) {
+        Ok(number) => number.get().min(MOST_WORKERS as usize) as u32,
+        Err(_) => 1,
+    }
+}
+
+/// The runs that a study is asked for, in order. A line on standard error tells how far they are.
+pub(crate) fn runs_of<T: Threads + Sync + Eprint>(
+    rt: &T,
+    alloc: Global,
+    setup: &Setup<'_>,
+    request: StudyRequest,
+) -> Result<Vec<Run>, Memory>
+    requires request { MayBeStudied request }
+    requires setup { IsSetUp setup.now }
+    ensures { AreRunsOf setup.now (first_of request) (first_of request + request.runs) result }
+{
+    let workers = workers_of(rt, request.workers);
+    let first = first_run(request);
+    let mut runs = Vec::new(alloc);
+    let mut made = 0;
+    while made < request.runs {
+        let next = request.runs.min(made + TOGETHER);
+        let mut more = runs_by(rt, alloc, setup, workers, first + made, first + next)?;
+        runs.append(&mut more)?;
+        made = next;
+        let _ = eprintln!(rt; "{made} of {all} runs", all = request.runs);
+    }
+    Ok(runs)
 }

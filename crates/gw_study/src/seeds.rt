@@ -36,7 +36,7 @@ fn seed(place: u32) -> u32
 /// The seeds of the 16 streams of a run, from 0: the next 16 behind those of the run before. A stream makes 131,071 draws before it
 /// comes to where the next begins, and stream 1 two million before it comes to where that of the next run does.
 pub fn seeds_of(run: u32) -> [u32; 16]
-    requires { run < 1024 }
+    requires { run < 512 }
     ensures value { result ≡ seeds_of_run run }
     ensures seeds { All (λ seed. seed ≤ 2147483646) result }
 {

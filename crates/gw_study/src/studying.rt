@@ -1,76 +1,117 @@
 //! A study of a model text.
 
-ghost use Rattle.std.specs.Prelude.{◌≡◌, ◌<◌, ◌≤◌, length, IfOk};
+ghost use Rattle.std.specs.Prelude.{◌≡◌, IfOk};
+ghost use Rattle.gw_model_jobs.specs.ModelJobs.{IsJobOf, Finds};
 ghost use Rattle.gw_answers.specs.Status.{ended};
-ghost use Rattle.gw_study.specs.Rows.{IsTable};
-ghost use Rattle.gw_study.specs.Runs.{texts};
-ghost use Rattle.gw_study.specs.Study.{IsStudy, IsToldOfRuns};
+ghost use Rattle.gw_study.specs.Requests.{MayBeStudied};
+ghost use Rattle.gw_study.specs.Study.{counted as counted_of, AreResultsOf, IsCountedJob, IsCountRefusal, IsStudyRefusal, IsStudy, IsTold};
 
-use crate::job::Setup;
-use crate::rows::table;
-use crate::runs::reports_of;
+use crate::request::StudyRequest;
+use crate::runs::{Setup, runs_of};
+use crate::telling::{Results, table};
 use gw_answers::status::ENDED;
-use gw_answers::{Answer, NoJob, Request, answer_to, refused};
+use gw_answers::{Answer, BUDGET, NoJob, Refusal, refused};
+use gw_figures::figures;
+use gw_model_jobs::spec_of_text;
 use gw_object::Memory;
+use gw_scan::{Spec, StartFault};
 use std::alloc::Global;
 use std::io::Eprint;
-use std::sync::Wait;
 use std::thread::Threads;
 
-/// At most so many runs are made.
-pub const MOST_RUNS: u32 = 1024;
+/// The greatest termination count.
+const MOST_COUNT: u64 = 1 << 40;
 
-/// What is told of the reports of runs.
-fn told(alloc: Global, reports: &[Vec<u8>]) -> Result<Answer, Memory>
-    requires { (0 < length reports.now) × (length reports.now ≤ MOST_RUNS) }
-    ensures { IfOk result (λ a. (a.status ≡ ended) × IsTable (texts reports.now) a.text.items) }
+/// The job of the same object with this count, where 0 means the object's own; or the refusal of the count, or want of memory.
+fn counted(spec: &Spec, count: u64) -> Result<Spec, NoJob>
+    ensures found { Finds result (λ job. job ≡ counted_of spec.now count) (IsCountRefusal count) }
+    ensures budget { IfOk result (λ job. job.budget ≡ spec.now.budget) }
 {
+    if count > MOST_COUNT {
+        return Err(NoJob::Refused(Refusal::from(StartFault::Count)));
+    }
+    match spec.reseed(&[], count) {
+        Ok(spec) => Ok(spec),
+        Err(_) => Err(NoJob::OutOfMemory),
+    }
+}
+
+/// The job of a model text with this count, where 0 means the text's own, and the budget of a run; or why there is none: the
+/// refusal of the text or of its assembly, a count above 2^40, or want of memory.
+pub fn job_of_text(alloc: Global, text: &[u8], count: u64) -> Result<Spec, NoJob>
+    ensures found { Finds result (IsCountedJob text.now count) (IsStudyRefusal text.now count) }
+    ensures budget { IfOk result (λ spec. spec.budget ≡ BUDGET) }
+{
+    match spec_of_text(alloc, text) {
+        Ok(spec) => {
+            let found = counted(&spec, count);
+            drop(spec);
+            found
+        }
+        Err(none) => Err(none),
+    }
+}
+
+/// The runs of a job's object, whose budget is that of a run, that a study is asked for, with the figures of its model.
+pub fn results<T: Threads + Sync + Eprint>(
+    rt: &T,
+    alloc: Global,
+    spec: &Spec,
+    request: &StudyRequest,
+) -> Result<Results, Memory>
+    requires request { MayBeStudied request.now }
+    requires budget { spec.now.budget ≡ BUDGET }
+    ensures { IfOk result (AreResultsOf spec.now request.now) }
+{
+    let figures = figures(alloc, spec.verified().object().parts())?;
+    let setup = Setup {
+        spec,
+        figures: &figures,
+        from: request.from,
+    };
+    let runs = runs_of(rt, alloc, &setup, *request)?;
+    Ok(Results { figures, runs })
+}
+
+/// The table of the runs of a job's object.
+fn studied<T: Threads + Sync + Eprint>(
+    rt: &T,
+    alloc: Global,
+    spec: &Spec,
+    request: &StudyRequest,
+) -> Result<Answer, Memory>
+    requires request { MayBeStudied request.now }
+    requires budget { spec.now.budget ≡ BUDGET }
+    ensures { IfOk result (λ a. (a.status ≡ ended) × IsTold spec.now request.now a.text.items) }
+{
+    let results = results(rt, alloc, spec, request)?;
     Ok(Answer {
-        text: table(alloc, reports)?,
+        text: table(alloc, &results, request, spec.count())?,
         status: ENDED,
     })
 }
 
-/// The study of what runs have in common: they are made, and what their reports say is told.
-fn study_of_runs<W: Threads + Wait + Sync + Eprint>(
-    rt: &W,
+/// The study of a model text: it is assembled, and run so many times, each time with 16 other seeds, until so many transactions
+/// have been counted. Workers make the runs. What comes is a row for each figure, with its mean over the runs that came to their
+/// count, the least and the greatest, and the half-width of its 95 % confidence interval, all in thousandths, how many more runs
+/// would halve that, and which averages change in a run. A text that is refused is told as `gpssw asm` tells it; so is a count
+/// above 2^40.
+pub fn study<T: Threads + Sync + Eprint>(
+    rt: &T,
     alloc: Global,
-    setup: &Setup<'_>,
-    runs: u32,
+    text: &[u8],
+    request: &StudyRequest,
 ) -> Result<Answer, Memory>
-    requires { (0 < runs) × (runs ≤ MOST_RUNS) }
-    ensures { IfOk result (λ a. IsToldOfRuns setup.now.object.now runs setup.now.count
-        a.text.items a.status) }
+    requires { MayBeStudied request.now }
+    ensures { IfOk result (λ a. IsStudy text.now request.now a.text.items a.status) }
 {
-    match reports_of(rt, alloc, setup, runs) {
-        Ok(reports) => told(alloc, &reports),
+    match job_of_text(alloc, text, request.count) {
+        Ok(spec) => {
+            let answer = studied(rt, alloc, &spec, request);
+            drop(spec);
+            answer
+        }
         Err(NoJob::Refused(refusal)) => refused(alloc, refusal),
         Err(NoJob::OutOfMemory) => Err(Memory),
     }
-}
-
-/// The study of a model text: it is assembled, and run so many times, 1 to 1,024, each time with 16 other seeds, until so many
-/// transactions have been counted, where 0 is the count of the text. Workers make the runs. What comes is a row for each figure of
-/// the report, with its mean over all runs, the least and the greatest, and the half-width of its 95 % confidence interval, all in
-/// thousandths, and how many more runs would halve that. A text that is refused is told as `gpssw asm` tells it; so is a count above
-/// 2^40, and what a service refuses. It waits for the workers.
-pub fn study<W: Threads + Wait + Sync + Eprint>(
-    rt: &W,
-    alloc: Global,
-    text: &[u8],
-    runs: u32,
-    count: u64,
-) -> Result<Answer, Memory>
-    requires { (0 < runs) × (runs ≤ MOST_RUNS) }
-    ensures { IfOk result (λ a. IsStudy text.now runs count a.text.items a.status) }
-{
-    let object = answer_to(alloc, Request::Asm, text)?;
-    if object.status != ENDED {
-        return Ok(object);
-    }
-    let setup = Setup {
-        object: &object.text,
-        count,
-    };
-    study_of_runs(rt, alloc, &setup, runs)
 }

@@ -1,11 +1,10 @@
 //! The lines of a study.
 
-ghost use Rattle.std.specs.Prelude.{◌≡◌, ◌≤◌, ◌++◌, OnOk, Some, length, replicate};
-ghost use Rattle.gw_study.specs.Text.{thousandths_text, amount_column, right, left, half_width_column, values_text, row_line, missing_line, head_line};
-ghost use Rattle.gw_study.specs.Rows.{more_line};
+ghost use Rattle.std.specs.Prelude.{◌≡◌, ◌≤◌, ◌++◌, ◌^◌, OnOk, Some, replicate};
+ghost use Rattle.gw_study.specs.Text as model;
 
-use gw_figures::{Summary, runs_to_halve};
 use gw_object::Memory;
+use gw_statistics::Summary;
 use std::alloc::Global;
 use std::fmt;
 
@@ -17,10 +16,10 @@ const NUMBER: usize = 16;
 
 /// Thousandths, which print as a number with three digits behind its point.
 #[derive(Drop)]
-pub(crate) struct Thousandths(pub(crate) i128);
+pub struct Thousandths(pub i128);
 
 impl fmt::Display for Thousandths {
-    ghost output = { λ t. Some (thousandths_text t.0) };
+    ghost output = { λ t. Some (model.thousandths_text t.0) };
 
     fn fmt<W: fmt::Write>(&self, f: &mut fmt::Formatter<W>) -> fmt::Result {
         let sign = if self.0 < 0 { "-" } else { "" };
@@ -46,7 +45,7 @@ fn put_blanks(out: &mut Vec<u8>, blanks: usize) -> Result<(), Memory>
 /// Appends a text with blanks behind it.
 #[tactic(auto, unfolding(crate::specs::Text::left))]
 fn put_left(out: &mut Vec<u8>, width: usize, text: &[u8]) -> Result<(), Memory>
-    ensures { OnOk result (out.new.items ≡ out.old.items ++ left width text.now) }
+    ensures { OnOk result (out.new.items ≡ out.old.items ++ model.left width text.now) }
 {
     out.extend_from_slice(text)?;
     put_blanks(out, width.saturating_sub(text.len()))
@@ -55,80 +54,109 @@ fn put_left(out: &mut Vec<u8>, width: usize, text: &[u8]) -> Result<(), Memory>
 /// Appends a blank, and a text with blanks before it.
 #[tactic(auto, unfolding(crate::specs::Text::right))]
 fn put_right(out: &mut Vec<u8>, width: usize, text: &[u8]) -> Result<(), Memory>
-    ensures { OnOk result (out.new.items ≡ out.old.items ++ right width text.now) }
+    ensures { OnOk result (out.new.items ≡ out.old.items ++ model.right width text.now) }
 {
     out.push(b' ')?;
     put_blanks(out, width.saturating_sub(text.len()))?;
     out.extend_from_slice(text)
 }
 
-/// Appends thousandths.
-fn put_thousandths(alloc: Global, out: &mut Vec<u8>, number: &i128) -> Result<(), Memory>
-    ensures { OnOk result (out.new.items ≡ out.old.items ++ amount_column number.now) }
+/// Millionths in thousandths, rounded to the nearest; what lies in the middle goes away from 0.
+pub fn thousandths_of(value: i128) -> i128
+    ensures { result ≡ model.thousandths_of value }
 {
-    let text = format!(in alloc; "{}", Thousandths(*number))?;
+    let size = ((value.unsigned_abs() + 500) / 1000) as i128;
+    if value < 0 { -size } else { size }
+}
+
+/// How far millionths lie from the thousandths that are told of them.
+fn distance(value: i128) -> u128
+    ensures value { result ≡ model.distance value }
+    ensures range { result ≤ 500 }
+{
+    let rest = value.unsigned_abs() % 1000;
+    if rest < 500 { rest } else { 1000 - rest }
+}
+
+/// Appends thousandths.
+fn put_thousandths(alloc: Global, out: &mut Vec<u8>, number: i128) -> Result<(), Memory>
+    ensures { OnOk result (out.new.items ≡ out.old.items ++ model.right 16 (model.thousandths_text number)) }
+{
+    let text = format!(in alloc; "{}", Thousandths(number))?;
     put_right(out, NUMBER, text.as_bytes())
 }
 
-/// Appends a half-width, or a line where there is none.
-fn put_half_width(alloc: Global, out: &mut Vec<u8>, half_width: Option<u128>) -> Result<(), Memory>
-    ensures { OnOk result (out.new.items ≡ out.old.items ++ half_width_column half_width) }
+/// Appends a value of millionths, in thousandths.
+fn put_value(alloc: Global, out: &mut Vec<u8>, value: &i128) -> Result<(), Memory>
+    ensures { OnOk result (out.new.items ≡ out.old.items ++ model.value_column value.now) }
+{
+    put_thousandths(alloc, out, thousandths_of(*value))
+}
+
+/// A half-width as it is told, in thousandths: it covers what rounding the mean adds, and is rounded up.
+fn told_half_width(mean: i128, half_width: u128) -> u128
+    requires { half_width ≤ 2 ^ 64 }
+    ensures value { result ≡ model.told_half_width mean half_width }
+    ensures range { result ≤ 2 ^ 64 }
+{
+    (half_width + distance(mean)).div_ceil(1000)
+}
+
+/// Appends a half-width as it is told, or a line where there is none.
+fn put_half_width(
+    alloc: Global,
+    out: &mut Vec<u8>,
+    mean: &i128,
+    half_width: Option<u128>,
+) -> Result<(), Memory>
+    ensures { OnOk result (out.new.items ≡ out.old.items ++ model.right 16 (model.half_width_text mean.now half_width)) }
 {
     match half_width {
-        Some(half_width) if half_width < 1 << 64 => put_thousandths(
-            alloc,
-            out,
-            &(half_width as i128),
-        ),
+        Some(half_width) if half_width <= 1 << 64 => {
+            put_thousandths(alloc, out, told_half_width(*mean, half_width) as i128)
+        }
         _ => put_right(out, NUMBER, b"-"),
     }
 }
 
-/// Appends a value.
-fn put_value(alloc: Global, out: &mut Vec<u8>, value: &i64) -> Result<(), Memory>
-    ensures { OnOk result (out.new.items ≡ out.old.items ++ amount_column value.now) }
+/// Appends the mean, the least and the greatest value, and the half-width.
+fn put_summary(alloc: Global, out: &mut Vec<u8>, summary: &Summary) -> Result<(), Memory>
+    ensures { OnOk result (out.new.items ≡ out.old.items ++ model.said_columns (Some summary.now)) }
 {
-    put_thousandths(alloc, out, &i128::from(*value))
-}
-
-/// Appends the mean, the least and the greatest.
-fn put_values(alloc: Global, out: &mut Vec<u8>, summary: &Summary) -> Result<(), Memory>
-    ensures { OnOk result (out.new.items ≡ out.old.items ++ values_text summary.now) }
-{
-    put_thousandths(alloc, out, &summary.mean)?;
+    put_value(alloc, out, &summary.mean)?;
     put_value(alloc, out, &summary.least)?;
-    put_value(alloc, out, &summary.greatest)
+    put_value(alloc, out, &summary.greatest)?;
+    put_half_width(alloc, out, &summary.mean, summary.half_width)
 }
 
-/// Appends the row of a figure.
-pub(crate) fn put_row(
+/// Appends what is said of a figure.
+fn put_said(alloc: Global, out: &mut Vec<u8>, said: Option<Summary>) -> Result<(), Memory>
+    ensures { OnOk result (out.new.items ≡ out.old.items ++ model.said_columns said) }
+{
+    match said {
+        Some(summary) => put_summary(alloc, out, &summary),
+        None => put_right(out, NUMBER, b"-"),
+    }
+}
+
+/// Appends the row of a figure: what is said of it, or that nothing is.
+pub(crate) fn put_line(
     alloc: Global,
     out: &mut Vec<u8>,
     name: &[u8],
-    summary: &Summary,
+    said: Option<Summary>,
 ) -> Result<(), Memory>
-    ensures { OnOk result (out.new.items ≡ out.old.items ++ row_line name.now summary.now) }
+    ensures { OnOk result (out.new.items ≡ out.old.items ++ model.row_line name.now said) }
 {
     put_left(out, NAME, name)?;
-    put_values(alloc, out, summary)?;
-    put_half_width(alloc, out, summary.half_width)?;
-    out.push(b'\n')?;
-    Ok(())
-}
-
-/// Appends the row of a figure that isn't a number of each run, or is too great.
-pub(crate) fn put_missing(out: &mut Vec<u8>, name: &[u8]) -> Result<(), Memory>
-    ensures { OnOk result (out.new.items ≡ out.old.items ++ missing_line name.now) }
-{
-    put_left(out, NAME, name)?;
-    put_right(out, NUMBER, b"-")?;
+    put_said(alloc, out, said)?;
     out.push(b'\n')?;
     Ok(())
 }
 
 /// Appends the line above the rows.
 pub(crate) fn put_head(out: &mut Vec<u8>) -> Result<(), Memory>
-    ensures { OnOk result (out.new.items ≡ out.old.items ++ head_line) }
+    ensures { OnOk result (out.new.items ≡ out.old.items ++ model.head_line) }
 {
     put_left(out, NAME, b"FIGURE")?;
     put_right(out, NUMBER, b"MEAN")?;
@@ -137,17 +165,4 @@ pub(crate) fn put_head(out: &mut Vec<u8>) -> Result<(), Memory>
     put_right(out, NUMBER, b"HALF-WIDTH")?;
     out.push(b'\n')?;
     Ok(())
-}
-
-/// Appends how many more runs would halve the half-widths, where there are any.
-pub(crate) fn put_more(alloc: Global, out: &mut Vec<u8>, runs: u32) -> Result<(), Memory>
-    requires { runs ≤ 1024 }
-    ensures { OnOk result (out.new.items ≡ out.old.items ++ more_line runs) }
-{
-    if runs < 2 {
-        return Ok(());
-    }
-    let more = runs_to_halve(runs) - runs;
-    let line = format!(in alloc; "HALVE {more}\n")?;
-    out.extend_from_slice(line.as_bytes())
 }

@@ -1,6 +1,8 @@
 -- With which statuses answers end.
 use Rattle.std.proofs.Common.{◌≡◌, ◌⊎◌, ℕ, List, Bool, true, false, Result, Ok, Err, MatchResult, inl, inr}
+use Rattle.std.proofs.Common.{◌+◌, take}
 use Rattle.std.specs.Prelude.{MatchBool}
+use Rattle.gw_object.specs.declared.limits.TheConstants.{MOST_BYTES}
 use Rattle.gw_object.specs.declared.fault.Fault.{Fault}
 use Rattle.gw_object.specs.declared.parts.Parts.{Parts}
 use Rattle.gw_step.specs.Job.{Job}
@@ -16,10 +18,12 @@ use Rattle.gw_listing.specs.Listing.{IsListingOf, TellsRefusal, IsListedModel, I
 use Rattle.gw_model_jobs.specs.ModelJobs.{AnswersModel}
 use Rattle.gw_trace.specs.Trace.{IsTrace}
 use Rattle.gw_chart.specs.Charts.{IsChart}
-use Rattle.gw_study.specs.Study.{IsStudied, IsStudy}
-use Rattle.planner.specs.Answers.{IsReported, asked, answering}
-use Rattle.planner.specs.declared.words.Question.{Question}
-use Rattle.planner.specs.declared.words.Question.TheVariants.{Explain, List as Lists, Chart, Trace, Report, Study}
+use Rattle.gw_study.specs.Study.{IsStudy}
+use Rattle.gw_study.specs.declared.request.StudyRequest.{StudyRequest}
+use Rattle.gw_command_line.specs.Words.{Demand}
+use Rattle.planner.specs.Answers.{IsReported, asked, answering, is_plain, request_of, studied, studying}
+use Rattle.gw_command_line.specs.declared.words.Question.{Question}
+use Rattle.gw_command_line.specs.declared.words.Question.TheVariants.{Explain, List as Lists, Chart, Trace, Report}
 
 explained_model : (bytes : List ℕ) (ss : _) (text : List ℕ) (status : ℕ) → IsExplainedModel bytes ss text status → IsEnd status
 explained_model bytes ss text status (inl h) = inl h.0
@@ -57,13 +61,14 @@ shown : (Shows : Job → List ℕ → Type 0) (bytes text : List ℕ) (status : 
 shown Shows bytes text status (inl h) = inl h.0
 shown Shows bytes text status (inr h) = inr h.0
 
-studied : (object : List ℕ) (runs count : ℕ) (text : List ℕ) (status : ℕ) → IsStudied object runs count text status → IsEnd status
-studied object runs count text status (inl h) = inl h.0
-studied object runs count text status (inr h) = inr h.0
+-- those of a study
+study : (bytes : List ℕ) (request : StudyRequest) (text : List ℕ) (status : ℕ) → IsStudy bytes request text status → IsEnd status
+study bytes request text status (inl h) = inl h.0
+study bytes request text status (inr h) = inr h.0
 
-study : (bytes : List ℕ) (runs count : ℕ) (text : List ℕ) (status : ℕ) → IsStudy bytes runs count text status → IsEnd status
-study bytes runs count text status (inl h) = studied h.0 runs count text status h.2
-study bytes runs count text status (inr h) = assembly_status bytes text status h.1
+alone : (plain : Bool) (bytes : List ℕ) (request : StudyRequest) (text : List ℕ) (status : ℕ) → MatchBool plain (IsStudy bytes request text status) (IsEnd status) → IsEnd status
+alone true bytes request text status h = study bytes request text status h
+alone false bytes request text status h = h
 
 report : (seed count : ℕ) (bytes text : List ℕ) (status : ℕ) → IsReported seed count bytes text status → IsEnd status
 report seed count bytes text status (inl h) = request_ends (Run seed count) h.0 text status h.2
@@ -77,8 +82,11 @@ ends Lists bytes text status h =
 ends Chart bytes text status h = shown IsChart bytes text status h
 ends (Trace from to) bytes text status h = shown (IsTrace from to) bytes text status h
 ends (Report seed count) bytes text status h = report seed count bytes text status h
-ends (Study runs count) bytes text status h = study bytes runs count text status h
 
 -- those of a question
 pub question_ends : (question : Question) → Ends (answering question)
 question_ends question bytes text status h = ends question _ text status h
+
+pub studying_ends : (is_pair : Bool) (d : Demand) → Ends (studying is_pair d)
+studying_ends true d bytes text status h = h
+studying_ends false d bytes text status h = alone (is_plain d.options) (take (MOST_BYTES + 1) bytes) (request_of d) text status h

@@ -1,5 +1,6 @@
 -- What the program writes.
-use Rattle.std.specs.Prelude.{◌≡◌, ◌≢◌, ◌≤◌, ◌<◌, ◌⊎◌, ℕ, ◌+◌, List, take, codes, Option}
+use Rattle.std.specs.Prelude.{◌≡◌, ◌≢◌, ◌≤◌, ◌<◌, ◌⊎◌, ℕ, ◌+◌, List, take, codes, Option, is_none, Bool, true, false, not, ◌&&◌, MatchBool}
+use Rattle.std.specs.Option.{unwrap_or}
 use Rattle.gw_object.specs.declared.limits.TheConstants.{MOST_BYTES}
 use Rattle.gw_answers.specs.Status.{ended, no_memory}
 use Rattle.gw_answers.specs.Answer.{IsAnswer}
@@ -13,11 +14,13 @@ use Rattle.gw_model_jobs.specs.ModelJobs.{AnswersModel}
 use Rattle.gw_trace.specs.Trace.{IsTrace}
 use Rattle.gw_chart.specs.Charts.{IsChart}
 use Rattle.gw_study.specs.Study.{IsStudy}
+use Rattle.gw_study.specs.declared.request.StudyRequest.{StudyRequest}
+use Rattle.gw_alternatives.specs.Ends.{IsEnd}
+use Rattle.gw_command_line.specs.Options.{Choices}
+use Rattle.gw_command_line.specs.Words.{Act, Ask, Code, Help, Version, Studies, Compares, Demand}
+use Rattle.gw_command_line.specs.declared.words.Question.{Question}
+use Rattle.gw_command_line.specs.declared.words.Question.TheVariants.{Explain, List as Lists, Chart, Trace, Report}
 use Rattle.planner.specs.declared.help.TheConstants.{HELP, VERSION, USAGE}
-use Rattle.planner.specs.declared.words.Command.{Command}
-use Rattle.planner.specs.declared.words.Command.TheVariants.{Ask, Code, Help, Version}
-use Rattle.planner.specs.declared.words.Question.{Question}
-use Rattle.planner.specs.declared.words.Question.TheVariants.{Explain, List as Lists, Chart, Trace, Report, Study}
 
 -- what is reported of a text: the report of its object, or a refusal of that; or the refusal of the text
 abbrev pub IsReported : ℕ → ℕ → Answering
@@ -32,7 +35,34 @@ asked Lists = IsListed
 asked Chart = AnswersModel IsChart
 asked (Trace from to) = AnswersModel (IsTrace from to)
 asked (Report seed count) = IsReported seed count
-asked (Study runs count) = λ bytes. IsStudy bytes runs count
+
+-- a request for runs, by what the command line asks for
+abbrev pub request_of : Demand → StudyRequest
+request_of d = record {
+  runs = d.runs;
+  count = d.count;
+  from = unwrap_or d.options.from 0;
+  seeds = unwrap_or d.options.seeds 1;
+  workers = unwrap_or d.options.workers 0;
+  all = d.options.all;
+}
+
+-- a study of the model as it is, as a table
+abbrev pub is_plain : Choices → Bool
+is_plain o = is_none o.first && is_none o.figure && not o.csv
+
+-- what many runs of a model say: of the model as it is a study's table; with other numbers, or in another form, what is told ends so
+abbrev pub studied_alone : Demand → Answering
+studied_alone d bytes text status = MatchBool (is_plain d.options) (IsStudy bytes (request_of d) text status) (IsEnd status)
+
+-- what many runs say, of one model or of two
+abbrev pub studied : Bool → Demand → Answering
+studied true d bytes text status = IsEnd status
+studied false d bytes text status = studied_alone d bytes text status
+
+-- about what stands on a reader
+abbrev pub studying : Bool → Demand → Answering
+studying is_pair d bytes = studied is_pair d (take (MOST_BYTES + 1) bytes)
 
 -- about what stands on a reader: of more bytes than a model or an object may have, about their front, which is refused
 abbrev pub answering : Question → Answering
@@ -47,8 +77,10 @@ abbrev pub Tells : List ℕ → ℕ → Option (List ℕ) → Option (List ℕ) 
 Tells text result old new = Writes text ended result old new ⊎ Writes memory_line no_memory result old new
 
 -- a command answers its question, tells what a code means, or writes what the program says of itself
-abbrev pub DoesCommand : Command → Option (List ℕ) → ℕ → Option (List ℕ) → Option (List ℕ) → Type 0
+abbrev pub DoesCommand : Act → Option (List ℕ) → ℕ → Option (List ℕ) → Option (List ℕ) → Type 0
 DoesCommand (Ask question) known result old new = Responds (answering question) known result old new
 DoesCommand (Code code) known result old new = Tells (meaning code) result old new
+DoesCommand (Studies demand) known result old new = Responds (studying false demand) known result old new
+DoesCommand (Compares demand) known result old new = Responds (studying true demand) known result old new
 DoesCommand Help known result old new = Writes HELP.now ended result old new
 DoesCommand Version known result old new = Writes VERSION.now ended result old new

@@ -1,3 +1,1 @@
-pub mod Words
-pub mod Asking
 pub mod Answers

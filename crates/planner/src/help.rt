@@ -14,10 +14,21 @@ the second word; without it the program reads the model from standard input.
   planner chart MODEL                 a picture (SVG) of what is where over time
   planner report MODEL [SEED COUNT]   the report of the run, with another seed and
                                       termination count, or with the model's own
-  planner study MODEL RUNS [COUNT]    so many runs with other random numbers, 1 to 1024:
+  planner study MODEL RUNS [COUNT]    so many runs with other random numbers, 1 to 512:
                                       each figure's mean, least, greatest, and how sure
+  planner study MODEL RUNS NURSES=2,3 the same with other numbers on the line NURSES STORAGE,
+                                      NURSES EQU or INITIAL X$NURSES, and the differences
+  planner compare A B RUNS [COUNT]    two models beside one another, run by run
   planner help                        this
   planner --version                   which version it is
+
+Behind the numbers of study and compare, in any order:
+  --from W      figures from the W-th counted transaction on: the start is left out
+  --seeds K     the K-th study of so many runs: others than those of the first
+  --workers N   so many at work, 1 to 16; else as many as there are processors
+  --all         all figures, with those of blocks, facilities and chains
+  --csv         records with commas between (RFC 4180)
+  --svg FIGURE  a picture of one figure over the points: its means and how sure
 
 Status: 0 where the answer came, 1 where the model was refused, 2 on other words, 3 where
 a file, a read or a write failed, 4 where memory ran out.
@@ -28,4 +39,4 @@ pub const VERSION: &[u8] = b"planner 1\n";
 
 /// The line on wrong words.
 pub const USAGE: &[u8] =
-    b"usage: planner explain [CODE] | list | trace FROM TO | chart | report [SEED COUNT] | study RUNS [COUNT] | help | --version\n";
+    b"usage: planner explain [CODE] | list | trace FROM TO | chart | report [SEED COUNT] | study RUNS [COUNT] [NAME=K,..] [NAME=K,..] [--from W] [--seeds K] [--workers N] [--all] [--csv | --svg FIGURE] | compare RUNS [COUNT] [options of study] | help | --version\n";

@@ -4,7 +4,7 @@
 pub mod help;
 pub mod program;
 pub mod reporting;
-pub mod words;
+pub mod studies;
 
 use gw_console::{ProgramFault, deliver};
 use gw_streams::{Input, Output};

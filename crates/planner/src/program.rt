@@ -5,23 +5,23 @@ ghost use Rattle.std.specs.String.{string_bytes};
 ghost use Rattle.gw_answers.specs.Status.{ended, refused, wrong_words, failed, no_memory};
 ghost use Rattle.gw_console.specs.Output.{AnswersReader, Writes, Delivers};
 ghost use Rattle.gw_console.specs.Calls.{LosesFront, LosesAtMost, TellsReads, TellsCalls};
-ghost use Rattle.planner.specs.Words.{command_in};
-ghost use Rattle.planner.specs.Asking.{MayBeAsked};
+ghost use Rattle.gw_command_line.specs.Asking.{MayBeMade};
+ghost use Rattle.gw_command_line.specs.Words.{command_in, study_view};
 ghost use Rattle.gw_explain.specs.Meaning.{meaning};
-ghost use Rattle.planner.specs.Answers.{asked, answering, Tells, DoesCommand, usage_line};
+ghost use Rattle.planner.specs.Answers.{asked, answering, studied, studying, Tells, DoesCommand, usage_line};
 
 use crate::help::{HELP, USAGE, VERSION};
 use crate::reporting::report;
-use crate::words::{Command, Question, command_of};
+use crate::studies::answer_study;
 use gw_answers::Answer;
 use gw_answers::status::{ENDED, WRONG_WORDS};
 use gw_chart::chart;
+use gw_command_line::{Command, Question, Study, command_of};
 use gw_console::{ProgramFault, deliver, or_no_memory, read_input, write_and_end};
 use gw_explain::{explain, explain_code};
 use gw_listing::list;
 use gw_object::{MOST_BYTES, Memory};
 use gw_streams::{Input, Output};
-use gw_study::study;
 use gw_trace::trace;
 use std::alloc::Global;
 use std::io::{Eprint, Read, Write};
@@ -29,13 +29,7 @@ use std::sync::Wait;
 use std::thread::Threads;
 
 /// What a question about an input comes to.
-fn answer<T: Threads + Wait + Sync + Eprint>(
-    rt: &T,
-    alloc: Global,
-    question: Question,
-    input: &[u8],
-) -> Result<Answer, Memory>
-    requires { MayBeAsked question }
+fn answer(alloc: Global, question: Question, input: &[u8]) -> Result<Answer, Memory>
     ensures { IfOk result (λ a. asked question input.now a.text.items a.status) }
 {
     match question {
@@ -44,18 +38,15 @@ fn answer<T: Threads + Wait + Sync + Eprint>(
         Question::Chart => chart(alloc, input),
         Question::Trace { from, to } => trace(alloc, input, from, to),
         Question::Report { seed, count } => report(alloc, input, seed, count),
-        Question::Study { runs, count } => study(rt, alloc, input, runs, count),
     }
 }
 
 /// Reads all that is to be read, and then answers it.
-fn read_and_answer<R: Read, T: Threads + Wait + Sync + Eprint>(
-    rt: &T,
+fn read_and_answer<R: Read>(
     alloc: Global,
     question: Question,
     reader: &mut Input<R>,
 ) -> Result<Answer, ProgramFault>
-    requires asked { MayBeAsked question }
     requires reader { reader.old.failed ≡ false }
     ensures answer { IfOk result (λ a.
         AnswersReader (answering question) reader.old.left a.text.items a.status) }
@@ -64,27 +55,64 @@ fn read_and_answer<R: Read, T: Threads + Wait + Sync + Eprint>(
     ensures limited { LosesAtMost (MOST_BYTES + 1) reader.old.left reader.new.left }
 {
     let input = read_input(alloc, reader)?;
-    or_no_memory(answer(rt, alloc, question, &input))
+    or_no_memory(answer(alloc, question, &input))
 }
 
 /// Asks something of a model: reads all of it, and writes the answer. It answers the status: 0 where the answer came, 1 where the
-/// model was refused, 3 where a read or a write failed, 4 where memory ran out. Nothing is written before all input is read. Only
-/// `study` waits, for its workers, and tells on standard error how far it is.
-pub fn ask<R: Read, W: Write, T: Threads + Wait + Sync + Eprint>(
-    rt: &T,
+/// model was refused, 3 where a read or a write failed, 4 where memory ran out. Nothing is written before all input is read.
+pub fn ask<R: Read, W: Write>(
     alloc: Global,
     question: Question,
     reader: &mut Input<R>,
     writer: &mut Output<W>,
 ) -> u8
-    requires asked { MayBeAsked question }
     requires reader { reader.old.failed ≡ false }
     requires writer { writer.old.failed ≡ false }
     ensures written { Delivers (answering question)
         reader.old.left result writer.old.held writer.new.held }
     ensures calls { TellsCalls result reader.old reader.new writer.old writer.new }
 {
-    deliver(writer, read_and_answer(rt, alloc, question, reader))
+    deliver(writer, read_and_answer(alloc, question, reader))
+}
+
+/// Reads all that is to be read, and then makes the runs that are asked for.
+fn read_and_study<R: Read, T: Threads + Wait + Sync + Eprint>(
+    rt: &T,
+    alloc: Global,
+    study: &Study<'_>,
+    is_pair: bool,
+    reader: &mut Input<R>,
+) -> Result<Answer, ProgramFault>
+    requires made { MayBeMade study.now }
+    requires reader { reader.old.failed ≡ false }
+    ensures answer { IfOk result (λ a.
+        AnswersReader (studying is_pair (study_view study.now)) reader.old.left a.text.items a.status) }
+    ensures told { TellsReads result reader.old.failed reader.new.failed }
+    ensures whole { OnOk result (LosesFront (MOST_BYTES + 1) reader.old.left reader.new.left) }
+    ensures limited { LosesAtMost (MOST_BYTES + 1) reader.old.left reader.new.left }
+{
+    let input = read_input(alloc, reader)?;
+    or_no_memory(answer_study(rt, alloc, study, is_pair, &input))
+}
+
+/// Makes many runs of a model, or of two models: reads all of the input, and writes the answer, as [`ask`] does. It waits for its
+/// workers, and tells on standard error how far it is.
+pub fn ask_study<R: Read, W: Write, T: Threads + Wait + Sync + Eprint>(
+    rt: &T,
+    alloc: Global,
+    study: &Study<'_>,
+    is_pair: bool,
+    reader: &mut Input<R>,
+    writer: &mut Output<W>,
+) -> u8
+    requires made { MayBeMade study.now }
+    requires reader { reader.old.failed ≡ false }
+    requires writer { writer.old.failed ≡ false }
+    ensures written { Delivers (studying is_pair (study_view study.now))
+        reader.old.left result writer.old.held writer.new.held }
+    ensures calls { TellsCalls result reader.old reader.new writer.old writer.new }
+{
+    deliver(writer, read_and_study(rt, alloc, study, is_pair, reader))
 }
 
 /// Tells what the code of a refusal means, and reads nothing. It answers the status: 0, 3 where a write failed, 4 where memory ran
@@ -111,7 +139,9 @@ pub fn dispatch<R: Read, W: Write, T: Threads + Wait + Sync + Eprint>(
         (λ command. DoesCommand command reader.old.left result writer.old.held writer.new.held) }
 {
     match command_of(words) {
-        Some(Command::Ask(question)) => ask(rt, alloc, question, reader, writer),
+        Some(Command::Ask(question)) => ask(alloc, question, reader, writer),
+        Some(Command::Study(study)) => ask_study(rt, alloc, &study, false, reader, writer),
+        Some(Command::Compare(study)) => ask_study(rt, alloc, &study, true, reader, writer),
         Some(Command::Code(code)) => tell_code(alloc, code, writer),
         Some(Command::Help) => write_and_end(writer, HELP, ENDED),
         Some(Command::Version) => write_and_end(writer, VERSION, ENDED),

@@ -1,0 +1,16 @@
+//! An alternative.
+
+ghost use Rattle.std.specs.Prelude.{◌≡◌};
+ghost use Rattle.gw_answers.specs.declared.answer.TheConstants.{BUDGET};
+
+use gw_scan::Spec;
+
+/// An alternative: what it is called, and its job.
+#[derive(Drop)]
+pub(crate) struct Alternative {
+    /// What it is called, as `NURSES=2`.
+    pub(crate) name: Vec<u8>,
+    /// Its job, with the model's own seeds.
+    pub(crate) spec: Spec,
+    ghost budget: { spec.budget ≡ BUDGET },
+}

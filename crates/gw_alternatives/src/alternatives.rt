@@ -1,0 +1,190 @@
+//! The jobs of alternatives: each is there, or the first that is refused, before any run.
+
+ghost use Rattle.std.specs.Prelude.{◌<◌, ◌≤◌};
+ghost use Rattle.gw_points.specs.Points.{count_of};
+
+use crate::alternative::Alternative;
+use gw_answers::{NoJob, Refusal, refused};
+use gw_figures::figures;
+use gw_object::Memory;
+use gw_points::{NoPoint, ParameterFault, Points, points_of, refusal_of as parameter_refusal};
+use gw_scan::Spec;
+use gw_study::job_of_text;
+use std::alloc::Global;
+
+/// Why there are no alternatives.
+#[derive(Drop)]
+pub(crate) enum NoAlternative {
+    /// A parameter or a text is refused: the text of the refusal.
+    Refused(Vec<u8>),
+    /// Memory ran out.
+    Memory,
+}
+
+/// The line of a refusal, and of which alternative it is.
+fn line_of(alloc: Global, refusal: Refusal, name: &[u8]) -> Result<Vec<u8>, Memory> {
+    let mut text = refused(alloc, refusal)?.text;
+    if !name.is_empty() {
+        text.extend_from_slice(b"of: ")?;
+        text.extend_from_slice(name)?;
+        text.extend_from_slice(b"\n")?;
+    }
+    Ok(text)
+}
+
+/// The refusal of a text, as it is printed.
+fn refusal_of(alloc: Global, none: NoJob, name: &[u8]) -> NoAlternative {
+    match none {
+        NoJob::Refused(refusal) => match line_of(alloc, refusal, name) {
+            Ok(text) => NoAlternative::Refused(text),
+            Err(Memory) => NoAlternative::Memory,
+        },
+        NoJob::OutOfMemory => NoAlternative::Memory,
+    }
+}
+
+/// The same of a point.
+fn of_point(none: NoPoint) -> NoAlternative {
+    match none {
+        NoPoint::Refused(text) => NoAlternative::Refused(text),
+        NoPoint::Memory => NoAlternative::Memory,
+    }
+}
+
+/// An alternative of this name, with the job of a text.
+pub(crate) fn alternative_of(
+    alloc: Global,
+    name: Vec<u8>,
+    text: &[u8],
+    count: u64,
+) -> Result<Alternative, NoAlternative> {
+    match job_of_text(alloc, text, count) {
+        Ok(spec) => Ok(Alternative { name, spec }),
+        Err(none) => {
+            let none = refusal_of(alloc, none, &name);
+            drop(name);
+            Err(none)
+        }
+    }
+}
+
+/// What a point is called.
+fn name_of(alloc: Global, points: &Points, point: usize) -> Result<Vec<u8>, Memory>
+    requires { point < count_of points.now }
+{
+    let mut name = Vec::new(alloc);
+    points.put_name(&mut name, point)?;
+    Ok(name)
+}
+
+/// A point of a text, by its number from 0.
+fn point_of(
+    alloc: Global,
+    text: &[u8],
+    points: &Points,
+    point: usize,
+    count: u64,
+) -> Result<Alternative, NoAlternative>
+    requires { point < count_of points.now }
+{
+    match points.text_at(alloc, text, point) {
+        Ok(made) => match name_of(alloc, points, point) {
+            Ok(name) => alternative_of(alloc, name, &made, count),
+            Err(Memory) => Err(NoAlternative::Memory),
+        },
+        Err(none) => Err(of_point(none)),
+    }
+}
+
+/// Alternatives, with one more.
+fn add(alternatives: &mut Vec<Alternative>, alternative: Alternative) -> Result<(), NoAlternative> {
+    match alternatives.push(alternative) {
+        Ok(()) => Ok(()),
+        Err(_) => Err(NoAlternative::Memory),
+    }
+}
+
+/// The points of a text.
+fn points_in(
+    alloc: Global,
+    text: &[u8],
+    points: &Points,
+    count: u64,
+) -> Result<Vec<Alternative>, NoAlternative>
+    requires { count_of points.now ≤ 64 }
+{
+    let mut alternatives = Vec::new(alloc);
+    for point in 0..points.count() {
+        let alternative = point_of(alloc, text, points, point, count)?;
+        add(&mut alternatives, alternative)?;
+    }
+    Ok(alternatives)
+}
+
+/// The points of a text that words as `NURSES=2,3` ask for.
+pub(crate) fn points_by_words(
+    alloc: Global,
+    text: &[u8],
+    words: &[&[u8]],
+    count: u64,
+) -> Result<Vec<Alternative>, NoAlternative> {
+    match points_of(alloc, words) {
+        Ok(points) => points_in(alloc, text, &points, count),
+        Err(none) => Err(of_point(none)),
+    }
+}
+
+/// A copy of a name.
+fn copy_of(alloc: Global, name: &[u8]) -> Result<Vec<u8>, NoAlternative> {
+    let mut copy = Vec::new(alloc);
+    match copy.extend_from_slice(name) {
+        Ok(()) => Ok(copy),
+        Err(_) => Err(NoAlternative::Memory),
+    }
+}
+
+/// Two models: A and B.
+pub(crate) fn models_of(
+    alloc: Global,
+    first: &[u8],
+    second: &[u8],
+    count: u64,
+) -> Result<Vec<Alternative>, NoAlternative> {
+    let mut alternatives = Vec::new(alloc);
+    let name = copy_of(alloc, b"A")?;
+    let alternative = alternative_of(alloc, name, first, count)?;
+    add(&mut alternatives, alternative)?;
+    let name = copy_of(alloc, b"B")?;
+    let alternative = alternative_of(alloc, name, second, count)?;
+    add(&mut alternatives, alternative)?;
+    Ok(alternatives)
+}
+
+/// Whether a model has a figure of this name.
+fn has_figure(alloc: Global, spec: &Spec, name: &[u8]) -> Result<bool, Memory> {
+    let figures = figures(alloc, spec.verified().object().parts())?;
+    for i in 0..figures.len() {
+        if figures[i].name.as_slice() == name {
+            return Ok(true);
+        }
+    }
+    Ok(false)
+}
+
+/// The refusal of a figure that the first alternative hasn't, if it hasn't.
+pub(crate) fn refusal_of_figure(
+    alloc: Global,
+    alternatives: &[Alternative],
+    name: &[u8],
+) -> Result<Option<Vec<u8>>, Memory> {
+    match alternatives {
+        [first, ..] => {
+            if has_figure(alloc, &first.spec, name)? {
+                Ok(None)
+            } else {
+                Ok(Some(parameter_refusal(alloc, name, ParameterFault::Figure)?))
+            }
+        }
+        [] => Ok(None),
+    }
+}

@@ -1,0 +1,118 @@
+//! From texts to what is told of their alternatives.
+
+ghost use Rattle.std.specs.Prelude.{IfOk};
+ghost use Rattle.gw_alternatives.specs.Ends.{IsEnd};
+ghost use Rattle.gw_study.specs.Requests.{MayBeStudied};
+
+use crate::alternative::Alternative;
+use crate::alternatives::{NoAlternative, models_of, points_by_words, refusal_of_figure};
+use crate::form::Form;
+use crate::told::told;
+use gw_answers::Answer;
+use gw_answers::status::{ENDED, REFUSED};
+use gw_object::Memory;
+use gw_study::StudyRequest;
+use std::alloc::Global;
+use std::io::Eprint;
+use std::sync::Wait;
+use std::thread::Threads;
+
+/// Why alternatives can't be told in a form, if they can't: it is a picture of a figure that there isn't.
+fn refusal_of_form(
+    alloc: Global,
+    alternatives: &[Alternative],
+    form: Form<'_>,
+) -> Result<Option<Vec<u8>>, Memory> {
+    match form {
+        Form::Picture(figure) => refusal_of_figure(alloc, alternatives, figure),
+        Form::Table | Form::Csv => Ok(None),
+    }
+}
+
+/// What is told of alternatives, if they can be told in this form.
+fn answer_in<W: Threads + Wait + Sync + Eprint>(
+    rt: &W,
+    alloc: Global,
+    alternatives: &[Alternative],
+    form: Form<'_>,
+    request: &StudyRequest,
+) -> Result<Answer, Memory>
+    requires { MayBeStudied request.now }
+    ensures { IfOk result (λ a. IsEnd a.status) }
+{
+    match refusal_of_form(alloc, alternatives, form)? {
+        Some(text) => Ok(Answer {
+            text,
+            status: REFUSED,
+        }),
+        None => Ok(Answer {
+            text: told(rt, alloc, alternatives, form, request)?,
+            status: ENDED,
+        }),
+    }
+}
+
+/// What is told of alternatives, or why there are none.
+fn answer<W: Threads + Wait + Sync + Eprint>(
+    rt: &W,
+    alloc: Global,
+    alternatives: Result<Vec<Alternative>, NoAlternative>,
+    form: Form<'_>,
+    request: &StudyRequest,
+) -> Result<Answer, Memory>
+    requires { MayBeStudied request.now }
+    ensures { IfOk result (λ a. IsEnd a.status) }
+{
+    match alternatives {
+        Ok(alternatives) => answer_in(rt, alloc, &alternatives, form, request),
+        Err(NoAlternative::Refused(text)) => Ok(Answer {
+            text,
+            status: REFUSED,
+        }),
+        Err(NoAlternative::Memory) => Err(Memory),
+    }
+}
+
+/// What many runs of a model say with other numbers in it: words as `NURSES=2,3` ask for a point each, which is the model with
+/// these numbers. Run r of each point has the same seeds. As tables each point has its own, and then come the differences of each
+/// to the first, by pairs of runs. A word, or the text of a point, that is refused is told before any run.
+pub fn study_points<W: Threads + Wait + Sync + Eprint>(
+    rt: &W,
+    alloc: Global,
+    text: &[u8],
+    words: &[&[u8]],
+    form: Form<'_>,
+    request: &StudyRequest,
+) -> Result<Answer, Memory>
+    requires { MayBeStudied request.now }
+    ensures { IfOk result (λ a. IsEnd a.status) }
+{
+    answer(
+        rt,
+        alloc,
+        points_by_words(alloc, text, words, request.count),
+        form,
+        request,
+    )
+}
+
+/// What many runs of two models say, A and B: as [`study_points`], by the figures that both have.
+pub fn compare<W: Threads + Wait + Sync + Eprint>(
+    rt: &W,
+    alloc: Global,
+    first: &[u8],
+    second: &[u8],
+    form: Form<'_>,
+    request: &StudyRequest,
+) -> Result<Answer, Memory>
+    requires { MayBeStudied request.now }
+    ensures { IfOk result (λ a. IsEnd a.status) }
+{
+    answer(
+        rt,
+        alloc,
+        models_of(alloc, first, second, request.count),
+        form,
+        request,
+    )
+}

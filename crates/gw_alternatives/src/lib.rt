@@ -1,0 +1,11 @@
+//! Studies of alternatives: of a model with other numbers, and of two models (docs/planner.md).
+#![tactic(auto)]
+
+mod alternative;
+mod alternatives;
+mod answering;
+mod form;
+mod told;
+
+pub use answering::{compare, study_points};
+pub use form::Form;

@@ -1,0 +1,173 @@
+-- The words of the command line.
+use Rattle.std.specs.Prelude.{ℕ, ◌*◌, ◌^◌, nat_lt, nat_le, List, [], ◌∷◌, codes, ℤ, pos, Option, Some, None, is_some, is_none, option_map, Bool, not, ◌&&◌, ◌||◌, if◌then◌else◌}
+use Rattle.std.specs.Option.{unwrap_or}
+use Rattle.std.specs.Str.{bytes_eq}
+use Rattle.gw_num.specs.Numerals.{number_below}
+use Rattle.gw_explain.specs.Codes.{is_code}
+pub use Rattle.gw_command_line.specs.Options.{Choices, view, options_in}
+use Rattle.gw_command_line.specs.declared.words.Command.{Command}
+use Rattle.gw_command_line.specs.declared.words.Command.TheVariants as commands
+use Rattle.gw_command_line.specs.declared.words.Question.{Question}
+use Rattle.gw_command_line.specs.declared.words.Question.TheVariants.{Explain, List as Lists, Chart, Trace, Report}
+use Rattle.gw_command_line.specs.declared.words.Study.{Study}
+
+-- WHAT IS ASKED FOR
+
+-- many runs: how many, their count, and the options
+pub record Demand : Type 0 where
+  pub runs : ℕ
+  pub count : ℕ
+  pub options : Choices
+
+-- what a command line asks for
+pub data Act : Type 0 where
+  Ask : (question : Question) → Act
+  Code : (code : ℕ) → Act
+  Help : Act
+  Version : Act
+  Studies : (demand : Demand) → Act
+  Compares : (demand : Demand) → Act
+
+-- what the code has of it
+abbrev pub study_view : Study → Demand
+study_view study = record { runs = study.runs; count = study.count; options = view study.options }
+
+abbrev pub act_of : Command → Act
+act_of (commands.Ask question) = Ask question
+act_of (commands.Code code) = Code code
+act_of commands.Help = Help
+act_of commands.Version = Version
+act_of (commands.Study study) = Studies (study_view study)
+act_of (commands.Compare study) = Compares (study_view study)
+
+-- NUMBERS
+
+-- a time of the clock
+abbrev pub time_in : Option ℕ → Option ℤ
+time_in None = None
+time_in (Some time) = Some (pos time)
+
+abbrev pub clock_in : List ℕ → Option ℤ
+clock_in word = time_in (number_below (2 ^ 63) word)
+
+-- a number of runs: 1 to 512
+abbrev pub some_runs : Option ℕ → Option ℕ
+some_runs None = None
+some_runs (Some runs) = if nat_le 1 runs then Some runs else None
+
+abbrev pub runs_in : List ℕ → Option ℕ
+runs_in word = some_runs (number_below 513 word)
+
+-- COMMANDS OF ONE, TWO AND THREE WORDS
+
+-- the command that one word names
+abbrev pub command_named : List ℕ → Option Act
+command_named name =
+    if bytes_eq name (codes "explain") then Some (Ask Explain)
+    else if bytes_eq name (codes "list") then Some (Ask Lists)
+    else if bytes_eq name (codes "chart") then Some (Ask Chart)
+    else if bytes_eq name (codes "report") then Some (Ask (Report 0 0))
+    else if bytes_eq name (codes "help") || bytes_eq name (codes "--help") then Some Help
+    else if bytes_eq name (codes "--version") then Some Version
+    else None
+
+-- `explain`, and the code of a refusal
+abbrev pub explanation_of : ℕ → Option Act
+explanation_of code = if is_code code then Some (Code code) else None
+
+abbrev pub explanation_in : Option ℕ → Option Act
+explanation_in None = None
+explanation_in (Some code) = explanation_of code
+
+abbrev pub command_of_two : List ℕ → List ℕ → Option Act
+command_of_two name first = if bytes_eq name (codes "explain") then explanation_in (number_below 1000 first) else None
+
+-- `trace`, from one time to another
+abbrev pub trace_of : Option ℤ → Option ℤ → Option Act
+trace_of None to = None
+trace_of (Some from) None = None
+trace_of (Some from) (Some to) = Some (Ask (Trace from to))
+
+-- `report`, a seed and a count
+abbrev pub report_of : Option ℕ → Option ℕ → Option Act
+report_of None count = None
+report_of (Some seed) None = None
+report_of (Some seed) (Some count) = Some (Ask (Report seed count))
+
+abbrev pub command_of_three : List ℕ → List ℕ → List ℕ → Option Act
+command_of_three name first second =
+    if bytes_eq name (codes "trace") then trace_of (clock_in first) (clock_in second)
+    else if bytes_eq name (codes "report") then report_of (number_below (2 ^ 32) first) (number_below (2 ^ 64) second)
+    else None
+
+-- STUDIES
+
+-- so many runs may be made as options say: as many studies of them as there are runs for, 1 to 16 workers, and one form
+abbrev pub is_fit : ℕ → Choices → Bool
+is_fit runs o =
+    nat_le 1 (unwrap_or o.seeds 1) && nat_le (runs * unwrap_or o.seeds 1) 512 && nat_le 1 (unwrap_or o.workers 1) && nat_le (unwrap_or o.workers 1) 16
+    && not (o.csv && is_some o.figure)
+
+abbrev pub study_if_fit : ℕ → ℕ → Choices → Option Demand
+study_if_fit runs count o = if is_fit runs o then Some (record { runs = runs; count = count; options = o }) else None
+
+-- the options of a study, if words name any
+abbrev pub study_by : ℕ → ℕ → Option Choices → Option Demand
+study_by runs count None = None
+study_by runs count (Some o) = study_if_fit runs count o
+
+abbrev pub study_with : ℕ → ℕ → List (List ℕ) → Option Demand
+study_with runs count words = study_by runs count (options_in words)
+
+-- the count that the first of these words is, if it is one
+abbrev pub first_count : List (List ℕ) → Option ℕ
+first_count [] = None
+first_count (word ∷ words) = number_below (2 ^ 64) word
+
+abbrev pub behind_first : List (List ℕ) → List (List ℕ)
+behind_first [] = []
+behind_first (word ∷ words) = words
+
+-- the count comes first, if it is there
+abbrev pub study_counted : ℕ → List (List ℕ) → Option ℕ → Option Demand
+study_counted runs words None = study_with runs 0 words
+study_counted runs words (Some count) = study_with runs count (behind_first words)
+
+abbrev pub study_of_runs : ℕ → List (List ℕ) → Option Demand
+study_of_runs runs words = study_counted runs words (first_count words)
+
+-- how many runs, their count, and the options
+abbrev pub study_if_runs : List (List ℕ) → Option ℕ → Option Demand
+study_if_runs words None = None
+study_if_runs words (Some runs) = study_of_runs runs words
+
+abbrev pub study_of : List (List ℕ) → Option Demand
+study_of [] = None
+study_of (runs ∷ words) = study_if_runs words (runs_in runs)
+
+-- `study`
+abbrev pub studies : Option Demand → Option Act
+studies None = None
+studies (Some demand) = Some (Studies demand)
+
+-- `compare`, without other numbers
+abbrev pub compares : Option Demand → Option Act
+compares None = None
+compares (Some demand) = if is_none demand.options.first then Some (Compares demand) else None
+
+-- THE COMMAND
+
+abbrev pub command_of_few : List (List ℕ) → Option Act
+command_of_few [] = None
+command_of_few (name ∷ []) = command_named name
+command_of_few (name ∷ first ∷ []) = command_of_two name first
+command_of_few (name ∷ first ∷ second ∷ []) = command_of_three name first second
+command_of_few (name ∷ first ∷ second ∷ surplus ∷ words) = None
+
+-- the command that these words name
+abbrev pub command_in : List (List ℕ) → Option Act
+command_in [] = None
+command_in (name ∷ words) =
+    if bytes_eq name (codes "study") then studies (study_of words)
+    else if bytes_eq name (codes "compare") then compares (study_of words)
+    else command_of_few (name ∷ words)

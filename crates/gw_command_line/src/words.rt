@@ -1,0 +1,334 @@
+//! The words of the program's command line.
+
+ghost use Rattle.std.specs.Prelude.{◌≡◌, ◌^◌, ◌<◌, ◌≤◌, ◌∷◌, map, option_map, IfSome};
+ghost use Rattle.std.specs.String.{string_bytes};
+ghost use Rattle.gw_num.specs.Numerals.{number_below};
+ghost use Rattle.gw_command_line.specs.Asking.{MayBeMade, MayBeCarriedOut};
+ghost use Rattle.gw_command_line.specs.Words as model;
+
+use crate::options::{Options, options_of};
+use gw_explain::advice::advice_on;
+use gw_num::{count_in, number_in};
+
+/// At most so many runs are made.
+pub const MOST_RUNS: u32 = 512;
+
+/// At most so many workers make them.
+pub const MOST_WORKERS: u32 = 16;
+
+/// What is asked of a model and its one run.
+#[derive(Clone, Copy, Debug, PartialEq, Eq)]
+pub enum Question {
+    /// What is wrong with it, where, and how to mend it; or what is in it.
+    Explain,
+    /// Its listed object code, or that of an object.
+    List,
+    /// The contents of its run over time, as a picture.
+    Chart,
+    /// The steps of its run, from one time of the clock to another.
+    Trace {
+        /// The first time, in clock units.
+        from: i64,
+        /// The last time, in clock units.
+        to: i64,
+    },
+    /// What its run reports.
+    Report {
+        /// The one seed of the seed list; 0 means the model's own seeds.
+        seed: u32,
+        /// The termination count; 0 means the model's own.
+        count: u64,
+    },
+}
+
+/// What is asked of many runs.
+#[derive(Clone, Copy)]
+pub struct Study<'a> {
+    /// How many runs, 1 to 512.
+    pub runs: u32,
+    /// The termination count; 0 means the model's own.
+    pub count: u64,
+    /// The options.
+    pub options: Options<'a>,
+}
+
+/// A command of the program.
+#[derive(Clone, Copy)]
+pub enum Command<'a> {
+    /// Something is asked of a model.
+    Ask(Question),
+    /// What the code of a refusal means.
+    Code(u16),
+    /// How the program is used.
+    Help,
+    /// Which version it is.
+    Version,
+    /// What many runs of a model say, or of the model with other numbers.
+    Study(Study<'a>),
+    /// What many runs of two models say, beside one another.
+    Compare(Study<'a>),
+}
+
+/// A time of the clock.
+fn clock_in(word: &str) -> Option<i64>
+    ensures { result ≡ model.clock_in word.now }
+{
+    match count_in(word) {
+        Some(time) if time < 1 << 63 => Some(time as i64),
+        _ => None,
+    }
+}
+
+/// How many runs there are.
+fn runs_in(word: &str) -> Option<u32>
+    ensures value { result ≡ model.runs_in word.now }
+    ensures range { IfSome result (λ runs. (0 < runs) × (runs ≤ 512)) }
+{
+    match number_in(word) {
+        Some(runs) if runs >= 1 && runs <= MOST_RUNS => Some(runs),
+        _ => None,
+    }
+}
+
+/// The command that explains a code, if this is one.
+fn explanation_of(code: u16) -> Option<Command<'static>>
+    ensures { option_map model.act_of result ≡ model.explanation_of code }
+{
+    match advice_on(code) {
+        Some(_) => Some(Command::Code(code)),
+        None => None,
+    }
+}
+
+/// The command that explains the code that a word says.
+fn explanation_in(word: &str) -> Option<Command<'static>>
+    ensures { option_map model.act_of result ≡ model.explanation_in (number_below 1000 word.now) }
+{
+    match number_in(word) {
+        Some(code) if code < 1000 => explanation_of(code as u16),
+        _ => None,
+    }
+}
+
+/// The command that one word names.
+fn command_named(name: &str) -> Option<Command<'static>>
+    ensures { option_map model.act_of result ≡ model.command_named name.now }
+{
+    match name {
+        "explain" => Some(Command::Ask(Question::Explain)),
+        "list" => Some(Command::Ask(Question::List)),
+        "chart" => Some(Command::Ask(Question::Chart)),
+        "report" => Some(Command::Ask(Question::Report { seed: 0, count: 0 })),
+        "help" | "--help" => Some(Command::Help),
+        "--version" => Some(Command::Version),
+        _ => None,
+    }
+}
+
+/// The command that two words name: `explain` of a code.
+fn command_of_two(name: &str, first: &str) -> Option<Command<'static>>
+    ensures { option_map model.act_of result ≡ model.command_of_two name.now first.now }
+{
+    match name {
+        "explain" => explanation_in(first),
+        _ => None,
+    }
+}
+
+/// The command `trace`, where both words are times.
+fn trace_of(from: &str, to: &str) -> Option<Command<'static>>
+    ensures { option_map model.act_of result
+        ≡ model.trace_of (model.clock_in from.now) (model.clock_in to.now) }
+{
+    let from = clock_in(from)?;
+    let to = clock_in(to)?;
+    Some(Command::Ask(Question::Trace { from, to }))
+}
+
+/// The command `report`, where the words are a seed and a count.
+fn report_of(seed: &str, count: &str) -> Option<Command<'static>>
+    ensures { option_map model.act_of result
+        ≡ model.report_of (number_below (2 ^ 32) seed.now) (number_below (2 ^ 64) count.now) }
+{
+    let seed = number_in(seed)?;
+    let count = count_in(count)?;
+    Some(Command::Ask(Question::Report { seed, count }))
+}
+
+/// The command that three words name: `trace` or `report`.
+fn command_of_three(name: &str, first: &str, second: &str) -> Option<Command<'static>>
+    ensures { option_map model.act_of result ≡ model.command_of_three name.now first.now second.now }
+{
+    match name {
+        "trace" => trace_of(first, second),
+        "report" => report_of(first, second),
+        _ => None,
+    }
+}
+
+/// Whether so many runs may be made as options say.
+fn is_fit(runs: u32, options: &Options<'_>) -> bool
+    requires { runs ≤ 512 }
+    ensures { result ≡ model.is_fit runs (model.view options.now) }
+{
+    let seeds = u64::from(options.seeds.unwrap_or(1));
+    let workers = options.workers.unwrap_or(1);
+    seeds >= 1
+        && u64::from(runs) * seeds <= u64::from(MOST_RUNS)
+        && workers >= 1
+        && workers <= MOST_WORKERS
+        && !(options.csv && options.figure.is_some())
+}
+
+/// A study of so many runs, if they may be made as options say.
+fn study_if_fit(runs: u32, count: u64, options: Options<'_>) -> Option<Study<'_>>
+    requires { (0 < runs) × (runs ≤ 512) }
+    ensures study { option_map model.study_view result
+        ≡ model.study_if_fit runs count (model.view options.entry) }
+    ensures fit { IfSome result MayBeMade }
+{
+    if is_fit(runs, &options) {
+        Some(Study {
+            runs,
+            count,
+            options,
+        })
+    } else {
+        None
+    }
+}
+
+/// A study of so many runs, with the options that words name.
+fn study_with<'a>(runs: u32, count: u64, words: &'a [String]) -> Option<Study<'a>>
+    requires { (0 < runs) × (runs ≤ 512) }
+    ensures study { option_map model.study_view result
+        ≡ model.study_with runs count (map string_bytes words.now) }
+    ensures fit { IfSome result MayBeMade }
+{
+    match options_of(words) {
+        Some(options) => study_if_fit(runs, count, options),
+        None => None,
+    }
+}
+
+/// The count that the first of these words is, if it is one.
+fn first_count(words: &[String]) -> Option<u64>
+    ensures { result ≡ model.first_count (map string_bytes words.now) }
+{
+    match words {
+        [word, ..] => count_in(word.as_str()),
+        [] => None,
+    }
+}
+
+/// Words but the first.
+fn behind_first(words: &[String]) -> &[String]
+    ensures { map string_bytes result.now ≡ model.behind_first (map string_bytes words.now) }
+{
+    match words {
+        [_, rest @ ..] => rest,
+        [] => &[],
+    }
+}
+
+/// A study of so many runs: its count, if the first word is one, and its options.
+fn study_of_runs(runs: u32, words: &[String]) -> Option<Study<'_>>
+    requires { (0 < runs) × (runs ≤ 512) }
+    ensures study { option_map model.study_view result
+        ≡ model.study_of_runs runs (map string_bytes words.now) }
+    ensures fit { IfSome result MayBeMade }
+{
+    match first_count(words) {
+        Some(count) => study_with(runs, count, behind_first(words)),
+        None => study_with(runs, 0, words),
+    }
+}
+
+/// The study that words ask for: how many runs, perhaps a count, and options.
+fn study_of(words: &[String]) -> Option<Study<'_>>
+    ensures study { option_map model.study_view result ≡ model.study_of (map string_bytes words.now) }
+    ensures fit { IfSome result MayBeMade }
+{
+    match words {
+        [runs, rest @ ..] => match runs_in(runs.as_str()) {
+            Some(runs) => study_of_runs(runs, rest),
+            None => None,
+        },
+        [] => None,
+    }
+}
+
+/// The command `study`.
+fn studies(words: &[String]) -> Option<Command<'_>>
+    ensures command { option_map model.act_of result
+        ≡ model.studies (model.study_of (map string_bytes words.now)) }
+    ensures fit { IfSome result MayBeCarriedOut }
+{
+    match study_of(words) {
+        Some(study) => Some(Command::Study(study)),
+        None => None,
+    }
+}
+
+/// The command `compare`, which has no words as `NURSES=2,3`.
+fn compares(words: &[String]) -> Option<Command<'_>>
+    ensures command { option_map model.act_of result
+        ≡ model.compares (model.study_of (map string_bytes words.now)) }
+    ensures fit { IfSome result MayBeCarriedOut }
+{
+    match study_of(words) {
+        Some(study) => {
+            if study.options.first.is_none() {
+                Some(Command::Compare(study))
+            } else {
+                None
+            }
+        }
+        None => None,
+    }
+}
+
+/// The command that up to three words name.
+fn command_of_few(words: &[String]) -> Option<Command<'_>>
+    ensures command { option_map model.act_of result
+        ≡ model.command_of_few (map string_bytes words.now) }
+    ensures fit { IfSome result MayBeCarriedOut }
+{
+    match words {
+        [name] => command_named(name),
+        [name, first] => command_of_two(name, first),
+        [name, first, second] => command_of_three(name, first, second),
+        _ => None,
+    }
+}
+
+/// The command that a name and the words behind it are.
+#[tactic(auto, using(crate::proofs::Fewness::by_few))]
+fn command_with<'a>(name: &str, behind: &'a [String], words: &'a [String]) -> Option<Command<'a>>
+    requires { map string_bytes words.now ≡ name.now ∷ map string_bytes behind.now }
+    ensures command { option_map model.act_of result ≡ model.command_in (map string_bytes words.now) }
+    ensures fit { IfSome result MayBeCarriedOut }
+{
+    if name == "study" {
+        studies(behind)
+    } else if name == "compare" {
+        compares(behind)
+    } else {
+        command_of_few(words)
+    }
+}
+
+/// The command that these words name: `explain`, and perhaps the code of a refusal; `list`, `chart`; `trace` and two times below
+/// 2^63; `report`, and perhaps a seed below 2^32 and a count below 2^64; `study` or `compare`, a number of runs, 1 to 512, perhaps
+/// a count below 2^64, and options ([`Options`]); `help`, `--help` or `--version`. Numbers are in decimal digits alone. As many
+/// studies of so many runs may be asked for as 512 runs have; there may be 1 to 16 workers; CSV and a picture aren't asked for
+/// at once.
+pub fn command_of(words: &[String]) -> Option<Command<'_>>
+    ensures command { option_map model.act_of result ≡ model.command_in (map string_bytes words.now) }
+    ensures fit { IfSome result MayBeCarriedOut }
+{
+    match words {
+        [name, behind @ ..] => command_with(name.as_str(), behind, words),
+        [] => None,
+    }
+}

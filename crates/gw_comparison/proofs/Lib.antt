@@ -1,0 +1,3 @@
+pub mod Series
+pub mod Rows
+pub mod Reach

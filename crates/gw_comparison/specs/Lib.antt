@@ -1,0 +1,9 @@
+-- WHAT RUNS SAY
+pub mod Points
+-- HOW IT IS TOLD
+pub mod Amounts
+pub mod Columns
+pub mod Differences
+-- PICTURES
+pub mod Frames
+pub mod Pictures

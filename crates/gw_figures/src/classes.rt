@@ -1,0 +1,25 @@
+//! How many values each class of a table got.
+
+ghost use Rattle.std.specs.Prelude.{◌≡◌, length, vec_len, IfOk};
+ghost use Rattle.gw_figures.specs.Windows as model;
+
+use gw_object::Memory;
+use std::alloc::Global;
+
+/// How many values a class has, by its number; none where there is no such class.
+fn class_at(classes: &[u64], class: usize) -> u64
+    ensures { result ≡ model.class_at classes.now class }
+{
+    classes.get(class).copied().unwrap_or(0)
+}
+
+/// How many values each class got from one state to another.
+pub(crate) fn rises(alloc: Global, before: &[u64], after: &[u64]) -> Result<Vec<u64>, Memory>
+    ensures { IfOk result (λ rises. rises.items ≡ model.rises before.now after.now) }
+{
+    let mut rises = Vec::with_capacity(alloc, after.len())?;
+    for i in 0..after.len() {
+        rises.push(after[i].saturating_sub(class_at(before, i)))?;
+    }
+    Ok(rises)
+}

@@ -1,0 +1,146 @@
+//! The figures of an entity, by its kind.
+
+ghost use Rattle.std.specs.Prelude.{◌≡◌, ◌≤◌, ◌<◌, ◌+◌, ◌-◌, ◌++◌, [], ◌∷◌, OnOk, IfOk};
+ghost use Rattle.gw_figures.specs.Labels as model;
+ghost use Rattle.gw_figures.specs.Labels.{Label, labels, plain};
+
+use crate::figure::{Figure, put_detail, put_mean, put_named, put_plain};
+use crate::percentiles::upper_limit;
+use gw_object::{Entity, Kind, Memory, Table};
+use gw_report::text::{put, put_number};
+use std::alloc::Global;
+
+/// What the figures of an entity begin with: the word of its kind, its name, and a blank.
+fn front_of(alloc: Global, word: &str, name: &[u8]) -> Result<Vec<u8>, Memory>
+    ensures { IfOk result (λ front. front.items ≡ model.front_of word.now name.now) }
+{
+    let mut front = Vec::new(alloc);
+    put(&mut front, word)?;
+    front.extend_from_slice(name)?;
+    put(&mut front, " ")?;
+    Ok(front)
+}
+
+fn put_facility(alloc: Global, out: &mut Vec<Figure>, front: &[u8]) -> Result<(), Memory>
+    ensures { OnOk result (labels out.new.items ≡ labels out.old.items ++ model.facility_labels front.now) }
+{
+    put_plain(alloc, out, front, "ENTRIES")?;
+    put_plain(alloc, out, front, "WAIT")?;
+    put_mean(alloc, out, front, "UTIL")?;
+    put_mean(alloc, out, front, "TIME")
+}
+
+fn put_contents(alloc: Global, out: &mut Vec<Figure>, front: &[u8]) -> Result<(), Memory>
+    ensures { OnOk result (labels out.new.items ≡ labels out.old.items ++ model.contents_labels front.now) }
+{
+    put_plain(alloc, out, front, "CONTENT")?;
+    put_plain(alloc, out, front, "MAX")?;
+    put_plain(alloc, out, front, "ENTRIES")
+}
+
+fn put_stay(alloc: Global, out: &mut Vec<Figure>, front: &[u8]) -> Result<(), Memory>
+    ensures { OnOk result (labels out.new.items ≡ labels out.old.items ++ model.stay_labels front.now) }
+{
+    put_mean(alloc, out, front, "AVG")?;
+    put_mean(alloc, out, front, "TIME")
+}
+
+fn put_storage(alloc: Global, out: &mut Vec<Figure>, front: &[u8]) -> Result<(), Memory>
+    ensures { OnOk result (labels out.new.items ≡ labels out.old.items ++ model.storage_labels front.now) }
+{
+    put_contents(alloc, out, front)?;
+    put_plain(alloc, out, front, "WAIT")?;
+    put_stay(alloc, out, front)
+}
+
+fn put_queue(alloc: Global, out: &mut Vec<Figure>, front: &[u8]) -> Result<(), Memory>
+    ensures { OnOk result (labels out.new.items ≡ labels out.old.items ++ model.queue_labels front.now) }
+{
+    put_contents(alloc, out, front)?;
+    put_stay(alloc, out, front)
+}
+
+/// What the part of a class of a table is called, by its number, where so many are behind it.
+fn put_class(out: &mut Vec<u8>, table: &Table, class: u64, left: u64) -> Result<(), Memory>
+    ensures { OnOk result (out.new.items ≡ out.old.items ++ model.class_text table.now class left) }
+{
+    if class == 0 {
+        put_number(out, "TO ", table.limit)?;
+        return put(out, " SHARE");
+    }
+    let from = upper_limit(table, class - 1) + 1;
+    if left == 0 {
+        put_number(out, "FROM ", from)?;
+        return put(out, " SHARE");
+    }
+    put_number(out, "", from)?;
+    put_number(out, " TO ", upper_limit(table, class))?;
+    put(out, " SHARE")
+}
+
+/// The same, as a text of its own.
+fn class_text(alloc: Global, table: &Table, class: u64, left: u64) -> Result<Vec<u8>, Memory>
+    ensures { IfOk result (λ text. text.items ≡ model.class_text table.now class left) }
+{
+    let mut text = Vec::new(alloc);
+    put_class(&mut text, table, class, left)?;
+    Ok(text)
+}
+
+/// The figures of the classes of a table, in order.
+#[tactic(auto, unfolding(crate::specs::Labels::class_labels))]
+fn put_classes(
+    alloc: Global,
+    out: &mut Vec<Figure>,
+    front: &[u8],
+    table: &Table,
+) -> Result<(), Memory>
+    ensures { OnOk result (labels out.new.items
+        ≡ labels out.old.items ++ model.class_labels table.now front.now 0 table.now.classes) }
+{
+    let classes = u64::from(table.classes);
+    for class in 0..classes {
+        let text = class_text(alloc, table, class, classes - class - 1)?;
+        put_named(alloc, out, front, &text)?;
+    }
+    Ok(())
+}
+
+fn put_table(
+    alloc: Global,
+    out: &mut Vec<Figure>,
+    front: &[u8],
+    table: &Table,
+) -> Result<(), Memory>
+    ensures { OnOk result (labels out.new.items ≡ labels out.old.items ++ model.table_labels table.now front.now) }
+{
+    put_plain(alloc, out, front, "COUNT")?;
+    put_plain(alloc, out, front, "SUM")?;
+    put_mean(alloc, out, front, "MEAN")?;
+    put_plain(alloc, out, front, "P50")?;
+    put_plain(alloc, out, front, "P90")?;
+    put_plain(alloc, out, front, "P95")?;
+    put_classes(alloc, out, front, table)
+}
+
+/// The figures of an entity: a variable and a function have none.
+pub(crate) fn put_entity(
+    alloc: Global,
+    out: &mut Vec<Figure>,
+    entity: &Entity,
+) -> Result<(), Memory>
+    ensures { OnOk result (labels out.new.items
+        ≡ labels out.old.items ++ model.kind_labels entity.now.kind entity.now.name) }
+{
+    let name = entity.name.as_slice();
+    match &entity.kind {
+        Kind::Facility => put_facility(alloc, out, &front_of(alloc, "FACILITY ", name)?),
+        Kind::Storage(_) => put_storage(alloc, out, &front_of(alloc, "STORAGE ", name)?),
+        Kind::Queue => put_queue(alloc, out, &front_of(alloc, "QUEUE ", name)?),
+        Kind::Switch(_) => put_detail(alloc, out, &front_of(alloc, "SWITCH ", name)?, "SET"),
+        Kind::Savevalue(_) => put_plain(alloc, out, &front_of(alloc, "SAVEVALUE ", name)?, "VALUE"),
+        Kind::Table(table) => put_table(alloc, out, &front_of(alloc, "TABLE ", name)?, table),
+        Kind::Chain => put_detail(alloc, out, &front_of(alloc, "CHAIN ", name)?, "CONTENT"),
+        Kind::Variable(_) | Kind::BooleanVariable(_) | Kind::Function(_) => Ok(()),
+    }
+}

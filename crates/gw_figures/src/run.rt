@@ -1,0 +1,17 @@
+//! What is kept of a run.
+
+use gw_scan::End;
+
+/// One run of a study: how it ended, and the value of each figure, in the order of `figures`.
+#[derive(Debug, Drop)]
+pub struct Run {
+    /// The named end that stands.
+    pub end: End,
+    /// The steps made, from the start state on.
+    pub steps: u64,
+    /// The value of each figure in the window, in millionths, rounded to the nearest; None where nothing can be told.
+    pub values: Vec<Option<i128>>,
+    /// By how much each average of the window's second half is greater than that of its first, in millionths; None where one
+    /// can't be told, and of what is no average.
+    pub trend: Vec<Option<i128>>,
+}

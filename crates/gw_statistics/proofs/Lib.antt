@@ -1,0 +1,3 @@
+pub mod Halving
+pub mod Least
+pub mod Pairing

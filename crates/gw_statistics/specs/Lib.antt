@@ -1,0 +1,4 @@
+pub mod Pairs
+pub mod Quantiles
+pub mod Rounding
+pub mod Summaries

@@ -1,0 +1,7 @@
+use Rattle.std.proofs.Common.{refl}
+use Rattle.gw_study.proofs.Tabling.{told}
+use Rattle.gw_study.proofs.studying.studied.Goals as goal
+
+pub returns : goal.returns
+returns g c =
+    (refl, told c.args.spec.now c.args.request.now c.in_ok-results.results c.count.result c.in_ok-table.field-0.items c.in_ok-results.ensures c.count.ensures.value c.in_ok-table.ensures)

@@ -1,0 +1,175 @@
+-- The table of a study.
+use Rattle.std.specs.Prelude.{◌≡◌, ◌⊎◌, ℕ, ◌+◌, ◌-◌, ◌*◌, ◌/◌, ◌%◌, min, ◌==◌, nat_lt, List, [], ◌∷◌, ◌++◌, length, map, codes, Bool, false, ◌||◌, ℤ, unsigned_abs, Option, None, Some, Contains, MatchBool, if◌then◌else◌}
+use Rattle.std.specs.Borrow.{Bor}
+use Rattle.std.specs.Fmt.{decimal}
+use Rattle.std.specs.List.{slice_get, count_by}
+use Rattle.gw_step.specs.declared.ends.End.{End}
+use Rattle.gw_step.specs.declared.ends.End.TheVariants.{Done, Number, ZeroDivisor, NegativeTime, LoopLimit, NoMoreEvents, Budget, Live}
+use Rattle.gw_scan.specs.declared.sim.Status.TheVariants.{Ended}
+use Rattle.gw_report.specs.Report.{status_word}
+use Rattle.gw_statistics.specs.Quantiles.{first_enough}
+use Rattle.gw_statistics.specs.Summaries.{IsSummary}
+use Rattle.gw_statistics.specs.declared.summary.Summary.{Summary}
+use Rattle.gw_figures.specs.Labels.{Label}
+use Rattle.gw_figures.specs.declared.run.Run.{Run}
+use Rattle.gw_study.specs.declared.request.StudyRequest.{StudyRequest}
+use Rattle.gw_study.specs.Text.{row_line, head_line, thousandths_of, thousandths_text}
+
+-- ENDS
+
+-- the place of an end among all
+abbrev pub end_number : End → ℕ
+end_number Done = 0
+end_number Number = 1
+end_number ZeroDivisor = 2
+end_number NegativeTime = 3
+end_number LoopLimit = 4
+end_number NoMoreEvents = 5
+end_number Budget = 6
+end_number Live = 7
+
+-- a run ended so
+abbrev pub is_ended_so : End → Run → Bool
+is_ended_so end run = end_number run.end == end_number end
+
+-- how many ended so
+abbrev pub ended_so : List Run → End → ℕ
+ended_so runs end = count_by (is_ended_so end) runs
+
+-- the first line: how many runs there are and how many came to their count, and whether all of a run is
+-- told or a window
+abbrev pub start_text : ℕ → List ℕ
+start_text from = if from == 0 then codes " begin empty\n" else codes " from " ++ decimal from ++ codes "\n"
+
+abbrev pub first_line : List Run → ℕ → List ℕ
+first_line runs from =
+    codes "RUNS " ++ decimal (length runs) ++ codes " DONE " ++ decimal (ended_so runs Done)
+    ++ start_text from
+
+-- how many ended so, where any did
+abbrev pub other_text : List Run → End → List ℕ
+other_text runs end =
+    if ended_so runs end == 0 then []
+    else codes ", " ++ status_word (Ended end) ++ codes " " ++ decimal (ended_so runs end)
+
+-- how many met an end that a value brought, and how many could or might not go on
+abbrev pub faults_text : List Run → List ℕ
+faults_text runs =
+    other_text runs Number ++ other_text runs ZeroDivisor ++ other_text runs NegativeTime
+    ++ other_text runs LoopLimit
+
+abbrev pub stops_text : List Run → List ℕ
+stops_text runs =
+    other_text runs NoMoreEvents ++ other_text runs Budget ++ other_text runs Live
+
+-- the line of how many ended how, where not all came to their count
+abbrev pub ends_line : List Run → List ℕ
+ends_line runs =
+    if ended_so runs Done == length runs then []
+    else
+    codes "ENDS Done " ++ decimal (ended_so runs Done) ++ faults_text runs ++ stops_text runs
+    ++ codes "\n"
+
+-- VALUES
+
+-- those of the runs that came to their count
+unfoldable pub values_of_done : List Run → List (List (Option ℤ))
+values_of_done [] = []
+values_of_done (run ∷ rest) =
+    if is_ended_so Done run then run.values.items ∷ values_of_done rest else values_of_done rest
+
+-- by how much their averages change
+unfoldable pub trends_of_done : List Run → List (List (Option ℤ))
+trends_of_done [] = []
+trends_of_done (run ∷ rest) =
+    if is_ended_so Done run then run.trend.items ∷ trends_of_done rest else trends_of_done rest
+
+-- the rows behind references
+abbrev pub rows : List (Bor (List (Option ℤ))) → List (List (Option ℤ))
+rows references = map (λ row. row.now) references
+
+-- what stands at a place, if anything does
+abbrev pub joined : Option (Option ℤ) → Option ℤ
+joined None = None
+joined (Some value) = value
+
+abbrev pub value_at : ℕ → List (Option ℤ) → Option ℤ
+value_at place values = joined (slice_get values place)
+
+-- the values at a place of several rows
+abbrev pub column : ℕ → List (List (Option ℤ)) → List (Option ℤ)
+column place rows = map (value_at place) rows
+
+-- what is said of a column: the summary of its numbers, or nothing where one is none
+abbrev pub IsSaidOf : List (Option ℤ) → Option Summary → Type 0
+IsSaidOf column said =
+    ((xs : List ℤ) × (column ≡ map Some xs) × IsSummary xs said)
+    ⊎ (Contains column None × (said ≡ None))
+
+-- ROWS
+
+-- the row of a figure at a place, where it is told
+abbrev pub IsRowOf : List (List (Option ℤ)) → Bool → ℕ → Label → List ℕ → Type 0
+IsRowOf rows all place figure text =
+    MatchBool (figure.main || all)
+    ((said : Option Summary) × IsSaidOf (column place rows) said × (text ≡ row_line figure.name said))
+    (text ≡ [])
+
+-- a mean lies further from 0 than twice its half-width: half of it, rounded up, is more than that
+abbrev pub exceeds : ℤ → Option ℕ → Bool
+exceeds mean None = false
+exceeds mean (Some h) = nat_lt h (unsigned_abs mean / 2 + min 1 (unsigned_abs mean % 2))
+
+-- by how much an average changes, behind a blank
+unfoldable pub amount : ℤ → List ℕ
+amount mean = codes " " ++ thousandths_text (thousandths_of mean)
+
+-- the same, and what is suggested
+unfoldable pub advice : ℕ → ℤ → List ℕ
+advice suggested mean = amount mean ++ codes ": try --from " ++ decimal suggested ++ codes "\n"
+
+-- what is told of a change
+abbrev pub trend_line : List ℕ → ℕ → Option Summary → List ℕ
+trend_line name suggested None = []
+trend_line name suggested (Some s) =
+    if exceeds s.mean s.half_width then
+    codes "TREND " ++ name ++ advice suggested s.mean
+    else []
+
+-- the line of a figure's change, where it is one
+abbrev pub IsTrendOf : List (List (Option ℤ)) → ℕ → ℕ → Label → List ℕ → Type 0
+IsTrendOf rows suggested place figure text =
+    (said : Option Summary) × IsSaidOf (column place rows) said
+    × (text ≡ trend_line figure.name suggested said)
+
+-- a text is a piece for each figure, of which the first is at this place, one behind the other
+abbrev pub ArePieces : (ℕ → Label → List ℕ → Type 0) → ℕ → List Label → List ℕ → Type 0
+ArePieces P place [] text = text ≡ []
+ArePieces P place (figure ∷ rest) text =
+    (piece : List ℕ) × (more : List ℕ) × P place figure piece × ArePieces P (place + 1) rest more
+    × (text ≡ piece ++ more)
+
+-- such a text is added
+abbrev pub Adds : (List ℕ → Type 0) → List ℕ → List ℕ → Type 0
+Adds P old new = (text : List ℕ) × P text × (new ≡ old ++ text)
+
+-- THE TABLE
+
+-- how many more runs would halve the half-widths, where there are any
+abbrev pub more_line : ℕ → List ℕ
+more_line done =
+    if nat_lt done 2 then []
+    else codes "HALVE " ++ decimal (first_enough done done (3 * done) - done) ++ codes "\n"
+
+-- where half of what a window counts is counted
+abbrev pub suggestion : ℕ → ℕ → ℕ
+suggestion count from = from + (count - from) / 2
+
+-- what a study tells of figures and runs, where this is the count
+abbrev pub IsTable : List Label → List Run → StudyRequest → ℕ → List ℕ → Type 0
+IsTable figures runs request count text =
+    (rows : List ℕ) × (trends : List ℕ)
+    × ArePieces (IsRowOf (values_of_done runs) request.all) 0 figures rows
+    × ArePieces (IsTrendOf (trends_of_done runs) (suggestion count request.from)) 0 figures trends
+    × (text ≡ first_line runs request.from ++ ends_line runs ++ head_line ++ rows
+    ++ more_line (length (values_of_done runs)) ++ trends)
