@@ -8,7 +8,7 @@ pub use Rattle.gw_command_line.specs.Options.{Choices, view, options_in}
 use Rattle.gw_command_line.specs.declared.words.Command.{Command}
 use Rattle.gw_command_line.specs.declared.words.Command.TheVariants as commands
 use Rattle.gw_command_line.specs.declared.words.Question.{Question}
-use Rattle.gw_command_line.specs.declared.words.Question.TheVariants.{Explain, List as Lists, Chart, Trace, Report}
+use Rattle.gw_command_line.specs.declared.words.Question.TheVariants.{Explain, List as Lists, Chart, Convert, Trace, Report}
 use Rattle.gw_command_line.specs.declared.words.Study.{Study}
 
 -- WHAT IS ASKED FOR
@@ -66,6 +66,7 @@ command_named name =
     if bytes_eq name (codes "explain") then Some (Ask Explain)
     else if bytes_eq name (codes "list") then Some (Ask Lists)
     else if bytes_eq name (codes "chart") then Some (Ask Chart)
+    else if bytes_eq name (codes "convert") then Some (Ask Convert)
     else if bytes_eq name (codes "report") then Some (Ask (Report 0 0))
     else if bytes_eq name (codes "help") || bytes_eq name (codes "--help") then Some Help
     else if bytes_eq name (codes "--version") then Some Version

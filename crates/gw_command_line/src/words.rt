@@ -25,6 +25,8 @@ pub enum Question {
     List,
     /// The contents of its run over time, as a picture.
     Chart,
+    /// A text of GPSS World in this language.
+    Convert,
     /// The steps of its run, from one time of the clock to another.
     Trace {
         /// The first time, in clock units.
@@ -118,6 +120,7 @@ fn command_named(name: &str) -> Option<Command<'static>>
         "explain" => Some(Command::Ask(Question::Explain)),
         "list" => Some(Command::Ask(Question::List)),
         "chart" => Some(Command::Ask(Question::Chart)),
+        "convert" => Some(Command::Ask(Question::Convert)),
         "report" => Some(Command::Ask(Question::Report { seed: 0, count: 0 })),
         "help" | "--help" => Some(Command::Help),
         "--version" => Some(Command::Version),
@@ -318,7 +321,7 @@ fn command_with<'a>(name: &str, behind: &'a [String], words: &'a [String]) -> Op
     }
 }
 
-/// The command that these words name: `explain`, and perhaps the code of a refusal; `list`, `chart`; `trace` and two times below
+/// The command that these words name: `explain`, and perhaps the code of a refusal; `list`, `chart`, `convert`; `trace` and two times below
 /// 2^63; `report`, and perhaps a seed below 2^32 and a count below 2^64; `study` or `compare`, a number of runs, 1 to 512, perhaps
 /// a count below 2^64, and options ([`Options`]); `help`, `--help` or `--version`. Numbers are in decimal digits alone. As many
 /// studies of so many runs may be asked for as 512 runs have; there may be 1 to 16 workers; CSV and a picture aren't asked for

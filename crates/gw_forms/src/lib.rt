@@ -5,11 +5,11 @@
 mod attributes;
 mod finding;
 pub mod form;
-mod line;
+pub mod line;
 mod numbers;
 mod signs;
 mod statements;
-mod testing;
+pub mod testing;
 mod ways;
 
 pub use finding::{Found, find_form};

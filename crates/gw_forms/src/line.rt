@@ -9,7 +9,7 @@ use std::alloc::{AllocError, Global};
 
 /// A token of a line.
 #[derive(Clone, Copy)]
-pub(crate) struct Piece<'a> {
+pub struct Piece<'a> {
     /// The token.
     pub token: Token<'a>,
     /// The place of its first byte, from 0.
@@ -24,7 +24,7 @@ pub(crate) struct Piece<'a> {
 
 /// A line up to its comment.
 #[derive(Clone, Copy)]
-pub(crate) struct Line<'a> {
+pub struct Line<'a> {
     /// Its bytes.
     pub bytes: &'a [u8],
     /// Its pieces.
@@ -51,7 +51,7 @@ fn beyond(token: Token<'_>, depth: u8, operand: u8) -> (u8, u8) {
 }
 
 /// The pieces of a line up to its comment.
-pub(crate) fn pieces_of(alloc: Global, line: &[u8]) -> Result<Vec<Piece<'_>>, AllocError> {
+pub fn pieces_of(alloc: Global, line: &[u8]) -> Result<Vec<Piece<'_>>, AllocError> {
     let mut pieces = Vec::new(alloc);
     let mut left = line;
     let (mut depth, mut operand) = (0, 0);
@@ -89,12 +89,22 @@ fn begins(word: &[u8], name: &[u8]) -> bool {
 }
 
 /// Whether a name is the first letters of a word, three or more of them.
-pub(crate) fn is_abbreviation(name: &[u8]) -> bool {
+pub fn is_abbreviation(name: &[u8]) -> bool {
     name.len() >= 3
         && matches!(known_word(name), Known::Other)
         && WORDS
             .split(|byte| *byte == b' ')
             .any(|word| begins(word, name))
+}
+
+/// The word of which a name is the first letters, three or more of them: the first of these words, if it is that of several.
+pub fn whole_word(name: &[u8]) -> Option<&'static [u8]> {
+    if !is_abbreviation(name) {
+        return None;
+    }
+    WORDS
+        .split(|byte| *byte == b' ')
+        .find(|word| begins(word, name))
 }
 
 /// Whether a name is the word of a statement, of this language or of GPSS World, or its first letters.
@@ -103,7 +113,7 @@ fn is_word(name: &[u8]) -> bool {
 }
 
 /// The place of the word among the pieces of a line: behind a label, where one stands before it.
-pub(crate) fn place_of_word(pieces: &[Piece<'_>]) -> usize {
+pub fn place_of_word(pieces: &[Piece<'_>]) -> usize {
     match (token_at(pieces, 0), token_at(pieces, 1)) {
         (Some(Token::Name(first)), Some(Token::Name(second)))
             if !is_word(first) && is_word(second) => { 1 }
@@ -113,23 +123,23 @@ pub(crate) fn place_of_word(pieces: &[Piece<'_>]) -> usize {
 }
 
 /// The token of a piece, if there is one at this place.
-pub(crate) fn token_at<'a>(pieces: &[Piece<'a>], place: usize) -> Option<Token<'a>> {
+pub fn token_at<'a>(pieces: &[Piece<'a>], place: usize) -> Option<Token<'a>> {
     pieces.get(place).map(|piece| piece.token)
 }
 
 impl<'a> Line<'a> {
     /// The token at a place, if there is one.
-    pub(crate) fn token(&self, place: usize) -> Option<Token<'a>> {
+    pub fn token(&self, place: usize) -> Option<Token<'a>> {
         token_at(self.pieces, place)
     }
 
     /// The token behind a place, if there is one.
-    pub(crate) fn next(&self, place: usize) -> Option<Token<'a>> {
+    pub fn next(&self, place: usize) -> Option<Token<'a>> {
         self.token(place.saturating_add(1))
     }
 
     /// The token before a place, if there is one.
-    pub(crate) fn before(&self, place: usize) -> Option<Token<'a>> {
+    pub fn before(&self, place: usize) -> Option<Token<'a>> {
         if place == 0 {
             None
         } else {
@@ -138,12 +148,12 @@ impl<'a> Line<'a> {
     }
 
     /// The place behind the last byte of a piece.
-    pub(crate) fn end(&self, place: usize) -> usize {
+    pub fn end(&self, place: usize) -> usize {
         self.pieces.get(place).map_or(0, |piece| piece.to)
     }
 
     /// The place behind the last byte of the operand in which a piece stands.
-    pub(crate) fn end_of_operand(&self, place: usize) -> usize {
+    pub fn end_of_operand(&self, place: usize) -> usize {
         let operand = self.operand(place);
         let mut end = self.end(place);
         for piece in self.pieces {
@@ -155,12 +165,12 @@ impl<'a> Line<'a> {
     }
 
     /// The operand in which a piece stands, from 0.
-    pub(crate) fn operand(&self, place: usize) -> u8 {
+    pub fn operand(&self, place: usize) -> u8 {
         self.pieces.get(place).map_or(0, |piece| piece.operand)
     }
 
     /// Whether a piece is the first of its operand.
-    pub(crate) fn begins_operand(&self, place: usize) -> bool {
+    pub fn begins_operand(&self, place: usize) -> bool {
         place == self.word.saturating_add(1)
             || place > self.word
                 && matches!(self.before(place), Some(Token::Comma))
@@ -168,17 +178,17 @@ impl<'a> Line<'a> {
     }
 
     /// Within how many parentheses a piece stands.
-    pub(crate) fn depth(&self, place: usize) -> u8 {
+    pub fn depth(&self, place: usize) -> u8 {
         self.pieces.get(place).map_or(0, |piece| piece.depth)
     }
 
     /// Whether blanks stand before a piece.
-    pub(crate) fn stands_apart(&self, place: usize) -> bool {
+    pub fn stands_apart(&self, place: usize) -> bool {
         place > 0 && self.pieces.get(place).map_or(0, |piece| piece.from) > self.end(place - 1)
     }
 
     /// The place behind the last byte of all pieces.
-    pub(crate) fn end_of_pieces(&self) -> usize {
+    pub fn end_of_pieces(&self) -> usize {
         self.pieces.last().map_or(0, |piece| piece.to)
     }
 }

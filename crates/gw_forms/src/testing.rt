@@ -10,7 +10,7 @@ use gw_text_tokens::words::is_library;
 const CLASSES: &[u8] = b"F S R Q X LS CH V BV FN N W P";
 
 /// Whether a name is one of these, between which blanks stand, in upper or lower case.
-pub(crate) fn is_among(name: &[u8], names: &[u8]) -> bool {
+pub fn is_among(name: &[u8], names: &[u8]) -> bool {
     names
         .split(|byte| *byte == b' ')
         .any(|it| is_spelled(name, it))
@@ -24,7 +24,7 @@ fn letters(name: &[u8]) -> usize {
 }
 
 /// The letters of a name that has nothing but a number behind them, if it has one.
-fn class_of_numbered(name: &[u8]) -> Option<&[u8]> {
+pub fn class_of_numbered(name: &[u8]) -> Option<&[u8]> {
     let count = letters(name);
     if count >= name.len() || count == 0 {
         return None;
@@ -191,7 +191,7 @@ fn operand_end(line: &Line<'_>, place: usize, test: Test) -> Option<usize> {
 }
 
 /// Whether a piece is the first of what stands behind the operands.
-fn stands_behind(line: &Line<'_>, place: usize, token: Token<'_>) -> bool {
+pub fn stands_behind(line: &Line<'_>, place: usize, token: Token<'_>) -> bool {
     let operands = if has_two_words(line) { 2 } else { 1 };
     matches!(token, Token::Name(_) | Token::Whole(_))
         && place > line.word.saturating_add(operands)

@@ -23,7 +23,7 @@ use Rattle.gw_study.specs.declared.request.StudyRequest.{StudyRequest}
 use Rattle.gw_command_line.specs.Words.{Demand}
 use Rattle.planner.specs.Answers.{IsReported, asked, answering, is_plain, request_of, studied, studying}
 use Rattle.gw_command_line.specs.declared.words.Question.{Question}
-use Rattle.gw_command_line.specs.declared.words.Question.TheVariants.{Explain, List as Lists, Chart, Trace, Report}
+use Rattle.gw_command_line.specs.declared.words.Question.TheVariants.{Explain, List as Lists, Chart, Convert, Trace, Report}
 
 explained_model : (bytes : List ℕ) (ss : _) (text : List ℕ) (status : ℕ) → IsExplainedModel bytes ss text status → IsEnd status
 explained_model bytes ss text status (inl h) = inl h.0
@@ -80,6 +80,7 @@ ends Explain bytes text status h =
 ends Lists bytes text status h =
     of_either (is_object bytes) _ _ status (listed_object (object_of bytes) text status) (listed_text bytes text status) h
 ends Chart bytes text status h = shown IsChart bytes text status h
+ends Convert bytes text status h = inl h.ends
 ends (Trace from to) bytes text status h = shown (IsTrace from to) bytes text status h
 ends (Report seed count) bytes text status h = report seed count bytes text status h
 

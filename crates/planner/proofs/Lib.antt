@@ -3,3 +3,4 @@ pub mod Endings
 pub mod Fronts
 pub mod Telling
 pub mod Reports
+pub mod Conversions

@@ -1,5 +1,5 @@
 -- What the program writes.
-use Rattle.std.specs.Prelude.{◌≡◌, ◌≢◌, ◌≤◌, ◌<◌, ◌⊎◌, ℕ, ◌+◌, List, take, codes, Option, is_none, Bool, true, false, not, ◌&&◌, MatchBool}
+use Rattle.std.specs.Prelude.{◌≡◌, ◌≢◌, ◌≤◌, ◌<◌, ◌⊎◌, ℕ, ◌+◌, List, ◌++◌, take, codes, Option, is_none, Bool, true, false, not, ◌&&◌, MatchBool}
 use Rattle.std.specs.Option.{unwrap_or}
 use Rattle.gw_object.specs.declared.limits.TheConstants.{MOST_BYTES}
 use Rattle.gw_answers.specs.Status.{ended, no_memory}
@@ -13,13 +13,14 @@ use Rattle.gw_listing.specs.Listing.{IsListed}
 use Rattle.gw_model_jobs.specs.ModelJobs.{AnswersModel}
 use Rattle.gw_trace.specs.Trace.{IsTrace}
 use Rattle.gw_chart.specs.Charts.{IsChart}
+use Rattle.gw_convert.specs.Pieces.{IsConverted}
 use Rattle.gw_study.specs.Study.{IsStudy}
 use Rattle.gw_study.specs.declared.request.StudyRequest.{StudyRequest}
 use Rattle.gw_alternatives.specs.Ends.{IsEnd}
 use Rattle.gw_command_line.specs.Options.{Choices}
 use Rattle.gw_command_line.specs.Words.{Act, Ask, Code, Help, Version, Studies, Compares, Demand}
 use Rattle.gw_command_line.specs.declared.words.Question.{Question}
-use Rattle.gw_command_line.specs.declared.words.Question.TheVariants.{Explain, List as Lists, Chart, Trace, Report}
+use Rattle.gw_command_line.specs.declared.words.Question.TheVariants.{Explain, List as Lists, Chart, Convert, Trace, Report}
 use Rattle.planner.specs.declared.help.TheConstants.{HELP, VERSION, USAGE}
 
 -- what is reported of a text: the report of its object, or a refusal of that; or the refusal of the text
@@ -28,11 +29,20 @@ IsReported seed count bytes text status =
     ((object : List ℕ) × IsAssembly bytes object ended × IsAnswer seed count object text status)
     ⊎ ((status ≢ ended) × IsAssembly bytes text status)
 
+-- a text of GPSS World in this language, and what of it is still refused behind that
+pub record IsConversion (bytes text : List ℕ) (status : ℕ) : Type 0 where
+  pub ends : status ≡ ended
+  pub new : List ℕ
+  pub converted : IsConverted bytes new
+  pub told : List ℕ
+  pub whole : text ≡ new ++ told
+
 -- what answers a question about an input
 abbrev pub asked : Question → Answering
 asked Explain = IsExplained
 asked Lists = IsListed
 asked Chart = AnswersModel IsChart
+asked Convert = IsConversion
 asked (Trace from to) = AnswersModel (IsTrace from to)
 asked (Report seed count) = IsReported seed count
 

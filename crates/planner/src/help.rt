@@ -12,6 +12,7 @@ the second word; without it the program reads the model from standard input.
   planner list MODEL                  the listed object code, of a model or of an object
   planner trace MODEL FROM TO         the steps of the run from one clock time to another
   planner chart MODEL                 a picture (SVG) of what is where over time
+  planner convert MODEL               a text of GPSS World, written in this language
   planner report MODEL [SEED COUNT]   the report of the run, with another seed and
                                       termination count, or with the model's own
   planner study MODEL RUNS [COUNT]    so many runs with other random numbers, 1 to 512:
@@ -39,4 +40,4 @@ pub const VERSION: &[u8] = b"planner 1\n";
 
 /// The line on wrong words.
 pub const USAGE: &[u8] =
-    b"usage: planner explain [CODE] | list | trace FROM TO | chart | report [SEED COUNT] | study RUNS [COUNT] [NAME=K,..] [NAME=K,..] [--from W] [--seeds K] [--workers N] [--all] [--csv | --svg FIGURE] | compare RUNS [COUNT] [options of study] | help | --version\n";
+    b"usage: planner explain [CODE] | list | trace FROM TO | chart | convert | report [SEED COUNT] | study RUNS [COUNT] [NAME=K,..] [NAME=K,..] [--from W] [--seeds K] [--workers N] [--all] [--csv | --svg FIGURE] | compare RUNS [COUNT] [options of study] | help | --version\n";

@@ -1,6 +1,7 @@
 //! The program `planner`: what planners ask of a model at their desks (docs/planner.md).
 #![tactic(auto)]
 
+pub mod converting;
 pub mod help;
 pub mod program;
 pub mod reporting;

@@ -10,6 +10,7 @@ ghost use Rattle.gw_command_line.specs.Words.{command_in, study_view};
 ghost use Rattle.gw_explain.specs.Meaning.{meaning};
 ghost use Rattle.planner.specs.Answers.{asked, answering, studied, studying, Tells, DoesCommand, usage_line};
 
+use crate::converting::conversion;
 use crate::help::{HELP, USAGE, VERSION};
 use crate::reporting::report;
 use crate::studies::answer_study;
@@ -36,6 +37,7 @@ fn answer(alloc: Global, question: Question, input: &[u8]) -> Result<Answer, Mem
         Question::Explain => explain(alloc, input),
         Question::List => list(alloc, input),
         Question::Chart => chart(alloc, input),
+        Question::Convert => conversion(alloc, input),
         Question::Trace { from, to } => trace(alloc, input, from, to),
         Question::Report { seed, count } => report(alloc, input, seed, count),
     }

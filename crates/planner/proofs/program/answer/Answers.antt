@@ -1,0 +1,9 @@
+-- A question for a conversion is answered by one.
+use Rattle.std.proofs.Common.{IfOk, subst, sym}
+use Rattle.gw_command_line.specs.declared.words.Question.{Question}
+use Rattle.planner.specs.Answers.{asked}
+use Rattle.planner.proofs.program.answer.Goals as goal
+
+pub returns-in-Convert : goal.returns-in-Convert
+returns-in-Convert c =
+    subst (λ (q : Question). IfOk c.conversion.result (λ a. asked q c.args.input.now a.text.items a.status)) (sym c.in-Convert.is) c.conversion.ensures
