@@ -5,7 +5,7 @@ ghost use Rattle.std.specs.VecDeque.{deque_len, deque_capacity};
 ghost use Rattle.slab.specs.Slab.{get, ContainsKey, HasRoomFor};
 ghost use Rattle.gw_members.specs.Chain.{first};
 ghost use Rattle.gw_chains.specs.Buckets.{members_of, total, upto, lower, bucket_of_one, without_first_link, below, IsHead, head_host, headed_by, with_head, Before, AreBuckets, GainMember, LoseFirst};
-ghost use Rattle.gw_chains.specs.Queues.{GrowsByOneAtMost, DoesNotGrow};
+ghost use Rattle.gw_chains.specs.Queues.{space_in, GrowsByOneAtMost, DoesNotGrow};
 ghost use Rattle.gw_chains.specs.Slots.{TakesOneSlot, TakesNoSlot, KeepsSlots, row_room};
 ghost use Rattle.gw_chains.specs.Spots.{count_at, place_at, link_at, IsSpot, led_past, without_one, without_link};
 
@@ -66,6 +66,24 @@ fn reserve_more<T: Ranked>(
         return Err(Memory);
     }
     reserve_links(links, more)?;
+    reserve_buckets(row, more)
+}
+
+/// Makes room for so many more buckets. Where that takes memory it first asks for room for as many again as there is room for,
+/// since a queue gets no more than is asked for, and room is asked for as members come, one by one.
+fn reserve_buckets(row: &mut VecDeque<Bucket>, more: usize) -> Result<(), Memory>
+    ensures items { row.new.items ≡ row.old.items }
+    ensures len { deque_len row.new ≡ deque_len row.old }
+    ensures room { OnOk result (more ≤ space_in row.new) }
+    ensures kept { deque_capacity row.old ≤ deque_capacity row.new }
+    ensures refused { OnErr result (space_in row.old < more) }
+{
+    if more <= row.capacity() - row.len() {
+        return Ok(());
+    }
+    if row.reserve(more.saturating_add(row.capacity())).is_ok() {
+        return Ok(());
+    }
     row.reserve(more)
 }
 
