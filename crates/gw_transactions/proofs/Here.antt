@@ -5,7 +5,9 @@ use Rattle.std.proofs.lemmas.Bool.{eq-eqb}
 use Rattle.std.proofs.lemmas.List.Sums.{count_by-le-length}
 use Rattle.gw_num.specs.Table.{at, put}
 use Rattle.gw_num.proofs.Tables.{at_past, at-replicate, count_by-put}
+use Rattle.slab.specs.Slab.{Slab}
 use Rattle.gw_transactions.specs.declared.Kept.{Kept}
+use Rattle.gw_transactions.specs.Parameters.{Numbered}
 use Rattle.gw_transactions.specs.Transactions.{LiveTransaction, here_count}
 use Rattle.gw_transactions.specs.Slots.{live_as, by_number, AreCounted}
 
@@ -54,6 +56,6 @@ module _ (counts : List ℕ) (txs : List (Option LiveTransaction)) (counted : Ar
       λ block. omega (arith, fallen block, counted block, here-put number (Some was) None there block)
 
 -- nobody is anywhere
-pub none_counted : (counts : List ℕ) (n : ℕ) (slots : List (Option (ℕ × Kept))) → counts ≡ replicate n 0 → slots ≡ [] → AreCounted counts (by_number (λ place kept. live_as kept) 1 0 slots)
-none_counted counts n slots zeros empty =
-    λ block. ap (λ xs. at 0 xs block) zeros ∙ at-replicate 0 n block ∙ ap (λ xs. here_count block (by_number (λ place kept. live_as kept) 1 0 xs)) (sym empty)
+pub none_counted : (counts : List ℕ) (n : ℕ) (beside : Slab Numbered) (slots : List (Option (ℕ × Kept))) → counts ≡ replicate n 0 → slots ≡ [] → AreCounted counts (by_number (λ place kept. live_as beside kept) 1 0 slots)
+none_counted counts n beside slots zeros empty =
+    λ block. ap (λ xs. at 0 xs block) zeros ∙ at-replicate 0 n block ∙ ap (λ xs. here_count block (by_number (λ place kept. live_as beside kept) 1 0 xs)) (sym empty)

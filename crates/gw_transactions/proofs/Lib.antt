@@ -4,3 +4,4 @@ pub mod Slots
 pub mod Populations
 pub mod Shown
 pub mod Listing
+pub mod Room

@@ -246,3 +246,34 @@ module _ {X Y : Type 0} (entry : ℕ → X → Y) where
       let free : weight_of (at None rest b.0) ≡ 0 = ap weight_of (at-by_number_free next (suc k) b.0 slots (free_tail b slots next num)) ∙ ap (λ t. cond t 1 0) nobody in
       let same : weight (Some b) ≡ weight_of (Some (entry k b.1)) = ap (λ t. cond t 1 0) (agree k b) in
       omega (arith, free, same, sum_by-cons weight (Some b) slots, count_by-put None in_table rest b.0 (Some (entry k b.1)) nobody, count_by-by_number next (suc k) slots in_slots in_table (numbered_tail (Some b) slots next num) none nobody agree)
+
+module _ {X Y : Type 0} (was now : X → Y) where
+  -- entries that agree on what the slots have make one table
+  pub by_number-alike : (next k : ℕ) (slots : List (Option (ℕ × X))) → ((q : ℕ) (b : ℕ × X) → get_or slots q None ≡ Some b → now b.1 ≡ was b.1) → by_number (λ place x. now x) next k slots ≡ by_number (λ place x. was x) next k slots
+  by_number-alike next k [] agree = refl
+  by_number-alike next k (None ∷ slots) agree = by_number-alike next (suc k) slots (λ q. agree (suc q))
+  by_number-alike next k (Some b ∷ slots) agree =
+      ap (λ v. put None (by_number (λ place x. now x) next (suc k) slots) b.0 (Some v)) (agree 0 b refl)
+      ∙ ap (λ xs. put None xs b.0 (Some (was b.1))) (by_number-alike next (suc k) slots (λ q. agree (suc q)))
+
+  -- entries that agree on all but one slot make tables that differ at its number alone
+  pub by_number-changed : (next p : ℕ) (slots : List (Option (ℕ × X))) (a : ℕ × X) → AreNumbered slots next → get_or slots p None ≡ Some a → ((q : ℕ) (b : ℕ × X) → q ≢ p → get_or slots q None ≡ Some b → now b.1 ≡ was b.1) → by_number (λ place x. now x) next 0 slots ≡ put None (by_number (λ place x. was x) next 0 slots) a.0 (Some (now a.1))
+  by_number-changed next p slots a num there agree =
+      let to : ℕ → X → Y = λ place x. now x in
+      let from : ℕ → X → Y = λ place x. was x in
+      let within : p < length slots = at_some slots p a (at-get_or None slots p ∙ there) in
+      let others : by_number to next 0 (set slots p None) ≡ by_number from next 0 (set slots p None) =
+      by_number-alike next 0 (set slots p None)
+      (λ q b is.
+      elim (cases_eq q p) [
+        | inl same ↦ absurd (no_slot b (sym (get_or-set_same slots p None None within) ∙ ap (λ i. get_or (set slots p None) i None) (sym same) ∙ is))
+        | inr other ↦ agree q b other (sym (get_or-set_other slots p q None None other) ∙ is)
+      ]) in
+      let emptied_to : by_number to next 0 (set slots p None) ≡ put None (by_number to next 0 slots) a.0 None = by_number-set to next 0 p slots a None num there (λ b e. absurd (no_slot b e)) in
+      let emptied_from : by_number from next 0 (set slots p None) ≡ put None (by_number from next 0 slots) a.0 None = by_number-set from next 0 p slots a None num there (λ b e. absurd (no_slot b e)) in
+      let g = num.given p a there in
+      sym (put-at None (by_number to next 0 slots) a.0 (omega (arith, length-by_number to next 0 slots num, g.1)))
+      ∙ ap (put None (by_number to next 0 slots) a.0) (at-by_number to next 0 p slots a num there)
+      ∙ sym (put-put None (by_number to next 0 slots) a.0 None (Some (now a.1)))
+      ∙ ap (λ xs. put None xs a.0 (Some (now a.1))) (sym emptied_to ∙ others ∙ emptied_from)
+      ∙ put-put None (by_number from next 0 slots) a.0 None (Some (now a.1))

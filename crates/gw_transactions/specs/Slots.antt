@@ -1,8 +1,9 @@
 -- The tables by number that the slots of a slab make: each slot that is taken has a number and a value.
-use Rattle.std.specs.Prelude.{◌≡◌, ℕ, suc, ◌-◌, ◌^◌, ◌<◌, ◌≤◌, List, [], ◌∷◌, replicate, Option, Some, None, slice_index_or}
-use Rattle.slab.specs.Slab.{Slab, slab_len}
+use Rattle.std.specs.Prelude.{◌≡◌, ℕ, suc, ◌-◌, ◌^◌, ◌<◌, ◌≤◌, ◌==◌, min, List, [], ◌∷◌, replicate, Option, Some, None, slice_index_or, unwrap_or, if◌then◌else◌}
+use Rattle.slab.specs.Slab.{Slab, slab_len, get, ContainsKey}
 use Rattle.gw_transactions.specs.declared.Kept.{Kept}
 use Rattle.gw_num.specs.Table.{at, put}
+use Rattle.gw_transactions.specs.Parameters.{Numbered, none_of}
 use Rattle.gw_transactions.specs.Transactions.{Population, LiveTransaction, ListedTransaction, listed_as, here_count}
 
 module _ {X Y : Type 0} (entry : ℕ → X → Y) (next : ℕ) where
@@ -13,21 +14,33 @@ module _ {X Y : Type 0} (entry : ℕ → X → Y) (next : ℕ) where
   by_number place (None ∷ slots) = by_number (suc place) slots
   by_number place (Some slot ∷ slots) = put None (by_number (suc place) slots) slot.0 (Some (entry place slot.1))
 
--- a transaction that is kept
-abbrev pub live_as : Kept → LiveTransaction
-live_as kept = record { attributes = kept.attributes; parameters = kept.parameters.values; chain = kept.chain }
+-- the parameters under a key; none where nothing is kept there
+abbrev pub row_at : Slab Numbered → ℕ → Numbered
+row_at beside key = unwrap_or (get beside key) (none_of 0)
+
+-- a transaction that is kept, with its parameters, which lie beside it
+abbrev pub live_as : Slab Numbered → Kept → LiveTransaction
+live_as beside kept = record { attributes = kept.attributes; parameters = (row_at beside kept.key).values; chain = kept.chain }
 
 -- what an entry of a slab lists of the transaction that it keeps
-abbrev pub listed_in : ℕ × (ℕ × Kept) → ListedTransaction
-listed_in entry = listed_as (live_as entry.1.1)
+abbrev pub listed_in : Slab Numbered → ℕ × (ℕ × Kept) → ListedTransaction
+listed_in beside entry = listed_as (live_as beside entry.1.1)
 
--- what the slots, the next number and the greatest number of a parameter show
-abbrev pub population_of : Slab (ℕ × Kept) → ℕ → ℕ → Population
-population_of s next last =
+-- how many more fit into a slab with no allocation
+abbrev pub space_in : {X : Type 0} → Slab X → ℕ
+space_in s = s.capacity - slab_len s
+
+-- how many more transactions fit: beside them too, where they have parameters
+abbrev pub room_for : Slab (ℕ × Kept) → Slab Numbered → ℕ → ℕ
+room_for s beside last = if last == 0 then space_in s else min (space_in s) (space_in beside)
+
+-- what the slots, what lies beside them, the next number and the greatest number of a parameter show
+abbrev pub population_of : Slab (ℕ × Kept) → Slab Numbered → ℕ → ℕ → Population
+population_of s beside next last =
     record {
-      txs = by_number (λ place kept. live_as kept) next 0 s.slots;
+      txs = by_number (λ place kept. live_as beside kept) next 0 s.slots;
       places = by_number (λ place kept. place) next 0 s.slots;
-      room = s.capacity - slab_len s;
+      room = room_for s beside last;
       last = last;
     }
 
@@ -41,6 +54,10 @@ pub record AreNumbered {X : Type 0} (slots : List (Option (ℕ × X))) (next : �
 abbrev pub AreCounted : List ℕ → List (Option LiveTransaction) → Type 0
 AreCounted counts txs = (block : ℕ) → at 0 counts block ≡ here_count block txs
 
--- each has parameters up to the same number
-abbrev pub AreAlike : ℕ → List (Option (ℕ × Kept)) → Type 0
-AreAlike last slots = (p : ℕ) (a : ℕ × Kept) → slice_index_or slots p None ≡ Some a → a.1.parameters.last ≡ last
+-- each has parameters up to the same number, under a key of its own if there are any; where there are none nothing is kept
+pub record HaveTheirOwn (last : ℕ) (beside : Slab Numbered) (slots : List (Option (ℕ × Kept))) : Type 0 where
+  pub room : slab_len beside ≤ beside.capacity
+  pub alike : (p : ℕ) (a : ℕ × Kept) → slice_index_or slots p None ≡ Some a → (row_at beside a.1.key).last ≡ last
+  pub there : (p : ℕ) (a : ℕ × Kept) → slice_index_or slots p None ≡ Some a → 0 < last → ContainsKey beside a.1.key
+  pub apart : (p q : ℕ) (a b : ℕ × Kept) → slice_index_or slots p None ≡ Some a → slice_index_or slots q None ≡ Some b → 0 < last → a.1.key ≡ b.1.key → p ≡ q
+  pub none : last ≡ 0 → (key : ℕ) → get beside key ≡ None

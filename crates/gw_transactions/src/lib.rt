@@ -6,10 +6,12 @@ ghost use Rattle.std.specs.Option.{IsSome};
 ghost use Rattle.gw_num.specs.Table.{at, put};
 ghost use Rattle.gw_transactions.specs.Parameters.{none_of};
 
+mod beside;
 mod block_counts;
 mod iter;
 mod parameters;
 
+use crate::beside::{forget, keep, reserve_beside, row, set};
 use crate::block_counts::BlockCounts;
 pub use crate::iter::Iter;
 pub use crate::parameters::Parameters;
@@ -34,14 +36,13 @@ pub struct Transaction {
     pub set: u64,
 }
 
-/// A transaction as it is kept: its parameters and its user chain lie beside the attributes, and parameters are copied for
-/// copies of it alone.
+/// A transaction as it is kept. Its parameters lie elsewhere, and are copied for copies of it alone.
 #[derive(Debug, Drop)]
 pub(crate) struct Kept {
     /// Its attributes.
     pub attributes: Transaction,
-    /// Its parameters.
-    pub parameters: Parameters,
+    /// The key of its parameters among those of all, if it has any.
+    pub key: usize,
     /// The entity, by its number from 0, that is the user chain of which it is a member.
     pub chain: Option<u16>,
 }
@@ -55,6 +56,8 @@ pub(crate) struct Kept {
 pub struct Transactions {
     // Each transaction with its number.
     slots: Slab<(u64, Kept)>,
+    // The parameters of each, if they have any.
+    beside: Slab<Parameters>,
     // How many were made so far.
     created: u64,
     // How many have the block of each number as their current one.
@@ -73,13 +76,13 @@ impl Model for Transactions {
     ghost use Rattle.std.specs.Prelude.{◌≡◌, ◌+◌, ◌≤◌};
     ghost use Rattle.slab.specs.Slab.{slab_len};
     ghost use Rattle.gw_transactions.specs.Parameters.{none_of};
-    ghost use Rattle.gw_transactions.specs.Slots.{population_of, AreNumbered, AreCounted, AreAlike};
+    ghost use Rattle.gw_transactions.specs.Slots.{population_of, AreNumbered, AreCounted, HaveTheirOwn};
 
-    ghost view = { λ t. population_of t.slots (t.created + 1) t.unset.last };
+    ghost view = { λ t. population_of t.slots t.beside (t.created + 1) t.unset.last };
 
     ghost invariant = { λ t. AreNumbered t.slots.slots (t.created + 1) × (slab_len t.slots ≤ t.slots.capacity)
-        × AreCounted t.here (population_of t.slots (t.created + 1) t.unset.last).txs
-        × AreAlike t.unset.last t.slots.slots × (t.unset ≡ none_of t.unset.last) };
+        × AreCounted t.here (population_of t.slots t.beside (t.created + 1) t.unset.last).txs
+        × HaveTheirOwn t.unset.last t.beside t.slots.slots × (t.unset ≡ none_of t.unset.last) };
 }
 
 impl Transactions {
@@ -100,6 +103,7 @@ impl Transactions {
         let unset = Parameters::unset(alloc, last)?;
         Ok(Transactions {
             slots: Slab::new(alloc),
+            beside: Slab::new(alloc),
             created: 0,
             here,
             unset,
@@ -110,6 +114,7 @@ impl Transactions {
     /// Makes room for so many more transactions, so that `insert` needs no memory.
     ///
     /// It fails for want of memory, only where there was not that much room, and then leaves the transactions as they were.
+    #[inline(always)]
     pub fn reserve(&mut self, more: usize) -> Result<(), Memory>
         ensures txs { self.new.txs ≡ self.old.txs }
         ensures places { self.new.places ≡ self.old.places }
@@ -122,7 +127,8 @@ impl Transactions {
         ensures handles { KeepsHandles self.old self.new }
         ensures sound { IsSound self.new }
     {
-        self.slots.reserve(more)
+        self.slots.reserve(more)?;
+        reserve_beside(&mut self.beside, &self.unset, more)
     }
 
     /// The number of the next transaction, from 1: how many were made so far, and one.
@@ -148,6 +154,8 @@ impl Transactions {
     {
         Iter {
             slots: self.slots.iter(),
+            beside: &self.beside,
+            unset: &self.unset,
         }
     }
 
@@ -190,7 +198,7 @@ impl Transactions {
         requires { Holds self.now tx }
         ensures { IfOk result (λ all. all.items ≡ replicate copies (kept_of tx.number self.now)) }
     {
-        let parameters = &self.slots[tx.place].1.parameters;
+        let parameters = self.parameters(tx);
         let mut all = Vec::with_capacity(self.alloc, copies as usize)?;
         for _ in 0..copies {
             all.push_reserved(parameters.copy(self.alloc)?);
@@ -200,6 +208,7 @@ impl Transactions {
 
     /// Puts a transaction with these parameters under the next number, in room that `reserve` made; it is a member of no user
     /// chain. Its current block has a number from 0 to 4,096.
+    #[inline(always)]
     pub fn insert_with(&mut self, transaction: Transaction, parameters: Parameters) -> Tx
         requires room { 0 < self.old.room }
         requires block { transaction.current ≤ 4096 }
@@ -221,9 +230,10 @@ impl Transactions {
     {
         self.created += 1;
         let number = self.created;
+        let key = keep(&mut self.beside, parameters);
         let kept = Kept {
             attributes: transaction,
-            parameters,
+            key,
             chain: None,
         };
         let place = self.slots.insert_reserved((number, kept));
@@ -297,7 +307,7 @@ impl Transactions {
         requires { Holds self.now tx }
         ensures { result.now ≡ kept_of tx.number self.now }
     {
-        &self.slots[tx.place].1.parameters
+        row(&self.beside, &self.unset, self.slots[tx.place].1.key)
     }
 
     /// Sets a parameter of the transaction of a handle.
@@ -308,7 +318,8 @@ impl Transactions {
         ensures rest { KeepsRest self.old self.new }
         ensures handles { KeepsHandles self.old self.new }
     {
-        self.slots[tx.place].1.parameters.set(number, value);
+        let key = self.slots[tx.place].1.key;
+        set(&mut self.beside, key, number, value);
     }
 
     /// Takes the transaction of a handle out, and answers its attributes. Its number is not given out again.
@@ -326,8 +337,9 @@ impl Transactions {
         ensures handles { KeepsOtherHandles tx.number self.old self.new }
         ensures sound { IsSound self.new }
     {
-        let removed = self.slots.remove(tx.place).1.attributes;
-        self.here.take(removed.current);
-        removed
+        let removed = self.slots.remove(tx.place).1;
+        forget(&mut self.beside, removed.key);
+        self.here.take(removed.attributes.current);
+        removed.attributes
     }
 }

@@ -1,6 +1,6 @@
 //! The parameters of a transaction.
 
-ghost use Rattle.std.specs.Prelude.{◌≡◌, ◌≤◌, ℕ, pos, Some, None, IfOk, unwrap_or};
+ghost use Rattle.std.specs.Prelude.{◌≡◌, ◌≤◌, ◌==◌, ℕ, pos, Some, None, IfOk, unwrap_or};
 ghost use Rattle.std.specs.Option.{IsSome};
 ghost use Rattle.gw_num.specs.Table.{at, put};
 ghost use Rattle.gw_transactions.specs.Parameters.{none_of};
@@ -45,12 +45,26 @@ impl Parameters {
         Ok(Parameters { slots, mask: 0 })
     }
 
+    /// Whether there is no parameter.
+    pub(crate) fn is_empty(&self) -> bool
+        ensures value { result ≡ (self.now.last == 0) }
+        ensures none { self.now.last ≡ 0 → self.now ≡ none_of 0 }
+    {
+        self.slots.is_empty()
+    }
+
     /// The parameters once more.
     ///
     /// It fails for want of memory.
     pub(crate) fn copy(&self, alloc: Global) -> Result<Parameters, Memory>
         ensures { IfOk result (λ copy. copy ≡ self.now) }
     {
+        if self.slots.is_empty() {
+            return Ok(Parameters {
+                slots: Vec::new(alloc),
+                mask: 0,
+            });
+        }
         let slots = Vec::from_slice(alloc, self.slots.as_slice())?;
         Ok(Parameters {
             slots,

@@ -1,21 +1,9 @@
-use Rattle.std.proofs.Common.{◌≡◌, ◌∙◌, sym, ap, replicate, arith}
-use Rattle.std.specs.Option.{option_map_or}
-use Rattle.std.proofs.lemmas.Grind.{common_steps}
-use Rattle.gw_transactions.specs.Parameters.{no_parameters}
-use Rattle.gw_transactions.specs.Transactions.{LiveTransaction, Population}
-use Rattle.gw_transactions.proofs.Populations.{held, value_of}
+use Rattle.std.proofs.Common.{◌≡◌, ◌∙◌, ap, replicate, arith}
 use Rattle.gw_transactions.proofs.Transactions.parameters_for.Goals as goal
-
-pub index-requires : goal.index-requires
-index-requires c = let slot = held c.self.inside c.self.invariant.0 _ c.self.view_is c.args.tx c.requires in grind (arith, common_steps, slot.1)
 
 pub returns : goal.returns
 returns c =
     let all : c.loop.counter ≡ c.args.copies = omega arith in
     c.loop.invariant.items
-    ∙ ap (λ n. replicate n c.index.result.now.1.parameters) all
-    ∙ ap (replicate c.args.copies)
-    (ap (λ last. record { values = c.index.result.now.1.parameters.values; last = last })
-    (c.self.invariant.3 c.args.tx.place c.index.result.now c.index.ensures ∙ ap (λ (p : Population). p.last) c.self.view_is)
-    ∙ ap (λ values. record { values = values; last = c.args.self.now.last })
-    (sym (ap (λ t. option_map_or (λ (t : LiveTransaction). t.parameters) t no_parameters) (value_of c.self.inside c.self.invariant.0 _ c.self.view_is c.args.tx c.requires _ c.index.ensures))))
+    ∙ ap (λ n. replicate n c.parameters-parameters.result.now) all
+    ∙ ap (replicate c.args.copies) c.parameters-parameters.ensures

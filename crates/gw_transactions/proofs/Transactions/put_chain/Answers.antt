@@ -13,12 +13,12 @@ index_mut-requires c = let slot = held c.self.inside c.self.invariant.0 _ c.self
 
 -- what is kept of the transaction now
 abbrev kept : (c : goal.After-self-1) → Kept
-kept c = record { attributes = c.index_mut.result.now.1.attributes; parameters = c.index_mut.result.now.1.parameters; chain = c.args.chain }
+kept c = record { attributes = c.index_mut.result.now.1.attributes; key = c.index_mut.result.now.1.key; chain = c.args.chain }
 
 pub invariant_of-self : goal.invariant_of-self
 invariant_of-self c =
     let there = value_of c.self.inside c.self.invariant.0 _ c.self.view_is c.args.tx c.requires _ c.index_mut.ensures.value in
-    let counted = counted-kept c.self.inside.here _ (counted_of c.self.inside c.self.invariant.0 _ c.self.view_is c.self.invariant.2) c.args.tx.number (live_as c.index_mut.result.now.1) (live_as (kept c)) there refl in
+    let counted = counted-kept c.self.inside.here _ (counted_of c.self.inside c.self.invariant.0 _ c.self.view_is c.self.invariant.2) c.args.tx.number (live_as c.self.inside.beside c.index_mut.result.now.1) (live_as c.self.inside.beside (kept c)) there refl in
     let fields = written-fields c.self.inside c.self.invariant.0 _ c.self.view_is c.args.tx c.requires c.index_mut.result.now c.index_mut.ensures.value (kept c) c.self.inside.here c.self.invariant.1 counted c.self.invariant.3 refl in
     (fields.0, fields.1, fields.2, fields.3, c.self.invariant.4)
 
