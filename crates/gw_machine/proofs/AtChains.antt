@@ -139,7 +139,7 @@ first-of : (P : Tx → Type 0) (xs : List Tx) (tx : Tx) → first xs ≡ Some tx
 first-of P [] tx is h = absurd cc
 first-of P (x ∷ xs) tx is h = let same : x ≡ tx = cc in subst P same h.0
 
-begins-with : (xs : List Tx) (tx : Tx) → first xs ≡ Some tx → map handle_number xs ≡ tx.number ∷ map handle_number (rest xs)
+pub begins-with : (xs : List Tx) (tx : Tx) → first xs ≡ Some tx → map handle_number xs ≡ tx.number ∷ map handle_number (rest xs)
 begins-with [] tx is = absurd cc
 begins-with (x ∷ xs) tx is = let same : x ≡ tx = cc in ap (λ (y : Tx). y.number ∷ map handle_number xs) same
 

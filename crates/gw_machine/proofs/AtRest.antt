@@ -13,13 +13,13 @@ use Rattle.gw_assemblies.specs.declared.assemblies.Assembly.{Assembly as HeldAss
 use Rattle.gw_chains.specs.Waiting.{Waiting}
 use Rattle.gw_machine.specs.Configuration.{Configuration}
 use Rattle.gw_step.specs.declared.placement.Assembling.{Assembling}
-use Rattle.gw_step.specs.State.{State, Assembly, FutureEvent, priority_of, without}
+use Rattle.gw_step.specs.State.{State, Assembly, FutureEvent, priority_of, without, delay_list}
 use Rattle.gw_step.specs.Residence.{ResidesOnce, occurrences, occurrences_in}
 use Rattle.gw_step.specs.Changes.{awaits_set, numbers}
 use Rattle.gw_machine.specs.View.{state_of, lists_of, event_of, member_number, assembly_of}
 use Rattle.gw_machine.specs.Coherence.{Linked, IsRanked, IsHeldBy, CanRest}
 use Rattle.gw_step.proofs.Lists.{all_placed, all_map, map-placed}
-use Rattle.gw_step.proofs.Residence.{one_if, at_most_one, same_number, other_number, occurrences-without, resides-awaits}
+use Rattle.gw_step.proofs.Residence.{one_if, at_most_one, same_number, other_number, occurrences-without, resides-awaits, occurrences-one}
 use Rattle.gw_transactions.specs.Transactions.{Holds}
 use Rattle.gw_machine.proofs.Handles.{all_appended}
 use Rattle.gw_machine.proofs.Changes.{timed-kept}
@@ -159,3 +159,7 @@ pub few-events : (m : Configuration) → Linked m → length m.future_events.ite
 few-events m l =
     let events = length-map (map event_of m.future_events.items) (λ (e : FutureEvent). e.number) ∙ length-map m.future_events.items event_of in
     omega (arith, few-in m l (numbers (lists_of m).future_events) (λ n. omega arith), events)
+
+-- and those on one delay list
+pub few-waits : (m : Configuration) → Linked m → (e : ℕ) → length (delay_list e (state_of m)) ≤ 2 ^ 62
+few-waits m l e = few-in m l (delay_list e (state_of m)) (λ n. omega (arith, occurrences-one n (lists_of m).delay_lists e))

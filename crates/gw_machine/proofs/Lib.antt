@@ -17,3 +17,6 @@ pub mod AtCopies
 pub mod AtChains
 pub mod Activating
 pub mod Turning
+pub mod Wanting
+pub mod Knowing
+pub mod Lessening

@@ -1,7 +1,7 @@
 -- What turns make of a machine.
 use Rattle.std.proofs.Common.{◌≡◌, ℕ, ◌≤◌, List, Option, Some, None, sym, ap, ◌∙◌, subst}
 use Rattle.std.specs.Prelude.{option_map}
-use Rattle.gw_num.specs.Table.{at, put}
+use Rattle.gw_num.specs.Table.{put}
 use Rattle.gw_num.proofs.Tables.{put-put, put-at}
 use Rattle.gw_members.specs.declared.tx.Tx.{Tx}
 use Rattle.gw_transactions.specs.declared.Transaction.{Transaction}

@@ -2,6 +2,8 @@
 pub mod Configuration
 pub mod View
 pub mod Coherence
+pub mod Known
+pub mod Wants
 pub mod Shown
 pub mod Slots
 -- WHAT ITS CALLS ANSWER

@@ -1,6 +1,8 @@
 -- What is shown of a machine's fields, and what holds of them.
 use Rattle.gw_machine.specs.Configuration.{Configuration}
 use Rattle.gw_machine.specs.Coherence.{Linked}
+use Rattle.gw_machine.specs.View.{state_of}
+use Rattle.gw_machine.specs.Wants.{AreKnown}
 use Rattle.gw_machine.specs.declared.machine.Machine.TheInside.{Inside}
 
 -- a machine's parts
@@ -30,6 +32,6 @@ shown m = record {
   ended = m.ended;
 }
 
--- each handle leads to its transaction, each live transaction resides exactly once, and the time is one
+-- each handle leads to its transaction, each live transaction resides exactly once, and the time is one; and what is known of who waits is so
 abbrev pub IsLinked : Inside → Type 0
-IsLinked m = Linked (shown m)
+IsLinked m = Linked (shown m) × AreKnown m.wants (state_of (shown m))

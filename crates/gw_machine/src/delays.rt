@@ -8,7 +8,7 @@ ghost use Rattle.gw_machine.specs.View.{state_of};
 ghost use Rattle.gw_machine.specs.Leaving.{waiter_at, waiter_come_to, LosesWaiter};
 ghost use Rattle.gw_machine.specs.Frames.{OnlyWaitersMove};
 
-use crate::machine::Machine;
+use crate::machine::{Machine, entry_or_none};
 use gw_members::{Memory, Tx};
 
 impl Machine {
@@ -41,6 +41,9 @@ impl Machine {
         ensures room { self.old.current_events.room ≤ self.new.current_events.room + 1 }
         ensures frame { OnlyWaitersMove self.old self.new }
     {
+        let block = self.transactions.get(tx).next;
+        let entries = entry_or_none(&self.entries, block as usize);
+        self.wants.drop_leaver(entity, block, entries);
         self.waits.remove(entity, place);
         self.current_events.insert_behind(tx, priority);
     }
@@ -58,6 +61,9 @@ impl Machine {
         ensures room { self.old.current_events.room ≤ self.new.current_events.room + 1 }
         ensures frame { OnlyWaitersMove self.old self.new }
     {
+        let block = self.transactions.get(tx).next;
+        let entries = entry_or_none(&self.entries, block as usize);
+        self.wants.drop_leaver(entity, block, entries);
         self.waits.take(entity);
         self.current_events.insert_behind(tx, priority);
     }

@@ -7,6 +7,7 @@ mod copies;
 mod delays;
 mod ends;
 mod entities;
+mod least;
 mod linking;
 mod machine;
 mod reading;
@@ -16,6 +17,7 @@ mod start;
 mod times;
 mod transfers;
 mod values;
+mod wants;
 
 pub use ends::{end_by, end_by_fault};
 pub use machine::{Machine, Made};

@@ -16,6 +16,7 @@ ghost use Rattle.gw_transactions.specs.Parameters.{none_of};
 ghost use Rattle.gw_machine.specs.Coherence.{Carries, Every, HasSlot};
 ghost use Rattle.gw_machine.specs.Frames.{OnlyArrivalFits, OnlyArrivalComes, OnlyEntryIsMade};
 
+use crate::wants::Wants;
 use gw_assemblies::Assemblies;
 use gw_chains::{Cec, Fec, Waits};
 use gw_entities::{Facilities, Queues, Savevalues, Storages, Switches, Tables};
@@ -88,6 +89,8 @@ pub struct Machine {
     pub(crate) entries: Vec<u64>,
     /// The named end, if one stands.
     pub(crate) ended: Option<End>,
+    /// Which blocks those who wait for a storage want to enter, as far as it is known.
+    pub(crate) wants: Wants,
 }
 
 impl Model for Machine {
@@ -103,7 +106,7 @@ impl Model for Machine {
 }
 
 /// One more at a place.
-fn raise(counts: &mut Vec<u64>, place: usize)
+pub(crate) fn raise(counts: &mut Vec<u64>, place: usize)
     requires there { place < vec_len counts.old }
     requires few { sum counts.old.items < 2 ^ 60 }
     ensures { counts.new.items ≡ raised place counts.old.items }
@@ -119,7 +122,7 @@ fn end_of(count: i64) -> Option<End>
 }
 
 /// The count at a place, or 0 where there is none.
-fn entry_or_none(counts: &[u64], place: usize) -> u64
+pub(crate) fn entry_or_none(counts: &[u64], place: usize) -> u64
     ensures { result ≡ at 0 counts.now place }
 {
     counts.get(place).copied().unwrap_or(0)
@@ -143,6 +146,7 @@ impl Machine {
         ensures rank { priority_of self.new.transactions.txs tx.number ≡ transaction.priority }
         ensures frame { OnlyEntryIsMade self.old self.new }
     {
+        self.wants.forget_unless_active(self.active, tx);
         self.stir = true;
         raise(&mut self.entries, transaction.next as usize);
         let mut entered = transaction;
@@ -218,6 +222,7 @@ impl Machine {
         ensures held { Holds self.new.transactions tx }
         ensures frame { self.new ≡ record self.old { transactions = self.new.transactions } }
     {
+        self.wants.forget_unless_active(self.active, tx);
         let mut turned = transaction;
         turned.next = next;
         self.transactions.set(tx, turned);

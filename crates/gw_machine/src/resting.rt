@@ -138,6 +138,8 @@ impl Machine {
         ensures { BecomesBy (model.waits_for entity tx.number) self.old self.new }
     {
         self.active = None;
+        let block = self.transactions.get(tx).next;
+        self.wants.add_newcomer(entity, block, &self.entries);
         self.waits.push_wait(entity, tx, priority);
     }
 

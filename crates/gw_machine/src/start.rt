@@ -16,6 +16,7 @@ ghost use Rattle.gw_machine.specs.Slots.{greatest_set};
 
 use crate::machine::Machine;
 use crate::slots::greatest_set;
+use crate::wants::Wants;
 use gw_assemblies::Assemblies;
 use gw_blocks::{Block, Generate};
 use gw_chains::{Cec, Fec, Waits};
@@ -108,6 +109,7 @@ impl Machine {
             tables: tables.tables,
             entries,
             ended,
+            wants: Wants::new(alloc),
         })
     }
 

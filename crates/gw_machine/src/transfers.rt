@@ -9,16 +9,17 @@ ghost use Rattle.gw_transactions.specs.Transactions.{Holds, attributes_at};
 ghost use Rattle.gw_rules.specs.Kinds.{block_at};
 ghost use Rattle.gw_step.specs.State.{delay_list};
 ghost use Rattle.gw_step.specs.Changes as change;
-ghost use Rattle.gw_step.specs.Changes.{facility, storage};
+ghost use Rattle.gw_step.specs.Changes.{enters_and_falls, facility, storage};
+ghost use Rattle.gw_step.specs.Residence.{occurrences};
 ghost use Rattle.gw_machine.specs.Leaving.{BecomesBy, Moves, waiter_at, waiter_come_to};
 ghost use Rattle.gw_machine.specs.Admission.{AsksInVain, AdmitsNobody};
 ghost use Rattle.gw_step.specs.Blocks as model;
-ghost use Rattle.gw_machine.specs.View.{state_of};
+ghost use Rattle.gw_machine.specs.View.{lists_of, state_of};
 ghost use Rattle.gw_machine.specs.Coherence.{IsSteady};
 ghost use Rattle.gw_machine.specs.Entities.{HasStorage, CanCountEntries, CanCountOwner, handed_over_to};
-ghost use Rattle.gw_machine.specs.Frames.{KeepsFacilities};
+ghost use Rattle.gw_machine.specs.Frames.{KeepsFacilities, OnlyEntryIsMade};
 
-use crate::machine::Machine;
+use crate::machine::{Machine, entry_or_none, raise};
 use gw_blocks::{Block, Units};
 use gw_members::Tx;
 use gw_transactions::Transaction;
@@ -44,7 +45,7 @@ fn is_seize(f: u16, block: Option<&Block>) -> bool
 }
 
 /// The units of a storage that a block asks for, if it is its ENTER.
-fn asked(e: u16, block: Option<&Block>) -> Option<Units>
+pub(crate) fn asked(e: u16, block: Option<&Block>) -> Option<Units>
     ensures { result ≡ model.asked e (option_copied block.entry) }
 {
     match block {
@@ -103,7 +104,7 @@ impl Machine {
     }
 
     /// Whether units of a storage are free.
-    fn has_free(&self, u: Units) -> bool
+    pub(crate) fn has_free(&self, u: Units) -> bool
         requires there { u.entity < length self.now.storages.values }
         requires few { CanCountEntries u self.now }
         ensures { result ≡ has_room u.number (storage u.entity (state_of self.now)) }
@@ -150,7 +151,7 @@ impl Machine {
 
     /// Whether the units of anybody who waits for a storage are free. Of those who wait at one block and stand behind one
     /// another it looks at the block once.
-    fn can_admit(&self, blocks: &[Block], e: u16) -> bool
+    pub(crate) fn can_admit(&self, blocks: &[Block], e: u16) -> bool
         requires steady { IsSteady blocks.now (self.now.steps + 1) self.now }
         requires there { e < length self.now.facilities.values }
         ensures { result ≡ false → AdmitsNobody blocks.now e (state_of self.now) }
@@ -177,7 +178,7 @@ impl Machine {
         ensures { BecomesBy (λ s. model.admission blocks.now e (delay_list e s) s)
             self.old self.new }
     {
-        if !self.can_admit(blocks, e) {
+        if !self.may_admit(blocks, e) {
             return;
         }
         self.start_walk(e);
@@ -227,7 +228,27 @@ impl Machine {
         }
         self.take(units);
         self.call_current(units.entity, tx, transaction.priority);
-        self.enter_as_found(tx, transaction, transaction.next + 1);
+        self.enter_admitted(units.entity, tx, transaction);
         true
+    }
+
+    /// The transaction, which was called from the delay list of an entity and is on the current events chain, enters its next
+    /// block, and falls to the block after.
+    fn enter_admitted(&mut self, e: u16, tx: Tx, transaction: Transaction)
+        requires held { Holds self.old.transactions tx }
+        requires found { attributes_at tx.number self.old.transactions.txs ≡ Some transaction }
+        requires block { (transaction.next < length self.old.entries) × (transaction.next ≤ 4096) }
+        requires few { sum self.old.entries < 2 ^ 60 }
+        requires called { 1 ≤ occurrences tx.number (lists_of self.old).current_events }
+        ensures state { state_of self.new
+            ≡ enters_and_falls tx.number transaction (state_of self.old) }
+        ensures frame { OnlyEntryIsMade self.old self.new }
+    {
+        let entries = entry_or_none(&self.entries, transaction.next as usize);
+        self.wants.tell_entry(e, transaction.next, entries);
+        self.stir = true;
+        raise(&mut self.entries, transaction.next as usize);
+        self.transactions
+            .step_to(tx, transaction.next, transaction.next + 1);
     }
 }

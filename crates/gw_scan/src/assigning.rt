@@ -40,6 +40,7 @@ impl Visit<'_> {
     // PARAMETERS
 
     /// A parameter of the transaction is set, and it enters its next block; the one after is now `next`.
+    #[inline(always)]
     pub(crate) fn assign_and_enter(
         &self,
         machine: &mut Machine,

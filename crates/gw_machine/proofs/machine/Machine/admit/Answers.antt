@@ -1,4 +1,5 @@
 use Rattle.std.proofs.Common.{◌+◌, ◌∙◌, sym, ap, subst, List, [], length, true, false, arith}
+use Rattle.gw_machine.specs.View.{state_of}
 use Rattle.gw_num.specs.Table.{at}
 use Rattle.gw_members.specs.declared.tx.Member.{Member}
 use Rattle.gw_step.specs.State.{delay_list}
@@ -14,15 +15,19 @@ loop-tx-init c =
     let begun = c.start_walk.new.self in
     let starts = c.start_walk.ensures in
     let bs = c.args.blocks.now in
-    let same = ap (λ (xs : List (List Member)). length (at [] xs c.args.e)) starts.lists in
+    let asked = c.may_admit.ensures.frame in
+    let state = starts.state ∙ ap state_of asked in
+    let facilities = ap (λ (x : Configuration). x.facilities) starts.frame ∙ ap (λ (x : Configuration). x.facilities) asked in
+    let same = ap (λ (xs : List (List Member)). length (at [] xs c.args.e)) starts.lists ∙ ap (λ (x : Configuration). length (at [] x.waits.lists c.args.e)) asked in
+    let room = ap (λ (x : Configuration). x.current_events.room) starts.frame ∙ ap (λ (x : Configuration). x.current_events.room) asked in
     record {
-      walk = ap (λ i. rest_of_walk bs c.args.e i begun) starts.place ∙ walk-first bs c.args.e begun ∙ ap (λ s. admission bs c.args.e (delay_list c.args.e s) s) starts.state;
-      steady = steady-same bs (c.args.self.now.steps + 1) c.args.self.now begun c.requires.steady starts.state (ap (λ (x : Configuration). x.facilities) starts.frame);
-      steps = ap (λ (x : Configuration). x.steps) starts.frame;
-      slots = ap (λ (x : Configuration). x.last) starts.frame;
-      there = rw (ap (λ (x : Configuration). x.facilities) starts.frame) c.requires.there;
+      walk = ap (λ i. rest_of_walk bs c.args.e i begun) starts.place ∙ walk-first bs c.args.e begun ∙ ap (λ s. admission bs c.args.e (delay_list c.args.e s) s) state;
+      steady = steady-same bs (c.args.self.now.steps + 1) c.args.self.now begun c.requires.steady state facilities;
+      steps = ap (λ (x : Configuration). x.steps) starts.frame ∙ ap (λ (x : Configuration). x.steps) asked;
+      slots = ap (λ (x : Configuration). x.last) starts.frame ∙ ap (λ (x : Configuration). x.last) asked;
+      there = rw facilities c.requires.there;
       place = omega (arith, starts.place);
-      room = omega (arith, same, starts.place, ap (λ (x : Configuration). x.current_events.room) starts.frame, c.requires.room);
+      room = omega (arith, same, starts.place, room, c.requires.room);
     }
 
 pub admit_one-requires-clause-room : goal.admit_one-requires-clause-room

@@ -19,14 +19,14 @@ pub get-transaction-requires : goal.get-transaction-requires
 get-transaction-requires c =
     let m = shown c.self.inside in
     let e = c.args.e in
-    ranked-at m.transactions c.args.tx (at [] m.waits.lists e) (at 0 m.waits.places e) (c.self.invariant.delay_lists e (rw (← c.self.view_is) at c.requires.there)) (rw (← c.self.view_is) at c.requires.waiter)
+    ranked-at m.transactions c.args.tx (at [] m.waits.lists e) (at 0 m.waits.places e) (c.self.invariant.0.delay_lists e (rw (← c.self.view_is) at c.requires.there)) (rw (← c.self.view_is) at c.requires.waiter)
 
 pub enter_if_free-requires-clause-held : goal.enter_if_free-requires-clause-held
 enter_if_free-requires-clause-held c =
     let m = shown c.self.inside in
     let e = c.args.e in
     subst (λ (m : Configuration). Holds m.transactions c.args.tx) c.self.view_is
-    (ranked-at m.transactions c.args.tx (at [] m.waits.lists e) (at 0 m.waits.places e) (c.self.invariant.delay_lists e (rw (← c.self.view_is) at c.requires.there)) (rw (← c.self.view_is) at c.requires.waiter))
+    (ranked-at m.transactions c.args.tx (at [] m.waits.lists e) (at 0 m.waits.places e) (c.self.invariant.0.delay_lists e (rw (← c.self.view_is) at c.requires.there)) (rw (← c.self.view_is) at c.requires.waiter))
 
 pub returns-in-Some-clause-steady : goal.returns-in-Some-clause-steady
 returns-in-Some-clause-steady c =

@@ -10,6 +10,8 @@ use Rattle.gw_machine.specs.View.{state_of, lists_of, event_of}
 use Rattle.gw_machine.proofs.Changes.{events-in_time, linked-arrived}
 use Rattle.gw_machine.proofs.Handles.{carries-insert}
 use Rattle.gw_machine.specs.Shown.{shown}
+use Rattle.gw_machine.proofs.Knowing.{known-apart, written-same, nowhere-apart}
+use Rattle.gw_num.proofs.Tables.{at_past}
 use Rattle.gw_machine.proofs.machine.Machine.arrive.Goals as goal
 
 scheduled : (c : goal.After-raise) → c.schedule.new.self.items ≡ in_time (λ (e : Event). e.time) (record { tx = c.insert_with-tx.result; time = c.args.time }) (shown c.self.inside).future_events.items
@@ -32,8 +34,12 @@ returns-clause-state c =
     ∙ ap (λ (ts : List (Option LiveTransaction)). after (raised c.args.block m.scheduled) ts events) (made c))
 
 pub returns-clause-carries : goal.returns-clause-carries
-returns-clause-carries c = rw (← c.self.view_is) (carries-insert (shown c.self.inside).transactions c.insert_with-tx.new.self _ c.insert_with-tx.result.place c.self.invariant.sound (omega arith) c.insert_with-tx.ensures.txs c.insert_with-tx.ensures.places c.insert_with-tx.ensures.last)
+returns-clause-carries c = rw (← c.self.view_is) (carries-insert (shown c.self.inside).transactions c.insert_with-tx.new.self _ c.insert_with-tx.result.place c.self.invariant.0.sound (omega arith) c.insert_with-tx.ensures.txs c.insert_with-tx.ensures.places c.insert_with-tx.ensures.last)
 
 pub invariant_of-self : goal.invariant_of-self
-invariant_of-self c =
-    linked-arrived (shown c.self.inside) _ c.insert_with-tx.result _ c.args.block c.args.priority c.args.time c.insert_with-tx.ensures.txs c.insert_with-tx.ensures.places c.insert_with-tx.ensures.last c.insert_with-tx.ensures.number c.insert_with-tx.ensures.sound refl refl (scheduled c) (record { waits = refl; assemblies = refl; chains = refl; facilities = refl; storages = refl; queues = refl; clock = refl }) (rw (← c.self.view_is) at (returns-clause-state c)) (omega arith) c.self.invariant
+invariant_of-self c = (
+  linked-arrived (shown c.self.inside) _ c.insert_with-tx.result _ c.args.block c.args.priority c.args.time c.insert_with-tx.ensures.txs c.insert_with-tx.ensures.places c.insert_with-tx.ensures.last c.insert_with-tx.ensures.number c.insert_with-tx.ensures.sound refl refl (scheduled c) (record { waits = refl; assemblies = refl; chains = refl; facilities = refl; storages = refl; queues = refl; clock = refl }) (rw (← c.self.view_is) at (returns-clause-state c)) (omega arith) c.self.invariant.0,
+  known-apart c.self.inside.wants (length (shown c.self.inside).transactions.txs) (state_of (shown c.self.inside)) _
+      (written-same (length (shown c.self.inside).transactions.txs) (shown c.self.inside).transactions.txs _ _ (made c)) refl refl
+      (nowhere-apart (length (shown c.self.inside).transactions.txs) (state_of (shown c.self.inside)) c.self.invariant.0.resides (at_past None (shown c.self.inside).transactions.txs _ (omega arith))) c.self.invariant.1,
+)

@@ -1,4 +1,6 @@
 use Rattle.std.proofs.Common.{◌≡◌, refl, rules}
+use Rattle.gw_machine.specs.View.{state_of}
+use Rattle.gw_machine.proofs.Knowing.{known-by}
 use Rattle.std.proofs.lemmas.Int.{to_z-of_z}
 use Rattle.gw_members.specs.Chain.{behind}
 use Rattle.gw_members.specs.declared.tx.Member.{Member}
@@ -8,10 +10,10 @@ use Rattle.gw_machine.specs.Shown.{shown}
 use Rattle.gw_machine.proofs.machine.Machine.assemble.Goals as goal
 
 pub finish-requires : goal.finish-requires
-finish-requires c = has_begun (shown c.self.inside) c.self.invariant c.args.assembly (rw (← c.self.view_is) at c.requires.there)
+finish-requires c = has_begun (shown c.self.inside) c.self.invariant.0 c.args.assembly (rw (← c.self.view_is) at c.requires.there)
 
 pub get-requires : goal.get-requires
-get-requires c = waiter-held (shown c.self.inside) c.self.invariant c.args.assembly (rw (← c.self.view_is) at c.requires.there) c.finish.result c.finish.ensures.value
+get-requires c = waiter-held (shown c.self.inside) c.self.invariant.0 c.args.assembly (rw (← c.self.view_is) at c.requires.there) c.finish.result c.finish.ensures.value
 
 joined : (c : goal.After-insert_behind) → c.insert_behind.new.self.items ≡ behind (λ (x : Member). x.priority) (record { tx = c.finish.result.first; priority = c.get.result.now.priority }) (shown c.self.inside).current_events.items
 joined c = search (rules, to_z-of_z)
@@ -22,11 +24,13 @@ rank c = priority-found (shown c.self.inside).transactions.txs c.finish.result.f
 pub returns-clause-state : goal.returns-clause-state
 returns-clause-state c =
     rw (← c.self.view_is) (
-      state-assembled (shown c.self.inside) c.self.invariant c.args.assembly (rw (← c.self.view_is) at c.requires.there) c.finish.result c.finish.ensures.value c.get.result.now.priority (rank c) c.insert_behind.new.self.items (joined c) c.finish.new.self.items c.finish.ensures.items,
+      state-assembled (shown c.self.inside) c.self.invariant.0 c.args.assembly (rw (← c.self.view_is) at c.requires.there) c.finish.result c.finish.ensures.value c.get.result.now.priority (rank c) c.insert_behind.new.self.items (joined c) c.finish.new.self.items c.finish.ensures.items,
       refl,
     )
 
 pub invariant_of-self : goal.invariant_of-self
-invariant_of-self c =
-    linked-assembled (shown c.self.inside) c.self.invariant c.args.assembly (rw (← c.self.view_is) at c.requires.there) c.finish.result c.finish.ensures.value c.get.result.now.priority (rank c) c.insert_behind.new.self.items (joined c) c.finish.new.self.items c.finish.ensures.items
-    _ refl refl refl refl refl refl refl refl refl refl refl ((rw (← c.self.view_is) at (returns-clause-state c)).0)
+invariant_of-self c = (
+  linked-assembled (shown c.self.inside) c.self.invariant.0 c.args.assembly (rw (← c.self.view_is) at c.requires.there) c.finish.result c.finish.ensures.value c.get.result.now.priority (rank c) c.insert_behind.new.self.items (joined c) c.finish.new.self.items c.finish.ensures.items
+      _ refl refl refl refl refl refl refl refl refl refl refl ((rw (← c.self.view_is) at (returns-clause-state c)).0),
+  known-by c.self.inside.wants (state_of (shown c.self.inside)) _ refl refl refl c.self.invariant.1,
+)

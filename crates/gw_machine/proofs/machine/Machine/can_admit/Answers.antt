@@ -19,7 +19,7 @@ loop-waiter-init c =
     let m = c.args.self.now in
     let all : c.into_iter-waiter-iterator.result ≡ at [] m.waits.lists c.args.e = rw (← c.self.view_is) (c.into_iter-waiter-iterator.ensures.into_iter_gives ∙ c.waiters-waiter-items.ensures) in
     record {
-      ranked = subst (AllByRecursion (IsRanked m.transactions)) (sym all) (rw (← c.self.view_is) (c.self.invariant.delay_lists c.args.e (rw (← c.self.view_is) at c.requires.there)));
+      ranked = subst (AllByRecursion (IsRanked m.transactions)) (sym all) (rw (← c.self.view_is) (c.self.invariant.0.delay_lists c.args.e (rw (← c.self.view_is) at c.requires.there)));
       rest = λ none. ap (λ ns. admission c.args.blocks.now c.args.e ns (state_of m)) (delay_list-at m c.args.e ∙ ap (map member_number) (sym all)) ∙ none;
       refused = λ u is. absurd cc;
     }

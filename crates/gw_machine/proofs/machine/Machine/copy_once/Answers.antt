@@ -1,4 +1,4 @@
-use Rattle.std.proofs.Common.{◌≡◌, refl, ap, ◌∙◌, rules, List, Option, ℕ, ℤ}
+use Rattle.std.proofs.Common.{◌≡◌, refl, ap, ◌∙◌, rules, List, Option, ℕ, ℤ, length, None, arith}
 use Rattle.gw_transactions.specs.Parameters.{Numbered}
 use Rattle.std.proofs.lemmas.Int.{to_z-of_z}
 use Rattle.gw_members.specs.Chain.{behind}
@@ -9,6 +9,8 @@ use Rattle.gw_step.specs.Changes.{with_copy}
 use Rattle.gw_machine.specs.View.{state_of}
 use Rattle.gw_machine.proofs.AtCopies.{state-copied, linked-copied, parameters-copied}
 use Rattle.gw_machine.specs.Shown.{shown}
+use Rattle.gw_machine.proofs.Knowing.{known-apart, written-same, nowhere-apart}
+use Rattle.gw_num.proofs.Tables.{at_past}
 use Rattle.gw_machine.proofs.machine.Machine.copy_once.Goals as goal
 
 abbrev numbered : List (Option ℤ) → ℕ → Numbered
@@ -27,17 +29,21 @@ pub returns-clause-state : goal.returns-clause-state
 returns-clause-state c =
     rw (← c.self.view_is) (
     let e = c.insert_with-made.ensures in
-    state-copied (shown c.self.inside) c.self.invariant c.args.tx.number c.args.transaction c.requires.block c.args.target c.insert_with-made.result c.insert_with-made.new.self (made c) e.places e.last e.number c.insert_behind.new.self.items (joined c))
+    state-copied (shown c.self.inside) c.self.invariant.0 c.args.tx.number c.args.transaction c.requires.block c.args.target c.insert_with-made.result c.insert_with-made.new.self (made c) e.places e.last e.number c.insert_behind.new.self.items (joined c))
 
 pub invariant_of-self : goal.invariant_of-self
 invariant_of-self c =
-    let e = c.insert_with-made.ensures in
-    linked-copied (shown c.self.inside) c.self.invariant c.args.tx.number c.args.transaction c.requires.block c.args.target c.insert_with-made.result c.insert_with-made.new.self (made c) e.places e.last e.number c.insert_behind.new.self.items (joined c)
-    _ refl e.sound refl refl refl (record { waits = refl; assemblies = refl; chains = refl; facilities = refl; storages = refl; queues = refl; clock = refl }) (rw (← c.self.view_is) at (returns-clause-state c))
+    let e = c.insert_with-made.ensures in (
+      linked-copied (shown c.self.inside) c.self.invariant.0 c.args.tx.number c.args.transaction c.requires.block c.args.target c.insert_with-made.result c.insert_with-made.new.self (made c) e.places e.last e.number c.insert_behind.new.self.items (joined c)
+          _ refl e.sound refl refl refl (record { waits = refl; assemblies = refl; chains = refl; facilities = refl; storages = refl; queues = refl; clock = refl }) (rw (← c.self.view_is) at (returns-clause-state c)),
+      known-apart c.self.inside.wants (length (shown c.self.inside).transactions.txs) (state_of (shown c.self.inside)) _
+          (written-same (length (shown c.self.inside).transactions.txs) (shown c.self.inside).transactions.txs _ _ (made c)) refl refl
+          (nowhere-apart (length (shown c.self.inside).transactions.txs) (state_of (shown c.self.inside)) c.self.invariant.0.resides (at_past None (shown c.self.inside).transactions.txs _ (omega arith))) c.self.invariant.1,
+    )
 
 pub returns-clause-same : goal.returns-clause-same
 returns-clause-same c =
     rw (← c.self.view_is) (
-    let u = transaction_of (shown c.self.inside).transactions c.self.invariant.sound c.args.tx (rw (← c.self.view_is) at c.requires.held) in
+    let u = transaction_of (shown c.self.inside).transactions c.self.invariant.0.sound c.args.tx (rw (← c.self.view_is) at c.requires.held) in
     let same = ap (parameters_of c.args.tx.number) (rw (← c.self.view_is) at (returns-clause-state c)) ∙ parameters-copied c.args.tx.number c.args.transaction c.args.target (state_of (shown c.self.inside)) u.0 u.1 in
     as_kept same c.insert_with-made.ensures.last)

@@ -23,5 +23,5 @@ returns c =
       chains = ap (λ (m : Configuration). m.chains) is;
       entries = c.deref.ensures.value ∙ ap (λ (m : Configuration). m.entries) is;
       here = λ b. c.here_by_block.ensures b ∙ ap (λ (m : Configuration). here_count b m.transactions.txs) is;
-    }) (rw c.self.view_is at c.self.invariant) c.requires in
+    }) (rw c.self.view_is at c.self.invariant.0) c.requires in
     record { same = lent.0; own = lent.1 }

@@ -3,4 +3,4 @@ use Rattle.gw_machine.proofs.AtRest.{few-events}
 use Rattle.gw_machine.proofs.machine.Machine.future_events.Goals as goal
 
 pub returns-clause-few : goal.returns-clause-few
-returns-clause-few c = few-events (shown c.self.inside) c.self.invariant
+returns-clause-few c = few-events (shown c.self.inside) c.self.invariant.0

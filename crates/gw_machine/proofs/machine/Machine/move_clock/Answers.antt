@@ -1,11 +1,12 @@
 use Rattle.std.proofs.Common.{◌≡◌, ◌-ℤ◌, pos, refl, ap, ◌∙◌, arith, rules}
+use Rattle.gw_machine.proofs.Knowing.{known-by}
 use Rattle.std.specs.Prelude.{unsigned_abs}
 use Rattle.std.proofs.lemmas.Int.{to_z-of_z, ints}
 use Rattle.gw_members.specs.Chain.{all_behind, due, later}
 use Rattle.gw_members.specs.declared.tx.Member.{Member}
 use Rattle.gw_members.specs.declared.tx.Event.{Event}
 use Rattle.gw_step.specs.Changes.{time_passes}
-use Rattle.gw_machine.specs.View.{entities_of}
+use Rattle.gw_machine.specs.View.{entities_of, state_of}
 use Rattle.gw_machine.specs.Coherence.{ranked}
 use Rattle.gw_entities.specs.declared.facilities.Facility.{Facility}
 use Rattle.gw_entities.specs.declared.storages.Storage.{Storage}
@@ -35,18 +36,20 @@ pub returns-clause-state : goal.returns-clause-state
 returns-clause-state c =
     rw (← c.self.view_is) (
     let fits = c.ranges.time in
-    simp to_z-of_z (state-moved (shown c.self.inside) c.args.time c.move_due.new.current_events.items c.move_due.new.future_events.items _ c.self.invariant (joined c) (left c) (entities c), refl))
+    simp to_z-of_z (state-moved (shown c.self.inside) c.args.time c.move_due.new.current_events.items c.move_due.new.future_events.items _ c.self.invariant.0 (joined c) (left c) (entities c), refl))
 
 pub invariant_of-self : goal.invariant_of-self
 invariant_of-self c =
     let fits = c.ranges.time in
-    let timed = c.self.invariant.timed in
-    let dt : pos c.abs_diff-passed.result ≡ c.args.time -ℤ (shown c.self.inside).clock = omega (arith, ints, time_is c, (rw (← c.self.view_is) at c.requires.later.1)) in
-    linked-moved (shown c.self.inside) c.args.time c.move_due.new.current_events.items c.move_due.new.future_events.items _ c.self.invariant (joined c) (left c) (entities c) _ refl refl refl refl refl refl refl
-    (count-passed (shown c.self.inside) c.abs_diff-passed.result c.pass_time.new.self c.pass_time.ensures)
-    (record {
-      facilities = simp to_z-of_z (omega (arith, ints, timed.facilities, ap (λ (f : ByNumber Facility). f.passed) c.pass_time.ensures, dt));
-      storages = simp to_z-of_z (omega (arith, ints, timed.storages, ap (λ (s : ByNumber Storage). s.passed) c.pass_time-2.ensures, dt));
-      queues = simp to_z-of_z (omega (arith, ints, timed.queues, ap (λ (q : ByNumber Contents). q.passed) c.pass_time-3.ensures, dt));
-    })
-    ((rw (← c.self.view_is) at (returns-clause-state c)).0)
+    let timed = c.self.invariant.0.timed in
+    let dt : pos c.abs_diff-passed.result ≡ c.args.time -ℤ (shown c.self.inside).clock = omega (arith, ints, time_is c, (rw (← c.self.view_is) at c.requires.later.1)) in (
+      linked-moved (shown c.self.inside) c.args.time c.move_due.new.current_events.items c.move_due.new.future_events.items _ c.self.invariant.0 (joined c) (left c) (entities c) _ refl refl refl refl refl refl refl
+          (count-passed (shown c.self.inside) c.abs_diff-passed.result c.pass_time.new.self c.pass_time.ensures)
+          (record {
+            facilities = simp to_z-of_z (omega (arith, ints, timed.facilities, ap (λ (f : ByNumber Facility). f.passed) c.pass_time.ensures, dt));
+            storages = simp to_z-of_z (omega (arith, ints, timed.storages, ap (λ (s : ByNumber Storage). s.passed) c.pass_time-2.ensures, dt));
+            queues = simp to_z-of_z (omega (arith, ints, timed.queues, ap (λ (q : ByNumber Contents). q.passed) c.pass_time-3.ensures, dt));
+          })
+          ((rw (← c.self.view_is) at (returns-clause-state c)).0),
+      known-by c.self.inside.wants (state_of (shown c.self.inside)) _ refl refl refl c.self.invariant.1,
+    )

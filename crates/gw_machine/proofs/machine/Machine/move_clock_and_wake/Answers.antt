@@ -6,4 +6,4 @@ use Rattle.gw_machine.proofs.machine.Machine.move_clock_and_wake.Goals as goal
 pub overflow_add-due : goal.overflow_add-due
 overflow_add-due c =
     let m = shown c.self.inside in
-    omega (arith, few-retry m c.self.invariant, few-events m c.self.invariant)
+    omega (arith, few-retry m c.self.invariant.0, few-events m c.self.invariant.0)

@@ -3,7 +3,7 @@ use Rattle.gw_machine.specs.Configuration.{Configuration}
 use Rattle.gw_machine.proofs.Beginning.{Begins, state-nothing, linked-nothing, readable-nothing}
 use Rattle.gw_machine.proofs.machine.Machine.nothing.Goals as goal
 
-abbrev made : goal.After-new-6 → Configuration
+abbrev made : goal.After-new-7 → Configuration
 made c = record {
   clock = pos 0;
   count = to_z w64 c.args.count;
@@ -29,7 +29,7 @@ made c = record {
   ended = c.args.ended;
 }
 
-begins : (c : goal.After-new-6) → Begins c.args.object.now c.args.count c.args.streams c.args.ended (made c)
+begins : (c : goal.After-new-7) → Begins c.args.object.now c.args.count c.args.streams c.args.ended (made c)
 begins c = record {
   clock = refl;
   count = search rules;
@@ -55,7 +55,10 @@ pub returns-clause-state : goal.returns-clause-state
 returns-clause-state c = state-nothing c.args.object.now c.args.count c.args.streams c.args.ended (made c) (begins c)
 
 pub invariant_of-result : goal.invariant_of-result
-invariant_of-result c = linked-nothing c.args.object.now c.args.count c.args.streams c.args.ended (made c) (begins c)
+invariant_of-result c = (
+  linked-nothing c.args.object.now c.args.count c.args.streams c.args.ended (made c) (begins c),
+  λ e. rw c.new-7.ensures tt,
+)
 
 pub returns-clause-readable : goal.returns-clause-readable
 returns-clause-readable c = readable-nothing c.args.object.now c.args.count c.args.streams c.args.ended (made c) (begins c)

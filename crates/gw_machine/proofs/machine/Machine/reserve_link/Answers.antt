@@ -1,4 +1,7 @@
 use Rattle.gw_machine.proofs.AtChains.{state-roomed, linked-roomed}
+use Rattle.std.proofs.Common.{refl}
+use Rattle.gw_machine.specs.View.{state_of}
+use Rattle.gw_machine.proofs.Knowing.{known-by}
 use Rattle.gw_machine.specs.Shown.{shown}
 use Rattle.gw_machine.proofs.machine.Machine.reserve_link.Goals as goal
 
@@ -6,4 +9,7 @@ pub returns-clause-state : goal.returns-clause-state
 returns-clause-state c = rw (← c.self.view_is) (state-roomed (shown c.self.inside) c.reserve_link.new.self c.reserve_link.ensures.lists)
 
 pub invariant_of-self : goal.invariant_of-self
-invariant_of-self c = linked-roomed (shown c.self.inside) c.self.invariant c.reserve_link.new.self c.reserve_link.ensures.lists
+invariant_of-self c = (
+  linked-roomed (shown c.self.inside) c.self.invariant.0 c.reserve_link.new.self c.reserve_link.ensures.lists,
+  known-by c.self.inside.wants (state_of (shown c.self.inside)) _ refl refl refl c.self.invariant.1,
+)

@@ -4,4 +4,4 @@ use Rattle.gw_machine.specs.Shown.{shown}
 use Rattle.gw_machine.proofs.machine.Machine.reserve_rest.Goals as goal
 
 pub overflow_add-retrying : goal.overflow_add-retrying
-overflow_add-retrying c = omega (arith, few-retry (shown c.self.inside) c.self.invariant)
+overflow_add-retrying c = omega (arith, few-retry (shown c.self.inside) c.self.invariant.0)

@@ -1,4 +1,5 @@
 use Rattle.std.proofs.Common.{refl, ap, ◌∙◌, ◌≡◌, List, None, map}
+use Rattle.gw_machine.proofs.Knowing.{known-by}
 use Rattle.std.proofs.lemmas.Int.{to_z-of_z}
 use Rattle.gw_members.specs.Chain.{in_time}
 use Rattle.gw_members.specs.declared.tx.Event.{Event}
@@ -20,4 +21,7 @@ returns c =
     )
 
 pub invariant_of-self : goal.invariant_of-self
-invariant_of-self c = linked-rested (shown c.self.inside) _ c.args.tx c.args.time refl c.self.invariant (rw (← c.self.view_is) at c.requires.rests) refl refl (scheduled c) (record { waits = refl; assemblies = refl; chains = refl; facilities = refl; storages = refl; queues = refl; clock = refl }) ((rw (← c.self.view_is) at (returns c)).0)
+invariant_of-self c = (
+  linked-rested (shown c.self.inside) _ c.args.tx c.args.time refl c.self.invariant.0 (rw (← c.self.view_is) at c.requires.rests) refl refl (scheduled c) (record { waits = refl; assemblies = refl; chains = refl; facilities = refl; storages = refl; queues = refl; clock = refl }) ((rw (← c.self.view_is) at (returns c)).0),
+  known-by c.self.inside.wants (state_of (shown c.self.inside)) _ refl refl refl c.self.invariant.1,
+)
