@@ -1,5 +1,5 @@
 -- The least units that those ask who are counted.
-use Rattle.std.proofs.Common.{◌≡◌, ℕ, zero, suc, ◌+◌, ◌≤◌, ◌<◌, ◌==◌, if◌then◌else◌, Bool, true, false, List, [], ◌∷◌, map, Option, Some, None, refl, sym, ap, ◌∙◌, subst, inl, inr, ◌⊎◌, arith}
+use Rattle.std.proofs.Common.{◌≡◌, ℕ, zero, suc, ◌+◌, ◌≤◌, ◌<◌, ◌==◌, if◌then◌else◌, Bool, true, false, List, [], ◌∷◌, map, drop, Option, Some, None, refl, sym, ap, ◌∙◌, subst, inl, inr, ◌⊎◌, arith}
 use Rattle.std.specs.Prelude.{nat_le}
 use Rattle.std.specs.Option.{option_map_or}
 use Rattle.std.proofs.lemmas.Bool.{cases_eq, eq-eqb, ne_eqb, leb-true, leb-false, lt-leb}
@@ -15,13 +15,17 @@ use Rattle.gw_entities.specs.Storage.{has_room}
 use Rattle.gw_entities.specs.declared.storages.Storage.{Storage}
 use Rattle.gw_transactions.specs.declared.Transaction.{Transaction}
 use Rattle.gw_transactions.specs.Transactions.{attributes_at}
-use Rattle.gw_machine.specs.Admission.{AsksInVain, AdmitsNobody}
+use Rattle.gw_machine.specs.Admission.{AsksInVain, AdmitsNobody, AllAskInVain}
 use Rattle.gw_machine.specs.declared.wants.Want.{Want}
 use Rattle.gw_machine.specs.declared.least.Least.{Least}
 use Rattle.gw_machine.specs.declared.least.Least.TheVariants.{Unknown, Nobody, Units as Asks}
 use Rattle.gw_machine.specs.Wants.{counted_at, wanting, IsTold, AreTold, next_of, nexts, IsWanted, IsLeast, lesser}
+use Rattle.gw_num.specs.Table.{at}
+use Rattle.gw_machine.specs.Configuration.{Configuration}
+use Rattle.gw_machine.specs.View.{state_of, member_number}
+use Rattle.gw_machine.proofs.Changes.{delay_list-at}
 use Rattle.gw_machine.proofs.Knowing.{next-found}
-use Rattle.gw_machine.proofs.Walks.{vain-looked_at, vain-first, admission-none}
+use Rattle.gw_machine.proofs.Walks.{rest_of_walk, vain-looked_at, vain-first, admission-none}
 use Rattle.gw_step.proofs.Follows.{asked-enter}
 use Rattle.gw_step.proofs.Residence.{same_number}
 
@@ -174,15 +178,34 @@ module _ (bs : List Block) (e : ℕ) (s : State) where
       by_live None is = ap (λ (o : Option Transaction). option_map_or (admitted bs e n s) o s) is
       by_live (Some t) live = vain-looked_at bs e n s t live (subst (λ b. AsksInVain bs e b s) (next-found n s.transactions t live) (h (next_of s.transactions n) (omega (arith, same_number (next_of s.transactions n) (next_of s.transactions n) refl))))
 
+  -- where all ask in vain nobody enters
+  pub vain-nobody : AllAskInVain bs e s → AdmitsNobody bs e s
+  vain-nobody h = in_vain (delay_list e s) h
+
   -- where nobody asks for units of the storage
-  pub nobody-asks : IsLeast bs e (λ b. occurrences b (nexts e s)) Nobody → AdmitsNobody bs e s
-  nobody-asks h = in_vain (delay_list e s) (λ b some u asks. absurd (h b u (record { some = some; asks = asks })))
+  pub nobody-asks : IsLeast bs e (λ b. occurrences b (nexts e s)) Nobody → AllAskInVain bs e s
+  nobody-asks h b some u asks = absurd (h b u (record { some = some; asks = asks }))
 
   -- where there is no room for the least
-  pub least-refused : (n : ℕ) → IsLeast bs e (λ b. occurrences b (nexts e s)) (Asks n) → has_room n (storage e s) ≡ false → AdmitsNobody bs e s
-  least-refused n h none = in_vain (delay_list e s) (λ b some u asks.
+  pub least-refused : (n : ℕ) → IsLeast bs e (λ b. occurrences b (nexts e s)) (Asks n) → has_room n (storage e s) ≡ false → AllAskInVain bs e s
+  least-refused n h none b some u asks =
       subst (λ k. has_room u.number (storage k s) ≡ false) (sym (asked-enter e (block_at bs b) u asks).1)
-      (more-refused n u.number (storage e s) (h.0 b u (record { some = some; asks = asks })) none))
+      (more-refused n u.number (storage e s) (h.0 b u (record { some = some; asks = asks })) none)
     where
       more-refused : (n k : ℕ) (x : Storage) → n ≤ k → has_room n x ≡ false → has_room k x ≡ false
       more-refused n k x le none = lt-leb (x.contents.content + k) x.capacity (omega (arith, le, leb-false (x.contents.content + n) x.capacity none))
+
+-- what is left of a list has no more of a number
+occurrences-left : (f : ℕ → ℕ) (b i : ℕ) (ns : List ℕ) → occurrences b (map f (drop i ns)) ≤ occurrences b (map f ns)
+occurrences-left f b zero [] = omega arith
+occurrences-left f b (suc i) [] = omega arith
+occurrences-left f b zero (k ∷ ks) = omega arith
+occurrences-left f b (suc i) (k ∷ ks) = omega (arith, occurrences-left f b i ks)
+
+-- where all ask in vain, nobody of those to whom a walk has still to come enters
+pub vain-rest : (bs : List Block) (e i : ℕ) (m : Configuration) → AllAskInVain bs e (state_of m) → rest_of_walk bs e i m ≡ state_of m
+vain-rest bs e i m h =
+    let ns = map member_number (at [] m.waits.lists e) in
+    in_vain bs e (state_of m) (drop i ns) (λ b some. h b
+    (let here = ap (λ ks. occurrences b (map (next_of m.transactions.txs) ks)) (delay_list-at m e) in
+    omega (arith, some, occurrences-left (next_of m.transactions.txs) b i ns, here)))

@@ -1,12 +1,14 @@
 -- Where a storage admits nobody.
-use Rattle.std.specs.Prelude.{◌≡◌, ℕ, List, Some, false}
+use Rattle.std.specs.Prelude.{◌≡◌, ◌<◌, ℕ, List, Some, false}
 use Rattle.gw_blocks.specs.declared.parts.Block.{Block}
 use Rattle.gw_blocks.specs.declared.parts.Units.{Units}
 use Rattle.gw_entities.specs.Storage.{has_room}
 use Rattle.gw_rules.specs.Kinds.{block_at}
 use Rattle.gw_step.specs.Blocks.{asked, admission}
 use Rattle.gw_step.specs.Changes.{storage}
+use Rattle.gw_step.specs.Residence.{occurrences}
 use Rattle.gw_step.specs.State.{State, delay_list}
+use Rattle.gw_machine.specs.Wants.{nexts}
 
 -- the units that the block of a number asks of a storage, if it is its ENTER, aren't free
 abbrev pub AsksInVain : List Block → ℕ → ℕ → State → Type 0
@@ -15,3 +17,7 @@ AsksInVain bs e number s = (u : Units) → asked e (block_at bs number) ≡ Some
 -- nobody who waits for a storage can enter
 abbrev pub AdmitsNobody : List Block → ℕ → State → Type 0
 AdmitsNobody bs e s = admission bs e (delay_list e s) s ≡ s
+
+-- whichever block anybody who waits for a storage wants to enter, its units aren't free
+abbrev pub AllAskInVain : List Block → ℕ → State → Type 0
+AllAskInVain bs e s = (b : ℕ) → 0 < occurrences b (nexts e s) → AsksInVain bs e b s

@@ -1,10 +1,10 @@
 //! The least units that those ask who wait for a storage, where many wait.
 
-ghost use Rattle.std.specs.Prelude.{◌≡◌, ◌<◌, ◌+◌, ℕ, true, false, length};
+ghost use Rattle.std.specs.Prelude.{◌≡◌, ◌<◌, ◌+◌, Some, false, length};
 ghost use Rattle.std.specs.Option.{option_copied};
 ghost use Rattle.gw_step.specs.Residence.{occurrences};
 ghost use Rattle.gw_step.specs.Blocks as model;
-ghost use Rattle.gw_machine.specs.Admission.{AdmitsNobody};
+ghost use Rattle.gw_machine.specs.Admission.{AdmitsNobody, AllAskInVain};
 ghost use Rattle.gw_machine.specs.Coherence.{IsSteady};
 ghost use Rattle.gw_machine.specs.View.{state_of};
 ghost use Rattle.gw_machine.specs.Wants.{IsKnown, IsLeast, lesser as lesser_of, nexts, wanting};
@@ -96,6 +96,31 @@ impl Machine {
         self.wants.put(e, wants);
     }
 
+    /// Whether the least units are free that those ask who wait for a storage, if it is known.
+    fn is_least_free(&self, blocks: &[Block], e: u16) -> Option<bool>
+        requires steady { IsSteady blocks.now (self.now.steps + 1) self.now }
+        requires there { e < length self.now.facilities.values }
+        ensures { result ≡ Some false → AllAskInVain blocks.now e (state_of self.now) }
+    {
+        match self.least_want(blocks, e) {
+            Least::Unknown => None,
+            Least::Nobody => Some(false),
+            Least::Units(number) => Some(self.has_free(Units { entity: e, number })),
+        }
+    }
+
+    /// Whether anybody who waits for a storage may be admitted, as far as it is known with no look at them.
+    pub(crate) fn may_admit_more(&self, blocks: &[Block], e: u16) -> bool
+        requires steady { IsSteady blocks.now (self.now.steps + 1) self.now }
+        requires there { e < length self.now.facilities.values }
+        ensures { result ≡ false → AllAskInVain blocks.now e (state_of self.now) }
+    {
+        match self.is_least_free(blocks, e) {
+            Some(may) => may,
+            None => true,
+        }
+    }
+
     /// Whether anybody who waits for a storage can be admitted. Where many wait, and it wasn't known which blocks they want to
     /// enter, it is from now on.
     pub(crate) fn may_admit(&mut self, blocks: &[Block], e: u16) -> bool
@@ -104,16 +129,13 @@ impl Machine {
         ensures vain { result ≡ false → AdmitsNobody blocks.now e (state_of self.old) }
         ensures frame { self.new ≡ self.old }
     {
-        match self.least_want(blocks, e) {
-            Least::Nobody => false,
-            Least::Units(number) => self.has_free(Units { entity: e, number }),
-            Least::Unknown => {
-                let may = self.can_admit(blocks, e);
-                if !may {
-                    self.count_wants(e);
-                }
-                may
-            }
+        if let Some(may) = self.is_least_free(blocks, e) {
+            return may;
         }
+        let may = self.can_admit(blocks, e);
+        if !may {
+            self.count_wants(e);
+        }
+        may
     }
 }

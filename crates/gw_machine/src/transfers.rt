@@ -169,7 +169,8 @@ impl Machine {
         false
     }
 
-    /// One walk over those who wait for a storage, in their order: each whose units are free enters.
+    /// One walk over those who wait for a storage, in their order: each whose units are free enters. It ends where it is known
+    /// that nobody else can.
     #[inline(never)]
     pub fn admit(&mut self, blocks: &[Block], e: u16)
         requires steady { IsSteady blocks.now (self.old.steps + 1) self.old }
@@ -185,6 +186,8 @@ impl Machine {
         while let Some(tx) = self.next_waiter(e) {
             if !self.admit_one(blocks, e, tx) {
                 self.pass_waiter(e);
+            } else if !self.may_admit_more(blocks, e) {
+                return;
             }
         }
     }

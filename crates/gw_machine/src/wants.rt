@@ -12,20 +12,19 @@ use std::marker::Model;
 
 /// Those of a delay list who want to enter one block.
 #[derive(Clone, Copy, Debug, PartialEq, Eq)]
-pub struct Want {
+pub(crate) struct Want {
     /// The block, by its number from 1.
     pub block: u16,
     /// How many want to enter it.
     pub waiting: usize,
-    /// The entries that the block had so far, as far as they were told: where it has more, somebody may have entered who
-    /// isn't counted.
+    /// How many entries of the block it was told of: where the block has more, one who is counted may have entered.
     pub entries: u64,
 }
 
 /// What is known of those who wait on delay lists: of each entity by its number how many want to enter each block. A list of
 /// which nothing is known has no wants.
 ///
-/// What is known is for who reads it alone: a machine that knows nothing looks at those who wait.
+/// It is a help, and no more: where nothing is known, a machine looks at those who wait (ours: docs/DECISIONS.md).
 #[derive(Drop)]
 pub(crate) struct Wants {
     // Those of each list, or none, where nothing is known of any.
@@ -178,7 +177,8 @@ fn count_entry(wants: &mut Vec<Want>, block: u16, entries: u64)
 /// Lists are added, of which nothing is known, until there is one for an entity. It fails for want of memory.
 fn reach(lists: &mut Vec<Vec<Want>>, alloc: Global, e: u16) -> Result<(), Memory>
     ensures there { OnOk result (e < vec_len lists.new) }
-    ensures known { (k : ℕ) → at [] (map wants_of lists.new.items) k ≡ at [] (map wants_of lists.old.items) k }
+    ensures known { (k : ℕ) → at [] (map wants_of lists.new.items) k
+        ≡ at [] (map wants_of lists.old.items) k }
 {
     while lists.len() <= e as usize {
         lists.push(Vec::new(alloc))?;

@@ -1,4 +1,5 @@
-use Rattle.std.proofs.Common.{◌+◌, ◌∙◌, sym, ap, subst, List, [], length, true, false, arith}
+use Rattle.std.proofs.Common.{◌+◌, ◌∙◌, sym, ap, subst, List, [], length, true, false, arith, refl}
+use Rattle.gw_machine.proofs.Lessening.{vain-rest}
 use Rattle.gw_machine.specs.View.{state_of}
 use Rattle.gw_num.specs.Table.{at}
 use Rattle.gw_members.specs.declared.tx.Member.{Member}
@@ -105,4 +106,17 @@ returns c =
     let steady = c.loop-tx.invariant.steady in (
       sym (walk-ends c.args.blocks.now (length c.loop-tx.self.facilities.values) c.args.e (at 0 c.loop-tx.self.waits.places c.args.e) c.loop-tx.self steady.fit c.in_default.ensures) ∙ c.loop-tx.invariant.walk,
       c.loop-tx.invariant.slots,
+    )
+
+pub returns-then-not-may_admit_more : goal.returns-then-not-may_admit_more
+returns-then-not-may_admit_more c =
+    let e = c.if-not-admit_one.ensures in
+    let there = c.in-Some.ensures in
+    let bs = c.args.blocks.now in
+    let new = c.admit_one.new.self in
+    let was = at 0 c.loop-tx.self.waits.places c.args.e in (
+      sym (vain-rest bs c.args.e (at 0 new.waits.places c.args.e) new (c.if-not-may_admit_more.ensures refl))
+          ∙ ap (λ i. rest_of_walk bs c.args.e i new) e.moves.2
+          ∙ walk-on bs c.args.e was c.loop-tx.self new c.in-Some.tx true there e.state e.moves ∙ c.loop-tx.invariant.walk,
+      e.frame.2 ∙ c.loop-tx.invariant.slots,
     )

@@ -1,16 +1,10 @@
-use Rattle.std.proofs.Common.{◌∙◌, sym, subst}
-use Rattle.gw_step.specs.Residence.{occurrences}
+use Rattle.std.proofs.Common.{rules}
+use Rattle.gw_machine.specs.Admission.{AllAskInVain}
 use Rattle.gw_machine.specs.View.{state_of}
-use Rattle.gw_machine.specs.Wants.{IsLeast, nexts}
-use Rattle.gw_machine.proofs.Lessening.{nobody-asks, least-refused}
+use Rattle.gw_machine.proofs.Lessening.{vain-nobody}
 use Rattle.gw_machine.proofs.machine.Machine.may_admit.Goals as goal
 
-pub returns-in-Nobody-clause-vain : goal.returns-in-Nobody-clause-vain
-returns-in-Nobody-clause-vain c none =
-    let s = state_of c.args.self.now in
-    nobody-asks c.args.blocks.now c.args.e s (subst (IsLeast c.args.blocks.now c.args.e (λ b. occurrences b (nexts c.args.e s))) c.in-Nobody.is c.least_want.ensures)
-
-pub returns-in-Units-clause-vain : goal.returns-in-Units-clause-vain
-returns-in-Units-clause-vain c none =
-    let s = state_of c.args.self.now in
-    least-refused c.args.blocks.now c.args.e s c.in-Units.number (subst (IsLeast c.args.blocks.now c.args.e (λ b. occurrences b (nexts c.args.e s))) c.in-Units.is c.least_want.ensures) (sym c.has_free.ensures ∙ none)
+pub returns-in-Some-clause-vain : goal.returns-in-Some-clause-vain
+returns-in-Some-clause-vain c none =
+    let all : AllAskInVain c.args.blocks.now c.args.e (state_of c.args.self.now) = search rules in
+    vain-nobody c.args.blocks.now c.args.e (state_of c.args.self.now) all
