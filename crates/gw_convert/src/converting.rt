@@ -18,11 +18,11 @@ use crate::queues::{
     change_transits, change_word,
 };
 use crate::rules::{Rule, Uses};
-use crate::statement::{Kind, Statement, statement_of, word_place};
+use crate::statement::{Kind, Statement, statement_of};
 use crate::timed::{change_classes, change_test, change_times};
 use crate::times::is_clock;
 use crate::writing::{put, put_changed};
-use gw_forms::line::{Piece, pieces_of};
+use gw_forms::line::{Piece, pieces_of, place_of_word};
 use gw_text_tokens::is_spelled;
 use gw_text_tokens::lines::{is_skipped, line_at, lines_of};
 use gw_text_tokens::tokens::{Token, next_token};
@@ -327,7 +327,7 @@ fn piece_of(
         change_function(alloc, &mut changes, plan, function, &pieces, at)?;
     }
     if is_first_line(plan, on, at) {
-        let statement = statement_of(line, &pieces, word_place(&pieces));
+        let statement = statement_of(line, &pieces, place_of_word(&pieces));
         kind = statement.kind;
         change(alloc, &mut changes, plan, &mut known.draws, &statement, at)?;
     }

@@ -4,9 +4,9 @@ use crate::draws::Draw;
 use crate::functions::{function_at, function_of, named};
 use crate::numbers::Number;
 use crate::plan::{MOST, Plan, QueueTable};
-use crate::statement::{Kind, Statement, span_of, statement_of, word_place};
+use crate::statement::{Kind, Statement, span_of, statement_of};
 use crate::times::{Time, draw_of, is_clock, is_time, number_in, sides, time_in};
-use gw_forms::line::pieces_of;
+use gw_forms::line::{pieces_of, place_of_word};
 use gw_text_tokens::is_spelled;
 use gw_text_tokens::lines::is_skipped;
 use gw_text_tokens::tokens::Token;
@@ -47,7 +47,7 @@ fn plan_declarations<'a>(
         return Ok(());
     }
     let pieces = pieces_of(alloc, line)?;
-    let statement = statement_of(line, &pieces, word_place(&pieces));
+    let statement = statement_of(line, &pieces, place_of_word(&pieces));
     plan_names(plan, &statement);
     match statement.kind {
         Kind::Start => {
@@ -235,7 +235,7 @@ fn plan_uses(
         return Ok(());
     }
     let pieces = pieces_of(alloc, line)?;
-    let statement = statement_of(line, &pieces, word_place(&pieces));
+    let statement = statement_of(line, &pieces, place_of_word(&pieces));
     plan_values(plan, &statement);
     match statement.kind {
         Kind::Generate | Kind::Advance => plan_times(plan, &statement),

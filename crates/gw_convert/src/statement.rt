@@ -1,10 +1,9 @@
 //! A line as a statement: its word, its operands, and a comment that has no `;`.
 
-use gw_forms::line::{Line, Piece, place_of_word, token_at, whole_word};
+use gw_forms::line::{Line, Piece, whole_word};
 use gw_forms::testing::{class_of_numbered, stands_behind};
 use gw_text_tokens::is_spelled;
 use gw_text_tokens::tokens::Token;
-use gw_text_tokens::words::{Known, known_word};
 
 /// What a statement is, as far as converting tells them apart.
 #[derive(Clone, Copy, Debug, PartialEq, Eq)]
@@ -59,16 +58,6 @@ pub(crate) struct Statement<'a> {
     pub(crate) kind: Kind,
     /// Where on the line a comment without `;` begins, if there is one.
     pub(crate) comment: Option<usize>,
-}
-
-/// The place of the word among the pieces of a line: behind a label, which may be a word that this language hasn't.
-pub(crate) fn word_place(pieces: &[Piece<'_>]) -> usize {
-    match (token_at(pieces, 0), token_at(pieces, 1)) {
-        (Some(Token::Name(first)), Some(Token::Name(second)))
-            if !matches!(known_word(first), Known::Word(_))
-                && matches!(known_word(second), Known::Word(_)) => { 1 }
-        _ => place_of_word(pieces),
-    }
 }
 
 /// What a statement of this word is.

@@ -112,11 +112,27 @@ fn is_word(name: &[u8]) -> bool {
     !matches!(known_word(name), Known::Other) || is_abbreviation(name)
 }
 
+/// Whether a name is the word of a statement of this language.
+fn is_word_here(name: &[u8]) -> bool {
+    matches!(known_word(name), Known::Word(_))
+}
+
+/// Whether the first of two names is a label, and the second the word. A word that GPSS World alone has may be a label of a
+/// statement of this language, as JOIN in `JOIN ASSEMBLE 5`.
+fn is_label_before(first: &[u8], second: &[u8]) -> bool {
+    if is_word_here(second) {
+        !is_word_here(first)
+    } else {
+        !is_word(first) && is_word(second)
+    }
+}
+
 /// The place of the word among the pieces of a line: behind a label, where one stands before it.
 pub fn place_of_word(pieces: &[Piece<'_>]) -> usize {
     match (token_at(pieces, 0), token_at(pieces, 1)) {
-        (Some(Token::Name(first)), Some(Token::Name(second)))
-            if !is_word(first) && is_word(second) => { 1 }
+        (Some(Token::Name(first)), Some(Token::Name(second))) if is_label_before(first, second) => {
+            1
+        }
         (Some(Token::Whole(_)), Some(Token::Name(second))) if is_word(second) => 1,
         _ => 0,
     }
