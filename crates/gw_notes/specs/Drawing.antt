@@ -1,55 +1,62 @@
--- From which streams of random numbers a model draws.
-use Rattle.std.specs.Prelude.{ℕ, pos, Bool, false, ◌&&◌, ◌||◌, not, nat_eq}
+-- From which streams of random numbers a model draws, and how often.
+use Rattle.std.specs.Prelude.{ℕ, ◌+◌, pos, Bool, false, ◌&&◌, not, nat_eq, nat_lt, List, Option, None, Some, if◌then◌else◌}
 use Rattle.std.specs.List.{list_any}
 use Rattle.std.specs.Ordering.{int_eq}
 use Rattle.gw_blocks.specs.declared.parts.Operand.{Operand}
 use Rattle.gw_blocks.specs.declared.parts.Operand.TheVariants.{Constant, Random}
 use Rattle.gw_blocks.specs.declared.parts.Spread.{Spread}
 use Rattle.gw_blocks.specs.declared.parts.Block.{Block}
-use Rattle.gw_blocks.specs.declared.parts.Block.TheVariants.{Generate, Advance, TransferByFraction, Terminate, Assign, Savevalue, Test, Priority, Plus}
+use Rattle.gw_blocks.specs.declared.parts.Block.TheVariants.{Generate, Advance, TransferByFraction, Terminate, Assign, Savevalue, Test, Priority, Plus, Tabulate}
 use Rattle.gw_object.specs.declared.parts.Entity.{Entity}
-use Rattle.gw_object.specs.declared.parts.Kind.{Kind}
-use Rattle.gw_object.specs.declared.parts.Kind.TheVariants.{Function, Table}
 use Rattle.gw_object.specs.declared.parts.Parts.{Parts}
+use Rattle.gw_operands.specs.Sources.{source_of, operand_at}
 
 -- an operand is RN of this stream
-abbrev pub operand_draws : Operand → ℕ → Bool
-operand_draws (Random number) stream = nat_eq number stream
-operand_draws operand stream = false
+abbrev pub is_random : ℕ → Operand → Bool
+is_random stream (Random number) = nat_eq number stream
+is_random stream operand = false
 
 -- an operand is the number 0
 abbrev pub is_zero : Operand → Bool
 is_zero (Constant number) = int_eq number (pos 0)
 is_zero operand = false
 
--- a random time draws from the first stream, but where its half is the number 0, and for its operands
-abbrev pub spread_draws : Spread → ℕ → Bool
-spread_draws spread stream =
-    (not (is_zero spread.half) && nat_eq stream 1) || operand_draws spread.mean stream || operand_draws spread.half stream
+-- how often an operand draws from a stream: once where it is RN, or a function of that
+abbrev pub drawn : List Entity → ℕ → Operand → ℕ
+drawn es stream operand = if is_random stream (source_of es operand) then 1 else 0
 
--- a block draws for an operand, for a random time, or to choose a way
-unfoldable pub block_draws : Block → ℕ → Bool
-block_draws (Generate g) stream = spread_draws g.interval stream
-block_draws (Advance time) stream = spread_draws time stream
-block_draws (TransferByFraction fraction) stream = nat_eq stream 1
-block_draws (Terminate by) stream = operand_draws by stream
-block_draws (Assign assign) stream = operand_draws assign.value stream
-block_draws (Savevalue save) stream = operand_draws save.value stream
-block_draws (Test test) stream = operand_draws test.left stream || operand_draws test.right stream
-block_draws (Priority change) stream = operand_draws change.value stream
-block_draws (Plus plus) stream = operand_draws plus.value stream
-block_draws block stream = false
+-- the same of an operand that may not be there
+abbrev pub drawn_if : List Entity → ℕ → Option Operand → ℕ
+drawn_if es stream None = 0
+drawn_if es stream (Some operand) = drawn es stream operand
 
--- a function or a table draws for its argument
-abbrev pub kind_draws : Kind → ℕ → Bool
-kind_draws (Function function) stream = operand_draws function.argument stream
-kind_draws (Table table) stream = operand_draws table.argument stream
-kind_draws kind stream = false
+-- how often a random time draws itself: from the first stream, but where its half is the number 0
+abbrev pub own_draws : ℕ → Spread → ℕ
+own_draws stream time = if nat_eq stream 1 && not (is_zero time.half) then 1 else 0
 
-abbrev pub entity_draws : Entity → ℕ → Bool
-entity_draws entity stream = kind_draws entity.kind stream
+-- how often a random time draws at most
+abbrev pub time_draws : List Entity → ℕ → Spread → ℕ
+time_draws es stream time = drawn es stream time.mean + drawn es stream time.half + own_draws stream time
+
+-- how often a block draws at most where it is met once: for its operands, for a random time, or to
+-- choose a way
+unfoldable pub draws_at : List Entity → ℕ → Block → ℕ
+draws_at es stream (Generate g) = time_draws es stream g.interval
+draws_at es stream (Advance time) = time_draws es stream time
+draws_at es stream (TransferByFraction fraction) = if nat_eq stream 1 then 1 else 0
+draws_at es stream (Terminate by) = drawn es stream by
+draws_at es stream (Assign assign) = drawn es stream assign.value
+draws_at es stream (Savevalue save) = drawn es stream save.value
+draws_at es stream (Test test) = drawn es stream test.left + drawn es stream test.right
+draws_at es stream (Priority change) = drawn es stream change.value
+draws_at es stream (Plus plus) = drawn es stream plus.value
+draws_at es stream (Tabulate table) = drawn_if es stream (operand_at es table)
+draws_at es stream block = 0
+
+-- a block draws from a stream
+abbrev pub block_draws : List Entity → ℕ → Block → Bool
+block_draws es stream block = nat_lt 0 (draws_at es stream block)
 
 -- a model draws from a stream
 abbrev pub draws : Parts → ℕ → Bool
-draws parts stream =
-    list_any (λ block. block_draws block stream) parts.blocks || list_any (λ entity. entity_draws entity stream) parts.entities
+draws parts stream = list_any (block_draws parts.entities stream) parts.blocks

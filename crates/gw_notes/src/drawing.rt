@@ -1,15 +1,15 @@
-//! From which streams of random numbers a model draws.
+//! From which streams of random numbers a model draws, and how often.
 
-ghost use Rattle.std.specs.Prelude.{◌≡◌};
-ghost use Rattle.std.specs.List.{list_any};
+ghost use Rattle.std.specs.Prelude.{◌≡◌, ◌≤◌};
 ghost use Rattle.gw_notes.specs.Drawing as model;
 
 use gw_blocks::{Block, Operand, Spread};
-use gw_object::{Entity, Kind, Parts};
+use gw_object::{Entity, Parts};
+use gw_operands::{operand_at, source_of};
 
-/// Whether an operand draws from a stream.
-fn operand_draws(operand: Operand, stream: u8) -> bool
-    ensures { result ≡ model.operand_draws operand stream }
+/// Whether an operand is RN of a stream.
+fn is_random(operand: Operand, stream: u8) -> bool
+    ensures { result ≡ model.is_random stream operand }
 {
     match operand {
         Operand::Random(number) => number == stream,
@@ -27,64 +27,90 @@ pub(crate) fn is_zero(operand: Operand) -> bool
     }
 }
 
-/// Whether a random time draws from a stream.
-fn spread_draws(spread: Spread, stream: u8) -> bool
-    ensures { result ≡ model.spread_draws spread stream }
+/// How often an operand draws from a stream.
+fn drawn(entities: &[Entity], stream: u8, operand: Operand) -> u64
+    ensures value { result ≡ model.drawn entities.now stream operand }
+    ensures range { result ≤ 1 }
 {
-    if !is_zero(spread.half) && stream == 1 {
-        return true;
+    if is_random(source_of(entities, operand), stream) {
+        1
+    } else {
+        0
     }
-    operand_draws(spread.mean, stream) || operand_draws(spread.half, stream)
+}
+
+/// How often an operand that may not be there draws from a stream.
+fn drawn_if(entities: &[Entity], stream: u8, operand: Option<Operand>) -> u64
+    ensures value { result ≡ model.drawn_if entities.now stream operand }
+    ensures range { result ≤ 1 }
+{
+    match operand {
+        Some(operand) => drawn(entities, stream, operand),
+        None => 0,
+    }
+}
+
+/// How often a random time draws from a stream itself.
+fn own_draws(stream: u8, time: Spread) -> u64
+    ensures value { result ≡ model.own_draws stream time }
+    ensures range { result ≤ 1 }
+{
+    if stream == 1 && !is_zero(time.half) {
+        1
+    } else {
+        0
+    }
+}
+
+/// How often a random time draws from a stream at most.
+fn time_draws(entities: &[Entity], stream: u8, time: Spread) -> u64
+    ensures value { result ≡ model.time_draws entities.now stream time }
+    ensures range { result ≤ 3 }
+{
+    drawn(entities, stream, time.mean)
+        + drawn(entities, stream, time.half)
+        + own_draws(stream, time)
+}
+
+/// How often a block draws at most from a stream, which is given by its number from 1, where it is met once: at most 3 times. PLUS
+/// code draws nothing.
+#[tactic(auto, unfolding(crate::specs::Drawing::draws_at))]
+pub fn draws_at(entities: &[Entity], stream: u8, block: &Block) -> u64
+    ensures value { result ≡ model.draws_at entities.now stream block.now }
+    ensures range { result ≤ 3 }
+{
+    match block {
+        Block::Generate(g) => time_draws(entities, stream, g.interval),
+        Block::Advance(time) => time_draws(entities, stream, *time),
+        Block::TransferByFraction(_) => u64::from(stream == 1),
+        Block::Terminate(by) => drawn(entities, stream, *by),
+        Block::Assign(assign) => drawn(entities, stream, assign.value),
+        Block::Savevalue(save) => drawn(entities, stream, save.value),
+        Block::Test(test) => {
+            drawn(entities, stream, test.left) + drawn(entities, stream, test.right)
+        }
+        Block::Priority(change) => drawn(entities, stream, change.value),
+        Block::Plus(plus) => drawn(entities, stream, plus.value),
+        Block::Tabulate(table) => drawn_if(entities, stream, operand_at(entities, *table)),
+        _ => 0,
+    }
 }
 
 /// Whether a block draws from a stream.
-#[tactic(auto, unfolding(crate::specs::Drawing::block_draws))]
-fn block_draws(block: &Block, stream: u8) -> bool
-    ensures { result ≡ model.block_draws block.now stream }
+fn block_draws(entities: &[Entity], stream: u8, block: &Block) -> bool
+    ensures { result ≡ model.block_draws entities.now stream block.now }
 {
-    match block {
-        Block::Generate(g) => spread_draws(g.interval, stream),
-        Block::Advance(time) => spread_draws(*time, stream),
-        Block::TransferByFraction(_) => stream == 1,
-        Block::Terminate(by) => operand_draws(*by, stream),
-        Block::Assign(assign) => operand_draws(assign.value, stream),
-        Block::Savevalue(save) => operand_draws(save.value, stream),
-        Block::Test(test) => operand_draws(test.left, stream) || operand_draws(test.right, stream),
-        Block::Priority(change) => operand_draws(change.value, stream),
-        Block::Plus(plus) => operand_draws(plus.value, stream),
-        _ => false,
-    }
-}
-
-/// Whether an entity draws from a stream: a function or a table does, by its argument.
-fn entity_draws(entity: &Entity, stream: u8) -> bool
-    ensures { result ≡ model.entity_draws entity.now stream }
-{
-    match &entity.kind {
-        Kind::Function(function) => operand_draws(function.argument, stream),
-        Kind::Table(table) => operand_draws(table.argument, stream),
-        _ => false,
-    }
-}
-
-/// Whether some of these blocks draw from a stream.
-fn some_block_draws(blocks: &[Block], stream: u8) -> bool
-    ensures { result ≡ list_any (λ block. model.block_draws block stream) blocks.now }
-{
-    blocks.iter().any(|block| block_draws(block, stream))
-}
-
-/// Whether some of these entities draw from a stream.
-fn some_entity_draws(entities: &[Entity], stream: u8) -> bool
-    ensures { result ≡ list_any (λ entity. model.entity_draws entity stream) entities.now }
-{
-    entities.iter().any(|entity| entity_draws(entity, stream))
+    draws_at(entities, stream, block) > 0
 }
 
 /// Whether a model draws from a stream, which is given by its number from 1.
-pub(crate) fn draws(parts: &Parts, stream: u8) -> bool
+pub fn draws(parts: &Parts, stream: u8) -> bool
     ensures { result ≡ model.draws parts.now stream }
 {
-    some_block_draws(parts.blocks.as_slice(), stream)
-        || some_entity_draws(parts.entities.as_slice(), stream)
+    let entities = parts.entities.as_slice();
+    parts
+        .blocks
+        .as_slice()
+        .iter()
+        .any(|block| block_draws(entities, stream, block))
 }

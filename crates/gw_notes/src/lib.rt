@@ -5,4 +5,5 @@ mod drawing;
 mod noting;
 mod queues;
 
+pub use drawing::{draws, draws_at};
 pub use noting::{Note, notes};
