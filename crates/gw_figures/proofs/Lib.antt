@@ -1,3 +1,4 @@
 pub mod Counting
 pub mod Four
 pub mod Ranges
+pub mod Reaching

@@ -1,5 +1,5 @@
 -- The figures of a model: what they are called, in the order of its parts.
-use Rattle.std.specs.Prelude.{ℕ, zero, suc, ◌+◌, ◌-◌, List, [], ◌∷◌, ◌++◌, map, codes, Bool, true, false, ℤ, pos, ◌+ℤ◌, ◌==◌, if◌then◌else◌}
+use Rattle.std.specs.Prelude.{◌≡◌, Result, OnOk, ℕ, zero, suc, ◌+◌, ◌-◌, List, [], ◌∷◌, ◌++◌, map, codes, Bool, true, false, ℤ, pos, ◌+ℤ◌, ◌==◌, if◌then◌else◌}
 use Rattle.std.specs.Fmt.{decimal, signed_decimal}
 use Rattle.gw_blocks.specs.declared.parts.Block.{Block}
 use Rattle.gw_blocks.specs.Grammar.{block_word}
@@ -11,31 +11,40 @@ use Rattle.gw_object.specs.declared.parts.Table.{Table}
 use Rattle.gw_figures.specs.declared.figure.Figure.{Figure}
 use Rattle.gw_figures.specs.Values.{upper_limit}
 
--- a figure: what it is called, whether it is told where not all are asked for, and whether it is an
--- average
+-- a figure: what it is called, whether it is told where not all are asked for, whether it is an average,
+-- and whether it is how many are there at a moment
 pub record Label : Type 0 where
   pub name : List ℕ
   pub main : Bool
   pub average : Bool
+  pub content : Bool
 
 -- that of a figure
 abbrev pub label_of : Figure → Label
-label_of figure = record { name = figure.name.items; main = figure.main; average = figure.average }
+label_of figure =
+    record { name = figure.name.items; main = figure.main; average = figure.average; content = figure.content }
 
 -- those of figures
 abbrev pub labels : List Figure → List Label
 labels figures = map label_of figures
 
--- a number that stands; one that is told only among all; and an average; each by what it tells of and
--- its own name
+-- where all went well, figures of these labels are added to others
+abbrev pub AddsFigures : {E : Type 0} → Result (Unit {0}) E → List Figure → List Figure → List Label → Type 0
+AddsFigures result old new added = OnOk result (labels new ≡ labels old ++ added)
+
+-- a number that is always told; one that is told only among all; an average; and how many are there; each
+-- by what it tells of and its own name
 abbrev pub plain : List ℕ → List ℕ → Label
-plain front what = record { name = front ++ what; main = true; average = false }
+plain front what = record { name = front ++ what; main = true; average = false; content = false }
 
 abbrev pub detail : List ℕ → List ℕ → Label
-detail front what = record { name = front ++ what; main = false; average = false }
+detail front what = record { name = front ++ what; main = false; average = false; content = false }
 
 abbrev pub mean : List ℕ → List ℕ → Label
-mean front what = record { name = front ++ what; main = true; average = true }
+mean front what = record { name = front ++ what; main = true; average = true; content = false }
+
+abbrev pub content : List ℕ → List ℕ → Label
+content front what = record { name = front ++ what; main = true; average = false; content = true }
 
 -- OF EACH KIND
 
@@ -62,13 +71,13 @@ front_of word name = word ++ name ++ codes " "
 -- of a facility
 abbrev pub facility_labels : List ℕ → List Label
 facility_labels front =
-    plain front (codes "ENTRIES") ∷ plain front (codes "WAIT") ∷ mean front (codes "UTIL")
+    plain front (codes "ENTRIES") ∷ content front (codes "WAIT") ∷ mean front (codes "UTIL")
     ∷ mean front (codes "TIME") ∷ []
 
 -- of contents
 abbrev pub contents_labels : List ℕ → List Label
 contents_labels front =
-    plain front (codes "CONTENT") ∷ plain front (codes "MAX") ∷ plain front (codes "ENTRIES") ∷ []
+    content front (codes "CONTENT") ∷ plain front (codes "MAX") ∷ plain front (codes "ENTRIES") ∷ []
 
 -- of contents over time
 abbrev pub stay_labels : List ℕ → List Label
@@ -76,7 +85,7 @@ stay_labels front = mean front (codes "AVG") ∷ mean front (codes "TIME") ∷ [
 
 -- of a storage and a queue
 abbrev pub storage_labels : List ℕ → List Label
-storage_labels front = contents_labels front ++ plain front (codes "WAIT") ∷ [] ++ stay_labels front
+storage_labels front = contents_labels front ++ content front (codes "WAIT") ∷ [] ++ stay_labels front
 
 abbrev pub queue_labels : List ℕ → List Label
 queue_labels front = contents_labels front ++ stay_labels front

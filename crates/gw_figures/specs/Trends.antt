@@ -1,5 +1,5 @@
--- By how much averages change from one window of a run to another.
-use Rattle.std.specs.Prelude.{ℕ, ◌+◌, ◌^◌, List, [], ◌∷◌, nat_le, Bool, ◌&&◌, ℤ, ◌-ℤ◌, unsigned_abs, Option, None, Some, if◌then◌else◌}
+-- By how much averages and contents change from one window of a run to another.
+use Rattle.std.specs.Prelude.{ℕ, ◌+◌, ◌^◌, List, [], ◌∷◌, nat_le, Bool, ◌&&◌, ◌||◌, ℤ, ◌-ℤ◌, unsigned_abs, Option, None, Some, if◌then◌else◌}
 use Rattle.std.specs.List.{slice_get}
 use Rattle.gw_figures.specs.Labels.{Label}
 
@@ -21,10 +21,10 @@ joined (Some value) = value
 abbrev pub value_at : ℕ → List (Option ℤ) → Option ℤ
 value_at place values = joined (slice_get values place)
 
--- by how much a figure at a place changes, where it is an average
+-- by how much a figure at a place changes, where it is an average or a content
 abbrev pub change : List (Option ℤ) → List (Option ℤ) → ℕ → Label → Option ℤ
 change before after place figure =
-    if figure.average then difference (value_at place before) (value_at place after) else None
+    if figure.average || figure.content then difference (value_at place before) (value_at place after) else None
 
 -- the changes of these figures, the first of which is at this place
 unfoldable pub changes_from : List (Option ℤ) → List (Option ℤ) → ℕ → List Label → List (Option ℤ)

@@ -145,3 +145,8 @@ values_of parts w =
 pub record IsClassReaching (goal : ℕ) (classes : List ℕ) (i : ℕ) : Type 0 where
   pub reached : i < length classes → goal ≤ 100 * sum (take (i + 1) classes)
   pub before : (k : ℕ) → k < i → 100 * sum (take (k + 1) classes) < goal
+
+-- the class up to which a percentile lies is the first in which so many of a hundred values are reached
+abbrev pub PercentilesAreOfFirstClasses : Type 0
+PercentilesAreOfFirstClasses =
+    (goal : ℕ) (classes : List ℕ) → IsClassReaching goal classes (class_reaching goal classes)

@@ -2,9 +2,9 @@
 
 ghost use Rattle.std.specs.Prelude.{◌≡◌, ◌≤◌, ◌<◌, ◌+◌, ◌-◌, ◌++◌, [], ◌∷◌, OnOk, IfOk};
 ghost use Rattle.gw_figures.specs.Labels as model;
-ghost use Rattle.gw_figures.specs.Labels.{Label, labels, plain};
+ghost use Rattle.gw_figures.specs.Labels.{AddsFigures, Label, labels, plain};
 
-use crate::figure::{Figure, put_detail, put_mean, put_named, put_plain};
+use crate::figure::{Figure, put_content, put_detail, put_mean, put_named, put_plain};
 use crate::percentiles::upper_limit;
 use gw_object::{Entity, Kind, Memory, Table};
 use gw_report::text::{put, put_number};
@@ -22,39 +22,39 @@ fn front_of(alloc: Global, word: &str, name: &[u8]) -> Result<Vec<u8>, Memory>
 }
 
 fn put_facility(alloc: Global, out: &mut Vec<Figure>, front: &[u8]) -> Result<(), Memory>
-    ensures { OnOk result (labels out.new.items ≡ labels out.old.items ++ model.facility_labels front.now) }
+    ensures { AddsFigures result out.old.items out.new.items (model.facility_labels front.now) }
 {
     put_plain(alloc, out, front, "ENTRIES")?;
-    put_plain(alloc, out, front, "WAIT")?;
+    put_content(alloc, out, front, "WAIT")?;
     put_mean(alloc, out, front, "UTIL")?;
     put_mean(alloc, out, front, "TIME")
 }
 
 fn put_contents(alloc: Global, out: &mut Vec<Figure>, front: &[u8]) -> Result<(), Memory>
-    ensures { OnOk result (labels out.new.items ≡ labels out.old.items ++ model.contents_labels front.now) }
+    ensures { AddsFigures result out.old.items out.new.items (model.contents_labels front.now) }
 {
-    put_plain(alloc, out, front, "CONTENT")?;
+    put_content(alloc, out, front, "CONTENT")?;
     put_plain(alloc, out, front, "MAX")?;
     put_plain(alloc, out, front, "ENTRIES")
 }
 
 fn put_stay(alloc: Global, out: &mut Vec<Figure>, front: &[u8]) -> Result<(), Memory>
-    ensures { OnOk result (labels out.new.items ≡ labels out.old.items ++ model.stay_labels front.now) }
+    ensures { AddsFigures result out.old.items out.new.items (model.stay_labels front.now) }
 {
     put_mean(alloc, out, front, "AVG")?;
     put_mean(alloc, out, front, "TIME")
 }
 
 fn put_storage(alloc: Global, out: &mut Vec<Figure>, front: &[u8]) -> Result<(), Memory>
-    ensures { OnOk result (labels out.new.items ≡ labels out.old.items ++ model.storage_labels front.now) }
+    ensures { AddsFigures result out.old.items out.new.items (model.storage_labels front.now) }
 {
     put_contents(alloc, out, front)?;
-    put_plain(alloc, out, front, "WAIT")?;
+    put_content(alloc, out, front, "WAIT")?;
     put_stay(alloc, out, front)
 }
 
 fn put_queue(alloc: Global, out: &mut Vec<Figure>, front: &[u8]) -> Result<(), Memory>
-    ensures { OnOk result (labels out.new.items ≡ labels out.old.items ++ model.queue_labels front.now) }
+    ensures { AddsFigures result out.old.items out.new.items (model.queue_labels front.now) }
 {
     put_contents(alloc, out, front)?;
     put_stay(alloc, out, front)
@@ -62,7 +62,8 @@ fn put_queue(alloc: Global, out: &mut Vec<Figure>, front: &[u8]) -> Result<(), M
 
 /// What the part of a class of a table is called, by its number, where so many are behind it.
 fn put_class(out: &mut Vec<u8>, table: &Table, class: u64, left: u64) -> Result<(), Memory>
-    ensures { OnOk result (out.new.items ≡ out.old.items ++ model.class_text table.now class left) }
+    ensures { OnOk result
+        (out.new.items ≡ out.old.items ++ model.class_text table.now class left) }
 {
     if class == 0 {
         put_number(out, "TO ", table.limit)?;
@@ -95,8 +96,8 @@ fn put_classes(
     front: &[u8],
     table: &Table,
 ) -> Result<(), Memory>
-    ensures { OnOk result (labels out.new.items
-        ≡ labels out.old.items ++ model.class_labels table.now front.now 0 table.now.classes) }
+    ensures { AddsFigures result out.old.items out.new.items
+        (model.class_labels table.now front.now 0 table.now.classes) }
 {
     let classes = u64::from(table.classes);
     for class in 0..classes {
@@ -112,7 +113,8 @@ fn put_table(
     front: &[u8],
     table: &Table,
 ) -> Result<(), Memory>
-    ensures { OnOk result (labels out.new.items ≡ labels out.old.items ++ model.table_labels table.now front.now) }
+    ensures { AddsFigures result out.old.items out.new.items
+        (model.table_labels table.now front.now) }
 {
     put_plain(alloc, out, front, "COUNT")?;
     put_plain(alloc, out, front, "SUM")?;
@@ -129,8 +131,8 @@ pub(crate) fn put_entity(
     out: &mut Vec<Figure>,
     entity: &Entity,
 ) -> Result<(), Memory>
-    ensures { OnOk result (labels out.new.items
-        ≡ labels out.old.items ++ model.kind_labels entity.now.kind entity.now.name) }
+    ensures { AddsFigures result out.old.items out.new.items
+        (model.kind_labels entity.now.kind entity.now.name) }
 {
     let name = entity.name.as_slice();
     match &entity.kind {

@@ -2,7 +2,7 @@
 
 ghost use Rattle.std.specs.Prelude.{◌≡◌, ◌≤◌, ◌^◌, ◌++◌, ◌-ℤ◌, unsigned_abs, OnOk};
 ghost use Rattle.gw_figures.specs.Values as model;
-ghost use Rattle.gw_figures.specs.Windows.{span_of, greatest as greatest_of};
+ghost use Rattle.gw_figures.specs.Windows.{AddsValues, span_of, greatest as greatest_of};
 
 use crate::classes::rises;
 use crate::percentiles::percentile;
@@ -25,7 +25,8 @@ fn put_facility(
     window: &Window<'_>,
     number: usize,
 ) -> Result<(), Memory>
-    ensures { OnOk result (out.new.items ≡ out.old.items ++ model.facility_values (span_of window.now) number) }
+    ensures { AddsValues result out.old.items out.new.items
+        (model.facility_values (span_of window.now) number) }
 {
     let before = window.start.entity(number).facility;
     let after = window.end.entity(number).facility;
@@ -43,7 +44,8 @@ fn put_contents(
     before: Contents,
     after: Contents,
 ) -> Result<(), Memory>
-    ensures { OnOk result (out.new.items ≡ out.old.items ++ model.contents_values (span_of window.now) before after) }
+    ensures { AddsValues result out.old.items out.new.items
+        (model.contents_values (span_of window.now) before after) }
 {
     out.push(units(after.content))?;
     out.push(greatest(window, after.maximum))?;
@@ -57,7 +59,8 @@ fn put_stay(
     before: Contents,
     after: Contents,
 ) -> Result<(), Memory>
-    ensures { OnOk result (out.new.items ≡ out.old.items ++ model.stay_values (span_of window.now) before after) }
+    ensures { AddsValues result out.old.items out.new.items
+        (model.stay_values (span_of window.now) before after) }
 {
     let time_sum = after.time_sum.saturating_sub(before.time_sum);
     out.push(quotient(time_sum, passed(window)))?;
@@ -70,7 +73,8 @@ fn put_storage(
     window: &Window<'_>,
     number: usize,
 ) -> Result<(), Memory>
-    ensures { OnOk result (out.new.items ≡ out.old.items ++ model.storage_values (span_of window.now) number) }
+    ensures { AddsValues result out.old.items out.new.items
+        (model.storage_values (span_of window.now) number) }
 {
     let before = window.start.entity(number).storage.contents;
     let after = window.end.entity(number).storage.contents;
@@ -80,7 +84,8 @@ fn put_storage(
 }
 
 fn put_queue(out: &mut Vec<Option<i128>>, window: &Window<'_>, number: usize) -> Result<(), Memory>
-    ensures { OnOk result (out.new.items ≡ out.old.items ++ model.queue_values (span_of window.now) number) }
+    ensures { AddsValues result out.old.items out.new.items
+        (model.queue_values (span_of window.now) number) }
 {
     let before = window.start.entity(number).queue;
     let after = window.end.entity(number).queue;
@@ -90,7 +95,7 @@ fn put_queue(out: &mut Vec<Option<i128>>, window: &Window<'_>, number: usize) ->
 
 /// Which part of so many values each class has.
 fn put_shares(out: &mut Vec<Option<i128>>, count: u64, classes: &[u64]) -> Result<(), Memory>
-    ensures { OnOk result (out.new.items ≡ out.old.items ++ model.shares count classes.now) }
+    ensures { AddsValues result out.old.items out.new.items (model.shares count classes.now) }
 {
     for values in classes {
         out.push(quotient(u128::from(*values), count))?;
@@ -112,7 +117,7 @@ fn put_sums(
     before: TableFigures,
     after: TableFigures,
 ) -> Result<(), Memory>
-    ensures { OnOk result (out.new.items ≡ out.old.items ++ model.sum_values before after) }
+    ensures { AddsValues result out.old.items out.new.items (model.sum_values before after) }
 {
     let count = after.count.saturating_sub(before.count);
     let sum = added(before, after);
@@ -129,7 +134,8 @@ fn put_classes(
     count: u64,
     classes: &[u64],
 ) -> Result<(), Memory>
-    ensures { OnOk result (out.new.items ≡ out.old.items ++ model.classes_values table.now count classes.now) }
+    ensures { AddsValues result out.old.items out.new.items
+        (model.classes_values table.now count classes.now) }
 {
     out.push(percentile(table, 50, count, classes))?;
     out.push(percentile(table, 90, count, classes))?;
@@ -144,7 +150,8 @@ fn put_table(
     number: usize,
     table: &Table,
 ) -> Result<(), Memory>
-    ensures { OnOk result (out.new.items ≡ out.old.items ++ model.table_values table.now (span_of window.now) number) }
+    ensures { AddsValues result out.old.items out.new.items
+        (model.table_values table.now (span_of window.now) number) }
 {
     let before = window.start.entity(number).table;
     let after = window.end.entity(number).table;
@@ -170,7 +177,8 @@ pub(crate) fn put_entity(
     number: usize,
     kind: &Kind,
 ) -> Result<(), Memory>
-    ensures { OnOk result (out.new.items ≡ out.old.items ++ model.kind_values kind.now (span_of window.now) number) }
+    ensures { AddsValues result out.old.items out.new.items
+        (model.kind_values kind.now (span_of window.now) number) }
 {
     match kind {
         Kind::Facility => put_facility(out, window, number),

@@ -1,7 +1,7 @@
 //! A figure.
 
 ghost use Rattle.std.specs.Prelude.{◌≡◌, ◌++◌, [], ◌∷◌, IfOk, OnOk};
-ghost use Rattle.gw_figures.specs.Labels.{Label, labels, plain, detail, mean};
+ghost use Rattle.gw_figures.specs.Labels.{AddsFigures, Label, labels, plain, detail, mean, content};
 
 use gw_object::Memory;
 use std::alloc::Global;
@@ -15,6 +15,8 @@ pub struct Figure {
     pub main: bool,
     /// Whether it is an average over time, over units or over values.
     pub average: bool,
+    /// Whether it is how many are there at a moment: in a queue or a storage, or waiting for a facility or a storage.
+    pub content: bool,
 }
 
 /// What a figure tells of, and what it is called there.
@@ -34,13 +36,14 @@ pub(crate) fn put_named(
     front: &[u8],
     what: &[u8],
 ) -> Result<(), Memory>
-    ensures { OnOk result (labels out.new.items ≡ labels out.old.items ++ plain front.now what.now ∷ []) }
+    ensures { AddsFigures result out.old.items out.new.items (plain front.now what.now ∷ []) }
 {
     let name = name_of(alloc, front, what)?;
     out.push(Figure {
         name,
         main: true,
         average: false,
+        content: false,
     })?;
     Ok(())
 }
@@ -52,7 +55,7 @@ pub(crate) fn put_plain(
     front: &[u8],
     what: &str,
 ) -> Result<(), Memory>
-    ensures { OnOk result (labels out.new.items ≡ labels out.old.items ++ plain front.now what.now ∷ []) }
+    ensures { AddsFigures result out.old.items out.new.items (plain front.now what.now ∷ []) }
 {
     put_named(alloc, out, front, what.as_bytes())
 }
@@ -64,13 +67,14 @@ pub(crate) fn put_detail(
     front: &[u8],
     what: &str,
 ) -> Result<(), Memory>
-    ensures { OnOk result (labels out.new.items ≡ labels out.old.items ++ detail front.now what.now ∷ []) }
+    ensures { AddsFigures result out.old.items out.new.items (detail front.now what.now ∷ []) }
 {
     let name = name_of(alloc, front, what.as_bytes())?;
     out.push(Figure {
         name,
         main: false,
         average: false,
+        content: false,
     })?;
     Ok(())
 }
@@ -82,13 +86,33 @@ pub(crate) fn put_mean(
     front: &[u8],
     what: &str,
 ) -> Result<(), Memory>
-    ensures { OnOk result (labels out.new.items ≡ labels out.old.items ++ mean front.now what.now ∷ []) }
+    ensures { AddsFigures result out.old.items out.new.items (mean front.now what.now ∷ []) }
 {
     let name = name_of(alloc, front, what.as_bytes())?;
     out.push(Figure {
         name,
         main: true,
         average: true,
+        content: false,
+    })?;
+    Ok(())
+}
+
+/// Adds how many are there at a moment.
+pub(crate) fn put_content(
+    alloc: Global,
+    out: &mut Vec<Figure>,
+    front: &[u8],
+    what: &str,
+) -> Result<(), Memory>
+    ensures { AddsFigures result out.old.items out.new.items (content front.now what.now ∷ []) }
+{
+    let name = name_of(alloc, front, what.as_bytes())?;
+    out.push(Figure {
+        name,
+        main: true,
+        average: false,
+        content: true,
     })?;
     Ok(())
 }

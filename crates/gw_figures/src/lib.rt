@@ -7,6 +7,7 @@ mod entity_labels;
 mod entity_values;
 mod figure;
 mod labels;
+pub mod laws;
 mod model_values;
 mod percentiles;
 mod quotients;

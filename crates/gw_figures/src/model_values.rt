@@ -2,7 +2,7 @@
 
 ghost use Rattle.std.specs.Prelude.{◌≡◌, ◌++◌, IfOk, OnOk};
 ghost use Rattle.gw_figures.specs.Values as model;
-ghost use Rattle.gw_figures.specs.Windows.{span_of};
+ghost use Rattle.gw_figures.specs.Windows.{AddsValues, span_of};
 
 use crate::entity_values::put_entity;
 use crate::quotients::{rise, signed_units, units};
@@ -11,7 +11,8 @@ use gw_object::{Entity, Memory, Parts};
 use std::alloc::Global;
 
 fn put_end(out: &mut Vec<Option<i128>>, window: &Window<'_>) -> Result<(), Memory>
-    ensures { OnOk result (out.new.items ≡ out.old.items ++ model.end_values (span_of window.now)) }
+    ensures { AddsValues result out.old.items out.new.items
+        (model.end_values (span_of window.now)) }
 {
     out.push(units(passed(window)))?;
     out.push(rise(window.start.steps(), window.end.steps()))?;
@@ -21,7 +22,8 @@ fn put_end(out: &mut Vec<Option<i128>>, window: &Window<'_>) -> Result<(), Memor
 }
 
 fn put_block(out: &mut Vec<Option<i128>>, window: &Window<'_>, place: usize) -> Result<(), Memory>
-    ensures { OnOk result (out.new.items ≡ out.old.items ++ model.block_values (span_of window.now) place) }
+    ensures { AddsValues result out.old.items out.new.items
+        (model.block_values (span_of window.now) place) }
 {
     let before = window.start.block(place);
     let after = window.end.block(place);
@@ -33,7 +35,8 @@ fn put_block(out: &mut Vec<Option<i128>>, window: &Window<'_>, place: usize) -> 
 /// Those of so many blocks, in order.
 #[tactic(auto, unfolding(crate::specs::Values::blocks_values))]
 fn put_blocks(out: &mut Vec<Option<i128>>, window: &Window<'_>, blocks: usize) -> Result<(), Memory>
-    ensures { OnOk result (out.new.items ≡ out.old.items ++ model.blocks_values (span_of window.now) 0 blocks) }
+    ensures { AddsValues result out.old.items out.new.items
+        (model.blocks_values (span_of window.now) 0 blocks) }
 {
     for i in 0..blocks {
         put_block(out, window, i)?;
@@ -49,7 +52,8 @@ fn put_entities(
     window: &Window<'_>,
     entities: &[Entity],
 ) -> Result<(), Memory>
-    ensures { OnOk result (out.new.items ≡ out.old.items ++ model.entities_values (span_of window.now) 0 entities.now) }
+    ensures { AddsValues result out.old.items out.new.items
+        (model.entities_values (span_of window.now) 0 entities.now) }
 {
     for i in 0..entities.len() {
         put_entity(alloc, out, window, i, &entities[i].kind)?;
@@ -65,7 +69,8 @@ pub fn values(
     parts: &Parts,
     window: &Window<'_>,
 ) -> Result<Vec<Option<i128>>, Memory>
-    ensures { IfOk result (λ values. values.items ≡ model.values_of parts.now (span_of window.now)) }
+    ensures { IfOk result (λ values.
+        values.items ≡ model.values_of parts.now (span_of window.now)) }
 {
     let mut out = Vec::new(alloc);
     put_end(&mut out, window)?;

@@ -11,7 +11,7 @@ pub struct Run {
     pub steps: u64,
     /// The value of each figure in the window, in millionths, rounded to the nearest; None where nothing can be told.
     pub values: Vec<Option<i128>>,
-    /// By how much each average of the window's second half is greater than that of its first, in millionths; None where one
-    /// can't be told, and of what is no average.
+    /// By how much each average of the window's second half is greater than that of its first, and each content at its end than
+    /// halfway, in millionths; None where one can't be told, and of what is neither an average nor a content.
     pub trend: Vec<Option<i128>>,
 }

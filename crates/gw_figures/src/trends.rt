@@ -1,4 +1,4 @@
-//! By how much averages change in a window.
+//! By how much averages and contents change in a window.
 
 ghost use Rattle.std.specs.Prelude.{◌≡◌, IfOk};
 ghost use Rattle.gw_figures.specs.Trends as model;
@@ -35,7 +35,7 @@ fn value_at(values: &[Option<i128>], place: usize) -> Option<i128>
     }
 }
 
-/// By how much a figure at a place changes, where it is an average.
+/// By how much a figure at a place changes, where it is an average or a content.
 fn change(
     figure: &Figure,
     before: &[Option<i128>],
@@ -44,15 +44,15 @@ fn change(
 ) -> Option<i128>
     ensures { result ≡ model.change before.now after.now place (label_of figure.now) }
 {
-    if figure.average {
+    if figure.average || figure.content {
         difference(value_at(before, place), value_at(after, place))
     } else {
         None
     }
 }
 
-/// By how much each average changes from the values of one window to those of another, in the order of the figures; None of what
-/// is no average.
+/// By how much each average and each content changes from the values of one window to those of another, in the order of the figures;
+/// None of what is neither.
 #[tactic(auto, unfolding(crate::specs::Trends::changes_from))]
 pub fn changes(
     alloc: Global,
@@ -60,7 +60,8 @@ pub fn changes(
     before: &[Option<i128>],
     after: &[Option<i128>],
 ) -> Result<Vec<Option<i128>>, Memory>
-    ensures { IfOk result (λ changes. changes.items ≡ model.changes (labels figures.now) before.now after.now) }
+    ensures { IfOk result (λ changes.
+        changes.items ≡ model.changes (labels figures.now) before.now after.now) }
 {
     let mut out = Vec::with_capacity(alloc, figures.len())?;
     for i in 0..figures.len() {
