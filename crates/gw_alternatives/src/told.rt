@@ -9,7 +9,7 @@ use gw_comparison::{Column, Point, put_differences, put_picture, put_sheet};
 use gw_figures::{Figure, Run};
 use gw_object::Memory;
 use gw_scan::End;
-use gw_study::{Results, StudyRequest, results, table};
+use gw_study::{Results, StudyRequest, results, results_text};
 use std::alloc::Global;
 use std::io::Eprint;
 use std::sync::Wait;
@@ -80,7 +80,7 @@ fn point_of(
     })
 }
 
-/// The head and the table of an alternative.
+/// The head of an alternative, and what is told of its results.
 fn put_table(
     alloc: Global,
     out: &mut Vec<u8>,
@@ -93,8 +93,8 @@ fn put_table(
     out.extend_from_slice(b"POINT ")?;
     out.extend_from_slice(&alternative.name)?;
     out.extend_from_slice(b"\n")?;
-    let table = table(alloc, results, request, alternative.spec.count())?;
-    out.extend_from_slice(&table)?;
+    let text = results_text(alloc, &alternative.spec, results, request)?;
+    out.extend_from_slice(&text)?;
     out.extend_from_slice(b"\n")
 }
 

@@ -3,6 +3,8 @@ pub mod Following
 pub mod Found
 pub mod Joining
 pub mod Jumping
+pub mod Looking
 pub mod Mapping
 pub mod Pieces
+pub mod Places
 pub mod Tabling

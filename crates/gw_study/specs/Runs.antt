@@ -53,7 +53,8 @@ window j from s t =
     }
 
 -- what is kept of a run: its end and steps; the values of the window from the first state in which so
--- many are counted to the last state; and by how much averages change from its first half to its second
+-- many are counted to the last state; and by how much averages and contents change from its first half to
+-- its second
 pub record IsRunOf (j : Job) (from : ℕ) (run : Run) : Type 0 where
   pub start : State
   pub middle : State

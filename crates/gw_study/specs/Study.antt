@@ -1,5 +1,5 @@
 -- What a study of a model text tells.
-use Rattle.std.specs.Prelude.{◌≡◌, ◌⊎◌, ◌<◌, ◌^◌, ℕ, List, [], length}
+use Rattle.std.specs.Prelude.{◌≡◌, ◌⊎◌, ◌<◌, ◌^◌, ℕ, List, [], ◌++◌, length}
 use Rattle.gw_object.specs.declared.fault.Fault.{Fault}
 use Rattle.gw_step.specs.Job.{Job}
 use Rattle.gw_scan.specs.Making.{job_from}
@@ -7,12 +7,13 @@ use Rattle.gw_scan.specs.declared.spec.StartFault.TheVariants.{Count}
 use Rattle.gw_answers.specs.Status.{ended, refused}
 use Rattle.gw_answers.specs.Refusal.{refusal_line, start_refusal}
 use Rattle.gw_model_jobs.specs.ModelJobs.{IsJobOf, IsRefusalOf}
-use Rattle.gw_figures.specs.Labels.{labels, labels_of}
+use Rattle.gw_figures.specs.Labels.{Label, labels, labels_of}
 use Rattle.gw_figures.specs.declared.run.Run.{Run}
 use Rattle.gw_study.specs.declared.request.StudyRequest.{StudyRequest}
 use Rattle.gw_study.specs.declared.telling.Results.{Results}
 use Rattle.gw_study.specs.Requests.{first_run}
 use Rattle.gw_study.specs.Runs.{AreRunsFrom}
+use Rattle.gw_study.specs.Streams.{streams_text}
 use Rattle.gw_study.specs.Table.{IsTable}
 
 -- the job of a text's object with this count
@@ -25,12 +26,19 @@ pub record AreResultsOf (j : Job) (request : StudyRequest) (results : Results) :
   pub number : length results.runs.items ≡ request.runs
   pub runs : AreRunsFrom j request.from (first_run request) results.runs.items
 
--- the table of the runs of a job's object
+-- the table of figures and runs of a job's object, and the lines of streams that may have come to where the
+-- next begins
+pub record IsResultsText (figures : List Label) (runs : List Run) (request : StudyRequest) (j : Job) (text : List ℕ) : Type 0 where
+  pub table : List ℕ
+  pub told : IsTable figures runs request j.count table
+  pub whole : text ≡ table ++ streams_text j.parts runs
+
+-- the same of the runs that are asked for
 abbrev pub IsTold : Job → StudyRequest → List ℕ → Type 0
 IsTold j request text =
     (runs : List Run) × (length runs ≡ request.runs)
     × AreRunsFrom j request.from (first_run request) runs
-    × IsTable (labels_of j.parts) runs request j.count text
+    × IsResultsText (labels_of j.parts) runs request j text
 
 -- the job of a text with this count
 abbrev pub IsCountedJob : List ℕ → ℕ → Job → Type 0

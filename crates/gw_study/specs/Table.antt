@@ -1,5 +1,5 @@
 -- The table of a study.
-use Rattle.std.specs.Prelude.{◌≡◌, ◌⊎◌, ℕ, ◌+◌, ◌-◌, ◌*◌, ◌/◌, ◌%◌, min, ◌==◌, nat_lt, List, [], ◌∷◌, ◌++◌, length, map, codes, Bool, false, ◌||◌, ℤ, unsigned_abs, Option, None, Some, Contains, MatchBool, if◌then◌else◌}
+use Rattle.std.specs.Prelude.{◌≡◌, ◌⊎◌, ℕ, ◌+◌, ◌-◌, ◌*◌, ◌/◌, ◌%◌, min, ◌==◌, nat_lt, nat_le, int_lt, pos, List, [], ◌∷◌, ◌++◌, length, map, codes, Bool, false, ◌||◌, ◌&&◌, ℤ, unsigned_abs, Option, None, Some, Contains, MatchBool, if◌then◌else◌}
 use Rattle.std.specs.Borrow.{Bor}
 use Rattle.std.specs.Fmt.{decimal}
 use Rattle.std.specs.List.{slice_get, count_by}
@@ -37,9 +37,11 @@ abbrev pub ended_so : List Run → End → ℕ
 ended_so runs end = count_by (is_ended_so end) runs
 
 -- the first line: how many runs there are and how many came to their count, and whether all of a run is
--- told or a window
+-- told, with its empty start, or a window
 abbrev pub start_text : ℕ → List ℕ
-start_text from = if from == 0 then codes " begin empty\n" else codes " from " ++ decimal from ++ codes "\n"
+start_text from =
+    if from == 0 then codes " begin empty: averages hold the empty start\n"
+    else codes " from " ++ decimal from ++ codes "\n"
 
 abbrev pub first_line : List Run → ℕ → List ℕ
 first_line runs from =
@@ -128,6 +130,12 @@ amount mean = codes " " ++ thousandths_text (thousandths_of mean)
 unfoldable pub advice : ℕ → ℤ → List ℕ
 advice suggested mean = amount mean ++ codes ": try --from " ++ decimal suggested ++ codes "\n"
 
+-- how many are there at the end of a line that grows, and what that means
+unfoldable pub growth_text : List ℕ → ℤ → List ℕ
+growth_text name mean =
+    codes "GROWS " ++ name ++ codes " to" ++ amount mean
+    ++ codes ": more come than can be served, so averages grow with the length of the run\n"
+
 -- what is told of a change
 abbrev pub trend_line : List ℕ → ℕ → Option Summary → List ℕ
 trend_line name suggested None = []
@@ -136,11 +144,38 @@ trend_line name suggested (Some s) =
     codes "TREND " ++ name ++ advice suggested s.mean
     else []
 
--- the line of a figure's change, where it is one
+-- the line of an average's change, where it is great
 abbrev pub IsTrendOf : List (List (Option ℤ)) → ℕ → ℕ → Label → List ℕ → Type 0
 IsTrendOf rows suggested place figure text =
-    (said : Option Summary) × IsSaidOf (column place rows) said
-    × (text ≡ trend_line figure.name suggested said)
+    MatchBool figure.average
+    ((said : Option Summary) × IsSaidOf (column place rows) said
+    × (text ≡ trend_line figure.name suggested said))
+    (text ≡ [])
+
+-- a change is one upwards, and further from 0 than twice its half-width
+abbrev pub rises : Summary → Bool
+rises change = exceeds change.mean change.half_width && int_lt (pos 0) change.mean
+
+-- at least 10 are there at the end, and a third of them or more came in the second half: of what grows evenly
+-- one half does, and of what grows with the root of the time 29 of a hundred
+abbrev pub grows : Summary → Summary → Bool
+grows last change =
+    rises change && nat_le 10000000 (unsigned_abs last.mean)
+    && nat_le (unsigned_abs last.mean / 3) (unsigned_abs change.mean)
+
+-- what is told of what is there at the end, and of its change since halfway
+abbrev pub growth_line : List ℕ → Option Summary → Option Summary → List ℕ
+growth_line name None change = []
+growth_line name (Some last) None = []
+growth_line name (Some last) (Some change) = if grows last change then growth_text name last.mean else []
+
+-- the line of a content that grows to the end of the run
+abbrev pub IsGrowthOf : List (List (Option ℤ)) → List (List (Option ℤ)) → ℕ → Label → List ℕ → Type 0
+IsGrowthOf rows trends place figure text =
+    MatchBool figure.content
+    ((last : Option Summary) × (change : Option Summary) × IsSaidOf (column place rows) last
+    × IsSaidOf (column place trends) change × (text ≡ growth_line figure.name last change))
+    (text ≡ [])
 
 -- a text is a piece for each figure, of which the first is at this place, one behind the other
 abbrev pub ArePieces : (ℕ → Label → List ℕ → Type 0) → ℕ → List Label → List ℕ → Type 0
@@ -168,8 +203,9 @@ suggestion count from = from + (count - from) / 2
 -- what a study tells of figures and runs, where this is the count
 abbrev pub IsTable : List Label → List Run → StudyRequest → ℕ → List ℕ → Type 0
 IsTable figures runs request count text =
-    (rows : List ℕ) × (trends : List ℕ)
+    (rows : List ℕ) × (trends : List ℕ) × (growths : List ℕ)
     × ArePieces (IsRowOf (values_of_done runs) request.all) 0 figures rows
     × ArePieces (IsTrendOf (trends_of_done runs) (suggestion count request.from)) 0 figures trends
+    × ArePieces (IsGrowthOf (values_of_done runs) (trends_of_done runs)) 0 figures growths
     × (text ≡ first_line runs request.from ++ ends_line runs ++ head_line ++ rows
-    ++ more_line (length (values_of_done runs)) ++ trends)
+    ++ more_line (length (values_of_done runs)) ++ trends ++ growths)

@@ -3,15 +3,19 @@
 #![tactic(auto)]
 
 mod columns;
+mod growing;
+pub mod laws;
 mod one_run;
 mod request;
 mod runs;
 mod seeds;
+mod streams;
 mod studying;
 mod telling;
 pub mod text;
 
 pub use request::{MOST_RUNS, StudyRequest};
 pub use seeds::seeds_of;
-pub use studying::{job_of_text, results, study};
+pub use streams::put_streams;
+pub use studying::{job_of_text, results, results_text, study};
 pub use telling::{Results, table};

@@ -1,13 +1,15 @@
 //! A study of a model text.
 
-ghost use Rattle.std.specs.Prelude.{◌≡◌, IfOk};
+ghost use Rattle.std.specs.Prelude.{◌≡◌, ◌≤◌, vec_len, IfOk};
 ghost use Rattle.gw_model_jobs.specs.ModelJobs.{IsJobOf, Finds};
 ghost use Rattle.gw_answers.specs.Status.{ended};
+ghost use Rattle.gw_figures.specs.Labels.{labels};
 ghost use Rattle.gw_study.specs.Requests.{MayBeStudied};
-ghost use Rattle.gw_study.specs.Study.{counted as counted_of, AreResultsOf, IsCountedJob, IsCountRefusal, IsStudyRefusal, IsStudy, IsTold};
+ghost use Rattle.gw_study.specs.Study.{counted as counted_of, AreResultsOf, IsResultsText, IsCountedJob, IsCountRefusal, IsStudyRefusal, IsStudy, IsTold};
 
 use crate::request::StudyRequest;
 use crate::runs::{Setup, runs_of};
+use crate::streams::put_streams;
 use crate::telling::{Results, table};
 use gw_answers::status::ENDED;
 use gw_answers::{Answer, BUDGET, NoJob, Refusal, refused};
@@ -73,7 +75,24 @@ pub fn results<T: Threads + Sync + Eprint>(
     Ok(Results { figures, runs })
 }
 
-/// The table of the runs of a job's object.
+/// What a study tells of the runs of a job's object: the table ([`table`]), and the streams that may have come to where the next
+/// begins ([`put_streams`]).
+pub fn results_text(
+    alloc: Global,
+    spec: &Spec,
+    results: &Results,
+    request: &StudyRequest,
+) -> Result<Vec<u8>, Memory>
+    requires { vec_len results.now.runs ≤ 512 }
+    ensures { IfOk result (λ text. IsResultsText (labels results.now.figures.items)
+        results.now.runs.items request.now spec.now text.items) }
+{
+    let mut text = table(alloc, results, request, spec.count())?;
+    put_streams(&mut text, spec.verified().object().parts(), &results.runs)?;
+    Ok(text)
+}
+
+/// What is told of the runs of a job's object.
 fn studied<T: Threads + Sync + Eprint>(
     rt: &T,
     alloc: Global,
@@ -86,7 +105,7 @@ fn studied<T: Threads + Sync + Eprint>(
 {
     let results = results(rt, alloc, spec, request)?;
     Ok(Answer {
-        text: table(alloc, &results, request, spec.count())?,
+        text: results_text(alloc, spec, &results, request)?,
         status: ENDED,
     })
 }
@@ -94,7 +113,8 @@ fn studied<T: Threads + Sync + Eprint>(
 /// The study of a model text: it is assembled, and run so many times, each time with 16 other seeds, until so many transactions
 /// have been counted. Workers make the runs. What comes is a row for each figure, with its mean over the runs that came to their
 /// count, the least and the greatest, and the half-width of its 95 % confidence interval, all in thousandths, how many more runs
-/// would halve that, and which averages change in a run. A text that is refused is told as `gpssw asm` tells it; so is a count
+/// would halve that, which averages change in a run, which contents grow to its end, and which streams may have come to where the
+/// next begins. A text that is refused is told as `gpssw asm` tells it; so is a count
 /// above 2^40.
 pub fn study<T: Threads + Sync + Eprint>(
     rt: &T,

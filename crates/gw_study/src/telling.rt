@@ -6,6 +6,7 @@ ghost use Rattle.gw_study.specs.Table as model;
 ghost use Rattle.gw_study.specs.Table.{Adds, ArePieces, IsRowOf, IsTrendOf, IsTable};
 
 use crate::columns::{ended_so, said_at, trends_of_done, values_of_done};
+use crate::growing::put_growths;
 use crate::request::StudyRequest;
 use crate::text::{Thousandths, put_head, put_line, thousandths_of};
 use gw_figures::{Figure, Run};
@@ -30,7 +31,7 @@ fn put_start(out: &mut Vec<u8>, from: u64) -> Result<(), Memory>
     ensures { OnOk result (out.new.items ≡ out.old.items ++ model.start_text from) }
 {
     if from == 0 {
-        return put(out, " begin empty\n");
+        return put(out, " begin empty: averages hold the empty start\n");
     }
     put_number(out, " from ", from)?;
     put(out, "\n")
@@ -144,7 +145,7 @@ fn put_more(out: &mut Vec<u8>, done: usize) -> Result<(), Memory>
 }
 
 /// Whether a mean lies further from 0 than twice its half-width.
-fn exceeds(mean: &i128, half_width: Option<u128>) -> bool
+pub(crate) fn exceeds(mean: &i128, half_width: Option<u128>) -> bool
     ensures { result ≡ model.exceeds mean.now half_width }
 {
     match half_width {
@@ -163,7 +164,7 @@ fn put_behind_blank(out: &mut Vec<u8>, text: &[u8]) -> Result<(), Memory>
 
 /// By how much an average changes, behind a blank.
 #[tactic(auto, unfolding(crate::specs::Table::amount))]
-fn put_amount(alloc: Global, out: &mut Vec<u8>, mean: &i128) -> Result<(), Memory>
+pub(crate) fn put_amount(alloc: Global, out: &mut Vec<u8>, mean: &i128) -> Result<(), Memory>
     ensures { OnOk result (out.new.items ≡ out.old.items ++ model.amount mean.now) }
 {
     let told = format!(in alloc; "{}", Thousandths(thousandths_of(*mean)))?;
@@ -207,7 +208,8 @@ fn put_change(
     suggested: u64,
     said: Option<Summary>,
 ) -> Result<(), Memory>
-    ensures { OnOk result (out.new.items ≡ out.old.items ++ model.trend_line name.now suggested said) }
+    ensures { OnOk result
+        (out.new.items ≡ out.old.items ++ model.trend_line name.now suggested said) }
 {
     match said {
         Some(change) => put_great(alloc, out, name, suggested, &change),
@@ -229,6 +231,9 @@ fn put_trend(
         (IsTrendOf (model.rows rows.now) suggested place (label_of figure.now))
         out.old.items out.new.items) }
 {
+    if !figure.average {
+        return Ok(());
+    }
     let said = said_at(alloc, rows, place)?;
     put_change(alloc, out, &figure.name, suggested, said)
 }
@@ -265,7 +270,8 @@ fn suggestion(count: u64, from: u64) -> u64
 }
 
 /// What a study of this count tells of its results: how many runs there are and how they ended, a row for each figure of the runs
-/// that came to their count, how many more runs would halve the half-widths, and which averages change in the window.
+/// that came to their count, how many more runs would halve the half-widths, which averages change in the window, and which contents
+/// grow to its end.
 pub fn table(
     alloc: Global,
     results: &Results,
@@ -274,8 +280,8 @@ pub fn table(
 ) -> Result<Vec<u8>, Memory>
     requires runs { vec_len results.now.runs ≤ 512 }
     requires count { count ≤ 2 ^ 40 }
-    ensures { IfOk result (λ text. IsTable (labels results.now.figures.items) results.now.runs.items
-        request.now count text.items) }
+    ensures { IfOk result (λ text. IsTable (labels results.now.figures.items)
+        results.now.runs.items request.now count text.items) }
 {
     let mut out = Vec::new(alloc);
     let values = values_of_done(alloc, &results.runs)?;
@@ -287,5 +293,6 @@ pub fn table(
     put_more(&mut out, values.len())?;
     let suggested = suggestion(count, request.from);
     put_trends(alloc, &mut out, &results.figures, &trends, suggested)?;
+    put_growths(alloc, &mut out, &results.figures, &values, &trends)?;
     Ok(out)
 }

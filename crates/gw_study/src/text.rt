@@ -80,7 +80,8 @@ fn distance(value: i128) -> u128
 
 /// Appends thousandths.
 fn put_thousandths(alloc: Global, out: &mut Vec<u8>, number: i128) -> Result<(), Memory>
-    ensures { OnOk result (out.new.items ≡ out.old.items ++ model.right 16 (model.thousandths_text number)) }
+    ensures { OnOk result
+        (out.new.items ≡ out.old.items ++ model.right 16 (model.thousandths_text number)) }
 {
     let text = format!(in alloc; "{}", Thousandths(number))?;
     put_right(out, NUMBER, text.as_bytes())
@@ -109,7 +110,9 @@ fn put_half_width(
     mean: &i128,
     half_width: Option<u128>,
 ) -> Result<(), Memory>
-    ensures { OnOk result (out.new.items ≡ out.old.items ++ model.right 16 (model.half_width_text mean.now half_width)) }
+    ensures { OnOk result
+        (out.new.items ≡ out.old.items
+        ++ model.right 16 (model.half_width_text mean.now half_width)) }
 {
     match half_width {
         Some(half_width) if half_width <= 1 << 64 => {
