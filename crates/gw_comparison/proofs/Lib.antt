@@ -1,3 +1,4 @@
 pub mod Series
 pub mod Rows
 pub mod Reach
+pub mod Each

@@ -4,6 +4,7 @@ pub mod Points
 pub mod Amounts
 pub mod Columns
 pub mod Differences
+pub mod Sheets
 -- PICTURES
 pub mod Frames
 pub mod Pictures

@@ -143,7 +143,8 @@ fn put_row_if_told(
     others: &[Column],
     all: bool,
 ) -> Result<(), Memory>
-    ensures { OnOk result (model.AddsRowIfTold all first.now others.now out.old.items out.new.items) }
+    ensures { OnOk result
+        (model.AddsRowIfTold all first.now others.now out.old.items out.new.items) }
 {
     if !is_told(first, all) {
         return Ok(());
@@ -212,7 +213,8 @@ pub fn put_differences(
     second: &Point,
     all: bool,
 ) -> Result<(), Memory>
-    ensures { OnOk result (model.AddsDifferences all first.now second.now out.old.items out.new.items) }
+    ensures { OnOk result
+        (model.AddsDifferences all first.now second.now out.old.items out.new.items) }
 {
     put_title(out, &first.name, &second.name)?;
     put_heads(out, &first.name, &second.name)?;

@@ -54,7 +54,8 @@ fn put_number_text(
     how: &str,
     number: &i128,
 ) -> Result<(), Memory>
-    ensures { OnOk result (out.new.items ≡ out.old.items ++ model.number_text x y how.now number.now) }
+    ensures { OnOk result
+        (out.new.items ≡ out.old.items ++ model.number_text x y how.now number.now) }
 {
     put_text_at(out, x, y, how)?;
     put_amount(out, number)?;

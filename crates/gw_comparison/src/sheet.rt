@@ -1,46 +1,54 @@
 //! Points as CSV.
 
-ghost use Rattle.std.specs.Prelude.{◌≡◌, ◌≤◌, ◌++◌, ◌∷◌, [], length, map, OnOk};
-ghost use Rattle.csv.specs.Writing.{row_text};
-ghost use Rattle.gw_comparison.specs.Points.{IsAccount};
+ghost use Rattle.std.specs.Prelude.{◌≡◌, ◌++◌, Some, map, IfOk, OnOk};
+ghost use Rattle.std.specs.Fmt.{decimal};
+ghost use Rattle.gw_comparison.specs.Amounts.{millionths};
+ghost use Rattle.gw_comparison.specs.Sheets as model;
+ghost use Rattle.gw_comparison.specs.Sheets.{AddsEach, account_fields, head_fields, record_text};
 
 use crate::accounts::{Account, account_in, column_of, is_told};
 use crate::amounts::put_millionths;
 use crate::differences::account_between;
 use crate::point::{Column, Point};
-use csv::{Terminator, Writer, WriterBuilder};
+use csv::{Terminator, WriterBuilder};
 use gw_drawing::text::put_number;
 use gw_object::Memory;
 use gw_statistics::Summary;
 use std::alloc::Global;
 
-/// A writer of records, each with a carriage return and a line feed behind it.
-fn writer_of(alloc: Global) -> Writer<Vec<u8>> {
-    WriterBuilder::new()
-        .terminator(Terminator::CRLF)
-        .from_writer(Vec::new(alloc))
-}
-
 /// A record of fields, with its end.
-fn record_of(alloc: Global, fields: &[&[u8]]) -> Result<Vec<u8>, Memory> {
-    let mut writer = writer_of(alloc);
-    if writer.write_fields(fields).is_err() {
-        return Err(Memory);
-    }
-    match writer.into_inner() {
-        Ok(record) => Ok(record),
-        Err(_) => Err(Memory),
+#[tactic(auto, unfolding(crate::specs::Sheets::record_text))]
+fn record_of(alloc: Global, fields: &[&[u8]]) -> Result<Vec<u8>, Memory>
+    ensures { IfOk result (λ made. made.items ≡ record_text (map (λ f. f.now) fields.now)) }
+{
+    let mut writer = WriterBuilder::new()
+        .terminator(Terminator::CRLF)
+        .from_writer(Vec::new(alloc));
+    match writer.write_fields(fields) {
+        Ok(()) => match writer.into_inner() {
+            Ok(record) => Ok(record),
+            Err(_) => Err(Memory),
+        },
+        Err(_) => {
+            drop(writer);
+            Err(Memory)
+        }
     }
 }
 
 /// A record of fields, behind others.
-fn put_record(alloc: Global, out: &mut Vec<u8>, fields: &[&[u8]]) -> Result<(), Memory> {
+fn put_record(alloc: Global, out: &mut Vec<u8>, fields: &[&[u8]]) -> Result<(), Memory>
+    ensures { OnOk result
+        (out.new.items ≡ out.old.items ++ record_text (map (λ f. f.now) fields.now)) }
+{
     let record = record_of(alloc, fields)?;
     out.extend_from_slice(&record)
 }
 
 /// What the fields are.
-fn put_head(alloc: Global, out: &mut Vec<u8>) -> Result<(), Memory> {
+fn put_head(alloc: Global, out: &mut Vec<u8>) -> Result<(), Memory>
+    ensures { OnOk result (out.new.items ≡ out.old.items ++ record_text head_fields) }
+{
     put_record(
         alloc,
         out,
@@ -57,14 +65,18 @@ fn put_head(alloc: Global, out: &mut Vec<u8>) -> Result<(), Memory> {
 }
 
 /// A number of millionths as a field.
-fn field_of(alloc: Global, number: &i128) -> Result<Vec<u8>, Memory> {
+fn field_of(alloc: Global, number: &i128) -> Result<Vec<u8>, Memory>
+    ensures { IfOk result (λ field. field.items ≡ millionths number.now) }
+{
     let mut field = Vec::new(alloc);
     put_millionths(&mut field, number)?;
     Ok(field)
 }
 
 /// A half-width as a field: empty where there is none.
-fn half_width_field(alloc: Global, half_width: Option<u128>) -> Result<Vec<u8>, Memory> {
+fn half_width_field(alloc: Global, half_width: Option<u128>) -> Result<Vec<u8>, Memory>
+    ensures { IfOk result (λ field. field.items ≡ model.half_width_field half_width) }
+{
     match half_width {
         Some(half_width) if half_width <= 1 << 120 => field_of(alloc, &(half_width as i128)),
         _ => Ok(Vec::new(alloc)),
@@ -72,7 +84,9 @@ fn half_width_field(alloc: Global, half_width: Option<u128>) -> Result<Vec<u8>, 
 }
 
 /// A count as a field.
-fn count_field(alloc: Global, count: usize) -> Result<Vec<u8>, Memory> {
+fn count_field(alloc: Global, count: usize) -> Result<Vec<u8>, Memory>
+    ensures { IfOk result (λ field. field.items ≡ decimal count) }
+{
     let mut field = Vec::new(alloc);
     put_number(&mut field, "", count)?;
     Ok(field)
@@ -86,7 +100,10 @@ fn put_summary(
     figure: &[u8],
     count: usize,
     summary: &Summary,
-) -> Result<(), Memory> {
+) -> Result<(), Memory>
+    ensures { OnOk result (out.new.items ≡ out.old.items
+        ++ record_text (account_fields point.now figure.now count (Some summary.now))) }
+{
     let runs = count_field(alloc, count)?;
     let mean = field_of(alloc, &summary.mean)?;
     let half_width = half_width_field(alloc, summary.half_width)?;
@@ -106,7 +123,10 @@ fn put_account(
     point: &[u8],
     figure: &[u8],
     account: &Account,
-) -> Result<(), Memory> {
+) -> Result<(), Memory>
+    ensures { OnOk result (out.new.items ≡ out.old.items
+        ++ record_text (account_fields point.now figure.now account.now.count account.now.summary)) }
+{
     match &account.summary {
         Some(summary) => put_summary(alloc, out, point, figure, account.count, summary),
         None => put_record(alloc, out, &[point, figure, b"0", b"", b"", b"", b""]),
@@ -120,7 +140,10 @@ fn put_column(
     point: &[u8],
     column: &Column,
     all: bool,
-) -> Result<(), Memory> {
+) -> Result<(), Memory>
+    ensures { OnOk result
+        (model.AddsColumn all point.now column.now out.old.items out.new.items) }
+{
     if !is_told(column, all) {
         return Ok(());
     }
@@ -128,29 +151,65 @@ fn put_column(
     put_account(alloc, out, point, &column.name, &account)
 }
 
-/// The records of a point.
-fn put_columns(alloc: Global, out: &mut Vec<u8>, point: &Point, all: bool) -> Result<(), Memory> {
-    for i in 0..point.columns.len() {
-        put_column(alloc, out, &point.name, &point.columns[i], all)?;
+/// The records of columns.
+fn put_columns(
+    alloc: Global,
+    out: &mut Vec<u8>,
+    point: &[u8],
+    columns: &[Column],
+    all: bool,
+) -> Result<(), Memory>
+    ensures { OnOk result
+        (AddsEach (model.AddsColumn all point.now) columns.now out.old.items out.new.items) }
+{
+    for i in 0..columns.len() {
+        put_column(alloc, out, point, &columns[i], all)?;
     }
     Ok(())
 }
 
+/// The records of a point.
+fn put_point(alloc: Global, out: &mut Vec<u8>, point: &Point, all: bool) -> Result<(), Memory>
+    ensures { OnOk result (model.AddsColumns all point.now out.old.items out.new.items) }
+{
+    put_columns(alloc, out, &point.name, &point.columns, all)
+}
+
 /// The records of all points.
-fn put_points(alloc: Global, out: &mut Vec<u8>, points: &[Point], all: bool) -> Result<(), Memory> {
+fn put_points(alloc: Global, out: &mut Vec<u8>, points: &[Point], all: bool) -> Result<(), Memory>
+    ensures { OnOk result
+        (AddsEach (model.AddsColumns all) points.now out.old.items out.new.items) }
+{
     for i in 0..points.len() {
-        put_columns(alloc, out, &points[i], all)?;
+        put_point(alloc, out, &points[i], all)?;
     }
     Ok(())
 }
 
 /// What a difference is called: the point, and the first.
-fn difference_name(alloc: Global, first: &[u8], second: &[u8]) -> Result<Vec<u8>, Memory> {
+fn difference_name(alloc: Global, first: &[u8], second: &[u8]) -> Result<Vec<u8>, Memory>
+    ensures { IfOk result (λ name. name.items ≡ model.difference_name first.now second.now) }
+{
     let mut name = Vec::new(alloc);
     name.extend_from_slice(second)?;
     name.extend_from_slice(b" LESS ")?;
     name.extend_from_slice(first)?;
     Ok(name)
+}
+
+/// The record of the differences of a figure.
+fn put_difference_of(
+    alloc: Global,
+    out: &mut Vec<u8>,
+    name: &[u8],
+    first: &Column,
+    second: &Column,
+) -> Result<(), Memory>
+    ensures { OnOk result (model.AddsDifferenceRecord name.now first.now (Some second.now)
+        out.old.items out.new.items) }
+{
+    let account = account_between(alloc, first, second)?;
+    put_account(alloc, out, name, &first.name, &account)
 }
 
 /// The record of the differences of a figure, if both points have it and it is told.
@@ -161,17 +220,35 @@ fn put_difference(
     first: &Column,
     others: &[Column],
     all: bool,
-) -> Result<(), Memory> {
+) -> Result<(), Memory>
+    ensures { OnOk result (model.AddsDifferenceIfTold all name.now others.now first.now
+        out.old.items out.new.items) }
+{
     if !is_told(first, all) {
         return Ok(());
     }
     match column_of(others, &first.name) {
-        Some(second) => {
-            let account = account_between(alloc, first, second)?;
-            put_account(alloc, out, name, &first.name, &account)
-        }
+        Some(second) => put_difference_of(alloc, out, name, first, second),
         None => Ok(()),
     }
+}
+
+/// The records of the differences of columns.
+fn put_each_difference(
+    alloc: Global,
+    out: &mut Vec<u8>,
+    name: &[u8],
+    columns: &[Column],
+    others: &[Column],
+    all: bool,
+) -> Result<(), Memory>
+    ensures { OnOk result (AddsEach (model.AddsDifferenceIfTold all name.now others.now) columns.now
+        out.old.items out.new.items) }
+{
+    for i in 0..columns.len() {
+        put_difference(alloc, out, name, &columns[i], others, all)?;
+    }
+    Ok(())
 }
 
 /// The records of the differences of a point to the first.
@@ -181,10 +258,27 @@ fn put_differences(
     first: &Point,
     second: &Point,
     all: bool,
-) -> Result<(), Memory> {
+) -> Result<(), Memory>
+    ensures { OnOk result (model.AddsDifferenceRecords all first.now second.now
+        out.old.items out.new.items) }
+{
     let name = difference_name(alloc, &first.name, &second.name)?;
-    for i in 0..first.columns.len() {
-        put_difference(alloc, out, &name, &first.columns[i], &second.columns, all)?;
+    put_each_difference(alloc, out, &name, &first.columns, &second.columns, all)
+}
+
+/// The records of the differences of points to the first.
+fn put_others(
+    alloc: Global,
+    out: &mut Vec<u8>,
+    first: &Point,
+    others: &[Point],
+    all: bool,
+) -> Result<(), Memory>
+    ensures { OnOk result (AddsEach (model.AddsDifferenceRecords all first.now) others.now
+        out.old.items out.new.items) }
+{
+    for i in 0..others.len() {
+        put_differences(alloc, out, first, &others[i], all)?;
     }
     Ok(())
 }
@@ -195,11 +289,14 @@ fn put_all_differences(
     out: &mut Vec<u8>,
     points: &[Point],
     all: bool,
-) -> Result<(), Memory> {
-    for i in 1..points.len() {
-        put_differences(alloc, out, &points[0], &points[i], all)?;
+) -> Result<(), Memory>
+    ensures { OnOk result
+        (model.AddsAllDifferenceRecords all points.now out.old.items out.new.items) }
+{
+    match points {
+        [first, others @ ..] => put_others(alloc, out, first, others, all),
+        [] => Ok(()),
     }
-    Ok(())
 }
 
 /// Points as CSV: a record for each figure of each point, with the point's name, the figure's, how many runs have a value, and
@@ -211,7 +308,9 @@ pub fn put_sheet(
     out: &mut Vec<u8>,
     points: &[Point],
     all: bool,
-) -> Result<(), Memory> {
+) -> Result<(), Memory>
+    ensures { OnOk result (model.AddsSheet all points.now out.old.items out.new.items) }
+{
     put_head(alloc, out)?;
     put_points(alloc, out, points, all)?;
     put_all_differences(alloc, out, points, all)
